@@ -1,0 +1,4 @@
+pub mod Fronts
+pub mod Hex
+pub mod Marks
+pub mod Parts
