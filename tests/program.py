@@ -1,0 +1,89 @@
+"""What the tests share: running the program, show texts, and the packet that is expected."""
+
+import os
+import subprocess
+import unittest
+from pathlib import Path
+from typing import NamedTuple
+
+TOP = Path(__file__).resolve().parent.parent
+BUILT = TOP / "crates/cueplayer/out/cueplayer"
+PROGRAM = Path(os.environ.get("CUEPLAYER") or BUILT).resolve()
+
+CID = "c0ffee00-0000-4000-8000-00000000e131"
+LOOK_ONE = ("IDENT 3:0", "CUE 1", "CHAN 1@H80", "PATCH 1 1<1@H80", "ENDDATA")
+
+
+class Outcome(NamedTuple):
+    """How a run ended, and what it wrote."""
+
+    status: int
+    out: bytes
+    err: bytes
+
+
+def run(*words, stdin=b"", **options):
+    """Runs the program with these words. A negative status is the signal that ended it."""
+    done = subprocess.run([PROGRAM, *words], input=stdin, capture_output=True, timeout=60, **options)
+    return Outcome(done.returncode, done.stdout, done.stderr)
+
+
+def text(*lines):
+    """A show text: each line, ended by LF. A character stands for the byte of its number."""
+    return "".join(line + "\n" for line in lines).encode("latin-1")
+
+
+def counts(lines, cues=0, subs=0, groups=0, dimmers=0, skipped=0):
+    """What `check` prints of a show with these counts."""
+    return (
+        f"lines {lines} cues {cues} subs {subs} groups {groups} dimmers {dimmers} skipped {skipped}\n"
+    ).encode()
+
+
+def packet(universe, slots):
+    """The E1.31 data packet of a look, field by field: `slots` has the slots that are not 0."""
+    levels = bytearray(512)
+    for slot, level in slots.items():
+        levels[slot - 1] = level
+    fields = (
+        bytes.fromhex("00100000"),  # preamble and post-amble size
+        b"ASC-E1.17\0\0\0",  # packet identifier
+        bytes.fromhex("726e 00000004"),  # root layer: flags and length, vector
+        bytes.fromhex(CID.replace("-", "")),
+        bytes.fromhex("7258 00000002"),  # framing layer: flags and length, vector
+        b"cueplayer".ljust(64, b"\0"),  # source name
+        bytes([100, 0, 0, 0, 0]),  # priority, synchronization address, sequence number, options
+        universe.to_bytes(2, "big"),
+        bytes.fromhex("720b 02 a1 0000 0001 0201"),  # DMP layer, up to the property value count
+        b"\0",  # START code
+        bytes(levels),
+    )
+    return b"".join(fields)
+
+
+class ProgramTest(unittest.TestCase):
+    """Assertions on whole runs: the exit status, standard output and standard error, all three exact."""
+
+    maxDiff = 2000
+
+    def assertRuns(self, words, stdin, status=0, out=b"", err=b""):
+        self.assertEqual(Outcome(status, out, err), run(*words, stdin=stdin))
+
+    def assertChecks(self, show, **expected):
+        """`check` accepts the show and prints these counts."""
+        self.assertRuns(["check", "-"], show, out=counts(**expected))
+
+    def assertFault(self, show, fault):
+        """`check` and `look` both refuse the show, with this fault."""
+        err = f"show{fault}\n".encode()
+        self.assertRuns(["check", "-"], show, status=3, err=err)
+        self.assertRuns(["look", "-", "1", "--cid", CID], show, status=3, err=err)
+
+    def assertLooks(self, show, cue, universes):
+        """`look` prints one packet a universe, with these slots: `universes` is in their order."""
+        out = b"".join(packet(*universe).hex().encode() + b"\n" for universe in universes.items())
+        self.assertRuns(["look", "-", cue, "--cid", CID], show, out=out)
+
+    def assertNoCue(self, show, cue):
+        """`look` does not find the cue."""
+        self.assertRuns(["look", "-", cue, "--cid", CID], show, status=3, err=b"show: NoCue\n")

@@ -1,0 +1,164 @@
+"""Files, pipes and memory: where the show comes from, where the output goes, and what fails."""
+
+import os
+import resource
+import signal
+import subprocess
+import tempfile
+import unittest
+from pathlib import Path
+
+from program import CID, LOOK_ONE, PROGRAM, ProgramTest, counts, packet, run, text
+
+SHOW = text(*LOOK_ONE)
+LOOK = ("look", "-", "1", "--cid", CID)
+LINE = packet(1, {1: 64}).hex().encode() + b"\n"
+CHECKED = counts(lines=5, cues=1, dimmers=1)
+DEVICE_FAULT = b"device fault\n"
+
+
+class Files(ProgramTest):
+    def setUp(self):
+        folder = tempfile.TemporaryDirectory()
+        self.addCleanup(folder.cleanup)
+        self.folder = Path(folder.name)
+
+    def assertDeviceFault(self, show, **options):
+        for words in (["check", show], ["look", show, "1", "--cid", CID]):
+            with self.subTest(words):
+                self.assertEqual((5, b"", DEVICE_FAULT), run(*words, **options))
+
+    def test_named_file(self):
+        file = self.folder / "a show with a name.asc"
+        file.write_bytes(SHOW)
+        self.assertRuns(["check", file], b"", out=CHECKED)
+        self.assertRuns(["look", file, "1", "--cid", CID], b"", out=LINE)
+        self.assertRuns(["check", file.name], b"", status=5, err=DEVICE_FAULT)
+
+    def test_missing_file(self):
+        self.assertDeviceFault(self.folder / "missing.asc")
+
+    def test_folder(self):
+        self.assertDeviceFault(self.folder)
+
+    def test_empty_name(self):
+        self.assertDeviceFault("")
+
+    def test_unreadable_file(self):
+        """A file that opens and whose first read fails, and one that the system does not open."""
+        self.assertDeviceFault("/proc/self/mem")
+        file = self.folder / "locked.asc"
+        file.write_bytes(SHOW)
+        file.chmod(0)
+        if not os.access(file, os.R_OK):
+            self.assertDeviceFault(file)
+
+    def test_standard_input_that_fails(self):
+        folder = os.open(self.folder, os.O_RDONLY)
+        self.addCleanup(os.close, folder)
+        done = subprocess.run([PROGRAM, "check", "-"], stdin=folder, capture_output=True, timeout=60)
+        self.assertEqual((5, b"", DEVICE_FAULT), (done.returncode, done.stdout, done.stderr))
+
+    def test_input_in_pieces(self):
+        """A pipe that gives a few bytes at a time gives the same show."""
+        with subprocess.Popen([PROGRAM, *LOOK], stdin=subprocess.PIPE, stdout=subprocess.PIPE) as child:
+            for first in range(0, len(SHOW), 7):
+                child.stdin.write(SHOW[first : first + 7])
+                child.stdin.flush()
+            child.stdin.close()
+            self.assertEqual(LINE, child.stdout.read())
+        self.assertEqual(0, child.returncode)
+
+    def test_endless_input(self):
+        """Only one byte more than the longest show is read of what has no end."""
+        self.assertDeviceOutcome("/dev/zero", 3, b"show: TooLong\n")
+
+    def assertDeviceOutcome(self, show, status, err):
+        self.assertEqual((status, b"", err), run("check", show))
+
+    def test_empty_file(self):
+        self.assertRuns(["check", "/dev/null"], b"", out=counts(lines=0))
+
+    def test_faults_in_order(self):
+        """The file first, then the show, then its cue."""
+        self.assertRuns(["look", self.folder, "7", "--cid", CID], b"", status=5, err=DEVICE_FAULT)
+        faulty = text("CUE 1", "CHAN 1")
+        err = b"show line 2: HalfPair\n"
+        self.assertRuns(["look", "-", "7", "--cid", CID], faulty, status=3, err=err)
+
+
+class Outputs(ProgramTest):
+    def assertOutputFails(self, **options):
+        """Both programs say so on standard error, with status 5, where their output is not taken."""
+        for words in (LOOK, ("check", "-")):
+            with self.subTest(words):
+                done = subprocess.run(
+                    [PROGRAM, *words], input=SHOW, stderr=subprocess.PIPE, timeout=60, **options
+                )
+                self.assertEqual((5, DEVICE_FAULT), (done.returncode, done.stderr))
+
+    def test_full_output(self):
+        with open("/dev/full", "wb") as full:
+            self.assertOutputFails(stdout=full)
+
+    def test_broken_pipe(self):
+        """A reader that has gone is a fault like any other, and no signal ends the program."""
+        reader, writer = os.pipe()
+        os.close(reader)
+        self.addCleanup(os.close, writer)
+        self.assertOutputFails(stdout=writer)
+
+    def test_closed_output(self):
+        self.assertOutputFails(preexec_fn=lambda: os.close(1))
+
+    def test_status_where_nothing_can_be_told(self):
+        """Where the text on standard error can't be written the status still tells."""
+        for status, words, show in (
+            (3, ["check", "-"], b"CUE x"),
+            (3, ["look", "-", "2", "--cid", CID], SHOW),
+            (5, ["check", ""], b""),
+            (2, ["look", "-", "x", "--cid", CID], b""),
+        ):
+            with self.subTest(words), open("/dev/full", "wb") as full:
+                done = subprocess.run(
+                    [PROGRAM, *words], input=show, stdout=subprocess.PIPE, stderr=full, timeout=60
+                )
+                self.assertEqual((status, b""), (done.returncode, done.stdout))
+
+
+class Memory(unittest.TestCase):
+    """Runs under a bound on the address space: done, or `memory` with nothing printed."""
+
+    LIMITS = range(1 << 20, 64 << 20, 256 << 10)
+
+    def outcome(self, words, show, limit):
+        """"done", "memory", or "unstarted" where the limit ended the process before `main`."""
+        done = subprocess.run(
+            [PROGRAM, *words],
+            input=show,
+            capture_output=True,
+            timeout=60,
+            preexec_fn=lambda: resource.setrlimit(resource.RLIMIT_AS, (limit, limit)),
+        )
+        if done.returncode == 127 or done.returncode in (-signal.SIGKILL, -signal.SIGSEGV):
+            return "unstarted"
+        if done.returncode == 6:
+            self.assertEqual((b"", b"memory\n"), (done.stdout, done.stderr))
+            return "memory"
+        self.assertEqual((0, b""), (done.returncode, done.stderr))
+        return "done"
+
+    def test_want_of_memory(self):
+        """With more memory a run does not start, then says `memory`, then is done; never else."""
+        cues = "".join(f"CUE {n}\nCHAN {n}@FL\n" for n in range(1, 2001)).encode()
+        show = (b"PATCH 1 1<1@FL\n" + cues).ljust(1_048_576, b"\n")
+        for words in (("check", "-"), ("look", "-", "7", "--cid", CID)):
+            outcomes = []
+            while "done" not in outcomes[-4:] and len(outcomes) < len(self.LIMITS):
+                outcomes.append(self.outcome(words, show, self.LIMITS[len(outcomes)]))
+            self.assertIn("done", outcomes, "no limit was enough")
+            if "memory" not in outcomes:
+                self.skipTest("each limit either ended the process before its start or was enough")
+            started = [outcome for outcome in outcomes if outcome != "unstarted"]
+            self.assertEqual(sorted(started, reverse=True), started)
+            self.assertEqual(outcomes[-len(started) :], started)
