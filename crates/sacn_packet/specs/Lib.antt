@@ -1,0 +1,4 @@
+pub mod Header
+pub mod Layers
+pub mod Name
+pub mod Wire
