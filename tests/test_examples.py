@@ -1,6 +1,13 @@
-"""The shows of examples/: each is accepted, and means what its comments say."""
+"""What the repository shows its users: the shows of examples/, and the examples of the documents."""
 
-from program import CID, TOP, ProgramTest, counts, packet
+import re
+
+from program import CID, TOP, ProgramTest, counts, packet, run, text
+
+
+def blocks(document):
+    """The fenced blocks of a document, in order."""
+    return re.findall(r"^```\n(.*?)^```$", (TOP / document).read_text(), re.MULTILINE | re.DOTALL)
 
 
 class Examples(ProgramTest):
@@ -33,3 +40,38 @@ class Examples(ProgramTest):
             "5": {1: {}, 2: {}, 3: {1: 255, 2: 255}},
         }
         self.assertExample("small-play.asc", printed, looks)
+
+
+class Documents(ProgramTest):
+    def test_profile_show(self):
+        """The show that the page begins with, and what `check` prints of it."""
+        show, printed = blocks("docs/PROFILE.md")[:2]
+        self.assertRuns(["check", "-"], show.encode(), out=printed.encode())
+
+    def test_profile_faults(self):
+        """Each example in the table of faults, TooLong aside, has that fault as a line below `CUE 1`."""
+        page = (TOP / "docs/PROFILE.md").read_text()
+        rows = re.findall(r"^\| \d \| (\w+) \|.*\| (.*) \|$", page, re.MULTILINE)
+        self.assertEqual(8, len(rows))
+        for name, examples in rows:
+            for line in re.findall(r"`([^`]*)`", examples):
+                with self.subTest(line):
+                    self.assertFault(text("CUE 1", line), f" line 2: {name}")
+
+    def test_profile_skipped_lines(self):
+        """Each example in the table of skipped lines is one skipped line below `CUE 1`."""
+        page = (TOP / "docs/PROFILE.md").read_text()
+        table = page[page.index("| Skipped |") : page.index("*Primary* keywords")]
+        lines = re.findall(r"\| `([^`]*)` \|$", table, re.MULTILINE)
+        self.assertEqual(5, len(lines))
+        for line in lines:
+            with self.subTest(line):
+                self.assertChecks(text("CUE 1", line), lines=2, cues=1, skipped=1)
+
+    def test_formats_look(self):
+        """The fields of a look that the page shows."""
+        (example,) = (block for block in blocks("docs/FORMATS.md") if "cut -c" in block)
+        command, printed = example.splitlines()
+        words = re.fullmatch(r"\$ \./cueplayer (.*) \| cut -c 217-230,251-260", command)[1].split()
+        outcome = run(*words, cwd=TOP)
+        self.assertEqual(printed.encode(), outcome.out[216:230] + outcome.out[250:260])
