@@ -1,0 +1,5 @@
+pub mod Sorted
+pub mod Removed
+pub mod Changes
+pub mod Ranges
+pub mod InRange

@@ -1,0 +1,59 @@
+-- What each builder makes of a table.
+use Rattle.std.specs.Prelude.{ℕ, ◌==◌, Some, None, if◌then◌else◌, Bool, ◌&&◌, ◌||◌, nat_le, nat_lt}
+use Rattle.std.specs.Option.{option_map_or}
+use Rattle.std.specs.FinMap as map
+use Rattle.show_core.specs.declared.cue.CueData.{CueData}
+use Rattle.show_core.specs.declared.rate.Rate.{Rate}
+use Rattle.show_core.specs.declared.limits.TheConstants.{CHANNELS, CUES}
+use Rattle.show_core.specs.Numbers.{is_cue_number, is_dimmer}
+use Rattle.show_core.specs.Tables.{CueMap, MasterMap, PatchMap}
+
+-- ---- cues
+
+-- a cue with nothing in it
+abbrev pub blank : CueData
+blank = record { levels = map.empty; up = None; down = None }
+
+-- with cue n: as it is, or blank where it is not there
+abbrev pub opened : CueMap → ℕ → CueMap
+opened cues n = if map.contains_key cues n then cues else map.insert cues n blank
+
+-- n is a cue number, and is there or is not one cue too many
+abbrev pub can_open : CueMap → ℕ → Bool
+can_open cues n = is_cue_number n && (map.contains_key cues n || nat_lt (map.len cues) CUES)
+
+-- with what the function makes of cue n, where it is there
+abbrev pub changed : CueMap → ℕ → (CueData → CueData) → CueMap
+changed cues n change = option_map_or (λ cue. map.insert cues n (change cue)) (map.get cues n) cues
+
+-- with a level of cue n
+abbrev pub with_level : CueMap → ℕ → ℕ → ℕ → CueMap
+with_level cues n channel byte = changed cues n (λ cue. record cue { levels = map.insert cue.levels channel byte })
+
+-- with the rate of rising levels of cue n
+abbrev pub with_up : CueMap → ℕ → Rate → CueMap
+with_up cues n rate = changed cues n (λ cue. record cue { up = Some rate })
+
+-- with the rate of falling levels of cue n
+abbrev pub with_down : CueMap → ℕ → Rate → CueMap
+with_down cues n rate = changed cues n (λ cue. record cue { down = Some rate })
+
+-- ---- submasters and groups
+
+-- with record n: as it is, or with no channel listed where it is not there
+abbrev pub opened_in : MasterMap → ℕ → MasterMap
+opened_in masters n = if map.contains_key masters n then masters else map.insert masters n map.empty
+
+-- with a level of record n
+abbrev pub with_listed : MasterMap → ℕ → ℕ → ℕ → MasterMap
+with_listed masters n channel byte = option_map_or (λ levels. map.insert masters n (map.insert levels channel byte)) (map.get masters n) masters
+
+-- ---- the patch
+
+-- the dimmer may take the channel; channel 0 leaves it unpatched
+abbrev pub can_patch : ℕ → ℕ → Bool
+can_patch dimmer channel = is_dimmer dimmer && nat_le channel CHANNELS
+
+-- with the dimmer patched to the channel, or unpatched at channel 0
+abbrev pub patched_with : PatchMap → ℕ → ℕ → ℕ → PatchMap
+patched_with patch dimmer channel byte = if channel == 0 then map.remove patch dimmer else map.insert patch dimmer (channel, byte)

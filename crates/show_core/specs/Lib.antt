@@ -1,0 +1,7 @@
+pub mod Numbers
+pub mod Pairs
+pub mod Tables
+pub mod Builders
+pub mod Readers
+pub mod Place
+pub mod Inside

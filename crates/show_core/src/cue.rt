@@ -1,0 +1,90 @@
+ghost use Rattle.std.specs.Prelude.{◌≡◌, IfOk};
+ghost use Rattle.std.specs.FinMap as map;
+ghost use Rattle.show_core.specs.Readers.{HasChannels, rate_of, level_in};
+
+use crate::levels::Levels;
+use crate::rate::Rate;
+use std::alloc::{AllocError, Global};
+use std::marker::Model;
+
+/// What a cue has: its levels, and the rates that were set.
+#[derive(Drop)]
+pub struct CueData {
+    pub levels: Levels,
+    pub up: Option<Rate>,
+    pub down: Option<Rate>,
+}
+
+impl CueData {
+    /// A copy.
+    pub fn clone_in(&self, alloc: Global) -> Result<CueData, AllocError>
+        ensures { IfOk result (λ copy. copy ≡ self.now) }
+    {
+        Ok(CueData {
+            levels: self.levels.clone_in(alloc)?,
+            up: self.up,
+            down: self.down,
+        })
+    }
+}
+
+/// A cue of a show. It is a whole look: a channel that is not listed is at 0.
+#[derive(Drop)]
+pub struct Cue<'a> {
+    data: &'a CueData,
+}
+
+impl<'a> Model for Cue<'a> {
+    ghost use Rattle.show_core.specs.declared.cue.CueData.{CueData};
+
+    ghost Value = { CueData };
+
+    ghost use Rattle.show_core.specs.contracts.cue.CueData as cue_data;
+
+    ghost coded = { cue_data.the_row.coded };
+
+    ghost view = { λ c. c.data.now };
+}
+
+impl<'a> Cue<'a> {
+    pub fn of(cue: &'a CueData) -> Cue<'a>
+        ensures { result ≡ cue.now }
+    {
+        Cue { data: cue }
+    }
+
+    /// The level byte of a channel: 0 where none is listed.
+    pub fn level(&self, channel: u16) -> u8
+        ensures { result ≡ level_in self.now.levels channel }
+    {
+        self.data.levels.get(channel).unwrap_or(0)
+    }
+
+    /// The channels that are listed and their level bytes. The entries of a map are sorted, so the channels strictly ascend.
+    pub fn pairs(&self) -> &'a [(u16, u8)]
+        ensures entries { result.now ≡ map.entries self.now.levels }
+        ensures range { HasChannels self.now.levels }
+    {
+        self.data.levels.pairs()
+    }
+
+    /// The rate of rising levels: the one set last, else that of falling levels, else zeros.
+    pub fn up(&self) -> Rate
+        ensures { result ≡ rate_of self.now.up self.now.down }
+    {
+        self.data
+            .up
+            .or(self.data.down)
+            .unwrap_or(Rate { time: 0, delay: 0 })
+    }
+
+    /// The rate of falling levels: the one set last, else that of rising levels, else zeros.
+    pub fn down(&self) -> Rate
+        ensures { result ≡ rate_of self.now.down self.now.up }
+    {
+        self.data
+            .down
+            .or(self.data.up)
+            .unwrap_or(Rate { time: 0, delay: 0 })
+    }
+}

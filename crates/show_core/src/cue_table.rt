@@ -1,0 +1,174 @@
+ghost use Rattle.std.specs.Prelude.{◌≡◌, IsTrue, IsOk, IfOk, OnOk, OnErr, IfSome, find, reverse, nat_lt, map as map_list};
+ghost use Rattle.std.specs.FinMap as map;
+ghost use Rattle.show_core.specs.Numbers.{is_channel};
+ghost use Rattle.show_core.specs.Builders.{opened, with_level, with_up, with_down};
+ghost use Rattle.show_core.specs.Readers.{cue_above, cue_below};
+
+use crate::cue::{Cue, CueData};
+use crate::levels::Levels;
+use crate::place::{place, put};
+use crate::rate::Rate;
+use std::alloc::{AllocError, Global};
+use std::marker::Model;
+
+/// The cues, by their numbers in thousandths.
+#[derive(Drop)]
+pub struct CueTable {
+    entries: Vec<(u32, CueData)>,
+}
+
+impl Model for CueTable {
+    ghost use Rattle.std.specs.Prelude.{IsTrue};
+    ghost use Rattle.std.specs.Ordering.{nat_cmp};
+    ghost use Rattle.std.specs.FinMap as map;
+    ghost use Rattle.show_core.specs.Tables.{CueMap};
+
+    ghost Value = { CueMap };
+
+    ghost use Rattle.std.specs.Coded.{coded_ℕ};
+    ghost use Rattle.show_core.specs.contracts.cue.CueData as cue_data;
+
+    ghost coded = { map.code coded_ℕ cue_data.the_row.coded };
+
+    ghost view = { λ t. map.from_sorted t.entries.items };
+
+    ghost invariant = { λ t. IsTrue (map.is_sorted nat_cmp t.entries.items) };
+}
+
+impl CueTable {
+    pub fn new(alloc: Global) -> CueTable
+        ensures { result ≡ map.empty }
+    {
+        CueTable {
+            entries: Vec::new(alloc),
+        }
+    }
+
+    pub fn len(&self) -> usize
+        ensures { result ≡ map.len self.now }
+    {
+        self.entries.len()
+    }
+
+    pub fn has(&self, n: u32) -> bool
+        ensures { result ≡ map.contains_key self.now n }
+    {
+        place(&self.entries, n).is_ok()
+    }
+
+    // Opens cue `n`, or continues it where it is there.
+    pub fn open(&mut self, alloc: Global, n: u32) -> Result<(), AllocError>
+        ensures opened { OnOk result (self.new ≡ opened self.old n) }
+        ensures unchanged { OnErr result (self.new ≡ self.old) }
+        ensures sure { IsTrue (map.contains_key self.old n) → IsOk result }
+    {
+        if !self.has(n) {
+            let blank = CueData {
+                levels: Levels::new(alloc),
+                up: None,
+                down: None,
+            };
+            put(&mut self.entries, n, blank)?;
+        }
+        Ok(())
+    }
+
+    pub fn set_level(&mut self, n: u32, channel: u16, byte: u8) -> Result<(), AllocError>
+        requires there { IsTrue (map.contains_key self.old n) }
+        requires range { IsTrue (is_channel channel) }
+        ensures set { OnOk result (self.new ≡ with_level self.old n channel byte) }
+        ensures unchanged { OnErr result (self.new ≡ self.old) }
+        ensures sure { IfSome (map.get self.old n) (λ cue. IsTrue (map.contains_key cue.levels channel) → IsOk result) }
+    {
+        if let Ok(at) = place(&self.entries, n) {
+            let cue = &mut self.entries[at].1;
+            cue.levels.set(channel, byte)?;
+        }
+        Ok(())
+    }
+
+    pub fn set_up(&mut self, n: u32, rate: Rate)
+        ensures { self.new ≡ with_up self.old n rate }
+    {
+        if let Ok(at) = place(&self.entries, n) {
+            self.entries[at].1.up = Some(rate);
+        }
+    }
+
+    pub fn set_down(&mut self, n: u32, rate: Rate)
+        ensures { self.new ≡ with_down self.old n rate }
+    {
+        if let Ok(at) = place(&self.entries, n) {
+            self.entries[at].1.down = Some(rate);
+        }
+    }
+
+    pub fn clear(&mut self)
+        ensures { self.new ≡ map.empty }
+    {
+        self.entries.clear();
+    }
+
+    pub fn get(&self, n: u32) -> Option<Cue<'_>>
+        ensures { result ≡ map.get self.now n }
+    {
+        match place(&self.entries, n) {
+            Ok(at) => Some(Cue::of(&self.entries[at].1)),
+            Err(_) => None,
+        }
+    }
+
+    // The least number above `n`.
+    pub fn next(&self, n: u32) -> Option<u32>
+        ensures { result ≡ cue_above self.now n }
+    {
+        first_above(&self.entries, n)
+    }
+
+    // The greatest number below `n`.
+    pub fn before(&self, n: u32) -> Option<u32>
+        ensures { result ≡ cue_below self.now n }
+    {
+        last_below(&self.entries, n)
+    }
+
+    pub fn clone_in(&self, alloc: Global) -> Result<CueTable, AllocError>
+        ensures { IfOk result (λ copy. copy ≡ self.now) }
+    {
+        let entries = clone_entries(alloc, &self.entries)?;
+        Ok(CueTable { entries })
+    }
+}
+
+fn first_above(entries: &[(u32, CueData)], n: u32) -> Option<u32>
+    ensures { result ≡ find (λ k. nat_lt n k) (map_list (λ e. e.0) entries.now) }
+{
+    entries
+        .iter()
+        .map(|entry| entry.0)
+        .find(|number| *number > n)
+}
+
+fn last_below(entries: &[(u32, CueData)], n: u32) -> Option<u32>
+    ensures { result ≡ find (λ k. nat_lt k n) (map_list (λ e. e.0) (reverse entries.now)) }
+{
+    entries
+        .iter()
+        .rev()
+        .map(|entry| entry.0)
+        .find(|number| *number < n)
+}
+
+fn clone_entries(
+    alloc: Global,
+    entries: &[(u32, CueData)],
+) -> Result<Vec<(u32, CueData)>, AllocError>
+    ensures { IfOk result (λ copy. copy.items ≡ entries.now) }
+{
+    let mut copy = Vec::new(alloc);
+    for entry in entries {
+        let data = entry.1.clone_in(alloc)?;
+        copy.push((entry.0, data))?;
+    }
+    Ok(copy)
+}

@@ -1,0 +1,21 @@
+ghost use Rattle.std.specs.Prelude.{◌≡◌};
+ghost use Rattle.show_core.specs.declared.fault.BuildFault.TheVariants.{Memory};
+
+use std::alloc::AllocError;
+
+/// Why a builder of a show refuses.
+#[derive(Clone, Copy, Debug, PartialEq, Eq)]
+pub enum BuildFault {
+    /// A number outside its range, or one cue too many.
+    Limit,
+    /// A growth was refused.
+    Memory,
+}
+
+impl From<AllocError> for BuildFault {
+    ghost from_gives = { λ _ e. e ≡ Memory };
+
+    fn from(_e: AllocError) -> BuildFault {
+        BuildFault::Memory
+    }
+}

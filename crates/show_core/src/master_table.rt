@@ -1,0 +1,114 @@
+ghost use Rattle.std.specs.Prelude.{◌≡◌, IsTrue, IsOk, IfOk, OnOk, OnErr, IfSome, All, option_map};
+ghost use Rattle.std.specs.FinMap as map;
+ghost use Rattle.show_core.specs.Numbers.{is_channel};
+ghost use Rattle.show_core.specs.Builders.{opened_in, with_listed};
+
+use crate::levels::Levels;
+use crate::place::{place, put};
+use std::alloc::{AllocError, Global};
+use std::marker::Model;
+
+/// Submasters or groups, by their numbers.
+#[derive(Drop)]
+pub struct MasterTable {
+    entries: Vec<(u16, Levels)>,
+}
+
+impl Model for MasterTable {
+    ghost use Rattle.std.specs.Prelude.{IsTrue};
+    ghost use Rattle.std.specs.Ordering.{nat_cmp};
+    ghost use Rattle.std.specs.Coded.{coded_ℕ};
+    ghost use Rattle.std.specs.FinMap as map;
+    ghost use Rattle.show_core.specs.Tables.{MasterMap};
+
+    ghost Value = { MasterMap };
+
+    ghost coded = { map.code coded_ℕ (map.code coded_ℕ coded_ℕ) };
+
+    ghost view = { λ t. map.from_sorted t.entries.items };
+
+    ghost invariant = { λ t. IsTrue (map.is_sorted nat_cmp t.entries.items) };
+}
+
+impl MasterTable {
+    pub fn new(alloc: Global) -> MasterTable
+        ensures { result ≡ map.empty }
+    {
+        MasterTable {
+            entries: Vec::new(alloc),
+        }
+    }
+
+    pub fn len(&self) -> usize
+        ensures { result ≡ map.len self.now }
+    {
+        self.entries.len()
+    }
+
+    pub fn has(&self, n: u16) -> bool
+        ensures { result ≡ map.contains_key self.now n }
+    {
+        place(&self.entries, n).is_ok()
+    }
+
+    // Opens record `n`, or continues it where it is there.
+    pub fn open(&mut self, alloc: Global, n: u16) -> Result<(), AllocError>
+        ensures opened { OnOk result (self.new ≡ opened_in self.old n) }
+        ensures unchanged { OnErr result (self.new ≡ self.old) }
+        ensures sure { IsTrue (map.contains_key self.old n) → IsOk result }
+    {
+        if !self.has(n) {
+            put(&mut self.entries, n, Levels::new(alloc))?;
+        }
+        Ok(())
+    }
+
+    pub fn set_level(&mut self, n: u16, channel: u16, byte: u8) -> Result<(), AllocError>
+        requires there { IsTrue (map.contains_key self.old n) }
+        requires range { IsTrue (is_channel channel) }
+        ensures set { OnOk result (self.new ≡ with_listed self.old n channel byte) }
+        ensures unchanged { OnErr result (self.new ≡ self.old) }
+        ensures sure { IfSome (map.get self.old n) (λ levels. IsTrue (map.contains_key levels channel) → IsOk result) }
+    {
+        if let Ok(at) = place(&self.entries, n) {
+            let levels = &mut self.entries[at].1;
+            levels.set(channel, byte)?;
+        }
+        Ok(())
+    }
+
+    pub fn clear(&mut self)
+        ensures { self.new ≡ map.empty }
+    {
+        self.entries.clear();
+    }
+
+    // The channels that record `n` lists, ascending.
+    pub fn pairs(&self, n: u16) -> Option<&[(u16, u8)]>
+        ensures entries { option_map (λ pairs. pairs.now) result ≡ option_map map.entries (map.get self.now n) }
+        ensures range { IfSome result (λ pairs. All (λ e. IsTrue (is_channel e.0)) pairs.now) }
+    {
+        match place(&self.entries, n) {
+            Ok(at) => Some(self.entries[at].1.pairs()),
+            Err(_) => None,
+        }
+    }
+
+    pub fn clone_in(&self, alloc: Global) -> Result<MasterTable, AllocError>
+        ensures { IfOk result (λ copy. copy ≡ self.now) }
+    {
+        let entries = clone_entries(alloc, &self.entries)?;
+        Ok(MasterTable { entries })
+    }
+}
+
+fn clone_entries(alloc: Global, entries: &[(u16, Levels)]) -> Result<Vec<(u16, Levels)>, AllocError>
+    ensures { IfOk result (λ copy. copy.items ≡ entries.now) }
+{
+    let mut copy = Vec::new(alloc);
+    for entry in entries {
+        let levels = entry.1.clone_in(alloc)?;
+        copy.push((entry.0, levels))?;
+    }
+    Ok(copy)
+}

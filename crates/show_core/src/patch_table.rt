@@ -1,0 +1,106 @@
+ghost use Rattle.std.specs.List.{list_any};
+ghost use Rattle.std.specs.Prelude.{◌≡◌, ◌==◌, ◌||◌, IsTrue, IsOk, IfOk, OnOk, OnErr};
+ghost use Rattle.std.specs.FinMap as map;
+ghost use Rattle.show_core.specs.Builders.{patched_with};
+ghost use Rattle.show_core.specs.Readers.{has_dimmer_in, ordinal_of};
+
+use crate::limits::SLOTS;
+use crate::place::{place, put, take_out};
+use std::alloc::{AllocError, Global};
+use std::marker::Model;
+
+/// For each patched dimmer its channel and its level byte.
+#[derive(Drop)]
+pub struct PatchTable {
+    entries: Vec<(u16, (u16, u8))>,
+}
+
+impl Model for PatchTable {
+    ghost use Rattle.std.specs.Prelude.{IsTrue};
+    ghost use Rattle.std.specs.Ordering.{nat_cmp};
+    ghost use Rattle.std.specs.Coded.{coded×, coded_ℕ};
+    ghost use Rattle.std.specs.FinMap as map;
+    ghost use Rattle.show_core.specs.Tables.{PatchMap};
+
+    ghost Value = { PatchMap };
+
+    ghost coded = { map.code coded_ℕ (coded× coded_ℕ coded_ℕ) };
+
+    ghost view = { λ t. map.from_sorted t.entries.items };
+
+    ghost invariant = { λ t. IsTrue (map.is_sorted nat_cmp t.entries.items) };
+}
+
+impl PatchTable {
+    pub fn new(alloc: Global) -> PatchTable
+        ensures { result ≡ map.empty }
+    {
+        PatchTable {
+            entries: Vec::new(alloc),
+        }
+    }
+
+    pub fn len(&self) -> usize
+        ensures { result ≡ map.len self.now }
+    {
+        self.entries.len()
+    }
+
+    // Patches the dimmer to the channel, or leaves it unpatched at channel 0.
+    pub fn set(&mut self, dimmer: u16, channel: u16, byte: u8) -> Result<(), AllocError>
+        ensures set { OnOk result (self.new ≡ patched_with self.old dimmer channel byte) }
+        ensures unchanged { OnErr result (self.new ≡ self.old) }
+        ensures sure { IsTrue ((channel == 0) || map.contains_key self.old dimmer) → IsOk result }
+    {
+        if channel == 0 {
+            self.remove(dimmer);
+        } else {
+            put(&mut self.entries, dimmer, (channel, byte))?;
+        }
+        Ok(())
+    }
+
+    fn remove(&mut self, dimmer: u16)
+        ensures { self.new ≡ map.remove self.old dimmer }
+    {
+        take_out(&mut self.entries, dimmer);
+    }
+
+    pub fn clear(&mut self)
+        ensures { self.new ≡ map.empty }
+    {
+        self.entries.clear();
+    }
+
+    pub fn get(&self, dimmer: u16) -> Option<(u16, u8)>
+        ensures { result ≡ map.get self.now dimmer }
+    {
+        match place(&self.entries, dimmer) {
+            Ok(at) => Some(self.entries[at].1),
+            Err(_) => None,
+        }
+    }
+
+    // Whether a dimmer of the universe is patched.
+    pub fn has_dimmer_in(&self, ordinal: u16) -> bool
+        ensures { result ≡ has_dimmer_in self.now ordinal }
+    {
+        any_dimmer_in(&self.entries, ordinal)
+    }
+
+    pub fn clone_in(&self, alloc: Global) -> Result<PatchTable, AllocError>
+        ensures { IfOk result (λ copy. copy ≡ self.now) }
+    {
+        Ok(PatchTable {
+            entries: Vec::from_slice(alloc, &self.entries)?,
+        })
+    }
+}
+
+fn any_dimmer_in(entries: &[(u16, (u16, u8))], ordinal: u16) -> bool
+    ensures { result ≡ list_any (λ e. ordinal_of e.0 == ordinal) entries.now }
+{
+    entries
+        .iter()
+        .any(|entry| entry.0.saturating_sub(1) / SLOTS == ordinal)
+}

@@ -1,0 +1,44 @@
+ghost use Rattle.std.specs.Prelude.{◌≡◌, IsTrue, IsSome, IsOk, IfOk, IfErr, OnOk, OnErr};
+ghost use Rattle.std.specs.FinMap as map;
+ghost use Rattle.show_core.specs.Place.{IsAt, IsGap, without};
+
+use std::alloc::AllocError;
+
+// Where the key is in entries sorted by their keys, or where it would go.
+pub fn place<K: Ord + Copy, V>(entries: &[(K, V)], key: K) -> Result<usize, usize>
+    requires { IsTrue (map.is_sorted K.cmp entries.now) }
+    ensures found { IfOk result (IsAt K.cmp entries.now key) }
+    ensures absent { IfErr result (IsGap K.cmp entries.now key) }
+{
+    entries.binary_search_by_key(&key, |entry| entry.0)
+}
+
+// Puts the value at the key.
+pub fn put<K: Ord + Copy, V: Drop>(
+    entries: &mut Vec<(K, V)>,
+    key: K,
+    value: V,
+) -> Result<(), AllocError>
+    requires { IsTrue (map.is_sorted K.cmp entries.old.items) }
+    ensures ok { OnOk result (entries.new.items ≡ map.put K.cmp key value entries.old.items) }
+    ensures err { OnErr result (entries.new.items ≡ entries.old.items) }
+    ensures sure { IsSome (map.find K.cmp key entries.old.items) → IsOk result }
+{
+    match place(entries, key) {
+        Ok(at) => {
+            entries[at].1 = value;
+            Ok(())
+        }
+        Err(at) => Ok(entries.insert(at, (key, value))?),
+    }
+}
+
+// Takes the key out, if it is there.
+pub fn take_out<K: Ord + Copy, V: Drop>(entries: &mut Vec<(K, V)>, key: K)
+    requires { IsTrue (map.is_sorted K.cmp entries.old.items) }
+    ensures { entries.new.items ≡ without K.cmp key entries.old.items }
+{
+    if let Ok(at) = place(entries, key) {
+        entries.remove(at);
+    }
+}

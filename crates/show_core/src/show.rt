@@ -1,0 +1,394 @@
+ghost use Rattle.std.specs.Prelude.{◌≡◌, ◌*◌, ◌<◌, ◌↔◌, ◌==◌, ◌||◌, IsTrue, IsFalse, IsOk, IfOk, OnOk, OnErr, IfSome, Some, Err, All, option_map};
+ghost use Rattle.std.specs.FinMap as map;
+ghost use Rattle.show_core.specs.Numbers.{is_channel, is_dimmer, is_sub, is_group, is_time};
+ghost use Rattle.show_core.specs.Builders.{opened, can_open, with_level, with_up, with_down, opened_in, with_listed, can_patch, patched_with};
+ghost use Rattle.show_core.specs.Readers.{cue_above, cue_below, universes_of, look_slot, look_frame, slot_of, IsInRange};
+ghost use Rattle.show_core.specs.declared.fault.BuildFault.TheVariants.{Limit, Memory};
+
+use crate::cue::Cue;
+use crate::cue_table::CueTable;
+use crate::fault::BuildFault;
+use crate::limits::{
+    CHANNELS, CUES, SLOTS, UNIVERSES, is_channel, is_cue_number, is_dimmer, is_group, is_sub,
+};
+use crate::master_table::MasterTable;
+use crate::patch_table::PatchTable;
+use crate::rate::Rate;
+use arrayvec::ArrayVec;
+use std::alloc::{AllocError, Global};
+use std::marker::Model;
+
+/// How many records and patched dimmers a show has.
+#[derive(Clone, Copy, Debug, PartialEq, Eq)]
+pub struct Counts {
+    pub cues: u32,
+    pub subs: u32,
+    pub groups: u32,
+    pub dimmers: u32,
+}
+
+/// The tables of a show: cues, submasters, groups and the patch.
+#[derive(Drop)]
+pub struct Show {
+    alloc: Global,
+    cues: CueTable,
+    subs: MasterTable,
+    groups: MasterTable,
+    patch: PatchTable,
+}
+
+impl Model for Show {
+    ghost use Rattle.show_core.specs.Tables.{Tables};
+
+    ghost Value = { Tables };
+
+    ghost use Rattle.std.specs.Coded.{code_by, coded×, coded_ℕ};
+    ghost use Rattle.std.specs.Prelude.{refl};
+    ghost use Rattle.std.specs.FinMap as map;
+    ghost use Rattle.show_core.specs.Tables.{CueMap, MasterMap, PatchMap};
+    ghost use Rattle.show_core.specs.contracts.cue.CueData as cue_data;
+
+    ghost coded = { code_by (CueMap × (MasterMap × (MasterMap × PatchMap))) (coded× (map.code coded_ℕ cue_data.the_row.coded) (coded× (map.code coded_ℕ (map.code coded_ℕ coded_ℕ)) (coded× (map.code coded_ℕ (map.code coded_ℕ coded_ℕ)) (map.code coded_ℕ (coded× coded_ℕ coded_ℕ))))) (λ s. (s.cues, (s.subs, (s.groups, s.patch)))) (λ p. record { cues = p.0; subs = p.1.0; groups = p.1.1.0; patch = p.1.1.1 }) (λ _. refl) };
+
+    ghost use Rattle.show_core.specs.Inside.{show_view, IsShow};
+
+    ghost view = { show_view };
+
+    ghost invariant = { IsShow };
+}
+
+impl Show {
+    /// An empty show. It takes no memory.
+    pub fn new(alloc: Global) -> Show
+        ensures cues { result.cues ≡ map.empty }
+        ensures subs { result.subs ≡ map.empty }
+        ensures groups { result.groups ≡ map.empty }
+        ensures patch { result.patch ≡ map.empty }
+    {
+        Show {
+            alloc,
+            cues: CueTable::new(alloc),
+            subs: MasterTable::new(alloc),
+            groups: MasterTable::new(alloc),
+            patch: PatchTable::new(alloc),
+        }
+    }
+
+    /// Opens cue `n` (in thousandths), or continues it where it is there: that changes nothing.
+    ///
+    /// # Errors
+    ///
+    /// `Limit` where `n` is not 1 to 9,999,999, or the cue would be the 2,001st; `Memory` where a growth was refused.
+    pub fn open_cue(&mut self, n: u32) -> Result<(), BuildFault>
+        ensures opened { OnOk result (self.new ≡ record self.old { cues = opened self.old.cues n }) }
+        ensures unchanged { OnErr result (self.new ≡ self.old) }
+        ensures limit { (result ≡ Err Limit) ↔ IsFalse (can_open self.old.cues n) }
+        ensures sure { IsTrue (can_open self.old.cues n) → IsTrue (map.contains_key self.old.cues n) → IsOk result }
+    {
+        if !self.can_open(n) {
+            return Err(BuildFault::Limit);
+        }
+        self.cues.open(self.alloc, n)?;
+        Ok(())
+    }
+
+    fn can_open(&self, n: u32) -> bool
+        ensures { result ≡ can_open self.now.cues n }
+    {
+        is_cue_number(n) && (self.cues.has(n) || self.cues.len() < CUES)
+    }
+
+    /// Opens submaster `n`, or continues it where it is there: that changes nothing.
+    ///
+    /// # Errors
+    ///
+    /// `Limit` where `n` is not 1 to 100; `Memory` where a growth was refused.
+    pub fn open_sub(&mut self, n: u16) -> Result<(), BuildFault>
+        ensures opened { OnOk result (self.new ≡ record self.old { subs = opened_in self.old.subs n }) }
+        ensures unchanged { OnErr result (self.new ≡ self.old) }
+        ensures limit { (result ≡ Err Limit) ↔ IsFalse (is_sub n) }
+        ensures sure { IsTrue (is_sub n) → IsTrue (map.contains_key self.old.subs n) → IsOk result }
+    {
+        if !is_sub(n) {
+            return Err(BuildFault::Limit);
+        }
+        self.subs.open(self.alloc, n)?;
+        Ok(())
+    }
+
+    /// Opens group `n`, or continues it where it is there: that changes nothing.
+    ///
+    /// # Errors
+    ///
+    /// `Limit` where `n` is not 1 to 500; `Memory` where a growth was refused.
+    pub fn open_group(&mut self, n: u16) -> Result<(), BuildFault>
+        ensures opened { OnOk result (self.new ≡ record self.old { groups = opened_in self.old.groups n }) }
+        ensures unchanged { OnErr result (self.new ≡ self.old) }
+        ensures limit { (result ≡ Err Limit) ↔ IsFalse (is_group n) }
+        ensures sure { IsTrue (is_group n) → IsTrue (map.contains_key self.old.groups n) → IsOk result }
+    {
+        if !is_group(n) {
+            return Err(BuildFault::Limit);
+        }
+        self.groups.open(self.alloc, n)?;
+        Ok(())
+    }
+
+    /// Sets the level byte of a channel in cue `n`. The last one set counts.
+    ///
+    /// # Errors
+    ///
+    /// `Limit` where the channel is not 1 to 4096; `Memory` where a growth was refused.
+    pub fn cue_level(&mut self, n: u32, channel: u16, byte: u8) -> Result<(), BuildFault>
+        requires { IsTrue (map.contains_key self.old.cues n) }
+        ensures set { OnOk result (self.new ≡ record self.old { cues = with_level self.old.cues n channel byte }) }
+        ensures unchanged { OnErr result (self.new ≡ self.old) }
+        ensures limit { (result ≡ Err Limit) ↔ IsFalse (is_channel channel) }
+        ensures sure { IsTrue (is_channel channel) → IfSome (map.get self.old.cues n) (λ cue. IsTrue (map.contains_key cue.levels channel) → IsOk result) }
+    {
+        if !is_channel(channel) {
+            return Err(BuildFault::Limit);
+        }
+        self.cues.set_level(n, channel, byte)?;
+        Ok(())
+    }
+
+    /// Sets the level byte of a channel in submaster `n`. The last one set counts.
+    ///
+    /// # Errors
+    ///
+    /// `Limit` where the channel is not 1 to 4096; `Memory` where a growth was refused.
+    pub fn sub_level(&mut self, n: u16, channel: u16, byte: u8) -> Result<(), BuildFault>
+        requires { IsTrue (map.contains_key self.old.subs n) }
+        ensures set { OnOk result (self.new ≡ record self.old { subs = with_listed self.old.subs n channel byte }) }
+        ensures unchanged { OnErr result (self.new ≡ self.old) }
+        ensures limit { (result ≡ Err Limit) ↔ IsFalse (is_channel channel) }
+        ensures sure { IsTrue (is_channel channel) → IfSome (map.get self.old.subs n) (λ levels. IsTrue (map.contains_key levels channel) → IsOk result) }
+    {
+        if !is_channel(channel) {
+            return Err(BuildFault::Limit);
+        }
+        self.subs.set_level(n, channel, byte)?;
+        Ok(())
+    }
+
+    /// Sets the level byte of a channel in group `n`. The last one set counts.
+    ///
+    /// # Errors
+    ///
+    /// `Limit` where the channel is not 1 to 4096; `Memory` where a growth was refused.
+    pub fn group_level(&mut self, n: u16, channel: u16, byte: u8) -> Result<(), BuildFault>
+        requires { IsTrue (map.contains_key self.old.groups n) }
+        ensures set { OnOk result (self.new ≡ record self.old { groups = with_listed self.old.groups n channel byte }) }
+        ensures unchanged { OnErr result (self.new ≡ self.old) }
+        ensures limit { (result ≡ Err Limit) ↔ IsFalse (is_channel channel) }
+        ensures sure { IsTrue (is_channel channel) → IfSome (map.get self.old.groups n) (λ levels. IsTrue (map.contains_key levels channel) → IsOk result) }
+    {
+        if !is_channel(channel) {
+            return Err(BuildFault::Limit);
+        }
+        self.groups.set_level(n, channel, byte)?;
+        Ok(())
+    }
+
+    /// Patches a dimmer to a channel at a level byte, or leaves it unpatched at channel 0. The last patch of a dimmer counts.
+    ///
+    /// # Errors
+    ///
+    /// `Limit` where the dimmer is not 1 to 8192 or the channel above 4096; `Memory` where a growth was refused.
+    pub fn set_patch(&mut self, dimmer: u16, channel: u16, byte: u8) -> Result<(), BuildFault>
+        ensures set { OnOk result (self.new ≡ record self.old { patch = patched_with self.old.patch dimmer channel byte }) }
+        ensures unchanged { OnErr result (self.new ≡ self.old) }
+        ensures limit { (result ≡ Err Limit) ↔ IsFalse (can_patch dimmer channel) }
+        ensures sure { IsTrue (can_patch dimmer channel) → IsTrue ((channel == 0) || map.contains_key self.old.patch dimmer) → IsOk result }
+    {
+        if !can_patch(dimmer, channel) {
+            return Err(BuildFault::Limit);
+        }
+        self.patch.set(dimmer, channel, byte)?;
+        Ok(())
+    }
+
+    /// Sets the rate of rising levels of cue `n`; its time and delay are at most 5,999,990 milliseconds.
+    pub fn set_up(&mut self, n: u32, rate: Rate)
+        requires there { IsTrue (map.contains_key self.old.cues n) }
+        requires time { IsTrue (is_time rate.time) }
+        requires delay { IsTrue (is_time rate.delay) }
+        ensures { self.new ≡ record self.old { cues = with_up self.old.cues n rate } }
+    {
+        self.cues.set_up(n, rate);
+    }
+
+    /// Sets the rate of falling levels of cue `n`; its time and delay are at most 5,999,990 milliseconds.
+    pub fn set_down(&mut self, n: u32, rate: Rate)
+        requires there { IsTrue (map.contains_key self.old.cues n) }
+        requires time { IsTrue (is_time rate.time) }
+        requires delay { IsTrue (is_time rate.delay) }
+        ensures { self.new ≡ record self.old { cues = with_down self.old.cues n rate } }
+    {
+        self.cues.set_down(n, rate);
+    }
+
+    /// Takes all cues away.
+    pub fn clear_cues(&mut self)
+        ensures { self.new ≡ record self.old { cues = map.empty } }
+    {
+        self.cues.clear();
+    }
+
+    /// Takes all submasters away.
+    pub fn clear_subs(&mut self)
+        ensures { self.new ≡ record self.old { subs = map.empty } }
+    {
+        self.subs.clear();
+    }
+
+    /// Takes all groups away.
+    pub fn clear_groups(&mut self)
+        ensures { self.new ≡ record self.old { groups = map.empty } }
+    {
+        self.groups.clear();
+    }
+
+    /// Leaves all dimmers unpatched.
+    pub fn clear_patch(&mut self)
+        ensures { self.new ≡ record self.old { patch = map.empty } }
+    {
+        self.patch.clear();
+    }
+
+    /// Cue `n`.
+    pub fn cue(&self, n: u32) -> Option<Cue<'_>>
+        ensures { result ≡ map.get self.now.cues n }
+    {
+        self.cues.get(n)
+    }
+
+    /// The least cue above `n`; `next(0)` is the first cue.
+    pub fn next(&self, n: u32) -> Option<u32>
+        ensures { result ≡ cue_above self.now.cues n }
+    {
+        self.cues.next(n)
+    }
+
+    /// The greatest cue below `n`.
+    pub fn before(&self, n: u32) -> Option<u32>
+        ensures { result ≡ cue_below self.now.cues n }
+    {
+        self.cues.before(n)
+    }
+
+    /// The channels of submaster `n` and their level bytes. The entries of a map are sorted, so the channels strictly ascend.
+    pub fn sub(&self, n: u16) -> Option<&[(u16, u8)]>
+        ensures entries { option_map (λ pairs. pairs.now) result ≡ option_map map.entries (map.get self.now.subs n) }
+        ensures range { IfSome result (λ pairs. All (λ e. IsTrue (is_channel e.0)) pairs.now) }
+    {
+        self.subs.pairs(n)
+    }
+
+    /// The channels of group `n` and their level bytes. The entries of a map are sorted, so the channels strictly ascend.
+    pub fn group(&self, n: u16) -> Option<&[(u16, u8)]>
+        ensures entries { option_map (λ pairs. pairs.now) result ≡ option_map map.entries (map.get self.now.groups n) }
+        ensures range { IfSome result (λ pairs. All (λ e. IsTrue (is_channel e.0)) pairs.now) }
+    {
+        self.groups.pairs(n)
+    }
+
+    /// The channel and the level byte of a dimmer, where it is patched.
+    pub fn patched(&self, dimmer: u16) -> Option<(u16, u8)>
+        ensures patch { result ≡ map.get self.now.patch dimmer }
+        ensures range { IfSome result (λ p. IsTrue (is_dimmer dimmer) × IsTrue (is_channel p.0)) }
+    {
+        self.patch.get(dimmer)
+    }
+
+    /// The ordinals of the universes that have a patched dimmer, ascending.
+    pub fn universes(&self) -> ArrayVec<u16, 16>
+        ensures { result.items ≡ universes_of self.now.patch }
+    {
+        let mut found = ArrayVec::new();
+        for ordinal in 0..UNIVERSES {
+            if self.patch.has_dimmer_in(ordinal) {
+                found.push(ordinal);
+            }
+        }
+        found
+    }
+
+    /// The 512 slots of the universe of an ordinal below 16, with the cue alone at full and the grand master at 255.
+    pub fn look_slots(&self, cue: u32, ordinal: u16) -> [u8; 512]
+        requires there { IsTrue (map.contains_key self.now.cues cue) }
+        requires range { ordinal < UNIVERSES }
+        ensures { IfSome (map.get self.now.cues cue) (λ look. result ≡ look_frame look.levels self.now.patch ordinal) }
+    {
+        let mut slots = [0; 512];
+        if let Some(look) = self.cue(cue) {
+            for place in 0..SLOTS {
+                slots[usize::from(place)] = self.look_slot(&look, SLOTS * ordinal + 1 + place);
+            }
+        }
+        slots
+    }
+
+    fn look_slot(&self, look: &Cue<'_>, dimmer: u16) -> u8
+        ensures { result ≡ look_slot look.now.levels self.now.patch dimmer }
+    {
+        match self.patch.get(dimmer) {
+            Some((channel, byte)) => full_slot(look.level(channel), byte),
+            None => 0,
+        }
+    }
+
+    /// How many cues, submasters, groups and patched dimmers there are.
+    pub fn counts(&self) -> Counts
+        ensures cues { result.cues ≡ map.len self.now.cues }
+        ensures subs { result.subs ≡ map.len self.now.subs }
+        ensures groups { result.groups ≡ map.len self.now.groups }
+        ensures dimmers { result.dimmers ≡ map.len self.now.patch }
+
+        // What holds of every show.
+        ensures ranges { IsInRange self.now }
+    {
+        Counts {
+            cues: self.cues.len() as u32,
+            subs: self.subs.len() as u32,
+            groups: self.groups.len() as u32,
+            dimmers: self.patch.len() as u32,
+        }
+    }
+
+    /// An equal show of its own.
+    ///
+    /// # Errors
+    ///
+    /// Where a growth was refused.
+    pub fn clone_in(&self, alloc: Global) -> Result<Show, AllocError>
+        ensures { IfOk result (λ copy. copy ≡ self.now) }
+    {
+        let cues = self.cues.clone_in(alloc)?;
+        let subs = self.subs.clone_in(alloc)?;
+        let groups = self.groups.clone_in(alloc)?;
+        let patch = self.patch.clone_in(alloc)?;
+        Ok(Show {
+            alloc,
+            cues,
+            subs,
+            groups,
+            patch,
+        })
+    }
+}
+
+fn can_patch(dimmer: u16, channel: u16) -> bool
+    ensures { result ≡ can_patch dimmer channel }
+{
+    is_dimmer(dimmer) && channel <= CHANNELS
+}
+
+// The slot of a level and a patch byte, both scaled by a grand master at 255.
+fn full_slot(level: u8, byte: u8) -> u8
+    ensures { result ≡ slot_of (255 * level) 255 byte }
+{
+    let product = 255 * u32::from(level) * 255 * u32::from(byte);
+    ((product + 8_290_687) / 16_581_375) as u8
+}
