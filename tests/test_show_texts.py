@@ -254,7 +254,8 @@ class ShowTexts(ProgramTest):
         for word in good:
             with self.subTest(word):
                 self.assertChecks(text("CUE 1", f"UP {word} {word} extra"), lines=2, cues=1)
-        for word in ("6000", "1.", ".", "1.005", "1:60", "1:005", "100:00", ":30", "1:", "1:.5", "1:2:3"):
+        bad = ("6000", "1.", ".", "1.005", "1:60", "1:005", "100:00", ":30", "1:", "1:.5", "1:2:3")
+        for word in bad:
             with self.subTest(word):
                 self.assertFault(text("CUE 1", "UP " + word), " line 2: BadTime")
                 self.assertFault(text("CUE 1", "DOWN 1 " + word), " line 2: BadTime")
