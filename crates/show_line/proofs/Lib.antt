@@ -1,0 +1,5 @@
+pub mod Lowest
+pub mod Ranges
+pub mod Forms
+pub mod Ranged
+pub mod Wider

@@ -1,0 +1,37 @@
+-- The lowest of several faults.
+use Rattle.std.proofs.Common.{◌≡◌, true, false, refl, sym, arith, Option, Some, None}
+use Rattle.std.specs.Prelude.{nat_lt, if◌then◌else◌}
+use Rattle.std.proofs.lemmas.Bool.Decides.{nat_tests}
+use Rattle.std.proofs.lemmas.Option.{none-some}
+use Rattle.show_line.specs.declared.fault.LineFault.{LineFault}
+use Rattle.show_line.specs.Faults.{rank_of, lower}
+
+lower_two : (x y : LineFault) → lower (lower (Some x) (Some y)) None ≡ lower (Some x) (Some y)
+lower_two x y = grind (arith, nat_tests)
+
+lower_three : (x y z : LineFault) → lower (lower (Some x) (Some y)) (Some z) ≡ lower (Some x) (lower (Some y) (Some z))
+lower_three x y z = grind (arith, nat_tests)
+
+-- the order of comparison does not matter
+pub lower_assoc : (a b c : Option LineFault) → lower (lower a b) c ≡ lower a (lower b c)
+lower_assoc None b c = refl
+lower_assoc (Some x) None c = refl
+lower_assoc (Some x) (Some y) None = lower_two x y
+lower_assoc (Some x) (Some y) (Some z) = lower_three x y z
+
+-- no fault changes nothing
+pub lower_none : (a : Option LineFault) → lower a None ≡ a
+lower_none None = refl
+lower_none (Some x) = refl
+
+some_of_two : (x y : LineFault) → lower (Some x) (Some y) ≡ None → ⊥
+some_of_two x y = elim (nat_lt (rank_of y) (rank_of x)) as (λ b. (if b then Some y else Some x) ≡ None → ⊥) [
+  | true ↦ λ h. none-some y (sym h)
+  | false ↦ λ h. none-some x (sym h)
+]
+
+-- where the lower of two is none, both are
+pub lower_both : (a b : Option LineFault) → lower a b ≡ None → (a ≡ None) × (b ≡ None)
+lower_both None b h = (refl, h)
+lower_both (Some x) None h = absurd (none-some x (sym h))
+lower_both (Some x) (Some y) h = absurd (some_of_two x y h)

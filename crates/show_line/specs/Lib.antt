@@ -1,0 +1,5 @@
+pub mod Keywords
+pub mod Faults
+pub mod Pairs
+pub mod Said
+pub mod Sound

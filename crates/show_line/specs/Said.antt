@@ -1,0 +1,131 @@
+-- What a line says, by its keyword, the record that owns it, and the words behind the keyword.
+use Rattle.std.specs.Prelude.{ℕ, Bool, true, ◌==◌, if◌then◌else◌, List, [], ◌∷◌, codes, Option, Some, None, unwrap_or}
+use Rattle.std.specs.Option.{option_map_or}
+use Rattle.ascii_text.specs.Forms.{same_word, number_of, time_of, cue_number_of}
+use Rattle.show_core.specs.declared.rate.Rate.{Rate}
+use Rattle.show_core.specs.declared.limits.TheConstants.{SUBMASTERS, GROUPS}
+use Rattle.show_line.specs.declared.fault.LineFault.{LineFault}
+use Rattle.show_line.specs.declared.fault.LineFault.TheVariants.{MissingNumber}
+use Rattle.show_line.specs.declared.fault.LineFault.TheVariants.{Ident as BadIdent}
+use Rattle.show_line.specs.declared.keyword.Keyword.{Keyword}
+use Rattle.show_line.specs.declared.keyword.Keyword.TheVariants.{Clear, Ident, Cue, Group, Sub, Patch, EndData, Setting, Chan, Up, Down, Remark, Maker, Unknown}
+use Rattle.show_line.specs.declared.statement.Record.{Record}
+use Rattle.show_line.specs.declared.statement.Record.TheVariants as record_of
+use Rattle.show_line.specs.declared.statement.Table.TheVariants as table
+use Rattle.show_line.specs.declared.statement.Cleared.{Cleared}
+use Rattle.show_line.specs.declared.statement.Cleared.TheVariants.{All, Only}
+use Rattle.show_line.specs.declared.line.Reading.{Reading}
+use Rattle.show_line.specs.declared.statement.Statement.{Statement}
+use Rattle.show_line.specs.declared.statement.Statement.TheVariants.{Opens, Levels, Rises, Falls, Patches, Clears, Quiet, Skipped, Faulty}
+use Rattle.show_line.specs.Keywords.{named, keyword_of}
+use Rattle.show_line.specs.Faults.{lower, number_fault, cue_fault, page_fault, time_fault, delay_fault}
+pub use Rattle.show_line.specs.Pairs.{desk}
+use Rattle.show_line.specs.Pairs.{Limits, pair_fault, pairs_in, triple_fault, triples_in}
+
+-- the statement, or the fault where there is one
+abbrev pub unless_faulty : Option LineFault → Statement → Statement
+unless_faulty fault says = option_map_or Faulty fault says
+
+-- the page is 1 or is not there; a record on another page is foreign
+abbrev pub is_page_1 : List (List ℕ) → Bool
+is_page_1 [] = true
+is_page_1 (page ∷ words) = unwrap_or (number_of page) 0 == 1
+
+-- a record line whose number has this fault, or names this record; a page may be next
+abbrev pub on_page : Option LineFault → Record → List (List ℕ) → Statement
+on_page fault which words = unless_faulty (lower fault (page_fault words)) (if is_page_1 words then Opens which else Skipped)
+
+-- CUE, GROUP or SUB: a number, whose fault and record these functions give, and perhaps a page
+abbrev pub record_said : (List ℕ → Option LineFault) → (List ℕ → Record) → List (List ℕ) → Statement
+record_said fault which [] = Faulty MissingNumber
+record_said fault which (number ∷ words) = on_page (fault number) (which number) words
+
+-- the cue, group or submaster that a word names
+abbrev pub cue_named : List ℕ → Record
+cue_named word = record_of.Cue (unwrap_or (cue_number_of word) 0)
+
+abbrev pub group_named : List ℕ → Record
+group_named word = record_of.Group (unwrap_or (number_of word) 0)
+
+abbrev pub sub_named : List ℕ → Record
+sub_named word = record_of.Sub (unwrap_or (number_of word) 0)
+
+-- PATCH: a page, then triples; those of a foreign page are not looked at
+abbrev pub patch_said : Limits → List (List ℕ) → Statement
+patch_said lim [] = Faulty MissingNumber
+patch_said lim (page ∷ words) =
+    unless_faulty (page_fault (page ∷ words))
+    (if is_page_1 (page ∷ words) then unless_faulty (triple_fault lim words) (Patches (triples_in words)) else Skipped)
+
+-- the lowest fault of the words of UP or DOWN: a time, and perhaps a delay
+abbrev pub rate_fault : List (List ℕ) → Option LineFault
+rate_fault [] = Some MissingNumber
+rate_fault (time ∷ words) = lower (time_fault time) (delay_fault words)
+
+-- the rate that they spell, with no delay where that word is missing
+abbrev pub rate_in : List (List ℕ) → Rate
+rate_in (time ∷ delay ∷ words) = record { time = unwrap_or (time_of time) 0; delay = unwrap_or (time_of delay) 0 }
+rate_in (time ∷ []) = record { time = unwrap_or (time_of time) 0; delay = 0 }
+rate_in [] = record { time = 0; delay = 0 }
+
+-- UP or DOWN of a cue
+abbrev pub rate_said : (Rate → Statement) → List (List ℕ) → Statement
+rate_said says words = unless_faulty (rate_fault words) (says (rate_in words))
+
+-- IDENT: the version must be 3:0; words behind it are ignored
+abbrev pub ident_said : List (List ℕ) → Statement
+ident_said [] = Faulty BadIdent
+ident_said (version ∷ words) = if same_word version (codes "3:0") then Quiet else Faulty BadIdent
+
+-- the words that CLEAR knows
+abbrev pub cleared_names : List (List ℕ × Cleared)
+cleared_names =
+    (codes "all", All) ∷ (codes "cue", Only table.Cues) ∷ (codes "cues", Only table.Cues)
+    ∷ (codes "group", Only table.Groups) ∷ (codes "groups", Only table.Groups)
+    ∷ (codes "sub", Only table.Subs) ∷ (codes "subs", Only table.Subs) ∷ (codes "patch", Only table.Patch) ∷ []
+
+-- CLEAR with one word that names tables; else it is skipped
+abbrev pub clear_said : List (List ℕ) → Statement
+clear_said (what ∷ []) = option_map_or Clears (named cleared_names what) Skipped
+clear_said _ = Skipped
+
+-- a secondary line: skipped, unless a record owns it
+abbrev pub owned_said : Option Record → (Record → Statement) → Statement
+owned_said owner says = option_map_or says owner Skipped
+
+-- CHAN of a record
+abbrev pub levels_said : Limits → List (List ℕ) → Record → Statement
+levels_said lim words which = unless_faulty (pair_fault lim words) (Levels which (pairs_in words))
+
+-- UP and DOWN count for a cue, and have no effect in a group or a submaster
+abbrev pub cue_said : (ℕ → Statement) → Record → Statement
+cue_said says (record_of.Cue n) = says n
+cue_said says (record_of.Group n) = Quiet
+cue_said says (record_of.Sub n) = Quiet
+
+-- what a line says
+abbrev pub said : Limits → Option Record → Keyword → List (List ℕ) → Statement
+said lim owner Clear words = clear_said words
+said lim owner Ident words = ident_said words
+said lim owner Cue words = record_said cue_fault cue_named words
+said lim owner Group words = record_said (number_fault 1 GROUPS) group_named words
+said lim owner Sub words = record_said (number_fault 1 SUBMASTERS) sub_named words
+said lim owner Patch words = patch_said lim words
+said lim owner EndData words = Quiet
+said lim owner Setting words = Quiet
+said lim owner Chan words = owned_said owner (levels_said lim words)
+said lim owner Up words = owned_said owner (cue_said (λ n. rate_said (Rises n) words))
+said lim owner Down words = owned_said owner (cue_said (λ n. rate_said (Falls n) words))
+said lim owner Remark words = owned_said owner (λ r. Quiet)
+said lim owner Maker words = Skipped
+said lim owner Unknown words = Skipped
+
+-- the record that a statement opens
+abbrev pub opened : Statement → Option Record
+opened (Opens r) = Some r
+opened _ = None
+
+-- what is read of a line: its keyword and what it says; nothing where it has no words
+abbrev pub reading_of : Limits → Option Record → List (List ℕ) → Option Reading
+reading_of lim owner [] = None
+reading_of lim owner (word ∷ words) = Some (record { keyword = keyword_of word; statement = said lim owner (keyword_of word) words })

@@ -1,0 +1,219 @@
+ghost use Rattle.std.specs.Prelude.{◌≡◌, MatchResult, IfSome};
+ghost use Rattle.ascii_text.specs.LinesLeft.{words_left};
+ghost use Rattle.ascii_text.specs.Text.{words_of};
+ghost use Rattle.show_line.specs.declared.statement.Record.{Record};
+ghost use Rattle.show_line.specs.Keywords.{named};
+ghost use Rattle.show_line.specs.Sound.{IsSound};
+ghost use Rattle.show_line.specs.Faults.{number_fault, cue_fault};
+ghost use Rattle.show_line.specs.Pairs.{desk, behind_first};
+ghost use Rattle.show_line.specs.Said.{on_page, record_said, cue_named, group_named, sub_named};
+ghost use Rattle.show_line.specs.Said.{patch_said, rate_fault, rate_in, rate_said, owned_said, cue_said};
+ghost use Rattle.show_line.specs.Said.{ident_said, cleared_names, clear_said, levels_said, said, reading_of};
+
+use crate::fault::{LineFault, number_in};
+use crate::keyword::{Keyword, keyword_of};
+use crate::pairs::Pairs;
+use crate::statement::{Cleared, Record, Statement, Table};
+use crate::triples::Triples;
+use crate::words::behind_first;
+use ascii_text::{Words, cue_number, number, same_word, time};
+use show_core::{GROUPS, Rate, SUBMASTERS};
+
+/// A line that has words: what its first word makes of it, and what it says.
+#[derive(Drop)]
+pub struct Reading<'a> {
+    pub keyword: Keyword,
+    pub statement: Statement<'a>,
+}
+
+/// Reads a line below a record, if one owns it: `None` where the line has no words.
+pub fn read_line<'a>(owner: Option<Record>, line: &'a [u8]) -> Option<Reading<'a>>
+    ensures means { result ≡ reading_of desk owner (words_of line.now) }
+    ensures sound { IfSome result (λ reading. IsSound reading.statement) }
+{
+    let keyword = keyword_of(Words::new(line).next()?);
+    Some(Reading {
+        keyword,
+        statement: statement(owner, keyword, line),
+    })
+}
+
+// What a line says that has this keyword as its first word.
+fn statement<'a>(owner: Option<Record>, keyword: Keyword, line: &'a [u8]) -> Statement<'a>
+    ensures { result ≡ said desk owner keyword (behind_first (words_of line.now)) }
+{
+    let words = behind_first(line);
+    match keyword {
+        Keyword::Clear => clear_statement(words),
+        Keyword::Ident => ident_statement(words),
+        Keyword::Cue => cue_statement(words),
+        Keyword::Group => group_statement(words),
+        Keyword::Sub => sub_statement(words),
+        Keyword::Patch => patch_statement(line),
+        Keyword::EndData | Keyword::Setting => Statement::Quiet,
+        Keyword::Chan => chan_statement(owner, line),
+        Keyword::Up => up_statement(owner, words),
+        Keyword::Down => down_statement(owner, words),
+        Keyword::Remark if owner.is_some() => Statement::Quiet,
+        Keyword::Remark | Keyword::Maker | Keyword::Unknown => Statement::Skipped,
+    }
+}
+
+fn clear_statement<'a>(mut words: Words<'a>) -> Statement<'a>
+    ensures { result ≡ clear_said (words_left words.entry) }
+{
+    match (words.next(), words.next()) {
+        (Some(what), None) => match cleared(what) {
+            Some(cleared) => Statement::Clears(cleared),
+            None => Statement::Skipped,
+        },
+        _ => Statement::Skipped,
+    }
+}
+
+// What the word behind CLEAR names.
+fn cleared(word: &[u8]) -> Option<Cleared>
+    ensures { result ≡ named cleared_names word.now }
+{
+    if same_word(word, b"all") {
+        Some(Cleared::All)
+    } else if same_word(word, b"cue") || same_word(word, b"cues") {
+        Some(Cleared::Only(Table::Cues))
+    } else if same_word(word, b"group") || same_word(word, b"groups") {
+        Some(Cleared::Only(Table::Groups))
+    } else if same_word(word, b"sub") || same_word(word, b"subs") {
+        Some(Cleared::Only(Table::Subs))
+    } else if same_word(word, b"patch") {
+        Some(Cleared::Only(Table::Patch))
+    } else {
+        None
+    }
+}
+
+fn ident_statement<'a>(mut words: Words<'a>) -> Statement<'a>
+    ensures { result ≡ ident_said (words_left words.entry) }
+{
+    match words.next() {
+        Some(version) if same_word(version, b"3:0") => Statement::Quiet,
+        _ => Statement::Faulty(LineFault::Ident),
+    }
+}
+
+fn cue_statement<'a>(mut words: Words<'a>) -> Statement<'a>
+    ensures { result ≡ record_said cue_fault cue_named (words_left words.entry) }
+{
+    match words.next() {
+        Some(word) => {
+            let cue = cue_number(word).map(Record::Cue);
+            on_page(cue.ok_or(LineFault::BadNumber), words)
+        }
+        None => Statement::Faulty(LineFault::MissingNumber),
+    }
+}
+
+fn group_statement<'a>(mut words: Words<'a>) -> Statement<'a>
+    ensures { result ≡ record_said (number_fault 1 GROUPS) group_named (words_left words.entry) }
+{
+    match words.next() {
+        Some(word) => on_page(number_in(word, 1, GROUPS).map(Record::Group), words),
+        None => Statement::Faulty(LineFault::MissingNumber),
+    }
+}
+
+fn sub_statement<'a>(mut words: Words<'a>) -> Statement<'a>
+    ensures { result ≡ record_said (number_fault 1 SUBMASTERS) sub_named (words_left words.entry) }
+{
+    match words.next() {
+        Some(word) => on_page(number_in(word, 1, SUBMASTERS).map(Record::Sub), words),
+        None => Statement::Faulty(LineFault::MissingNumber),
+    }
+}
+
+// A record line, by what its number names and the words behind the number: a page may be next.
+fn on_page<'a>(named: Result<Record, LineFault>, mut words: Words<'a>) -> Statement<'a>
+    ensures { MatchResult named
+        (λ r. result ≡ on_page None r (words_left words.entry))
+        (λ fault. (r : Record) → result ≡ on_page (Some fault) r (words_left words.entry)) }
+{
+    let page = match words.next() {
+        Some(word) => number(word).ok_or(LineFault::BadNumber),
+        None => Ok(1),
+    };
+    match (named, page) {
+        (Ok(record), Ok(1)) => Statement::Opens(record),
+        (Ok(_), Ok(_)) => Statement::Skipped,
+        (Ok(_), Err(fault)) | (Err(fault), Ok(_)) => Statement::Faulty(fault),
+        (Err(a), Err(b)) => Statement::Faulty(a.lower(b)),
+    }
+}
+
+fn patch_statement<'a>(line: &'a [u8]) -> Statement<'a>
+    ensures { result ≡ patch_said desk (behind_first (words_of line.now)) }
+{
+    let Some(page) = behind_first(line).next() else {
+        return Statement::Faulty(LineFault::MissingNumber);
+    };
+    match number(page) {
+        None => Statement::Faulty(LineFault::BadNumber),
+        Some(1) => match Triples::new(line) {
+            Ok(triples) => Statement::Patches(triples),
+            Err(fault) => Statement::Faulty(fault),
+        },
+        Some(_) => Statement::Skipped,
+    }
+}
+
+fn chan_statement<'a>(owner: Option<Record>, line: &'a [u8]) -> Statement<'a>
+    ensures { result ≡ owned_said owner (levels_said desk (behind_first (words_of line.now))) }
+{
+    let Some(record) = owner else {
+        return Statement::Skipped;
+    };
+    match Pairs::new(line) {
+        Ok(pairs) => Statement::Levels(record, pairs),
+        Err(fault) => Statement::Faulty(fault),
+    }
+}
+
+fn up_statement<'a>(owner: Option<Record>, words: Words<'a>) -> Statement<'a>
+    ensures { result ≡ owned_said owner (cue_said (λ n. rate_said (Statement.Rises n) (words_left words.entry))) }
+{
+    match owner {
+        Some(Record::Cue(n)) => match rate(words) {
+            Ok(rate) => Statement::Rises(n, rate),
+            Err(fault) => Statement::Faulty(fault),
+        },
+        Some(_) => Statement::Quiet,
+        None => Statement::Skipped,
+    }
+}
+
+fn down_statement<'a>(owner: Option<Record>, words: Words<'a>) -> Statement<'a>
+    ensures { result ≡ owned_said owner (cue_said (λ n. rate_said (Statement.Falls n) (words_left words.entry))) }
+{
+    match owner {
+        Some(Record::Cue(n)) => match rate(words) {
+            Ok(rate) => Statement::Falls(n, rate),
+            Err(fault) => Statement::Faulty(fault),
+        },
+        Some(_) => Statement::Quiet,
+        None => Statement::Skipped,
+    }
+}
+
+// The rate that the words of UP or DOWN spell.
+fn rate(mut words: Words<'_>) -> Result<Rate, LineFault>
+    ensures { MatchResult result
+        (λ rate. (rate_fault (words_left words.entry) ≡ None) × (rate ≡ rate_in (words_left words.entry)))
+        (λ fault. rate_fault (words_left words.entry) ≡ Some fault) }
+{
+    let first = words.next().ok_or(LineFault::MissingNumber)?;
+    let delay = match words.next() {
+        Some(second) => time(second),
+        None => Some(0),
+    };
+    match (time(first), delay) {
+        (Some(time), Some(delay)) => Ok(Rate { time, delay }),
+        _ => Err(LineFault::BadTime),
+    }
+}

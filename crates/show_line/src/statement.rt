@@ -1,0 +1,66 @@
+use crate::fault::LineFault;
+use crate::pairs::Pairs;
+use crate::triples::Triples;
+use show_core::Rate;
+
+/// What a CUE, GROUP or SUB line opens: a cue by its number in thousandths, a group or a submaster.
+#[derive(Clone, Copy, Debug, PartialEq, Eq)]
+pub enum Record {
+    Cue(u32),
+    Group(u16),
+    Sub(u16),
+}
+
+/// One of the four tables of a show.
+#[derive(Clone, Copy, Debug, PartialEq, Eq)]
+pub enum Table {
+    Cues,
+    Groups,
+    Subs,
+    Patch,
+}
+
+/// What a CLEAR line empties.
+#[derive(Clone, Copy, Debug, PartialEq, Eq)]
+pub enum Cleared {
+    All,
+    Only(Table),
+}
+
+/// What a line says.
+#[derive(Drop)]
+pub enum Statement<'a> {
+    /// It opens a record, or continues it.
+    Opens(Record),
+    /// It lists levels of a record: the pairs of a CHAN line.
+    Levels(Record, Pairs<'a>),
+    /// The time and delay of a cue's rising levels; the cue is named by its number in thousandths.
+    Rises(u32, Rate),
+    /// The time and delay of a cue's falling levels.
+    Falls(u32, Rate),
+    /// It patches dimmers: the triples of a PATCH line.
+    Patches(Triples<'a>),
+    /// It empties tables.
+    Clears(Cleared),
+    /// It has no effect.
+    Quiet,
+    /// It has no effect, and counts as skipped.
+    Skipped,
+    /// It has a fault: the lowest of its words.
+    Faulty(LineFault),
+}
+
+impl<'a> Statement<'a> {
+    ghost use Rattle.std.specs.Prelude.{◌≡◌};
+    ghost use Rattle.show_line.specs.Said.{opened};
+
+    /// The record that it opens or continues.
+    pub fn opened(&self) -> Option<Record>
+        ensures { result ≡ opened self.now }
+    {
+        match self {
+            Statement::Opens(record) => Some(*record),
+            _ => None,
+        }
+    }
+}

@@ -1,0 +1,104 @@
+ghost use Rattle.std.specs.Prelude.{◌≡◌, MatchResult};
+ghost use Rattle.std.specs.Iterator.{YieldsFirst, item_count};
+ghost use Rattle.ascii_text.specs.LinesLeft.{words_left};
+ghost use Rattle.ascii_text.specs.Text.{words_of};
+ghost use Rattle.show_line.specs.Pairs.{desk, behind_first, triple_fault, triples_in};
+
+use crate::fault::{LineFault, level_fault, lower, number_fault};
+use crate::words::behind_first;
+use ascii_text::{Words, level, number};
+use show_core::{CHANNELS, DIMMERS};
+use std::marker::Model;
+
+/// A triple of a PATCH line: the channel, from 0 (which leaves the dimmer unpatched) to [`CHANNELS`],
+/// the dimmer, from 1 to [`DIMMERS`], and the level byte.
+#[derive(Clone, Copy, Debug, PartialEq, Eq)]
+pub struct Triple {
+    pub channel: u16,
+    pub dimmer: u16,
+    pub level: u8,
+}
+
+/// The triples of a PATCH line that are left, in the order of the line. Its words have no fault.
+#[derive(Drop)]
+pub struct Triples<'a> {
+    words: Words<'a>,
+}
+
+impl<'a> Model for Triples<'a> {
+    ghost use Rattle.std.specs.Prelude.{◌≡◌, List, None};
+    ghost use Rattle.ascii_text.specs.LinesLeft.{words_left};
+    ghost use Rattle.show_line.specs.declared.triples.Triple.{Triple};
+    ghost use Rattle.show_line.specs.Pairs.{desk, triple_fault, triples_in};
+
+    ghost Value = { List Triple };
+
+    ghost view = { λ triples. triples_in (words_left triples.words) };
+
+    ghost invariant = { λ triples. triple_fault desk (words_left triples.words) ≡ None };
+}
+
+impl<'a> Triples<'a> {
+    /// The triples behind the page of a PATCH line, or the lowest fault of their words.
+    pub(crate) fn new(line: &'a [u8]) -> Result<Triples<'a>, LineFault>
+        ensures { MatchResult result
+            (λ triples. (triple_fault desk (behind_first (behind_first (words_of line.now))) ≡ None)
+            × (triples ≡ triples_in (behind_first (behind_first (words_of line.now)))))
+            (λ fault. triple_fault desk (behind_first (behind_first (words_of line.now))) ≡ Some fault) }
+    {
+        match triple_fault(behind_page(line)) {
+            Some(fault) => Err(fault),
+            None => Ok(Triples {
+                words: behind_page(line),
+            }),
+        }
+    }
+}
+
+impl<'a> Iterator for Triples<'a> {
+    type Item = Triple;
+
+    ghost next_gives = { YieldsFirst (λ triples. triples) };
+
+    ghost remaining = { item_count (λ triples. triples) };
+
+    fn next(&mut self) -> Option<Triple> {
+        let channel = self.words.next()?;
+        let dimmer = self.words.next()?;
+        let byte = self.words.next()?;
+        Some(Triple {
+            channel: number(channel).unwrap_or(0) as u16,
+            dimmer: number(dimmer).unwrap_or(0) as u16,
+            level: level(byte).unwrap_or(0),
+        })
+    }
+}
+
+// The words behind the page of a PATCH line.
+fn behind_page<'a>(line: &'a [u8]) -> Words<'a>
+    ensures { words_left result ≡ behind_first (behind_first (words_of line.now)) }
+{
+    let mut words = behind_first(line);
+    let _page = words.next();
+    words
+}
+
+// The lowest fault of the words behind the page.
+fn triple_fault(mut words: Words<'_>) -> Option<LineFault>
+    ensures { result ≡ triple_fault desk (words_left words.entry) }
+{
+    let mut lowest = None;
+    while let Some(channel) = words.next() {
+        let of_channel = number_fault(channel, 0, CHANNELS);
+        let of_dimmer = match words.next() {
+            Some(dimmer) => number_fault(dimmer, 1, DIMMERS),
+            None => Some(LineFault::HalfTriple),
+        };
+        let of_level = match words.next() {
+            Some(level) => level_fault(level),
+            None => Some(LineFault::HalfTriple),
+        };
+        lowest = lower(lowest, lower(lower(of_channel, of_dimmer), of_level));
+    }
+    lowest
+}
