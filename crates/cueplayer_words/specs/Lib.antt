@@ -1,0 +1,3 @@
+pub mod Program
+pub mod Job
+pub mod Asked

@@ -1,0 +1,30 @@
+-- The lines of the program, as a command of clap.
+use Rattle.std.specs.Prelude.{true, Some, codes}
+use Rattle.clap.specs.Words.{App, Rule, Text, new_app, new_rule, with_rule, with_subcommand}
+
+-- an argument that has to be there: without a flag, it is the next word
+abbrev pub required : Text → Rule
+required id = record (new_rule id) { required = true }
+
+-- an option that has to be there: two dashes and its name, and then its value
+abbrev pub required_option : Text → Rule
+required_option id = record (required id) { long = Some id; value_names = 1 }
+
+-- `check SHOW`
+abbrev pub check_line : App
+check_line = with_rule (new_app (codes "check")) (required (codes "SHOW"))
+
+-- `look SHOW CUE --cid UUID`
+abbrev pub look_line : App
+look_line = with_rule (with_rule (with_rule (new_app (codes "look"))
+    (required (codes "SHOW"))) (required (codes "CUE"))) (required_option (codes "cid"))
+
+-- the program before it has lines: a line has to be named
+abbrev pub without_lines : App
+without_lines = record (new_app (codes "cueplayer")) {
+  top = record (new_app (codes "cueplayer")).top { subcommand_required = true };
+}
+
+-- the program with its lines
+abbrev pub program : App
+program = with_subcommand (with_subcommand without_lines check_line.top) look_line.top

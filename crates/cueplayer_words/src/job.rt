@@ -1,0 +1,59 @@
+ghost use Rattle.std.specs.Prelude.{◌≡◌, ℕ, List, IfOk};
+ghost use Rattle.std.specs.String.{string_bytes};
+
+use std::alloc::{AllocError, Global};
+use std::marker::Model;
+
+/// The name of a file, as the words gave it. Contracts see its bytes.
+#[derive(Debug, Drop)]
+pub struct Name {
+    text: String,
+}
+
+impl Model for Name {
+    ghost Value = { List ℕ };
+
+    ghost view = { λ name. string_bytes name.text };
+}
+
+impl Name {
+    pub(crate) fn new(alloc: Global, text: &str) -> Result<Name, AllocError>
+        ensures { IfOk result (λ name. name ≡ text.now) }
+    {
+        Ok(Name {
+            text: String::from_str(alloc, text)?,
+        })
+    }
+
+    /// The name as text.
+    pub fn as_str(&self) -> &str
+        ensures { result.now ≡ self.now }
+    {
+        self.text.as_str()
+    }
+}
+
+/// What the words ask for: one of the program's lines, with the values of its arguments.
+#[derive(Debug, Drop)]
+pub enum Job {
+    /// `check SHOW`: read a show and print its counts.
+    Check { show: Name },
+
+    /// `look SHOW CUE --cid UUID`: print the packets of one cue at full. The cue number is in
+    /// thousandths, 1 to 9,999,999, and the CID is the UUID's 16 bytes in order.
+    Look { show: Name, cue: u32, cid: [u8; 16] },
+}
+
+/// Why words give no job.
+#[derive(Debug, Drop)]
+pub enum WordsFault {
+    /// No line takes the words, or they ask for help. The error's kind says which, and it has the
+    /// text for the user.
+    Refused(clap::Error),
+
+    /// A line takes the words, and one of them lacks its form.
+    Unfit,
+
+    /// A growth was refused.
+    Memory,
+}

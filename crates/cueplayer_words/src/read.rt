@@ -1,0 +1,100 @@
+ghost use Rattle.std.specs.Prelude.{◌≡◌, map, option_map, option_and_then, IfOk, IfErr};
+ghost use Rattle.clap.specs.Words.{found_of, rows_of, subcommand_rows_of};
+ghost use Rattle.cueplayer_words.specs.Job.{line_of, check_of, look_of, look_with};
+ghost use Rattle.cueplayer_words.specs.Asked.{Explains, IsAsked, RefusedBy};
+
+use crate::arguments::{cid_at, cue_at, text_at};
+use crate::job::{Job, Name, WordsFault};
+use crate::program::program;
+use clap::error::ErrorKind;
+use clap::{ArgMatches, Error};
+use std::alloc::{AllocError, Global};
+use std::convert::AsStr;
+
+/// Reads the words of the command line, the program's name first.
+///
+/// The first that applies is answered: Refused where no line of the program takes the words, Unfit
+/// where an argument lacks its form, and else the job. Memory may come in place of any of them.
+pub fn read_words<S: AsStr>(alloc: Global, words: &[S]) -> Result<Job, WordsFault>
+    ensures ok { IfOk result (IsAsked (map S.text words.now)) }
+    ensures err { IfErr result (Explains (map S.text words.now)) }
+{
+    let Ok(program) = program(alloc) else {
+        return Err(WordsFault::Memory);
+    };
+    let matches = match program.try_get_matches_from(words) {
+        Ok(matches) => matches,
+        Err(error) => return Err(refusal(error)),
+    };
+    match read_line(alloc, &matches) {
+        Ok(Some(job)) => Ok(job),
+        Ok(None) => Err(WordsFault::Unfit),
+        Err(_) => Err(WordsFault::Memory),
+    }
+}
+
+fn refusal(error: Error) -> WordsFault
+    ensures { RefusedBy error result }
+{
+    if error.kind() == ErrorKind::OutOfMemory {
+        WordsFault::Memory
+    } else {
+        WordsFault::Refused(error)
+    }
+}
+
+// The job of the line that the words name, where each of its texts has its form.
+fn read_line(alloc: Global, matches: &ArgMatches<'_>) -> Result<Option<Job>, AllocError>
+    ensures { IfOk result (λ job. job ≡ option_and_then line_of (subcommand_rows_of matches.now)) }
+{
+    let Some((line, inner)) = matches.subcommand() else {
+        return Ok(None);
+    };
+    if line == "check" {
+        read_check(alloc, inner)
+    } else if line == "look" {
+        read_look(alloc, inner)
+    } else {
+        Ok(None)
+    }
+}
+
+fn read_check(alloc: Global, matches: &ArgMatches<'_>) -> Result<Option<Job>, AllocError>
+    ensures { IfOk result (λ job. job ≡ check_of (rows_of (found_of matches.now))) }
+{
+    check_job(alloc, text_at(matches, "SHOW"))
+}
+
+fn check_job(alloc: Global, show: Option<&str>) -> Result<Option<Job>, AllocError>
+    ensures { IfOk result (λ job. job ≡ option_map Job.Check (option_map (λ text. text.now) show.entry)) }
+{
+    let Some(show) = show else {
+        return Ok(None);
+    };
+    let show = Name::new(alloc, show)?;
+    Ok(Some(Job::Check { show }))
+}
+
+fn read_look(alloc: Global, matches: &ArgMatches<'_>) -> Result<Option<Job>, AllocError>
+    ensures { IfOk result (λ job. job ≡ look_of (rows_of (found_of matches.now))) }
+{
+    let show = text_at(matches, "SHOW");
+    let cue = cue_at(matches, "CUE");
+    let cid = cid_at(matches, "cid");
+    look_job(alloc, show, cue, cid)
+}
+
+fn look_job(
+    alloc: Global,
+    show: Option<&str>,
+    cue: Option<u32>,
+    cid: Option<[u8; 16]>,
+) -> Result<Option<Job>, AllocError>
+    ensures { IfOk result (λ job. job ≡ look_with (option_map (λ text. text.now) show.entry) cue cid) }
+{
+    let (Some(show), Some(cue), Some(cid)) = (show, cue, cid) else {
+        return Ok(None);
+    };
+    let show = Name::new(alloc, show)?;
+    Ok(Some(Job::Look { show, cue, cid }))
+}

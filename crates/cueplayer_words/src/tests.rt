@@ -1,0 +1,115 @@
+use crate::{Job, WordsFault, read_words};
+use clap::error::ErrorKind;
+use std::alloc::Global;
+use std::test::Fail;
+
+const CID: &str = "c0ffee00-0000-4000-8000-00000000e131";
+
+const CID_BYTES: [u8; 16] = [
+    0xc0, 0xff, 0xee, 0x00, 0x00, 0x00, 0x40, 0x00, 0x80, 0x00, 0x00, 0x00, 0x00, 0x00, 0xe1, 0x31,
+];
+
+// Where the one growth that a run lets fail was refused here, the second reading has all it needs.
+fn read(alloc: Global, words: &[&str]) -> Result<Job, WordsFault> {
+    match read_words(alloc, words) {
+        Err(WordsFault::Memory) => read_words(alloc, words),
+        answer => answer,
+    }
+}
+
+#[test]
+fn look_words(rt: HostRuntime) {
+    let unfit = [
+        ["cueplayer", "look", "-", "x", "--cid", CID],
+        ["cueplayer", "look", "-", "0", "--cid", CID],
+        ["cueplayer", "look", "-", "1", "--cid", "c0ffee00"],
+    ];
+    for words in unfit {
+        assert!(rt;
+            matches!(read(rt.alloc(), words.as_slice()), Err(WordsFault::Unfit)),
+            "{words:?}"
+        );
+    }
+    let refused = [
+        (
+            ["cueplayer", "look", "-", "1"].as_slice(),
+            ErrorKind::MissingRequiredArgument,
+        ),
+        (
+            ["cueplayer", "look", "-", "x"].as_slice(),
+            ErrorKind::MissingRequiredArgument,
+        ),
+        (
+            ["cueplayer", "look", "-", "--cid", CID].as_slice(),
+            ErrorKind::MissingRequiredArgument,
+        ),
+        (
+            ["cueplayer", "look", "-", "1", "--cid", CID, "--cid", CID].as_slice(),
+            ErrorKind::ArgumentConflict,
+        ),
+        (
+            ["cueplayer", "check"].as_slice(),
+            ErrorKind::MissingRequiredArgument,
+        ),
+        (
+            ["cueplayer", "check", "a", "b"].as_slice(),
+            ErrorKind::UnknownArgument,
+        ),
+        (
+            ["cueplayer", "open", "a"].as_slice(),
+            ErrorKind::InvalidSubcommand,
+        ),
+        (["cueplayer"].as_slice(), ErrorKind::MissingSubcommand),
+        (["cueplayer", "-h"].as_slice(), ErrorKind::DisplayHelp),
+        (["cueplayer", "--help"].as_slice(), ErrorKind::DisplayHelp),
+        (["cueplayer", "help"].as_slice(), ErrorKind::DisplayHelp),
+    ];
+    for (words, kind) in refused {
+        let answer = read(rt.alloc(), words);
+        assert!(rt;
+            matches!(&answer, Err(WordsFault::Refused(error)) if error.kind() == kind),
+            "{words:?}"
+        );
+    }
+}
+
+#[test]
+fn look_one(rt: HostRuntime) -> Result<(), Fail> {
+    let spellings = [
+        CID,
+        "C0FFEE00-0000-4000-8000-00000000E131",
+        "c0ffee0000004000800000000000e131",
+        "{c0ffee00-0000-4000-8000-00000000e131}",
+        "urn:uuid:c0ffee00-0000-4000-8000-00000000e131",
+    ];
+    for spelling in spellings {
+        let words = ["cueplayer", "look", "-", "1", "--cid", spelling];
+        let Ok(Job::Look { show, cue, cid }) = read(rt.alloc(), words.as_slice()) else {
+            return Err(Fail::from("no look"));
+        };
+        assert!(rt;
+            show.as_str() == "-" && cue == 1000 && cid == CID_BYTES,
+            "{spelling}"
+        );
+    }
+    let Ok(Job::Check { show }) = read(rt.alloc(), ["cueplayer", "check", "a.asc"].as_slice())
+    else {
+        return Err(Fail::from("no check"));
+    };
+    assert!(rt; show.as_str() == "a.asc");
+    Ok(())
+}
+
+#[test]
+fn refusal_text(rt: HostRuntime) -> Result<(), Fail> {
+    let words = ["bin/other", "look", "-", "1"];
+    let Err(WordsFault::Refused(error)) = read(rt.alloc(), words.as_slice()) else {
+        return Err(Fail::from("no refusal"));
+    };
+    let text = format!(in rt.alloc(); "{error}")?;
+    assert!(rt;
+        text.as_str()
+            == "error: the following required arguments were not provided:\n  --cid <UUID>\n\nUsage: cueplayer look --cid <UUID> <SHOW> <CUE>\n\nFor more information, try '--help'.\n"
+    );
+    Ok(())
+}
