@@ -1,2 +1,5 @@
-pub mod Packets
 pub mod Names
+pub mod Packets
+pub mod Parts
+pub mod Readable
+pub mod Found

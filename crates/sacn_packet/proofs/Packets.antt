@@ -22,7 +22,7 @@ cut p offset count bytes e =
     sym (take-append-drop count (drop offset p)) ∙ rw (e, drop-drop count offset p)
 
 -- the last bytes, to the end
-last : (p : List ℕ) (offset : ℕ) (bytes : List ℕ) → length p ≡ offset + length bytes → bytes_at p offset (length bytes) ≡ bytes → drop offset p ≡ bytes
+pub last : (p : List ℕ) (offset : ℕ) (bytes : List ℕ) → length p ≡ offset + length bytes → bytes_at p offset (length bytes) ≡ bytes → drop offset p ≡ bytes
 last p offset bytes size e =
     sym (take_all (length bytes) (drop offset p) (omega (arith, length-drop offset p))) ∙ e
 

@@ -78,3 +78,12 @@ pub record IsData (p : List ℕ) (fields : Fields) (slots : List ℕ) : Type 0 w
   pub start : bytes_at p 125 1 ≡ fields.start ∷ []
   -- DMP layer: property values after the START code
   pub values : bytes_at p 126 (length slots) ≡ slots
+
+-- what a packet carries
+pub record Packet : Type 0 where
+  pub fields : Fields
+  pub slots : List ℕ
+
+-- a prefix of the datagram is this packet
+abbrev pub HasPacket : List ℕ → Packet → Type 0
+HasPacket datagram packet = (size : ℕ) × IsData (take size datagram) packet.fields packet.slots

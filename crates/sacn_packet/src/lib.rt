@@ -1,11 +1,19 @@
 //! The E1.31 (streaming ACN) data packet: the bytes that carry one universe's slots.
 #![tactic(auto)]
 
+mod bytes;
+mod data_packet;
+pub mod laws;
+mod reader;
 mod source_name;
+mod unreadable;
 mod writer;
 
+pub use data_packet::DataPacket;
+pub use reader::parse;
 pub use source_name::SourceName;
-pub use writer::{Header, encode, only_packet};
+pub use unreadable::Unreadable;
+pub use writer::{Header, encode};
 
 #[cfg(test)]
 mod tests;

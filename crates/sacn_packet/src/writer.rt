@@ -1,6 +1,6 @@
-ghost use Rattle.std.specs.Prelude.{◌≡◌, ℕ, List, ◌≤◌, length};
+ghost use Rattle.std.specs.Prelude.{◌≡◌, ◌≤◌, length};
 ghost use Rattle.sacn_packet.specs.Header.{fields_of};
-ghost use Rattle.sacn_packet.specs.Wire.{Fields, IsData};
+ghost use Rattle.sacn_packet.specs.Wire.{IsData};
 ghost use Rattle.sacn_packet.specs.Layers.{root_layer, framing_layer, dmp_layer};
 
 use crate::source_name::SourceName;
@@ -87,8 +87,3 @@ pub fn encode(header: &Header, slots: &[u8; 512], out: &mut [u8; 638])
     write_framing(framing, header);
     write_dmp(dmp, slots);
 }
-
-/// The law that the fields and the slots leave no byte of a packet open.
-pub fn only_packet()
-    ensures { (p q : List ℕ) (fields : Fields) (slots : List ℕ) → IsData p fields slots → IsData q fields slots → p ≡ q }
-{}

@@ -1,0 +1,37 @@
+ghost use Rattle.std.specs.Prelude.{◌≡◌, ◌+◌, ◌≤◌, length};
+ghost use Rattle.sacn_packet.specs.Reading as reading;
+ghost use Rattle.sacn_packet.specs.Faults.{differs_at};
+
+use byteorder::{BigEndian, ByteOrder};
+
+// The number in the two bytes from an offset on.
+pub(crate) fn number_at(bytes: &[u8], offset: usize) -> u16
+    requires { offset + 2 ≤ length bytes.now }
+    ensures { result ≡ reading.number_at bytes.now offset }
+{
+    BigEndian::read_u16(&bytes[offset..offset + 2])
+}
+
+// The flags in the two bytes that open a PDU.
+pub(crate) fn flags_at(bytes: &[u8], offset: usize) -> u16
+    requires { offset + 2 ≤ length bytes.now }
+    ensures { result ≡ reading.flags_at bytes.now offset }
+{
+    number_at(bytes, offset) / 0x1000
+}
+
+// The length in the two bytes that open a PDU.
+pub(crate) fn length_at(bytes: &[u8], offset: usize) -> u16
+    requires { offset + 2 ≤ length bytes.now }
+    ensures { result ≡ reading.length_at bytes.now offset }
+{
+    number_at(bytes, offset) % 0x1000
+}
+
+// Whether other bytes than these stand at an offset.
+pub(crate) fn differs(bytes: &[u8], offset: usize, wanted: &[u8]) -> bool
+    requires { offset + length wanted.now ≤ length bytes.now }
+    ensures { result ≡ differs_at bytes.now offset wanted.now }
+{
+    &bytes[offset..offset + wanted.len()] != wanted
+}

@@ -1,0 +1,84 @@
+ghost use Rattle.std.specs.Prelude.{◌≡◌, ◌≤◌, length, IfOk, OnErr};
+ghost use Rattle.std.specs.Result.{result_err};
+ghost use Rattle.sacn_packet.specs.Faults.{fault_of, lengths_disagree, count_disagrees};
+ghost use Rattle.sacn_packet.specs.Wire.{Packet, HasPacket};
+
+use crate::bytes::{differs, flags_at, length_at, number_at};
+use crate::data_packet::DataPacket;
+use crate::unreadable::Unreadable;
+
+const PREAMBLE: [u8; 4] = [0x00, 0x10, 0x00, 0x00];
+
+const IDENTIFIER: [u8; 12] = *b"ASC-E1.17\0\0\0";
+
+const ROOT_VECTOR: [u8; 4] = [0x00, 0x00, 0x00, 0x04];
+
+const FRAMING_VECTOR: [u8; 4] = [0x00, 0x00, 0x00, 0x02];
+// Vector, address and data type, first address, increment.
+const DMP_FORM: [u8; 6] = [0x02, 0xa1, 0x00, 0x00, 0x00, 0x01];
+
+fn has_bad_lengths(datagram: &[u8]) -> bool
+    requires { 126 ≤ length datagram.now }
+    ensures { result ≡ lengths_disagree datagram.now }
+{
+    let root = length_at(datagram, 16);
+    flags_at(datagram, 16) != 7
+        || flags_at(datagram, 38) != 7
+        || flags_at(datagram, 115) != 7
+        || root < 110
+        || datagram.len() < 16 + usize::from(root)
+        || length_at(datagram, 38) + 22 != root
+        || length_at(datagram, 115) + 99 != root
+}
+
+fn has_bad_count(datagram: &[u8]) -> bool
+    requires { 126 ≤ length datagram.now }
+    ensures { result ≡ count_disagrees datagram.now }
+{
+    let count = number_at(datagram, 123);
+    count == 0 || count > 513 || count + 10 != length_at(datagram, 115)
+}
+
+fn fault_in(datagram: &[u8]) -> Option<Unreadable>
+    ensures { result ≡ fault_of datagram.now }
+{
+    if datagram.len() < 126 {
+        Some(Unreadable::Short)
+    } else if differs(datagram, 0, &PREAMBLE) {
+        Some(Unreadable::Preamble)
+    } else if differs(datagram, 4, &IDENTIFIER) {
+        Some(Unreadable::Identifier)
+    } else if differs(datagram, 18, &ROOT_VECTOR) {
+        Some(Unreadable::RootVector)
+    } else if has_bad_lengths(datagram) {
+        Some(Unreadable::Length)
+    } else if differs(datagram, 40, &FRAMING_VECTOR) {
+        Some(Unreadable::FramingVector)
+    } else if datagram[108] > 200 {
+        Some(Unreadable::Priority)
+    } else if number_at(datagram, 113) == 0 || number_at(datagram, 113) > 63999 {
+        Some(Unreadable::Universe)
+    } else if differs(datagram, 117, &DMP_FORM) {
+        Some(Unreadable::Dmp)
+    } else if has_bad_count(datagram) {
+        Some(Unreadable::Count)
+    } else {
+        None
+    }
+}
+
+/// The data packet at the front of a datagram. It has 0 to 512 slots, and bytes behind it are
+/// ignored (E1.31-2018: root, framing and DMP layers).
+pub fn parse(datagram: &[u8]) -> Result<DataPacket<'_>, Unreadable>
+    ensures ok { IfOk result (λ packet. HasPacket datagram.now packet) }
+    ensures fault { result_err result ≡ fault_of datagram.now }
+    ensures refused { OnErr result ((packet : Packet) → HasPacket datagram.now packet → ⊥) }
+{
+    match fault_in(datagram) {
+        Some(fault) => Err(fault),
+        None => {
+            let size = 16 + usize::from(length_at(datagram, 16));
+            Ok(DataPacket::new(&datagram[..size]))
+        }
+    }
+}
