@@ -1,0 +1,9 @@
+pub mod Append
+pub mod Tables
+pub mod Lines
+pub mod Counted
+pub mod Looks
+pub mod Steps
+pub mod OneLine
+pub mod WholeText
+pub mod Limits

@@ -1,0 +1,13 @@
+use Rattle.std.proofs.Common.{◌≡◌, IsTrue, is_some}
+use Rattle.std.specs.Prelude.{All}
+use Rattle.show_core.specs.Numbers.{is_channel}
+use Rattle.show_reader.specs.Shows.{levels_of}
+use Rattle.show_reader.specs.Applied.{with_pairs}
+use Rattle.show_reader.proofs.apply.list.Given as goal
+
+abbrev pub invariant-loop-channel : goal.invariant-loop-channel
+invariant-loop-channel l = record {
+  owned : IsTrue (is_some (levels_of l.show l.which));
+  sound : All (λ pair. IsTrue (is_channel pair.0)) l.channel-iterator;
+  put : with_pairs l.initial.show l.which l.fn.pairs ≡ with_pairs l.show l.which l.channel-iterator;
+}

@@ -1,0 +1,76 @@
+-- What a statement does to a show, by the effects of the builders.
+use Rattle.std.specs.Prelude.{◌≡◌, ℕ, if◌then◌else◌, IsTrue, List, [], ◌∷◌, Option, Some, None, is_some}
+use Rattle.std.specs.FinMap as maps
+use Rattle.show_core.specs.Tables.{PatchMap, Tables}
+use Rattle.show_core.specs.Builders.{opened, opened_in, with_level, with_listed, with_up, with_down, patched_with, can_open}
+use Rattle.show_line.specs.declared.fault.LineFault.{LineFault}
+use Rattle.show_line.specs.declared.fault.LineFault.TheVariants.{Limit}
+use Rattle.show_line.specs.declared.statement.Record.{Record}
+use Rattle.show_line.specs.declared.statement.Record.TheVariants.{Cue, Group, Sub}
+use Rattle.show_line.specs.declared.statement.Table.TheVariants.{Cues, Groups, Subs, Patch}
+use Rattle.show_line.specs.declared.statement.Cleared.{Cleared}
+use Rattle.show_line.specs.declared.statement.Cleared.TheVariants.{All, Only}
+use Rattle.show_line.specs.declared.statement.Statement.{Statement}
+use Rattle.show_line.specs.declared.statement.Statement.TheVariants.{Opens, Levels, Rises, Falls, Patches, Clears, Faulty}
+use Rattle.show_line.specs.declared.triples.Triple.{Triple}
+use Rattle.show_reader.specs.declared.apply.Refusal.{Refusal}
+use Rattle.show_reader.specs.declared.apply.Refusal.TheVariants as refusal
+use Rattle.show_reader.specs.Shows.{levels_of}
+
+-- with the record opened
+abbrev pub with_record : Tables → Record → Tables
+with_record show (Cue n) = record show { cues = opened show.cues n }
+with_record show (Group n) = record show { groups = opened_in show.groups n }
+with_record show (Sub n) = record show { subs = opened_in show.subs n }
+
+-- with a level of the record
+abbrev pub with_channel : Tables → Record → ℕ → ℕ → Tables
+with_channel show (Cue n) channel byte = record show { cues = with_level show.cues n channel byte }
+with_channel show (Group n) channel byte = record show { groups = with_listed show.groups n channel byte }
+with_channel show (Sub n) channel byte = record show { subs = with_listed show.subs n channel byte }
+
+-- with the levels of pairs, one after the other
+abbrev pub with_pairs : Tables → Record → List (ℕ × ℕ) → Tables
+with_pairs show r [] = show
+with_pairs show r (pair ∷ pairs) = with_pairs (with_channel show r pair.0 pair.1) r pairs
+
+-- with the dimmers of triples, one after the other
+abbrev pub with_triples : PatchMap → List Triple → PatchMap
+with_triples patch [] = patch
+with_triples patch (t ∷ triples) = with_triples (patched_with patch t.dimmer t.channel t.level) triples
+
+-- with tables emptied
+abbrev pub without : Cleared → Tables → Tables
+without All show = record { cues = maps.empty; subs = maps.empty; groups = maps.empty; patch = maps.empty }
+without (Only Cues) show = record show { cues = maps.empty }
+without (Only Groups) show = record show { groups = maps.empty }
+without (Only Subs) show = record show { subs = maps.empty }
+without (Only Patch) show = record show { patch = maps.empty }
+
+-- the show after a statement
+abbrev pub applied : Statement → Tables → Tables
+applied (Opens r) show = with_record show r
+applied (Levels r pairs) show = with_pairs show r pairs
+applied (Rises n rate) show = record show { cues = with_up show.cues n rate }
+applied (Falls n rate) show = record show { cues = with_down show.cues n rate }
+applied (Patches triples) show = record show { patch = with_triples show.patch triples }
+applied (Clears what) show = without what show
+applied _ show = show
+
+-- why a show refuses a statement, if it does
+abbrev pub refused_by : Tables → Statement → Option LineFault
+refused_by show (Faulty f) = Some f
+refused_by show (Opens (Cue n)) = if can_open show.cues n then None else Some Limit
+refused_by show _ = None
+
+-- what a statement needs of a show: its record is there
+abbrev pub HasOwner : Tables → Statement → Type 0
+HasOwner show (Levels r pairs) = IsTrue (is_some (levels_of show r))
+HasOwner show (Rises n rate) = IsTrue (maps.contains_key show.cues n)
+HasOwner show (Falls n rate) = IsTrue (maps.contains_key show.cues n)
+HasOwner show _ = Unit {0}
+
+-- why a statement was not carried out: the fault that the show has with it, or want of memory
+abbrev pub Explains : Option LineFault → Refusal → Type 0
+Explains fault (refusal.Fault f) = fault ≡ Some f
+Explains fault refusal.Memory = Unit {0}

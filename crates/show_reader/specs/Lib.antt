@@ -1,0 +1,6 @@
+pub mod Text
+pub mod Meaning
+pub mod Shows
+pub mod Reading
+pub mod Applied
+pub mod Reads

@@ -1,0 +1,137 @@
+ghost use Rattle.std.specs.Prelude.{◌≡◌, ◌⊎◌, ◌+◌, ◌≤◌, ◌<◌, ◌^◌, List, [], ◌∷◌, ◌++◌, length, IfOk, IfErr, OnOk, None, Some};
+ghost use Rattle.ascii_text.specs.Text.{words_of};
+ghost use Rattle.show_line.specs.Said.{desk};
+ghost use Rattle.show_reader.specs.declared.fault.ShowFault.TheVariants as show_fault;
+ghost use Rattle.show_reader.specs.Text.{Words, ends, statements_of};
+ghost use Rattle.show_reader.specs.Meaning.{is_skipped};
+ghost use Rattle.show_reader.specs.Shows.{IsShowOf};
+ghost use Rattle.show_reader.specs.Reading.{fault_at, fault_of, lines_read, lines_skipped};
+ghost use Rattle.show_reader.specs.Reads.{Reads, EndsAt, refusal_at};
+
+use ascii_text::{Line, Lines};
+use show_core::Show;
+use show_line::{LineFault, Record, Statement, read_line};
+use std::alloc::Global;
+
+use crate::apply::{Refusal, apply};
+use crate::fault::{LONGEST_TEXT, ShowFault};
+
+/// A show that was read, and what its text had.
+#[derive(Drop)]
+pub struct Loaded {
+    pub show: Show,
+    /// How many lines were read, that of ENDDATA included.
+    pub lines: u32,
+    /// How many of them were skipped.
+    pub skipped: u32,
+}
+
+/// What has been made of the lines so far.
+#[derive(Drop)]
+pub struct Reader {
+    pub show: Show,
+    pub owner: Option<Record>,
+    pub lines: u32,
+    pub skipped: u32,
+}
+
+impl Refusal {
+    // The refusal of a line of this number.
+    fn at(self, line: u32) -> ShowFault
+        ensures { result ≡ refusal_at line self }
+    {
+        match self {
+            Refusal::Fault(fault) => fault_at(line, fault),
+            Refusal::Memory => ShowFault::Memory,
+        }
+    }
+}
+
+fn fault_at(line: u32, fault: LineFault) -> ShowFault
+    ensures { result ≡ fault_at line fault }
+{
+    match fault {
+        LineFault::Ident => ShowFault::Ident(line),
+        LineFault::MissingNumber => ShowFault::MissingNumber(line),
+        LineFault::BadNumber => ShowFault::BadNumber(line),
+        LineFault::BadLevel => ShowFault::BadLevel(line),
+        LineFault::BadTime => ShowFault::BadTime(line),
+        LineFault::HalfPair => ShowFault::HalfPair(line),
+        LineFault::HalfTriple => ShowFault::HalfTriple(line),
+        LineFault::Limit => ShowFault::Limit(line),
+    }
+}
+
+fn is_skipped(statement: &Statement<'_>) -> bool
+    ensures { result ≡ is_skipped statement.now }
+{
+    matches!(statement, Statement::Skipped)
+}
+
+impl Reader {
+    // Reads the next line, and tells whether it is the last.
+    fn take(&mut self, line: Line<'_>) -> Result<bool, ShowFault>
+        requires reads { (lines : List Words) × Reads lines self.old }
+        requires next { line.number ≡ self.old.lines + 1 }
+        ensures more { OnOk result ((lines : List Words) → Reads lines self.old → Reads (lines ++ words_of line.entry.bytes.now ∷ []) self.new) }
+        ensures last { IfOk result (λ last. last ≡ ends (words_of line.entry.bytes.now)) }
+        ensures fault { IfErr result (λ fault. (lines : List Words) → Reads lines self.old → EndsAt lines (words_of line.entry.bytes.now) fault) }
+    {
+        let number = line.number;
+        let Some(reading) = read_line(self.owner, line.bytes) else {
+            self.lines = number;
+            return Ok(false);
+        };
+        let keyword = reading.keyword;
+        let owner = if keyword.may_own() {
+            reading.statement.opened()
+        } else {
+            self.owner
+        };
+        let skipped = is_skipped(&reading.statement);
+        if let Err(refusal) = apply(&mut self.show, reading.statement) {
+            return Err(refusal.at(number));
+        }
+        self.owner = owner;
+        self.lines = number;
+        if skipped {
+            self.skipped += 1;
+        }
+        Ok(keyword.is_end())
+    }
+}
+
+/// Reads a show text: the show that it means, or its first fault.
+///
+/// The text's lines and words, and what each line says, are those of the show profile (USITT ASCII
+/// 3.0: records of CUE, GROUP, SUB and PATCH). The text has at most [`LONGEST_TEXT`] bytes.
+pub fn read_show(alloc: Global, text: &[u8]) -> Result<Loaded, ShowFault>
+    ensures faultless { OnOk result (fault_of desk text.now ≡ None) }
+    ensures show { IfOk result (λ loaded. IsShowOf (statements_of desk text.now) loaded.show) }
+    ensures lines { IfOk result (λ loaded. loaded.lines ≡ lines_read desk text.now) }
+    ensures skipped { IfOk result (λ loaded. loaded.skipped ≡ lines_skipped desk text.now) }
+    ensures fault { IfErr result (λ fault. (fault ≡ show_fault.Memory) ⊎ (fault_of desk text.now ≡ Some fault)) }
+    ensures too_long { LONGEST_TEXT < length text.now → result ≡ Err show_fault.TooLong }
+{
+    if text.len() > LONGEST_TEXT {
+        return Err(ShowFault::TooLong);
+    }
+    let mut reader = Reader {
+        show: Show::new(alloc),
+        owner: None,
+        lines: 0,
+        skipped: 0,
+    };
+    for line in Lines::new(text) {
+        match reader.take(line) {
+            Ok(false) => {}
+            Ok(true) => break,
+            Err(fault) => return Err(fault),
+        }
+    }
+    Ok(Loaded {
+        show: reader.show,
+        lines: reader.lines,
+        skipped: reader.skipped,
+    })
+}
