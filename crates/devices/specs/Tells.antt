@@ -1,4 +1,4 @@
--- What an output that tells took: its bytes before and after, and its failed calls before and after.
+-- What an output that tells took, by its bytes and its number of failed calls before and after.
 use Rattle.std.specs.Prelude.{◌≡◌, ◌+◌, ◌++◌, ℕ, List}
 
 -- the output took the whole text and nothing else, and no call failed

@@ -24,8 +24,10 @@ pub trait Output {
     /// Writes all of the bytes. At a fault it is not known outside how many of them went out.
     fn write(&mut self, bytes: &[u8]) -> Result<(), LinkFault>
         ensures told { tells self.new → tells self.old }
-        ensures ok { OnOk result (tells self.new → Took bytes.now (written self.old) (written self.new)
+        ensures ok { OnOk result (tells self.new
+            → Took bytes.now (written self.old) (written self.new)
             (failures self.old) (failures self.new)) }
-        ensures err { OnErr result (tells self.new → Failed (written self.old) (written self.new)
+        ensures err { OnErr result (tells self.new
+            → Failed (written self.old) (written self.new)
             (failures self.old) (failures self.new)) };
 }
