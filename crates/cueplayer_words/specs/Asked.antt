@@ -18,9 +18,11 @@ abbrev pub IsAsked : List Text → Job → Type 0
 IsAsked words job = Passes words × (job_of words ≡ Some job)
 
 -- why there is no job: the program does not take the words, and the error is of a kind that clap's
--- meaning gives for them; or they pass, so each required argument is there, and one lacks its form
+-- meaning gives for them; or they pass, so that each required argument is there, and one of the
+-- arguments lacks its form; or memory ran out
 abbrev pub Explains : List Text → WordsFault → Type 0
-Explains words (Refused error) = (takes program words ≡ false) × IsAmong (kind_of error) (fault_of program words)
+Explains words (Refused error) =
+    (takes program words ≡ false) × IsAmong (kind_of error) (fault_of program words)
 Explains words Unfit = Passes words × (job_of words ≡ None)
 Explains words Memory = Unit {0}
 

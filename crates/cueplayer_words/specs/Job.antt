@@ -1,5 +1,6 @@
 -- The job that words ask for.
-use Rattle.std.specs.Prelude.{ℕ, List, Option, Some, None, codes, option_map, option_and_then, if◌then◌else◌}
+use Rattle.std.specs.Prelude.{ℕ, List, Option, Some, None, codes, option_map, option_and_then}
+use Rattle.std.specs.Prelude.{if◌then◌else◌}
 use Rattle.std.specs.Str.{bytes_eq}
 use Rattle.clap.specs.Words.{Row, Text, first_of, subcommand_of}
 use Rattle.uuid.specs.Text.{parsed}
@@ -9,8 +10,8 @@ use Rattle.cueplayer_words.specs.declared.job.Job.{Job}
 use Rattle.cueplayer_words.specs.declared.job.Job.TheVariants.{Check, Look}
 
 -- the value of an argument that has to be there: its text, read by a form
-abbrev pub read_by : {X : Type 0} → (Text → Option X) → Text → List Row → Option X
-read_by form id rows = option_and_then form (first_of id rows)
+abbrev pub value_by : {X : Type 0} → (Text → Option X) → Text → List Row → Option X
+value_by form id rows = option_and_then form (first_of id rows)
 
 -- the job of `check SHOW`
 abbrev pub check_of : List Row → Option Job
@@ -23,8 +24,8 @@ look_with _ _ _ = None
 
 -- the job of `look SHOW CUE --cid UUID`
 abbrev pub look_of : List Row → Option Job
-look_of rows = look_with (first_of (codes "SHOW") rows) (read_by cue_number_of (codes "CUE") rows)
-    (read_by parsed (codes "cid") rows)
+look_of rows = look_with (first_of (codes "SHOW") rows) (value_by cue_number_of (codes "CUE") rows)
+    (value_by parsed (codes "cid") rows)
 
 -- the job of a line, by its name and the texts of its arguments
 abbrev pub line_of : Text × List Row → Option Job

@@ -2,7 +2,7 @@ ghost use Rattle.std.specs.Prelude.{◌≡◌, option_map};
 ghost use Rattle.clap.specs.Words.{first_of, found_of, rows_of};
 ghost use Rattle.uuid.specs.Text.{parsed};
 ghost use Rattle.ascii_text.specs.Forms.{cue_number_of};
-ghost use Rattle.cueplayer_words.specs.Job.{read_by};
+ghost use Rattle.cueplayer_words.specs.Job.{value_by};
 
 use ascii_text::cue_number;
 use clap::ArgMatches;
@@ -10,21 +10,22 @@ use uuid::Uuid;
 
 /// The text of an argument.
 pub(crate) fn text_at<'a>(matches: &ArgMatches<'a>, id: &str) -> Option<&'a str>
-    ensures { option_map (λ text. text.now) result ≡ first_of id.now (rows_of (found_of matches.now)) }
+    ensures { option_map (λ text. text.now) result
+        ≡ first_of id.now (rows_of (found_of matches.now)) }
 {
     matches.get_str(id)
 }
 
 /// The cue number that an argument spells, in thousandths.
 pub(crate) fn cue_at(matches: &ArgMatches<'_>, id: &str) -> Option<u32>
-    ensures { result ≡ read_by cue_number_of id.now (rows_of (found_of matches.now)) }
+    ensures { result ≡ value_by cue_number_of id.now (rows_of (found_of matches.now)) }
 {
     cue_number(text_at(matches, id)?.as_bytes())
 }
 
 /// The CID that an argument spells.
 pub(crate) fn cid_at(matches: &ArgMatches<'_>, id: &str) -> Option<[u8; 16]>
-    ensures { result ≡ read_by parsed id.now (rows_of (found_of matches.now)) }
+    ensures { result ≡ value_by parsed id.now (rows_of (found_of matches.now)) }
 {
     cid_of(text_at(matches, id)?)
 }

@@ -3,6 +3,7 @@ ghost use Rattle.std.specs.String.{string_bytes};
 
 use std::alloc::{AllocError, Global};
 use std::marker::Model;
+use thiserror::Error;
 
 /// The name of a file, as the words gave it. Contracts see its bytes.
 #[derive(Debug, Drop)]
@@ -45,15 +46,18 @@ pub enum Job {
 }
 
 /// Why words give no job.
-#[derive(Debug, Drop)]
+#[derive(Debug, Drop, Error)]
 pub enum WordsFault {
-    /// No line takes the words, or they ask for help. The error's kind says which, and it has the
-    /// text for the user.
+    /// No line takes the words, or they ask for help. The error has the text for the user; its kind
+    /// says whether that goes to standard output, as help does, and how the program ends.
+    #[error(transparent)]
     Refused(clap::Error),
 
     /// A line takes the words, and one of them lacks its form.
+    #[error("words refused")]
     Unfit,
 
     /// A growth was refused.
+    #[error("memory")]
     Memory,
 }

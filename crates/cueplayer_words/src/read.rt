@@ -14,7 +14,8 @@ use std::convert::AsStr;
 /// Reads the words of the command line, the program's name first.
 ///
 /// The first that applies is answered: Refused where no line of the program takes the words, Unfit
-/// where an argument lacks its form, and else the job. Memory may come in place of any of them.
+/// where an argument lacks its form, and else the job. Memory comes in place of any of them where a
+/// growth was refused.
 pub fn read_words<S: AsStr>(alloc: Global, words: &[S]) -> Result<Job, WordsFault>
     ensures ok { IfOk result (IsAsked (map S.text words.now)) }
     ensures err { IfErr result (Explains (map S.text words.now)) }
@@ -66,7 +67,8 @@ fn read_check(alloc: Global, matches: &ArgMatches<'_>) -> Result<Option<Job>, Al
 }
 
 fn check_job(alloc: Global, show: Option<&str>) -> Result<Option<Job>, AllocError>
-    ensures { IfOk result (λ job. job ≡ option_map Job.Check (option_map (λ text. text.now) show.entry)) }
+    ensures { IfOk result (λ job.
+        job ≡ option_map Job.Check (option_map (λ text. text.now) show.entry)) }
 {
     let Some(show) = show else {
         return Ok(None);
@@ -90,7 +92,8 @@ fn look_job(
     cue: Option<u32>,
     cid: Option<[u8; 16]>,
 ) -> Result<Option<Job>, AllocError>
-    ensures { IfOk result (λ job. job ≡ look_with (option_map (λ text. text.now) show.entry) cue cid) }
+    ensures { IfOk result (λ job.
+        job ≡ look_with (option_map (λ text. text.now) show.entry) cue cid) }
 {
     let (Some(show), Some(cue), Some(cid)) = (show, cue, cid) else {
         return Ok(None);

@@ -74,7 +74,7 @@ fn look_words(rt: HostRuntime) {
 }
 
 #[test]
-fn look_one(rt: HostRuntime) -> Result<(), Fail> {
+fn words_of_look_one(rt: HostRuntime) -> Result<(), Fail> {
     let spellings = [
         CID,
         "C0FFEE00-0000-4000-8000-00000000E131",
@@ -107,9 +107,13 @@ fn refusal_text(rt: HostRuntime) -> Result<(), Fail> {
         return Err(Fail::from("no refusal"));
     };
     let text = format!(in rt.alloc(); "{error}")?;
-    assert!(rt;
-        text.as_str()
-            == "error: the following required arguments were not provided:\n  --cid <UUID>\n\nUsage: cueplayer look --cid <UUID> <SHOW> <CUE>\n\nFor more information, try '--help'.\n"
-    );
+    let wanted = "error: the following required arguments were not provided:
+  --cid <UUID>
+
+Usage: cueplayer look --cid <UUID> <SHOW> <CUE>
+
+For more information, try '--help'.
+";
+    assert!(rt; text.as_str() == wanted);
     Ok(())
 }
