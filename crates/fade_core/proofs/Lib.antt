@@ -1,0 +1,3 @@
+pub mod Fade
+pub mod Look
+mod Rows

@@ -1,0 +1,12 @@
+//! Faders: what the level of each channel is, as cues start and time passes.
+#![tactic(auto)]
+
+mod fader;
+mod plain;
+
+pub use fader::Fader;
+pub use plain::PlainFader;
+pub use show_core::Rate;
+
+#[cfg(test)]
+mod tests;
