@@ -2,3 +2,4 @@ pub mod Fronts
 pub mod Hex
 pub mod Marks
 pub mod Parts
+mod Rows

@@ -1,5 +1,5 @@
 -- The lines of a text and the words of a line.
-use Rattle.std.specs.Prelude.{ℕ, ◌+◌, Bool, true, false, List, [], ◌∷◌, ◌==◌, if◌then◌else◌, filter, codes}
+use Rattle.std.specs.Prelude.{ℕ, ◌+◌, Bool, true, false, ◌||◌, List, [], ◌∷◌, ◌==◌, if◌then◌else◌, filter, codes}
 use Rattle.std.specs.List.{slice_split, onto_first, before_first, list_any}
 
 -- LF, which ends a line
@@ -23,6 +23,10 @@ is_separator b = list_any (λ s. b == s) (9 ∷ 13 ∷ 26 ∷ codes " ,/;<=>@")
 -- what begins a comment
 abbrev pub is_bang : ℕ → Bool
 is_bang b = b == 33
+
+-- what ends a word
+abbrev pub is_word_end : ℕ → Bool
+is_word_end b = is_separator b || is_bang b
 
 -- a word has a byte
 abbrev pub is_word : List ℕ → Bool

@@ -140,7 +140,7 @@ fn split_once(word: &[u8], mark: u8) -> Option<(&[u8], &[u8])>
 
 // The number that 1 to `most` digits spell.
 fn digits(word: &[u8], most: usize) -> Option<u64>
-    requires { most ≤ 15 }
+    requires { most ≤ 19 }
     ensures value { result ≡ digits_of most word.now }
     ensures below { IfSome result (λ n. n < 10 ^ length word.now) }
     ensures within { IfSome result (λ n. (1 ≤ length word.now) × (length word.now ≤ most)) }

@@ -1,6 +1,6 @@
 ghost use Rattle.std.specs.Prelude.{◌≡◌, ◌≤◌, ◌==◌, length};
 ghost use Rattle.std.specs.List.{position_or_len, prefix_len};
-ghost use Rattle.ascii_text.specs.Text.{is_separator};
+ghost use Rattle.ascii_text.specs.Text.{is_separator, is_word_end};
 
 // Where `mark` first stands, or the length.
 pub(crate) fn position_or_len(bytes: &[u8], mark: u8) -> usize
@@ -35,13 +35,13 @@ pub(crate) fn separators(bytes: &[u8]) -> usize
     end
 }
 
-// Where the first separator stands, or the length.
+// Where a word at the front ends: at the first separator or `!`, or the length.
 pub(crate) fn word_end(bytes: &[u8]) -> usize
-    ensures place { result ≡ position_or_len is_separator bytes.now }
+    ensures place { result ≡ position_or_len is_word_end bytes.now }
     ensures within { result ≤ length bytes.now }
 {
     let mut end = 0;
-    while end < bytes.len() && !is_separator(bytes[end]) {
+    while end < bytes.len() && bytes[end] != b'!' && !is_separator(bytes[end]) {
         end += 1;
     }
     end

@@ -1,6 +1,6 @@
 ghost use Rattle.std.specs.Prelude.{◌≡◌, ◌+◌, ◌<◌, ◌^◌, List, ℕ, length};
 ghost use Rattle.std.specs.Iterator.{YieldsFirstBy, item_count};
-ghost use Rattle.ascii_text.specs.Text.{lines_of, words_of, parts_of, numbered_from};
+ghost use Rattle.ascii_text.specs.Text.{lines_of, words_of, numbered_from};
 
 use crate::scan::{position_or_len, separators, word_end};
 use std::marker::Model;
@@ -28,7 +28,7 @@ impl<'a> Model for Lines<'a> {
 }
 
 impl<'a> Lines<'a> {
-    /// All lines of the text, numbered from 1.
+    /// All lines of a text below 2^32 bytes, also those past ENDDATA, numbered from 1.
     pub fn new(text: &'a [u8]) -> Self
         requires { length text.now < 2 ^ 32 }
         ensures { result ≡ numbered_from 1 (lines_of text.now) }
@@ -55,8 +55,8 @@ impl<'a> Iterator for Lines<'a> {
             return None;
         }
         let end = position_or_len(self.rest, b'\n');
-        let bytes = &self.rest[..end];
         let after = if end < self.rest.len() { end + 1 } else { end };
+        let bytes = &self.rest[..end];
         self.rest = &self.rest[after..];
         self.number += 1;
         Some(Line {
@@ -75,7 +75,7 @@ pub struct Words<'a> {
 impl<'a> Model for Words<'a> {
     ghost Value = { List (List ℕ) };
 
-    ghost view = { λ s. parts_of s.rest.now };
+    ghost view = { λ s. words_of s.rest.now };
 }
 
 impl<'a> Words<'a> {
@@ -83,9 +83,7 @@ impl<'a> Words<'a> {
     pub fn new(line: &'a [u8]) -> Self
         ensures { result ≡ words_of line.now }
     {
-        Words {
-            rest: &line[..position_or_len(line, b'!')],
-        }
+        Words { rest: line }
     }
 }
 
@@ -101,12 +99,11 @@ impl<'a> Iterator for Words<'a> {
 
     fn next(&mut self) -> Option<&'a [u8]> {
         let trimmed = &self.rest[separators(self.rest)..];
-        if trimmed.is_empty() {
-            self.rest = trimmed;
-            return None;
-        }
         let (word, rest) = trimmed.split_at(word_end(trimmed));
         self.rest = rest;
+        if word.is_empty() {
+            return None;
+        }
         Some(word)
     }
 }

@@ -7,14 +7,14 @@ use Rattle.ascii_text.proofs.forms.digits.Goals as goal
 
 pub overflow_mul-value : goal.overflow_mul-value
 overflow_mul-value c =
-    let p : 10 ^ c.loop-digit.digit-index ≤ 10 ^ 14
-    = pow-le-pow_right (omega arith) {i = c.loop-digit.digit-index} {j = 14} (omega arith) in
+    let p : 10 ^ c.loop-digit.digit-index ≤ 10 ^ 18
+    = pow-le-pow_right (omega arith) {i = c.loop-digit.digit-index} {j = 18} (omega arith) in
     omega arith
 
 pub overflow_add-value : goal.overflow_add-value
 overflow_add-value c =
-    let p : 10 ^ c.loop-digit.digit-index ≤ 10 ^ 14
-    = pow-le-pow_right (omega arith) {i = c.loop-digit.digit-index} {j = 14} (omega arith) in
+    let p : 10 ^ c.loop-digit.digit-index ≤ 10 ^ 18
+    = pow-le-pow_right (omega arith) {i = c.loop-digit.digit-index} {j = 18} (omega arith) in
     grind (arith, common_steps)
 
 pub loop-digit-preserved : goal.loop-digit-preserved
