@@ -3,3 +3,4 @@ pub mod Ranges
 pub mod Forms
 pub mod Ranged
 pub mod Wider
+mod Rows

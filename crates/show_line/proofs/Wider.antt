@@ -1,5 +1,6 @@
 -- What a line says without a fault, it says under wider limits too.
-use Rattle.std.proofs.Common.{◌≡◌, ℕ, ◌≤◌, Bool, true, false, List, [], ◌∷◌, refl, sym, ap, arith, Option, Some, None}
+use Rattle.std.proofs.Common.{◌≡◌, ℕ, ◌≤◌, Bool, true, false, List, [], ◌∷◌, refl, sym, ap, arith, Option}
+use Rattle.std.proofs.Common.{Some, None}
 use Rattle.std.specs.Prelude.{if◌then◌else◌}
 use Rattle.std.proofs.lemmas.Bool.Decides.{nat_tests}
 use Rattle.std.proofs.lemmas.Grind.{common_steps}
@@ -8,7 +9,9 @@ use Rattle.ascii_text.specs.Forms.{number_of}
 use Rattle.show_line.specs.declared.fault.LineFault.{LineFault}
 use Rattle.show_line.specs.declared.fault.LineFault.TheVariants.{HalfPair, HalfTriple}
 use Rattle.show_line.specs.declared.keyword.Keyword.{Keyword}
-use Rattle.show_line.specs.declared.keyword.Keyword.TheVariants.{Clear, Ident, Cue, Group, Sub, Patch, EndData, Setting, Chan, Up, Down, Remark, Maker, Unknown}
+use Rattle.show_line.specs.declared.keyword.Keyword.TheVariants.{Clear, Ident, Cue, Group, Sub, Patch}
+use Rattle.show_line.specs.declared.keyword.Keyword.TheVariants.{EndData, Setting, Chan, Up, Down, Remark}
+use Rattle.show_line.specs.declared.keyword.Keyword.TheVariants.{Maker, Unknown}
 use Rattle.show_line.specs.declared.statement.Record.{Record}
 use Rattle.show_line.specs.declared.statement.Statement.{Statement}
 use Rattle.show_line.specs.declared.statement.Statement.TheVariants.{Levels, Patches, Skipped}

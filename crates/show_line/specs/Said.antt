@@ -1,5 +1,6 @@
 -- What a line says, by its keyword, the record that owns it, and the words behind the keyword.
-use Rattle.std.specs.Prelude.{ℕ, Bool, true, ◌==◌, if◌then◌else◌, List, [], ◌∷◌, codes, Option, Some, None, unwrap_or}
+use Rattle.std.specs.Prelude.{ℕ, Bool, true, ◌==◌, if◌then◌else◌, List, [], ◌∷◌, codes, Option, Some, None}
+use Rattle.std.specs.Prelude.{unwrap_or}
 use Rattle.std.specs.Option.{option_map_or}
 use Rattle.ascii_text.specs.Forms.{same_word, number_of, time_of, cue_number_of}
 use Rattle.show_core.specs.declared.rate.Rate.{Rate}
@@ -8,7 +9,9 @@ use Rattle.show_line.specs.declared.fault.LineFault.{LineFault}
 use Rattle.show_line.specs.declared.fault.LineFault.TheVariants.{MissingNumber}
 use Rattle.show_line.specs.declared.fault.LineFault.TheVariants.{Ident as BadIdent}
 use Rattle.show_line.specs.declared.keyword.Keyword.{Keyword}
-use Rattle.show_line.specs.declared.keyword.Keyword.TheVariants.{Clear, Ident, Cue, Group, Sub, Patch, EndData, Setting, Chan, Up, Down, Remark, Maker, Unknown}
+use Rattle.show_line.specs.declared.keyword.Keyword.TheVariants.{Clear, Ident, Cue, Group, Sub, Patch}
+use Rattle.show_line.specs.declared.keyword.Keyword.TheVariants.{EndData, Setting, Chan, Up, Down, Remark}
+use Rattle.show_line.specs.declared.keyword.Keyword.TheVariants.{Maker, Unknown}
 use Rattle.show_line.specs.declared.statement.Record.{Record}
 use Rattle.show_line.specs.declared.statement.Record.TheVariants as record_of
 use Rattle.show_line.specs.declared.statement.Table.TheVariants as table
@@ -16,7 +19,8 @@ use Rattle.show_line.specs.declared.statement.Cleared.{Cleared}
 use Rattle.show_line.specs.declared.statement.Cleared.TheVariants.{All, Only}
 use Rattle.show_line.specs.declared.line.Reading.{Reading}
 use Rattle.show_line.specs.declared.statement.Statement.{Statement}
-use Rattle.show_line.specs.declared.statement.Statement.TheVariants.{Opens, Levels, Rises, Falls, Patches, Clears, Quiet, Skipped, Faulty}
+use Rattle.show_line.specs.declared.statement.Statement.TheVariants.{Opens, Levels, Rises, Falls, Patches}
+use Rattle.show_line.specs.declared.statement.Statement.TheVariants.{Clears, Quiet, Skipped, Faulty}
 use Rattle.show_line.specs.Keywords.{named, keyword_of}
 use Rattle.show_line.specs.Faults.{lower, number_fault, cue_fault, page_fault, time_fault, delay_fault}
 pub use Rattle.show_line.specs.Pairs.{desk}

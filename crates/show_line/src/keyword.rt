@@ -1,5 +1,6 @@
 ghost use Rattle.std.specs.Prelude.{◌≡◌};
-ghost use Rattle.show_line.specs.Keywords.{named, primary_keywords, secondary_keywords, keyword_of, may_own, is_end};
+ghost use Rattle.show_line.specs.Keywords.{named, primary_keywords, secondary_keywords};
+ghost use Rattle.show_line.specs.Keywords.{keyword_of, may_own, is_end};
 
 use ascii_text::same_word;
 
@@ -108,7 +109,8 @@ pub(crate) fn keyword_of(word: &[u8]) -> Keyword
     if word.starts_with(b"$") {
         return Keyword::Maker;
     }
-    secondary(word)
-        .or(primary(word))
-        .unwrap_or(Keyword::Unknown)
+    match secondary(word) {
+        Some(keyword) => keyword,
+        None => primary(word).unwrap_or(Keyword::Unknown),
+    }
 }

@@ -6,6 +6,8 @@ mod keyword;
 mod line;
 mod pairs;
 mod statement;
+#[cfg(test)]
+mod tests;
 mod triples;
 mod words;
 

@@ -2,20 +2,20 @@ ghost use Rattle.std.specs.Prelude.{◌≡◌, MatchResult, IfSome};
 ghost use Rattle.ascii_text.specs.LinesLeft.{words_left};
 ghost use Rattle.ascii_text.specs.Text.{words_of};
 ghost use Rattle.show_line.specs.declared.statement.Record.{Record};
-ghost use Rattle.show_line.specs.Keywords.{named};
-ghost use Rattle.show_line.specs.Sound.{IsSound};
 ghost use Rattle.show_line.specs.Faults.{number_fault, cue_fault};
-ghost use Rattle.show_line.specs.Pairs.{desk, behind_first};
-ghost use Rattle.show_line.specs.Said.{on_page, record_said, cue_named, group_named, sub_named};
-ghost use Rattle.show_line.specs.Said.{patch_said, rate_fault, rate_in, rate_said, owned_said, cue_said};
-ghost use Rattle.show_line.specs.Said.{ident_said, cleared_names, clear_said, levels_said, said, reading_of};
+ghost use Rattle.show_line.specs.Keywords.{named};
+ghost use Rattle.show_line.specs.Pairs.{desk, operands};
+ghost use Rattle.show_line.specs.Said.{cleared_names, clear_said, ident_said, record_said, on_page};
+ghost use Rattle.show_line.specs.Said.{cue_named, group_named, sub_named, patch_said, owned_said};
+ghost use Rattle.show_line.specs.Said.{levels_said, cue_said, rate_said, rate_fault, rate_in, said, reading_of};
+ghost use Rattle.show_line.specs.Sound.{IsSound};
 
 use crate::fault::{LineFault, number_in};
 use crate::keyword::{Keyword, keyword_of};
 use crate::pairs::Pairs;
 use crate::statement::{Cleared, Record, Statement, Table};
 use crate::triples::Triples;
-use crate::words::behind_first;
+use crate::words::operands;
 use ascii_text::{Words, cue_number, number, same_word, time};
 use show_core::{GROUPS, Rate, SUBMASTERS};
 
@@ -26,7 +26,9 @@ pub struct Reading<'a> {
     pub statement: Statement<'a>,
 }
 
-/// Reads a line below a record, if one owns it: `None` where the line has no words.
+/// Reads a line of a show text, without its LF, of which `owner` is the record that the nearest line
+/// above it that may own opened, if it opened one. `None` where the line has no words. The numbers
+/// of what it says are in the ranges of a show.
 pub fn read_line<'a>(owner: Option<Record>, line: &'a [u8]) -> Option<Reading<'a>>
     ensures means { result ≡ reading_of desk owner (words_of line.now) }
     ensures sound { IfSome result (λ reading. IsSound reading.statement) }
@@ -38,30 +40,30 @@ pub fn read_line<'a>(owner: Option<Record>, line: &'a [u8]) -> Option<Reading<'a
     })
 }
 
-// What a line says that has this keyword as its first word.
+// What a line says that has this keyword.
 fn statement<'a>(owner: Option<Record>, keyword: Keyword, line: &'a [u8]) -> Statement<'a>
-    ensures { result ≡ said desk owner keyword (behind_first (words_of line.now)) }
+    ensures { result ≡ said desk owner keyword (operands line.now) }
 {
-    let words = behind_first(line);
     match keyword {
-        Keyword::Clear => clear_statement(words),
-        Keyword::Ident => ident_statement(words),
-        Keyword::Cue => cue_statement(words),
-        Keyword::Group => group_statement(words),
-        Keyword::Sub => sub_statement(words),
+        Keyword::Clear => clear_statement(line),
+        Keyword::Ident => ident_statement(line),
+        Keyword::Cue => cue_statement(line),
+        Keyword::Group => group_statement(line),
+        Keyword::Sub => sub_statement(line),
         Keyword::Patch => patch_statement(line),
         Keyword::EndData | Keyword::Setting => Statement::Quiet,
         Keyword::Chan => chan_statement(owner, line),
-        Keyword::Up => up_statement(owner, words),
-        Keyword::Down => down_statement(owner, words),
+        Keyword::Up => up_statement(owner, line),
+        Keyword::Down => down_statement(owner, line),
         Keyword::Remark if owner.is_some() => Statement::Quiet,
         Keyword::Remark | Keyword::Maker | Keyword::Unknown => Statement::Skipped,
     }
 }
 
-fn clear_statement<'a>(mut words: Words<'a>) -> Statement<'a>
-    ensures { result ≡ clear_said (words_left words.entry) }
+fn clear_statement<'a>(line: &'a [u8]) -> Statement<'a>
+    ensures { result ≡ clear_said (operands line.now) }
 {
+    let mut words = operands(line);
     match (words.next(), words.next()) {
         (Some(what), None) => match cleared(what) {
             Some(cleared) => Statement::Clears(cleared),
@@ -90,18 +92,19 @@ fn cleared(word: &[u8]) -> Option<Cleared>
     }
 }
 
-fn ident_statement<'a>(mut words: Words<'a>) -> Statement<'a>
-    ensures { result ≡ ident_said (words_left words.entry) }
+fn ident_statement<'a>(line: &'a [u8]) -> Statement<'a>
+    ensures { result ≡ ident_said (operands line.now) }
 {
-    match words.next() {
+    match operands(line).next() {
         Some(version) if same_word(version, b"3:0") => Statement::Quiet,
         _ => Statement::Faulty(LineFault::Ident),
     }
 }
 
-fn cue_statement<'a>(mut words: Words<'a>) -> Statement<'a>
-    ensures { result ≡ record_said cue_fault cue_named (words_left words.entry) }
+fn cue_statement<'a>(line: &'a [u8]) -> Statement<'a>
+    ensures { result ≡ record_said cue_fault cue_named (operands line.now) }
 {
+    let mut words = operands(line);
     match words.next() {
         Some(word) => {
             let cue = cue_number(word).map(Record::Cue);
@@ -111,18 +114,20 @@ fn cue_statement<'a>(mut words: Words<'a>) -> Statement<'a>
     }
 }
 
-fn group_statement<'a>(mut words: Words<'a>) -> Statement<'a>
-    ensures { result ≡ record_said (number_fault 1 GROUPS) group_named (words_left words.entry) }
+fn group_statement<'a>(line: &'a [u8]) -> Statement<'a>
+    ensures { result ≡ record_said (number_fault 1 GROUPS) group_named (operands line.now) }
 {
+    let mut words = operands(line);
     match words.next() {
         Some(word) => on_page(number_in(word, 1, GROUPS).map(Record::Group), words),
         None => Statement::Faulty(LineFault::MissingNumber),
     }
 }
 
-fn sub_statement<'a>(mut words: Words<'a>) -> Statement<'a>
-    ensures { result ≡ record_said (number_fault 1 SUBMASTERS) sub_named (words_left words.entry) }
+fn sub_statement<'a>(line: &'a [u8]) -> Statement<'a>
+    ensures { result ≡ record_said (number_fault 1 SUBMASTERS) sub_named (operands line.now) }
 {
+    let mut words = operands(line);
     match words.next() {
         Some(word) => on_page(number_in(word, 1, SUBMASTERS).map(Record::Sub), words),
         None => Statement::Faulty(LineFault::MissingNumber),
@@ -148,9 +153,9 @@ fn on_page<'a>(named: Result<Record, LineFault>, mut words: Words<'a>) -> Statem
 }
 
 fn patch_statement<'a>(line: &'a [u8]) -> Statement<'a>
-    ensures { result ≡ patch_said desk (behind_first (words_of line.now)) }
+    ensures { result ≡ patch_said desk (operands line.now) }
 {
-    let Some(page) = behind_first(line).next() else {
+    let Some(page) = operands(line).next() else {
         return Statement::Faulty(LineFault::MissingNumber);
     };
     match number(page) {
@@ -164,7 +169,7 @@ fn patch_statement<'a>(line: &'a [u8]) -> Statement<'a>
 }
 
 fn chan_statement<'a>(owner: Option<Record>, line: &'a [u8]) -> Statement<'a>
-    ensures { result ≡ owned_said owner (levels_said desk (behind_first (words_of line.now))) }
+    ensures { result ≡ owned_said owner (levels_said desk (operands line.now)) }
 {
     let Some(record) = owner else {
         return Statement::Skipped;
@@ -175,11 +180,12 @@ fn chan_statement<'a>(owner: Option<Record>, line: &'a [u8]) -> Statement<'a>
     }
 }
 
-fn up_statement<'a>(owner: Option<Record>, words: Words<'a>) -> Statement<'a>
-    ensures { result ≡ owned_said owner (cue_said (λ n. rate_said (Statement.Rises n) (words_left words.entry))) }
+fn up_statement<'a>(owner: Option<Record>, line: &'a [u8]) -> Statement<'a>
+    ensures { result
+        ≡ owned_said owner (cue_said (λ n. rate_said (Statement.Rises n) (operands line.now))) }
 {
     match owner {
-        Some(Record::Cue(n)) => match rate(words) {
+        Some(Record::Cue(n)) => match rate(line) {
             Ok(rate) => Statement::Rises(n, rate),
             Err(fault) => Statement::Faulty(fault),
         },
@@ -188,11 +194,12 @@ fn up_statement<'a>(owner: Option<Record>, words: Words<'a>) -> Statement<'a>
     }
 }
 
-fn down_statement<'a>(owner: Option<Record>, words: Words<'a>) -> Statement<'a>
-    ensures { result ≡ owned_said owner (cue_said (λ n. rate_said (Statement.Falls n) (words_left words.entry))) }
+fn down_statement<'a>(owner: Option<Record>, line: &'a [u8]) -> Statement<'a>
+    ensures { result
+        ≡ owned_said owner (cue_said (λ n. rate_said (Statement.Falls n) (operands line.now))) }
 {
     match owner {
-        Some(Record::Cue(n)) => match rate(words) {
+        Some(Record::Cue(n)) => match rate(line) {
             Ok(rate) => Statement::Falls(n, rate),
             Err(fault) => Statement::Faulty(fault),
         },
@@ -202,11 +209,12 @@ fn down_statement<'a>(owner: Option<Record>, words: Words<'a>) -> Statement<'a>
 }
 
 // The rate that the words of UP or DOWN spell.
-fn rate(mut words: Words<'_>) -> Result<Rate, LineFault>
+fn rate(line: &[u8]) -> Result<Rate, LineFault>
     ensures { MatchResult result
-        (λ rate. (rate_fault (words_left words.entry) ≡ None) × (rate ≡ rate_in (words_left words.entry)))
-        (λ fault. rate_fault (words_left words.entry) ≡ Some fault) }
+        (λ rate. (rate_fault (operands line.now) ≡ None) × (rate ≡ rate_in (operands line.now)))
+        (λ fault. rate_fault (operands line.now) ≡ Some fault) }
 {
+    let mut words = operands(line);
     let first = words.next().ok_or(LineFault::MissingNumber)?;
     let delay = match words.next() {
         Some(second) => time(second),

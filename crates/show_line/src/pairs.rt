@@ -1,11 +1,10 @@
 ghost use Rattle.std.specs.Prelude.{◌≡◌, MatchResult};
 ghost use Rattle.std.specs.Iterator.{YieldsFirst, item_count};
 ghost use Rattle.ascii_text.specs.LinesLeft.{words_left};
-ghost use Rattle.ascii_text.specs.Text.{words_of};
-ghost use Rattle.show_line.specs.Pairs.{desk, behind_first, pair_fault, pairs_in};
+ghost use Rattle.show_line.specs.Pairs.{desk, operands, pair_fault, pairs_in};
 
 use crate::fault::{LineFault, level_fault, lower, number_fault};
-use crate::words::behind_first;
+use crate::words::operands;
 use ascii_text::{Words, level, number};
 use show_core::CHANNELS;
 use std::marker::Model;
@@ -33,14 +32,14 @@ impl<'a> Pairs<'a> {
     /// The pairs of a CHAN line, or the lowest fault of its words.
     pub(crate) fn new(line: &'a [u8]) -> Result<Pairs<'a>, LineFault>
         ensures { MatchResult result
-            (λ pairs. (pair_fault desk (behind_first (words_of line.now)) ≡ None)
-            × (pairs ≡ pairs_in (behind_first (words_of line.now))))
-            (λ fault. pair_fault desk (behind_first (words_of line.now)) ≡ Some fault) }
+            (λ pairs. (pair_fault desk (operands line.now) ≡ None)
+            × (pairs ≡ pairs_in (operands line.now)))
+            (λ fault. pair_fault desk (operands line.now) ≡ Some fault) }
     {
-        match pair_fault(behind_first(line)) {
+        match pair_fault(operands(line)) {
             Some(fault) => Err(fault),
             None => Ok(Pairs {
-                words: behind_first(line),
+                words: operands(line),
             }),
         }
     }

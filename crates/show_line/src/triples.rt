@@ -1,11 +1,10 @@
 ghost use Rattle.std.specs.Prelude.{◌≡◌, MatchResult};
 ghost use Rattle.std.specs.Iterator.{YieldsFirst, item_count};
 ghost use Rattle.ascii_text.specs.LinesLeft.{words_left};
-ghost use Rattle.ascii_text.specs.Text.{words_of};
-ghost use Rattle.show_line.specs.Pairs.{desk, behind_first, triple_fault, triples_in};
+ghost use Rattle.show_line.specs.Pairs.{desk, behind_first, operands, triple_fault, triples_in};
 
 use crate::fault::{LineFault, level_fault, lower, number_fault};
-use crate::words::behind_first;
+use crate::words::operands;
 use ascii_text::{Words, level, number};
 use show_core::{CHANNELS, DIMMERS};
 use std::marker::Model;
@@ -42,9 +41,9 @@ impl<'a> Triples<'a> {
     /// The triples behind the page of a PATCH line, or the lowest fault of their words.
     pub(crate) fn new(line: &'a [u8]) -> Result<Triples<'a>, LineFault>
         ensures { MatchResult result
-            (λ triples. (triple_fault desk (behind_first (behind_first (words_of line.now))) ≡ None)
-            × (triples ≡ triples_in (behind_first (behind_first (words_of line.now)))))
-            (λ fault. triple_fault desk (behind_first (behind_first (words_of line.now))) ≡ Some fault) }
+            (λ triples. (triple_fault desk (behind_first (operands line.now)) ≡ None)
+            × (triples ≡ triples_in (behind_first (operands line.now))))
+            (λ fault. triple_fault desk (behind_first (operands line.now)) ≡ Some fault) }
     {
         match triple_fault(behind_page(line)) {
             Some(fault) => Err(fault),
@@ -76,9 +75,9 @@ impl<'a> Iterator for Triples<'a> {
 
 // The words behind the page of a PATCH line.
 fn behind_page<'a>(line: &'a [u8]) -> Words<'a>
-    ensures { words_left result ≡ behind_first (behind_first (words_of line.now)) }
+    ensures { words_left result ≡ behind_first (operands line.now) }
 {
-    let mut words = behind_first(line);
+    let mut words = operands(line);
     let _page = words.next();
     words
 }

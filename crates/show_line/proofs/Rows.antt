@@ -1,0 +1,76 @@
+-- What single lines say, evaluated.
+use Rattle.std.specs.Prelude.{◌≡◌, ℕ, List, [], ◌∷◌, codes, Option, Some, None, option_map, refl}
+use Rattle.ascii_text.specs.Text.{words_of}
+use Rattle.show_line.specs.declared.fault.LineFault.TheVariants.{Ident, MissingNumber, BadNumber, BadLevel}
+use Rattle.show_line.specs.declared.fault.LineFault.TheVariants.{BadTime, HalfPair, HalfTriple, Limit}
+use Rattle.show_line.specs.declared.statement.Cleared.TheVariants.{All, Only}
+use Rattle.show_line.specs.declared.statement.Record.TheVariants.{Cue, Group, Sub}
+use Rattle.show_line.specs.declared.statement.Statement.{Statement}
+use Rattle.show_line.specs.declared.statement.Statement.TheVariants.{Opens, Levels, Rises, Falls, Patches}
+use Rattle.show_line.specs.declared.statement.Statement.TheVariants.{Clears, Quiet, Skipped, Faulty}
+use Rattle.show_line.specs.declared.statement.Table.TheVariants.{Cues, Patch}
+use Rattle.show_line.specs.Said.{desk, reading_of}
+
+-- what a line says below cue 1, and below no record
+abbrev in_cue : List ℕ → Option Statement
+in_cue line = option_map (λ reading. reading.statement) (reading_of desk (Some (Cue 1000)) (words_of line))
+
+abbrev alone : List ℕ → Option Statement
+alone line = option_map (λ reading. reading.statement) (reading_of desk None (words_of line))
+
+show_faults : (in_cue (codes "CHAN 1@101") ≡ Some (Faulty BadLevel))
+    × (in_cue (codes "CHAN 1") ≡ Some (Faulty HalfPair))
+    × (in_cue (codes "UP 1:60") ≡ Some (Faulty BadTime))
+    × (alone (codes "CUE") ≡ Some (Faulty MissingNumber))
+    × (alone (codes "CUE x") ≡ Some (Faulty BadNumber))
+    × (alone (codes "PATCH 1 1<1") ≡ Some (Faulty HalfTriple))
+    × (alone (codes "PATCH 1 1<8193@FL") ≡ Some (Faulty Limit))
+    × (in_cue (codes "CHAN 5000@101") ≡ Some (Faulty BadLevel))
+    × (alone (codes "IDENT 2:0") ≡ Some (Faulty Ident))
+    × (alone (codes "IDENT 3:0") ≡ Some Quiet)
+show_faults = (refl, refl, refl, refl, refl, refl, refl, refl, refl, refl)
+
+-- of several faults the lowest, and the form of a word before its range
+lowest_faults : (alone (codes "SUB 101 x") ≡ Some (Faulty BadNumber))
+    × (alone (codes "SUB 101 2") ≡ Some (Faulty Limit))
+    × (alone (codes "CUE x 2") ≡ Some (Faulty BadNumber))
+    × (alone (codes "CUE 10000") ≡ Some (Faulty BadNumber))
+    × (alone (codes "GROUP 0") ≡ Some (Faulty Limit))
+    × (in_cue (codes "CHAN 1234567890@FL") ≡ Some (Faulty BadNumber))
+    × (in_cue (codes "CHAN 5000") ≡ Some (Faulty HalfPair))
+    × (in_cue (codes "CHAN 1 FL x") ≡ Some (Faulty BadNumber))
+    × (alone (codes "PATCH 1 0<1@101") ≡ Some (Faulty BadLevel))
+lowest_faults = (refl, refl, refl, refl, refl, refl, refl, refl, refl)
+
+-- a page other than 1, an unknown or missing table, no owner
+skipped_lines : (alone (codes "CUE 3 2") ≡ Some Skipped)
+    × (alone (codes "CUE 1 0") ≡ Some Skipped)
+    × (alone (codes "PATCH 2 x") ≡ Some Skipped)
+    × (alone (codes "CLEAR") ≡ Some Skipped)
+    × (alone (codes "CLEAR CUE 2") ≡ Some Skipped)
+    × (alone (codes "CHAN 1@x") ≡ Some Skipped)
+    × (in_cue (codes "$$FADE 7") ≡ Some Skipped)
+skipped_lines = (refl, refl, refl, refl, refl, refl, refl)
+
+records : (alone (codes "Cue 1.5 000000001") ≡ Some (Opens (Cue 1500)))
+    × (alone (codes "GROUP 500") ≡ Some (Opens (Group 500)))
+    × (alone (codes "Sub 100 1 more") ≡ Some (Opens (Sub 100)))
+records = (refl, refl, refl)
+
+within_records : (in_cue (codes "  Chan 1/Hff 2/H80 ! house") ≡ Some (Levels (Cue 1000) ((1, 255) ∷ (2, 128) ∷ [])))
+    × (in_cue (codes "CHAN") ≡ Some (Levels (Cue 1000) []))
+    × (in_cue (codes "UP 5 3") ≡ Some (Rises 1000 (record { time = 5000; delay = 3000 })))
+    × (in_cue (codes "Down .5") ≡ Some (Falls 1000 (record { time = 500; delay = 0 })))
+within_records = (refl, refl, refl, refl)
+
+patches : (alone (codes "PATCH 1") ≡ Some (Patches []))
+    × (alone (codes "PATCH 1 0<1@50") ≡ Some (Patches (record { channel = 0; dimmer = 1; level = 128 } ∷ [])))
+patches = (refl, refl)
+
+clears : (alone (codes "Clear all") ≡ Some (Clears All))
+    × (alone (codes "CLEAR CUES") ≡ Some (Clears (Only Cues)))
+    × (alone (codes "CLEAR PATCH") ≡ Some (Clears (Only Patch)))
+clears = (refl, refl, refl)
+
+no_words : (alone (codes " ! CUE 1") ≡ None) × (alone (codes "@,") ≡ None)
+no_words = (refl, refl)
