@@ -7,3 +7,4 @@ pub mod Steps
 pub mod OneLine
 pub mod WholeText
 pub mod Limits
+mod Rows

@@ -1,5 +1,6 @@
 -- What one more line changes in the statements, the owner and the fault of a text.
-use Rattle.std.proofs.Common.{◌≡◌, ℕ, ◌+◌, Bool, true, false, cond, List, [], ◌∷◌, ◌++◌, length, refl, sym, ap, ◌∙◌, append_assoc, arith, Option, Some, None}
+use Rattle.std.proofs.Common.{◌≡◌, ℕ, ◌+◌, Bool, true, false, cond, List, [], ◌∷◌, ◌++◌, length, refl, sym}
+use Rattle.std.proofs.Common.{ap, ◌∙◌, append_assoc, arith, Option, Some, None}
 use Rattle.std.specs.Prelude.{filter, option_map, option_and_then}
 use Rattle.std.specs.List.{last_or}
 use Rattle.std.specs.Option.{option_or}
@@ -9,7 +10,9 @@ use Rattle.std.proofs.lemmas.Option.{none-some}
 use mathlib.Core.Bool.{false≢true}
 use Rattle.show_line.specs.declared.fault.LineFault.{LineFault}
 use Rattle.show_line.specs.declared.keyword.Keyword.{Keyword}
-use Rattle.show_line.specs.declared.keyword.Keyword.TheVariants.{Clear, Ident, Cue, Group, Sub, Patch, EndData, Setting, Chan, Up, Down, Remark, Maker, Unknown}
+use Rattle.show_line.specs.declared.keyword.Keyword.TheVariants.{Clear, Ident, Cue, Group, Sub, Patch}
+use Rattle.show_line.specs.declared.keyword.Keyword.TheVariants.{EndData, Setting, Chan, Up, Down, Remark}
+use Rattle.show_line.specs.declared.keyword.Keyword.TheVariants.{Maker, Unknown}
 use Rattle.show_line.specs.declared.statement.Record.{Record}
 use Rattle.show_line.specs.declared.statement.Statement.{Statement}
 use Rattle.show_line.specs.Keywords.{keyword_of, may_own}
@@ -18,22 +21,33 @@ use Rattle.show_line.specs.Said.{said, opened}
 use Rattle.show_reader.specs.Text.{Words, owns, record_opened, owner_below, statement_below, statements_below}
 use Rattle.show_reader.specs.Reading.{fault_below, fault_at, first_fault}
 use Rattle.show_reader.specs.declared.fault.ShowFault.{ShowFault}
+use Rattle.show_reader.proofs.Append.{last_or-append}
 
 -- ---- statements
 
-pub statements_below-append : (lim : Limits) (above ls ms : List Words) → statements_below lim above (ls ++ ms) ≡ statements_below lim above ls ++ statements_below lim (above ++ ls) ms
+-- the statements of two lists of lines, one below the other
+pub statements_below-append : (lim : Limits) (above ls ms : List Words)
+    → statements_below lim above (ls ++ ms)
+    ≡ statements_below lim above ls ++ statements_below lim (above ++ ls) ms
 statements_below-append lim above [] ms = ap (λ a. statements_below lim a ms) (sym (append-nil above))
-statements_below-append lim above (l ∷ ls) ms = ap (λ ss. statement_below lim above l ∷ ss) (statements_below-append lim (above ++ l ∷ []) ls ms
-    ∙ ap (λ a. statements_below lim (above ++ l ∷ []) ls ++ statements_below lim a ms) (append_assoc above (l ∷ []) ls))
+statements_below-append lim above (l ∷ ls) ms =
+    ap (λ ss. statement_below lim above l ∷ ss)
+    (statements_below-append lim (above ++ l ∷ []) ls ms
+    ∙ ap (λ a. statements_below lim (above ++ l ∷ []) ls ++ statements_below lim a ms)
+    (append_assoc above (l ∷ []) ls))
 
-pub length-statements_below : (lim : Limits) (above ls : List Words) → length (statements_below lim above ls) ≡ length ls
+-- there is a statement for each line
+pub length-statements_below : (lim : Limits) (above ls : List Words)
+    → length (statements_below lim above ls) ≡ length ls
 length-statements_below lim above [] = refl
-length-statements_below lim above (l ∷ ls) = let ih = length-statements_below lim (above ++ l ∷ []) ls in omega arith
+length-statements_below lim above (l ∷ ls) =
+    let ih = length-statements_below lim (above ++ l ∷ []) ls in omega arith
 
 -- ---- owners
 
 -- a line that may own says the same below any owner
-pub said_owner : (lim : Limits) (owner : Option Record) (keyword : Keyword) (words : Words) → may_own keyword ≡ true → said lim owner keyword words ≡ said lim None keyword words
+pub said_owner : (lim : Limits) (owner : Option Record) (keyword : Keyword) (words : Words)
+    → may_own keyword ≡ true → said lim owner keyword words ≡ said lim None keyword words
 said_owner lim owner Clear words h = refl
 said_owner lim owner Ident words h = refl
 said_owner lim owner Cue words h = refl
@@ -49,37 +63,41 @@ said_owner lim owner Remark words h = absurd (false≢true h)
 said_owner lim owner Maker words h = refl
 said_owner lim owner Unknown words h = absurd (false≢true h)
 
-last_or-append : {X : Type 0} (o : Option X) (xs ys : List X) → last_or o (xs ++ ys) ≡ last_or (last_or o xs) ys
-last_or-append o [] ys = refl
-last_or-append o (x ∷ xs) ys = last_or-append (Some x) xs ys
-
 -- the owner below one line more
-pub owner_push : (lim : Limits) (above : List Words) (l : Words) → owner_below lim (above ++ l ∷ []) ≡ cond (owns l) (record_opened lim l) (owner_below lim above)
+pub owner_push : (lim : Limits) (above : List Words) (l : Words)
+    → owner_below lim (above ++ l ∷ []) ≡ cond (owns l) (record_opened lim l) (owner_below lim above)
 owner_push lim above l =
     ap (λ ls. option_and_then (record_opened lim) (last_or None ls)) (filter-append owns above (l ∷ []))
-    ∙ elim (owns l) as (λ b. option_and_then (record_opened lim) (last_or None (filter owns above ++ cond b (l ∷ []) [])) ≡ cond b (record_opened lim l) (owner_below lim above)) [
+    ∙ elim (owns l) as
+    (λ b. option_and_then (record_opened lim) (last_or None (filter owns above ++ cond b (l ∷ []) []))
+    ≡ cond b (record_opened lim l) (owner_below lim above)) [
       | true ↦ ap (option_and_then (record_opened lim)) (last_or-append None (filter owns above) (l ∷ []))
-      | false ↦ ap (λ ls. option_and_then (record_opened lim) (last_or None ls)) (append-nil (filter owns above))
+      | false ↦
+          ap (λ ls. option_and_then (record_opened lim) (last_or None ls)) (append-nil (filter owns above))
     ]
 
 -- ---- faults
 
+-- neither of two options is there where their choice is not
 pub both_none : {X : Type 0} (o r : Option X) → option_or o r ≡ None → (o ≡ None) × (r ≡ None)
 both_none None r e = (refl, e)
 both_none (Some x) r e = absurd (none-some x (sym e))
 
 -- no line so far has a fault: the next line's decides, and then those below
-pub first_fault-append : (above ss : List Statement) (s : Statement) (rest : List Statement) → first_fault above ss ≡ None → first_fault above (ss ++ s ∷ rest) ≡ first_fault (above ++ ss) (s ∷ rest)
+pub first_fault-append : (above ss : List Statement) (s : Statement) (rest : List Statement)
+    → first_fault above ss ≡ None → first_fault above (ss ++ s ∷ rest) ≡ first_fault (above ++ ss) (s ∷ rest)
 first_fault-append above [] s rest none = ap (λ a. first_fault a (s ∷ rest)) (sym (append-nil above))
 first_fault-append above (t ∷ ss) s rest none =
-    let parts = both_none (option_map (fault_at (length above + 1)) (fault_below above t)) (first_fault (above ++ t ∷ []) ss) none in
-    ap (λ o. option_or o (first_fault (above ++ t ∷ []) (ss ++ s ∷ rest))) parts.0 ∙ first_fault-append (above ++ t ∷ []) ss s rest parts.1
+    let parts
+    = both_none (option_map (fault_at (length above + 1)) (fault_below above t))
+    (first_fault (above ++ t ∷ []) ss) none in
+    ap (λ o. option_or o (first_fault (above ++ t ∷ []) (ss ++ s ∷ rest))) parts.0
+    ∙ first_fault-append (above ++ t ∷ []) ss s rest parts.1
     ∙ ap (λ a. first_fault a (s ∷ rest)) (append_assoc above (t ∷ []) ss)
 
--- the next line has a fault: it is the text's
-pub first_fault_found : (ss : List Statement) (s : Statement) (rest : List Statement) (f : LineFault) → first_fault [] ss ≡ None → fault_below ss s ≡ Some f → first_fault [] (ss ++ s ∷ rest) ≡ Some (fault_at (length ss + 1) f)
-first_fault_found ss s rest f none found = first_fault-append [] ss s rest none ∙ ap (λ o. option_or (option_map (fault_at (length ss + 1)) o) (first_fault (ss ++ s ∷ []) rest)) found
-
 -- the next line has none: there is none yet
-pub first_fault_later : (ss : List Statement) (s : Statement) → first_fault [] ss ≡ None → fault_below ss s ≡ None → first_fault [] (ss ++ s ∷ []) ≡ None
-first_fault_later ss s none fine = first_fault-append [] ss s [] none ∙ ap (λ o. option_or (option_map (fault_at (length ss + 1)) o) None) fine
+pub first_fault_later : (ss : List Statement) (s : Statement) → first_fault [] ss ≡ None
+    → fault_below ss s ≡ None → first_fault [] (ss ++ s ∷ []) ≡ None
+first_fault_later ss s none fine =
+    first_fault-append [] ss s [] none
+    ∙ ap (λ o. option_or (option_map (fault_at (length ss + 1)) o) None) fine

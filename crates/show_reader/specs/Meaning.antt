@@ -1,5 +1,6 @@
 -- What statements mean: at each key the last that counts.
-use Rattle.std.specs.Prelude.{ℕ, ◌+◌, Bool, true, false, ◌==◌, if◌then◌else◌, List, [], ◌∷◌, filter, flat_map, filter_map, Option, Some, None}
+use Rattle.std.specs.Prelude.{ℕ, ◌+◌, Bool, true, false, ◌==◌, if◌then◌else◌, List, [], ◌∷◌, filter, flat_map}
+use Rattle.std.specs.Prelude.{filter_map, Option, Some, None}
 use Rattle.std.specs.List.{list_any, after_last, last_or}
 use Rattle.show_core.specs.declared.rate.Rate.{Rate}
 use Rattle.show_line.specs.declared.statement.Record.{Record}
@@ -8,7 +9,8 @@ use Rattle.show_line.specs.declared.statement.Table.{Table}
 use Rattle.show_line.specs.declared.statement.Table.TheVariants.{Cues, Groups, Subs, Patch}
 use Rattle.show_line.specs.declared.statement.Cleared.TheVariants.{All, Only}
 use Rattle.show_line.specs.declared.statement.Statement.{Statement}
-use Rattle.show_line.specs.declared.statement.Statement.TheVariants.{Opens, Levels, Rises, Falls, Patches, Clears, Skipped}
+use Rattle.show_line.specs.declared.statement.Statement.TheVariants.{Opens, Levels, Rises, Falls, Patches}
+use Rattle.show_line.specs.declared.statement.Statement.TheVariants.{Clears, Skipped}
 use Rattle.show_line.specs.declared.triples.Triple.{Triple}
 
 -- the last of a list

@@ -1,5 +1,6 @@
 -- What reading a show text answers.
-use Rattle.std.specs.Prelude.{◌≡◌, ℕ, ◌+◌, ◌≤◌, not, ◌&&◌, if◌then◌else◌, nat_le, nat_lt, List, [], ◌∷◌, ◌++◌, count_by, length, Option, Some, None, option_map}
+use Rattle.std.specs.Prelude.{◌≡◌, ℕ, ◌+◌, ◌≤◌, not, ◌&&◌, if◌then◌else◌, nat_le, nat_lt, List, [], ◌∷◌, ◌++◌}
+use Rattle.std.specs.Prelude.{count_by, length, Option, Some, None, option_map}
 use Rattle.std.specs.Option.{option_or}
 use Rattle.show_core.specs.declared.limits.TheConstants.{CUES}
 use Rattle.show_core.specs.Tables.{Tables}
@@ -19,7 +20,8 @@ use Rattle.show_reader.specs.Shows.{IsShowOf}
 -- a line's fault below the statements above it; a line that opens one cue too many has one too
 abbrev pub fault_below : List Statement → Statement → Option LineFault
 fault_below above (Faulty f) = Some f
-fault_below above (Opens (Cue n)) = if not (is_there (Cue n) above) && nat_le CUES (cue_count above) then Some fault.Limit else None
+fault_below above (Opens (Cue n)) =
+    if not (is_there (Cue n) above) && nat_le CUES (cue_count above) then Some fault.Limit else None
 fault_below above _ = None
 
 -- the fault of a line, with its number
@@ -36,11 +38,13 @@ fault_at line fault.Limit = show_fault.Limit line
 -- the fault of the first line that has one, below the statements above
 abbrev pub first_fault : List Statement → List Statement → Option ShowFault
 first_fault above [] = None
-first_fault above (s ∷ ss) = option_or (option_map (fault_at (length above + 1)) (fault_below above s)) (first_fault (above ++ s ∷ []) ss)
+first_fault above (s ∷ ss) =
+    option_or (option_map (fault_at (length above + 1)) (fault_below above s)) (first_fault (above ++ s ∷ []) ss)
 
 -- the fault of a show text: it is too long, or its first faulty line decides
 abbrev pub fault_of : Limits → List ℕ → Option ShowFault
-fault_of lim text = if nat_lt LONGEST_TEXT (length text) then Some show_fault.TooLong else first_fault [] (statements_of lim text)
+fault_of lim text =
+    if nat_lt LONGEST_TEXT (length text) then Some show_fault.TooLong else first_fault [] (statements_of lim text)
 
 -- how many lines were read, that of ENDDATA included
 abbrev pub lines_read : Limits → List ℕ → ℕ
@@ -50,11 +54,13 @@ lines_read lim text = length (statements_of lim text)
 abbrev pub lines_skipped : Limits → List ℕ → ℕ
 lines_skipped lim text = count_by is_skipped (statements_of lim text)
 
--- what wider limits leave of a text without a fault under narrower ones: it has none, and it says and means the same
+-- what wider limits leave of a text without a fault under narrower ones: it has none, says the same and
+-- means the same show
 pub record ReadsAlike (narrow wide : Limits) (text : List ℕ) : Type 0 where
   pub faultless : fault_of wide text ≡ None
   pub statements : statements_of wide text ≡ statements_of narrow text
-  pub shows : (show : Tables) → IsShowOf (statements_of narrow text) show → IsShowOf (statements_of wide text) show
+  pub shows : (show : Tables)
+      → IsShowOf (statements_of narrow text) show → IsShowOf (statements_of wide text) show
 
 -- a desk with more room reads each text that one with less room accepted, to the same show
 abbrev pub LimitsLaw : Type 0

@@ -1,5 +1,6 @@
 -- What a reader has made of the lines so far.
-use Rattle.std.specs.Prelude.{◌≡◌, ◌⊎◌, ℕ, ◌+◌, true, List, [], ◌∷◌, ◌++◌, length, count_by, Option, Some, None, IfSome, option_map}
+use Rattle.std.specs.Prelude.{◌≡◌, ◌⊎◌, ℕ, ◌+◌, true, List, [], ◌∷◌, ◌++◌, length, count_by, Option, Some}
+use Rattle.std.specs.Prelude.{None, IfSome, option_map}
 use Rattle.std.specs.FinMap as maps
 use Rattle.show_line.specs.declared.statement.Record.{Record}
 use Rattle.show_line.specs.declared.statement.Statement.{Statement}
@@ -30,7 +31,8 @@ pub record Reads (lines : List Words) (r : Reader) : Type 0 where
 
 -- the fault of the line below these, if it has one
 abbrev pub line_fault : List Words → Words → Option ShowFault
-line_fault lines l = option_map (fault_at (length lines + 1)) (fault_below (said_by lines) (statement_below desk lines l))
+line_fault lines l =
+    option_map (fault_at (length lines + 1)) (fault_below (said_by lines) (statement_below desk lines l))
 
 -- why reading ended at the line below these: its fault, or want of memory
 abbrev pub EndsAt : List Words → Words → ShowFault → Type 0

@@ -1,5 +1,6 @@
 -- The lines of a show text, and what they say.
-use Rattle.std.specs.Prelude.{ℕ, Bool, false, if◌then◌else◌, List, [], ◌∷◌, ◌++◌, filter, map, Option, None, option_and_then}
+use Rattle.std.specs.Prelude.{ℕ, Bool, false, if◌then◌else◌, List, [], ◌∷◌, ◌++◌, filter, map, Option, None}
+use Rattle.std.specs.Prelude.{option_and_then}
 use Rattle.std.specs.List.{last_or}
 use Rattle.ascii_text.specs.Text.{lines_of, words_of}
 use Rattle.show_line.specs.declared.statement.Record.{Record}
@@ -37,7 +38,8 @@ abbrev pub record_opened : Limits → Words → Option Record
 record_opened lim [] = None
 record_opened lim (word ∷ words) = opened (said lim None (keyword_of word) words)
 
--- the owner of a secondary line below these lines: the record of the nearest that is primary or opens a maker's record
+-- the owner of a secondary line below these lines: the record of the nearest line that is primary or opens a
+-- maker's record
 abbrev pub owner_below : Limits → List Words → Option Record
 owner_below lim above = option_and_then (record_opened lim) (last_or None (filter owns above))
 

@@ -4,5 +4,4 @@ ghost use Rattle.show_reader.specs.Reading.{LimitsLaw};
 /// does nothing: its contract is the law.
 pub fn limits_law()
     ensures { LimitsLaw }
-{
-}
+{}

@@ -9,3 +9,6 @@ mod read;
 pub use fault::{LONGEST_TEXT, ShowFault};
 pub use law::limits_law;
 pub use read::{Loaded, read_show};
+
+#[cfg(test)]
+mod tests;

@@ -8,17 +8,17 @@ ghost use Rattle.show_reader.specs.Shows.{IsShowOf};
 ghost use Rattle.show_reader.specs.Reading.{fault_at, fault_of, lines_read, lines_skipped};
 ghost use Rattle.show_reader.specs.Reads.{Reads, EndsAt, refusal_at};
 
+use crate::apply::{Refusal, apply};
+use crate::fault::{LONGEST_TEXT, ShowFault};
 use ascii_text::{Line, Lines};
 use show_core::Show;
 use show_line::{LineFault, Record, Statement, read_line};
 use std::alloc::Global;
 
-use crate::apply::{Refusal, apply};
-use crate::fault::{LONGEST_TEXT, ShowFault};
-
 /// A show that was read, and what its text had.
 #[derive(Drop)]
 pub struct Loaded {
+    /// The show that the text means.
     pub show: Show,
     /// How many lines were read, that of ENDDATA included.
     pub lines: u32,
@@ -101,10 +101,17 @@ impl Reader {
     }
 }
 
-/// Reads a show text: the show that it means, or its first fault.
+/// Reads a show text: the show that it means, and how many lines were read and skipped; or its fault.
 ///
-/// The text's lines and words, and what each line says, are those of the show profile (USITT ASCII
-/// 3.0: records of CUE, GROUP, SUB and PATCH). The text has at most [`LONGEST_TEXT`] bytes.
+/// A text is lines that open with a keyword, with records of CUE, GROUP, SUB and PATCH (USITT ASCII
+/// Text Representation for Lighting Console Data 3.0). It has at most [`LONGEST_TEXT`] bytes. Reading
+/// ends with the first line whose first word is ENDDATA, or with the text.
+///
+/// # Errors
+///
+/// The fault of the first faulty line, as [`ShowFault`] lists them; `TooLong` before any line. `Memory`
+/// is answered only where a growth was refused. No clause can say so, since none sees the memory that is
+/// left: tests check it.
 pub fn read_show(alloc: Global, text: &[u8]) -> Result<Loaded, ShowFault>
     ensures faultless { OnOk result (fault_of desk text.now ≡ None) }
     ensures show { IfOk result (λ loaded. IsShowOf (statements_of desk text.now) loaded.show) }

@@ -8,10 +8,16 @@ use Rattle.show_reader.proofs.apply.patch.Goals as goal
 
 pub loop-triple-preserved : goal.loop-triple-preserved
 loop-triple-preserved c =
-    let front : c.loop-triple.triple-iterator ≡ c.in-Some.triple ∷ c.next.new.self = c.in-Some.ensures.steps in
+    let front : c.loop-triple.triple-iterator ≡ c.in-Some.triple ∷ c.next.new.self
+    = c.in-Some.ensures.steps in
     let set = c.in_default.ensures.set in
     record {
-      sound = all_rest (λ triple. IsTrue (can_patch triple.dimmer triple.channel)) c.in-Some.triple c.next.new.self (subst (λ ts. All (λ triple. IsTrue (can_patch triple.dimmer triple.channel)) ts) front c.loop-triple.invariant.sound);
-      put = c.loop-triple.invariant.put ∙ ap (λ ts. record c.loop-triple.show { patch = with_triples c.loop-triple.show.patch ts }) front
+      sound =
+          all_rest (λ triple. IsTrue (can_patch triple.dimmer triple.channel)) c.in-Some.triple c.next.new.self
+          (subst (λ ts. All (λ triple. IsTrue (can_patch triple.dimmer triple.channel)) ts) front
+          c.loop-triple.invariant.sound);
+      put =
+          c.loop-triple.invariant.put
+          ∙ ap (λ ts. record c.loop-triple.show { patch = with_triples c.loop-triple.show.patch ts }) front
           ∙ ap (λ (s : Tables). record s { patch = with_triples s.patch c.next.new.self }) (sym set);
     }

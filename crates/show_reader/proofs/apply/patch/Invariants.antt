@@ -7,5 +7,6 @@ use Rattle.show_reader.proofs.apply.patch.Given as goal
 abbrev pub invariant-loop-triple : goal.invariant-loop-triple
 invariant-loop-triple l = record {
   sound : All (λ triple. IsTrue (can_patch triple.dimmer triple.channel)) l.triple-iterator;
-  put : record l.initial.show { patch = with_triples l.initial.show.patch l.fn.triples } ≡ record l.show { patch = with_triples l.show.patch l.triple-iterator };
+  put : record l.initial.show { patch = with_triples l.initial.show.patch l.fn.triples }
+      ≡ record l.show { patch = with_triples l.show.patch l.triple-iterator };
 }

@@ -1,0 +1,184 @@
+-- What whole texts mean, evaluated.
+use Rattle.std.specs.Prelude.{◌≡◌, ℕ, true, false, List, [], ◌∷◌, ◌++◌, codes, flat_map, Option, Some, None, refl}
+use Rattle.show_core.specs.declared.rate.Rate.{Rate}
+use Rattle.show_line.specs.declared.statement.Record.TheVariants.{Cue, Group}
+use Rattle.show_line.specs.declared.statement.Statement.{Statement}
+use Rattle.show_line.specs.Said.{desk}
+use Rattle.show_reader.specs.declared.fault.ShowFault.{ShowFault}
+use Rattle.show_reader.specs.declared.fault.ShowFault.TheVariants.{Ident, MissingNumber, BadNumber, BadLevel}
+use Rattle.show_reader.specs.declared.fault.ShowFault.TheVariants.{BadTime, HalfPair, HalfTriple, Limit}
+use Rattle.show_reader.specs.Text.{statements_of}
+use Rattle.show_reader.specs.Meaning.{is_there, level_at, up_of, down_of, triple_at, patched_by, cue_count}
+use Rattle.show_reader.specs.Reading.{fault_of, lines_read, lines_skipped}
+
+-- lines that end in LF, and in CR LF
+abbrev text_of : List (List ℕ) → List ℕ
+text_of lines = flat_map (λ line. line ++ 10 ∷ []) lines
+
+abbrev carriage_text_of : List (List ℕ) → List ℕ
+carriage_text_of lines = flat_map (λ line. line ++ 13 ∷ 10 ∷ []) lines
+
+-- the fault of a text of one, two and three lines
+abbrev fault_1 : List ℕ → Option ShowFault
+fault_1 a = fault_of desk (text_of (a ∷ []))
+
+abbrev fault_2 : List ℕ → List ℕ → Option ShowFault
+fault_2 a b = fault_of desk (text_of (a ∷ b ∷ []))
+
+abbrev fault_3 : List ℕ → List ℕ → List ℕ → Option ShowFault
+fault_3 a b c = fault_of desk (text_of (a ∷ b ∷ c ∷ []))
+
+-- how many lines of such a text are skipped
+abbrev skipped_1 : List ℕ → ℕ
+skipped_1 a = lines_skipped desk (text_of (a ∷ []))
+
+abbrev skipped_3 : List ℕ → List ℕ → List ℕ → ℕ
+skipped_3 a b c = lines_skipped desk (text_of (a ∷ b ∷ c ∷ []))
+
+-- ---- faults
+
+show_faults : (fault_2 (codes "CUE 1") (codes "CHAN 1@101") ≡ Some (BadLevel 2))
+    × (fault_2 (codes "CUE 1") (codes "CHAN 1") ≡ Some (HalfPair 2))
+    × (fault_2 (codes "CUE 1") (codes "UP 1:60") ≡ Some (BadTime 2))
+    × (fault_1 (codes "CUE") ≡ Some (MissingNumber 1))
+    × (fault_1 (codes "CUE x") ≡ Some (BadNumber 1))
+    × (fault_1 (codes "PATCH 1 1<1") ≡ Some (HalfTriple 1))
+    × (fault_1 (codes "PATCH 1 1<8193@FL") ≡ Some (Limit 1))
+    × (fault_2 (codes "CUE 1") (codes "CHAN 5000@101") ≡ Some (BadLevel 2))
+    × (fault_1 (codes "IDENT 2:0") ≡ Some (Ident 1))
+    × (fault_1 (codes "IDENT 3:0") ≡ None)
+show_faults = (refl, refl, refl, refl, refl, refl, refl, refl, refl, refl)
+
+limits_refused : (fault_1 (codes "PATCH 1 1<8193@FL") ≡ Some (Limit 1))
+    × (fault_1 (codes "PATCH 1 4097<1@FL") ≡ Some (Limit 1))
+limits_refused = (refl, refl)
+
+foreign_page_order : (fault_1 (codes "CUE x 2") ≡ Some (BadNumber 1))
+    × (fault_1 (codes "SUB 101 2") ≡ Some (Limit 1))
+    × (fault_1 (codes "CUE 3 2") ≡ None)
+    × (skipped_1 (codes "CUE 3 2") ≡ 1)
+foreign_page_order = (refl, refl, refl, refl)
+
+-- the first faulty line decides, and on it the lowest fault
+first_fault_decides : (fault_3 (codes "CUE 1") (codes "CHAN 5000") (codes "IDENT") ≡ Some (HalfPair 2))
+    × (fault_2 (codes "CUE 1") (codes "CHAN 1 FL x") ≡ Some (BadNumber 2))
+    × (fault_3 (codes "CUE 1") (codes "$$") (codes "CHAN x") ≡ Some (BadNumber 3))
+    × (fault_2 (codes "CUE 1") (codes "CHAN 1234567890@FL") ≡ Some (BadNumber 2))
+    × (fault_1 (codes "SUB 101 x") ≡ Some (BadNumber 1))
+    × (fault_1 (codes "CUE 10000") ≡ Some (BadNumber 1))
+    × (fault_1 (codes "GROUP 0") ≡ Some (Limit 1))
+    × (fault_1 (codes "PATCH 1 0<1@101") ≡ Some (BadLevel 1))
+first_fault_decides = (refl, refl, refl, refl, refl, refl, refl, refl)
+
+-- accepted without a look at all their words
+accepted : (fault_1 (codes "PATCH 2 x") ≡ None)
+    × (fault_1 (codes "IDENT 3:0 x") ≡ None)
+    × (fault_1 (codes "PATCH 1") ≡ None)
+    × (fault_2 (codes "CUE 1") (codes "CHAN") ≡ None)
+accepted = (refl, refl, refl, refl)
+
+-- ---- owners and skipped lines
+
+-- every primary line is an owner, a skipped one too
+ownerless : (fault_3 (codes "CUE 1") (codes "IDENT 3:0") (codes "CHAN 1@x") ≡ None)
+    × (skipped_3 (codes "CUE 1") (codes "IDENT 3:0") (codes "CHAN 1@x") ≡ 1)
+    × (skipped_3 (codes "CUE 1") (codes "CLEAR x") (codes "CHAN 1@FL") ≡ 2)
+    × (skipped_3 (codes "CUE 1") (codes "SET x") (codes "CHAN 1@FL") ≡ 1)
+    × (skipped_3 (codes "CUE 1") (codes "$X") (codes "CHAN 1@FL") ≡ 2)
+ownerless = (refl, refl, refl, refl, refl)
+
+-- ENDDATA ends a maker's record too, and lines without words are not counted in one
+makers_records : (lines_read desk (text_of (codes "$X" ∷ codes "ENDDATA" ∷ codes "CUE 1" ∷ [])) ≡ 2)
+    × (skipped_3 (codes "$X") (codes "ENDDATA") (codes "CUE 1") ≡ 1)
+    × (lines_skipped desk (text_of (codes "$X" ∷ [] ∷ codes "! c" ∷ codes "CUE 1" ∷ [])) ≡ 1)
+makers_records = (refl, refl, refl)
+
+-- a page's value counts
+pages : (skipped_1 (codes "CUE 1 000000001") ≡ 0)
+    × (skipped_1 (codes "CUE 1 0") ≡ 1)
+    × (fault_1 (codes "CUE 1 x") ≡ Some (BadNumber 1))
+pages = (refl, refl, refl)
+
+abbrev skipping : List ℕ
+skipping = text_of (
+    codes "CUE 1" ∷ codes "CHAN 1@FL" ∷ codes "$$FADE 7" ∷ codes "CHAN 2@50"
+    ∷ codes "$MAKER 9" ∷ codes "CHAN 1@0" ∷ codes "CUE 2 2" ∷ codes "CHAN 3@FL" ∷ []
+    )
+
+skipped_lines : (fault_of desk skipping ≡ None)
+    × (lines_read desk skipping ≡ 8)
+    × (lines_skipped desk skipping ≡ 5)
+    × (cue_count (statements_of desk skipping) ≡ 1)
+    × (is_there (Cue 1000) (statements_of desk skipping) ≡ true)
+    × (is_there (Cue 2000) (statements_of desk skipping) ≡ false)
+    × (level_at (Cue 1000) 1 (statements_of desk skipping) ≡ Some 255)
+    × (level_at (Cue 1000) 2 (statements_of desk skipping) ≡ Some 128)
+    × (level_at (Cue 1000) 3 (statements_of desk skipping) ≡ None)
+skipped_lines = (refl, refl, refl, refl, refl, refl, refl, refl, refl)
+
+abbrev clearing : List ℕ
+clearing = text_of (
+    codes "CUE 1" ∷ codes "CHAN 1@FL" ∷ codes "CLEAR CUES" ∷ codes "CHAN 2@FL" ∷ codes "CUE 2"
+    ∷ codes "CLEAR CUE 2" ∷ []
+    )
+
+clear_cues : (fault_of desk clearing ≡ None)
+    × (lines_read desk clearing ≡ 6)
+    × (lines_skipped desk clearing ≡ 2)
+    × (cue_count (statements_of desk clearing) ≡ 1)
+    × (is_there (Cue 1000) (statements_of desk clearing) ≡ false)
+    × (is_there (Cue 2000) (statements_of desk clearing) ≡ true)
+clear_cues = (refl, refl, refl, refl, refl, refl)
+
+-- ---- shows
+
+abbrev console_text : List ℕ
+console_text = carriage_text_of (
+    codes "Ident 3:0" ∷ codes "Manufacturer Example" ∷ codes "Console Example" ∷ codes "$$Format 3.20"
+    ∷ codes "Clear all" ∷ codes "Set Channels 96" ∷ codes "Patch 1 1<1@Hff 2<2@Hff" ∷ codes "Cue 1"
+    ∷ codes "  Up 3" ∷ codes "  Text Opening ! house" ∷ codes "  Chan 1/Hff 2/H80" ∷ codes "EndData"
+    ∷ codes "Cue 9" ∷ []
+    )
+
+abbrev console_statements : List Statement
+console_statements = statements_of desk console_text
+
+console_style_file : (fault_of desk console_text ≡ None)
+    × (lines_read desk console_text ≡ 12)
+    × (lines_skipped desk console_text ≡ 1)
+    × (is_there (Cue 1000) console_statements ≡ true)
+    × (is_there (Cue 9000) console_statements ≡ false)
+    × (level_at (Cue 1000) 1 console_statements ≡ Some 255)
+    × (level_at (Cue 1000) 2 console_statements ≡ Some 128)
+    × (up_of 1000 console_statements ≡ Some (record { time = 3000; delay = 0 }))
+    × (down_of 1000 console_statements ≡ None)
+    × (patched_by (triple_at 2 console_statements) ≡ Some (2, 255))
+    × (patched_by (triple_at 3 console_statements) ≡ None)
+console_style_file = (refl, refl, refl, refl, refl, refl, refl, refl, refl, refl, refl)
+
+abbrev top_statements : List Statement
+top_statements = statements_of desk
+    (text_of (codes "CUE 1" ∷ codes "CHAN 4096@FL" ∷ codes "PATCH 1 4096<8192@FL" ∷ []))
+
+top_channel : (level_at (Cue 1000) 4096 top_statements ≡ Some 255)
+    × (patched_by (triple_at 8192 top_statements) ≡ Some (4096, 255))
+top_channel = (refl, refl)
+
+-- channel 0 leaves a dimmer unpatched
+unpatched : patched_by (triple_at 1 (statements_of desk (text_of (codes "PATCH 1 1<1@FL 0<1@FL" ∷ [])))) ≡ None
+unpatched = refl
+
+-- the last UP line wins whole; the lines of a cue that is opened twice count together
+abbrev twice_opened : List Statement
+twice_opened = statements_of desk (text_of (
+    codes "CUE 1" ∷ codes "UP 5 3" ∷ codes "CHAN 1@FL" ∷ codes "UP 5" ∷ codes "GROUP 1" ∷ codes "CUE 1"
+    ∷ codes "DOWN 4 1" ∷ codes "CHAN 7@HF" ∷ []
+    ))
+
+last_rates : (up_of 1000 twice_opened ≡ Some (record { time = 5000; delay = 0 }))
+    × (down_of 1000 twice_opened ≡ Some (record { time = 4000; delay = 1000 }))
+    × (level_at (Cue 1000) 1 twice_opened ≡ Some 255)
+    × (level_at (Cue 1000) 7 twice_opened ≡ Some 15)
+    × (level_at (Group 1) 1 twice_opened ≡ None)
+    × (cue_count twice_opened ≡ 1)
+last_rates = (refl, refl, refl, refl, refl, refl)

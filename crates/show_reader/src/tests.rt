@@ -1,0 +1,252 @@
+use crate::{Loaded, ShowFault, limits_law, read_show};
+use show_core::{Counts, Rate};
+use std::alloc::Global;
+use std::test::Fail;
+
+// What is read of a text. `rt try --test --fail-alloc N` refuses the Nth growth alone: where a reading
+// meets it, the answer is Memory, and the next reading gives what the text says. At ample memory the
+// first reading has to. Texts that a test builds answer their own refusal.
+fn read(alloc: Global, text: &[u8]) -> Result<Loaded, ShowFault> {
+    match read_show(alloc, text) {
+        Err(ShowFault::Memory) => read_show(alloc, text),
+        answer => answer,
+    }
+}
+
+// How many lines were read and skipped, and how much there is of each kind.
+fn sizes(loaded: &Loaded) -> (u32, u32, Counts) {
+    (loaded.lines, loaded.skipped, loaded.show.counts())
+}
+
+// How many lines were read and skipped, or the fault.
+fn reading(alloc: Global, text: &[u8]) -> Result<(u32, u32), ShowFault> {
+    let loaded = read(alloc, text)?;
+    Ok((loaded.lines, loaded.skipped))
+}
+
+#[test]
+fn show_faults(rt: HostRuntime) {
+    for (text, answer) in [
+        (b"CUE 1\nCHAN 1@101".as_slice(), Err(ShowFault::BadLevel(2))),
+        (b"CUE 1\nCHAN 1", Err(ShowFault::HalfPair(2))),
+        (b"CUE 1\nUP 1:60", Err(ShowFault::BadTime(2))),
+        (b"CUE", Err(ShowFault::MissingNumber(1))),
+        (b"CUE x", Err(ShowFault::BadNumber(1))),
+        (b"PATCH 1 1<1", Err(ShowFault::HalfTriple(1))),
+        (b"PATCH 1 1<8193@FL", Err(ShowFault::Limit(1))),
+        (b"CUE 1\nCHAN 5000@101", Err(ShowFault::BadLevel(2))),
+        (b"IDENT 2:0", Err(ShowFault::Ident(1))),
+        (b"IDENT 3:0", Ok((1, 0))),
+    ] {
+        assert_eq!(rt; reading(rt.alloc(), text), answer, "{text:?}");
+    }
+}
+
+#[test]
+fn foreign_page_order(rt: HostRuntime) {
+    for (text, answer) in [
+        (b"CUE x 2".as_slice(), Err(ShowFault::BadNumber(1))),
+        (b"SUB 101 2", Err(ShowFault::Limit(1))),
+        (b"CUE 3 2", Ok((1, 1))),
+    ] {
+        assert_eq!(rt; reading(rt.alloc(), text), answer, "{text:?}");
+    }
+}
+
+#[test]
+fn limits_refused(rt: HostRuntime) {
+    limits_law();
+    for text in [b"PATCH 1 1<8193@FL".as_slice(), b"PATCH 1 4097<1@FL"] {
+        let answer = Err(ShowFault::Limit(1));
+        assert_eq!(rt; reading(rt.alloc(), text), answer, "{text:?}");
+    }
+}
+
+#[test]
+fn skipped_lines(rt: HostRuntime) -> Result<(), Fail> {
+    let text = b"CUE 1\nCHAN 1@FL\n$$FADE 7\nCHAN 2@50\n$MAKER 9\nCHAN 1@0\nCUE 2 2\nCHAN 3@FL\n";
+    let loaded = read(rt.alloc(), text)?;
+    let counts = Counts {
+        cues: 1,
+        subs: 0,
+        groups: 0,
+        dimmers: 0,
+    };
+    assert_eq!(rt; sizes(&loaded), (8, 5, counts));
+    let cue = loaded.show.cue(1000).expect(&rt, "cue 1");
+    assert_eq!(rt; cue.pairs(), [(1, 255), (2, 128)].as_slice());
+    Ok(())
+}
+
+#[test]
+fn console_style_file(rt: HostRuntime) -> Result<(), Fail> {
+    let text =
+        b"Ident 3:0\r\nManufacturer Example\r\nConsole Example\r\n$$Format 3.20\r\nClear all\r\n\
+        Set Channels 96\r\nPatch 1 1<1@Hff 2<2@Hff\r\nCue 1\r\n  Up 3\r\n  Text Opening ! house\r\n\
+        \x20 Chan 1/Hff 2/H80\r\nEndData\r\nCue 9\r\n";
+    let loaded = read(rt.alloc(), text)?;
+    let counts = Counts {
+        cues: 1,
+        subs: 0,
+        groups: 0,
+        dimmers: 2,
+    };
+    assert_eq!(rt; sizes(&loaded), (12, 1, counts));
+    let cue = loaded.show.cue(1000).expect(&rt, "cue 1");
+    assert_eq!(rt; cue.pairs(), [(1, 255), (2, 128)].as_slice());
+    let rate = Rate {
+        time: 3000,
+        delay: 0,
+    };
+    assert_eq!(rt; (cue.up(), cue.down()), (rate, rate));
+    assert_eq!(rt; loaded.show.patched(2), Some((2, 255)));
+    Ok(())
+}
+
+#[test]
+fn clear_cues(rt: HostRuntime) -> Result<(), Fail> {
+    let text = b"CUE 1\nCHAN 1@FL\nCLEAR CUES\nCHAN 2@FL\nCUE 2\nCLEAR CUE 2\n";
+    let loaded = read(rt.alloc(), text)?;
+    let counts = Counts {
+        cues: 1,
+        subs: 0,
+        groups: 0,
+        dimmers: 0,
+    };
+    assert_eq!(rt; sizes(&loaded), (6, 2, counts));
+    assert!(rt; loaded.show.cue(1000).is_none());
+    assert!(rt; loaded.show.cue(2000).is_some());
+    Ok(())
+}
+
+// A channel of 0 leaves its dimmer unpatched.
+#[test]
+fn universe_limit(rt: HostRuntime) -> Result<(), Fail> {
+    let loaded = read(rt.alloc(), b"PATCH 1 1<1@FL 0<1@FL")?;
+    assert_eq!(rt; loaded.show.counts().dimmers, 0);
+    assert_eq!(rt; loaded.show.patched(1), None);
+    assert!(rt; loaded.show.universes().is_empty());
+    Ok(())
+}
+
+#[test]
+fn top_channel(rt: HostRuntime) -> Result<(), Fail> {
+    let loaded = read(rt.alloc(), b"CUE 1\nCHAN 4096@FL\nPATCH 1 4096<8192@FL")?;
+    assert_eq!(rt; loaded.show.universes().as_slice(), [15].as_slice());
+    assert!(rt; loaded.show.cue(1000).is_some());
+    let slots = loaded.show.look_slots(1000, 15);
+    assert_eq!(rt; slots.get(511).copied(), Some(255));
+    Ok(())
+}
+
+// The 2,001st cue is refused; one that is there is none more, and CLEAR makes room.
+#[test]
+fn too_many_cues(rt: HostRuntime) -> Result<(), Fail> {
+    let mut text = String::new(rt.alloc());
+    for n in 1..=2000 {
+        text.push_str(&format!(in rt.alloc(); "CUE {n}\n")?)?;
+    }
+    for (last, answer) in [
+        ("CUE 2001\n", Err(ShowFault::Limit(2001))),
+        ("CUE 7\nCUE 2001\n", Err(ShowFault::Limit(2002))),
+        ("CUE 7\nCLEAR CUES\nCUE 2001\n", Ok((2003, 0))),
+    ] {
+        let whole = format!(in rt.alloc(); "{text}{last}")?;
+        assert_eq!(rt; reading(rt.alloc(), whole.as_bytes()), answer, "{last}");
+    }
+    Ok(())
+}
+
+#[test]
+fn largest_show(rt: HostRuntime) -> Result<(), Fail> {
+    let mut text = vec![in rt.alloc(); b'!'; 1_048_576]?;
+    let loaded = read(rt.alloc(), &text)?;
+    let counts = Counts {
+        cues: 0,
+        subs: 0,
+        groups: 0,
+        dimmers: 0,
+    };
+    assert_eq!(rt; sizes(&loaded), (1, 0, counts));
+    text.push(b'!')?;
+    assert_eq!(rt; reading(rt.alloc(), &text), Err(ShowFault::TooLong));
+    Ok(())
+}
+
+#[test]
+fn show_texts(rt: HostRuntime) {
+    for (text, answer) in [
+        // A foreign page: only the number and the page's form are checked.
+        (b"PATCH 2 x".as_slice(), Ok((1, 1))),
+        (b"PATCH x", Err(ShowFault::BadNumber(1))),
+        // The page's form comes before the number's range.
+        (b"SUB 101 x", Err(ShowFault::BadNumber(1))),
+        // IDENT: further words, and its place.
+        (b"IDENT 3:0 x", Ok((1, 0))),
+        (b"CUE 1\nIDENT 3:0\nCHAN 1@x", Ok((3, 1))),
+        (b"IDENT 3:0\nCUE 1\nIDENT 2:0", Err(ShowFault::Ident(3))),
+        // Every primary line is an owner.
+        (b"CUE 1\nCLEAR x\nCHAN 1@FL", Ok((3, 2))),
+        (b"CUE 1\nSET x\nCHAN 1@x", Ok((3, 1))),
+        (b"CUE 1\nPATCH 1\nCHAN 1@x", Ok((3, 1))),
+        // ENDDATA, and lines without words, in a maker's record.
+        (b"$X\nENDDATA\nCUE 1", Ok((2, 1))),
+        (b"$X\n\n! c\nCUE 1", Ok((4, 1))),
+        (b"CUE 1\n$X\nCHAN x\n$Y\nCHAN x", Ok((5, 4))),
+        (b"CUE 1\n$$\nCHAN x", Err(ShowFault::BadNumber(3))),
+    ] {
+        assert_eq!(rt; reading(rt.alloc(), text), answer, "{text:?}");
+    }
+    for (text, answer) in [
+        // A form comes before a range.
+        (b"CUE 10000".as_slice(), Err(ShowFault::BadNumber(1))),
+        (b"GROUP 0", Err(ShowFault::Limit(1))),
+        (b"CUE 1\nCHAN 1234567890@FL", Err(ShowFault::BadNumber(2))),
+        (b"CUE 1\nCHAN 1@101", Err(ShowFault::BadLevel(2))),
+        (b"CUE 1\nUP 6000", Err(ShowFault::BadTime(2))),
+        // The lowest fault of a line.
+        (b"CUE 1\nCHAN 5000", Err(ShowFault::HalfPair(2))),
+        (b"CUE 1\nCHAN 1 FL x", Err(ShowFault::BadNumber(2))),
+        // Nothing to list, and nothing to patch.
+        (b"CUE 1\nCHAN\nPATCH 1", Ok((3, 0))),
+        // A page's value counts.
+        (b"CUE 1 000000001", Ok((1, 0))),
+        (b"CUE 1 0", Ok((1, 1))),
+        (b"CUE 1 x", Err(ShowFault::BadNumber(1))),
+        // The level of an unpatched dimmer is checked.
+        (b"PATCH 1 0<1@101", Err(ShowFault::BadLevel(1))),
+    ] {
+        assert_eq!(rt; reading(rt.alloc(), text), answer, "{text:?}");
+    }
+    for (text, answer) in [
+        // A digit run has nine digits, zeros in front included.
+        (b"GROUP 0000000001".as_slice(), Err(ShowFault::BadNumber(1))),
+        (b"CUE 0000000001", Err(ShowFault::BadNumber(1))),
+        (b"CUE 1\nUP 0000000005", Err(ShowFault::BadTime(2))),
+        // Other control bytes, and a byte order mark, are bytes of a word.
+        (b"\x0bCUE 1", Ok((1, 1))),
+        (b"CUE\x0c1", Ok((1, 1))),
+        (b"CUE 1\0", Err(ShowFault::BadNumber(1))),
+        (b"\xef\xbb\xbfCUE 1", Ok((1, 1))),
+    ] {
+        assert_eq!(rt; reading(rt.alloc(), text), answer, "{text:?}");
+    }
+}
+
+// The last UP or DOWN line wins whole, and the lines of one cue count together.
+#[test]
+fn last_rates(rt: HostRuntime) -> Result<(), Fail> {
+    let text = b"CUE 1\nUP 5 3\nUP 5\nCUE 2\nCUE 1\nDOWN 4 1\nCHAN 7@HF";
+    let loaded = read(rt.alloc(), text)?;
+    let cue = loaded.show.cue(1000).expect(&rt, "cue 1");
+    let up = Rate {
+        time: 5000,
+        delay: 0,
+    };
+    let down = Rate {
+        time: 4000,
+        delay: 1000,
+    };
+    assert_eq!(rt; (cue.up(), cue.down(), cue.level(7)), (up, down, 15));
+    Ok(())
+}
