@@ -4,7 +4,10 @@ use Rattle.ascii_text.specs.Text.{is_separator}
 use Rattle.ascii_text.proofs.scan.separators.Given as goal
 
 abbrev pub invariant-loop-end : goal.invariant-loop-end
-invariant-loop-end l = (l.end ≤ length l.bytes) × (l.end + prefix_len is_separator (drop l.end l.bytes) ≡ prefix_len is_separator l.bytes)
+invariant-loop-end l = record {
+  within : l.end ≤ length l.bytes;
+  passed : l.end + prefix_len is_separator (drop l.end l.bytes) ≡ prefix_len is_separator l.bytes;
+}
 
 abbrev pub decreases-loop-end : goal.decreases-loop-end
 decreases-loop-end l = length l.bytes - l.end

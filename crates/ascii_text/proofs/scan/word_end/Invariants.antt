@@ -4,7 +4,10 @@ use Rattle.ascii_text.specs.Text.{is_word_end}
 use Rattle.ascii_text.proofs.scan.word_end.Given as goal
 
 abbrev pub invariant-loop-end : goal.invariant-loop-end
-invariant-loop-end l = (l.end ≤ length l.bytes) × (l.end + position_or_len is_word_end (drop l.end l.bytes) ≡ position_or_len is_word_end l.bytes)
+invariant-loop-end l = record {
+  within : l.end ≤ length l.bytes;
+  passed : l.end + position_or_len is_word_end (drop l.end l.bytes) ≡ position_or_len is_word_end l.bytes;
+}
 
 abbrev pub decreases-loop-end : goal.decreases-loop-end
 decreases-loop-end l = length l.bytes - l.end
