@@ -17,6 +17,7 @@ const FRAMING_VECTOR: [u8; 4] = [0x00, 0x00, 0x00, 0x02];
 // Vector, address and data type, first address, increment.
 const DMP_FORM: [u8; 6] = [0x02, 0xa1, 0x00, 0x00, 0x00, 0x01];
 
+// Whether the flags or the lengths of the three PDUs are no packet's.
 fn has_bad_lengths(datagram: &[u8]) -> bool
     requires { 126 ≤ length datagram.now }
     ensures { result ≡ lengths_disagree datagram.now }
@@ -31,6 +32,7 @@ fn has_bad_lengths(datagram: &[u8]) -> bool
         || length_at(datagram, 115) + 99 != root
 }
 
+// Whether the property value count is out of range, or not that of the DMP length.
 fn has_bad_count(datagram: &[u8]) -> bool
     requires { 126 ≤ length datagram.now }
     ensures { result ≡ count_disagrees datagram.now }
@@ -39,6 +41,7 @@ fn has_bad_count(datagram: &[u8]) -> bool
     count == 0 || count > 513 || count + 10 != length_at(datagram, 115)
 }
 
+// The first fault that applies.
 fn fault_in(datagram: &[u8]) -> Option<Unreadable>
     ensures { result ≡ fault_of datagram.now }
 {
