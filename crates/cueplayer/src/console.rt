@@ -1,0 +1,28 @@
+ghost use Rattle.std.specs.Prelude.{[]};
+
+use devices::{LinkFault, Output};
+use std::io::Write;
+
+/// An output of the system: a file, a pipe or a terminal. It does not tell what it took.
+#[derive(Drop)]
+pub struct Console<W> {
+    inner: W,
+}
+
+impl<W: Write> Console<W> {
+    pub fn new(inner: W) -> Self {
+        Console { inner }
+    }
+}
+
+impl<W: Write> Output for Console<W> {
+    ghost tells = { λ _. ⊥ };
+
+    ghost written = { λ _. [] };
+
+    ghost failures = { λ _. 0 };
+
+    fn write(&mut self, bytes: &[u8]) -> Result<(), LinkFault> {
+        self.inner.write_all(bytes).map_err(|_| LinkFault)
+    }
+}

@@ -1,0 +1,75 @@
+//! The program: it reads its words, runs what they ask for, and reports how that ended.
+#![tactic(auto)]
+
+mod console;
+mod reading;
+
+use clap::Error;
+use console::Console;
+use cueplayer_runs::{RunFault, check, exit_status, look};
+use cueplayer_words::{Job, WordsFault, read_words};
+use devices::Output;
+use reading::show_text;
+use std::env;
+use std::io::ErrorKind;
+use std::process::ExitCode;
+
+// The exit status of words that are refused.
+const REFUSED: u8 = 2;
+
+fn run(rt: &HostRuntime, job: Job) -> Result<(), RunFault> {
+    let mut out = Console::new(rt.stdout());
+    match job {
+        Job::Check { show } => {
+            let text = show_text(rt, show.as_str())?;
+            check(rt.alloc(), text.as_slice(), &mut out)
+        }
+        Job::Look { show, cue, cid } => {
+            let text = show_text(rt, show.as_str())?;
+            look(rt.alloc(), text.as_slice(), cue, cid, &mut out)
+        }
+    }
+}
+
+// Tells on standard error how the run ended.
+fn report(rt: &HostRuntime, answer: &Result<(), RunFault>) -> u8 {
+    exit_status(answer, &mut Console::new(rt.stderr()))
+}
+
+fn unfit(rt: &HostRuntime) -> u8 {
+    let _ = Console::new(rt.stderr()).write(b"words refused\n");
+    REFUSED
+}
+
+// Shows the text of an error: help on standard output, any other on standard error.
+fn explain(rt: &HostRuntime, error: &Error) -> u8 {
+    let printed = error.print(rt);
+    if error.use_stderr() {
+        REFUSED
+    } else {
+        report(rt, &printed.map_err(|_| RunFault::Device))
+    }
+}
+
+fn status(rt: &HostRuntime) -> u8 {
+    let words = match env::args(rt) {
+        Ok(words) => words,
+        Err(error) if error.kind() == ErrorKind::OutOfMemory => {
+            return report(rt, &Err(RunFault::Memory));
+        }
+        Err(_) => return unfit(rt),
+    };
+    let Ok(words) = words.collect::<Vec<String>>(rt.alloc()) else {
+        return report(rt, &Err(RunFault::Memory));
+    };
+    match read_words(rt.alloc(), words.as_slice()) {
+        Ok(job) => report(rt, &run(rt, job)),
+        Err(WordsFault::Refused(error)) => explain(rt, &error),
+        Err(WordsFault::Unfit) => unfit(rt),
+        Err(WordsFault::Memory) => report(rt, &Err(RunFault::Memory)),
+    }
+}
+
+fn main(rt: HostRuntime) -> ExitCode {
+    ExitCode::from(status(&rt))
+}

@@ -1,0 +1,10 @@
+use Rattle.std.proofs.Common.{◌∙◌, ◌<◌}
+use Rattle.std.proofs.lemmas.List.Elements.{All-same}
+use Rattle.show_core.specs.declared.limits.TheConstants.{UNIVERSES}
+use Rattle.show_core.specs.Readers.{universes_of}
+use Rattle.cueplayer_runs.proofs.Packets.{universes_in_range}
+use Rattle.cueplayer_runs.proofs.texts.look_text.Goals as goal
+
+pub look_lines-requires-clause-range : goal.look_lines-requires-clause-range
+look_lines-requires-clause-range c =
+    All-same (λ k. k < UNIVERSES) c.as_slice.result.now (universes_of c.args.show.now.patch) (c.as_slice.ensures.value ∙ c.universes.ensures) (universes_in_range c.args.show.now.patch)

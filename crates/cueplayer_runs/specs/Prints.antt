@@ -1,0 +1,31 @@
+-- What a run leaves on its output.
+use Rattle.std.specs.Prelude.{◌≡◌, ℕ, List, Result, Ok, Err, IsSomeAnd}
+use Rattle.std.specs.FinMap as maps
+use Rattle.devices.specs.Tells.{Took, Failed}
+use Rattle.show_core.specs.Tables.{Tables}
+use Rattle.show_line.specs.Said.{desk}
+use Rattle.show_reader.specs.Text.{statements_of}
+use Rattle.show_reader.specs.Shows.{IsShowOf}
+use Rattle.show_reader.specs.Reading.{lines_read, lines_skipped}
+use Rattle.cueplayer_runs.specs.declared.fault.RunFault.{RunFault}
+use Rattle.cueplayer_runs.specs.declared.fault.RunFault.TheVariants as run
+use Rattle.cueplayer_runs.specs.Texts.{check_text, IsLookText}
+
+-- there is a show that the text means, and this holds of each that it means
+abbrev pub OfItsShow : List ℕ → (Tables → Type 0) → Type 0
+OfItsShow show P = ((s : Tables) × IsShowOf (statements_of desk show) s)
+    × ((s : Tables) → IsShowOf (statements_of desk show) s → P s)
+
+-- what `check` prints of a show text
+abbrev pub IsCheckOf : List ℕ → List ℕ → Type 0
+IsCheckOf show text = OfItsShow show (λ s. text ≡ check_text (lines_read desk show) (lines_skipped desk show) s)
+
+-- what `look` prints of a cue of a show text, with this CID; the cue is there
+abbrev pub IsLookOf : List ℕ → ℕ → List ℕ → List ℕ → Type 0
+IsLookOf show cue cid text = OfItsShow show (λ s. IsSomeAnd (maps.get s.cues cue) (λ look. IsLookText look.levels s.patch cid text))
+
+-- at Ok the output took such a text and nothing else, at Device one write failed, and at any other fault nothing was written
+abbrev pub Prints : {X : Type 0} → Result X RunFault → (List ℕ → Type 0) → List ℕ → List ℕ → ℕ → ℕ → Type 0
+Prints (Ok x) IsText before after failed fails = (text : List ℕ) × IsText text × Took text before after failed fails
+Prints (Err run.Device) IsText before after failed fails = Failed before after failed fails
+Prints (Err fault) IsText before after failed fails = (after ≡ before) × (fails ≡ failed)

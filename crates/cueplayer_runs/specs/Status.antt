@@ -1,0 +1,53 @@
+-- The exit status of a run, and what is reported of its end.
+use Rattle.std.specs.Prelude.{◌≡◌, ◌⊎◌, ℕ, List, [], ◌∷◌, ◌++◌, Result, Ok, Err, codes, decimal}
+use Rattle.devices.specs.Tells.{Took, Failed}
+use Rattle.show_reader.specs.declared.fault.ShowFault.{ShowFault}
+use Rattle.show_reader.specs.declared.fault.ShowFault.TheVariants as show_fault
+use Rattle.cueplayer_runs.specs.declared.fault.RunFault.{RunFault}
+use Rattle.cueplayer_runs.specs.declared.fault.RunFault.TheVariants as run
+
+-- a fault's status: 3 where the show is refused, 5 where a device failed, 6 at want of memory
+abbrev pub fault_status : RunFault → ℕ
+fault_status (run.Show show_fault.Memory) = 6
+fault_status (run.Show fault) = 3
+fault_status run.NoCue = 3
+fault_status run.Device = 5
+fault_status run.Memory = 6
+
+-- the status of a run, 0 where it ended well
+abbrev pub status_of : {X : Type 0} → Result X RunFault → ℕ
+status_of (Ok x) = 0
+status_of (Err fault) = fault_status fault
+
+-- the fault of this name on a line
+abbrev pub line_fault_text : ℕ → List ℕ → List ℕ
+line_fault_text line name = codes "show line " ++ decimal line ++ codes ": " ++ name
+
+-- a fault of the show, by its name
+abbrev pub show_fault_text : ShowFault → List ℕ
+show_fault_text show_fault.TooLong = codes "show: TooLong"
+show_fault_text (show_fault.Ident line) = line_fault_text line (codes "Ident")
+show_fault_text (show_fault.MissingNumber line) = line_fault_text line (codes "MissingNumber")
+show_fault_text (show_fault.BadNumber line) = line_fault_text line (codes "BadNumber")
+show_fault_text (show_fault.BadLevel line) = line_fault_text line (codes "BadLevel")
+show_fault_text (show_fault.BadTime line) = line_fault_text line (codes "BadTime")
+show_fault_text (show_fault.HalfPair line) = line_fault_text line (codes "HalfPair")
+show_fault_text (show_fault.HalfTriple line) = line_fault_text line (codes "HalfTriple")
+show_fault_text (show_fault.Limit line) = line_fault_text line (codes "Limit")
+show_fault_text show_fault.Memory = codes "memory"
+
+-- the text of a fault
+abbrev pub fault_text : RunFault → List ℕ
+fault_text (run.Show fault) = show_fault_text fault
+fault_text run.NoCue = codes "show: NoCue"
+fault_text run.Device = codes "device fault"
+fault_text run.Memory = codes "memory"
+
+-- one write of this text: the output took it all, or the write failed
+abbrev pub Wrote : List ℕ → List ℕ → List ℕ → ℕ → ℕ → Type 0
+Wrote text before after failed fails = Took text before after failed fails ⊎ Failed before after failed fails
+
+-- what is reported of a run: a line with its fault's text, or nothing where it ended well
+abbrev pub Reports : {X : Type 0} → Result X RunFault → List ℕ → List ℕ → ℕ → ℕ → Type 0
+Reports (Ok x) before after failed fails = (after ≡ before) × (fails ≡ failed)
+Reports (Err fault) before after failed fails = Wrote (fault_text fault ++ codes "\n") before after failed fails

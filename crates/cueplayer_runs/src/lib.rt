@@ -1,0 +1,14 @@
+//! The runs of the program: what each writes, and how it ends.
+#![tactic(auto)]
+
+mod fault;
+mod runs;
+mod status;
+mod texts;
+
+pub use fault::RunFault;
+pub use runs::{check, look};
+pub use status::exit_status;
+
+#[cfg(test)]
+mod tests;
