@@ -1,0 +1,4 @@
+pub mod Levels
+pub mod Found
+pub mod Look
+mod Rows

@@ -1,0 +1,57 @@
+-- Moves and levels worked out by hand.
+use Rattle.std.proofs.Common.{◌≡◌, ℕ, [], ◌∷◌, Some, None, refl}
+use Rattle.std.specs.FinMap as map
+use Rattle.std.specs.FinMap.{contains_key-keys}
+use Rattle.show_core.specs.declared.cue.CueData.{CueData}
+use Rattle.show_core.specs.Tables.{CueMap, Tables}
+use Rattle.fade_core.specs.Level.{split_fade}
+use Rattle.playback_core.specs.Played.{Move, go_target, back_target, goto_target, playback_level}
+
+-- of cues 1, 1.5 and 2, go takes each in turn and then none
+go_back_goto-go : (cues : CueMap) → map.keys cues ≡ 1000 ∷ 1500 ∷ 2000 ∷ [] → (go_target cues None ≡ Some 1000) × (go_target cues (Some 1000) ≡ Some 1500) × (go_target cues (Some 1500) ≡ Some 2000) × (go_target cues (Some 2000) ≡ None)
+go_back_goto-go cues keys = (rw keys refl, rw keys refl, rw keys refl, rw keys refl)
+
+-- back takes 1.5 after 2, and none after 1 or where none is current
+go_back_goto-back : (cues : CueMap) → map.keys cues ≡ 1000 ∷ 1500 ∷ 2000 ∷ [] → (back_target cues (Some 2000) ≡ Some 1500) × (back_target cues (Some 1000) ≡ None) × (back_target cues None ≡ None)
+go_back_goto-back cues keys = (rw keys refl, rw keys refl, refl)
+
+-- goto takes no cue between
+go_back_goto-goto : (cues : CueMap) → map.keys cues ≡ 1000 ∷ 1500 ∷ 2000 ∷ [] → goto_target cues 1750 ≡ None
+go_back_goto-goto cues keys = rw (contains_key-keys cues 1750, keys) refl
+
+-- cue 1 brings channel 1 to full over five seconds; cue 2 brings channel 2 to full over two, and channel 1 out over four
+record TwoCues (show : Tables) : Type 0 where
+  first : CueData
+  second : CueData
+  is_first : map.get show.cues 1000 ≡ Some first
+  is_second : map.get show.cues 2000 ≡ Some second
+  first_lists_1 : map.get first.levels 1 ≡ Some 255
+  first_lists_no_2 : map.get first.levels 2 ≡ None
+  second_lists_no_1 : map.get second.levels 1 ≡ None
+  second_lists_2 : map.get second.levels 2 ≡ Some 255
+  first_up : first.up ≡ Some (record { time = 5000; delay = 0 })
+  first_down : first.down ≡ None
+  second_up : second.up ≡ Some (record { time = 2000; delay = 0 })
+  second_down : second.down ≡ Some (record { time = 4000; delay = 0 })
+
+abbrev first_at : ℕ → Move
+first_at moment = record { cue = 1000; moment = moment }
+
+abbrev second_at : ℕ → Move
+second_at moment = record { cue = 2000; moment = moment }
+
+split_crossfade : (show : Tables) → TwoCues show → playback_level show (second_at 10000 ∷ first_at 0 ∷ []) 1 11000 ≡ 48769
+unfolding split_fade
+split_crossfade show is = simp (is.is_first, is.is_second, is.first_lists_1, is.second_lists_no_1, is.first_up, is.first_down, is.second_up, is.second_down) refl
+
+split_crossfade-2 : (show : Tables) → TwoCues show → playback_level show (second_at 10000 ∷ first_at 0 ∷ []) 2 11000 ≡ 32512
+unfolding split_fade
+split_crossfade-2 show is = simp (is.is_first, is.is_second, is.first_lists_no_2, is.second_lists_2, is.first_up, is.first_down, is.second_up, is.second_down) refl
+
+goto_mid_fade : (show : Tables) → TwoCues show → playback_level show (first_at 11000 ∷ second_at 10000 ∷ first_at 0 ∷ []) 1 12000 ≡ 52020
+unfolding split_fade
+goto_mid_fade show is = simp (is.is_first, is.is_second, is.first_lists_1, is.second_lists_no_1, is.first_up, is.first_down, is.second_up, is.second_down) refl
+
+goto_mid_fade-2 : (show : Tables) → TwoCues show → playback_level show (first_at 11000 ∷ second_at 10000 ∷ first_at 0 ∷ []) 2 12000 ≡ 26010
+unfolding split_fade
+goto_mid_fade-2 show is = simp (is.is_first, is.is_second, is.first_lists_no_2, is.second_lists_2, is.first_up, is.first_down, is.second_up, is.second_down) refl

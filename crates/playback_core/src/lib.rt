@@ -1,0 +1,9 @@
+//! The playback of a cue list: go, back and goto, over any fader.
+#![tactic(auto)]
+
+mod playback;
+
+pub use playback::{NoMove, Playback};
+
+#[cfg(test)]
+mod tests;

@@ -1,0 +1,161 @@
+ghost use Rattle.std.specs.Prelude.{◌≡◌, ◌^◌, ◌<◌, ◌≤◌};
+
+use crate::{NoMove, Playback};
+use fade_core::{Fader, PlainFader};
+use show_core::{BuildFault, Rate, Show};
+use std::alloc::{AllocError, Global};
+use std::process::Abort;
+use std::test::Fail;
+
+// Adds a cue with one channel at full.
+fn add_cue(rt: &impl Abort, show: &mut Show, n: u32, channel: u16) -> Result<(), BuildFault> {
+    show.open_cue(n)?;
+    assert!(rt; show.cue(n).is_some());
+    show.cue_level(n, channel, 255)
+}
+
+// Cue 1 brings channel 1 to full over five seconds; cue 2 brings channel 2 to full over two, and channel 1 out over four.
+fn two_cues(rt: &impl Abort, alloc: Global) -> Result<Show, BuildFault> {
+    let mut show = Show::new(alloc);
+    add_cue(rt, &mut show, 1000, 1)?;
+    add_cue(rt, &mut show, 2000, 2)?;
+    for (n, time) in [(1000, 5000u16), (2000, 2000)] {
+        let rate = Rate {
+            time: u32::from(time),
+            delay: 0,
+        };
+        assert!(rt; show.cue(n).is_some());
+        show.set_up(n, rate);
+    }
+    assert!(rt; show.cue(2000).is_some());
+    show.set_down(
+        2000,
+        Rate {
+            time: 4000,
+            delay: 0,
+        },
+    );
+    Ok(show)
+}
+
+// How often time moves on.
+#[derive(Clone, Copy)]
+enum Pace {
+    AtOnce,
+    EveryMillisecond,
+}
+
+fn pass<F: Fader>(playback: &mut Playback<F>, from: u32, to: u32, pace: Pace)
+    requires not_before { F.latest playback.old.fader ≤ from }
+    requires later { from ≤ to }
+    ensures { F.latest playback.new.fader ≡ to }
+{
+    if let Pace::EveryMillisecond = pace {
+        for moment in from..to {
+            playback.advance(u64::from(moment));
+        }
+    }
+    playback.advance(u64::from(to));
+}
+
+// The level of channel 1 where the first cue goes at 0.
+fn first_cue_level<F: Fader>(
+    rt: &impl Abort,
+    alloc: Global,
+    pace: Pace,
+    moment: u32,
+) -> Result<u32, Fail> {
+    let show = two_cues(rt, alloc)?;
+    let mut playback: Playback<F> = Playback::new(alloc)?;
+    assert_eq!(rt; playback.go(&show, 0), Ok(1000));
+    pass(&mut playback, 0, moment, pace);
+    Ok(playback.level(1))
+}
+
+// The levels of both channels where the first cue goes at 0 and the second at 10000: at 11000,
+// and at 12000 after a goto to the first cue at 11000.
+fn crossfade_levels<F: Fader>(
+    rt: &impl Abort,
+    alloc: Global,
+    pace: Pace,
+) -> Result<[(u32, u32); 2], Fail> {
+    let show = two_cues(rt, alloc)?;
+    let mut playback: Playback<F> = Playback::new(alloc)?;
+    assert_eq!(rt; playback.go(&show, 0), Ok(1000));
+    pass(&mut playback, 0, 10000, pace);
+    assert_eq!(rt; playback.go(&show, 10000), Ok(2000));
+    pass(&mut playback, 10000, 11000, pace);
+    let crossed = (playback.level(1), playback.level(2));
+    assert_eq!(rt; playback.goto(&show, 1000, 11000), Ok(1000));
+    pass(&mut playback, 11000, 12000, pace);
+    Ok([crossed, (playback.level(1), playback.level(2))])
+}
+
+#[test]
+fn five_second_fade(rt: HostRuntime) -> Result<(), Fail> {
+    for (moment, level) in [
+        (0, 0),
+        (2500, 32512),
+        (2510, 32642),
+        (2525, 32837),
+        (5000, 65025),
+    ] {
+        let found = first_cue_level::<PlainFader>(&rt, rt.alloc(), Pace::AtOnce, moment)?;
+        assert_eq!(rt; found, level, "at {moment}");
+    }
+    Ok(())
+}
+
+#[test]
+fn split_crossfade(rt: HostRuntime) -> Result<(), Fail> {
+    let [crossed, _] = crossfade_levels::<PlainFader>(&rt, rt.alloc(), Pace::AtOnce)?;
+    assert_eq!(rt; crossed, (48769, 32512));
+    Ok(())
+}
+
+#[test]
+fn goto_mid_fade(rt: HostRuntime) -> Result<(), Fail> {
+    let [_, returned] = crossfade_levels::<PlainFader>(&rt, rt.alloc(), Pace::AtOnce)?;
+    assert_eq!(rt; returned, (52020, 26010));
+    Ok(())
+}
+
+#[test]
+fn every_millisecond(rt: HostRuntime) -> Result<(), Fail> {
+    for (moment, level) in [(2500, 32512), (2510, 32642), (2525, 32837), (5000, 65025)] {
+        let found = first_cue_level::<PlainFader>(&rt, rt.alloc(), Pace::EveryMillisecond, moment)?;
+        assert_eq!(rt; found, level, "at {moment}");
+    }
+    let levels = crossfade_levels::<PlainFader>(&rt, rt.alloc(), Pace::EveryMillisecond)?;
+    assert_eq!(rt; levels, [(48769, 32512), (52020, 26010)]);
+    Ok(())
+}
+
+#[test]
+fn go_back_goto(rt: HostRuntime) -> Result<(), Fail> {
+    let mut show = Show::new(rt.alloc());
+    for n in [1000, 1500, 2000] {
+        show.open_cue(n)?;
+    }
+    let mut playback: Playback<PlainFader> = Playback::new(rt.alloc())?;
+    assert_eq!(rt; playback.current(), None);
+    assert_eq!(rt; playback.back(&show, 0), Err(NoMove::AtStart));
+    for answer in [Ok(1000), Ok(1500), Ok(2000), Err(NoMove::AtEnd)] {
+        assert_eq!(rt; playback.go(&show, 0), answer);
+    }
+    assert_eq!(rt; playback.back(&show, 0), Ok(1500));
+    assert_eq!(rt; playback.goto(&show, 1750, 0), Err(NoMove::NoCue));
+    assert_eq!(rt; playback.current(), Some(1500));
+    Ok(())
+}
+
+// `rt try --test --fail-alloc N` refuses the Nth growth: N from 1 to 2 refuses each growth of `new` in turn,
+// and this test passes each time. The other tests then answer their error.
+#[test]
+fn each_growth_refused(rt: HostRuntime) {
+    let playback: Playback<PlainFader> = match Playback::new(rt.alloc()) {
+        Ok(playback) => playback,
+        Err(AllocError) => Playback::new(rt.alloc()).expect(&rt, "memory"),
+    };
+    assert_eq!(rt; playback.level(4096), 0);
+}
