@@ -1,5 +1,5 @@
 -- What one more statement at the end changes.
-use Rattle.std.proofs.Common.{◌≡◌, ℕ, suc, ◌+◌, ◌-◌, Bool, true, false, cond, not, List, [], ◌∷◌, ◌++◌}
+use Rattle.std.proofs.Common.{◌≡◌, ℕ, ◌+◌, ◌-◌, Bool, true, false, cond, not, List, [], ◌∷◌, ◌++◌}
 use Rattle.std.proofs.Common.{length, drop, refl, sym, ap, ◌∙◌, arith, Option, Some, None}
 use Rattle.std.specs.Prelude.{flat_map}
 use Rattle.std.specs.List.{after_last, last_or, prefix_len, suffix_len}
@@ -13,12 +13,10 @@ use Rattle.std.specs.List.{list_any}
 use Rattle.std.proofs.Common.{◌||◌}
 use Rattle.std.proofs.lemmas.List.Elements.{filter-append, filter_map-append}
 use Rattle.std.proofs.lemmas.List.Folds.{list_any-append}
-use Rattle.show_core.specs.declared.rate.Rate.{Rate}
 use Rattle.show_line.specs.declared.statement.Record.{Record}
 use Rattle.show_line.specs.declared.statement.Table.{Table}
 use Rattle.show_line.specs.declared.statement.Table.TheVariants.{Cues, Patch}
 use Rattle.show_line.specs.declared.statement.Statement.{Statement}
-use Rattle.show_line.specs.declared.triples.Triple.{Triple}
 use Rattle.show_reader.specs.Meaning.{last, empties, counting, gathered, table_of, same_record, opened_by}
 use Rattle.show_reader.specs.Meaning.{is_there, pairs_for, level_for, level_at, rises_for, falls_for, up_of}
 use Rattle.show_reader.specs.Meaning.{down_of, triples_of, triple_at}

@@ -6,7 +6,7 @@ use Rattle.std.specs.Cmp.{nat_cmp_total}
 use Rattle.std.specs.FinMap.{nat_cmp-IsAntisymmetric}
 use Rattle.std.specs.FinSet as set
 use Rattle.std.specs.Prelude.{nat_eq}
-use Rattle.std.proofs.Common.{Bool, true, false, ◌||◌, refl, is_some, Option, Some, None, inl, inr, eqb}
+use Rattle.std.proofs.Common.{Bool, true, false, ◌||◌, refl, is_some, Option, Some, None, inl, inr}
 use Rattle.std.specs.Prelude.{flat_map, ◌==◌}
 use Rattle.std.specs.Option.{option_map_or}
 use Rattle.std.specs.FinMap as map

@@ -3,14 +3,12 @@ use Rattle.std.proofs.Common.{◌≡◌, ℕ, ◌+◌, ◌≤◌, Bool, true, fa
 use Rattle.std.proofs.Common.{sym, ap, subst, ◌∙◌, Option, Some, None}
 use Rattle.std.specs.Prelude.{nat_lt, filter, option_map, option_and_then}
 use Rattle.std.specs.List.{last_or}
-use Rattle.std.specs.Option.{option_or, option_map_or}
 use Rattle.std.proofs.lemmas.Option.{none-some}
 use Rattle.show_line.specs.declared.fault.LineFault.{LineFault}
 use Rattle.show_line.specs.declared.keyword.Keyword.{Keyword}
 use Rattle.show_line.specs.declared.keyword.Keyword.TheVariants.{Clear, Ident, Cue, Group, Sub, Patch}
 use Rattle.show_line.specs.declared.keyword.Keyword.TheVariants.{EndData, Setting, Chan, Up, Down, Remark}
 use Rattle.show_line.specs.declared.keyword.Keyword.TheVariants.{Maker, Unknown}
-use Rattle.show_line.specs.declared.statement.Record.{Record}
 use Rattle.show_line.specs.declared.statement.Statement.{Statement}
 use Rattle.show_line.specs.declared.statement.Statement.TheVariants.{Opens, Levels, Rises, Falls, Patches}
 use Rattle.show_line.specs.declared.statement.Statement.TheVariants.{Clears, Quiet, Skipped, Faulty}
@@ -20,13 +18,11 @@ use Rattle.show_line.specs.Pairs.{Limits, triple_fault, triples_in}
 use Rattle.show_line.specs.Said.{unless_faulty, is_page_1, patch_said, said, opened}
 use Rattle.show_line.specs.Sound.{IsFaultless}
 use Rattle.show_line.proofs.Wider.{said_wider}
-use Rattle.show_reader.specs.declared.fault.ShowFault.{ShowFault}
 use Rattle.show_reader.specs.declared.fault.ShowFault.TheVariants as show_fault
-use Rattle.show_reader.specs.declared.fault.TheConstants.{LONGEST_TEXT}
 use Rattle.show_reader.specs.Text.{Words, owns, record_opened, owner_below, statement_below, statements_below}
 use Rattle.show_reader.specs.Text.{statements_of, lines_in}
 use Rattle.show_reader.specs.Shows.{IsShowOf}
-use Rattle.show_reader.specs.Reading.{fault_at, fault_below, first_fault, fault_of, ReadsAlike}
+use Rattle.show_reader.specs.Reading.{fault_at, fault_below, first_fault, fault_of, ReadsAlike, longest_text}
 use Rattle.show_reader.proofs.Lines.{both_none}
 
 -- ---- owners do not depend on the limits
@@ -128,9 +124,9 @@ module _ (narrow wide : Limits) (more_channels : narrow.channels ≤ wide.channe
 
   -- a text
   pub reads_alike : (text : List ℕ) → fault_of narrow text ≡ None → ReadsAlike narrow wide text
-  reads_alike text none = of_size (nat_lt LONGEST_TEXT (length text)) refl
+  reads_alike text none = of_size (nat_lt longest_text (length text)) refl
     where
-      of_size : (b : Bool) → nat_lt LONGEST_TEXT (length text) ≡ b → ReadsAlike narrow wide text
+      of_size : (b : Bool) → nat_lt longest_text (length text) ≡ b → ReadsAlike narrow wide text
       of_size true e =
           absurd
           (none-some show_fault.TooLong

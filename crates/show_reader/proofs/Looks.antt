@@ -10,7 +10,7 @@ use Rattle.std.proofs.lemmas.Bool.{cases_eq, ne_eqb, eq-eqb, eqb-true}
 use mathlib.Core.Bool.{false≢true}
 use Rattle.show_core.specs.declared.cue.CueData.{CueData}
 use Rattle.show_core.specs.declared.rate.Rate.{Rate}
-use Rattle.show_core.specs.Tables.{LevelMap, CueMap, MasterMap, PatchMap, Tables}
+use Rattle.show_core.specs.Tables.{LevelMap, CueMap, PatchMap, Tables}
 use Rattle.show_core.specs.Builders.{blank, patched_with, with_up, with_down}
 use Rattle.show_line.specs.declared.statement.Record.{Record}
 use Rattle.show_line.specs.declared.statement.Record.TheVariants.{Cue, Group, Sub}

@@ -1,8 +1,7 @@
 -- What a reader has made of the lines so far, with one line more.
-use Rattle.std.proofs.Common.{◌≡◌, ℕ, ◌+◌, ◌<◌, ◌≤◌, Bool, true, false, cond, not, eqb, ◌||◌, ◌&&◌, List, []}
-use Rattle.std.proofs.Common.{◌∷◌, ◌++◌, length, refl, sym, ap, subst, ◌∙◌, arith, Option, Some, None}
-use Rattle.std.proofs.Common.{is_some}
-use Rattle.std.specs.Prelude.{IfSome, IsTrue, nat_le, nat_lt, option_map, count_by, codes}
+use Rattle.std.proofs.Common.{◌≡◌, ℕ, ◌+◌, Bool, true, false, cond, not, ◌||◌, ◌&&◌, List, []}
+use Rattle.std.proofs.Common.{◌∷◌, ◌++◌, refl, sym, ap, subst, ◌∙◌, arith, Option, Some, None}
+use Rattle.std.specs.Prelude.{IfSome, nat_le, nat_lt, count_by, codes}
 use Rattle.ascii_text.specs.Forms.{same_word}
 use Rattle.std.specs.Option.{option_map_or}
 use Rattle.std.specs.FinMap as map
@@ -14,7 +13,6 @@ use Rattle.show_core.specs.declared.limits.TheConstants.{CUES, SUBMASTERS, GROUP
 use Rattle.show_core.specs.declared.rate.Rate.{Rate}
 use Rattle.show_core.specs.Numbers.{is_cue_number}
 use Rattle.show_core.specs.Tables.{Tables}
-use Rattle.show_core.specs.Builders.{can_open}
 use Rattle.show_line.specs.declared.fault.LineFault.{LineFault}
 use Rattle.show_line.specs.declared.fault.LineFault.TheVariants as fault
 use Rattle.show_line.specs.declared.keyword.Keyword.{Keyword}
@@ -27,16 +25,16 @@ use Rattle.show_line.specs.declared.statement.Statement.{Statement}
 use Rattle.show_line.specs.declared.statement.Statement.TheVariants.{Opens, Levels, Rises, Falls, Patches}
 use Rattle.show_line.specs.declared.statement.Statement.TheVariants.{Clears, Quiet, Skipped, Faulty}
 use Rattle.show_line.specs.Keywords.{keyword_of, may_own, named}
-use Rattle.show_line.specs.Faults.{lower, cue_fault, number_fault, page_fault, time_fault, delay_fault}
-use Rattle.show_line.specs.Pairs.{Limits, pair_fault, pairs_in, triple_fault, triples_in}
+use Rattle.show_line.specs.Faults.{lower, cue_fault, number_fault, page_fault}
+use Rattle.show_line.specs.Pairs.{pair_fault, pairs_in, triple_fault, triples_in}
 use Rattle.show_line.specs.Said.{desk, said, opened, unless_faulty, record_said, patch_said, rate_fault}
-use Rattle.show_line.specs.Said.{rate_said, ident_said, clear_said, cue_said, owned_said, is_page_1}
+use Rattle.show_line.specs.Said.{rate_said, ident_said, clear_said, is_page_1}
 use Rattle.show_line.specs.Said.{cue_named, group_named, sub_named, rate_in, cleared_names}
 use Rattle.show_line.specs.Sound.{IsSound}
-use Rattle.show_reader.specs.Text.{Words, owns, record_opened, owner_below, statement_below, statements_below}
+use Rattle.show_reader.specs.Text.{Words, owns, record_opened, owner_below, statement_below}
 use Rattle.std.specs.List.{list_any}
 use Rattle.show_reader.specs.Meaning.{opened_by, is_there, same_record, empties, cue_count, is_skipped}
-use Rattle.show_reader.specs.Shows.{levels_of, IsShowOf}
+use Rattle.show_reader.specs.Shows.{IsShowOf}
 use Rattle.show_reader.specs.Reading.{fault_below, first_fault}
 use Rattle.show_reader.specs.declared.read.Reader.{Reader}
 use Rattle.show_reader.specs.Applied.{applied, refused_by, HasOwner}

@@ -1,6 +1,5 @@
 -- What whole texts mean, evaluated.
 use Rattle.std.specs.Prelude.{◌≡◌, ℕ, true, false, List, [], ◌∷◌, ◌++◌, codes, flat_map, Option, Some, None, refl}
-use Rattle.show_core.specs.declared.rate.Rate.{Rate}
 use Rattle.show_line.specs.declared.statement.Record.TheVariants.{Cue, Group}
 use Rattle.show_line.specs.declared.statement.Statement.{Statement}
 use Rattle.show_line.specs.Said.{desk}

@@ -9,7 +9,6 @@ use Rattle.std.specs.Ordering.{nat_cmp}
 use Rattle.show_core.specs.declared.cue.CueData.{CueData}
 use Rattle.show_core.specs.declared.rate.Rate.{Rate}
 use Rattle.show_core.specs.Tables.{Tables}
-use Rattle.show_line.specs.declared.fault.LineFault.{LineFault}
 use Rattle.show_line.specs.declared.statement.Record.{Record}
 use Rattle.show_line.specs.declared.statement.Record.TheVariants.{Cue, Group, Sub}
 use Rattle.show_line.specs.declared.statement.Table.{Table}
@@ -20,11 +19,11 @@ use Rattle.show_line.specs.declared.statement.Statement.{Statement}
 use Rattle.show_line.specs.declared.statement.Statement.TheVariants.{Opens, Levels, Rises, Falls, Patches}
 use Rattle.show_line.specs.declared.statement.Statement.TheVariants.{Clears, Quiet, Skipped, Faulty}
 use Rattle.show_line.specs.declared.triples.Triple.{Triple}
-use Rattle.show_reader.specs.Meaning.{last, same_record, table_of, same_table, empties, opened_by, is_there}
+use Rattle.show_reader.specs.Meaning.{last, same_record, table_of, empties, opened_by, is_there}
 use Rattle.show_reader.specs.Meaning.{pairs_for, level_for, level_at, rises_for, falls_for, up_of, down_of}
 use Rattle.show_reader.specs.Meaning.{triples_of, triple_at, patched_by}
 use Rattle.show_reader.specs.Shows.{levels_of, level_in, up_in, down_in, IsShowOf}
-use Rattle.show_reader.specs.Applied.{with_record, with_pairs, with_triples, without, applied}
+use Rattle.show_reader.specs.Applied.{with_record, with_pairs, without, applied}
 use Rattle.show_reader.proofs.Append.{is_there_push, level_at_push, up_of_push, down_of_push, triple_at_push}
 use Rattle.show_reader.proofs.Looks.{or_false, opened_there, opened_level, up_in-with_record, down_in-with_record}
 use Rattle.show_reader.proofs.Looks.{patch-with_record, pairs_there, pairs_level, pairs_up, pairs_down}

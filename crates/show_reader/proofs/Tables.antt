@@ -1,17 +1,12 @@
 -- What each builder changes in the look-ups of a show.
-use Rattle.std.proofs.Common.{◌≡◌, ℕ, Bool, true, false, cond, eqb, ◌||◌, ◌&&◌, List, [], ◌∷◌, refl, sym, ap}
-use Rattle.std.proofs.Common.{◌∙◌, rules, Option, Some, None, is_some, inl, inr}
+use Rattle.std.proofs.Common.{◌≡◌, ℕ, cond, eqb, refl}
+use Rattle.std.proofs.Common.{rules, Option, Some, None, is_some, inl, inr}
 use Rattle.std.specs.Prelude.{unwrap_or}
-use Rattle.std.specs.Prelude.{◌==◌, option_map, option_and_then, filter, filter_map}
-use Rattle.std.specs.Option.{option_or, option_map_or}
+use Rattle.std.specs.Prelude.{option_map}
+use Rattle.std.specs.Option.{option_map_or}
 use Rattle.std.specs.Ordering.{nat_cmp}
 use Rattle.std.specs.FinMap as map
 use Rattle.std.proofs.lemmas.Bool.{cases_eq, ne_eqb, eq-eqb}
-use Rattle.show_core.specs.declared.cue.CueData.{CueData}
-use Rattle.show_core.specs.declared.rate.Rate.{Rate}
-use Rattle.show_core.specs.Tables.{LevelMap, CueMap, MasterMap, PatchMap, Tables}
-use Rattle.show_core.specs.Builders.{blank, opened, changed, with_level, with_up, with_down, opened_in}
-use Rattle.show_core.specs.Builders.{with_listed, patched_with}
 
 -- the value that was put at a key
 pub get_here : {X : Type 0} (m : map.FinMap nat_cmp X) (k : ℕ) (v : X) → map.get (map.insert m k v) k ≡ Some v

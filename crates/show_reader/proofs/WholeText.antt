@@ -1,5 +1,5 @@
 -- The lines of a whole text, and what a reader makes of them one after the other.
-use Rattle.std.proofs.Common.{◌≡◌, ℕ, suc, ◌+◌, ◌<◌, ◌≤◌, ◌⊎◌, Bool, true, false, cond, List, [], ◌∷◌, ◌++◌}
+use Rattle.std.proofs.Common.{◌≡◌, ℕ, suc, ◌+◌, ◌≤◌, Bool, true, false, cond, List, [], ◌∷◌, ◌++◌}
 use Rattle.std.proofs.Common.{length, map, refl, sym, ap, subst, ◌∙◌, append_assoc, arith, Option, Some, None}
 use Rattle.std.proofs.Common.{inl, inr}
 use Rattle.std.specs.Prelude.{All, nat_lt, count_by, is_some, option_map, option_and_then}
@@ -12,7 +12,7 @@ use Rattle.std.proofs.lemmas.List.Sums.{count_by-le-length}
 use Rattle.std.proofs.lemmas.Option.{none-some}
 use Rattle.ascii_text.specs.Text.{words_of, lines_of, numbered_from}
 use Rattle.show_core.specs.declared.cue.CueData.{CueData}
-use Rattle.show_core.specs.Tables.{LevelMap, Tables}
+use Rattle.show_core.specs.Tables.{Tables}
 use Rattle.show_line.specs.declared.line.Reading.{Reading}
 use Rattle.show_line.specs.declared.statement.Record.{Record}
 use Rattle.show_line.specs.declared.statement.Record.TheVariants.{Cue, Group, Sub}
@@ -24,13 +24,13 @@ use Rattle.show_reader.specs.declared.apply.Refusal.{Refusal}
 use Rattle.show_reader.specs.declared.apply.Refusal.TheVariants as refusal
 use Rattle.show_reader.specs.declared.fault.ShowFault.{ShowFault}
 use Rattle.show_reader.specs.declared.fault.ShowFault.TheVariants as show_fault
-use Rattle.show_reader.specs.declared.fault.TheConstants.{LONGEST_TEXT}
 use Rattle.show_reader.specs.declared.read.Reader.{Reader}
 use Rattle.show_reader.specs.Text.{Words, owns, ends, up_to_end, lines_in, statement_below, statements_below}
 use Rattle.show_reader.specs.Text.{statements_of}
 use Rattle.show_reader.specs.Meaning.{is_skipped}
 use Rattle.show_reader.specs.Shows.{levels_of, level_in, up_in, down_in, IsShowOf}
 use Rattle.show_reader.specs.Reading.{fault_at, fault_below, first_fault, fault_of, lines_read, lines_skipped}
+use Rattle.show_reader.specs.Reading.{longest_text}
 use Rattle.show_reader.specs.Applied.{refused_by, Explains}
 use Rattle.show_reader.specs.Reads.{said_by, Reads, line_fault, EndsAt, refusal_at}
 use Rattle.show_reader.proofs.Lines.{statements_below-append, length-statements_below, first_fault-append}
@@ -165,7 +165,7 @@ stop_here text lines l ls h end = h ∙ ap (λ b. lines ++ cond b (l ∷ []) (l 
 
 -- the fault of the next line is the text's
 pub fault_found : (text : List ℕ) (lines : List Words) (l : Words) (ls : List Words) (f : ShowFault)
-    → nat_lt LONGEST_TEXT (length text) ≡ false → lines_in text ≡ lines ++ up_to_end (l ∷ ls)
+    → nat_lt longest_text (length text) ≡ false → lines_in text ≡ lines ++ up_to_end (l ∷ ls)
     → first_fault [] (said_by lines) ≡ None → line_fault lines l ≡ Some f → fault_of desk text ≡ Some f
 fault_found text lines l ls f short h none fault =
     ap
@@ -207,7 +207,7 @@ pub record IsRead (text : List ℕ) (r : Reader) : Type 0 where
   pub skipped : r.skipped ≡ lines_skipped desk text
 
 -- a reader behind all lines answers for the text
-pub all_read : (text : List ℕ) (lines : List Words) (r : Reader) → nat_lt LONGEST_TEXT (length text) ≡ false
+pub all_read : (text : List ℕ) (lines : List Words) (r : Reader) → nat_lt longest_text (length text) ≡ false
     → lines_in text ≡ lines → Reads lines r → IsRead text r
 all_read text lines r short all h = record {
   faultless =

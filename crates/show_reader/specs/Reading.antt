@@ -12,7 +12,6 @@ use Rattle.show_line.specs.declared.statement.Statement.TheVariants.{Opens, Faul
 use Rattle.show_line.specs.Pairs.{Limits}
 use Rattle.show_reader.specs.declared.fault.ShowFault.{ShowFault}
 use Rattle.show_reader.specs.declared.fault.ShowFault.TheVariants as show_fault
-use Rattle.show_reader.specs.declared.fault.TheConstants.{LONGEST_TEXT}
 use Rattle.show_reader.specs.Text.{statements_of}
 use Rattle.show_reader.specs.Meaning.{is_there, cue_count, is_skipped}
 use Rattle.show_reader.specs.Shows.{IsShowOf}
@@ -41,10 +40,14 @@ first_fault above [] = None
 first_fault above (s ∷ ss) =
     option_or (option_map (fault_at (length above + 1)) (fault_below above s)) (first_fault (above ++ s ∷ []) ss)
 
+-- the most bytes that a show text has
+abbrev pub longest_text : ℕ
+longest_text = 1048576
+
 -- the fault of a show text: it is too long, or its first faulty line decides
 abbrev pub fault_of : Limits → List ℕ → Option ShowFault
 fault_of lim text =
-    if nat_lt LONGEST_TEXT (length text) then Some show_fault.TooLong else first_fault [] (statements_of lim text)
+    if nat_lt longest_text (length text) then Some show_fault.TooLong else first_fault [] (statements_of lim text)
 
 -- how many lines were read, that of ENDDATA included
 abbrev pub lines_read : Limits → List ℕ → ℕ

@@ -1,8 +1,7 @@
 -- What a reader has made of the lines so far.
-use Rattle.std.specs.Prelude.{◌≡◌, ◌⊎◌, ℕ, ◌+◌, true, List, [], ◌∷◌, ◌++◌, length, count_by, Option, Some}
+use Rattle.std.specs.Prelude.{◌≡◌, ◌⊎◌, ℕ, ◌+◌, true, List, [], length, count_by, Option, Some}
 use Rattle.std.specs.Prelude.{None, IfSome, option_map}
 use Rattle.std.specs.FinMap as maps
-use Rattle.show_line.specs.declared.statement.Record.{Record}
 use Rattle.show_line.specs.declared.statement.Statement.{Statement}
 use Rattle.show_line.specs.Said.{desk}
 use Rattle.show_reader.specs.declared.read.Reader.{Reader}

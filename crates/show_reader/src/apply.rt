@@ -71,7 +71,8 @@ fn open(show: &mut Show, which: Record) -> Result<(), Refusal>
     opened.map_err(refusal_of)
 }
 
-// Sets the levels of the pairs of a CHAN line.
+// Sets the levels of the pairs of a CHAN line. Their channels are in range, so that only want of memory
+// is left to refuse one.
 fn list(show: &mut Show, which: Record, pairs: Pairs<'_>) -> Result<(), Refusal>
     requires owned { IsTrue (is_some (levels_of show.old which)) }
     requires sound { All (λ pair. IsTrue (is_channel pair.0)) pairs }
@@ -98,7 +99,7 @@ fn set_level(show: &mut Show, which: Record, channel: u16, byte: u8) -> Result<(
     }
 }
 
-// Patches the dimmers of the triples of a PATCH line.
+// Patches the dimmers of the triples of a PATCH line, which are in range too.
 fn patch(show: &mut Show, triples: Triples<'_>) -> Result<(), Refusal>
     requires { All (λ triple. IsTrue (can_patch triple.dimmer triple.channel)) triples }
     ensures ok { OnOk result (show.new ≡ record show.old { patch = with_triples show.old.patch triples.entry }) }

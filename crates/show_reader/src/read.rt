@@ -118,7 +118,7 @@ pub fn read_show(alloc: Global, text: &[u8]) -> Result<Loaded, ShowFault>
     ensures lines { IfOk result (λ loaded. loaded.lines ≡ lines_read desk text.now) }
     ensures skipped { IfOk result (λ loaded. loaded.skipped ≡ lines_skipped desk text.now) }
     ensures fault { IfErr result (λ fault. (fault ≡ show_fault.Memory) ⊎ (fault_of desk text.now ≡ Some fault)) }
-    ensures too_long { LONGEST_TEXT < length text.now → result ≡ Err show_fault.TooLong }
+    ensures too_long { 1048576 < length text.now → result ≡ Err show_fault.TooLong }
 {
     if text.len() > LONGEST_TEXT {
         return Err(ShowFault::TooLong);

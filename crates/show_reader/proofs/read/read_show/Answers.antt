@@ -1,11 +1,9 @@
 -- The reader stands behind the lines so far, and the text's lines are those and the ones that are left.
-use Rattle.std.proofs.Common.{◌≡◌, ℕ, ◌+◌, ◌≤◌, Bool, true, false, List, [], ◌∷◌, ◌++◌, length, map, refl}
+use Rattle.std.proofs.Common.{◌≡◌, ◌+◌, true, false, [], ◌∷◌, ◌++◌, map}
 use Rattle.std.proofs.Common.{sym, ap, subst, ◌∙◌, arith, inl, inr}
-use Rattle.std.specs.Prelude.{nat_lt}
 use Rattle.std.proofs.lemmas.Grind.{common_steps}
 use Rattle.std.proofs.lemmas.List.{append-nil}
 use Rattle.ascii_text.specs.Text.{lines_of, words_of, numbered_from}
-use Rattle.show_reader.specs.declared.fault.TheConstants.{LONGEST_TEXT}
 use Rattle.show_reader.specs.Text.{ends, up_to_end}
 use Rattle.show_reader.proofs.WholeText.{nothing_read, numbered_lines, first_lines, go_on, stop_here}
 use Rattle.show_reader.proofs.WholeText.{fault_found, IsRead, all_read, next_numbered, not_longer, one_more}

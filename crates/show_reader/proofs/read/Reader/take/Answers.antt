@@ -1,12 +1,11 @@
 -- One line: what was read of it is what it says, and where the show refuses that, it is the line's fault.
-use Rattle.std.proofs.Common.{◌≡◌, ℕ, ◌+◌, ◌≤◌, true, false, cond, List, [], ◌∷◌, ◌++◌, refl, sym, ap, subst}
-use Rattle.std.proofs.Common.{◌∙◌, arith, Option, None, add-zero}
+use Rattle.std.proofs.Common.{◌≡◌, ◌+◌, ◌≤◌, cond, [], ◌∷◌, ◌++◌, refl, sym, ap, subst}
+use Rattle.std.proofs.Common.{◌∙◌, arith, None, add-zero}
 use Rattle.ascii_text.specs.Text.{words_of}
-use Rattle.show_line.specs.declared.statement.Record.{Record}
 use Rattle.show_line.specs.Said.{opened}
 use Rattle.show_line.specs.Sound.{IsSound}
 use Rattle.show_reader.specs.declared.read.Reader.{Reader}
-use Rattle.show_reader.specs.Text.{Words, owns}
+use Rattle.show_reader.specs.Text.{owns}
 use Rattle.show_reader.specs.Meaning.{is_skipped}
 use Rattle.show_reader.specs.Applied.{applied, refused_by, HasOwner}
 use Rattle.show_reader.specs.Reads.{Reads, EndsAt}
