@@ -1,4 +1,4 @@
-ghost use Rattle.std.specs.Prelude.{◌≡◌, ◌≤◌, ◌==◌, length};
+ghost use Rattle.std.specs.Prelude.{◌≡◌, ◌<◌, ◌≤◌, ◌==◌, length, false, slice_index_or};
 ghost use Rattle.std.specs.List.{position_or_len, prefix_len};
 ghost use Rattle.ascii_text.specs.Text.{is_separator, is_word_end};
 
@@ -35,13 +35,36 @@ pub(crate) fn separators(bytes: &[u8]) -> usize
     end
 }
 
+// Which bytes up to `@` end a word: the separators, and the `!` of a comment. A text is mostly words, and each of
+// its bytes is looked up.
+const WORD_ENDS: [bool; 65] = [
+    false, false, false, false, false, false, false, false, false, true, false, false, false,
+    true, false, false, false, false, false, false, false, false, false, false, false, false,
+    true, false, false, false, false, false, true, true, false, false, false, false, false,
+    false, false, false, false, false, true, false, false, true, false, false, false, false,
+    false, false, false, false, false, false, false, true, true, true, true, false, true,
+];
+
+fn is_word_end(byte: u8) -> bool
+    ensures { result ≡ is_word_end byte }
+{
+    byte <= b'@' && entry(&WORD_ENDS, byte)
+}
+
+fn entry(table: &[bool; 65], byte: u8) -> bool
+    requires { byte < 65 }
+    ensures { result ≡ slice_index_or table.now byte false }
+{
+    table[usize::from(byte)]
+}
+
 // Where a word at the front ends: at the first separator or `!`, or the length.
 pub(crate) fn word_end(bytes: &[u8]) -> usize
     ensures place { result ≡ position_or_len is_word_end bytes.now }
     ensures within { result ≤ length bytes.now }
 {
     let mut end = 0;
-    while end < bytes.len() && bytes[end] != b'!' && !is_separator(bytes[end]) {
+    while end < bytes.len() && !is_word_end(bytes[end]) {
         end += 1;
     }
     end

@@ -85,6 +85,14 @@ impl<'a> Words<'a> {
     {
         Words { rest: line }
     }
+
+    /// The bytes of the line that have the words that are left.
+    pub fn rest(&self) -> &'a [u8]
+        ensures { words_of result.now ≡ self.now }
+    {
+        let bytes = self.rest;
+        bytes
+    }
 }
 
 impl<'a> Iterator for Words<'a> {
