@@ -1,5 +1,5 @@
 -- A text means one show alone.
-use Rattle.std.proofs.Common.{◌≡◌, ◌∙◌, sym, ap, subst, refl, ℕ, List, Option, Some, None, true, false, true≢false, is_some, option_map, option_and_then, IfSome, IsSomeAnd}
+use Rattle.std.proofs.Common.{◌≡◌, ◌∙◌, sym, ap, subst, refl, ℕ, List, Option, Some, None, true, true≢false, is_some, option_map, option_and_then, IfSome, IsSomeAnd}
 use Rattle.std.specs.Ordering.{nat_cmp}
 use Rattle.std.specs.FinMap as maps
 use Rattle.std.proofs.lemmas.Cmp.{nat_cmp_total}

@@ -7,7 +7,8 @@ use devices::Output;
 use itoa::Buffer;
 use show_reader::ShowFault;
 
-// A report is one line; the longest has 66 bytes with 40 digits, the most that are known of.
+// A report is one line. There is room for a name of 13 bytes beside the most digits that `itoa`
+// writes of any number.
 type Report = ArrayString<66>;
 
 /// Reports how a run ended, and answers the program's exit status: 0 done, 3 show refused,

@@ -90,16 +90,26 @@ const UP_TO_START: &[u8] = b"720b02a100000001020100";
 // Whether a line is the packet of a universe, its number in hex, with these first and last slots
 // and all others at 0.
 fn is_packet_line(line: &[u8], universe: &[u8], first: &[u8], last: &[u8]) -> bool {
-    line.len() == 1277
-        && &line[..106] == UP_TO_NAME
-        && is_zeros(&line[106..216])
-        && &line[216..226] == UP_TO_OPTIONS
-        && &line[226..230] == universe
-        && &line[230..252] == UP_TO_START
-        && &line[252..254] == first
-        && is_zeros(&line[254..1274])
-        && &line[1274..1276] == last
-        && line[1276] == b'\n'
+    if line.len() != 1277 {
+        return false;
+    }
+    let (up_to_name, rest) = line.split_at(106);
+    let (padding, rest) = rest.split_at(110);
+    let (up_to_options, rest) = rest.split_at(10);
+    let (number, rest) = rest.split_at(4);
+    let (up_to_start, rest) = rest.split_at(22);
+    let (slot_1, rest) = rest.split_at(2);
+    let (others, rest) = rest.split_at(1020);
+    let (slot_512, end) = rest.split_at(2);
+    up_to_name == UP_TO_NAME
+        && is_zeros(padding)
+        && up_to_options == UP_TO_OPTIONS
+        && number == universe
+        && up_to_start == UP_TO_START
+        && slot_1 == first
+        && is_zeros(others)
+        && slot_512 == last
+        && end == b"\n".as_slice()
 }
 
 fn is_zeros(digits: &[u8]) -> bool {

@@ -25,10 +25,12 @@ fn counts_line(
 ) -> Result<String, AllocError>
     ensures { IfOk result (λ text. string_bytes text ≡ counts_line lines counts.cues counts.subs counts.groups counts.dimmers skipped) }
 {
-    let cues = counts.cues;
-    let subs = counts.subs;
-    let groups = counts.groups;
-    let dimmers = counts.dimmers;
+    let Counts {
+        cues,
+        subs,
+        groups,
+        dimmers,
+    } = counts;
     format!(in alloc;
         "lines {lines} cues {cues} subs {subs} groups {groups} dimmers {dimmers} skipped {skipped}\n"
     )
