@@ -1,7 +1,6 @@
 -- The pairs of CHAN and the triples of PATCH.
 use Rattle.std.specs.Prelude.{ℕ, List, [], ◌∷◌, Option, Some, None, unwrap_or}
 use Rattle.ascii_text.specs.Forms.{number_of, level_of}
-use Rattle.ascii_text.specs.Text.{words_of}
 use Rattle.show_core.specs.declared.limits.TheConstants.{CHANNELS, DIMMERS}
 use Rattle.show_line.specs.declared.fault.LineFault.{LineFault}
 use Rattle.show_line.specs.declared.fault.LineFault.TheVariants.{HalfPair, HalfTriple}
@@ -16,15 +15,6 @@ pub record Limits : Type 0 where
 -- the room of this desk
 abbrev pub desk : Limits
 desk = record { channels = CHANNELS; dimmers = DIMMERS }
-
--- the words behind the first
-abbrev pub behind_first : List (List ℕ) → List (List ℕ)
-behind_first [] = []
-behind_first (word ∷ words) = words
-
--- the words of a line behind its keyword
-abbrev pub operands : List ℕ → List (List ℕ)
-operands line = behind_first (words_of line)
 
 -- the lowest fault of the words of CHAN: channel, level, channel, level ..
 abbrev pub pair_fault : Limits → List (List ℕ) → Option LineFault
@@ -48,9 +38,7 @@ triple_fault lim (channel ∷ dimmer ∷ []) =
     lower (lower (number_fault 0 lim.channels channel) (number_fault 1 lim.dimmers dimmer)) (Some HalfTriple)
 triple_fault lim (channel ∷ dimmer ∷ level ∷ words) =
     lower
-    (lower
-    (lower (number_fault 0 lim.channels channel) (number_fault 1 lim.dimmers dimmer))
-    (level_fault level))
+    (lower (lower (number_fault 0 lim.channels channel) (number_fault 1 lim.dimmers dimmer)) (level_fault level))
     (triple_fault lim words)
 
 -- the triples that they spell

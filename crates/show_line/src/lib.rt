@@ -9,7 +9,6 @@ mod statement;
 #[cfg(test)]
 mod tests;
 mod triples;
-mod words;
 
 pub use fault::LineFault;
 pub use keyword::Keyword;

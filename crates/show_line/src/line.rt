@@ -4,11 +4,10 @@ ghost use Rattle.ascii_text.specs.Text.{words_of};
 ghost use Rattle.show_line.specs.declared.statement.Record.{Record};
 ghost use Rattle.show_line.specs.Faults.{number_fault, cue_fault};
 ghost use Rattle.show_line.specs.Keywords.{named};
-ghost use Rattle.show_line.specs.Pairs.{desk, operands};
+ghost use Rattle.show_line.specs.Pairs.{desk};
 ghost use Rattle.show_line.specs.Said.{cleared_names, clear_said, ident_said, record_said, on_page};
 ghost use Rattle.show_line.specs.Said.{cue_named, group_named, sub_named, patch_said, owned_said};
-ghost use Rattle.show_line.specs.Said.{levels_said, cue_said, rate_said, rate_fault, rate_in};
-ghost use Rattle.show_line.specs.Said.{said, reading_of};
+ghost use Rattle.show_line.specs.Said.{levels_said, cue_said, rate_said, rate_fault, rate_in, said, reading_of};
 ghost use Rattle.show_line.specs.Sound.{IsSound};
 
 use crate::fault::{LineFault, number_in};
@@ -16,7 +15,6 @@ use crate::keyword::{Keyword, keyword_of};
 use crate::pairs::Pairs;
 use crate::statement::{Cleared, Record, Statement, Table};
 use crate::triples::Triples;
-use crate::words::operands;
 use ascii_text::{Words, cue_number, number, same_word, time};
 use show_core::{GROUPS, Rate, SUBMASTERS};
 
@@ -27,44 +25,45 @@ pub struct Reading<'a> {
     pub statement: Statement<'a>,
 }
 
-/// Reads a line of a show text, without its LF. `owner` is the record that owns it: the one that
-/// the nearest line above whose keyword may own opened, if it opened one. `None` where the line has
-/// no words. The numbers of what it says are in the ranges of a show.
+/// Reads a line of a show text, without its LF, of which `owner` is the record that the nearest line
+/// above it that may own opened, if it opened one. `None` where the line has no words. The numbers
+/// of what it says are in the ranges of a show.
 pub fn read_line<'a>(owner: Option<Record>, line: &'a [u8]) -> Option<Reading<'a>>
     ensures means { result ≡ reading_of desk owner (words_of line.now) }
     ensures sound { IfSome result (λ reading. IsSound reading.statement) }
 {
-    let keyword = keyword_of(Words::new(line).next()?);
+    let mut words = Words::new(line);
+    let keyword = keyword_of(words.next()?);
     Some(Reading {
         keyword,
-        statement: statement(owner, keyword, line),
+        statement: statement(owner, keyword, words.rest()),
     })
 }
 
-// What a line says that has this keyword.
-fn statement<'a>(owner: Option<Record>, keyword: Keyword, line: &'a [u8]) -> Statement<'a>
-    ensures { result ≡ said desk owner keyword (operands line.now) }
+// What a line says that has this keyword, and these bytes behind it.
+fn statement<'a>(owner: Option<Record>, keyword: Keyword, operands: &'a [u8]) -> Statement<'a>
+    ensures { result ≡ said desk owner keyword (words_of operands.now) }
 {
     match keyword {
-        Keyword::Clear => clear_statement(line),
-        Keyword::Ident => ident_statement(line),
-        Keyword::Cue => cue_statement(line),
-        Keyword::Group => group_statement(line),
-        Keyword::Sub => sub_statement(line),
-        Keyword::Patch => patch_statement(line),
+        Keyword::Clear => clear_statement(operands),
+        Keyword::Ident => ident_statement(operands),
+        Keyword::Cue => cue_statement(operands),
+        Keyword::Group => group_statement(operands),
+        Keyword::Sub => sub_statement(operands),
+        Keyword::Patch => patch_statement(operands),
         Keyword::EndData | Keyword::Setting => Statement::Quiet,
-        Keyword::Chan => chan_statement(owner, line),
-        Keyword::Up => up_statement(owner, line),
-        Keyword::Down => down_statement(owner, line),
+        Keyword::Chan => chan_statement(owner, operands),
+        Keyword::Up => up_statement(owner, operands),
+        Keyword::Down => down_statement(owner, operands),
         Keyword::Remark if owner.is_some() => Statement::Quiet,
         Keyword::Remark | Keyword::Maker | Keyword::Unknown => Statement::Skipped,
     }
 }
 
-fn clear_statement<'a>(line: &'a [u8]) -> Statement<'a>
-    ensures { result ≡ clear_said (operands line.now) }
+fn clear_statement<'a>(operands: &'a [u8]) -> Statement<'a>
+    ensures { result ≡ clear_said (words_of operands.now) }
 {
-    let mut words = operands(line);
+    let mut words = Words::new(operands);
     match (words.next(), words.next()) {
         (Some(what), None) => match cleared(what) {
             Some(cleared) => Statement::Clears(cleared),
@@ -93,19 +92,19 @@ fn cleared(word: &[u8]) -> Option<Cleared>
     }
 }
 
-fn ident_statement<'a>(line: &'a [u8]) -> Statement<'a>
-    ensures { result ≡ ident_said (operands line.now) }
+fn ident_statement<'a>(operands: &'a [u8]) -> Statement<'a>
+    ensures { result ≡ ident_said (words_of operands.now) }
 {
-    match operands(line).next() {
+    match Words::new(operands).next() {
         Some(version) if same_word(version, b"3:0") => Statement::Quiet,
         _ => Statement::Faulty(LineFault::Ident),
     }
 }
 
-fn cue_statement<'a>(line: &'a [u8]) -> Statement<'a>
-    ensures { result ≡ record_said cue_fault cue_named (operands line.now) }
+fn cue_statement<'a>(operands: &'a [u8]) -> Statement<'a>
+    ensures { result ≡ record_said cue_fault cue_named (words_of operands.now) }
 {
-    let mut words = operands(line);
+    let mut words = Words::new(operands);
     match words.next() {
         Some(word) => {
             let cue = cue_number(word).map(Record::Cue);
@@ -115,20 +114,20 @@ fn cue_statement<'a>(line: &'a [u8]) -> Statement<'a>
     }
 }
 
-fn group_statement<'a>(line: &'a [u8]) -> Statement<'a>
-    ensures { result ≡ record_said (number_fault 1 GROUPS) group_named (operands line.now) }
+fn group_statement<'a>(operands: &'a [u8]) -> Statement<'a>
+    ensures { result ≡ record_said (number_fault 1 GROUPS) group_named (words_of operands.now) }
 {
-    let mut words = operands(line);
+    let mut words = Words::new(operands);
     match words.next() {
         Some(word) => on_page(number_in(word, 1, GROUPS).map(Record::Group), words),
         None => Statement::Faulty(LineFault::MissingNumber),
     }
 }
 
-fn sub_statement<'a>(line: &'a [u8]) -> Statement<'a>
-    ensures { result ≡ record_said (number_fault 1 SUBMASTERS) sub_named (operands line.now) }
+fn sub_statement<'a>(operands: &'a [u8]) -> Statement<'a>
+    ensures { result ≡ record_said (number_fault 1 SUBMASTERS) sub_named (words_of operands.now) }
 {
-    let mut words = operands(line);
+    let mut words = Words::new(operands);
     match words.next() {
         Some(word) => on_page(number_in(word, 1, SUBMASTERS).map(Record::Sub), words),
         None => Statement::Faulty(LineFault::MissingNumber),
@@ -153,15 +152,16 @@ fn on_page<'a>(named: Result<Record, LineFault>, mut words: Words<'a>) -> Statem
     }
 }
 
-fn patch_statement<'a>(line: &'a [u8]) -> Statement<'a>
-    ensures { result ≡ patch_said desk (operands line.now) }
+fn patch_statement<'a>(operands: &'a [u8]) -> Statement<'a>
+    ensures { result ≡ patch_said desk (words_of operands.now) }
 {
-    let Some(page) = operands(line).next() else {
+    let mut words = Words::new(operands);
+    let Some(page) = words.next() else {
         return Statement::Faulty(LineFault::MissingNumber);
     };
     match number(page) {
         None => Statement::Faulty(LineFault::BadNumber),
-        Some(1) => match Triples::new(line) {
+        Some(1) => match Triples::new(words.rest()) {
             Ok(triples) => Statement::Patches(triples),
             Err(fault) => Statement::Faulty(fault),
         },
@@ -169,24 +169,24 @@ fn patch_statement<'a>(line: &'a [u8]) -> Statement<'a>
     }
 }
 
-fn chan_statement<'a>(owner: Option<Record>, line: &'a [u8]) -> Statement<'a>
-    ensures { result ≡ owned_said owner (levels_said desk (operands line.now)) }
+fn chan_statement<'a>(owner: Option<Record>, operands: &'a [u8]) -> Statement<'a>
+    ensures { result ≡ owned_said owner (levels_said desk (words_of operands.now)) }
 {
     let Some(record) = owner else {
         return Statement::Skipped;
     };
-    match Pairs::new(line) {
+    match Pairs::new(operands) {
         Ok(pairs) => Statement::Levels(record, pairs),
         Err(fault) => Statement::Faulty(fault),
     }
 }
 
-fn up_statement<'a>(owner: Option<Record>, line: &'a [u8]) -> Statement<'a>
+fn up_statement<'a>(owner: Option<Record>, operands: &'a [u8]) -> Statement<'a>
     ensures { result
-        ≡ owned_said owner (cue_said (λ n. rate_said (Statement.Rises n) (operands line.now))) }
+        ≡ owned_said owner (cue_said (λ n. rate_said (Statement.Rises n) (words_of operands.now))) }
 {
     match owner {
-        Some(Record::Cue(n)) => match rate(line) {
+        Some(Record::Cue(n)) => match rate(operands) {
             Ok(rate) => Statement::Rises(n, rate),
             Err(fault) => Statement::Faulty(fault),
         },
@@ -195,12 +195,12 @@ fn up_statement<'a>(owner: Option<Record>, line: &'a [u8]) -> Statement<'a>
     }
 }
 
-fn down_statement<'a>(owner: Option<Record>, line: &'a [u8]) -> Statement<'a>
+fn down_statement<'a>(owner: Option<Record>, operands: &'a [u8]) -> Statement<'a>
     ensures { result
-        ≡ owned_said owner (cue_said (λ n. rate_said (Statement.Falls n) (operands line.now))) }
+        ≡ owned_said owner (cue_said (λ n. rate_said (Statement.Falls n) (words_of operands.now))) }
 {
     match owner {
-        Some(Record::Cue(n)) => match rate(line) {
+        Some(Record::Cue(n)) => match rate(operands) {
             Ok(rate) => Statement::Falls(n, rate),
             Err(fault) => Statement::Faulty(fault),
         },
@@ -210,12 +210,12 @@ fn down_statement<'a>(owner: Option<Record>, line: &'a [u8]) -> Statement<'a>
 }
 
 // The rate that the words of UP or DOWN spell.
-fn rate(line: &[u8]) -> Result<Rate, LineFault>
+fn rate(operands: &[u8]) -> Result<Rate, LineFault>
     ensures { MatchResult result
-        (λ rate. (rate_fault (operands line.now) ≡ None) × (rate ≡ rate_in (operands line.now)))
-        (λ fault. rate_fault (operands line.now) ≡ Some fault) }
+        (λ rate. (rate_fault (words_of operands.now) ≡ None) × (rate ≡ rate_in (words_of operands.now)))
+        (λ fault. rate_fault (words_of operands.now) ≡ Some fault) }
 {
-    let mut words = operands(line);
+    let mut words = Words::new(operands);
     let first = words.next().ok_or(LineFault::MissingNumber)?;
     let delay = match words.next() {
         Some(second) => time(second),

@@ -1,10 +1,10 @@
 ghost use Rattle.std.specs.Prelude.{◌≡◌, MatchResult};
 ghost use Rattle.std.specs.Iterator.{YieldsFirst, item_count};
 ghost use Rattle.ascii_text.specs.LinesLeft.{words_left};
-ghost use Rattle.show_line.specs.Pairs.{desk, operands, pair_fault, pairs_in};
+ghost use Rattle.ascii_text.specs.Text.{words_of};
+ghost use Rattle.show_line.specs.Pairs.{desk, pair_fault, pairs_in};
 
 use crate::fault::{LineFault, level_fault, lower, number_fault};
-use crate::words::operands;
 use ascii_text::{Words, level, number};
 use show_core::CHANNELS;
 use std::marker::Model;
@@ -29,17 +29,17 @@ impl<'a> Model for Pairs<'a> {
 }
 
 impl<'a> Pairs<'a> {
-    /// The pairs of a CHAN line, or the lowest fault of its words.
-    pub(crate) fn new(line: &'a [u8]) -> Result<Pairs<'a>, LineFault>
+    /// The pairs of the words behind CHAN, or the lowest fault of these.
+    pub(crate) fn new(operands: &'a [u8]) -> Result<Pairs<'a>, LineFault>
         ensures { MatchResult result
-            (λ pairs. (pair_fault desk (operands line.now) ≡ None)
-            × (pairs ≡ pairs_in (operands line.now)))
-            (λ fault. pair_fault desk (operands line.now) ≡ Some fault) }
+            (λ pairs. (pair_fault desk (words_of operands.now) ≡ None)
+            × (pairs ≡ pairs_in (words_of operands.now)))
+            (λ fault. pair_fault desk (words_of operands.now) ≡ Some fault) }
     {
-        match pair_fault(operands(line)) {
+        match pair_fault(Words::new(operands)) {
             Some(fault) => Err(fault),
             None => Ok(Pairs {
-                words: operands(line),
+                words: Words::new(operands),
             }),
         }
     }

@@ -1,16 +1,16 @@
 ghost use Rattle.std.specs.Prelude.{◌≡◌, MatchResult};
 ghost use Rattle.std.specs.Iterator.{YieldsFirst, item_count};
 ghost use Rattle.ascii_text.specs.LinesLeft.{words_left};
-ghost use Rattle.show_line.specs.Pairs.{desk, behind_first, operands, triple_fault, triples_in};
+ghost use Rattle.ascii_text.specs.Text.{words_of};
+ghost use Rattle.show_line.specs.Pairs.{desk, triple_fault, triples_in};
 
 use crate::fault::{LineFault, level_fault, lower, number_fault};
-use crate::words::operands;
 use ascii_text::{Words, level, number};
 use show_core::{CHANNELS, DIMMERS};
 use std::marker::Model;
 
-/// A triple of a PATCH line: the channel, from 0 (which leaves the dimmer unpatched) to
-/// [`CHANNELS`], the dimmer, from 1 to [`DIMMERS`], and the level byte.
+/// A triple of a PATCH line: the channel, from 0 (which leaves the dimmer unpatched) to [`CHANNELS`],
+/// the dimmer, from 1 to [`DIMMERS`], and the level byte.
 #[derive(Clone, Copy, Debug, PartialEq, Eq)]
 pub struct Triple {
     pub channel: u16,
@@ -38,17 +38,17 @@ impl<'a> Model for Triples<'a> {
 }
 
 impl<'a> Triples<'a> {
-    /// The triples behind the page of a PATCH line, or the lowest fault of their words.
-    pub(crate) fn new(line: &'a [u8]) -> Result<Triples<'a>, LineFault>
+    /// The triples of the words behind PATCH and its page, or the lowest fault of these.
+    pub(crate) fn new(operands: &'a [u8]) -> Result<Triples<'a>, LineFault>
         ensures { MatchResult result
-            (λ triples. (triple_fault desk (behind_first (operands line.now)) ≡ None)
-            × (triples ≡ triples_in (behind_first (operands line.now))))
-            (λ fault. triple_fault desk (behind_first (operands line.now)) ≡ Some fault) }
+            (λ triples. (triple_fault desk (words_of operands.now) ≡ None)
+            × (triples ≡ triples_in (words_of operands.now)))
+            (λ fault. triple_fault desk (words_of operands.now) ≡ Some fault) }
     {
-        match triple_fault(behind_page(line)) {
+        match triple_fault(Words::new(operands)) {
             Some(fault) => Err(fault),
             None => Ok(Triples {
-                words: behind_page(line),
+                words: Words::new(operands),
             }),
         }
     }
@@ -71,15 +71,6 @@ impl<'a> Iterator for Triples<'a> {
             level: level(byte).unwrap_or(0),
         })
     }
-}
-
-// The words behind the page of a PATCH line.
-fn behind_page<'a>(line: &'a [u8]) -> Words<'a>
-    ensures { words_left result ≡ behind_first (operands line.now) }
-{
-    let mut words = operands(line);
-    let _page = words.next();
-    words
 }
 
 // The lowest fault of the words behind the page.

@@ -5,7 +5,8 @@ ghost use Rattle.show_core.specs.declared.fault.BuildFault.TheVariants as build_
 ghost use Rattle.show_line.specs.declared.fault.LineFault.TheVariants as line_fault;
 ghost use Rattle.show_line.specs.Sound.{IsSound};
 ghost use Rattle.show_reader.specs.Shows.{levels_of};
-ghost use Rattle.show_reader.specs.Applied.{applied, refused_by, with_record, with_channel, with_pairs, with_triples, without, HasOwner, Explains};
+ghost use Rattle.show_reader.specs.Applied.{applied, refused_by, with_record, with_channel, with_pairs, with_triples};
+ghost use Rattle.show_reader.specs.Applied.{without, HasOwner, Explains};
 
 use show_core::{BuildFault, Show};
 use show_line::{Cleared, LineFault, Pairs, Record, Statement, Table, Triples};

@@ -1,4 +1,5 @@
-ghost use Rattle.std.specs.Prelude.{◌≡◌, ◌⊎◌, ◌+◌, ◌≤◌, ◌<◌, ◌^◌, List, [], ◌∷◌, ◌++◌, length, IfOk, IfErr, OnOk, None, Some};
+ghost use Rattle.std.specs.Prelude.{◌≡◌, ◌⊎◌, ◌+◌, ◌≤◌, ◌<◌, ◌^◌, List, [], ◌∷◌, ◌++◌, length};
+ghost use Rattle.std.specs.Prelude.{IfOk, IfErr, OnOk, None, Some};
 ghost use Rattle.ascii_text.specs.Text.{words_of};
 ghost use Rattle.show_line.specs.Said.{desk};
 ghost use Rattle.show_reader.specs.declared.fault.ShowFault.TheVariants as show_fault;
@@ -73,9 +74,11 @@ impl Reader {
     fn take(&mut self, line: Line<'_>) -> Result<bool, ShowFault>
         requires reads { (lines : List Words) × Reads lines self.old }
         requires next { line.number ≡ self.old.lines + 1 }
-        ensures more { OnOk result ((lines : List Words) → Reads lines self.old → Reads (lines ++ words_of line.entry.bytes.now ∷ []) self.new) }
+        ensures more { OnOk result ((lines : List Words) → Reads lines self.old
+            → Reads (lines ++ words_of line.entry.bytes.now ∷ []) self.new) }
         ensures last { IfOk result (λ last. last ≡ ends (words_of line.entry.bytes.now)) }
-        ensures fault { IfErr result (λ fault. (lines : List Words) → Reads lines self.old → EndsAt lines (words_of line.entry.bytes.now) fault) }
+        ensures fault { IfErr result (λ fault. (lines : List Words) → Reads lines self.old
+            → EndsAt lines (words_of line.entry.bytes.now) fault) }
     {
         let number = line.number;
         let Some(reading) = read_line(self.owner, line.bytes) else {

@@ -1,10 +1,9 @@
 use Rattle.std.proofs.Common.{sym, subst}
-use Rattle.show_line.specs.Pairs.{operands}
+use Rattle.ascii_text.specs.Text.{words_of}
 use Rattle.show_line.specs.Sound.{IsSound}
 use Rattle.show_line.proofs.Ranged.{said_in_range}
 use Rattle.show_line.proofs.line.read_line.Goals as goal
 
 pub returns-clause-sound : goal.returns-clause-sound
 returns-clause-sound c =
-    let keyword = c.keyword_of-keyword.result in
-    subst IsSound (sym c.statement.ensures) (said_in_range c.args.owner keyword (operands c.args.line.now))
+    subst IsSound (sym c.statement.ensures) (said_in_range c.args.owner c.keyword_of-keyword.result (words_of c.rest.result.now))
