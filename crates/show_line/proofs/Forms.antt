@@ -22,16 +22,19 @@ IsUpTo-le : (m n : ℕ) (o : Option ℕ) → IsUpTo m o → m ≤ n → IsUpTo n
 IsUpTo-le m n None h le = tt
 IsUpTo-le m n (Some k) h le = omega arith
 
-IsUpTo-if : (most : ℕ) (b : Bool) (x y : Option ℕ) → IsUpTo most x → IsUpTo most y → IsUpTo most (if b then x else y)
+IsUpTo-if : (most : ℕ) (b : Bool) (x y : Option ℕ) → IsUpTo most x → IsUpTo most y
+    → IsUpTo most (if b then x else y)
 IsUpTo-if most true x y h g = h
 IsUpTo-if most false x y h g = g
 
-IsUpTo-sum_of : (m n most : ℕ) (a b : Option ℕ) → IsUpTo m a → IsUpTo n b → m + n ≤ most → IsUpTo most (sum_of a b)
+IsUpTo-sum_of : (m n most : ℕ) (a b : Option ℕ) → IsUpTo m a → IsUpTo n b → m + n ≤ most
+    → IsUpTo most (sum_of a b)
 IsUpTo-sum_of m n most None b h g le = tt
 IsUpTo-sum_of m n most (Some x) None h g le = tt
 IsUpTo-sum_of m n most (Some x) (Some y) h g le = omega arith
 
-IsUpTo-option_map : (f : ℕ → ℕ) (most v : ℕ) (b : Bool) → (b ≡ true → f v ≤ most) → IsUpTo most (option_map f (if b then Some v else None))
+IsUpTo-option_map : (f : ℕ → ℕ) (most v : ℕ) (b : Bool) → (b ≡ true → f v ≤ most)
+    → IsUpTo most (option_map f (if b then Some v else None))
 IsUpTo-option_map f most v true h = h refl
 IsUpTo-option_map f most v false h = tt
 
@@ -70,24 +73,30 @@ three_places (suc (suc zero)) d a b h = omega arith
 three_places (suc (suc (suc zero))) d a b h = omega arith
 three_places (suc (suc (suc (suc l)))) d a b h = absurd (omega arith)
 
-IsUpTo-whole_of : (max scale : ℕ) (word : List ℕ) → IsUpTo (max * scale) (option_map (λ n. n * scale) (whole_of max word))
+IsUpTo-whole_of : (max scale : ℕ) (word : List ℕ)
+    → IsUpTo (max * scale) (option_map (λ n. n * scale) (whole_of max word))
 IsUpTo-whole_of max scale word = of_number (digits_of 9 word)
   where
     of_number : (o : Option ℕ) → IsUpTo (max * scale)
         (option_map (λ n. n * scale) (option_and_then (λ n. if nat_le n max then Some n else None) o))
     of_number None = tt
     of_number (Some n) =
-        IsUpTo-option_map (λ n. n * scale) (max * scale) n (nat_le n max) (λ e. mul-le-mul_right scale (le_from_test n max e))
+        IsUpTo-option_map (λ n. n * scale) (max * scale) n (nat_le n max)
+        (λ e. mul-le-mul_right scale (le_from_test n max e))
 
 IsUpTo-units_of : (max : ℕ) (word : List ℕ) → IsUpTo (max * 1000) (units_of max word)
 IsUpTo-units_of max [] = omega arith
 IsUpTo-units_of max (b ∷ bs) = IsUpTo-whole_of max 1000 (b ∷ bs)
 
-module _ (places most : ℕ) (small : (l d : ℕ) → 1 ≤ l → l ≤ places → d < 10 ^ l → thousandths l d ≤ most) where
+module _
+    (places most : ℕ)
+    (small : (l d : ℕ) → 1 ≤ l → l ≤ places → d < 10 ^ l → thousandths l d ≤ most) where
   IsUpTo-fraction_of : (word : List ℕ) → IsUpTo most (fraction_of places word)
   IsUpTo-fraction_of word =
-      IsUpTo-option_map (thousandths (length word)) most (digits_value 10 word) (is_run is_ascii_digit 1 places word)
-      (λ e. let r = run_is places word e in small (length word) (digits_value 10 word) r.0 r.1 r.2)
+      let l = length word in
+      let d = digits_value 10 word in
+      IsUpTo-option_map (thousandths l) most d (is_run is_ascii_digit 1 places word)
+      (λ e. let r = run_is places word e in small l d r.0 r.1 r.2)
 
   IsUpTo-scaled_of : (max : ℕ) (word : List ℕ) → IsUpTo (max * 1000 + most) (scaled_of max places word)
   IsUpTo-scaled_of max word =
@@ -101,7 +110,8 @@ module _ (places most : ℕ) (small : (l d : ℕ) → 1 ≤ l → l ≤ places �
 IsUpTo-seconds_of : (word : List ℕ) → IsUpTo 59990 (seconds_of word)
 IsUpTo-seconds_of word =
     let digits = length (before_first is_point word) in
-    IsUpTo-if 59990 (nat_le 1 digits && nat_le digits 2) (scaled_of 59 2 word) None (IsUpTo-scaled_of 2 990 two_places 59 word) tt
+    IsUpTo-if 59990 (nat_le 1 digits && nat_le digits 2) (scaled_of 59 2 word) None
+    (IsUpTo-scaled_of 2 990 two_places 59 word) tt
 
 IsUpTo-time_of : (word : List ℕ) → IsUpTo 5999990 (time_of word)
 IsUpTo-time_of word =
@@ -125,7 +135,7 @@ not_zero k n le e = grind (arith, nat_tests)
 pub cue_number_small : (word : List ℕ) (n : ℕ) → cue_number_of word ≡ Some n → IsTrue (is_cue_number n)
 cue_number_small word n h = of_scaled (scaled_of 9999 3 word) (IsUpTo-scaled_of 3 999 three_places 9999 word) h
   where
-    of_scaled : (o : Option ℕ) → IsUpTo 9999999 o → option_and_then (λ k. if k == 0 then None else Some k) o ≡ Some n
-        → IsTrue (is_cue_number n)
+    of_scaled : (o : Option ℕ) → IsUpTo 9999999 o
+        → option_and_then (λ k. if k == 0 then None else Some k) o ≡ Some n → IsTrue (is_cue_number n)
     of_scaled None le e = cc
     of_scaled (Some k) le e = not_zero k n le e

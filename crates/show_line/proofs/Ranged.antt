@@ -40,7 +40,8 @@ use Rattle.show_line.proofs.Forms.{time_small, cue_number_small}
 is_within-le : (most n : ℕ) → 1 ≤ n → n ≤ most → IsTrue (is_within most n)
 is_within-le most n a b = grind (arith, nat_tests)
 
-can_patch-le : (dimmer channel : ℕ) → 1 ≤ dimmer → dimmer ≤ 8192 → channel ≤ 4096 → IsTrue (can_patch dimmer channel)
+can_patch-le : (dimmer channel : ℕ) → 1 ≤ dimmer → dimmer ≤ 8192 → channel ≤ 4096
+    → IsTrue (can_patch dimmer channel)
 can_patch-le dimmer channel a b c = grind (arith, nat_tests)
 
 -- the channels of a CHAN line without a fault
@@ -50,10 +51,12 @@ pairs_in_range (channel ∷ []) h = All-nil IsPairInRange
 pairs_in_range (channel ∷ level ∷ words) h =
     let p = faultless_pair desk channel level words h in
     let pair : ℕ × ℕ = (unwrap_or (number_of channel) 0, unwrap_or (level_of level) 0) in
-    All-cons IsPairInRange pair (pairs_in words) (is_within-le 4096 _ p.0.above p.0.below) (pairs_in_range words p.1)
+    All-cons IsPairInRange pair (pairs_in words) (is_within-le 4096 _ p.0.above p.0.below)
+    (pairs_in_range words p.1)
 
 -- the dimmers and channels of a PATCH line without a fault
-pub triples_in_range : (words : List (List ℕ)) → triple_fault desk words ≡ None → All IsTripleInRange (triples_in words)
+pub triples_in_range : (words : List (List ℕ)) → triple_fault desk words ≡ None
+    → All IsTripleInRange (triples_in words)
 triples_in_range [] h = All-nil IsTripleInRange
 triples_in_range (channel ∷ []) h = All-nil IsTripleInRange
 triples_in_range (channel ∷ dimmer ∷ []) h = All-nil IsTripleInRange
@@ -65,7 +68,8 @@ triples_in_range (channel ∷ dimmer ∷ level ∷ words) h =
       level = unwrap_or (level_of level) 0;
     }) (triples_in words) (can_patch-le _ _ p.1.above p.1.below p.0.below) (triples_in_range words p.2)
 
-IsSound-unless_faulty : (fault : Option LineFault) (s : Statement) → (fault ≡ None → IsSound s) → IsSound (unless_faulty fault s)
+IsSound-unless_faulty : (fault : Option LineFault) (s : Statement) → (fault ≡ None → IsSound s)
+    → IsSound (unless_faulty fault s)
 IsSound-unless_faulty None s h = h refl
 IsSound-unless_faulty (Some f) s h = tt
 
@@ -84,7 +88,8 @@ IsSound-clear_said (what ∷ more ∷ words) = tt
 
 IsSound-ident_said : (words : List (List ℕ)) → IsSound (ident_said words)
 IsSound-ident_said [] = tt
-IsSound-ident_said (version ∷ words) = IsSound-if (same_word version (codes "3:0")) Quiet (Faulty BadIdent) tt tt
+IsSound-ident_said (version ∷ words) =
+    IsSound-if (same_word version (codes "3:0")) Quiet (Faulty BadIdent) tt tt
 
 -- a record whose number is in its range where the word has no fault
 IsSound-record_said : (fault : List ℕ → Option LineFault) (which : List ℕ → Record)
@@ -92,8 +97,9 @@ IsSound-record_said : (fault : List ℕ → Option LineFault) (which : List ℕ 
     → (words : List (List ℕ)) → IsSound (record_said fault which words)
 IsSound-record_said fault which fine [] = tt
 IsSound-record_said fault which fine (number ∷ words) =
-    IsSound-unless_faulty (lower (fault number) (page_fault words)) (if is_page_1 words then Opens (which number) else Skipped)
-    (λ e. IsSound-if (is_page_1 words) (Opens (which number)) Skipped
+    let opens = Opens (which number) in
+    IsSound-unless_faulty (lower (fault number) (page_fault words)) (if is_page_1 words then opens else Skipped)
+    (λ e. IsSound-if (is_page_1 words) opens Skipped
     (fine number (lower_both (fault number) (page_fault words) e).0) tt)
 
 is_spelt : (o : Option ℕ) (f : LineFault) → unless (is_some o) f ≡ None → o ≡ Some (unwrap_or o 0)
@@ -145,7 +151,8 @@ IsSound-owned_said None says h = tt
 IsSound-owned_said (Some r) says h = h r
 
 -- the numbers of what a line says are in their ranges
-pub said_in_range : (owner : Option Record) (keyword : Keyword) (words : List (List ℕ)) → IsSound (said desk owner keyword words)
+pub said_in_range : (owner : Option Record) (keyword : Keyword) (words : List (List ℕ))
+    → IsSound (said desk owner keyword words)
 said_in_range owner Clear words = IsSound-clear_said words
 said_in_range owner Ident words = IsSound-ident_said words
 said_in_range owner Cue words = IsSound-record_said cue_fault cue_named cue_in_range words

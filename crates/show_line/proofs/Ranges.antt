@@ -15,17 +15,21 @@ pub record IsNumberIn (least most : ℕ) (word : List ℕ) : Type 0 where
   pub above : least ≤ unwrap_or (number_of word) 0
   pub below : unwrap_or (number_of word) 0 ≤ most
 
-in_range : (least most : ℕ) (o : Option ℕ) → range_fault least most o ≡ None → (least ≤ unwrap_or o 0) × (unwrap_or o 0 ≤ most)
+in_range : (least most : ℕ) (o : Option ℕ) → range_fault least most o ≡ None
+    → (least ≤ unwrap_or o 0) × (unwrap_or o 0 ≤ most)
 in_range least most None h = absurd (none-some BadNumber (sym h))
-in_range least most (Some n) h = (grind (arith, nat_tests, common_steps), grind (arith, nat_tests, common_steps))
+in_range least most (Some n) h =
+    (grind (arith, nat_tests, common_steps), grind (arith, nat_tests, common_steps))
 
-pub number_in_range : (least most : ℕ) (word : List ℕ) → number_fault least most word ≡ None → IsNumberIn least most word
+pub number_in_range : (least most : ℕ) (word : List ℕ) → number_fault least most word ≡ None
+    → IsNumberIn least most word
 number_in_range least most word h =
     let r = in_range least most (number_of word) h in
     record { above = r.0; below = r.1 }
 
 -- a pair without a fault, and the others
-pub faultless_pair : (lim : Limits) (channel level : List ℕ) (words : List (List ℕ)) → pair_fault lim (channel ∷ level ∷ words) ≡ None
+pub faultless_pair : (lim : Limits) (channel level : List ℕ) (words : List (List ℕ))
+    → pair_fault lim (channel ∷ level ∷ words) ≡ None
     → IsNumberIn 1 lim.channels channel × (pair_fault lim words ≡ None)
 faultless_pair lim channel level words h =
     let p = lower_both _ (pair_fault lim words) h in
@@ -33,7 +37,8 @@ faultless_pair lim channel level words h =
     (number_in_range 1 lim.channels channel q.0, p.1)
 
 -- a triple without a fault, and the others
-pub faultless_triple : (lim : Limits) (channel dimmer level : List ℕ) (words : List (List ℕ)) → triple_fault lim (channel ∷ dimmer ∷ level ∷ words) ≡ None
+pub faultless_triple : (lim : Limits) (channel dimmer level : List ℕ) (words : List (List ℕ))
+    → triple_fault lim (channel ∷ dimmer ∷ level ∷ words) ≡ None
     → IsNumberIn 0 lim.channels channel × IsNumberIn 1 lim.dimmers dimmer × (triple_fault lim words ≡ None)
 faultless_triple lim channel dimmer level words h =
     let p = lower_both _ (triple_fault lim words) h in

@@ -57,7 +57,8 @@ records : (alone (codes "Cue 1.5 000000001") ≡ Some (Opens (Cue 1500)))
     × (alone (codes "Sub 100 1 more") ≡ Some (Opens (Sub 100)))
 records = (refl, refl, refl)
 
-within_records : (in_cue (codes "  Chan 1/Hff 2/H80 ! house") ≡ Some (Levels (Cue 1000) ((1, 255) ∷ (2, 128) ∷ [])))
+within_records :
+    (in_cue (codes "  Chan 1/Hff 2/H80 ! house") ≡ Some (Levels (Cue 1000) ((1, 255) ∷ (2, 128) ∷ [])))
     × (in_cue (codes "CHAN") ≡ Some (Levels (Cue 1000) []))
     × (in_cue (codes "UP 5 3") ≡ Some (Rises 1000 (record { time = 5000; delay = 3000 })))
     × (in_cue (codes "Down .5") ≡ Some (Falls 1000 (record { time = 500; delay = 0 })))

@@ -21,57 +21,81 @@ use Rattle.show_line.specs.Said.{unless_faulty, is_page_1, patch_said, levels_sa
 use Rattle.show_line.specs.Sound.{IsFaultless}
 use Rattle.show_line.proofs.Lowest.{lower_both}
 
-range_wider : (least m n : ℕ) (o : Option ℕ) → m ≤ n → range_fault least m o ≡ None → range_fault least n o ≡ None
+range_wider : (least m n : ℕ) (o : Option ℕ) → m ≤ n → range_fault least m o ≡ None
+    → range_fault least n o ≡ None
 range_wider least m n None le h = h
 range_wider least m n (Some k) le h = grind (arith, nat_tests, common_steps)
 
-module _ (narrow wide : Limits) (more_channels : narrow.channels ≤ wide.channels) (more_dimmers : narrow.dimmers ≤ wide.dimmers) where
+unless_wider : (a b : Option LineFault) (s : Statement) → (a ≡ None → b ≡ None)
+    → IsFaultless (unless_faulty a s) → unless_faulty b s ≡ unless_faulty a s
+unless_wider None b s h fine = ap (λ o. unless_faulty o s) (h refl)
+unless_wider (Some f) b s h fine = absurd fine
+
+-- the same behind a page
+page_wider : (page : Option LineFault) (b : Bool) (m n : Statement) → (IsFaultless m → n ≡ m)
+    → IsFaultless (unless_faulty page (if b then m else Skipped))
+    → unless_faulty page (if b then n else Skipped) ≡ unless_faulty page (if b then m else Skipped)
+page_wider (Some f) b m n h fine = refl
+page_wider None false m n h fine = refl
+page_wider None true m n h fine = h fine
+
+module _
+    (narrow wide : Limits)
+    (more_channels : narrow.channels ≤ wide.channels)
+    (more_dimmers : narrow.dimmers ≤ wide.dimmers) where
   -- the pairs of CHAN
   pub pairs_wider : (words : List (List ℕ)) → pair_fault narrow words ≡ None → pair_fault wide words ≡ None
   pairs_wider [] h = refl
-  pairs_wider (channel ∷ []) h = absurd (none-some HalfPair (sym (lower_both (number_fault 1 narrow.channels channel) (Some HalfPair) h).1))
+  pairs_wider (channel ∷ []) h =
+      let of_channel = number_fault 1 narrow.channels channel in
+      absurd (none-some HalfPair (sym (lower_both of_channel (Some HalfPair) h).1))
   pairs_wider (channel ∷ level ∷ words) h =
-      let p = lower_both (lower (number_fault 1 narrow.channels channel) (level_fault level)) (pair_fault narrow words) h in
+      let p = lower_both _ (pair_fault narrow words) h in
       let q = lower_both (number_fault 1 narrow.channels channel) (level_fault level) p.0 in
-      rw (range_wider 1 narrow.channels wide.channels (number_of channel) more_channels q.0, q.1) (pairs_wider words p.1)
+      let wider = range_wider 1 narrow.channels wide.channels (number_of channel) more_channels q.0 in
+      rw (wider, q.1) (pairs_wider words p.1)
 
   -- the triples of PATCH
-  pub triples_wider : (words : List (List ℕ)) → triple_fault narrow words ≡ None → triple_fault wide words ≡ None
+  pub triples_wider : (words : List (List ℕ)) → triple_fault narrow words ≡ None
+      → triple_fault wide words ≡ None
   triples_wider [] h = refl
-  triples_wider (channel ∷ []) h = absurd (none-some HalfTriple (sym (lower_both (number_fault 0 narrow.channels channel) (Some HalfTriple) h).1))
+  triples_wider (channel ∷ []) h =
+      let of_channel = number_fault 0 narrow.channels channel in
+      absurd (none-some HalfTriple (sym (lower_both of_channel (Some HalfTriple) h).1))
   triples_wider (channel ∷ dimmer ∷ []) h =
-      absurd (none-some HalfTriple (sym (lower_both (lower (number_fault 0 narrow.channels channel) (number_fault 1 narrow.dimmers dimmer)) (Some HalfTriple) h).1))
+      let of_channel = number_fault 0 narrow.channels channel in
+      let of_dimmer = number_fault 1 narrow.dimmers dimmer in
+      absurd (none-some HalfTriple (sym (lower_both (lower of_channel of_dimmer) (Some HalfTriple) h).1))
   triples_wider (channel ∷ dimmer ∷ level ∷ words) h =
-      let p = lower_both (lower (lower (number_fault 0 narrow.channels channel) (number_fault 1 narrow.dimmers dimmer)) (level_fault level)) (triple_fault narrow words) h in
-      let q = lower_both (lower (number_fault 0 narrow.channels channel) (number_fault 1 narrow.dimmers dimmer)) (level_fault level) p.0 in
-      let r = lower_both (number_fault 0 narrow.channels channel) (number_fault 1 narrow.dimmers dimmer) q.0 in
-      rw (
-        range_wider 0 narrow.channels wide.channels (number_of channel) more_channels r.0,
-        range_wider 1 narrow.dimmers wide.dimmers (number_of dimmer) more_dimmers r.1,
-        q.1,
-      ) (triples_wider words p.1)
+      let of_channel = number_fault 0 narrow.channels channel in
+      let of_dimmer = number_fault 1 narrow.dimmers dimmer in
+      let p = lower_both _ (triple_fault narrow words) h in
+      let q = lower_both _ (level_fault level) p.0 in
+      let r = lower_both of_channel of_dimmer q.0 in
+      let channels = range_wider 0 narrow.channels wide.channels (number_of channel) more_channels r.0 in
+      let dimmers = range_wider 1 narrow.dimmers wide.dimmers (number_of dimmer) more_dimmers r.1 in
+      rw (channels, dimmers, q.1) (triples_wider words p.1)
 
-  unless_wider : (a b : Option LineFault) (s : Statement) → (a ≡ None → b ≡ None) → IsFaultless (unless_faulty a s) → unless_faulty b s ≡ unless_faulty a s
-  unless_wider None b s h fine = ap (λ o. unless_faulty o s) (h refl)
-  unless_wider (Some f) b s h fine = absurd fine
-
-  patch_wider : (words : List (List ℕ)) → IsFaultless (patch_said narrow words) → patch_said wide words ≡ patch_said narrow words
+  patch_wider : (words : List (List ℕ)) → IsFaultless (patch_said narrow words)
+      → patch_said wide words ≡ patch_said narrow words
   patch_wider [] fine = refl
-  patch_wider (page ∷ words) fine = of_page (page_fault (page ∷ words)) (is_page_1 (page ∷ words)) fine
-    where
-      of_page : (o : Option LineFault) (b : Bool) → IsFaultless (unless_faulty o (if b then unless_faulty (triple_fault narrow words) (Patches (triples_in words)) else Skipped))
-          → unless_faulty o (if b then unless_faulty (triple_fault wide words) (Patches (triples_in words)) else Skipped)
-          ≡ unless_faulty o (if b then unless_faulty (triple_fault narrow words) (Patches (triples_in words)) else Skipped)
-      of_page (Some f) b fine = refl
-      of_page None false fine = refl
-      of_page None true fine = unless_wider (triple_fault narrow words) (triple_fault wide words) (Patches (triples_in words)) (triples_wider words) fine
+  patch_wider (page ∷ words) fine =
+      page_wider (page_fault (page ∷ words)) (is_page_1 (page ∷ words)) _ _
+      (unless_wider (triple_fault narrow words) (triple_fault wide words) (Patches (triples_in words))
+      (triples_wider words)) fine
 
-  chan_wider : (owner : Option Record) (words : List (List ℕ)) → IsFaultless (owned_said owner (levels_said narrow words)) → owned_said owner (levels_said wide words) ≡ owned_said owner (levels_said narrow words)
+  chan_wider : (owner : Option Record) (words : List (List ℕ))
+      → IsFaultless (owned_said owner (levels_said narrow words))
+      → owned_said owner (levels_said wide words) ≡ owned_said owner (levels_said narrow words)
   chan_wider None words fine = refl
-  chan_wider (Some r) words fine = unless_wider (pair_fault narrow words) (pair_fault wide words) (Levels r (pairs_in words)) (pairs_wider words) fine
+  chan_wider (Some r) words fine =
+      unless_wider (pair_fault narrow words) (pair_fault wide words) (Levels r (pairs_in words))
+      (pairs_wider words) fine
 
   -- a line
-  pub said_wider : (owner : Option Record) (keyword : Keyword) (words : List (List ℕ)) → IsFaultless (said narrow owner keyword words) → said wide owner keyword words ≡ said narrow owner keyword words
+  pub said_wider : (owner : Option Record) (keyword : Keyword) (words : List (List ℕ))
+      → IsFaultless (said narrow owner keyword words)
+      → said wide owner keyword words ≡ said narrow owner keyword words
   said_wider owner Clear words fine = refl
   said_wider owner Ident words fine = refl
   said_wider owner Cue words fine = refl

@@ -38,7 +38,9 @@ triple_fault lim (channel ∷ dimmer ∷ []) =
     lower (lower (number_fault 0 lim.channels channel) (number_fault 1 lim.dimmers dimmer)) (Some HalfTriple)
 triple_fault lim (channel ∷ dimmer ∷ level ∷ words) =
     lower
-    (lower (lower (number_fault 0 lim.channels channel) (number_fault 1 lim.dimmers dimmer)) (level_fault level))
+    (lower
+    (lower (number_fault 0 lim.channels channel) (number_fault 1 lim.dimmers dimmer))
+    (level_fault level))
     (triple_fault lim words)
 
 -- the triples that they spell

@@ -37,20 +37,23 @@ is_page_1 (page ∷ words) = unwrap_or (number_of page) 0 == 1
 
 -- a record line whose number has this fault, or names this record; a page may be next
 abbrev pub on_page : Option LineFault → Record → List (List ℕ) → Statement
-on_page fault which words = unless_faulty (lower fault (page_fault words)) (if is_page_1 words then Opens which else Skipped)
+on_page fault which words =
+    unless_faulty (lower fault (page_fault words)) (if is_page_1 words then Opens which else Skipped)
 
 -- CUE, GROUP or SUB: a number, whose fault and record these functions give, and perhaps a page
 abbrev pub record_said : (List ℕ → Option LineFault) → (List ℕ → Record) → List (List ℕ) → Statement
 record_said fault which [] = Faulty MissingNumber
 record_said fault which (number ∷ words) = on_page (fault number) (which number) words
 
--- the cue, group or submaster that a word names
+-- the cue that a word names
 abbrev pub cue_named : List ℕ → Record
 cue_named word = record_of.Cue (unwrap_or (cue_number_of word) 0)
 
+-- the group that a word names
 abbrev pub group_named : List ℕ → Record
 group_named word = record_of.Group (unwrap_or (number_of word) 0)
 
+-- the submaster that a word names
 abbrev pub sub_named : List ℕ → Record
 sub_named word = record_of.Sub (unwrap_or (number_of word) 0)
 
@@ -59,7 +62,9 @@ abbrev pub patch_said : Limits → List (List ℕ) → Statement
 patch_said lim [] = Faulty MissingNumber
 patch_said lim (page ∷ words) =
     unless_faulty (page_fault (page ∷ words))
-    (if is_page_1 (page ∷ words) then unless_faulty (triple_fault lim words) (Patches (triples_in words)) else Skipped)
+    (if is_page_1 (page ∷ words)
+    then unless_faulty (triple_fault lim words) (Patches (triples_in words))
+    else Skipped)
 
 -- the lowest fault of the words of UP or DOWN: a time, and perhaps a delay
 abbrev pub rate_fault : List (List ℕ) → Option LineFault
@@ -68,7 +73,8 @@ rate_fault (time ∷ words) = lower (time_fault time) (delay_fault words)
 
 -- the rate that they spell, with no delay where that word is missing
 abbrev pub rate_in : List (List ℕ) → Rate
-rate_in (time ∷ delay ∷ words) = record { time = unwrap_or (time_of time) 0; delay = unwrap_or (time_of delay) 0 }
+rate_in (time ∷ delay ∷ words) =
+    record { time = unwrap_or (time_of time) 0; delay = unwrap_or (time_of delay) 0 }
 rate_in (time ∷ []) = record { time = unwrap_or (time_of time) 0; delay = 0 }
 rate_in [] = record { time = 0; delay = 0 }
 
@@ -132,4 +138,6 @@ opened _ = None
 -- what is read of a line: its keyword and what it says; nothing where it has no words
 abbrev pub reading_of : Limits → Option Record → List (List ℕ) → Option Reading
 reading_of lim owner [] = None
-reading_of lim owner (word ∷ words) = Some (record { keyword = keyword_of word; statement = said lim owner (keyword_of word) words })
+reading_of lim owner (word ∷ words) =
+    let keyword = keyword_of word in
+    Some (record { keyword = keyword; statement = said lim owner keyword words })

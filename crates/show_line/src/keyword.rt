@@ -4,8 +4,8 @@ ghost use Rattle.show_line.specs.Keywords.{keyword_of, may_own, is_end};
 
 use ascii_text::same_word;
 
-/// What the first word of a line makes of it (USITT ASCII 3.0: record keywords, and the keywords that
-/// belong to the record above).
+/// What the first word of a line makes of it (USITT ASCII 3.0: record keywords, and the keywords
+/// that belong to the record above).
 #[derive(Clone, Copy, Debug, PartialEq, Eq)]
 pub enum Keyword {
     Clear,

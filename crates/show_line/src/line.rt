@@ -7,7 +7,8 @@ ghost use Rattle.show_line.specs.Keywords.{named};
 ghost use Rattle.show_line.specs.Pairs.{desk};
 ghost use Rattle.show_line.specs.Said.{cleared_names, clear_said, ident_said, record_said, on_page};
 ghost use Rattle.show_line.specs.Said.{cue_named, group_named, sub_named, patch_said, owned_said};
-ghost use Rattle.show_line.specs.Said.{levels_said, cue_said, rate_said, rate_fault, rate_in, said, reading_of};
+ghost use Rattle.show_line.specs.Said.{levels_said, cue_said, rate_said, rate_fault, rate_in};
+ghost use Rattle.show_line.specs.Said.{said, reading_of};
 ghost use Rattle.show_line.specs.Sound.{IsSound};
 
 use crate::fault::{LineFault, number_in};
@@ -25,9 +26,9 @@ pub struct Reading<'a> {
     pub statement: Statement<'a>,
 }
 
-/// Reads a line of a show text, without its LF, of which `owner` is the record that the nearest line
-/// above it that may own opened, if it opened one. `None` where the line has no words. The numbers
-/// of what it says are in the ranges of a show.
+/// Reads a line of a show text, without its LF. `owner` is the record that owns it: the one that
+/// the nearest line above whose keyword may own opened, if it opened one. `None` where the line has
+/// no words. The numbers of what it says are in the ranges of a show.
 pub fn read_line<'a>(owner: Option<Record>, line: &'a [u8]) -> Option<Reading<'a>>
     ensures means { result ≡ reading_of desk owner (words_of line.now) }
     ensures sound { IfSome result (λ reading. IsSound reading.statement) }

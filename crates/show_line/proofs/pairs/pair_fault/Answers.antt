@@ -1,11 +1,11 @@
-use Rattle.std.proofs.Common.{◌≡◌, [], ◌∷◌, sym, ap, ◌∙◌, arith, Some}
+use Rattle.std.proofs.Common.{◌≡◌, ℕ, List, [], ◌∷◌, ap, ◌∙◌, arith, Some}
 use Rattle.std.proofs.lemmas.Grind.{common_steps}
 use Rattle.ascii_text.specs.LinesLeft.{words_left}
 use Rattle.show_core.specs.declared.limits.TheConstants.{CHANNELS}
 use Rattle.show_line.specs.declared.fault.LineFault.TheVariants.{HalfPair}
 use Rattle.show_line.specs.Faults.{lower, number_fault, level_fault}
 use Rattle.show_line.specs.Pairs.{desk, pair_fault}
-use Rattle.show_line.proofs.Lowest.{lower_assoc, lower_none}
+use Rattle.show_line.proofs.Lowest.{lower_more, lower_last}
 use Rattle.show_line.proofs.pairs.pair_fault.Goals as goal
 use Rattle.show_line.proofs.pairs.pair_fault.Goals.{in-Some-next, in-None}
 
@@ -13,19 +13,24 @@ pub loop-channel-preserved : goal.loop-channel-preserved
 loop-channel-preserved c =
     let lowest = c.loop-channel.lowest in
     let channel = c.in-Some.channel.now in
-    let front : words_left c.loop-channel.words ≡ channel ∷ words_left c.next.new.self = grind (arith, common_steps) in
+    let of_channel = number_fault 1 CHANNELS channel in
+    let left = words_left c.next-in-Some.new.self in
+    let faults = λ (ws : List (List ℕ)). lower lowest (pair_fault desk ws) in
+    let first : words_left c.loop-channel.words ≡ channel ∷ words_left c.next.new.self
+    = grind (arith, common_steps) in
     elim c.match-next-2.branch [
       | in-Some-next w ↦
           let level = w.in-Some-next.level.now in
-          let left = words_left c.next-in-Some.new.self in
           let second : words_left c.next.new.self ≡ level ∷ left = grind (arith, common_steps) in
-          let made : c.lower-lowest.result ≡ lower lowest (lower (number_fault 1 CHANNELS channel) (level_fault level)) = grind (arith, common_steps) in
-          c.loop-channel.invariant ∙ ap (λ ws. lower lowest (pair_fault desk ws)) (front ∙ ap (λ ws. channel ∷ ws) second)
-          ∙ sym (lower_assoc lowest _ _) ∙ ap (λ o. lower o (pair_fault desk left)) (sym made)
+          let made : c.lower-lowest.result ≡ lower lowest (lower of_channel (level_fault level))
+          = grind (arith, common_steps) in
+          lower_more lowest _ (pair_fault desk left)
+          (c.loop-channel.invariant ∙ ap faults (first ∙ ap (λ ws. channel ∷ ws) second)) made
       | in-None w ↦
           let second : words_left c.next.new.self ≡ [] = grind (arith, common_steps) in
-          let last : words_left c.next-in-Some.new.self ≡ [] = grind (arith, common_steps) in
-          let made : c.lower-lowest.result ≡ lower lowest (lower (number_fault 1 CHANNELS channel) (Some HalfPair)) = grind (arith, common_steps) in
-          c.loop-channel.invariant ∙ ap (λ ws. lower lowest (pair_fault desk ws)) (front ∙ ap (λ ws. channel ∷ ws) second)
-          ∙ sym made ∙ sym (ap (λ ws. lower c.lower-lowest.result (pair_fault desk ws)) last ∙ lower_none c.lower-lowest.result)
+          let last : left ≡ [] = grind (arith, common_steps) in
+          let made : c.lower-lowest.result ≡ lower lowest (lower of_channel (Some HalfPair))
+          = grind (arith, common_steps) in
+          lower_last (c.loop-channel.invariant ∙ ap faults (first ∙ ap (λ ws. channel ∷ ws) second)) made
+          (ap (pair_fault desk) last)
     ]

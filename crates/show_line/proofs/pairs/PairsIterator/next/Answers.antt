@@ -13,7 +13,8 @@ overflow_cast-result c =
     let channel = c.in_ok-channel.channel.now in
     let byte = c.in_ok-byte.byte.now in
     let two : words_left c.self.inside.words ≡ channel ∷ byte ∷ left = grind (arith, common_steps) in
-    let fine = faultless_pair desk channel byte left (subst (λ ws. pair_fault desk ws ≡ None) two c.self.invariant) in
+    let none = subst (λ ws. pair_fault desk ws ≡ None) two c.self.invariant in
+    let fine = faultless_pair desk channel byte left none in
     let is : c.unwrap_or.result ≡ unwrap_or (number_of channel) 0 = grind (arith, common_steps) in
     omega (arith, fine.0.below, is)
 
@@ -23,4 +24,5 @@ invariant_of-self-2 c =
     let channel = c.in_ok-channel.channel.now in
     let byte = c.in_ok-byte.byte.now in
     let two : words_left c.self.inside.words ≡ channel ∷ byte ∷ left = grind (arith, common_steps) in
-    (faultless_pair desk channel byte left (subst (λ ws. pair_fault desk ws ≡ None) two c.self.invariant)).1
+    let none = subst (λ ws. pair_fault desk ws ≡ None) two c.self.invariant in
+    (faultless_pair desk channel byte left none).1

@@ -13,8 +13,10 @@ overflow_cast-result c =
     let channel = c.in_ok-channel.channel.now in
     let dimmer = c.in_ok-dimmer.dimmer.now in
     let byte = c.in_ok-byte.byte.now in
-    let three : words_left c.self.inside.words ≡ channel ∷ dimmer ∷ byte ∷ left = grind (arith, common_steps) in
-    let fine = faultless_triple desk channel dimmer byte left (subst (λ ws. triple_fault desk ws ≡ None) three c.self.invariant) in
+    let three : words_left c.self.inside.words ≡ channel ∷ dimmer ∷ byte ∷ left
+    = grind (arith, common_steps) in
+    let none = subst (λ ws. triple_fault desk ws ≡ None) three c.self.invariant in
+    let fine = faultless_triple desk channel dimmer byte left none in
     let is : c.unwrap_or.result ≡ unwrap_or (number_of channel) 0 = grind (arith, common_steps) in
     omega (arith, fine.0.below, is)
 
@@ -24,8 +26,10 @@ overflow_cast-result-2 c =
     let channel = c.in_ok-channel.channel.now in
     let dimmer = c.in_ok-dimmer.dimmer.now in
     let byte = c.in_ok-byte.byte.now in
-    let three : words_left c.self.inside.words ≡ channel ∷ dimmer ∷ byte ∷ left = grind (arith, common_steps) in
-    let fine = faultless_triple desk channel dimmer byte left (subst (λ ws. triple_fault desk ws ≡ None) three c.self.invariant) in
+    let three : words_left c.self.inside.words ≡ channel ∷ dimmer ∷ byte ∷ left
+    = grind (arith, common_steps) in
+    let none = subst (λ ws. triple_fault desk ws ≡ None) three c.self.invariant in
+    let fine = faultless_triple desk channel dimmer byte left none in
     let is : c.unwrap_or-2.result ≡ unwrap_or (number_of dimmer) 0 = grind (arith, common_steps) in
     omega (arith, fine.1.below, is)
 
@@ -35,5 +39,7 @@ invariant_of-self-2 c =
     let channel = c.in_ok-channel.channel.now in
     let dimmer = c.in_ok-dimmer.dimmer.now in
     let byte = c.in_ok-byte.byte.now in
-    let three : words_left c.self.inside.words ≡ channel ∷ dimmer ∷ byte ∷ left = grind (arith, common_steps) in
-    (faultless_triple desk channel dimmer byte left (subst (λ ws. triple_fault desk ws ≡ None) three c.self.invariant)).2
+    let three : words_left c.self.inside.words ≡ channel ∷ dimmer ∷ byte ∷ left
+    = grind (arith, common_steps) in
+    let none = subst (λ ws. triple_fault desk ws ≡ None) three c.self.invariant in
+    (faultless_triple desk channel dimmer byte left none).2
