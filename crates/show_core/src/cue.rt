@@ -47,7 +47,7 @@ impl<'a> Model for Cue<'a> {
 }
 
 impl<'a> Cue<'a> {
-    pub fn of(cue: &'a CueData) -> Cue<'a>
+    pub(crate) fn of(cue: &'a CueData) -> Cue<'a>
         ensures { result ≡ cue.now }
     {
         Cue { data: cue }

@@ -19,3 +19,6 @@ pub use limits::{
 };
 pub use rate::Rate;
 pub use show::{Counts, Show};
+
+#[cfg(test)]
+mod tests;

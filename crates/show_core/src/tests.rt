@@ -1,0 +1,339 @@
+use crate::{BuildFault, Counts, Rate, Show};
+use std::process::Abort;
+use std::test::Fail;
+
+const RISE: Rate = Rate {
+    time: 5000,
+    delay: 250,
+};
+
+const FALL: Rate = Rate {
+    time: 5_999_990,
+    delay: 0,
+};
+
+fn light_cue(
+    rt: &impl Abort,
+    show: &mut Show,
+    n: u32,
+    channel: u16,
+    byte: u8,
+) -> Result<(), BuildFault> {
+    assert!(rt; show.cue(n).is_some());
+    show.cue_level(n, channel, byte)
+}
+
+fn light_sub(
+    rt: &impl Abort,
+    show: &mut Show,
+    n: u16,
+    channel: u16,
+    byte: u8,
+) -> Result<(), BuildFault> {
+    assert!(rt; show.sub(n).is_some());
+    show.sub_level(n, channel, byte)
+}
+
+fn light_group(
+    rt: &impl Abort,
+    show: &mut Show,
+    n: u16,
+    channel: u16,
+    byte: u8,
+) -> Result<(), BuildFault> {
+    assert!(rt; show.group(n).is_some());
+    show.group_level(n, channel, byte)
+}
+
+fn rise(rt: &impl Abort, show: &mut Show, n: u32) {
+    assert!(rt; show.cue(n).is_some());
+    show.set_up(n, RISE);
+}
+
+fn fall(rt: &impl Abort, show: &mut Show, n: u32) {
+    assert!(rt; show.cue(n).is_some());
+    show.set_down(n, FALL);
+}
+
+fn rates(rt: &impl Abort, show: &Show, n: u32) -> (Rate, Rate) {
+    let cue = show.cue(n).expect(rt, "the cue");
+    (cue.up(), cue.down())
+}
+
+fn slot(rt: &impl Abort, show: &Show, ordinal: u16, place: usize) -> Option<u8> {
+    assert!(rt; show.cue(1000).is_some());
+    assert!(rt; ordinal < 16);
+    show.look_slots(1000, ordinal).get(place).copied()
+}
+
+#[test]
+fn levels_of_a_cue(rt: HostRuntime) -> Result<(), Fail> {
+    let mut show = Show::new(rt.alloc());
+    show.open_cue(1500)?;
+    for (channel, byte) in [(7, 3), (2, 128), (7, 0)] {
+        light_cue(&rt, &mut show, 1500, channel, byte)?;
+    }
+    let cue = show.cue(1500).expect(&rt, "cue 1.5");
+    assert!(rt; cue.pairs() == [(2, 128), (7, 0)].as_slice());
+    assert!(rt; cue.level(2) == 128 && cue.level(4096) == 0);
+    Ok(())
+}
+
+#[test]
+fn rates_of_cues(rt: HostRuntime) -> Result<(), Fail> {
+    let mut show = Show::new(rt.alloc());
+    for n in 1..=4 {
+        show.open_cue(n)?;
+    }
+    rise(&rt, &mut show, 1);
+    fall(&rt, &mut show, 2);
+    rise(&rt, &mut show, 3);
+    fall(&rt, &mut show, 3);
+    let zero = Rate { time: 0, delay: 0 };
+    for (n, up, down) in [
+        (1, RISE, RISE),
+        (2, FALL, FALL),
+        (3, RISE, FALL),
+        (4, zero, zero),
+    ] {
+        assert!(rt; rates(&rt, &show, n) == (up, down), "cue {n}");
+    }
+    Ok(())
+}
+
+#[test]
+fn cues_in_order(rt: HostRuntime) -> Result<(), Fail> {
+    let mut show = Show::new(rt.alloc());
+    for n in [2000, 1500, 1000] {
+        show.open_cue(n)?;
+    }
+    for (n, next, before) in [
+        (0, Some(1000), None),
+        (1000, Some(1500), None),
+        (1001, Some(1500), Some(1000)),
+        (1500, Some(2000), Some(1000)),
+        (2000, None, Some(1500)),
+    ] {
+        assert!(rt; show.next(n) == next, "after {n}");
+        assert!(rt; show.before(n) == before, "before {n}");
+    }
+    Ok(())
+}
+
+// Submaster 1, group 3 and dimmer 513, each with one level.
+fn small_show(rt: &impl Abort, show: &mut Show) -> Result<(), BuildFault> {
+    show.open_sub(1)?;
+    light_sub(rt, show, 1, 1, 128)?;
+    show.open_group(3)?;
+    light_group(rt, show, 3, 5, 255)?;
+    show.set_patch(513, 5, 255)
+}
+
+fn is_small(show: &Show) -> bool {
+    show.sub(1) == Some([(1, 128)].as_slice())
+        && show.group(3) == Some([(5, 255)].as_slice())
+        && show.patched(513) == Some((5, 255))
+}
+
+#[test]
+fn copies_stand_alone(rt: HostRuntime) -> Result<(), Fail> {
+    let mut show = Show::new(rt.alloc());
+    small_show(&rt, &mut show)?;
+    let copy = show.clone_in(rt.alloc())?;
+    show.open_cue(1)?;
+    show.clear_cues();
+    show.clear_subs();
+    show.clear_groups();
+    show.clear_patch();
+    assert!(rt; is_small(&copy));
+    let none = Counts {
+        cues: 0,
+        subs: 0,
+        groups: 0,
+        dimmers: 0,
+    };
+    assert!(rt; show.counts() == none);
+    Ok(())
+}
+
+// Cue 1 with three channels, and a patch over three universes.
+fn look_show(rt: &impl Abort, show: &mut Show) -> Result<(), BuildFault> {
+    show.open_cue(1000)?;
+    for (channel, byte) in [(1, 128), (2, 255), (4096, 255)] {
+        light_cue(rt, show, 1000, channel, byte)?;
+    }
+    for (dimmer, channel, byte) in [
+        (1, 1, 128),
+        (2, 3, 255),
+        (512, 1, 255),
+        (513, 2, 255),
+        (8192, 4096, 255),
+        (9, 1, 255),
+        (9, 0, 255),
+    ] {
+        show.set_patch(dimmer, channel, byte)?;
+    }
+    Ok(())
+}
+
+#[test]
+fn looks_of_each_universe(rt: HostRuntime) -> Result<(), Fail> {
+    let mut show = Show::new(rt.alloc());
+    look_show(&rt, &mut show)?;
+    assert!(rt; show.universes().as_slice() == [0, 1, 15].as_slice());
+    for (ordinal, place, byte) in [
+        (0, 0, 64),
+        (0, 1, 0),
+        (0, 8, 0),
+        (0, 511, 128),
+        (1, 0, 255),
+        (1, 511, 0),
+        (15, 511, 255),
+    ] {
+        assert!(rt;
+            slot(&rt, &show, ordinal, place) == Some(byte),
+            "place {place} of {ordinal}"
+        );
+    }
+    Ok(())
+}
+
+const LIMIT: Result<(), BuildFault> = Err(BuildFault::Limit);
+
+#[test]
+fn records_beyond_their_range(rt: HostRuntime) {
+    let mut show = Show::new(rt.alloc());
+    for (n, answer) in [
+        (0, LIMIT),
+        (1, Ok(())),
+        (9_999_999, Ok(())),
+        (10_000_000, LIMIT),
+    ] {
+        assert!(rt; show.open_cue(n) == answer, "cue {n}");
+    }
+    for (n, answer) in [(0, LIMIT), (1, Ok(())), (100, Ok(())), (101, LIMIT)] {
+        assert!(rt; show.open_sub(n) == answer, "submaster {n}");
+    }
+    for (n, answer) in [(0, LIMIT), (1, Ok(())), (500, Ok(())), (501, LIMIT)] {
+        assert!(rt; show.open_group(n) == answer, "group {n}");
+    }
+}
+
+#[test]
+fn channels_beyond_their_range(rt: HostRuntime) -> Result<(), Fail> {
+    let mut show = Show::new(rt.alloc());
+    show.open_cue(1)?;
+    show.open_sub(1)?;
+    show.open_group(1)?;
+    for (channel, answer) in [(0, LIMIT), (4096, Ok(())), (4097, LIMIT)] {
+        assert!(rt;
+            light_cue(&rt, &mut show, 1, channel, 255) == answer,
+            "channel {channel}"
+        );
+        assert!(rt;
+            light_sub(&rt, &mut show, 1, channel, 255) == answer,
+            "channel {channel}"
+        );
+        assert!(rt;
+            light_group(&rt, &mut show, 1, channel, 255) == answer,
+            "channel {channel}"
+        );
+    }
+    Ok(())
+}
+
+#[test]
+fn patches_beyond_their_range(rt: HostRuntime) {
+    let mut show = Show::new(rt.alloc());
+    for (dimmer, channel, answer) in [
+        (8192, 4096, Ok(())),
+        (8192, 0, Ok(())),
+        (1, 4097, LIMIT),
+        (0, 1, LIMIT),
+        (8193, 0, LIMIT),
+    ] {
+        assert!(rt;
+            show.set_patch(dimmer, channel, 255) == answer,
+            "dimmer {dimmer}"
+        );
+    }
+    assert!(rt; show.patched(8192).is_none());
+}
+
+#[test]
+fn too_many_cues(rt: HostRuntime) -> Result<(), Fail> {
+    let mut show = Show::new(rt.alloc());
+    for n in 1..=2000 {
+        show.open_cue(1000 * n)?;
+    }
+    assert!(rt; show.open_cue(2_001_000) == LIMIT);
+    show.open_cue(1000)?;
+    assert!(rt; show.counts().cues == 2000);
+    Ok(())
+}
+
+#[derive(Clone, Copy)]
+enum Growth {
+    Cue,
+    CueLevel,
+    Sub,
+    SubLevel,
+    Group,
+    GroupLevel,
+    Patch,
+}
+
+fn grow(rt: &impl Abort, show: &mut Show, growth: Growth) -> Result<(), BuildFault> {
+    match growth {
+        Growth::Cue => show.open_cue(1000),
+        Growth::CueLevel => light_cue(rt, show, 1000, 1, 255),
+        Growth::Sub => show.open_sub(1),
+        Growth::SubLevel => light_sub(rt, show, 1, 1, 255),
+        Growth::Group => show.open_group(1),
+        Growth::GroupLevel => light_group(rt, show, 1, 1, 255),
+        Growth::Patch => show.set_patch(1, 1, 255),
+    }
+}
+
+// How much of each kind there is, the levels of the first records included.
+fn sizes(show: &Show) -> (Counts, Option<usize>, Option<usize>, Option<usize>) {
+    let cue = show.cue(1000).map(|cue| cue.pairs().len());
+    let sub = show.sub(1).map(|pairs| pairs.len());
+    let group = show.group(1).map(|pairs| pairs.len());
+    (show.counts(), cue, sub, group)
+}
+
+// `rt try --test --fail-alloc N` refuses the Nth growth: N from 1 to 14 refuses each growth of this test in turn, and it passes each time. The other tests then answer their error.
+#[test]
+fn each_growth_refused(rt: HostRuntime) {
+    let mut show = Show::new(rt.alloc());
+    for growth in [
+        Growth::Cue,
+        Growth::CueLevel,
+        Growth::Sub,
+        Growth::SubLevel,
+        Growth::Group,
+        Growth::GroupLevel,
+        Growth::Patch,
+    ] {
+        let before = sizes(&show);
+        let answer = grow(&rt, &mut show, growth);
+        if answer != Ok(()) {
+            assert!(rt; answer == Err(BuildFault::Memory));
+            assert!(rt; sizes(&show) == before);
+            assert!(rt; grow(&rt, &mut show, growth) == Ok(()));
+        }
+    }
+    let copy = match show.clone_in(rt.alloc()) {
+        Ok(copy) => copy,
+        Err(_) => show.clone_in(rt.alloc()).expect(&rt, "memory"),
+    };
+    let one = Counts {
+        cues: 1,
+        subs: 1,
+        groups: 1,
+        dimmers: 1,
+    };
+    assert!(rt; sizes(&show) == (one, Some(1), Some(1), Some(1)));
+    assert!(rt; sizes(&copy) == sizes(&show));
+}
