@@ -76,8 +76,7 @@ class Words(ProgramTest):
             (["check", "-", "-"], b"'-'"),
             (["check", "-", "--cid", CID], b"'--cid'"),
             (["look", "-", "--cid", CID], b"<CUE>"),
-            (["look", "-", "1"], b"--cid <cid>"),
-            (["look", "-", "1", "--cid"], b"'--cid <cid>'"),
+            (["look", "-", "1"], b"--cid <UUID>"),
             (["look", "-", "1", "--cid", CID, "--bogus"], b"'--bogus'"),
             (["look", "-", "-1", "--cid", CID], b"'-1'"),
             (["-x", "check", "-"], b"'-x'"),
@@ -85,6 +84,9 @@ class Words(ProgramTest):
         ):
             with self.subTest(words):
                 self.assertRefused(*words, telling=[b"error: ", b"Usage: ", b"'--help'", telling])
+
+    def test_option_without_a_value(self):
+        self.assertRefused("look", "-", "1", "--cid", telling=[b"error: ", b"'--cid <UUID>'", b"'--help'"])
 
     def test_option_given_twice(self):
         self.assertRefused("look", "-", "1", "--cid", CID, "--cid", CID)
