@@ -38,11 +38,11 @@ pub(crate) fn separators(bytes: &[u8]) -> usize
 // Which bytes up to `@` end a word: the separators, and the `!` of a comment. A text is mostly words, and each of
 // its bytes is looked up.
 const WORD_ENDS: [bool; 65] = [
-    false, false, false, false, false, false, false, false, false, true, false, false, false,
-    true, false, false, false, false, false, false, false, false, false, false, false, false,
-    true, false, false, false, false, false, true, true, false, false, false, false, false,
-    false, false, false, false, false, true, false, false, true, false, false, false, false,
-    false, false, false, false, false, false, false, true, true, true, true, false, true,
+    false, false, false, false, false, false, false, false, false, true, false, false, false, true,
+    false, false, false, false, false, false, false, false, false, false, false, false, true,
+    false, false, false, false, false, true, true, false, false, false, false, false, false, false,
+    false, false, false, true, false, false, true, false, false, false, false, false, false, false,
+    false, false, false, false, true, true, true, true, false, true,
 ];
 
 fn is_word_end(byte: u8) -> bool
