@@ -43,14 +43,14 @@ lowest_faults : (alone (codes "SUB 101 x") ≡ Some (Faulty BadNumber))
 lowest_faults = (refl, refl, refl, refl, refl, refl, refl, refl, refl)
 
 -- a page other than 1, an unknown or missing table, no owner
-skipped_lines : (alone (codes "CUE 3 2") ≡ Some Skipped)
+lines_without_effect : (alone (codes "CUE 3 2") ≡ Some Skipped)
     × (alone (codes "CUE 1 0") ≡ Some Skipped)
     × (alone (codes "PATCH 2 x") ≡ Some Skipped)
     × (alone (codes "CLEAR") ≡ Some Skipped)
     × (alone (codes "CLEAR CUE 2") ≡ Some Skipped)
     × (alone (codes "CHAN 1@x") ≡ Some Skipped)
     × (in_cue (codes "$$FADE 7") ≡ Some Skipped)
-skipped_lines = (refl, refl, refl, refl, refl, refl, refl)
+lines_without_effect = (refl, refl, refl, refl, refl, refl, refl)
 
 records : (alone (codes "Cue 1.5 000000001") ≡ Some (Opens (Cue 1500)))
     × (alone (codes "GROUP 500") ≡ Some (Opens (Group 500)))

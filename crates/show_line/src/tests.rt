@@ -85,7 +85,7 @@ fn opened_records(rt: HostRuntime) -> Result<(), Fail> {
 }
 
 #[test]
-fn skipped_lines(rt: HostRuntime) -> Result<(), Fail> {
+fn lines_without_effect(rt: HostRuntime) -> Result<(), Fail> {
     for (owner, line, skipped) in [
         (CUE, b"CUE 3 2".as_slice(), true),
         (CUE, b"PATCH 2 x", true),
