@@ -1,9 +1,13 @@
 //! The patch: the frames of the universes, and the slot-wise greatest of two frames.
 #![tactic(auto)]
 
+mod fault;
 mod greatest;
+mod rig;
 
+pub use fault::RigFault;
 pub use greatest::max_into;
+pub use rig::{Rig, TOP_UNIVERSE};
 
 #[cfg(test)]
 mod tests;

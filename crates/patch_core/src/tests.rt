@@ -1,6 +1,10 @@
 ghost use Rattle.std.specs.Prelude.{◌<◌};
 
-use crate::max_into;
+use crate::{Rig, RigFault, max_into};
+use show_core::{BuildFault, Show};
+use std::alloc::Global;
+use std::process::Abort;
+use std::test::Fail;
 
 // Slots that rise by a step and start anew above 250.
 fn slots(step: usize) -> [u8; 512]
@@ -37,5 +41,109 @@ fn max_every_length(rt: HostRuntime) {
         max_into(&mut most, &b[..length]);
         plain_max(&mut plain, &b[..length]);
         assert!(rt; most == plain, "length {length}");
+    }
+}
+
+// Dimmers of four channels over three universes; dimmer 3 was patched and is not any more.
+fn patched_show(show: &mut Show) -> Result<(), BuildFault> {
+    for (dimmer, channel, byte) in [
+        (1, 7, 128),
+        (2, 1, 255),
+        (3, 7, 255),
+        (512, 7, 255),
+        (513, 2, 255),
+        (514, 7, 64),
+        (8192, 4096, 255),
+        (3, 0, 255),
+    ] {
+        show.set_patch(dimmer, channel, byte)?;
+    }
+    Ok(())
+}
+
+// The slot at a place of the frame of an ordinal, over what was there.
+fn slot_of(
+    rt: &impl Abort,
+    rig: &Rig,
+    k: u16,
+    levels: &[u32],
+    grand: u8,
+    place: usize,
+) -> Option<u8> {
+    assert!(rt; k < 16 && levels.len() == 4096);
+    assert!(rt; levels.iter().all(|level| *level <= 65025));
+    let mut out = [99; 512];
+    rig.frame(k, levels, grand, &mut out);
+    out.get(place).copied()
+}
+
+#[test]
+fn frame_half(rt: HostRuntime) -> Result<(), Fail> {
+    let mut show = Show::new(rt.alloc());
+    patched_show(&mut show)?;
+    let rig = Rig::new(rt.alloc(), &show, 1).expect(&rt, "a rig");
+    let mut levels = vec![in rt.alloc(); 0; 4096]?;
+    levels[6] = 32640;
+    levels[4095] = 65025;
+    for (k, grand, place, slot) in [
+        (0, 255, 0, 64),
+        (0, 255, 1, 0),
+        (0, 255, 2, 0),
+        (0, 255, 511, 128),
+        (0, 128, 511, 64),
+        (0, 0, 511, 0),
+        (1, 255, 0, 0),
+        (1, 255, 1, 32),
+        (2, 255, 1, 0),
+        (15, 255, 511, 255),
+    ] {
+        assert!(rt;
+            slot_of(&rt, &rig, k, &levels, grand, place) == Some(slot),
+            "place {place} of {k} at {grand}"
+        );
+    }
+    Ok(())
+}
+
+fn fault_of(alloc: Global, show: &Show, base: u16) -> Option<RigFault> {
+    match Rig::new(alloc, show, base) {
+        Ok(_) => None,
+        Err(fault) => Some(fault),
+    }
+}
+
+#[test]
+fn universe_limit(rt: HostRuntime) -> Result<(), Fail> {
+    let mut show = Show::new(rt.alloc());
+    show.set_patch(1, 1, 255)?;
+    show.set_patch(1, 0, 255)?;
+    for (base, fault) in [
+        (0, Some(RigFault::Universe)),
+        (1, None),
+        (63999, None),
+        (64000, Some(RigFault::Universe)),
+        (65535, Some(RigFault::Universe)),
+    ] {
+        assert!(rt; fault_of(rt.alloc(), &show, base) == fault, "base {base}");
+    }
+    show.set_patch(513, 1, 255)?;
+    for (base, fault) in [(63998, None), (63999, Some(RigFault::Universe))] {
+        assert!(rt; fault_of(rt.alloc(), &show, base) == fault, "base {base}");
+    }
+    let rig = Rig::new(rt.alloc(), &show, 63998).expect(&rt, "a rig");
+    assert!(rt; rig.base() == 63998);
+    Ok(())
+}
+
+// `rt try --test --fail-alloc N` refuses the Nth growth: N of 1 and 2 refuses each growth of this test in turn, and it passes each time. The other tests then answer their error.
+#[test]
+fn each_growth_refused(rt: HostRuntime) {
+    let mut show = Show::new(rt.alloc());
+    if show.set_patch(1, 1, 255).is_err() {
+        assert!(rt; show.set_patch(1, 1, 255).is_ok());
+    }
+    if let Err(fault) = Rig::new(rt.alloc(), &show, 1) {
+        assert!(rt; fault == RigFault::Memory);
+        assert!(rt; Rig::new(rt.alloc(), &show, 1).is_ok());
     }
 }

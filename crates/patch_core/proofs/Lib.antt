@@ -1,0 +1,3 @@
+pub mod Dimmers
+pub mod Frames
+mod Rows

@@ -1,0 +1,17 @@
+-- The fields of a rig, seen as its base and its patch.
+use Rattle.std.specs.Prelude.{IsTrue, All}
+use Rattle.std.specs.Ordering.{nat_cmp}
+use Rattle.std.specs.FinMap as map
+use Rattle.show_core.specs.Numbers.{is_channel}
+use Rattle.patch_core.specs.declared.rig.Rig.TheInside.{Inside}
+use Rattle.patch_core.specs.Frame.{Rigging, is_base}
+
+-- the patch is the map of the dimmers
+abbrev pub rig_view : Inside → Rigging
+rig_view r = record { base = r.base; patch = map.from_sorted r.dimmers.items }
+
+-- the dimmers rise, the channels are in their range, and the universes have numbers
+pub record IsRig (r : Inside) : Type 0 where
+  pub sorted : IsTrue (map.is_sorted nat_cmp r.dimmers.items)
+  pub channels_in : All (λ e. IsTrue (is_channel e.1.0)) r.dimmers.items
+  pub base_in : IsTrue (is_base (rig_view r).patch r.base)

@@ -1,0 +1,21 @@
+ghost use Rattle.std.specs.Prelude.{◌≡◌};
+ghost use Rattle.patch_core.specs.declared.fault.RigFault.TheVariants.{Memory};
+
+use std::alloc::AllocError;
+
+/// Why there is no rig.
+#[derive(Clone, Copy, Debug, PartialEq, Eq)]
+pub enum RigFault {
+    /// A universe would have no number from 1 to 63999.
+    Universe,
+    /// A growth was refused.
+    Memory,
+}
+
+impl From<AllocError> for RigFault {
+    ghost from_gives = { λ _ e. e ≡ Memory };
+
+    fn from(_e: AllocError) -> RigFault {
+        RigFault::Memory
+    }
+}

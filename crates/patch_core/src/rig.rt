@@ -1,0 +1,141 @@
+ghost use Rattle.std.specs.Prelude.{◌≡◌, ◌+◌, ◌*◌, ◌<◌, ◌≤◌, ◌↔◌, IsTrue, IsFalse, IfOk, Err, All, length};
+ghost use Rattle.std.specs.List.{AllWithin, list_all};
+ghost use Rattle.std.specs.Ordering.{nat_cmp};
+ghost use Rattle.std.specs.FinMap as map;
+ghost use Rattle.show_core.specs.Numbers.{is_channel};
+ghost use Rattle.show_core.specs.Readers.{slot_of, IsInRange};
+ghost use Rattle.patch_core.specs.Frame.{is_universe, is_base, level_in, frame_of};
+ghost use Rattle.patch_core.specs.declared.fault.RigFault.TheVariants.{Universe, Memory};
+
+use crate::fault::RigFault;
+use show_core::{CHANNELS, DIMMERS, SLOTS, Show, UNIVERSES};
+use std::alloc::{AllocError, Global};
+use std::marker::Model;
+
+/// Universes are numbered from 1 to this (E1.31, 6.2.7).
+pub const TOP_UNIVERSE: u32 = 63_999;
+
+/// The patch of a show, and the number of the universe of ordinal 0: what makes frames of levels.
+#[derive(Drop)]
+pub struct Rig {
+    base: u16,
+    dimmers: Vec<(u16, (u16, u8))>,
+}
+
+impl Model for Rig {
+    ghost use Rattle.patch_core.specs.Frame.{Rigging};
+
+    ghost Value = { Rigging };
+
+    ghost use Rattle.std.specs.Prelude.{ℕ, refl};
+    ghost use Rattle.std.specs.Coded.{code_by, coded×, coded_ℕ};
+    ghost use Rattle.std.specs.FinMap as map;
+    ghost use Rattle.show_core.specs.Tables.{PatchMap};
+
+    ghost coded = { code_by (ℕ × PatchMap) (coded× coded_ℕ (map.code coded_ℕ (coded× coded_ℕ coded_ℕ))) (λ r. (r.base, r.patch)) (λ p. record { base = p.0; patch = p.1 }) (λ _. refl) };
+
+    ghost use Rattle.patch_core.specs.Inside.{rig_view, IsRig};
+
+    ghost view = { rig_view };
+
+    ghost invariant = { IsRig };
+}
+
+impl Rig {
+    /// The rig of a show's patch, with `base` as the number of the universe of ordinal 0.
+    ///
+    /// # Errors
+    ///
+    /// `Universe` where `base`, or `base` plus an ordinal with a patched dimmer, is not 1 to 63999; else `Memory` where a growth was refused.
+    pub fn new(alloc: Global, show: &Show, base: u16) -> Result<Rig, RigFault>
+        ensures rig { IfOk result (λ rig. rig ≡ record { base = base; patch = show.now.patch }) }
+        ensures universe { (result ≡ Err Universe) ↔ IsFalse (is_base show.now.patch base) }
+    {
+        if !is_base(show, base) {
+            return Err(RigFault::Universe);
+        }
+        let dimmers = patched_dimmers(alloc, show)?;
+        Ok(Rig { base, dimmers })
+    }
+
+    /// The number of the universe of ordinal 0. Each universe with a patched dimmer has a number, too.
+    pub fn base(&self) -> u16
+        ensures base { result ≡ self.now.base }
+        ensures range { IsTrue (is_base self.now.patch result) }
+    {
+        self.base
+    }
+
+    /// Writes the frame of the universe of ordinal `k`, 0 to 15: for each patched dimmer its channel's level, scaled by the grand master
+    /// and by the dimmer's own byte, to the nearest byte; 0 for each other dimmer.
+    ///
+    /// `levels` has a level for each channel, from 0 to 65025, beginning with channel 1.
+    pub fn frame(&self, k: u16, levels: &[u32], grand: u8, out: &mut [u8; 512])
+        requires ordinal { k < UNIVERSES }
+        requires each_channel { length levels.now ≡ CHANNELS }
+        requires full { All (λ level. level ≤ 65025) levels.now }
+        ensures { out.new ≡ frame_of self.now.patch (level_in levels.now) grand k }
+    {
+        let first = SLOTS * k + 1;
+        let dimmers = self.dimmers.as_slice();
+        let from = first_from(dimmers, first);
+        let to = first_from(dimmers, first + SLOTS);
+        *out = [0; 512];
+        for i in from..to {
+            let (dimmer, (channel, byte)) = dimmers[i];
+            out[usize::from(dimmer - first)] = slot(levels[usize::from(channel) - 1], grand, byte);
+        }
+    }
+}
+
+fn is_universe(number: u32) -> bool
+    ensures { result ≡ is_universe number }
+{
+    (1..=TOP_UNIVERSE).contains(&number)
+}
+
+#[tactic(auto, unfolding(crate::specs::Frame::is_base))]
+fn is_base(show: &Show, base: u16) -> bool
+    ensures { result ≡ is_base show.now.patch base }
+{
+    is_universe(u32::from(base)) && have_numbers(base, &show.universes())
+}
+
+// Whether the universe of each ordinal has a number.
+fn have_numbers(base: u16, ordinals: &[u16]) -> bool
+    ensures { result ≡ list_all (λ ordinal. is_universe (base + ordinal)) ordinals.now }
+{
+    ordinals.iter().all(|ordinal| is_universe(u32::from(base) + u32::from(*ordinal)))
+}
+
+// The patched dimmers, ascending, each with its channel and its byte.
+fn patched_dimmers(alloc: Global, show: &Show) -> Result<Vec<(u16, (u16, u8))>, AllocError>
+    ensures entries { IfOk result (λ dimmers. dimmers.items ≡ map.entries show.now.patch) }
+    ensures range { IsInRange show.now }
+{
+    let mut dimmers = Vec::with_capacity(alloc, show.counts().dimmers as usize)?;
+    for dimmer in 1..=DIMMERS {
+        if let Some(patch) = show.patched(dimmer) {
+            dimmers.push((dimmer, patch))?;
+        }
+    }
+    Ok(dimmers)
+}
+
+// The place where the dimmers from this one on begin.
+fn first_from(dimmers: &[(u16, (u16, u8))], dimmer: u16) -> usize
+    requires { IsTrue (map.is_sorted nat_cmp dimmers.now) }
+    ensures range { result ≤ length dimmers.now }
+    ensures below { AllWithin (λ e. e.0 < dimmer) dimmers.now 0 result }
+    ensures from_on { AllWithin (λ e. dimmer ≤ e.0) dimmers.now result (length dimmers.now) }
+{
+    dimmers.partition_point(|entry| entry.0 < dimmer)
+}
+
+// The slot of a dimmer, from its channel's level, the grand master and its own byte.
+fn slot(level: u32, grand: u8, byte: u8) -> u8
+    requires { level ≤ 65025 }
+    ensures { result ≡ slot_of level grand byte }
+{
+    ((level * u32::from(grand) * u32::from(byte) + 8_290_687) / 16_581_375) as u8
+}
