@@ -1,5 +1,6 @@
 -- The lines of packets, one after the other.
-use Rattle.std.proofs.Common.{arith, ◌≡◌, ◌∙◌, sym, ap, subst, ◌<◌, ℕ, ◌+◌, List, [], ◌∷◌, ◌++◌, All, flat_map, refl, take, length, get_or, append_assoc, Option, Some, None, IfSome}
+use Rattle.std.proofs.Common.{arith, ◌≡◌, ◌∙◌, sym, ap, subst, ℕ, ◌<◌, ◌+◌, Option, Some, None, IfSome}
+use Rattle.std.proofs.Common.{List, [], ◌∷◌, ◌++◌, All, flat_map, take, length, get_or, append_assoc}
 use Rattle.std.specs.List.{range_with_len, AllZip}
 use Rattle.std.proofs.lemmas.List.Elements.{All-filter}
 use Rattle.std.proofs.lemmas.List.{take_more, flat_map_more}
@@ -12,32 +13,35 @@ use Rattle.show_core.specs.Tables.{LevelMap, PatchMap}
 use Rattle.show_core.specs.Readers.{universes_of, has_dimmer_in, look_frame}
 use Rattle.cueplayer_runs.specs.Texts.{look_fields, hex_line, IsLookPacket, IsLinesOf}
 
+-- the numbers from 0 on are below their count
 below : (n : ℕ) → All (λ k. k < n) (range_with_len 0 n)
-below n = λ k d h. let h' : k < n = omega (arith, length-range_with_len 0 n) in omega (arith, get_or-range_with_len 0 n k d h')
+below n = λ k d h.
+    let within : k < n = omega (arith, length-range_with_len 0 n) in
+    omega (arith, get_or-range_with_len 0 n k d within)
 
 -- the ordinals of a show are below 16
 pub universes_in_range : (patch : PatchMap) → All (λ k. k < UNIVERSES) (universes_of patch)
-universes_in_range patch = All-filter (has_dimmer_in patch) (λ k. k < UNIVERSES) (range_with_len 0 UNIVERSES) (below UNIVERSES)
-
--- no universe, no line
-pub no_lines : (levels : LevelMap) (patch : PatchMap) (cid : List ℕ) → IsLinesOf levels patch cid [] []
-no_lines levels patch cid = record { packets = []; each = tt; lines = refl }
+universes_in_range patch =
+    All-filter (has_dimmer_in patch) (λ k. k < UNIVERSES) (range_with_len 0 UNIVERSES) (below UNIVERSES)
 
 -- a relation of pairs holds of one pair more
-zip_more : {A B : Type 0} (R : A → B → Type 0) (xs : List A) (ys : List B) (x : A) (y : B) → AllZip R xs ys → R x y → AllZip R (xs ++ x ∷ []) (ys ++ y ∷ [])
+zip_more : {A B : Type 0} (R : A → B → Type 0) (xs : List A) (ys : List B) (x : A) (y : B)
+    → AllZip R xs ys → R x y → AllZip R (xs ++ x ∷ []) (ys ++ y ∷ [])
 zip_more R [] [] x y each more = (more, tt)
 zip_more R [] (b ∷ ys) x y each more = absurd each
 zip_more R (a ∷ xs) [] x y each more = absurd each
 zip_more R (a ∷ xs) (b ∷ ys) x y each more = (each.0, zip_more R xs ys x y each.1 more)
 
 -- the line of one more universe
-one_more_line : (levels : LevelMap) (patch : PatchMap) (cid : List ℕ) (ordinals : List ℕ) (text packet : List ℕ) (k : ℕ)
+one_more_line : (levels : LevelMap) (patch : PatchMap) (cid ordinals text packet : List ℕ) (k : ℕ)
     → IsLinesOf levels patch cid ordinals text
     → IsData packet (look_fields cid k) (look_frame levels patch k)
     → IsLinesOf levels patch cid (ordinals ++ k ∷ []) ((text ++ encode_lower packet) ++ 10 ∷ [])
 one_more_line levels patch cid ordinals text packet k so_far is =
     let lines : (text ++ encode_lower packet) ++ 10 ∷ [] ≡ flat_map hex_line (so_far.packets ++ packet ∷ []) =
-    append_assoc text (encode_lower packet) (10 ∷ []) ∙ ap (λ front. front ++ hex_line packet) so_far.lines ∙ flat_map_more hex_line [] so_far.packets packet in
+    append_assoc text (encode_lower packet) (10 ∷ [])
+    ∙ ap (λ front. front ++ hex_line packet) so_far.lines
+    ∙ flat_map_more hex_line [] so_far.packets packet in
     record {
       packets = so_far.packets ++ packet ∷ [];
       each = zip_more (IsLookPacket levels patch cid) ordinals so_far.packets k packet so_far.each is;
@@ -45,7 +49,8 @@ one_more_line levels patch cid ordinals text packet k so_far is =
     }
 
 -- the line of the next of some universes, with the levels of a cue that may be there
-pub line_added : (o : Option CueData) (patch : PatchMap) (cid : List ℕ) (ordinals : List ℕ) (i : ℕ) (text packet slots longer : List ℕ)
+pub line_added : (o : Option CueData) (patch : PatchMap) (cid ordinals : List ℕ) (i : ℕ)
+    (text packet slots longer : List ℕ)
     → i < length ordinals
     → IfSome o (λ look. IsLinesOf look.levels patch cid (take i ordinals) text)
     → IsData packet (look_fields cid (get_or ordinals i 0)) slots
@@ -57,10 +62,11 @@ line_added (Some look) patch cid ordinals i text packet slots longer within so_f
     let k = get_or ordinals i 0 in
     let framed : IsData packet (look_fields cid k) (look_frame look.levels patch k) =
     let P : List ℕ → Type 0 = λ frame. IsData packet (look_fields cid k) frame in subst P full is in
-    let all : IsLinesOf look.levels patch cid (take i ordinals ++ k ∷ []) ((text ++ encode_lower packet) ++ 10 ∷ []) =
+    let more = (text ++ encode_lower packet) ++ 10 ∷ [] in
+    let all : IsLinesOf look.levels patch cid (take i ordinals ++ k ∷ []) more =
     one_more_line look.levels patch cid (take i ordinals) text packet k so_far framed in
-    let taken : IsLinesOf look.levels patch cid (take (i + 1) ordinals) ((text ++ encode_lower packet) ++ 10 ∷ []) =
-    let P : List ℕ → Type 0 = λ ks. IsLinesOf look.levels patch cid ks ((text ++ encode_lower packet) ++ 10 ∷ []) in
+    let taken : IsLinesOf look.levels patch cid (take (i + 1) ordinals) more =
+    let P : List ℕ → Type 0 = λ ks. IsLinesOf look.levels patch cid ks more in
     subst P (sym (take_more ordinals i 0 within)) all in
     let P : List ℕ → Type 0 = λ t. IsLinesOf look.levels patch cid (take (i + 1) ordinals) t in
     subst P (sym added) taken

@@ -1,4 +1,4 @@
--- Texts, evaluated.
+-- Printed texts, evaluated.
 use Rattle.std.specs.Prelude.{◌≡◌, refl, codes}
 use Rattle.std.specs.Fmt.{digits}
 use Rattle.show_reader.specs.declared.fault.ShowFault.TheVariants.{TooLong, MissingNumber, BadLevel, Memory}
@@ -18,8 +18,10 @@ console_style_file : counts_line 12 1 0 0 2 1 ≡ codes "lines 12 cues 1 subs 0 
 unfolding digits
 console_style_file = refl
 
-show_faults : (fault_text (run.Show (BadLevel 2)) ≡ codes "show line 2: BadLevel") × (fault_status (run.Show (BadLevel 2)) ≡ 3)
-    × (fault_text (run.Show (MissingNumber 1)) ≡ codes "show line 1: MissingNumber") × (fault_text (run.Show TooLong) ≡ codes "show: TooLong")
+show_faults : (fault_text (run.Show (BadLevel 2)) ≡ codes "show line 2: BadLevel")
+    × (fault_text (run.Show (MissingNumber 1)) ≡ codes "show line 1: MissingNumber")
+    × (fault_text (run.Show TooLong) ≡ codes "show: TooLong")
+    × (fault_status (run.Show (BadLevel 2)) ≡ 3)
 unfolding digits
 show_faults = (refl, refl, refl, refl)
 

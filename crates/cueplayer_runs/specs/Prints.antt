@@ -18,14 +18,19 @@ OfItsShow show P = ((s : Tables) × IsShowOf (statements_of desk show) s)
 
 -- what `check` prints of a show text
 abbrev pub IsCheckOf : List ℕ → List ℕ → Type 0
-IsCheckOf show text = OfItsShow show (λ s. text ≡ check_text (lines_read desk show) (lines_skipped desk show) s)
+IsCheckOf show text = OfItsShow show (λ s.
+    text ≡ check_text (lines_read desk show) (lines_skipped desk show) s)
 
 -- what `look` prints of a cue of a show text, with this CID; the cue is there
 abbrev pub IsLookOf : List ℕ → ℕ → List ℕ → List ℕ → Type 0
-IsLookOf show cue cid text = OfItsShow show (λ s. IsSomeAnd (maps.get s.cues cue) (λ look. IsLookText look.levels s.patch cid text))
+IsLookOf show cue cid text = OfItsShow show (λ s.
+    IsSomeAnd (maps.get s.cues cue) (λ look. IsLookText look.levels s.patch cid text))
 
--- at Ok the output took such a text and nothing else, at Device one write failed, and at any other fault nothing was written
-abbrev pub Prints : {X : Type 0} → Result X RunFault → (List ℕ → Type 0) → List ℕ → List ℕ → ℕ → ℕ → Type 0
-Prints (Ok x) IsText before after failed fails = (text : List ℕ) × IsText text × Took text before after failed fails
+-- at Ok the output took such a text and nothing else, at Device one write failed, and at any other fault
+-- nothing was written
+abbrev pub Prints : {X : Type 0} → Result X RunFault → (List ℕ → Type 0)
+    → List ℕ → List ℕ → ℕ → ℕ → Type 0
+Prints (Ok x) IsText before after failed fails =
+    (text : List ℕ) × IsText text × Took text before after failed fails
 Prints (Err run.Device) IsText before after failed fails = Failed before after failed fails
 Prints (Err fault) IsText before after failed fails = (after ≡ before) × (fails ≡ failed)

@@ -15,10 +15,12 @@ counts_line lines cues subs groups dimmers skipped =
     ++ codes " groups " ++ decimal groups ++ codes " dimmers " ++ decimal dimmers
     ++ codes " skipped " ++ decimal skipped ++ codes "\n"
 
--- the line of `check` for a show, of whose text these many lines were read and skipped; the dimmers are those that are patched
+-- the line of `check` for a show, of whose text so many lines were read and skipped; the dimmers are those
+-- that are patched
 abbrev pub check_text : ℕ → ℕ → Tables → List ℕ
 check_text lines skipped show =
-    counts_line lines (maps.len show.cues) (maps.len show.subs) (maps.len show.groups) (maps.len show.patch) skipped
+    counts_line lines (maps.len show.cues) (maps.len show.subs) (maps.len show.groups)
+    (maps.len show.patch) skipped
 
 -- what a packet of `look` says beside its slots: with base 1 the universe of ordinal 0 is universe 1
 abbrev pub look_fields : List ℕ → ℕ → Fields
@@ -35,14 +37,15 @@ look_fields cid ordinal = record {
 
 -- the packet of an ordinal's universe, with the levels alone at full
 abbrev pub IsLookPacket : LevelMap → PatchMap → List ℕ → ℕ → List ℕ → Type 0
-IsLookPacket levels patch cid ordinal packet = IsData packet (look_fields cid ordinal) (look_frame levels patch ordinal)
+IsLookPacket levels patch cid ordinal packet =
+    IsData packet (look_fields cid ordinal) (look_frame levels patch ordinal)
 
 -- a packet's line: its bytes in lower case hex, and LF
 abbrev pub hex_line : List ℕ → List ℕ
 hex_line packet = encode_lower packet ++ codes "\n"
 
 -- the text is the lines of the packets of the universes with these ordinals, in their order
-pub record IsLinesOf (levels : LevelMap) (patch : PatchMap) (cid : List ℕ) (ordinals : List ℕ) (text : List ℕ) : Type 0 where
+pub record IsLinesOf (levels : LevelMap) (patch : PatchMap) (cid ordinals text : List ℕ) : Type 0 where
   pub packets : List (List ℕ)
   pub each : AllZip (IsLookPacket levels patch cid) ordinals packets
   pub lines : text ≡ flat_map hex_line packets

@@ -1,8 +1,7 @@
 ghost use Rattle.std.specs.Prelude.{◌≡◌, ◌<◌, OnOk, IfErr, None, length};
 ghost use Rattle.show_line.specs.Said.{desk};
 ghost use Rattle.show_reader.specs.declared.fault.ShowFault.TheVariants as show_fault;
-ghost use Rattle.show_reader.specs.declared.fault.TheConstants.{LONGEST_TEXT};
-ghost use Rattle.show_reader.specs.Reading.{fault_of};
+ghost use Rattle.show_reader.specs.Reading.{fault_of, longest_text};
 ghost use Rattle.cueplayer_runs.specs.Faults.{CheckFails, LookFails};
 ghost use Rattle.cueplayer_runs.specs.Prints.{IsCheckOf, IsLookOf, Prints};
 
@@ -26,7 +25,7 @@ pub fn check<W: Output>(alloc: Global, show: &[u8], out: &mut W) -> Result<(), R
         (W.written out.old) (W.written out.new) (W.failures out.old) (W.failures out.new) }
     ensures faultless { OnOk result (fault_of desk show.now ≡ None) }
     ensures fault { IfErr result (CheckFails show.now) }
-    ensures too_long { LONGEST_TEXT < length show.now → result ≡ Err (RunFault.Show show_fault.TooLong) }
+    ensures too_long { longest_text < length show.now → result ≡ Err (RunFault.Show show_fault.TooLong) }
 {
     let loaded = read_show(alloc, show)?;
     let text = check_text(alloc, &loaded)?;
@@ -57,7 +56,7 @@ pub fn look<W: Output>(
         (W.written out.old) (W.written out.new) (W.failures out.old) (W.failures out.new) }
     ensures faultless { OnOk result (fault_of desk show.now ≡ None) }
     ensures fault { IfErr result (LookFails show.now cue) }
-    ensures too_long { LONGEST_TEXT < length show.now → result ≡ Err (RunFault.Show show_fault.TooLong) }
+    ensures too_long { longest_text < length show.now → result ≡ Err (RunFault.Show show_fault.TooLong) }
 {
     let loaded = read_show(alloc, show)?;
     if loaded.show.cue(cue).is_none() {

@@ -12,7 +12,8 @@ use std::alloc::{AllocError, Global};
 
 /// The line that `check` prints.
 pub(crate) fn check_text(alloc: Global, loaded: &Loaded) -> Result<String, AllocError>
-    ensures { IfOk result (λ text. string_bytes text ≡ check_text loaded.now.lines loaded.now.skipped loaded.now.show) }
+    ensures { IfOk result (λ text. string_bytes text
+        ≡ check_text loaded.now.lines loaded.now.skipped loaded.now.show) }
 {
     counts_line(alloc, loaded.lines, loaded.show.counts(), loaded.skipped)
 }
@@ -23,7 +24,8 @@ fn counts_line(
     counts: Counts,
     skipped: u32,
 ) -> Result<String, AllocError>
-    ensures { IfOk result (λ text. string_bytes text ≡ counts_line lines counts.cues counts.subs counts.groups counts.dimmers skipped) }
+    ensures { IfOk result (λ text. string_bytes text
+        ≡ counts_line lines counts.cues counts.subs counts.groups counts.dimmers skipped) }
 {
     let Counts {
         cues,
@@ -44,7 +46,8 @@ pub(crate) fn look_text(
     cid: [u8; 16],
 ) -> Result<Vec<u8>, AllocError>
     requires { IsTrue (maps.contains_key show.now.cues cue) }
-    ensures { IfOk result (λ text. IfSome (maps.get show.now.cues cue) (λ look. IsLookText look.levels show.now.patch cid text.items)) }
+    ensures { IfOk result (λ text. IfSome (maps.get show.now.cues cue) (λ look.
+        IsLookText look.levels show.now.patch cid text.items)) }
 {
     look_lines(alloc, show, cue, cid, show.universes().as_slice())
 }
@@ -58,7 +61,8 @@ fn look_lines(
 ) -> Result<Vec<u8>, AllocError>
     requires there { IsTrue (maps.contains_key show.now.cues cue) }
     requires range { All (λ ordinal. ordinal < UNIVERSES) ordinals.now }
-    ensures { IfOk result (λ text. IfSome (maps.get show.now.cues cue) (λ look. IsLinesOf look.levels show.now.patch cid ordinals.now text.items)) }
+    ensures { IfOk result (λ text. IfSome (maps.get show.now.cues cue) (λ look.
+        IsLinesOf look.levels show.now.patch cid ordinals.now text.items)) }
 {
     let mut text = Vec::new(alloc);
     for ordinal in ordinals {

@@ -1,4 +1,5 @@
-use Rattle.std.proofs.Common.{◌≡◌, ◌∙◌, sym, ap, subst, ℕ, List, Result, Ok, Err, None, true, false, not, is_some, IfSome, IfErr, IsErrAnd}
+use Rattle.std.proofs.Common.{◌≡◌, ◌∙◌, sym, ap, subst, ℕ, List, Result, Ok, Err, None, true, false, not}
+use Rattle.std.proofs.Common.{is_some, IfSome, IfErr, IsErrAnd}
 use Rattle.std.specs.FinMap as maps
 use Rattle.show_line.specs.Said.{desk}
 use Rattle.show_line.specs.declared.statement.Record.TheVariants.{Cue}
@@ -12,32 +13,41 @@ use Rattle.cueplayer_runs.specs.Faults.{LookFails}
 use Rattle.cueplayer_runs.proofs.Shows.{look_of, cue_is_there}
 use Rattle.cueplayer_runs.proofs.runs.look.Goals as goal
 
-output_failed : {X : Type 0} (r : Result X RunFault) (show : List ℕ) (cue : ℕ) → IsErrAnd r (λ e. e ≡ run.Device)
-    → fault_of desk show ≡ None → is_there (Cue cue) (statements_of desk show) ≡ true → IfErr r (LookFails show cue)
+-- the cue is there, and the output failed
+output_failed : {X : Type 0} (r : Result X RunFault) (show : List ℕ) (cue : ℕ)
+    → IsErrAnd r (λ e. e ≡ run.Device) → fault_of desk show ≡ None
+    → is_there (Cue cue) (statements_of desk show) ≡ true → IfErr r (LookFails show cue)
 output_failed (Ok x) show cue is faultless there = tt
 output_failed (Err e) show cue is faultless there = subst (LookFails show cue) (sym is) (faultless, there)
 
 pub returns-then-is_none-clause-fault : goal.returns-then-is_none-clause-fault
 returns-then-is_none-clause-fault g c =
-    let gone : is_some (maps.get c.in_ok-loaded.loaded.show.cues c.args.cue) ≡ false =
+    let show = c.in_ok-loaded.loaded.show in
+    let gone : is_some (maps.get show.cues c.args.cue) ≡ false =
     ap is_some (sym c.cue.ensures) ∙ c.is_none.ensures ∙ ap not c.if-is_none.true in
-    let none = cue_is_there (statements_of desk c.args.show.now) c.in_ok-loaded.loaded.show c.args.cue c.in_ok-loaded.ensures.show in
-    (c.in_ok-loaded.ensures.faultless, none ∙ gone)
+    let ss = statements_of desk c.args.show.now in
+    (c.in_ok-loaded.ensures.faultless, cue_is_there ss show c.args.cue c.in_ok-loaded.ensures.show ∙ gone)
 
 pub returns-in_err-write-clause-fault : goal.returns-in_err-write-clause-fault
 returns-in_err-write-clause-fault g c =
-    let there : is_some (maps.get c.in_ok-loaded.loaded.show.cues c.args.cue) ≡ true =
+    let show = c.in_ok-loaded.loaded.show in
+    let there : is_some (maps.get show.cues c.args.cue) ≡ true =
     ap is_some (sym c.cue.ensures) ∙ c.is_none.ensures ∙ ap not c.if-is_none.false in
-    let some = cue_is_there (statements_of desk c.args.show.now) c.in_ok-loaded.loaded.show c.args.cue c.in_ok-loaded.ensures.show in
-    output_failed c.from_residual-in_err-write.result c.args.show.now c.args.cue c.from_residual-in_err-write.ensures.1 c.in_ok-loaded.ensures.faultless (some ∙ there)
+    let ss = statements_of desk c.args.show.now in
+    output_failed c.from_residual-in_err-write.result c.args.show.now c.args.cue
+    c.from_residual-in_err-write.ensures.1 c.in_ok-loaded.ensures.faultless
+    (cue_is_there ss show c.args.cue c.in_ok-loaded.ensures.show ∙ there)
 
 pub returns-clause-text : goal.returns-clause-text
 returns-clause-text g c = λ tells.
-    let cues = c.in_ok-loaded.loaded.show.cues in
-    let there : is_some (maps.get cues c.args.cue) ≡ true = ap is_some (sym c.cue.ensures) ∙ c.is_none.ensures ∙ ap not c.if-is_none.false in
-    let P : List ℕ → Type 0 = λ t. IfSome (maps.get cues c.args.cue) (λ look. IsLookText look.levels c.in_ok-loaded.loaded.show.patch c.args.cid t) in
-    let lines : P c.as_slice.result.now = subst P (sym c.as_slice.ensures.value) c.in_ok-text.ensures in (
-      c.as_slice.result.now,
-      look_of c.args.show.now c.args.cue c.args.cid c.as_slice.result.now c.in_ok-loaded.loaded.show c.in_ok-loaded.ensures.show there lines,
+    let show = c.in_ok-loaded.loaded.show in
+    let text = c.as_slice.result.now in
+    let there : is_some (maps.get show.cues c.args.cue) ≡ true =
+    ap is_some (sym c.cue.ensures) ∙ c.is_none.ensures ∙ ap not c.if-is_none.false in
+    let P : List ℕ → Type 0 = λ t.
+    IfSome (maps.get show.cues c.args.cue) (λ look. IsLookText look.levels show.patch c.args.cid t) in
+    let lines : P text = subst P (sym c.as_slice.ensures.value) c.in_ok-text.ensures in (
+      text,
+      look_of c.args.show.now c.args.cue c.args.cid text show c.in_ok-loaded.ensures.show there lines,
       c.in_ok-write.ensures.ok tells,
     )

@@ -7,4 +7,6 @@ use Rattle.cueplayer_runs.proofs.texts.look_text.Goals as goal
 
 pub look_lines-requires-clause-range : goal.look_lines-requires-clause-range
 look_lines-requires-clause-range c =
-    All-same (λ k. k < UNIVERSES) c.as_slice.result.now (universes_of c.args.show.now.patch) (c.as_slice.ensures.value ∙ c.universes.ensures) (universes_in_range c.args.show.now.patch)
+    let patch = c.args.show.now.patch in
+    All-same (λ k. k < UNIVERSES) c.as_slice.result.now (universes_of patch)
+    (c.as_slice.ensures.value ∙ c.universes.ensures) (universes_in_range patch)
