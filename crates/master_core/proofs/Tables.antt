@@ -21,11 +21,6 @@ byte-pairs None ps channel h = cc
 byte-pairs (Some m) ps channel h =
     let is : ps ≡ entries m = cc in ap (λ l. unwrap_or (find nat_cmp channel l) 0) is ∙ ap (λ o. unwrap_or o 0) (sym (get-entries m channel))
 
--- without the record it is 0
-pub byte-none : (o : Option LevelMap) (channel : ℕ) → ◌≡◌ {A = Option (List (ℕ × ℕ))} None (option_map entries o) → 0 ≡ option_map_or (λ levels. level_in levels channel) o 0
-byte-none None channel h = refl
-byte-none (Some m) channel h = cc
-
 -- a table without records has none
 pub contains-none : (m : MasterMap) (n : ℕ) → len m ≡ 0 → contains_key m n ≡ false
 contains-none m n h = ap is_some (get-entries m n) ∙ nothing (entries m) n (sym (len-entries m) ∙ h) where

@@ -1,4 +1,4 @@
-ghost use Rattle.std.specs.Prelude.{◌≡◌, ℕ, IsTrue, IfOk, IfErr, slice_index, unwrap_or};
+ghost use Rattle.std.specs.Prelude.{◌≡◌, ◌*◌, ◌≤◌, ℕ, IsTrue, IfOk, IfErr, slice_index, unwrap_or};
 ghost use Rattle.std.specs.Option.{option_map_or};
 ghost use Rattle.std.specs.Ordering.{nat_cmp};
 ghost use Rattle.std.specs.FinMap as map;
@@ -11,14 +11,16 @@ use show_core::{GROUPS, SUBMASTERS, Show};
 
 // The greatest level that a submaster makes the channel, from the master of each.
 pub fn highest_sub(show: &Show, masters: &[u8; 101], channel: u16) -> u32
-    ensures { (master : ℕ → ℕ) → ((n : ℕ) → IsTrue (is_sub n) → slice_index masters.now n ≡ master n) → result ≡ greatest_in show.now.subs master channel }
+    ensures greatest { (master : ℕ → ℕ) → ((n : ℕ) → IsTrue (is_sub n) → slice_index masters.now n ≡ master n)
+        → result ≡ greatest_in show.now.subs master channel }
+    ensures full { result ≤ 65025 }
 {
     let mut most: u32 = 0;
     if show.counts().subs > 0 {
         for n in 1..=SUBMASTERS {
             let master = masters[usize::from(n)];
             if master > 0 {
-                most = most.max(u32::from(sub_byte(show, n, channel)) * u32::from(master));
+                most = most.max(product(sub_byte(show, n, channel), master));
             }
         }
     }
@@ -27,18 +29,27 @@ pub fn highest_sub(show: &Show, masters: &[u8; 101], channel: u16) -> u32
 
 // The greatest level that a group makes the channel, from the master of each.
 pub fn highest_group(show: &Show, masters: &[u8; 501], channel: u16) -> u32
-    ensures { (master : ℕ → ℕ) → ((n : ℕ) → IsTrue (is_group n) → slice_index masters.now n ≡ master n) → result ≡ greatest_in show.now.groups master channel }
+    ensures greatest { (master : ℕ → ℕ) → ((n : ℕ) → IsTrue (is_group n) → slice_index masters.now n ≡ master n)
+        → result ≡ greatest_in show.now.groups master channel }
+    ensures full { result ≤ 65025 }
 {
     let mut most: u32 = 0;
     if show.counts().groups > 0 {
         for n in 1..=GROUPS {
             let master = masters[usize::from(n)];
             if master > 0 {
-                most = most.max(u32::from(group_byte(show, n, channel)) * u32::from(master));
+                most = most.max(product(group_byte(show, n, channel), master));
             }
         }
     }
     most
+}
+
+fn product(byte: u8, master: u8) -> u32
+    ensures product { result ≡ byte * master }
+    ensures full { result ≤ 65025 }
+{
+    u32::from(byte) * u32::from(master)
 }
 
 fn sub_byte(show: &Show, n: u16, channel: u16) -> u8

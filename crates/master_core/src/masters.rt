@@ -96,7 +96,8 @@ impl Masters {
     /// The level of a channel: the highest of the playback level, of its byte times the master in each submaster, and the same in each group.
     /// Where the playback level is at most 65025, this is too. The grand master plays no part.
     pub fn merged(&self, show: &Show, channel: u16, playback: u32) -> u32
-        ensures { (settings : List Setting) → StandsFor self.now settings → result ≡ level_after show.now settings channel playback }
+        ensures level { (settings : List Setting) → StandsFor self.now settings → result ≡ level_after show.now settings channel playback }
+        ensures full { playback ≤ 65025 → result ≤ 65025 }
     {
         playback
             .max(highest_sub(show, &self.subs, channel))

@@ -20,14 +20,14 @@ pub frame_is : (f : ℕ → ℕ) (a n : ℕ) (xs : List ℕ) → length xs ≡ n
 frame_is f a n xs size each = ext_get_or 0 xs (map f (range_with_len a n)) (size ∙ sym (length-map-range_with_len f a n))
     (λ i lt. let within : i < n = omega arith in each i within ∙ sym (get_or-map-range_with_len f a n i (a + i) 0 within refl))
 
-module _ (es : List (ℕ × (ℕ × ℕ))) (q : ℕ) where
-  -- the entries below a smaller key do not have the key
-  pub find_low : (first n : ℕ) → n ≤ length es → AllWithin (λ e. e.0 < first) es 0 n → first ≤ q → find nat_cmp q (take n es) ≡ None
-  find_low first n le below low =
-      let lower : All (λ e. e.0 < first) (take n es) = All-take_below (λ e. e.0 < first) es (0, (0, 0)) n le below in
-      find_outside q (take n es) (All-weaker (λ e. e.0 < first) (λ e. q ≢ e.0) (λ e lt. omega arith) (take n es) lower)
+-- the entries below a smaller key do not have the key
+find_low : (es : List (ℕ × (ℕ × ℕ))) (q first n : ℕ) → n ≤ length es → AllWithin (λ e. e.0 < first) es 0 n → first ≤ q → find nat_cmp q (take n es) ≡ None
+find_low es q first n le below low =
+    let lower : All (λ e. e.0 < first) (take n es) = All-take_below (λ e. e.0 < first) es (0, (0, 0)) n le below in
+    find_outside q (take n es) (All-weaker (λ e. e.0 < first) (λ e. q ≢ e.0) (λ e lt. omega arith) (take n es) lower)
 
-  -- nor do those from a greater key on
+module _ (es : List (ℕ × (ℕ × ℕ))) (q : ℕ) where
+  -- nor do the entries from a greater key on
   pub find_high : (last n : ℕ) → AllWithin (λ e. last ≤ e.0) es n (length es) → q < last → find nat_cmp q (take n es) ≡ find nat_cmp q es
   find_high last n from_on high =
       let higher : All (λ e. last ≤ e.0) (drop n es) = All-drop_from (λ e. last ≤ e.0) es (0, (0, 0)) n from_on in
@@ -35,19 +35,15 @@ module _ (es : List (ℕ × (ℕ × ℕ))) (q : ℕ) where
       ∙ ap (find nat_cmp q) (take-append-drop n es)
 
   -- one entry more
-  pub find_more : IsTrue (is_sorted nat_cmp es) → (i : ℕ) (e x : ℕ × (ℕ × ℕ)) → i < length es → e ≡ get_or es i x
+  find_more : IsTrue (is_sorted nat_cmp es) → (i : ℕ) (e x : ℕ × (ℕ × ℕ)) → i < length es → e ≡ get_or es i x
       → find nat_cmp q (take (i + 1) es) ≡ cond (eq_by_cmp nat_cmp q e.0) (Some e.1) (find nat_cmp q (take i es))
   find_more sorted i e x lt is =
       let smaller : AllWithin (λ f. f.0 < e.0) es 0 i = λ j d low before.
       let here : (get_or es i d).0 ≡ e.0 = ap (λ y. y.0) (get_or_default es i d x lt ∙ sym is) in
       let less : (get_or es j d).0 < (get_or es i d).0 = below_of (get_or es j d).0 (get_or es i d).0 (sorted_at nat_cmp nat_cmp_total es j i d (from_true sorted) before lt) in
       omega arith in
-      let none : find nat_cmp e.0 (take i es) ≡ None = find_low_of e.0 i (omega arith) smaller in
+      let none : find nat_cmp e.0 (take i es) ≡ None = find_low es e.0 e.0 i (omega arith) smaller (omega arith) in
       ap (find nat_cmp q) (take_more es i x lt ∙ ap (λ y. take i es ++ y ∷ []) (sym is)) ∙ find-append nat_cmp nat_cmp_total (take i es) e.0 e.1 q none
-    where
-      find_low_of : (k n : ℕ) → n ≤ length es → AllWithin (λ f. f.0 < k) es 0 n → find nat_cmp k (take n es) ≡ None
-      find_low_of k n le below =
-          find_outside k (take n es) (All-weaker (λ f. f.0 < k) (λ f. k ≢ f.0) (λ f lt. omega arith) (take n es) (All-take_below (λ f. f.0 < k) es (0, (0, 0)) n le below))
 
 module _ (f : ℕ × ℕ → ℕ) (es : List (ℕ × (ℕ × ℕ))) (first : ℕ) where
   -- dark slots are those of no dimmer
