@@ -62,22 +62,22 @@ past xs ys n k e = sym (drop-drop k n (xs ++ ys)) ∙ ap (drop k) (drop_at xs ys
 -- those bytes have what each row of the packet asks
 packet_is_data : (fields : Fields) (slots : List ℕ) → length fields.cid ≡ 16 → length fields.name ≡ 64 → length slots ≤ 512 → fields.priority ≤ 200 → fields.sync < 2 ^ 16 → 1 ≤ fields.universe → fields.universe ≤ 63999 → IsData (packet_of (length slots) fields slots) fields slots
 packet_is_data fields slots cid name most priority sync low high =
-    let R2 : List ℕ = framing_tail fields ++ dmp_layer (length slots) fields.start slots in
-    let R1 : List ℕ = (flags_and_length (88 + length slots) ++ big_bytes 4 2) ++ (fields.name ++ R2) in
-    let behind_cid : (k : ℕ) → drop (16 + k) (fields.cid ++ R1) ≡ drop k R1 = λ k. past fields.cid R1 16 k cid in
-    let behind_name : (k : ℕ) → drop (64 + k) (fields.name ++ R2) ≡ drop k R2 = λ k. past fields.name R2 64 k name in
+    let below_name : List ℕ = framing_tail fields ++ dmp_layer (length slots) fields.start slots in
+    let below_root : List ℕ = (flags_and_length (88 + length slots) ++ big_bytes 4 2) ++ (fields.name ++ below_name) in
+    let behind_cid : (k : ℕ) → drop (16 + k) (fields.cid ++ below_root) ≡ drop k below_root = λ k. past fields.cid below_root 16 k cid in
+    let behind_name : (k : ℕ) → drop (64 + k) (fields.name ++ below_name) ≡ drop k below_name = λ k. past fields.name below_name 64 k name in
     record {
-      size = omega (arith, length-append fields.cid R1, length-append fields.name R2);
+      size = omega (arith, length-append fields.cid below_root, length-append fields.name below_name);
       at_most_512 = most;
       preamble_size = refl;
       postamble_size = refl;
       identifier = refl;
       root_length = refl;
       root_vector = refl;
-      cid = take_at fields.cid R1 16 cid;
+      cid = take_at fields.cid below_root 16 cid;
       framing_length = ap (take 2) (behind_cid 0);
       framing_vector = ap (take 4) (behind_cid 2);
-      name = ap (take 64) (behind_cid 6) ∙ take_at fields.name R2 64 name;
+      name = ap (take 64) (behind_cid 6) ∙ take_at fields.name below_name 64 name;
       priority = ap (take 1) (behind_cid 70 ∙ behind_name 0);
       priority_range = priority;
       sync = ap (take 2) (behind_cid 71 ∙ behind_name 1);
