@@ -1,29 +1,37 @@
-ghost use Rattle.std.specs.Prelude.{◌≡◌, MatchResult};
+ghost use Rattle.std.specs.Prelude.{◌≡◌, ◌++◌, [], None, MatchResult, drop};
 ghost use Rattle.std.specs.Iterator.{YieldsFirst, item_count};
 ghost use Rattle.ascii_text.specs.LinesLeft.{words_left};
 ghost use Rattle.ascii_text.specs.Text.{words_of};
+ghost use Rattle.show_line.specs.Faults.{lower};
 ghost use Rattle.show_line.specs.Pairs.{desk, pair_fault, pairs_in};
 
-use crate::fault::{LineFault, level_fault, lower, number_fault};
+use crate::fault::{LineFault, level_fault, lower, number_fault, number_in};
+use arrayvec::ArrayVec;
 use ascii_text::{Words, level, number};
 use show_core::CHANNELS;
 use std::marker::Model;
+
+// How many pairs of a line are kept from the first reading of its words. Most lines have fewer.
+const KEPT: usize = 16;
 
 /// The pairs of a CHAN line that are left: channel, from 1 to [`CHANNELS`], and level byte, in the
 /// order of the line. Its words have no fault.
 #[derive(Drop)]
 pub struct Pairs<'a> {
+    // The first pairs, and how many of these were handed out; the others are read again.
+    kept: ArrayVec<(u16, u8), KEPT>,
+    given: usize,
     words: Words<'a>,
 }
 
 impl<'a> Model for Pairs<'a> {
-    ghost use Rattle.std.specs.Prelude.{◌≡◌, ℕ, List, None};
+    ghost use Rattle.std.specs.Prelude.{◌≡◌, ◌++◌, ℕ, List, None, drop};
     ghost use Rattle.ascii_text.specs.LinesLeft.{words_left};
     ghost use Rattle.show_line.specs.Pairs.{desk, pair_fault, pairs_in};
 
     ghost Value = { List (ℕ × ℕ) };
 
-    ghost view = { λ pairs. pairs_in (words_left pairs.words) };
+    ghost view = { λ pairs. drop pairs.given pairs.kept.items ++ pairs_in (words_left pairs.words) };
 
     ghost invariant = { λ pairs. pair_fault desk (words_left pairs.words) ≡ None };
 }
@@ -36,10 +44,15 @@ impl<'a> Pairs<'a> {
             × (pairs ≡ pairs_in (words_of operands.now)))
             (λ fault. pair_fault desk (words_of operands.now) ≡ Some fault) }
     {
-        match pair_fault(Words::new(operands)) {
+        let mut words = Words::new(operands);
+        let mut kept = ArrayVec::new();
+        let of_first = keep_pairs(&mut words, &mut kept);
+        match lower(of_first, pair_fault(Words::new(words.rest()))) {
             Some(fault) => Err(fault),
             None => Ok(Pairs {
-                words: Words::new(operands),
+                kept,
+                given: 0,
+                words,
             }),
         }
     }
@@ -53,6 +66,11 @@ impl<'a> Iterator for Pairs<'a> {
     ghost remaining = { item_count (λ pairs. pairs) };
 
     fn next(&mut self) -> Option<(u16, u8)> {
+        if self.given < self.kept.len() {
+            let pair = self.kept[self.given];
+            self.given += 1;
+            return Some(pair);
+        }
         let channel = self.words.next()?;
         let byte = self.words.next()?;
         Some((
@@ -60,6 +78,32 @@ impl<'a> Iterator for Pairs<'a> {
             level(byte).unwrap_or(0),
         ))
     }
+}
+
+// Keeps the first pairs of the words of CHAN, up to one with a fault, and answers that fault. The words behind are left.
+fn keep_pairs(words: &mut Words<'_>, kept: &mut ArrayVec<(u16, u8), KEPT>) -> Option<LineFault>
+    requires { kept.old.items ≡ [] }
+    ensures fault { pair_fault desk (words_left words.old) ≡ lower result (pair_fault desk (words_left words.new)) }
+    ensures pairs { result ≡ None → pairs_in (words_left words.old) ≡ kept.new.items ++ pairs_in (words_left words.new) }
+{
+    while !kept.is_full() {
+        let channel = words.next()?;
+        let Some(byte) = words.next() else {
+            return lower(
+                number_fault(channel, 1, CHANNELS),
+                Some(LineFault::HalfPair),
+            );
+        };
+        let channel = match number_in(channel, 1, CHANNELS) {
+            Ok(channel) => channel,
+            Err(fault) => return lower(Some(fault), level_fault(byte)),
+        };
+        let Some(byte) = level(byte) else {
+            return Some(LineFault::BadLevel);
+        };
+        kept.push((channel, byte));
+    }
+    None
 }
 
 // The lowest fault of the words of CHAN.

@@ -139,6 +139,33 @@ fn pairs_and_triples(rt: HostRuntime) -> Result<(), Fail> {
     Ok(())
 }
 
+// A line longer than what is kept of it.
+#[test]
+fn pairs_of_a_long_line(rt: HostRuntime) -> Result<(), Fail> {
+    let line = b"CHAN 1@H1 2@H2 3@H3 4@H4 5@H5 6@H6 7@H7 8@H8 9@H9 10@HA 11@HB 12@HC 13@HD 14@HE \
+        15@HF 16@H10 17@H11 18@H12";
+    let Statement::Levels(_, mut pairs) = read_line(CUE, line).ok_or("words")?.statement else {
+        return Err(Fail::from("levels"));
+    };
+    for number in 1..=18u8 {
+        assert_eq!(rt; pairs.next(), Some((u16::from(number), number)));
+    }
+    assert_eq!(rt; pairs.next(), None);
+    for (line, fault) in [
+        (
+            b"CHAN 1@1 2@1 3@1 4@1 5@1 6@1 7@1 8@1 9@1 1@1 2@1 3@1 4@1 5@1 6@1 7@1 8".as_slice(),
+            LineFault::HalfPair,
+        ),
+        (
+            b"CHAN 0@1 2@1 3@1 4@1 5@1 6@1 7@1 8@1 9@1 1@1 2@1 3@1 4@1 5@1 6@1 7@1 x@1",
+            LineFault::BadNumber,
+        ),
+    ] {
+        assert_eq!(rt; fault_of(line), Some(fault), "{line:?}");
+    }
+    Ok(())
+}
+
 #[test]
 fn rates(rt: HostRuntime) -> Result<(), Fail> {
     for (line, rises, time, delay) in [
