@@ -1,0 +1,23 @@
+/// What can be timed.
+#[derive(Clone, Copy)]
+pub enum Figure {
+    /// The level of each channel at each tick while all of them fade.
+    Fade,
+    /// Packets that are read.
+    Parse,
+}
+
+impl Figure {
+    pub const ALL: [Figure; 2] = [Figure::Fade, Figure::Parse];
+
+    pub fn name(self) -> &'static str {
+        match self {
+            Figure::Fade => "fade",
+            Figure::Parse => "parse",
+        }
+    }
+
+    pub fn named(name: &str) -> Option<Figure> {
+        Figure::ALL.into_iter().find(|figure| figure.name() == name)
+    }
+}
