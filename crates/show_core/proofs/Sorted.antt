@@ -1,5 +1,5 @@
 -- Entries sorted by their keys: what a search finds, and what an edit at that place is.
-use Rattle.std.proofs.Common.{◌≡◌, ℕ, zero, suc, ◌+◌, ◌<◌, Bool, true, false, IsTrue, ◌&&◌, T, List, [], ◌∷◌, ◌++◌, length, get_or, set, Option, Some, None, is_some, Result, Ok, Err, IfOk, IfErr, is_ok, IsSome, refl, sym, ap, subst, ◌∙◌, arith}
+use Rattle.std.proofs.Common.{◌≡◌, ℕ, zero, suc, ◌+◌, ◌-◌, ◌<◌, Bool, true, false, IsTrue, ◌&&◌, T, List, [], ◌∷◌, ◌++◌, length, get_or, set, Option, Some, None, is_some, Result, Ok, Err, IfOk, IfErr, is_ok, IsSome, refl, sym, ap, subst, ◌∙◌, arith, inl, inr}
 use Rattle.std.specs.Prelude.{map, reverse}
 use Rattle.std.specs.declared.cmp.Ordering.{Ordering}
 use Rattle.std.specs.declared.cmp.Ordering.TheVariants.{Less, Equal, Greater}
@@ -9,6 +9,7 @@ use Rattle.std.specs.Ordering.{is_lt, ordering_index, ordering_reverse}
 use Rattle.std.specs.Cmp.{IsTotalOrder}
 use Rattle.std.specs.FinMap.{find, put, is_sorted, from_sorted, get, entries, insert as map_insert, get-from_sorted, entries-from_sorted, entries-insert, same_entries_map, empty, empty_of_len, len-entries, len, contains_key}
 use Rattle.std.specs.FinMap.Entries.{below_all, is_sorted-put, length-put}
+use Rattle.std.proofs.lemmas.Bool.{cases_lt}
 use Rattle.std.proofs.lemmas.List.{reverse-append, map-append}
 use Rattle.std.proofs.lemmas.List.Sorted.{searchable_from_sorted}
 use Rattle.show_core.specs.Place.{IsAt, IsGap}
@@ -109,6 +110,18 @@ module _ {K V : Type 0} (R : K → K → Ordering) (o : IsTotalOrder R) where
       smaller_before = λ j d lt. (parted (rise es key (from_true sorted))).0 j d (omega arith) lt;
       greater_after = λ j d le lt. (parted (rise es key (from_true sorted))).1 j d le lt;
     };
+  }
+
+  -- a key above that of the last entry goes behind it
+  pub gap_end : (es : List (K × V)) (key : K) → IsTrue (is_sorted R es) → ((d : K × V) → R (get_or es (length es - 1) d).0 key ≡ Less) → IsGap R es key (length es)
+  gap_end es key sorted last = record {
+    in_range = omega arith;
+    smaller_before = λ j d lt.
+        elim (cases_lt j (length es - 1)) [
+          | inl before ↦ o.trans (get_or es j d).0 (get_or es (length es - 1) d).0 key (sorted_at es j (length es - 1) d (from_true sorted) before (omega arith)) (last d)
+          | inr behind ↦ let same : j ≡ length es - 1 = omega arith in rw same (last d)
+        ];
+    greater_after = λ j d le lt. absurd (omega arith);
   }
 
 module _ {K V : Type 0} (R : K → K → Ordering) (o : IsTotalOrder R) (es : List (K × V)) (sorted : IsTrue (is_sorted R es)) where

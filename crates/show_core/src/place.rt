@@ -3,6 +3,7 @@ ghost use Rattle.std.specs.FinMap as map;
 ghost use Rattle.show_core.specs.Place.{IsAt, IsGap, without};
 
 use std::alloc::AllocError;
+use std::cmp::Ordering;
 
 // Where the key is in entries sorted by their keys, or where it would go.
 pub fn place<K: Ord + Copy, V>(entries: &[(K, V)], key: K) -> Result<usize, usize>
@@ -10,6 +11,14 @@ pub fn place<K: Ord + Copy, V>(entries: &[(K, V)], key: K) -> Result<usize, usiz
     ensures found { IfOk result (IsAt K.cmp entries.now key) }
     ensures absent { IfErr result (IsGap K.cmp entries.now key) }
 {
+    // Shows list most of their numbers in ascending order: a key is then mostly that of the last entry, or above it.
+    if let Some(last) = entries.last() {
+        match last.0.cmp(&key) {
+            Ordering::Less => return Err(entries.len()),
+            Ordering::Equal => return Ok(entries.len() - 1),
+            Ordering::Greater => {}
+        }
+    }
     entries.binary_search_by_key(&key, |entry| entry.0)
 }
 
@@ -29,6 +38,7 @@ pub fn put<K: Ord + Copy, V: Drop>(
             entries[at].1 = value;
             Ok(())
         }
+        Err(at) if at == entries.len() => Ok(entries.push((key, value))?),
         Err(at) => Ok(entries.insert(at, (key, value))?),
     }
 }
