@@ -41,7 +41,8 @@ pub fn whole(word: &[u8], max: u32) -> Option<u32>
 pub fn level(word: &[u8]) -> Option<u8>
     ensures { result ≡ level_of word.now }
 {
-    if let Some(percent) = whole(word, 100) {
+    if word.first()?.is_ascii_digit() {
+        let percent = whole(word, 100)?;
         return Some(((percent * 255 + 50) / 100) as u8);
     }
     if same_word(word, b"FL") || same_word(word, b"FF") {
