@@ -1,0 +1,9 @@
+pub mod Members
+pub mod Apart
+pub mod Same
+pub mod Placing
+pub mod Finding
+pub mod Known
+pub mod Merging
+pub mod Answering
+pub mod Rows

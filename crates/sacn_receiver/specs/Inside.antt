@@ -1,0 +1,12 @@
+-- The fields of a receiver, seen as what it keeps.
+use Rattle.sacn_receiver.specs.declared.receiver.Receiver.TheInside.{Inside}
+use Rattle.sacn_receiver.specs.Kept.{Kept}
+use Rattle.sacn_receiver.specs.Records.{entries}
+use Rattle.sacn_receiver.specs.Places.{AreApart}
+
+abbrev pub receiver_view : Inside → Kept
+receiver_view r = record { universe = r.universe; latest = r.latest; records = entries r.records.items }
+
+-- no two records are of one CID
+abbrev pub IsReceiver : Inside → Type 0
+IsReceiver r = AreApart (entries r.records.items)

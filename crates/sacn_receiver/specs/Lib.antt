@@ -1,0 +1,7 @@
+pub mod Inside
+pub mod Kept
+pub mod Places
+pub mod Records
+pub mod Shown
+pub mod Source
+pub mod Taking

@@ -1,0 +1,76 @@
+-- What a receiver makes of a datagram: the packet in it, whether it is accepted, and why not.
+use Rattle.std.specs.Prelude.{ℕ, ◌-◌, ◌==◌, Bool, not, ◌&&◌, List, ◌∷◌, ◌++◌, length, replicate, nat_lt, bit_and, if◌then◌else◌, Option, Some, None, Result, Ok, Err}
+use Rattle.std.specs.Option.{option_or, option_map, option_map_or}
+use Rattle.sacn_packet.specs.Wire.{Packet}
+use Rattle.sacn_packet.specs.Reading.{front_packet}
+use Rattle.sacn_packet.specs.Faults.{fault_of}
+use Rattle.sacn_receiver.specs.declared.answer.Taken.{Taken}
+use Rattle.sacn_receiver.specs.declared.answer.Ignored.{Ignored}
+use Rattle.sacn_receiver.specs.declared.answer.Ignored.TheVariants.{Backwards, Unreadable, OtherUniverse, Preview, AltStart, OutOfSequence, SourcesFull}
+use Rattle.sacn_receiver.specs.Source.{Entry, is_accepted, record_of, last_moment}
+
+-- levels that are not for the stage (E1.31-2018, options: Preview_Data)
+abbrev pub is_preview : Packet → Bool
+is_preview p = not (bit_and p.fields.options 0x80 == 0)
+
+-- the source's last packets (E1.31-2018, options: Stream_Terminated)
+abbrev pub is_termination : Packet → Bool
+is_termination p = not (bit_and p.fields.options 0x40 == 0)
+
+-- the slots carry something else than levels, under an alternate START code; a termination's slots do not matter
+abbrev pub is_alternate : Packet → Bool
+is_alternate p = not (p.fields.start == 0) && not (is_termination p)
+
+-- a packet as it is accepted at moment t: the slots that it lacks are 0
+abbrev pub entry_of : ℕ → Packet → Entry
+entry_of t p = record {
+  cid = p.fields.cid;
+  number = p.fields.sequence;
+  moment = t;
+  priority = p.fields.priority;
+  slots = p.slots ++ replicate (512 - length p.slots) 0;
+  ended = is_termination p;
+}
+
+-- why the source rule does not accept a packet: with a record of its CID it is the number, without one the room
+abbrev pub reason_of : Option Entry → Ignored
+reason_of None = SourcesFull
+reason_of (Some e) = OutOfSequence
+
+abbrev pub refusal : ℕ → List Entry → ℕ → List ℕ → ℕ → Option Ignored
+refusal room h t cid number =
+    if is_accepted room h t cid number then None else Some (reason_of (record_of h t cid))
+
+-- why a packet is not heard on a universe: it is of another, or is no data for the stage
+abbrev pub unheard : ℕ → Packet → Option Ignored
+unheard universe p =
+    if not (p.fields.universe == universe) then Some OtherUniverse
+    else (if is_preview p then Some Preview
+    else (if is_alternate p then Some AltStart
+    else None))
+
+-- why a packet is ignored
+abbrev pub ignored_packet : ℕ → ℕ → List Entry → ℕ → Packet → Option Ignored
+ignored_packet room universe h t p =
+    option_or (unheard universe p) (refusal room h t p.fields.cid p.fields.sequence)
+
+-- why a datagram is ignored: the first reason that applies
+abbrev pub ignored : ℕ → ℕ → List Entry → ℕ → List ℕ → Option Ignored
+ignored room universe h t datagram =
+    if nat_lt t (last_moment h) then Some Backwards
+    else option_or (option_map Unreadable (fault_of datagram))
+    (ignored_packet room universe h t (front_packet datagram))
+
+-- what is answered to a packet that is accepted
+abbrev pub taken_of : Packet → Taken
+taken_of p = record { sequence = p.fields.sequence; terminated = is_termination p }
+
+-- what is answered to a datagram
+abbrev pub answer : ℕ → ℕ → List Entry → ℕ → List ℕ → Result Taken Ignored
+answer room universe h t datagram =
+    option_map_or Err (ignored room universe h t datagram) (Ok (taken_of (front_packet datagram)))
+
+-- the history after a datagram: only what is accepted lengthens it
+abbrev pub heard : ℕ → ℕ → List Entry → ℕ → List ℕ → List Entry
+heard room universe h t datagram =
+    option_map_or (λ _. h) (ignored room universe h t datagram) (entry_of t (front_packet datagram) ∷ h)

@@ -1,0 +1,93 @@
+ghost use Rattle.std.specs.Prelude.{◌≡◌, ◌≤◌, ◌<◌, not, nat_lt, length, drop, filter, is_some, IfSome, IfOk};
+ghost use Rattle.std.specs.List.{position};
+ghost use Rattle.std.specs.Result.{result_err};
+ghost use Rattle.arrayvec.specs.ArrayVec.{array_vec_len};
+ghost use Rattle.sacn_receiver.specs.Source as source;
+ghost use Rattle.sacn_receiver.specs.Taking.{entry_of, refusal};
+ghost use Rattle.sacn_receiver.specs.Records.{entries, kept_entry};
+ghost use Rattle.sacn_receiver.specs.Places.{AreApart, IsGone, IsPlace, put};
+
+use crate::answer::Ignored;
+use crate::receiver::SOURCES;
+use crate::record::Record;
+use arrayvec::ArrayVec;
+use sacn_packet::DataPacket;
+
+// The place of a source's record.
+fn known_place(records: &[Record], cid: &[u8; 16]) -> Option<usize>
+    ensures { result ≡ position (λ r. source.same_cid cid.now (kept_entry r)) records.now }
+{
+    records.iter().position(|record| *cid == record.cid)
+}
+
+// A place for a new source: that of a record that is gone, else behind all.
+fn free_place(records: &[Record], moment: u64) -> Option<usize>
+    requires { length records.now ≤ SOURCES }
+    ensures there_is { is_some result ≡ nat_lt (length (filter (source.is_there moment) (entries records.now))) SOURCES }
+    ensures place { IfSome result (λ place. (place < SOURCES) × (place ≤ length records.now) × IsGone moment (drop place (entries records.now))) }
+{
+    match gone_place(records, moment) {
+        Some(place) => Some(place),
+        None if records.len() < SOURCES => Some(records.len()),
+        None => None,
+    }
+}
+
+// The place of the first record that is gone.
+fn gone_place(records: &[Record], moment: u64) -> Option<usize>
+    ensures { result ≡ position (λ r. not (source.is_there moment (kept_entry r))) records.now }
+{
+    records.iter().position(|record| !record.is_there(moment))
+}
+
+// Whether number b comes after number a.
+fn is_after(a: u8, b: u8) -> bool
+    ensures { result ≡ source.is_after a b }
+{
+    (1..=236).contains(&b.wrapping_sub(a))
+}
+
+// The place for a packet of this source with this number.
+pub(crate) fn place_for(
+    records: &[Record],
+    moment: u64,
+    cid: &[u8; 16],
+    number: u8,
+) -> Result<usize, Ignored>
+    requires apart { AreApart (entries records.now) }
+    requires room { length records.now ≤ SOURCES }
+    ensures place { IfOk result (λ place. IsPlace (entries records.now) moment cid.now place) }
+    ensures refused { result_err result ≡ refusal SOURCES (entries records.now) moment cid.now number }
+{
+    match known_place(records, cid) {
+        Some(place) => {
+            let record = &records[place];
+            if record.is_there(moment) && !is_after(record.number, number) {
+                return Err(Ignored::OutOfSequence);
+            }
+            Ok(place)
+        }
+        None => free_place(records, moment).ok_or(Ignored::SourcesFull),
+    }
+}
+
+// Keeps a packet at a place, or behind all.
+pub(crate) fn keep_at(
+    records: &mut ArrayVec<Record, SOURCES>,
+    place: usize,
+    moment: u64,
+    packet: &DataPacket,
+)
+    requires within { place ≤ array_vec_len records.old }
+    requires room { place < SOURCES }
+    requires slots { length packet.now.slots ≤ 512 }
+    ensures { entries records.new.items ≡ put (entries records.old.items) place (entry_of moment packet.now) }
+{
+    if let Some(record) = records.get_mut(place) {
+        record.keep(moment, packet);
+    } else {
+        let mut record = Record::default();
+        record.keep(moment, packet);
+        records.push(record);
+    }
+}
