@@ -5,15 +5,18 @@ pub enum Figure {
     Fade,
     /// Packets that are read.
     Parse,
+    /// Packets that a receiver takes, and its slots after each.
+    Receive,
 }
 
 impl Figure {
-    pub const ALL: [Figure; 2] = [Figure::Fade, Figure::Parse];
+    pub const ALL: [Figure; 3] = [Figure::Fade, Figure::Parse, Figure::Receive];
 
     pub fn name(self) -> &'static str {
         match self {
             Figure::Fade => "fade",
             Figure::Parse => "parse",
+            Figure::Receive => "receive",
         }
     }
 

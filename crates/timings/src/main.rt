@@ -6,7 +6,9 @@
 
 mod fade;
 mod figure;
+mod packets;
 mod parse;
+mod receive;
 mod shows;
 mod timed;
 
@@ -22,6 +24,7 @@ fn run(rt: &HostRuntime, figure: Figure, rounds: u32) -> Result<Timed> {
     match figure {
         Figure::Fade => fade::run(rt, rounds),
         Figure::Parse => parse::run(rt, rounds),
+        Figure::Receive => receive::run(rt, rounds),
     }
 }
 
