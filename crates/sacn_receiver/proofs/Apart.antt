@@ -51,7 +51,7 @@ newest_all (e ∷ es) a =
     twice false = refl
 
 -- the entry that is found for a CID, and those that are the newest of theirs
-find_says : (c : List ℕ) (h : List Entry) (e : Entry) → find (same_cid c) h ≡ Some e → same_cid c e ≡ true
+pub find_says : (c : List ℕ) (h : List Entry) (e : Entry) → find (same_cid c) h ≡ Some e → same_cid c e ≡ true
 find_says c [] e f = cc
 find_says c (x ∷ h) e f = go (same_cid c x) refl f (find_says c h e)
   where

@@ -6,4 +6,5 @@ pub mod Finding
 pub mod Known
 pub mod Merging
 pub mod Answering
+pub mod Independent
 pub mod Rows

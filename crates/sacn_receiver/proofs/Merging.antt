@@ -1,6 +1,6 @@
 -- The live records of a receiver, one more at a time.
 use Rattle.std.proofs.Common.{◌≡◌, ℕ, suc, ◌+◌, ◌<◌, ◌≤◌, Bool, true, false, not, ◌&&◌, max, refl, ap, arith, sym, ◌∙◌, List, [], ◌∷◌, ◌++◌, map, length, take, get_or}
-use Rattle.std.specs.Prelude.{filter, count_by, slice_index, ◌==◌}
+use Rattle.std.specs.Prelude.{filter, count_by, slice_index, ◌==◌, if◌then◌else◌}
 use Rattle.std.specs.List.{range_with_len}
 use Rattle.std.proofs.lemmas.List.{append-nil, map_more, map_push, ext_get_or}
 use Rattle.std.proofs.lemmas.List.Elements.{filter-append}
@@ -45,6 +45,14 @@ module _ (f : Entry → ℕ) (p : Entry → Bool) (rs : List Record) (i : ℕ) (
       let last : greatest (map f (filter p (entries (take i rs)) ++ filter p (kept_entry (get_or rs i d) ∷ []))) ≡ so_far =
       rw q (ap (λ es. greatest (map f es)) (append-nil (filter p (entries (take i rs))))) in
       n ∙ t ∙ sym (split ∙ last)
+
+  -- it counts where it passes
+  pub more : (top new : ℕ) → top ≡ so_far → new ≡ max top (if p (kept_entry (get_or rs i d)) then f (kept_entry (get_or rs i d)) else 0) → new ≡ and_one
+  more top new t n = go (p (kept_entry (get_or rs i d))) refl n
+    where
+      go : (b : Bool) → p (kept_entry (get_or rs i d)) ≡ b → new ≡ max top (if b then f (kept_entry (get_or rs i d)) else 0) → new ≡ and_one
+      go true q m = one_more top new q t m
+      go false q m = no_more top new q t (omega (arith, m))
 
 filter_both : (p q : Entry → Bool) (es : List Entry) → filter q (filter p es) ≡ filter (λ e. p e && q e) es
 filter_both p q [] = refl

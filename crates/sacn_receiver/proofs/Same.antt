@@ -13,7 +13,7 @@ abbrev pub AreSame : ℕ → List Entry → List Entry → Type 0
 AreSame t g h = (cid : List ℕ) → record_of g t cid ≡ record_of h t cid
 
 -- a record is what is found
-record_found : (h : List Entry) (t : ℕ) (e : Entry) → In e (records h t) → record_of h t e.cid ≡ Some e
+pub record_found : (h : List Entry) (t : ℕ) (e : Entry) → In e (records h t) → record_of h t e.cid ≡ Some e
 record_found h t e i =
     let j = In_filtered (is_there t) e (newest h) i in
     ap (while_there t) (newest_found h e j.0) ∙ ap (λ b. if b then Some e else None) j.1
@@ -37,7 +37,7 @@ same_members t g h s e i = found_record h t e.cid e (sym (s e.cid) ∙ record_fo
 pub other_way : (t : ℕ) (g h : List Entry) → AreSame t g h → AreSame t h g
 other_way t g h s c = sym (s c)
 
-records_apart : (h : List Entry) (t : ℕ) → AreApart (records h t)
+pub records_apart : (h : List Entry) (t : ℕ) → AreApart (records h t)
 records_apart h t = filter_apart (is_there t) (newest h) (newest_apart h)
 
 pub same_count : (t : ℕ) (g h : List Entry) → AreSame t g h → length (records g t) ≡ length (records h t)

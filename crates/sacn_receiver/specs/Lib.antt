@@ -1,5 +1,6 @@
 pub mod Inside
 pub mod Kept
+pub mod Laws
 pub mod Places
 pub mod Records
 pub mod Shown

@@ -21,9 +21,7 @@ pub(crate) fn top_priority(records: &[Record], moment: u64) -> u8
 {
     let mut top: u8 = 0;
     for record in records {
-        if record.is_live(moment) {
-            top = top.max(record.priority);
-        }
+        top = top.max(record.live_priority(moment));
     }
     top
 }

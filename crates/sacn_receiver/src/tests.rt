@@ -1,6 +1,6 @@
 ghost use Rattle.std.specs.Prelude.{◌+◌, ◌≤◌, length};
 
-use crate::{Ignored, Receiver, Taken};
+use crate::{Ignored, Receiver, Taken, laws};
 use sacn_packet::{Header, SourceName, Unreadable, encode};
 use std::process::Abort;
 
@@ -250,4 +250,10 @@ fn fewer_slots(rt: HostRuntime) {
     overwrite(&mut packet, 123, &[0x00, 0x01]);
     assert_eq!(rt; receiver.take(1, front(&packet)).is_ok(), true);
     assert_eq!(rt; shown(&rt, &receiver, 1), (0, 1));
+}
+
+#[test]
+fn every_law() {
+    laws::sources_are_independent();
+    laws::merge_is_by_membership();
 }
