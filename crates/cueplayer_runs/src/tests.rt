@@ -1,3 +1,5 @@
+mod listening;
+mod memory_datagrams;
 mod memory_output;
 
 use crate::{RunFault, check, exit_status, look};

@@ -1,0 +1,24 @@
+-- What `listen` prints of a few datagrams, evaluated.
+use Rattle.std.specs.Prelude.{◌≡◌, List, [], ◌∷◌, ◌++◌, replicate, refl, codes, ℕ}
+use Rattle.std.specs.Fmt.{digits}
+use Rattle.sacn_packet.specs.Layers.{dmp_layer, framing_layer, root_layer}
+use Rattle.cueplayer_runs.specs.Texts.{look_fields}
+use Rattle.cueplayer_runs.specs.Replies.{slots_line}
+use Rattle.cueplayer_runs.specs.Listening.{listen_text}
+
+abbrev cid : List ℕ
+cid = 192 ∷ 255 ∷ 238 ∷ 0 ∷ 0 ∷ 0 ∷ 64 ∷ 0 ∷ 128 ∷ 0 ∷ 0 ∷ 0 ∷ 0 ∷ 0 ∷ 225 ∷ 49 ∷ []
+
+-- the packet of the smallest show: slot 1 is at 64
+abbrev look_one : List ℕ
+look_one = root_layer 512 cid ++ framing_layer 512 (look_fields cid 0) ++ dmp_layer 512 0 (64 ∷ replicate 511 0)
+
+-- that packet, the same again, and five bytes; the newest stands first
+listen_three : listen_text 1 ((replicate 5 0) ∷ look_one ∷ look_one ∷ [])
+    ≡ codes "1 taken 0\n2 ignored OutOfSequence\n3 ignored Unreadable Short\nslots 1:64\n"
+unfolding digits
+listen_three = refl
+
+some_slots : slots_line (0 ∷ 255 ∷ 0 ∷ 7 ∷ []) ≡ codes "slots 2:255 4:7\n"
+unfolding digits
+some_slots = refl

@@ -1,0 +1,15 @@
+use Rattle.std.proofs.Common.{◌≡◌}
+use Rattle.cueplayer_runs.proofs.Listened.{Heard}
+use Rattle.cueplayer_runs.proofs.listening.listen.Given as goal
+
+abbrev pub invariant-loop-older : goal.invariant-loop-older
+invariant-loop-older g l = record {
+  universe : l.receiver.universe ≡ l.universe;
+  told_source : g.D.Datagrams.tells l.source → g.D.Datagrams.tells l.fn.source;
+  told_output : g.W.Output.tells l.out → g.W.Output.tells l.fn.out;
+  heard : Heard l.universe l.older l.receiver (g.D.Datagrams.tells l.source) (g.W.Output.tells l.out)
+      (g.D.Datagrams.given l.fn.source) (g.D.Datagrams.given l.source)
+      (g.D.Datagrams.failures l.fn.source) (g.D.Datagrams.failures l.source)
+      (g.W.Output.written l.fn.out) (g.W.Output.written l.out)
+      (g.W.Output.failures l.fn.out) (g.W.Output.failures l.out);
+}

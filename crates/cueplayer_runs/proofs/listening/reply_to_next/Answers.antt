@@ -1,0 +1,59 @@
+use Rattle.std.proofs.Common.{ℕ, ◌+◌, ◌≡◌, List, ◌++◌, length, take, codes, Result, Ok, Err, OnErr, subst, ap, ◌∙◌, inr}
+use Rattle.std.specs.Prelude.{decimal}
+use Rattle.devices.specs.Tells.{Took}
+use Rattle.sacn_receiver.specs.declared.answer.Taken.{Taken}
+use Rattle.sacn_receiver.specs.declared.answer.Ignored.{Ignored}
+use Rattle.sacn_receiver.specs.declared.receiver.TheConstants.{SOURCES}
+use Rattle.sacn_receiver.specs.Source.{Entry}
+use Rattle.sacn_receiver.specs.Taking.{answer}
+use Rattle.cueplayer_runs.specs.Replies.{reply_text}
+use Rattle.cueplayer_runs.specs.Listening.{history, reply_line, NextFails}
+use Rattle.cueplayer_runs.proofs.Histories.{stands_heard}
+use Rattle.cueplayer_runs.proofs.listening.reply_to_next.Goals as goal
+
+on_err : {T E : Type 0} (P : Type 0) (r : Result T E) → P → OnErr r P
+on_err P (Ok x) p = tt
+on_err P (Err e) p = p
+
+-- the reply, where the receiver is one of the universe
+answered_at : (u universe : ℕ) (h : List Entry) (datagram : List ℕ) (reply : Result Taken Ignored)
+    → u ≡ universe → reply ≡ answer SOURCES u h 0 datagram → reply ≡ answer SOURCES universe h 0 datagram
+answered_at u universe h datagram reply is answered = answered ∙ ap (λ v. answer SOURCES v h 0 datagram) is
+
+-- the line that was written is that of the datagram
+line_is : (universe : ℕ) (datagram : List ℕ) (older : List (List ℕ)) (number : ℕ) (reply : Result Taken Ignored) (line : List ℕ)
+    → number ≡ length older + 1 → reply ≡ answer SOURCES universe (history universe older) 0 datagram
+    → line ≡ decimal number ++ codes " " ++ reply_text reply ++ codes "\n" → line ≡ reply_line universe datagram older
+line_is universe datagram older number reply line numbered answered is =
+    is ∙ ap (λ n. decimal n ++ codes " " ++ reply_text reply ++ codes "\n") numbered
+    ∙ ap (λ r. decimal (length older + 1) ++ codes " " ++ reply_text r ++ codes "\n") answered
+
+pub returns-in_err-write-clause-err : goal.returns-in_err-write-clause-err
+returns-in_err-write-clause-err g c =
+    let fails : g.D.Datagrams.tells c.receive.new.self → g.W.Output.tells c.write.new.self → NextFails
+    (g.D.Datagrams.given c.args.source.now) (g.D.Datagrams.given c.receive.new.self)
+    (g.D.Datagrams.failures c.args.source.now) (g.D.Datagrams.failures c.receive.new.self)
+    (g.W.Output.written c.args.out.now) (g.W.Output.written c.write.new.self)
+    (g.W.Output.failures c.args.out.now) (g.W.Output.failures c.write.new.self)
+    = λ source_tells output_tells. inr (
+      take c.in_ok-length.length c.receive.new.buf,
+      c.in_ok-length.ensures.ok source_tells,
+      c.in_err-write.ensures.err output_tells,
+    ) in on_err _ _ fails
+
+pub returns-clause-ok : goal.returns-clause-ok
+returns-clause-ok g c = λ universe older universe_is numbered stands.
+    let datagram = take c.in_ok-length.length c.receive.new.buf in
+    let answered = answered_at c.args.receiver.now.universe universe (history universe older) datagram c.take-reply.result
+    universe_is (c.take-reply.ensures.answer (history universe older) stands) in (
+      datagram,
+      stands_heard universe (history universe older) datagram c.args.receiver.now c.take-reply.new.self c.take-reply.result
+          stands answered c.take-reply.ensures.accepted c.take-reply.ensures.ignored,
+      λ tells. c.in_ok-length.ensures.ok tells,
+      λ tells.
+          let line = c.as_bytes.ensures.value ∙ c.as_str.ensures.value ∙ c.reply_line.ensures in
+          let P : List ℕ → Type 0 = λ text. Took text (g.W.Output.written c.args.out.now) (g.W.Output.written c.write.new.self)
+          (g.W.Output.failures c.args.out.now) (g.W.Output.failures c.write.new.self) in
+          subst P (line_is universe datagram older c.args.number c.take-reply.result _ numbered answered line)
+          (c.in_ok-write.ensures.ok tells),
+    )
