@@ -1,15 +1,19 @@
 //! The program: it reads its words, runs what they ask for, and reports how that ended.
 #![tactic(auto)]
 
+ghost use Rattle.cueplayer_words.specs.Job.{IsInRange};
+
 mod console;
 mod reading;
+mod socket;
 
 use clap::Error;
 use console::Console;
-use cueplayer_runs::{RunFault, check, exit_status, look};
+use cueplayer_runs::{RunFault, check, exit_status, listen, look};
 use cueplayer_words::{Job, WordsFault, read_words};
 use devices::Output;
 use reading::show_text;
+use socket::Socket;
 use std::env;
 use std::io::ErrorKind;
 use std::process::ExitCode;
@@ -17,7 +21,9 @@ use std::process::ExitCode;
 // The exit status of words that are refused.
 const REFUSED: u8 = 2;
 
-fn run(rt: &HostRuntime, job: Job) -> Result<(), RunFault> {
+fn run(rt: &HostRuntime, job: Job) -> Result<(), RunFault>
+    requires { IsInRange job }
+{
     let mut out = Console::new(rt.stdout());
     match job {
         Job::Check { show } => {
@@ -27,6 +33,14 @@ fn run(rt: &HostRuntime, job: Job) -> Result<(), RunFault> {
         Job::Look { show, cue, cid } => {
             let text = show_text(rt, show.as_str())?;
             look(rt.alloc(), text.as_slice(), cue, cid, &mut out)
+        }
+        Job::Listen {
+            at,
+            universe,
+            count,
+        } => {
+            let mut source = Socket::bind(rt, at)?;
+            listen(&mut source, universe, count, &mut out)
         }
     }
 }

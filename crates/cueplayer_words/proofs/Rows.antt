@@ -5,9 +5,10 @@ use Rattle.clap.specs.declared.error.kind.ErrorKind.TheVariants.{MissingRequired
 use Rattle.clap.proofs.OnLiterals.{clap_on_literals}
 use Rattle.uuid.proofs.OnLiterals.{uuid_on_literals}
 use Rattle.cueplayer_words.specs.Program.{program}
-use Rattle.cueplayer_words.specs.Job.{job_of}
+use Rattle.cueplayer_words.specs.Address.{address_of}
+use Rattle.cueplayer_words.specs.Job.{job_of, number_between}
 use Rattle.cueplayer_words.specs.Asked.{Passes}
-use Rattle.cueplayer_words.specs.declared.job.Job.TheVariants.{Check, Look}
+use Rattle.cueplayer_words.specs.declared.job.Job.TheVariants.{Check, Look, Listen}
 
 -- `check a.asc`
 abbrev check_words : List Text
@@ -21,6 +22,11 @@ look_words cue = codes "cueplayer" ∷ codes "look" ∷ codes "-" ∷ cue ∷ co
 -- `look - CUE`
 abbrev short_words : Text → List Text
 short_words cue = codes "cueplayer" ∷ codes "look" ∷ codes "-" ∷ cue ∷ []
+
+-- `listen ADDR UNIVERSE 3`
+abbrev listen_words : Text → Text → List Text
+listen_words address universe =
+    codes "cueplayer" ∷ codes "listen" ∷ address ∷ universe ∷ codes "3" ∷ []
 
 check_passes : Passes check_words
 unfolding clap_on_literals
@@ -54,3 +60,42 @@ not_taken = refl
 missing : fault_of program (short_words (codes "x")) ≡ MissingRequiredArgument ∷ []
 unfolding clap_on_literals
 missing = refl
+
+listen_passes : Passes (listen_words (codes "127.0.0.1:5000") (codes "1"))
+unfolding clap_on_literals
+listen_passes = refl
+
+listen_job : job_of (listen_words (codes "127.0.0.1:5000") (codes "1"))
+    ≡ Some (Listen (127 ∷ 0 ∷ 0 ∷ 1 ∷ [], 5000) 1 3)
+unfolding clap_on_literals
+listen_job = refl
+
+listen_default_port : job_of (listen_words (codes "239.255.0.1") (codes "63999"))
+    ≡ Some (Listen (239 ∷ 255 ∷ 0 ∷ 1 ∷ [], 5568) 63999 3)
+unfolding clap_on_literals
+listen_default_port = refl
+
+listen_unfit_job : job_of (listen_words (codes "127.0.0.1:") (codes "1")) ≡ None
+unfolding clap_on_literals
+listen_unfit_job = refl
+
+-- the forms of an address
+addresses : (address_of (codes "127.000.000.001:0") ≡ Some (127 ∷ 0 ∷ 0 ∷ 1 ∷ [], 0))
+    × (address_of (codes "255.255.255.255:65535") ≡ Some (255 ∷ 255 ∷ 255 ∷ 255 ∷ [], 65535))
+addresses = (refl, refl)
+
+no_addresses : (address_of (codes "127.0.0.1:") ≡ None)
+    × (address_of (codes "127.0.0.1:65536") ≡ None)
+    × (address_of (codes "127.0.0.256") ≡ None)
+    × (address_of (codes "127.0.1") ≡ None)
+    × (address_of (codes "127.0.0.0.1") ≡ None)
+    × (address_of (codes "127.0.0.1:1:1") ≡ None)
+    × (address_of (codes "127.0.0.0000000001") ≡ None)
+    × (address_of (codes "localhost") ≡ None)
+no_addresses = (refl, refl, refl, refl, refl, refl, refl, refl)
+
+numbers : (number_between 1 63999 (codes "63999") ≡ Some 63999)
+    × (number_between 1 63999 (codes "64000") ≡ None)
+    × (number_between 1 63999 (codes "0") ≡ None)
+    × (number_between 1 1000000 (codes "001000000") ≡ Some 1000000)
+numbers = (refl, refl, refl, refl)

@@ -1,17 +1,23 @@
 -- The job that words ask for.
-use Rattle.std.specs.Prelude.{ℕ, List, Option, Some, None, codes, option_map, option_and_then}
-use Rattle.std.specs.Prelude.{if◌then◌else◌}
+use Rattle.std.specs.Prelude.{ℕ, ◌≤◌, List, Option, Some, None, codes, option_map, option_and_then}
+use Rattle.std.specs.Prelude.{if◌then◌else◌, nat_le}
 use Rattle.std.specs.Str.{bytes_eq}
 use Rattle.clap.specs.Words.{Row, Text, first_of, subcommand_of}
 use Rattle.uuid.specs.Text.{parsed}
-use Rattle.ascii_text.specs.Forms.{cue_number_of}
+use Rattle.ascii_text.specs.Forms.{cue_number_of, whole_of}
+use Rattle.cueplayer_words.specs.Address.{address_of}
 use Rattle.cueplayer_words.specs.Program.{program}
 use Rattle.cueplayer_words.specs.declared.job.Job.{Job}
-use Rattle.cueplayer_words.specs.declared.job.Job.TheVariants.{Check, Look}
+use Rattle.cueplayer_words.specs.declared.job.Job.TheVariants.{Check, Look, Listen}
 
 -- the value of an argument that has to be there: its text, read by a form
 abbrev pub value_by : {X : Type 0} → (Text → Option X) → Text → List Row → Option X
 value_by form id rows = option_and_then form (first_of id rows)
+
+-- a number from least to most
+abbrev pub number_between : ℕ → ℕ → Text → Option ℕ
+number_between least most text =
+    option_and_then (λ n. if nat_le least n then Some n else None) (whole_of most text)
 
 -- the job of `check SHOW`
 abbrev pub check_of : List Row → Option Job
@@ -27,10 +33,27 @@ abbrev pub look_of : List Row → Option Job
 look_of rows = look_with (first_of (codes "SHOW") rows) (value_by cue_number_of (codes "CUE") rows)
     (value_by parsed (codes "cid") rows)
 
+-- a listen, where each of its values is there
+abbrev pub listen_with : Option (List ℕ × ℕ) → Option ℕ → Option ℕ → Option Job
+listen_with (Some at) (Some universe) (Some count) = Some (Listen at universe count)
+listen_with _ _ _ = None
+
+-- the job of `listen ADDR UNIVERSE COUNT`; a universe number is 1 to 63999 (E1.31-2018, section 6.2.7)
+abbrev pub listen_of : List Row → Option Job
+listen_of rows = listen_with (value_by address_of (codes "ADDR") rows)
+    (value_by (number_between 1 63999) (codes "UNIVERSE") rows)
+    (value_by (number_between 1 1000000) (codes "COUNT") rows)
+
+-- the numbers of a job are in the ranges that its run asks for
+abbrev pub IsInRange : Job → Type 0
+IsInRange (Listen at universe count) = (1 ≤ universe) × (universe ≤ 63999)
+IsInRange _ = Unit {0}
+
 -- the job of a line, by its name and the texts of its arguments
 abbrev pub line_of : Text × List Row → Option Job
 line_of line = if bytes_eq line.0 (codes "check") then check_of line.1
-    else (if bytes_eq line.0 (codes "look") then look_of line.1 else None)
+    else (if bytes_eq line.0 (codes "look") then look_of line.1
+    else (if bytes_eq line.0 (codes "listen") then listen_of line.1 else None))
 
 -- the job of the line that clap's meaning of the program gives for the words, where each of the
 -- texts that this meaning gives has its form

@@ -1,3 +1,4 @@
+pub mod Address
 pub mod Program
 pub mod Job
 pub mod Asked

@@ -19,6 +19,11 @@ abbrev pub look_line : App
 look_line = with_rule (with_rule (with_rule (new_app (codes "look"))
     (required (codes "SHOW"))) (required (codes "CUE"))) (required_option (codes "cid"))
 
+-- `listen ADDR UNIVERSE COUNT`
+abbrev pub listen_line : App
+listen_line = with_rule (with_rule (with_rule (new_app (codes "listen"))
+    (required (codes "ADDR"))) (required (codes "UNIVERSE"))) (required (codes "COUNT"))
+
 -- the program before it has lines: a line has to be named
 abbrev pub without_lines : App
 without_lines = record (new_app (codes "cueplayer")) {
@@ -27,4 +32,5 @@ without_lines = record (new_app (codes "cueplayer")) {
 
 -- the program with its lines
 abbrev pub program : App
-program = with_subcommand (with_subcommand without_lines check_line.top) look_line.top
+program = with_subcommand (with_subcommand (with_subcommand without_lines check_line.top) look_line.top)
+    listen_line.top

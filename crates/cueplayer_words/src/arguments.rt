@@ -1,10 +1,12 @@
-ghost use Rattle.std.specs.Prelude.{◌≡◌, option_map};
+ghost use Rattle.std.specs.Prelude.{◌≡◌, ◌≤◌, IfSome, option_map};
 ghost use Rattle.clap.specs.Words.{first_of, found_of, rows_of};
 ghost use Rattle.uuid.specs.Text.{parsed};
 ghost use Rattle.ascii_text.specs.Forms.{cue_number_of};
-ghost use Rattle.cueplayer_words.specs.Job.{value_by};
+ghost use Rattle.cueplayer_words.specs.Job.{number_between, value_by};
+ghost use Rattle.cueplayer_words.specs.Address.{address_of};
 
-use ascii_text::cue_number;
+use crate::address::address;
+use ascii_text::{cue_number, whole};
 use clap::ArgMatches;
 use uuid::Uuid;
 
@@ -21,6 +23,23 @@ pub(crate) fn cue_at(matches: &ArgMatches<'_>, id: &str) -> Option<u32>
     ensures { result ≡ value_by cue_number_of id.now (rows_of (found_of matches.now)) }
 {
     cue_number(text_at(matches, id)?.as_bytes())
+}
+
+/// The number from `least` to `most` that an argument spells.
+pub(crate) fn number_at(matches: &ArgMatches<'_>, id: &str, least: u32, most: u32) -> Option<u32>
+    ensures value { result
+        ≡ value_by (number_between least most) id.now (rows_of (found_of matches.now)) }
+    ensures within { IfSome result (λ number. (least ≤ number) × (number ≤ most)) }
+{
+    let number = whole(text_at(matches, id)?.as_bytes(), most)?;
+    if number < least { None } else { Some(number) }
+}
+
+/// The address that an argument spells.
+pub(crate) fn address_at(matches: &ArgMatches<'_>, id: &str) -> Option<([u8; 4], u16)>
+    ensures { result ≡ value_by address_of id.now (rows_of (found_of matches.now)) }
+{
+    address(text_at(matches, id)?)
 }
 
 /// The CID that an argument spells.

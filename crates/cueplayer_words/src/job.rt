@@ -38,11 +38,26 @@ impl Name {
 #[derive(Debug, Drop)]
 pub enum Job {
     /// `check SHOW`: read a show and print its counts.
-    Check { show: Name },
+    Check {
+        show: Name,
+    },
 
     /// `look SHOW CUE --cid UUID`: print the packets of one cue at full. The cue number is in
     /// thousandths, 1 to 9,999,999, and the CID is the UUID's 16 bytes in order.
-    Look { show: Name, cue: u32, cid: [u8; 16] },
+    Look {
+        show: Name,
+        cue: u32,
+        cid: [u8; 16],
+    },
+
+    /// `listen ADDR UNIVERSE COUNT`: receive datagrams and print the replies to them. `at` is the
+    /// IPv4 address and the UDP port to receive at, the universe is 1 to 63,999, and the count of
+    /// datagrams 1 to 1,000,000.
+    Listen {
+        at: ([u8; 4], u16),
+        universe: u16,
+        count: u32,
+    },
 }
 
 /// Why words give no job.

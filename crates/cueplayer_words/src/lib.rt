@@ -1,6 +1,7 @@
 //! The words of the command line, and the job that they ask for.
 #![tactic(auto)]
 
+mod address;
 mod arguments;
 mod job;
 mod program;

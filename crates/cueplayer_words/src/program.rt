@@ -2,7 +2,7 @@ ghost use Rattle.std.specs.Prelude.{◌≡◌, IfOk, false};
 ghost use Rattle.clap.specs.Words.{app_of, rule_of};
 ghost use Rattle.clap.specs.declared.builder.Command.TheViews.{out-Command as fields_of};
 ghost use Rattle.cueplayer_words.specs.Program.{required, required_option, check_line, look_line};
-ghost use Rattle.cueplayer_words.specs.Program.{without_lines, program};
+ghost use Rattle.cueplayer_words.specs.Program.{listen_line, without_lines, program};
 
 use clap::{Arg, Command};
 use std::alloc::{AllocError, Global};
@@ -13,7 +13,8 @@ pub(crate) fn program<'a>(alloc: Global) -> Result<Command<'a>, AllocError>
 {
     without_lines(alloc)?
         .subcommand(check_line(alloc)?)?
-        .subcommand(look_line(alloc)?)
+        .subcommand(look_line(alloc)?)?
+        .subcommand(listen_line(alloc)?)
 }
 
 fn without_lines<'a>(alloc: Global) -> Result<Command<'a>, AllocError>
@@ -43,6 +44,25 @@ fn look_line<'a>(alloc: Global) -> Result<Command<'a>, AllocError>
         .arg(required(alloc, "SHOW", "The show's file, or - for standard input"))?
         .arg(required(alloc, "CUE", "The number of the cue"))?
         .arg(required_option(alloc, "cid", "UUID", "The sender's CID"))
+}
+
+fn listen_line<'a>(alloc: Global) -> Result<Command<'a>, AllocError>
+    ensures app { IfOk result (λ command. app_of command ≡ listen_line) }
+    ensures local { IfOk result (λ command. (fields_of command).has_globals ≡ false) }
+{
+    Command::new(alloc, "listen")
+        .about("Prints what a receiver makes of datagrams, and its slots at the end")
+        .arg(required(
+            alloc,
+            "ADDR",
+            "The address to receive at: a.b.c.d or a.b.c.d:port",
+        ))?
+        .arg(required(alloc, "UNIVERSE", "The universe to receive, 1 to 63999"))?
+        .arg(required(
+            alloc,
+            "COUNT",
+            "How many datagrams to receive, up to 1000000",
+        ))
 }
 
 fn required<'a>(alloc: Global, id: &'a str, help: &'a str) -> Arg<'a>

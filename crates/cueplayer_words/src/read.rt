@@ -1,9 +1,10 @@
-ghost use Rattle.std.specs.Prelude.{◌≡◌, map, option_map, option_and_then, IfOk, IfErr};
+ghost use Rattle.std.specs.Prelude.{◌≡◌, ◌≤◌, map, option_map, option_and_then, IfOk, IfErr, IfSome};
 ghost use Rattle.clap.specs.Words.{found_of, rows_of, subcommand_rows_of};
 ghost use Rattle.cueplayer_words.specs.Job.{line_of, check_of, look_of, look_with};
+ghost use Rattle.cueplayer_words.specs.Job.{listen_of, listen_with, IsInRange};
 ghost use Rattle.cueplayer_words.specs.Asked.{Explains, IsAsked, RefusedBy};
 
-use crate::arguments::{cid_at, cue_at, text_at};
+use crate::arguments::{address_at, cid_at, cue_at, number_at, text_at};
 use crate::job::{Job, Name, WordsFault};
 use crate::program::program;
 use clap::error::ErrorKind;
@@ -18,6 +19,7 @@ use std::convert::AsStr;
 /// growth was refused.
 pub fn read_words<S: AsStr>(alloc: Global, words: &[S]) -> Result<Job, WordsFault>
     ensures ok { IfOk result (IsAsked (map S.text words.now)) }
+    ensures ranges { IfOk result IsInRange }
     ensures err { IfErr result (Explains (map S.text words.now)) }
 {
     let Ok(program) = program(alloc) else {
@@ -46,7 +48,8 @@ fn refusal(error: Error) -> WordsFault
 
 // The job of the line that the words name, where each of its texts has its form.
 fn read_line(alloc: Global, matches: &ArgMatches<'_>) -> Result<Option<Job>, AllocError>
-    ensures { IfOk result (λ job. job ≡ option_and_then line_of (subcommand_rows_of matches.now)) }
+    ensures job { IfOk result (λ job. job ≡ option_and_then line_of (subcommand_rows_of matches.now)) }
+    ensures ranges { IfOk result (λ job. IfSome job IsInRange) }
 {
     let Some((line, inner)) = matches.subcommand() else {
         return Ok(None);
@@ -55,20 +58,24 @@ fn read_line(alloc: Global, matches: &ArgMatches<'_>) -> Result<Option<Job>, All
         read_check(alloc, inner)
     } else if line == "look" {
         read_look(alloc, inner)
+    } else if line == "listen" {
+        Ok(read_listen(inner))
     } else {
         Ok(None)
     }
 }
 
 fn read_check(alloc: Global, matches: &ArgMatches<'_>) -> Result<Option<Job>, AllocError>
-    ensures { IfOk result (λ job. job ≡ check_of (rows_of (found_of matches.now))) }
+    ensures job { IfOk result (λ job. job ≡ check_of (rows_of (found_of matches.now))) }
+    ensures ranges { IfOk result (λ job. IfSome job IsInRange) }
 {
     check_job(alloc, text_at(matches, "SHOW"))
 }
 
 fn check_job(alloc: Global, show: Option<&str>) -> Result<Option<Job>, AllocError>
-    ensures { IfOk result (λ job.
+    ensures job { IfOk result (λ job.
         job ≡ option_map Job.Check (option_map (λ text. text.now) show.entry)) }
+    ensures ranges { IfOk result (λ job. IfSome job IsInRange) }
 {
     let Some(show) = show else {
         return Ok(None);
@@ -78,7 +85,8 @@ fn check_job(alloc: Global, show: Option<&str>) -> Result<Option<Job>, AllocErro
 }
 
 fn read_look(alloc: Global, matches: &ArgMatches<'_>) -> Result<Option<Job>, AllocError>
-    ensures { IfOk result (λ job. job ≡ look_of (rows_of (found_of matches.now))) }
+    ensures job { IfOk result (λ job. job ≡ look_of (rows_of (found_of matches.now))) }
+    ensures ranges { IfOk result (λ job. IfSome job IsInRange) }
 {
     let show = text_at(matches, "SHOW");
     let cue = cue_at(matches, "CUE");
@@ -92,12 +100,39 @@ fn look_job(
     cue: Option<u32>,
     cid: Option<[u8; 16]>,
 ) -> Result<Option<Job>, AllocError>
-    ensures { IfOk result (λ job.
+    ensures job { IfOk result (λ job.
         job ≡ look_with (option_map (λ text. text.now) show.entry) cue cid) }
+    ensures ranges { IfOk result (λ job. IfSome job IsInRange) }
 {
     let (Some(show), Some(cue), Some(cid)) = (show, cue, cid) else {
         return Ok(None);
     };
     let show = Name::new(alloc, show)?;
     Ok(Some(Job::Look { show, cue, cid }))
+}
+
+fn read_listen(matches: &ArgMatches<'_>) -> Option<Job>
+    ensures job { result ≡ listen_of (rows_of (found_of matches.now)) }
+    ensures ranges { IfSome result IsInRange }
+{
+    let at = address_at(matches, "ADDR");
+    let universe = number_at(matches, "UNIVERSE", 1, 63999);
+    let count = number_at(matches, "COUNT", 1, 1_000_000);
+    listen_job(at, universe, count)
+}
+
+fn listen_job(at: Option<([u8; 4], u16)>, universe: Option<u32>, count: Option<u32>) -> Option<Job>
+    requires { IfSome universe (λ number. (1 ≤ number) × (number ≤ 63999)) }
+    ensures job { result ≡ listen_with at universe count }
+    ensures ranges { IfSome result IsInRange }
+{
+    let (Some(at), Some(universe), Some(count)) = (at, universe, count) else {
+        return None;
+    };
+    let universe = universe as u16;
+    Some(Job::Listen {
+        at,
+        universe,
+        count,
+    })
 }

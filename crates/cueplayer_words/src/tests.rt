@@ -56,6 +56,10 @@ fn look_words(rt: HostRuntime) {
             ErrorKind::UnknownArgument,
         ),
         (
+            ["cueplayer", "listen", "127.0.0.1", "1"].as_slice(),
+            ErrorKind::MissingRequiredArgument,
+        ),
+        (
             ["cueplayer", "open", "a"].as_slice(),
             ErrorKind::InvalidSubcommand,
         ),
@@ -97,6 +101,51 @@ fn words_of_look_one(rt: HostRuntime) -> Result<(), Fail> {
         return Err(Fail::from("no check"));
     };
     assert!(rt; show.as_str() == "a.asc");
+    Ok(())
+}
+
+#[test]
+fn words_of_listen(rt: HostRuntime) -> Result<(), Fail> {
+    for (spelling, host, port) in [
+        ("127.0.0.1:5000", [127, 0, 0, 1], 5000),
+        ("127.000.000.001:0", [127, 0, 0, 1], 0),
+        ("10.255.3.4", [10, 255, 3, 4], 5568),
+        ("239.255.0.1:65535", [239, 255, 0, 1], 65535),
+    ] {
+        let words = ["cueplayer", "listen", spelling, "63999", "1000000"];
+        let Ok(
+            Job::Listen {
+                at,
+                universe,
+                count,
+            },
+        ) = read(rt.alloc(), words.as_slice())
+        else {
+            return Err(Fail::from("no listen"));
+        };
+        assert!(rt; at.0 == host && at.1 == port, "{spelling}");
+        assert!(rt; universe == 63999 && count == 1_000_000, "{spelling}");
+    }
+    for words in [
+        ["127.0.0.1:", "1", "1"],
+        ["127.0.0.1:65536", "1", "1"],
+        ["127.0.0.256", "1", "1"],
+        ["127.0.0", "1", "1"],
+        ["127.0.0.1.1", "1", "1"],
+        ["localhost", "1", "1"],
+        ["127.0.0.1", "0", "1"],
+        ["127.0.0.1", "64000", "1"],
+        ["127.0.0.1", "1", "0"],
+        ["127.0.0.1", "1", "1000001"],
+        ["127.0.0.1", "1", "0000000001"],
+    ] {
+        let [address, universe, count] = words;
+        let words = ["cueplayer", "listen", address, universe, count];
+        assert!(rt;
+            matches!(read(rt.alloc(), words.as_slice()), Err(WordsFault::Unfit)),
+            "{words:?}"
+        );
+    }
     Ok(())
 }
 

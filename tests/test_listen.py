@@ -1,0 +1,259 @@
+"""`listen`: datagrams over UDP on this machine, the lines that it prints, and its words."""
+
+import contextlib
+import select
+import signal
+import socket
+import subprocess
+import time
+from pathlib import Path
+
+from program import PROGRAM, ProgramTest, packet, run
+
+LOOK_ONE = packet(1, {1: 64})
+THREE = b"1 taken 0\n2 ignored OutOfSequence\n3 ignored Unreadable Short\nslots 1:64\n"
+UNFIT = b"words refused\n"
+DEVICE_FAULT = b"device fault\n"
+LAST_OF_CID, PRIORITY, SEQUENCE, OPTIONS, UNIVERSE, START = 37, 108, 111, 112, 114, 125
+
+
+def changed(fields, sent=LOOK_ONE):
+    """A packet with other bytes, by their offsets."""
+    sent = bytearray(sent)
+    for offset, byte in fields.items():
+        sent[offset] = byte
+    return bytes(sent)
+
+
+def free_port():
+    """A port of 127.0.0.1 that nothing is bound on."""
+    with socket.socket(socket.AF_INET, socket.SOCK_DGRAM) as probe:
+        probe.bind(("127.0.0.1", 0))
+        return probe.getsockname()[1]
+
+
+def is_bound(host, port):
+    """Whether a socket is bound there, as the system tells without one of our own."""
+    address = socket.inet_aton(host)[::-1].hex().upper()
+    return f" {address}:{port:04X} " in Path("/proc/net/udp").read_text()
+
+
+class Listener:
+    """A run of `listen` that has its socket."""
+
+    def __init__(self, universe=1, count=1, host="127.0.0.1", port=None, address=None):
+        self.at = (host, port or free_port())
+        words = [PROGRAM, "listen", address or f"{host}:{self.at[1]}", str(universe), str(count)]
+        # Without a buffer, what `line` leaves is there for `close`.
+        self.child = subprocess.Popen(words, stdout=subprocess.PIPE, stderr=subprocess.PIPE, bufsize=0)
+        self.sender = socket.socket(socket.AF_INET, socket.SOCK_DGRAM)
+        until = time.monotonic() + 30
+        while self.child.poll() is None and not is_bound(*self.at):
+            if time.monotonic() > until:
+                self.child.kill()
+                raise TimeoutError("no socket is bound")
+            time.sleep(0.002)
+
+    def send(self, *datagrams):
+        for datagram in datagrams:
+            self.sender.sendto(datagram, self.at)
+
+    def line(self):
+        """The next line, where it comes within some seconds."""
+        ready, _, _ = select.select([self.child.stdout], [], [], 30)
+        return self.child.stdout.readline() if ready else b"(no line)"
+
+    def is_silent(self):
+        """Nothing more is printed for now."""
+        return not select.select([self.child.stdout], [], [], 0.05)[0]
+
+    def close(self):
+        """Waits for the run's end: its status, the rest of its output, and what it told."""
+        self.sender.close()
+        out, err = self.child.communicate(timeout=30)
+        return self.child.returncode, out, err
+
+    def abandon(self):
+        """Ends the run and what it holds, whatever state it is in."""
+        self.sender.close()
+        if self.child.poll() is None:
+            self.child.kill()
+        self.child.communicate()
+
+
+class Listen(ProgramTest):
+    def listener(self, **options):
+        started = Listener(**options)
+        self.addCleanup(started.abandon)
+        return started
+
+    def assertHears(self, out, datagrams, **options):
+        """`listen` of these datagrams prints this, with status 0."""
+        listener = self.listener(count=len(datagrams), **options)
+        listener.send(*datagrams)
+        self.assertEqual((0, out, b""), listener.close())
+
+    def test_listen_three(self):
+        self.assertHears(THREE, [LOOK_ONE, LOOK_ONE, bytes(5)])
+
+    def test_udp_source(self):
+        """The datagrams wait at the socket: all were sent before the first is taken."""
+        listener = self.listener(count=3)
+        listener.child.send_signal(signal.SIGSTOP)
+        listener.send(LOOK_ONE, LOOK_ONE, bytes(5))
+        listener.child.send_signal(signal.SIGCONT)
+        self.assertEqual((0, THREE, b""), listener.close())
+
+    def test_line_by_line(self):
+        """Each line is there before the next datagram is sent."""
+        listener = self.listener(count=3)
+        for datagram, line in zip((LOOK_ONE, LOOK_ONE, bytes(5)), THREE.splitlines(True)):
+            self.assertTrue(listener.is_silent())
+            listener.send(datagram)
+            self.assertEqual(line, listener.line())
+        self.assertEqual((0, b"slots 1:64\n", b""), listener.close())
+
+    def test_replies(self):
+        """Each name that a single source can bring about."""
+        out = (
+            b"1 taken 255 terminated\n2 taken 0\n3 ignored OutOfSequence\n4 ignored OtherUniverse\n"
+            b"5 ignored Preview\n6 ignored AltStart\n7 ignored Unreadable Priority\n8 taken 236\n"
+            b"slots 1:64\n"
+        )
+        datagrams = [
+            changed({SEQUENCE: 255, OPTIONS: 0x40}),
+            LOOK_ONE,
+            changed({SEQUENCE: 237}),
+            changed({UNIVERSE: 2}),
+            changed({OPTIONS: 0xC0}),
+            changed({START: 0xDD}),
+            changed({PRIORITY: 201}),
+            changed({SEQUENCE: 236}),
+        ]
+        self.assertHears(out, datagrams)
+
+    def test_unreadable(self):
+        """The faults of a packet, by the byte that is turned over."""
+        faults = {
+            0: b"Preamble",
+            4: b"Identifier",
+            18: b"RootVector",
+            16: b"Length",
+            40: b"FramingVector",
+            113: b"Universe",
+            117: b"Dmp",
+            123: b"Count",
+        }
+        out = [b"%d ignored Unreadable %s\n" % (i, name) for i, name in enumerate(faults.values(), 1)]
+        datagrams = [changed({offset: LOOK_ONE[offset] ^ 0xFF}) for offset in faults]
+        self.assertHears(b"".join(out) + b"slots\n", datagrams)
+
+    def test_sources(self):
+        """Four sources, and a fifth; of equal priority the greatest level of each slot shows."""
+        datagrams = [
+            changed({LAST_OF_CID: n}, packet(1, {1: 10 * n, n: 200 + n, 512: 255})) for n in range(1, 6)
+        ]
+        out = (
+            b"1 taken 0\n2 taken 0\n3 taken 0\n4 taken 0\n5 ignored SourcesFull\n"
+            b"slots 1:201 2:202 3:203 4:204 512:255\n"
+        )
+        self.assertHears(out, datagrams)
+
+    def test_priority(self):
+        """The levels of the source with the greatest priority show alone."""
+        datagrams = [
+            changed({LAST_OF_CID: 1}, packet(1, {1: 255})),
+            changed({LAST_OF_CID: 2, PRIORITY: 101}, packet(1, {2: 7})),
+        ]
+        self.assertHears(b"1 taken 0\n2 taken 0\nslots 2:7\n", datagrams)
+
+    def test_all_slots(self):
+        """The longest slots line."""
+        slots = {slot: 100 + slot % 156 for slot in range(1, 513)}
+        line = "slots" + "".join(f" {slot}:{level}" for slot, level in slots.items()) + "\n"
+        self.assertHears(b"1 taken 0\n" + line.encode(), [packet(1, slots)])
+
+    def test_lengths(self):
+        """Empty datagrams count; what is behind a packet does not matter, however long it is."""
+        later = changed({SEQUENCE: 1})
+        datagrams = [b"", LOOK_ONE[:637], LOOK_ONE + bytes(2), later + bytes(8000), bytes(1501)]
+        out = (
+            b"1 ignored Unreadable Short\n2 ignored Unreadable Length\n3 taken 0\n4 taken 1\n"
+            b"5 ignored Unreadable Preamble\nslots 1:64\n"
+        )
+        self.assertHears(out, datagrams)
+
+    def test_universes(self):
+        datagrams = [packet(63999, {512: 1})]
+        self.assertHears(b"1 taken 0\nslots 512:1\n", datagrams, universe="063999")
+        self.assertHears(b"1 ignored OtherUniverse\nslots\n", datagrams, universe=1)
+
+    def test_addresses(self):
+        """Zeros in front of a number, and the port that is meant where none is named."""
+        port = free_port()
+        for address in (f"127.000.000.001:{port}", f"127.0.0.1:{port:09}"):
+            with self.subTest(address):
+                self.assertHears(b"1 taken 0\nslots 1:64\n", [LOOK_ONE], port=port, address=address)
+        if is_bound("127.0.0.5", 5568):
+            self.skipTest("port 5568 is in use")
+        self.assertHears(
+            b"1 taken 0\nslots 1:64\n", [LOOK_ONE], host="127.0.0.5", port=5568, address="127.0.0.5"
+        )
+
+    def test_unfit_words(self):
+        for words in (
+            ("127.0.0.1:", "1", "1"),
+            ("127.0.0.1:65536", "1", "1"),
+            ("127.0.0.1:x", "1", "1"),
+            ("127.0.0.256", "1", "1"),
+            ("127.0.0", "1", "1"),
+            ("127.0.0.0.1", "1", "1"),
+            ("127..0.1", "1", "1"),
+            ("0000000127.0.0.1", "1", "1"),
+            ("localhost", "1", "1"),
+            ("::1", "1", "1"),
+            ("", "1", "1"),
+            ("127.0.0.1", "0", "1"),
+            ("127.0.0.1", "64000", "1"),
+            ("127.0.0.1", "x", "1"),
+            ("127.0.0.1", "1", "0"),
+            ("127.0.0.1", "1", "1000001"),
+            ("127.0.0.1", "1", "1.0"),
+        ):
+            with self.subTest(words):
+                self.assertRuns(["listen", *words], b"", status=2, err=UNFIT)
+
+    def test_refused_words(self):
+        for words, telling in (
+            ([], b"<ADDR>"),
+            (["127.0.0.1"], b"<UNIVERSE>"),
+            (["127.0.0.1", "1"], b"<COUNT>"),
+            (["127.0.0.1", "1", "1", "1"], b"'1'"),
+            (["x", "1", "1", "--to"], b"'--to'"),
+        ):
+            with self.subTest(words):
+                outcome = run("listen", *words)
+                self.assertEqual((2, b""), (outcome.status, outcome.out))
+                self.assertIn(telling, outcome.err)
+
+    def test_addresses_that_cannot_be_bound(self):
+        """An address of another machine, and one that is in use: nothing is printed."""
+        self.assertRuns(["listen", "192.0.2.1:5568", "1", "1"], b"", status=5, err=DEVICE_FAULT)
+        with contextlib.closing(socket.socket(socket.AF_INET, socket.SOCK_DGRAM)) as taken:
+            taken.bind(("127.0.0.1", 0))
+            address = f"127.0.0.1:{taken.getsockname()[1]}"
+            self.assertRuns(["listen", address, "1", "1"], b"", status=5, err=DEVICE_FAULT)
+
+    def test_output_that_fails(self):
+        """A line that is not taken ends the run: no further datagram is waited for."""
+        port = free_port()
+        with open("/dev/full", "wb") as full:
+            words = [PROGRAM, "listen", f"127.0.0.1:{port}", "1", "2"]
+            with subprocess.Popen(words, stdout=full, stderr=subprocess.PIPE) as child:
+                self.addCleanup(child.kill)
+                while child.poll() is None and not is_bound("127.0.0.1", port):
+                    time.sleep(0.002)
+                with socket.socket(socket.AF_INET, socket.SOCK_DGRAM) as sender:
+                    sender.sendto(LOOK_ONE, ("127.0.0.1", port))
+                self.assertEqual(DEVICE_FAULT, child.stderr.read())
+            self.assertEqual(5, child.returncode)
