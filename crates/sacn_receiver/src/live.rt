@@ -1,4 +1,4 @@
-ghost use Rattle.std.specs.Prelude.{◌≡◌, ℕ, ◌<◌, count_by, filter, map, slice_index};
+ghost use Rattle.std.specs.Prelude.{◌≡◌, ℕ, ◌<◌, ◌≤◌, count_by, filter, length, map, max, slice_index};
 ghost use Rattle.sacn_receiver.specs.Records.{entries, kept_entry, is_live_at, leads_at};
 ghost use Rattle.sacn_receiver.specs.Shown.{greatest};
 
@@ -34,7 +34,16 @@ pub(crate) fn merge(records: &[Record], moment: u64, priority: u8, out: &mut [u8
     *out = [0; 512];
     for record in records {
         if record.leads(moment, priority) {
-            max_into(out, &record.slots);
+            raise(out, &record.slots);
         }
     }
+}
+
+// `max_into`, out of line: within the loop above, LLVM would keep the frame in two places, and take twice as long.
+#[inline(never)]
+fn raise(out: &mut [u8; 512], slots: &[u8; 512])
+    ensures greatest { (s : ℕ) → s < length slots.now → slice_index out.new s ≡ max (slice_index out.old s) (slice_index slots.now s) }
+    ensures rest { (s : ℕ) → length slots.now ≤ s → slice_index out.new s ≡ slice_index out.old s }
+{
+    max_into(out, slots);
 }

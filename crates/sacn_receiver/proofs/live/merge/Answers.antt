@@ -26,7 +26,7 @@ loop-record-preserved c = λ s lt.
       | then-leads w ↦
           one_more (λ (e : Entry). slice_index e.slots s) (leads_at c.args.moment c.args.priority) c.args.records.now c.loop-record.record-index _ c.loop-record-test.true
           (get_or c.loop-record.out s 0) (get_or c.if-leads.out s 0) (sym c.leads.ensures ∙ w.if-leads.true) (c.loop-record.invariant s lt)
-          (ap (λ l. get_or l s 0) w.out-is ∙ at_each _ _ _ w.max_into.ensures.greatest w.max_into.ensures.rest s)
+          (ap (λ l. get_or l s 0) w.out-is ∙ at_each _ _ _ w.raise.ensures.greatest w.raise.ensures.rest s)
       | else-leads w ↦
           no_more (λ (e : Entry). slice_index e.slots s) (leads_at c.args.moment c.args.priority) c.args.records.now c.loop-record.record-index _ c.loop-record-test.true
           (get_or c.loop-record.out s 0) (get_or c.if-leads.out s 0) (sym c.leads.ensures ∙ w.if-leads.false) (c.loop-record.invariant s lt)
