@@ -1,0 +1,3 @@
+pub mod Universes
+pub mod Drawn
+mod Rows

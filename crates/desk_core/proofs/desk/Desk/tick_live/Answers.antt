@@ -1,0 +1,42 @@
+use Rattle.std.proofs.Common.{◌≡◌, ℕ, List, None, Some, refl, sym, subst, ap, ◌∙◌, IsTrue, length, arith}
+use Rattle.std.specs.Prelude.{slice_get}
+use Rattle.std.proofs.lemmas.List.{with_items_is}
+use Rattle.show_core.specs.Numbers.{is_channel}
+use Rattle.show_core.specs.Readers.{IsInRange}
+use Rattle.playback_core.specs.Played.{playback_level}
+use Rattle.playback_core.specs.Stands as playback
+use Rattle.master_core.specs.Merged.{level_after}
+use Rattle.patch_core.specs.Frame.{level_in, frame_of}
+use Rattle.desk_core.specs.Played.{ended, moves, settings}
+use Rattle.desk_core.specs.Meaning.{channel_level, frame}
+use Rattle.desk_core.proofs.Drawn.{live_frame}
+use Rattle.desk_core.proofs.desk.Desk.tick_live.Goals as goal
+
+pub returns : goal.returns
+returns g c = rw (← c.self.view_is) (λ show base history stands.
+    let none : ended history ≡ None = sym stands.ended_is ∙ ap (λ d. d.ended) c.self.view_is ∙ c.requires.live in
+    let moved : playback.StandsFor g.F.Fader.stands_for show c.advance.new.self (moves show history) = c.advance.ensures.stands show (moves show history) stands.playback_stands in
+    let own : playback.StandsFor g.F.Fader.stands_for c.self.inside.show c.advance.new.self (moves show history) =
+    subst (λ s. playback.StandsFor g.F.Fader.stands_for s c.advance.new.self (moves show history)) (sym stands.show_is) moved in
+    let levels : List ℕ = c.deref.result.now in
+    let written : levels ≡ c.merge_levels.new.levels = c.deref.ensures.value ∙ with_items_is c.self.inside.levels c.merge_levels.new.levels (omega (arith, c.merge_levels.auto.levels, c.deref_mut.ensures.len, c.self.inside.levels.ok.0)) in
+    let merged : (channel : ℕ) → IsTrue (is_channel channel) → level_in levels channel ≡ channel_level show history c.args.moment channel = λ channel is.
+    subst (λ s. level_in levels channel ≡ level_after s (settings history) channel (playback_level s (moves show history) channel c.args.moment)) stands.show_is
+    (ap (λ ls. level_in ls channel) written ∙ c.merge_levels.ensures.merged (moves show history) (settings history) own stands.masters_stand channel is
+    ∙ ap (λ t. level_after c.self.inside.show (settings history) channel (playback_level c.self.inside.show (moves show history) channel t)) c.advance.ensures.latest) in
+    let size : length c.draw.new.frames ≡ c.self.inside.frames.len = omega (arith, c.draw.auto.frames, c.deref_mut-2.ensures.len, c.self.inside.frames.ok.0) in
+    let patch_is : c.self.inside.rig.patch ≡ show.patch = c.self.invariant.patch_is ∙ ap (λ s. s.patch) stands.show_is in
+    let in_range : IsInRange show = subst IsInRange stands.show_is c.self.invariant.in_range in
+    let drawn : (ordinal : ℕ) → frame_of c.self.inside.rig.patch (level_in levels) c.grand.result ordinal ≡ frame show history c.args.moment ordinal = λ ordinal.
+    ap (λ p. frame_of p (level_in levels) c.grand.result ordinal) patch_is
+    ∙ live_frame show in_range history c.args.moment c.grand.result levels none (c.grand.ensures (settings history) stands.masters_stand) merged ordinal in
+    record {
+      show_is = stands.show_is;
+      base_is = stands.base_is;
+      playback_stands = moved;
+      masters_stand = stands.masters_stand;
+      moment_is = refl;
+      tick_is = refl;
+      ended_is = rw (stands.ended_is, none) refl;
+      frames_are = λ ordinal lt. ap (λ fs. slice_get fs ordinal) (with_items_is c.self.inside.frames c.draw.new.frames size) ∙ c.draw.ensures ordinal lt ∙ ap Some (drawn ordinal);
+    })

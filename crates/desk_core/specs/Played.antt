@@ -1,0 +1,126 @@
+-- What a console does: its calls, why one is refused, and the moves and settings that the accepted ones make.
+use Rattle.std.specs.Prelude.{ℕ, ◌+◌, ◌^◌, Bool, true, false, List, [], ◌∷◌, Option, Some, None, Result, Ok, Err, is_some, nat_lt, nat_le, if◌then◌else◌}
+use Rattle.std.specs.Option.{option_or}
+use Rattle.std.specs.FinMap as map
+use Rattle.show_core.specs.Tables.{Tables}
+use Rattle.playback_core.specs.Played.{Move, current_after, go_target, back_target, goto_target}
+use Rattle.master_core.specs.Settings.{Setting, sub_setting, group_setting, grand_setting}
+use Rattle.desk_core.specs.declared.command.Command.{Command}
+use Rattle.desk_core.specs.declared.command.Command.TheVariants.{Go, Back, Goto, Sub, Group, Master, End}
+use Rattle.desk_core.specs.declared.answer.Ticked.{Ticked}
+use Rattle.desk_core.specs.declared.answer.Ticked.TheVariants.{Live, Ending}
+use Rattle.desk_core.specs.declared.answer.Refused.{Refused}
+use Rattle.desk_core.specs.declared.answer.Refused.TheVariants.{Backwards, MomentTooLarge, Ended, TooSoon, AtEnd, AtStart, NoCue, NoSub, NoGroup}
+
+-- a call: a command of the operator, or a tick, at which the universes are shown anew
+pub data Call : Type 0 where
+  order : Command → Call
+  tick : Call
+
+-- a call at its moment, in milliseconds. A history is the list of the calls that were accepted, the newest first
+pub record Act : Type 0 where
+  pub moment : ℕ
+  pub call : Call
+
+-- ---- what a history leaves
+
+-- the moment of the last call; 0 before the first
+abbrev pub last_moment : List Act → ℕ
+last_moment [] = 0
+last_moment (act ∷ older) = act.moment
+
+-- the moment of the last tick, where there was one
+abbrev pub last_tick : List Act → Option ℕ
+last_tick [] = None
+last_tick (act ∷ older) = ticked_at act.call act.moment (last_tick older) where
+  ticked_at : Call → ℕ → Option ℕ → Option ℕ
+  ticked_at tick moment before = Some moment
+  ticked_at (order command) moment before = before
+
+-- End begins the count of the ticks that end the streams
+abbrev pub ended_by : Call → Option ℕ → Option ℕ
+ended_by (order End) None = Some 0
+ended_by tick (Some ticks) = Some (ticks + 1)
+ended_by _ ended = ended
+
+-- how many ticks there were after End; none where there was no End
+abbrev pub ended : List Act → Option ℕ
+ended [] = None
+ended (act ∷ older) = ended_by act.call (ended older)
+
+-- the cue that a call moves to, from the current one
+abbrev pub target : Tables → Option ℕ → Call → Option ℕ
+target show current (order Go) = go_target show.cues current
+target show current (order Back) = back_target show.cues current
+target show current (order (Goto n)) = goto_target show.cues n
+target show current _ = None
+
+-- a move more, where there is a cue to move to
+abbrev pub moved_to : Option ℕ → ℕ → List Move → List Move
+moved_to None moment older = older
+moved_to (Some n) moment older = record { cue = n; moment = moment } ∷ older
+
+-- the moves of a history, the newest first
+abbrev pub moves : Tables → List Act → List Move
+moves show [] = []
+moves show (act ∷ older) = moved_to (target show (current_after (moves show older)) act.call) act.moment (moves show older)
+
+-- a setting more, where the call sets a master
+abbrev pub set_by : Call → List Setting → List Setting
+set_by (order (Sub n byte)) older = sub_setting n byte ∷ older
+set_by (order (Group n byte)) older = group_setting n byte ∷ older
+set_by (order (Master byte)) older = grand_setting byte ∷ older
+set_by _ older = older
+
+-- the settings of the masters in a history, the newest first
+abbrev pub settings : List Act → List Setting
+settings [] = []
+settings (act ∷ older) = set_by act.call (settings older)
+
+-- ---- refusals and answers
+
+-- after End: no command, and no tick after the third (E1.31, Options: three packets with Stream_Terminated end a stream)
+abbrev pub is_over : Option ℕ → Call → Bool
+is_over None call = false
+is_over (Some ticks) (order command) = true
+is_over (Some ticks) tick = nat_le 3 ticks
+
+-- a tick less than 23 ms after the last one (E1.31, Transmission Rate: no faster than DMX512-A, whose full packet takes 22.7 ms)
+abbrev pub is_soon : Option ℕ → ℕ → Call → Bool
+is_soon None moment call = false
+is_soon (Some last) moment (order command) = false
+is_soon (Some last) moment tick = nat_lt moment (last + 23)
+
+-- the lowest refusal that the moment of a call gives
+abbrev pub untimely : ℕ → ℕ → Bool → Bool → Option Refused
+untimely last moment over soon =
+    if nat_lt moment last then Some Backwards
+    else (if nat_le (2 ^ 48) moment then Some MomentTooLarge
+    else (if over then Some Ended
+    else (if soon then Some TooSoon
+    else None)))
+
+-- the refusal of a command whose cue, submaster or group the show does not have
+abbrev pub lacking : Tables → Option ℕ → Call → Option Refused
+lacking show current (order Go) = if is_some (go_target show.cues current) then None else Some AtEnd
+lacking show current (order Back) = if is_some (back_target show.cues current) then None else Some AtStart
+lacking show current (order (Goto n)) = if is_some (goto_target show.cues n) then None else Some NoCue
+lacking show current (order (Sub n byte)) = if map.contains_key show.subs n then None else Some NoSub
+lacking show current (order (Group n byte)) = if map.contains_key show.groups n then None else Some NoGroup
+lacking show current _ = None
+
+-- why a call is refused after a history: the lowest refusal that applies, if any does
+abbrev pub refusal : Tables → List Act → Act → Option Refused
+refusal show history act =
+    option_or (untimely (last_moment history) act.moment (is_over (ended history) act.call) (is_soon (last_tick history) act.moment act.call))
+    (lacking show (current_after (moves show history)) act.call)
+
+-- the answer of a call: its refusal, or else this
+abbrev pub outcome : {A : Type 0} → Option Refused → A → Result A Refused
+outcome None answer = Ok answer
+outcome (Some refused) answer = Err refused
+
+-- what an accepted tick answers, after so many ticks since End
+abbrev pub ticked : Option ℕ → Ticked
+ticked None = Live
+ticked (Some ticks) = Ending (ticks + 1)

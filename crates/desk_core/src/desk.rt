@@ -1,0 +1,308 @@
+ghost use Rattle.std.specs.Prelude.{◌≡◌, ◌↔◌, ℕ, ◌-◌, ◌^◌, ◌<◌, ◌≤◌, IsTrue, IsFalse, IfOk, OnOk, OnErr, Err, None, Some, List, [], ◌∷◌, All, Contains};
+ghost use Rattle.std.specs.List.Sorted.{IsStrictlyIncreasing};
+ghost use Rattle.show_core.specs.Tables.{Tables};
+ghost use Rattle.playback_core.specs.Played.{current_after};
+ghost use Rattle.playback_core.specs.Stands as playback_stands;
+ghost use Rattle.master_core.specs.Settings as masters_stand;
+ghost use Rattle.patch_core.specs.Frame.{is_universe, is_base};
+ghost use Rattle.patch_core.specs.declared.fault.RigFault.TheVariants.{Universe};
+ghost use Rattle.desk_core.specs.Played.{Act, order, tick, ended, ended_by, moves, settings, untimely, is_over, is_soon, lacking, refusal, outcome, ticked};
+ghost use Rattle.desk_core.specs.Meaning.{latest_frame, universe_numbers};
+ghost use Rattle.desk_core.specs.Stands.{StandsFor};
+
+use crate::answer::{Refused, Ticked};
+use crate::command::Command;
+use crate::frames::{dark_frames, darken, draw, merge_levels};
+use arrayvec::ArrayVec;
+use fade_core::Fader;
+use master_core::Masters;
+use patch_core::{Rig, RigFault};
+use playback_core::Playback;
+use show_core::{CHANNELS, Show};
+use std::alloc::Global;
+use std::marker::Model;
+
+/// Moments are below this, 2^48 milliseconds.
+const MOMENTS: u64 = 0x1_0000_0000_0000;
+
+/// Ticks are at least so many milliseconds apart: a full packet of DMX512-A takes 22.7 (E1.31, Transmission Rate).
+const SHORTEST_GAP: u64 = 23;
+
+/// So many ticks after End carry the end of the streams (E1.31, 6.2.6: Stream_Terminated).
+const ENDING_TICKS: u8 = 3;
+
+/// A console: a show, its playback and masters, and the frames of its universes as the latest tick showed them.
+///
+/// Moments are in milliseconds. Calls are taken whole, one after another; a refused one changes nothing.
+/// A frame has 512 slots of a level byte; what commands do is seen in it from the next tick on.
+///
+/// Only `open` takes memory.
+#[derive(Drop)]
+pub struct Desk<F: Fader> {
+    show: Show,
+    rig: Rig,
+    playback: Playback<F>,
+    masters: Masters,
+    last_moment: u64,
+    last_tick: Option<u64>,
+    ended: Option<u8>,
+    levels: Vec<u32>,
+    frames: Vec<[u8; 512]>,
+}
+
+impl<F: Fader> Model for Desk<F> {
+    ghost use Rattle.desk_core.specs.DeskState.{DeskState};
+
+    ghost Value = { DeskState F };
+
+    ghost use Rattle.std.specs.Coded.{codes};
+    ghost use Rattle.show_core.specs.contracts.show.Show as show_model;
+
+    ghost coded = { Prim.hlevel (codes, show_model.the_row.coded) };
+
+    ghost view = { λ d. record {
+      show = d.show;
+      base = d.rig.base;
+      playback = d.playback;
+      masters = d.masters;
+      last_moment = d.last_moment;
+      last_tick = d.last_tick;
+      ended = d.ended;
+      frames = d.frames.items;
+    } };
+
+    ghost use Rattle.desk_core.specs.Inside.{IsDesk};
+
+    ghost invariant = { λ d. IsDesk (F.latest d.playback.fader) d.last_moment d.rig.patch d.show d.levels.items d.frames.items };
+}
+
+impl<F: Fader> Desk<F> {
+    /// A desk with a copy of the show, `base` as the number of the universe of ordinal 0, no current cue, and dark frames.
+    ///
+    /// # Errors
+    ///
+    /// `Universe` where `base`, or `base` plus an ordinal with a patched dimmer, is not 1 to 63999; else `Memory` where a growth was refused.
+    pub fn open(alloc: Global, show: &Show, base: u16) -> Result<Self, RigFault>
+        ensures stands { IfOk result (λ desk. StandsFor F.stands_for show.now base desk []) }
+        ensures universe { (result ≡ Err Universe) ↔ IsFalse (is_base show.now.patch base) }
+    {
+        let rig = Rig::new(alloc, show, base)?;
+        // Its clauses say that the numbers of a show are in their ranges.
+        let _counts = show.counts();
+        let show = show.clone_in(alloc)?;
+        let playback = Playback::new(alloc)?;
+        let levels = vec![in alloc; 0; usize::from(CHANNELS)]?;
+        let frames = dark_frames(alloc)?;
+        Ok(Desk {
+            show,
+            rig,
+            playback,
+            masters: Masters::new(),
+            last_moment: 0,
+            last_tick: None,
+            ended: None,
+            levels,
+            frames,
+        })
+    }
+
+    /// Carries out a command.
+    ///
+    /// # Errors
+    ///
+    /// The first of `Backwards`, `MomentTooLarge`, `Ended`, `AtEnd`, `AtStart`, `NoCue`, `NoSub` and `NoGroup` that applies; then nothing changed.
+    pub fn command(&mut self, moment: u64, command: Command) -> Result<(), Refused>
+        ensures answer { (show : Tables) (base : ℕ) (history : List Act) → StandsFor F.stands_for show base self.old history
+            → result ≡ outcome (refusal show history (record { moment = moment; call = order command })) tt }
+        ensures stands { OnOk result ((show : Tables) (base : ℕ) (history : List Act) → StandsFor F.stands_for show base self.old history
+            → StandsFor F.stands_for show base self.new (record { moment = moment; call = order command } ∷ history)) }
+        ensures unchanged { OnErr result (self.new ≡ self.old) }
+    {
+        if let Some(refused) = untimely(self.last_moment, moment, self.ended.is_some(), false) {
+            return Err(refused);
+        }
+        carry_out(
+            &self.show,
+            &mut self.playback,
+            &mut self.masters,
+            moment,
+            command,
+        )?;
+        self.ended = ending_begun(command);
+        self.last_moment = moment;
+        Ok(())
+    }
+
+    /// Shows every universe anew, by the commands before.
+    ///
+    /// # Errors
+    ///
+    /// The first of `Backwards`, `MomentTooLarge`, `Ended` and `TooSoon` that applies; then nothing changed.
+    pub fn tick(&mut self, moment: u64) -> Result<Ticked, Refused>
+        ensures answer { (show : Tables) (base : ℕ) (history : List Act) → StandsFor F.stands_for show base self.old history
+            → result ≡ outcome (refusal show history (record { moment = moment; call = tick })) (ticked (ended history)) }
+        ensures stands { OnOk result ((show : Tables) (base : ℕ) (history : List Act) → StandsFor F.stands_for show base self.old history
+            → StandsFor F.stands_for show base self.new (record { moment = moment; call = tick } ∷ history)) }
+        ensures unchanged { OnErr result (self.new ≡ self.old) }
+    {
+        let over = is_over(self.ended);
+        let soon = is_soon(self.last_tick, moment);
+        if let Some(refused) = untimely(self.last_moment, moment, over, soon) {
+            return Err(refused);
+        }
+        match self.ended {
+            None => {
+                self.tick_live(moment);
+                Ok(Ticked::Live)
+            }
+            Some(ticks) => {
+                self.tick_ending(moment, ticks + 1);
+                Ok(Ticked::Ending(ticks + 1))
+            }
+        }
+    }
+
+    fn tick_live(&mut self, moment: u64)
+        requires not_before { self.old.last_moment ≤ moment }
+        requires below { moment < 2 ^ 48 }
+        requires live { self.old.ended ≡ None }
+        ensures { (show : Tables) (base : ℕ) (history : List Act) → StandsFor F.stands_for show base self.old history
+            → StandsFor F.stands_for show base self.new (record { moment = moment; call = tick } ∷ history) }
+    {
+        self.playback.advance(moment);
+        merge_levels(&mut self.levels, &self.show, &self.playback, &self.masters);
+        draw(
+            &mut self.frames,
+            &self.rig,
+            &self.levels,
+            self.masters.grand(),
+        );
+        self.last_moment = moment;
+        self.last_tick = Some(moment);
+    }
+
+    // The tick of this number since End.
+    #[tactic(auto, unfolding(crate::specs::Meaning::frame))]
+    fn tick_ending(&mut self, moment: u64, ticks: u8)
+        requires not_before { self.old.last_moment ≤ moment }
+        requires ending { self.old.ended ≡ Some (ticks - 1) }
+        requires from_one { 1 ≤ ticks }
+        ensures { (show : Tables) (base : ℕ) (history : List Act) → StandsFor F.stands_for show base self.old history
+            → StandsFor F.stands_for show base self.new (record { moment = moment; call = tick } ∷ history) }
+    {
+        darken(&mut self.frames);
+        self.ended = Some(ticks);
+        self.last_moment = moment;
+        self.last_tick = Some(moment);
+    }
+
+    /// The numbers of the universes that have a patched dimmer, ascending.
+    pub fn universes(&self) -> ArrayVec<u16, 16>
+        ensures numbers { result.items ≡ universe_numbers self.now.show.patch self.now.base }
+        ensures ascending { IsStrictlyIncreasing result.items }
+        ensures range { All (λ number. IsTrue (is_universe number)) result.items }
+    {
+        let base = self.rig.base();
+        let ordinals = self.show.universes();
+        let mut numbers = ArrayVec::new();
+        for ordinal in ordinals.as_slice() {
+            numbers.push(base + *ordinal);
+        }
+        numbers
+    }
+
+    /// The 512 slots of one of `universes`, as the latest tick showed them: all 0 before the first, and from the first after End on.
+    pub fn slots(&self, universe: u16) -> &[u8; 512]
+        requires { Contains (universe_numbers self.now.show.patch self.now.base) universe }
+        ensures { (show : Tables) (base : ℕ) (history : List Act) → StandsFor F.stands_for show base self.now history
+            → result.now ≡ latest_frame show history (universe - base) }
+    {
+        &self.frames[usize::from(universe - self.rig.base())]
+    }
+
+    /// The current cue, in thousandths: that of the latest move.
+    pub fn current(&self) -> Option<u32>
+        ensures { (show : Tables) (base : ℕ) (history : List Act) → StandsFor F.stands_for show base self.now history
+            → result ≡ current_after (moves show history) }
+    {
+        self.playback.current()
+    }
+}
+
+// The lowest refusal that the moment of a call gives.
+fn untimely(last: u64, moment: u64, over: bool, soon: bool) -> Option<Refused>
+    ensures { result ≡ untimely last moment over soon }
+{
+    if moment < last {
+        Some(Refused::Backwards)
+    } else if moment >= MOMENTS {
+        Some(Refused::MomentTooLarge)
+    } else if over {
+        Some(Refused::Ended)
+    } else if soon {
+        Some(Refused::TooSoon)
+    } else {
+        None
+    }
+}
+
+// Whether the ticks that end the streams are over.
+fn is_over(ended: Option<u8>) -> bool
+    ensures { result ≡ is_over ended tick }
+{
+    ended.is_some_and(|ticks| ticks >= ENDING_TICKS)
+}
+
+// Whether a tick comes too soon after the last one.
+fn is_soon(last_tick: Option<u64>, moment: u64) -> bool
+    ensures { result ≡ is_soon last_tick moment tick }
+{
+    last_tick.is_some_and(|last| moment.saturating_sub(last) < SHORTEST_GAP)
+}
+
+// The ticks since End once the command is done, where there was no End before.
+fn ending_begun(command: Command) -> Option<u8>
+    ensures { result ≡ ended_by (order command) None }
+{
+    match command {
+        Command::End => Some(0),
+        _ => None,
+    }
+}
+
+// What a command does to the playback and the masters.
+fn carry_out<F: Fader>(
+    show: &Show,
+    playback: &mut Playback<F>,
+    masters: &mut Masters,
+    moment: u64,
+    command: Command,
+) -> Result<(), Refused>
+    requires not_before { F.latest playback.old.fader ≤ moment }
+    requires below { moment < 2 ^ 48 }
+    ensures answer { result ≡ outcome (lacking show.now playback.old.current (order command)) tt }
+    ensures playback { OnOk result ((history : List Act) → playback_stands.StandsFor F.stands_for show.now playback.old (moves show.now history)
+        → playback_stands.StandsFor F.stands_for show.now playback.new (moves show.now (record { moment = moment; call = order command } ∷ history))) }
+    ensures masters { OnOk result ((history : List Act) → masters_stand.StandsFor masters.old (settings history)
+        → masters_stand.StandsFor masters.new (settings (record { moment = moment; call = order command } ∷ history))) }
+    ensures not_ahead { F.latest playback.new.fader ≤ moment }
+    ensures playback_unchanged { OnErr result (playback.new ≡ playback.old) }
+    ensures masters_unchanged { OnErr result (masters.new ≡ masters.old) }
+{
+    match command {
+        Command::Go => {
+            playback.go(show, moment)?;
+        }
+        Command::Back => {
+            playback.back(show, moment)?;
+        }
+        Command::Goto(n) => {
+            playback.goto(show, n, moment)?;
+        }
+        Command::Sub(n, byte) => masters.set_sub(show, n, byte)?,
+        Command::Group(n, byte) => masters.set_group(show, n, byte)?,
+        Command::Master(byte) => masters.set_grand(byte),
+        Command::End => {}
+    }
+    Ok(())
+}

@@ -1,0 +1,307 @@
+use crate::{Command, Desk, Refused, Ticked};
+use fade_core::{Fader, PlainFader};
+use patch_core::RigFault;
+use show_core::{BuildFault, Rate, Show};
+use std::alloc::Global;
+use std::process::Abort;
+use std::test::Fail;
+
+const TOO_LARGE: u64 = 281_474_976_710_656;
+
+// Adds a cue with one channel at full.
+fn add_cue(rt: &impl Abort, show: &mut Show, n: u32, channel: u16) -> Result<(), BuildFault> {
+    show.open_cue(n)?;
+    assert!(rt; show.cue(n).is_some());
+    show.cue_level(n, channel, 255)
+}
+
+// Cue 1 brings channel 1 to full over five seconds; cue 2 brings channel 2 to full over two, and channel 1 out over four.
+// Submaster 1 has channel 1 at half. Dimmers 1 and 2 are patched to channels 1 and 2 at full.
+fn small_show(rt: &impl Abort, alloc: Global) -> Result<Show, BuildFault> {
+    let mut show = Show::new(alloc);
+    add_cue(rt, &mut show, 1000, 1)?;
+    add_cue(rt, &mut show, 2000, 2)?;
+    for (n, time) in [(1000, 5000u16), (2000, 2000)] {
+        let rate = Rate {
+            time: u32::from(time),
+            delay: 0,
+        };
+        assert!(rt; show.cue(n).is_some());
+        show.set_up(n, rate);
+    }
+    let slow = Rate {
+        time: 4000,
+        delay: 0,
+    };
+    assert!(rt; show.cue(2000).is_some());
+    show.set_down(2000, slow);
+    show.open_sub(1)?;
+    assert!(rt; show.sub(1).is_some());
+    show.sub_level(1, 1, 128)?;
+    show.set_patch(1, 1, 255)?;
+    show.set_patch(2, 2, 255)?;
+    Ok(show)
+}
+
+fn small_desk(rt: &impl Abort, alloc: Global) -> Result<Desk<PlainFader>, Fail> {
+    let show = small_show(rt, alloc)?;
+    Ok(Desk::open(alloc, &show, 1)?)
+}
+
+// The frame of the universe at a place of those in use.
+fn frame_at<F: Fader>(desk: &Desk<F>, place: usize) -> Option<[u8; 512]> {
+    let universes = desk.universes();
+    let numbers = universes.as_slice();
+    if place < numbers.len() {
+        Some(*desk.slots(numbers[place]))
+    } else {
+        None
+    }
+}
+
+// Slots 1 and 2 of the first universe; the others are 0.
+fn slots<F: Fader>(rt: &impl Abort, desk: &Desk<F>) -> (u8, u8) {
+    let frame = frame_at(desk, 0).expect(rt, "a universe");
+    assert!(rt; frame[2..].iter().all(|slot| *slot == 0));
+    (frame[0], frame[1])
+}
+
+// A call with its answer, or what is seen after the calls so far.
+enum Step {
+    Order(u64, Command, Result<(), Refused>),
+    Tick(u64, Result<Ticked, Refused>),
+    Slots(u8, u8),
+    Current(Option<u32>),
+}
+
+// A desk of the small show takes the steps.
+fn take_steps(rt: &impl Abort, alloc: Global, steps: &[Step]) -> Result<(), Fail> {
+    let mut desk = small_desk(rt, alloc)?;
+    for (place, step) in steps.iter().enumerate() {
+        let holds = match step {
+            Step::Order(moment, command, answer) => desk.command(*moment, *command) == *answer,
+            Step::Tick(moment, answer) => desk.tick(*moment) == *answer,
+            Step::Slots(first, second) => slots(rt, &desk) == (*first, *second),
+            Step::Current(cue) => desk.current() == *cue,
+        };
+        assert!(rt; holds, "step {place}");
+    }
+    Ok(())
+}
+
+#[test]
+fn desk_refusals(rt: HostRuntime) -> Result<(), Fail> {
+    take_steps(
+        &rt,
+        rt.alloc(),
+        &[
+            Step::Tick(100, Ok(Ticked::Live)),
+            Step::Order(99, Command::Go, Err(Refused::Backwards)),
+            Step::Tick(110, Err(Refused::TooSoon)),
+            Step::Tick(TOO_LARGE, Err(Refused::MomentTooLarge)),
+            Step::Order(100, Command::Goto(3000), Err(Refused::NoCue)),
+            Step::Order(100, Command::Sub(2, 1), Err(Refused::NoSub)),
+            Step::Order(100, Command::Group(1, 1), Err(Refused::NoGroup)),
+            Step::Current(None),
+            Step::Order(100, Command::Go, Ok(())),
+            Step::Current(Some(1000)),
+        ],
+    )
+}
+
+#[test]
+fn after_end(rt: HostRuntime) -> Result<(), Fail> {
+    take_steps(
+        &rt,
+        rt.alloc(),
+        &[
+            Step::Order(200, Command::End, Ok(())),
+            Step::Order(TOO_LARGE, Command::Go, Err(Refused::MomentTooLarge)),
+            Step::Order(200, Command::Go, Err(Refused::Ended)),
+            Step::Order(200, Command::Goto(3000), Err(Refused::Ended)),
+            Step::Order(200, Command::Master(128), Err(Refused::Ended)),
+            Step::Order(200, Command::End, Err(Refused::Ended)),
+        ],
+    )
+}
+
+#[test]
+fn dark_before_first_tick(rt: HostRuntime) -> Result<(), Fail> {
+    take_steps(
+        &rt,
+        rt.alloc(),
+        &[
+            Step::Slots(0, 0),
+            Step::Order(0, Command::Sub(1, 255), Ok(())),
+            Step::Slots(0, 0),
+            Step::Tick(0, Ok(Ticked::Live)),
+            Step::Slots(128, 0),
+        ],
+    )
+}
+
+#[test]
+fn five_second_fade(rt: HostRuntime) -> Result<(), Fail> {
+    take_steps(
+        &rt,
+        rt.alloc(),
+        &[
+            Step::Order(0, Command::Go, Ok(())),
+            Step::Tick(0, Ok(Ticked::Live)),
+            Step::Slots(0, 0),
+            Step::Tick(2500, Ok(Ticked::Live)),
+            Step::Slots(127, 0),
+            Step::Tick(2525, Ok(Ticked::Live)),
+            Step::Slots(129, 0),
+            Step::Tick(5000, Ok(Ticked::Live)),
+            Step::Slots(255, 0),
+        ],
+    )?;
+    take_steps(
+        &rt,
+        rt.alloc(),
+        &[
+            Step::Order(0, Command::Go, Ok(())),
+            Step::Tick(2510, Ok(Ticked::Live)),
+            Step::Slots(128, 0),
+        ],
+    )
+}
+
+// The slots of the desk's own copy of the show.
+#[test]
+fn split_crossfade(rt: HostRuntime) -> Result<(), Fail> {
+    take_steps(
+        &rt,
+        rt.alloc(),
+        &[
+            Step::Order(0, Command::Go, Ok(())),
+            Step::Order(10000, Command::Go, Ok(())),
+            Step::Tick(11000, Ok(Ticked::Live)),
+            Step::Slots(191, 127),
+        ],
+    )
+}
+
+#[test]
+fn goto_mid_fade(rt: HostRuntime) -> Result<(), Fail> {
+    take_steps(
+        &rt,
+        rt.alloc(),
+        &[
+            Step::Order(0, Command::Go, Ok(())),
+            Step::Order(10000, Command::Go, Ok(())),
+            Step::Tick(11000, Ok(Ticked::Live)),
+            Step::Order(11000, Command::Goto(1000), Ok(())),
+            Step::Slots(191, 127),
+            Step::Tick(12000, Ok(Ticked::Live)),
+            Step::Slots(204, 102),
+        ],
+    )
+}
+
+#[test]
+fn submaster_and_grand(rt: HostRuntime) -> Result<(), Fail> {
+    take_steps(
+        &rt,
+        rt.alloc(),
+        &[
+            Step::Order(0, Command::Sub(1, 128), Ok(())),
+            Step::Tick(0, Ok(Ticked::Live)),
+            Step::Slots(64, 0),
+            Step::Order(25, Command::Sub(1, 255), Ok(())),
+            Step::Tick(25, Ok(Ticked::Live)),
+            Step::Slots(128, 0),
+            Step::Order(100, Command::Go, Ok(())),
+            Step::Tick(5100, Ok(Ticked::Live)),
+            Step::Slots(255, 0),
+            Step::Order(5125, Command::Master(128), Ok(())),
+            Step::Tick(5125, Ok(Ticked::Live)),
+            Step::Slots(128, 0),
+        ],
+    )
+}
+
+// After the third tick since End a tick is refused as such, also where it would be too soon.
+#[test]
+fn play_refusals(rt: HostRuntime) -> Result<(), Fail> {
+    take_steps(
+        &rt,
+        rt.alloc(),
+        &[
+            Step::Order(0, Command::Back, Err(Refused::AtStart)),
+            Step::Order(0, Command::Sub(1, 255), Ok(())),
+            Step::Order(0, Command::End, Ok(())),
+            Step::Order(0, Command::Go, Err(Refused::Ended)),
+            Step::Tick(0, Ok(Ticked::Ending(1))),
+            Step::Tick(23, Ok(Ticked::Ending(2))),
+            Step::Slots(0, 0),
+            Step::Tick(46, Ok(Ticked::Ending(3))),
+            Step::Tick(46, Err(Refused::Ended)),
+            Step::Tick(69, Err(Refused::Ended)),
+        ],
+    )
+}
+
+#[test]
+fn at_end(rt: HostRuntime) -> Result<(), Fail> {
+    take_steps(
+        &rt,
+        rt.alloc(),
+        &[
+            Step::Order(0, Command::Go, Ok(())),
+            Step::Order(0, Command::Go, Ok(())),
+            Step::Order(0, Command::Go, Err(Refused::AtEnd)),
+            Step::Order(0, Command::Back, Ok(())),
+            Step::Current(Some(1000)),
+        ],
+    )
+}
+
+fn universe_fault(alloc: Global, show: &Show, base: u16) -> Option<RigFault> {
+    match Desk::<PlainFader>::open(alloc, show, base) {
+        Ok(_) => None,
+        Err(fault) => Some(fault),
+    }
+}
+
+#[test]
+fn universe_limit(rt: HostRuntime) -> Result<(), Fail> {
+    let mut show = Show::new(rt.alloc());
+    show.set_patch(1, 1, 255)?;
+    show.set_patch(1, 0, 255)?;
+    let desk: Desk<PlainFader> = Desk::open(rt.alloc(), &show, 1)?;
+    assert!(rt; desk.universes().is_empty());
+    show.set_patch(513, 1, 255)?;
+    let desk: Desk<PlainFader> = Desk::open(rt.alloc(), &show, 63998)?;
+    assert!(rt; desk.universes().as_slice() == [63999].as_slice());
+    for base in [0, 63999, 64000] {
+        assert_eq!(rt;
+            universe_fault(rt.alloc(), &show, base),
+            Some(RigFault::Universe),
+            "base {base}"
+        );
+    }
+    Ok(())
+}
+
+// `rt try --test --fail-alloc N` refuses the Nth growth: N from 1 to 9 refuses each growth of this test in turn, and it passes each time.
+// The other tests then answer their error.
+#[test]
+fn each_growth_refused(rt: HostRuntime) {
+    let mut show = Show::new(rt.alloc());
+    if show.set_patch(1, 1, 255).is_err() {
+        assert!(rt; show.set_patch(1, 1, 255).is_ok());
+    }
+    if show.open_cue(1000).is_err() {
+        assert!(rt; show.open_cue(1000).is_ok());
+    }
+    let desk: Desk<PlainFader> = match Desk::open(rt.alloc(), &show, 1) {
+        Ok(desk) => desk,
+        Err(fault) => {
+            assert!(rt; fault == RigFault::Memory);
+            Desk::open(rt.alloc(), &show, 1).expect(&rt, "memory")
+        }
+    };
+    assert_eq!(rt; slots(&rt, &desk), (0, 0));
+}
