@@ -19,7 +19,7 @@ last_octet text = option_map (λ octet. octet ∷ []) (whole_of 255 text)
 abbrev pub host_of : List ℕ → Option (List ℕ)
 host_of = octet_before (octet_before (octet_before last_octet))
 
--- the port of E1.31, ACN_SDT_MULTICAST_PORT (E1.31-2018, appendix A)
+-- the port of E1.31, ACN_SDT_MULTICAST_PORT (E1.31-2018, defined parameters)
 abbrev pub default_port : ℕ
 default_port = 5568
 

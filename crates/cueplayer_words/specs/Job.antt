@@ -38,7 +38,7 @@ abbrev pub listen_with : Option (List ℕ × ℕ) → Option ℕ → Option ℕ 
 listen_with (Some at) (Some universe) (Some count) = Some (Listen at universe count)
 listen_with _ _ _ = None
 
--- the job of `listen ADDR UNIVERSE COUNT`; a universe number is 1 to 63999 (E1.31-2018, section 6.2.7)
+-- the job of `listen ADDR UNIVERSE COUNT`; a universe number is 1 to 63999 (E1.31-2018, universe)
 abbrev pub listen_of : List Row → Option Job
 listen_of rows = listen_with (value_by address_of (codes "ADDR") rows)
     (value_by (number_between 1 63999) (codes "UNIVERSE") rows)
