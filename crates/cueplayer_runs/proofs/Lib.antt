@@ -5,3 +5,4 @@ pub mod SlotsLines
 pub mod Histories
 pub mod Listened
 mod ListenRows
+mod LookRows

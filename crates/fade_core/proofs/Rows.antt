@@ -90,3 +90,7 @@ slow_fade_exact-5999989 = refl
 slow_fade_exact-5999990 : level_after (slowest ∷ []) 1 5999990 ≡ 65025
 unfolding split_fade
 slow_fade_exact-5999990 = refl
+
+zero_times : level_after (record { look = (1, 255) ∷ []; up = over 0; down = over 0; moment = 7 } ∷ []) 1 7 ≡ 65025
+unfolding split_fade
+zero_times = refl

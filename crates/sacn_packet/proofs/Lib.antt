@@ -2,4 +2,5 @@ pub mod Names
 pub mod Packets
 pub mod Parts
 pub mod Readable
+mod Rows
 pub mod Found
