@@ -1,16 +1,17 @@
 -- The live records of a receiver, one more at a time.
-use Rattle.std.proofs.Common.{◌≡◌, ℕ, suc, ◌+◌, ◌<◌, ◌≤◌, Bool, true, false, not, ◌&&◌, max, refl, ap, arith, sym, ◌∙◌, List, [], ◌∷◌, ◌++◌, map, length, take, get_or}
+use Rattle.std.proofs.Common.{◌≡◌, ℕ, suc, ◌+◌, ◌<◌, ◌≤◌, Bool, true, false, not, ◌&&◌, max, refl, ap, arith, sym, ◌∙◌, List, [], ◌∷◌, ◌++◌, map, length, take, get_or, subst, Some, None}
 use Rattle.std.specs.Prelude.{filter, count_by, slice_index, ◌==◌, if◌then◌else◌}
 use Rattle.std.specs.List.{range_with_len}
 use Rattle.std.proofs.lemmas.List.{append-nil, map_more, map_push, ext_get_or}
 use Rattle.std.proofs.lemmas.List.Elements.{filter-append}
 use Rattle.std.proofs.lemmas.List.Sums.{length-filter}
 use Rattle.std.proofs.lemmas.List.FromFn.{length-map-range_with_len, get_or-map-range_with_len}
+use Rattle.std.proofs.lemmas.Bool.Decides.{nat_tests}
 use Rattle.sacn_receiver.specs.declared.record.Record.{Record}
 use Rattle.sacn_receiver.specs.Source.{Entry, is_there}
-use Rattle.sacn_receiver.specs.Shown.{light_of, live, greatest, shown, shown_slots}
+use Rattle.sacn_receiver.specs.Shown.{Light, light_of, live, greatest, merged, shown, shown_slots}
 use Rattle.sacn_receiver.specs.Kept.{Kept, StandsFor}
-use Rattle.sacn_receiver.specs.Records.{entries, kept_entry, is_live_at, leads_at}
+use Rattle.sacn_receiver.specs.Records.{entries, kept_entry, is_live_at, Merges}
 use Rattle.sacn_receiver.specs.Places.{AreApart}
 use Rattle.sacn_receiver.proofs.Same.{AreSame, same_live, same_shown}
 use Rattle.sacn_receiver.proofs.Finding.{records_all}
@@ -19,40 +20,92 @@ greatest_push : (xs : List ℕ) (x : ℕ) → greatest (xs ++ x ∷ []) ≡ max 
 greatest_push [] x = omega arith
 greatest_push (y ∷ ys) x = omega (arith, greatest_push ys x)
 
-module _ (f : Entry → ℕ) (p : Entry → Bool) (rs : List Record) (i : ℕ) (d : Record) (lt : i < length rs) where
-  abbrev so_far : ℕ
-  so_far = greatest (map f (filter p (entries (take i rs))))
+-- one light more
+module _ (lights : List Light) (l : Light) (s : ℕ) where
+  abbrev top : ℕ
+  top = greatest (map (λ m. m.priority) lights)
 
-  abbrev and_one : ℕ
-  and_one = greatest (map f (filter p (entries (take (i + 1) rs))))
+  abbrev more : List Light
+  more = lights ++ l ∷ []
 
-  split : and_one ≡ greatest (map f (filter p (entries (take i rs)) ++ filter p (kept_entry (get_or rs i d) ∷ [])))
-  split =
-      ap (λ es. greatest (map f (filter p es))) (map_more kept_entry rs i d lt)
-      ∙ ap (λ es. greatest (map f es)) (filter-append p (entries (take i rs)) (kept_entry (get_or rs i d) ∷ []))
+  -- of the lights of priority n
+  abbrev of_priority : ℕ → List Light → ℕ
+  of_priority n ls = greatest (map (λ m. slice_index m.slots s) (filter (λ m. m.priority == n) ls))
 
-  -- the next record passes
-  pub one_more : (top new : ℕ) → p (kept_entry (get_or rs i d)) ≡ true → top ≡ so_far → new ≡ max top (f (kept_entry (get_or rs i d))) → new ≡ and_one
-  one_more top new q t n =
-      let x : Entry = kept_entry (get_or rs i d) in
-      let last : greatest (map f (filter p (entries (take i rs)) ++ filter p (x ∷ []))) ≡ max so_far (f x) =
-      rw q (ap greatest (map_push f (filter p (entries (take i rs))) x) ∙ greatest_push (map f (filter p (entries (take i rs)))) (f x)) in
-      n ∙ ap (λ m. max m (f x)) t ∙ sym (split ∙ last)
+  top_more : greatest (map (λ m. m.priority) more) ≡ max top l.priority
+  top_more = ap greatest (map_push (λ (m : Light). m.priority) lights l) ∙ greatest_push (map (λ m. m.priority) lights) l.priority
 
-  -- it does not
-  pub no_more : (top new : ℕ) → p (kept_entry (get_or rs i d)) ≡ false → top ≡ so_far → new ≡ top → new ≡ and_one
-  no_more top new q t n =
-      let last : greatest (map f (filter p (entries (take i rs)) ++ filter p (kept_entry (get_or rs i d) ∷ []))) ≡ so_far =
-      rw q (ap (λ es. greatest (map f es)) (append-nil (filter p (entries (take i rs))))) in
-      n ∙ t ∙ sym (split ∙ last)
+  split : (n : ℕ) → n ≡ max top l.priority → merged more s ≡ greatest (map (λ m. slice_index m.slots s) (filter (λ m. m.priority == n) lights ++ filter (λ m. m.priority == n) (l ∷ [])))
+  split n e =
+      ap (λ n. of_priority n more) (top_more ∙ sym e)
+      ∙ ap (λ ls. greatest (map (λ m. slice_index m.slots s) ls)) (filter-append (λ (m : Light). m.priority == n) lights (l ∷ []))
 
-  -- it counts where it passes
-  pub more : (top new : ℕ) → top ≡ so_far → new ≡ max top (if p (kept_entry (get_or rs i d)) then f (kept_entry (get_or rs i d)) else 0) → new ≡ and_one
-  more top new t n = go (p (kept_entry (get_or rs i d))) refl n
+  with_last : (n : ℕ) → n ≡ max top l.priority → (l.priority == n) ≡ true → merged more s ≡ max (of_priority n lights) (slice_index l.slots s)
+  with_last n e q =
+      split n e
+      ∙ ap (λ b. greatest (map (λ m. slice_index m.slots s) (filter (λ m. m.priority == n) lights ++ (if b then l ∷ [] else [])))) q
+      ∙ ap greatest (map_push (λ (m : Light). slice_index m.slots s) (filter (λ m. m.priority == n) lights) l)
+      ∙ greatest_push (map (λ m. slice_index m.slots s) (filter (λ m. m.priority == n) lights)) (slice_index l.slots s)
+
+  lower : l.priority < top → merged more s ≡ merged lights s
+  lower h =
+      let q : (l.priority == top) ≡ false = grind (arith, nat_tests) in
+      split top (omega arith)
+      ∙ ap (λ b. greatest (map (λ m. slice_index m.slots s) (filter (λ m. m.priority == top) lights ++ (if b then l ∷ [] else [])))) q
+      ∙ ap (λ ls. greatest (map (λ m. slice_index m.slots s) ls)) (append-nil (filter (λ m. m.priority == top) lights))
+
+  equal : l.priority ≡ top → merged more s ≡ max (merged lights s) (slice_index l.slots s)
+  equal h = let q : (l.priority == top) ≡ true = grind (arith, nat_tests) in with_last top (omega arith) q
+
+  higher : top < l.priority → merged more s ≡ slice_index l.slots s
+  higher h =
+      let q : (l.priority == l.priority) ≡ true = grind (arith, nat_tests) in
+      let none : of_priority l.priority lights ≡ 0 = below lights h in
+      omega (arith, with_last l.priority (omega arith) q, none)
     where
-      go : (b : Bool) → p (kept_entry (get_or rs i d)) ≡ b → new ≡ max top (if b then f (kept_entry (get_or rs i d)) else 0) → new ≡ and_one
-      go true q m = one_more top new q t m
-      go false q m = no_more top new q t (omega (arith, m))
+      below : (ls : List Light) → greatest (map (λ m. m.priority) ls) < l.priority → of_priority l.priority ls ≡ 0
+      below [] h = refl
+      below (m ∷ ls) h =
+          let q : (m.priority == l.priority) ≡ false = grind (arith, nat_tests) in
+          rw q (below ls (omega arith))
+
+-- a frame with one light more
+module _ (lights : List Light) (l : Light) (top : ℕ) (out new : List ℕ) where
+  pub keeps_frame : Merges (Some top) out lights → l.priority < top → Merges (Some top) out (lights ++ l ∷ [])
+  keeps_frame m h = (omega (arith, m.0, top_more lights l 0), λ s lt. m.1 s lt ∙ sym (lower lights l s (omega (arith, m.0))))
+
+  pub raises_frame : Merges (Some top) out lights → l.priority ≡ top → ((s : ℕ) → slice_index new s ≡ max (slice_index out s) (slice_index l.slots s)) → Merges (Some top) new (lights ++ l ∷ [])
+  raises_frame m h each =
+      (omega (arith, m.0, top_more lights l 0), λ s lt. each s ∙ ap (λ n. max n (slice_index l.slots s)) (m.1 s lt) ∙ sym (equal lights l s (omega (arith, m.0))))
+
+  pub takes_frame : Merges (Some top) out lights → top < l.priority → Merges (Some l.priority) l.slots (lights ++ l ∷ [])
+  takes_frame m h = (omega (arith, m.0, top_more lights l 0), λ s lt. sym (higher lights l s (omega (arith, m.0))))
+
+pub first_frame : (lights : List Light) (l : Light) (out : List ℕ) → Merges None out lights → Merges (Some l.priority) l.slots (lights ++ l ∷ [])
+first_frame lights l out m = subst (λ ls. Merges (Some l.priority) l.slots (ls ++ l ∷ [])) (sym m) (omega arith, λ s lt. sym (one s))
+  where
+    one : (s : ℕ) → merged (l ∷ []) s ≡ slice_index l.slots s
+    one s = let q : (l.priority == max l.priority 0) ≡ true = grind (arith, nat_tests) in rw q (omega arith)
+
+-- the lights of the live records, one record on
+module _ (t : ℕ) (rs : List Record) (i : ℕ) (d : Record) (lt : i < length rs) where
+  abbrev pub lights_of : List Record → List Light
+  lights_of rs = map light_of (filter (is_live_at t) (entries rs))
+
+  one_on : lights_of (take (i + 1) rs) ≡ map light_of (filter (is_live_at t) (entries (take i rs)) ++ filter (is_live_at t) (kept_entry (get_or rs i d) ∷ []))
+  one_on =
+      ap (λ es. map light_of (filter (is_live_at t) es)) (map_more kept_entry rs i d lt)
+      ∙ ap (map light_of) (filter-append (is_live_at t) (entries (take i rs)) (kept_entry (get_or rs i d) ∷ []))
+
+  pub one_live : is_live_at t (kept_entry (get_or rs i d)) ≡ true → lights_of (take (i + 1) rs) ≡ lights_of (take i rs) ++ light_of (kept_entry (get_or rs i d)) ∷ []
+  one_live q =
+      one_on ∙ ap (λ b. map light_of (filter (is_live_at t) (entries (take i rs)) ++ (if b then kept_entry (get_or rs i d) ∷ [] else []))) q
+      ∙ map_push light_of (filter (is_live_at t) (entries (take i rs))) (kept_entry (get_or rs i d))
+
+  pub one_dark : is_live_at t (kept_entry (get_or rs i d)) ≡ false → lights_of (take (i + 1) rs) ≡ lights_of (take i rs)
+  one_dark q =
+      one_on ∙ ap (λ b. map light_of (filter (is_live_at t) (entries (take i rs)) ++ (if b then kept_entry (get_or rs i d) ∷ [] else []))) q
+      ∙ ap (map light_of) (append-nil (filter (is_live_at t) (entries (take i rs))))
 
 filter_both : (p q : Entry → Bool) (es : List Entry) → filter q (filter p es) ≡ filter (λ e. p e && q e) es
 filter_both p q [] = refl
@@ -87,40 +140,14 @@ counts_live rs r h t n is a l c s =
     ∙ ap (λ es. length (live es t)) (sym is)
     ∙ same_live t r.records h (same_as r h t s l)
 
-map-map : {A B C : Type 0} (f : B → C) (g : A → B) (xs : List A) → map f (map g xs) ≡ map (λ x. f (g x)) xs
-map-map f g [] = refl
-map-map f g (x ∷ xs) = ap (λ l. f (g x) ∷ l) (map-map f g xs)
-
--- of lights, those that lead are those of the greatest priority
-filter-lights : (n s : ℕ) (es : List Entry) → map (λ l. slice_index l.slots s) (filter (λ l. l.priority == n) (map light_of es)) ≡ map (λ e. slice_index e.slots s) (filter (λ e. e.priority == n) es)
-filter-lights n s [] = refl
-filter-lights n s (e ∷ es) = go (e.priority == n) refl (filter-lights n s es)
-  where
-    go : (b : Bool) → (e.priority == n) ≡ b → map (λ l. slice_index l.slots s) (filter (λ l. l.priority == n) (map light_of es)) ≡ map (λ e. slice_index e.slots s) (filter (λ e. e.priority == n) es)
-        → map (λ l. slice_index l.slots s) (filter (λ l. l.priority == n) (map light_of (e ∷ es))) ≡ map (λ e. slice_index e.slots s) (filter (λ e. e.priority == n) (e ∷ es))
-    go true q ih = simp q (ap (λ l. slice_index e.slots s ∷ l) ih)
-    go false q ih = simp q ih
-
-pub merges : (es : List Entry) (t n s : ℕ) → AreApart es → n ≡ greatest (map (λ e. e.priority) (filter (is_live_at t) es))
-    → greatest (map (λ e. slice_index e.slots s) (filter (leads_at t n) es)) ≡ shown es t s
-merges es t n s a top =
-    let all : live es t ≡ filter (is_live_at t) es = live_all es t a in
-    let same : n ≡ greatest (map (λ l. l.priority) (map light_of (live es t))) =
-    top ∙ ap (λ es. greatest (map (λ e. e.priority) es)) (sym all) ∙ ap greatest (sym (map-map (λ l. l.priority) light_of (live es t))) in
-    ap (λ es. greatest (map (λ e. slice_index e.slots s) es)) (sym (filter_both (is_live_at t) (λ e. e.priority == n) es))
-    ∙ ap (λ es. greatest (map (λ e. slice_index e.slots s) (filter (λ e. e.priority == n) es))) (sym all)
-    ∙ ap greatest (sym (filter-lights n s (live es t)))
-    ∙ ap (λ n. greatest (map (λ l. slice_index l.slots s) (filter (λ l. l.priority == n) (map light_of (live es t))))) same
-
 -- a list is a map over a range, where each element is
 frame_is : (f : ℕ → ℕ) (n : ℕ) (xs : List ℕ) → length xs ≡ n → ((i : ℕ) → i < n → get_or xs i 0 ≡ f i) → xs ≡ map f (range_with_len 0 n)
 frame_is f n xs size each = ext_get_or 0 xs (map f (range_with_len 0 n)) (size ∙ sym (length-map-range_with_len f 0 n))
     (λ i lt. let within : i < n = omega arith in each i within ∙ sym (get_or-map-range_with_len f 0 n i i 0 within (omega arith)))
 
-pub shows : (es : List Entry) (r : Kept) (h : List Entry) (t n : ℕ) (out : List ℕ) → r.records ≡ es → AreApart es → r.latest ≤ t
-    → n ≡ greatest (map (λ e. e.priority) (filter (is_live_at t) es)) → length out ≡ 512
-    → ((s : ℕ) → s < 512 → get_or out s 0 ≡ greatest (map (λ e. slice_index e.slots s) (filter (leads_at t n) es)))
+pub shows : (es : List Entry) (r : Kept) (h : List Entry) (t : ℕ) (out : List ℕ) → r.records ≡ es → AreApart es → r.latest ≤ t → length out ≡ 512
+    → ((s : ℕ) → s < 512 → get_or out s 0 ≡ merged (map light_of (filter (is_live_at t) es)) s)
     → StandsFor r h → out ≡ shown_slots h t
-shows es r h t n out is a l top size each s =
+shows es r h t out is a l size each s =
     frame_is (shown h t) 512 out size (λ i lt.
-    each i lt ∙ merges es t n i a top ∙ ap (λ es. shown es t i) (sym is) ∙ same_shown t r.records h (same_as r h t s l) i)
+    each i lt ∙ ap (λ es. merged (map light_of es) i) (sym (live_all es t a)) ∙ ap (λ es. shown es t i) (sym is) ∙ same_shown t r.records h (same_as r h t s l) i)

@@ -157,3 +157,19 @@ lost_third_taken = refl
 
 lost_third_shows : shown (entry_of 75 (at_200 3) ∷ entry_of 25 (at_200 1) ∷ entry_of 0 (at_200 0) ∷ []) 75 0 ≡ 200
 lost_third_shows = refl
+
+-- two_consoles_highest, two_consoles_priority and silent_console: what a receiver shows of two sources
+abbrev two : ℕ → ℕ → List Entry
+two priority t = entry_of t (packet 1 0 0 128) ∷ record (entry_of 0 (packet 2 0 0 64)) { priority = priority } ∷ []
+
+two_consoles_highest : shown (two 100 0) 0 0 ≡ 128
+two_consoles_highest = refl
+
+two_consoles_priority : shown (two 150 0) 0 0 ≡ 64
+two_consoles_priority = refl
+
+silent_console_2499 : shown (two 150 2400) 2499 0 ≡ 64
+silent_console_2499 = refl
+
+silent_console_2500 : shown (two 150 2400) 2500 0 ≡ 128
+silent_console_2500 = refl

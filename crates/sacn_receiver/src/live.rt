@@ -1,6 +1,6 @@
-ghost use Rattle.std.specs.Prelude.{◌≡◌, ℕ, ◌<◌, ◌≤◌, count_by, filter, length, map, max, slice_index};
-ghost use Rattle.sacn_receiver.specs.Records.{entries, kept_entry, is_live_at, leads_at};
-ghost use Rattle.sacn_receiver.specs.Shown.{greatest};
+ghost use Rattle.std.specs.Prelude.{◌≡◌, ℕ, ◌<◌, ◌≤◌, List, [], ◌∷◌, ◌++◌, count_by, filter, length, map, max, slice_index};
+ghost use Rattle.sacn_receiver.specs.Records.{entries, kept_entry, is_live_at, Merges};
+ghost use Rattle.sacn_receiver.specs.Shown.{Light, light_of, merged};
 
 use crate::record::Record;
 use patch_core::max_into;
@@ -15,31 +15,39 @@ pub(crate) fn count_live(records: &[Record], moment: u64) -> usize
         .count()
 }
 
-// The greatest priority of the live records, 0 where there is none.
-pub(crate) fn top_priority(records: &[Record], moment: u64) -> u8
-    ensures { result ≡ greatest (map (λ e. e.priority) (filter (is_live_at moment) (entries records.now))) }
+// Writes the frame of the live records: of those of the greatest priority, the greatest of each slot.
+pub(crate) fn merge(records: &[Record], moment: u64, out: &mut [u8; 512])
+    ensures { (s : ℕ) → s < 512 → slice_index out.new s ≡ merged (map light_of (filter (is_live_at moment) (entries records.now))) s }
 {
-    let mut top: u8 = 0;
+    let mut top = None;
     for record in records {
-        top = top.max(record.live_priority(moment));
+        if record.is_live(moment) {
+            top = add(top, record, out);
+        }
     }
-    top
+    if top.is_none() {
+        *out = [0; 512];
+    }
 }
 
-// Writes the greatest of each slot over the live records of this priority.
-pub(crate) fn merge(records: &[Record], moment: u64, priority: u8, out: &mut [u8; 512])
-    ensures { (s : ℕ) → s < 512
-        → slice_index out.new s ≡ greatest (map (λ e. slice_index e.slots s) (filter (leads_at moment priority) (entries records.now))) }
+// Adds a record to a frame of others, whose greatest priority is `top`; answers the greatest priority then.
+fn add(top: Option<u8>, next: &Record, out: &mut [u8; 512]) -> Option<u8>
+    ensures { (lights : List Light) → Merges top out.old lights → Merges result out.new (lights ++ light_of (kept_entry next.now) ∷ []) }
 {
-    *out = [0; 512];
-    for record in records {
-        if record.leads(moment, priority) {
-            raise(out, &record.slots);
+    match top {
+        Some(priority) if next.priority < priority => top,
+        Some(priority) if next.priority == priority => {
+            raise(out, &next.slots);
+            top
+        }
+        _ => {
+            *out = next.slots;
+            Some(next.priority)
         }
     }
 }
 
-// `max_into`, out of line: within the loop above, LLVM would keep the frame in two places, and take twice as long.
+// `max_into`, out of line: within the loop of `merge`, LLVM would keep the frame in two places, and take twice as long.
 #[inline(never)]
 fn raise(out: &mut [u8; 512], slots: &[u8; 512])
     ensures greatest { (s : ℕ) → s < length slots.now → slice_index out.new s ≡ max (slice_index out.old s) (slice_index slots.now s) }

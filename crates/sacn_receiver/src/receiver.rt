@@ -8,7 +8,7 @@ ghost use Rattle.sacn_receiver.specs.Shown.{live, shown_slots};
 ghost use Rattle.sacn_receiver.specs.Kept.{StandsFor};
 
 use crate::answer::{Ignored, Taken};
-use crate::live::{count_live, merge, top_priority};
+use crate::live::{count_live, merge};
 use crate::places::{keep_at, place_for};
 use crate::record::{Record, is_termination};
 use arrayvec::ArrayVec;
@@ -88,8 +88,7 @@ impl Receiver {
         requires { self.now.latest ≤ moment }
         ensures { (h : List Entry) → StandsFor self.now h → out.new ≡ shown_slots h moment }
     {
-        let records = self.records.as_slice();
-        merge(records, moment, top_priority(records, moment), out);
+        merge(self.records.as_slice(), moment, out);
     }
 
     /// How many sources are live at `moment`: less than 2,500 ms ago a packet of theirs was accepted, and it was no termination.

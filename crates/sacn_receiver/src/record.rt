@@ -1,5 +1,5 @@
-ghost use Rattle.std.specs.Prelude.{◌≡◌, ◌≤◌, ◌-◌, ◌++◌, length, replicate, if◌then◌else◌};
-ghost use Rattle.sacn_receiver.specs.Records.{kept_entry, is_live_at, leads_at};
+ghost use Rattle.std.specs.Prelude.{◌≡◌, ◌≤◌, ◌-◌, ◌++◌, length, replicate};
+ghost use Rattle.sacn_receiver.specs.Records.{kept_entry, is_live_at};
 ghost use Rattle.sacn_receiver.specs.Source as source;
 ghost use Rattle.sacn_receiver.specs.Taking.{entry_of, is_termination as ends};
 
@@ -45,24 +45,6 @@ impl Record {
         ensures { result ≡ is_live_at moment (kept_entry self.now) }
     {
         self.is_there(moment) && !self.ended
-    }
-
-    // Its priority where it is live, else 0.
-    pub(crate) fn live_priority(&self, moment: u64) -> u8
-        ensures { result ≡ (if is_live_at moment (kept_entry self.now) then self.now.priority else 0) }
-    {
-        if self.is_live(moment) {
-            self.priority
-        } else {
-            0
-        }
-    }
-
-    // Whether it is live, with this priority.
-    pub(crate) fn leads(&self, moment: u64, priority: u8) -> bool
-        ensures { result ≡ leads_at moment priority (kept_entry self.now) }
-    {
-        self.is_live(moment) && self.priority == priority
     }
 }
 

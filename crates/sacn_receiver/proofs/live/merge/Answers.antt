@@ -1,34 +1,17 @@
-use Rattle.std.proofs.Common.{◌≡◌, ℕ, ◌<◌, ◌≤◌, List, length, max, sym, ◌∙◌, ap, get_or, inl, inr, arith}
-use Rattle.std.proofs.lemmas.List.{get_or-replicate, get_or_past}
-use Rattle.std.proofs.lemmas.Bool.{cases_lt}
-use Rattle.std.specs.Prelude.{slice_index}
-use Rattle.sacn_receiver.specs.Source.{Entry}
-use Rattle.sacn_receiver.specs.Records.{leads_at}
-use Rattle.sacn_receiver.proofs.Merging.{one_more, no_more}
+use Rattle.std.proofs.Common.{◌≡◌, ℕ, true, false, not, List, [], map, sym, ap, ◌∙◌, Option, Some, None}
+use Rattle.std.specs.Prelude.{filter, is_some}
+use Rattle.std.proofs.lemmas.List.{get_or-replicate, take_all}
+use Rattle.sacn_receiver.specs.Shown.{Light, light_of, merged}
+use Rattle.sacn_receiver.specs.Records.{entries, is_live_at, Merges}
 use Rattle.sacn_receiver.proofs.live.merge.Goals as goal
-use Rattle.sacn_receiver.proofs.live.merge.Goals.{then-leads, else-leads}
 
-pub loop-record-init : goal.loop-record-init
-loop-record-init c = λ s lt. get_or-replicate 512 s 0 0 lt
+none_live : (top : Option ℕ) (out : List ℕ) (lights : List Light) → is_some top ≡ false → Merges top out lights → lights ≡ []
+none_live None out lights q m = m
+none_live (Some top) out lights q m = absurd (let e : true ≡ false = q in cc)
 
--- beyond its end a list has zeros, so the greater of the two is that of each slot
-at_each : (new old b : List ℕ) → ((s : ℕ) → s < length b → slice_index new s ≡ max (slice_index old s) (slice_index b s)) → ((s : ℕ) → length b ≤ s → slice_index new s ≡ slice_index old s)
-    → (s : ℕ) → slice_index new s ≡ max (slice_index old s) (slice_index b s)
-at_each new old b front behind s =
-    elim (cases_lt s (length b)) [
-      | inl lt ↦ front s lt
-      | inr le ↦ (let none : get_or b s 0 ≡ 0 = get_or_past b s 0 le in let same = behind s le in omega (arith, none, same))
-    ]
-
-pub loop-record-preserved : goal.loop-record-preserved
-loop-record-preserved c = λ s lt.
-    elim c.if-leads.branch [
-      | then-leads w ↦
-          one_more (λ (e : Entry). slice_index e.slots s) (leads_at c.args.moment c.args.priority) c.args.records.now c.loop-record.record-index _ c.loop-record-test.true
-          (get_or c.loop-record.out s 0) (get_or c.if-leads.out s 0) (sym c.leads.ensures ∙ w.if-leads.true) (c.loop-record.invariant s lt)
-          (ap (λ l. get_or l s 0) w.out-is ∙ at_each _ _ _ w.raise.ensures.greatest w.raise.ensures.rest s)
-      | else-leads w ↦
-          no_more (λ (e : Entry). slice_index e.slots s) (leads_at c.args.moment c.args.priority) c.args.records.now c.loop-record.record-index _ c.loop-record-test.true
-          (get_or c.loop-record.out s 0) (get_or c.if-leads.out s 0) (sym c.leads.ensures ∙ w.if-leads.false) (c.loop-record.invariant s lt)
-          (ap (λ l. get_or l s 0) w.out-is)
-    ]
+pub returns-then-is_none : goal.returns-then-is_none
+returns-then-is_none c = λ s lt.
+    let none = none_live c.loop-record.top c.loop-record.out _ (c.is_none.ensures ∙ ap not c.if-is_none.true) c.loop-record.invariant in
+    get_or-replicate 512 s 0 0 lt
+    ∙ sym (ap (λ rs. merged (map light_of (filter (is_live_at c.args.moment) (entries rs))) s) (sym (take_all c.loop-record.record-index c.args.records.now c.loop-record-test.false))
+    ∙ ap (λ lights. merged lights s) none)
