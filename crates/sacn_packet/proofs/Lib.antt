@@ -4,3 +4,4 @@ pub mod Parts
 pub mod Readable
 mod Rows
 pub mod Found
+mod Differs

@@ -41,7 +41,7 @@ take_bytes xs n h i =
     ]
 
 -- a part of bytes is bytes
-part_bytes : (xs : List ℕ) (offset count : ℕ) → AreBytes xs → AreBytes (bytes_at xs offset count)
+pub part_bytes : (xs : List ℕ) (offset count : ℕ) → AreBytes xs → AreBytes (bytes_at xs offset count)
 part_bytes xs offset count h =
     take_bytes (drop offset xs) count (λ i. rw (get_or-drop offset xs i 0) (h (offset + i)))
 

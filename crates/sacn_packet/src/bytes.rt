@@ -1,4 +1,5 @@
 ghost use Rattle.std.specs.Prelude.{◌≡◌, ◌+◌, ◌≤◌, length};
+ghost use Rattle.byteorder.specs.Endian.{big_bytes};
 ghost use Rattle.sacn_packet.specs.Reading as reading;
 ghost use Rattle.sacn_packet.specs.Faults.{differs_at};
 
@@ -28,10 +29,24 @@ pub(crate) fn length_at(bytes: &[u8], offset: usize) -> u16
     number_at(bytes, offset) % 0x1000
 }
 
+// Whether another number than this stands in the four bytes from an offset on.
+pub(crate) fn differs_from(bytes: &[u8], offset: usize, wanted: u32) -> bool
+    requires { offset + 4 ≤ length bytes.now }
+    ensures { result ≡ differs_at bytes.now offset (big_bytes 4 wanted) }
+{
+    BigEndian::read_u32(&bytes[offset..offset + 4]) != wanted
+}
+
 // Whether other bytes than these stand at an offset.
+#[inline(always)]
 pub(crate) fn differs(bytes: &[u8], offset: usize, wanted: &[u8]) -> bool
     requires { offset + length wanted.now ≤ length bytes.now }
     ensures { result ≡ differs_at bytes.now offset wanted.now }
 {
-    &bytes[offset..offset + wanted.len()] != wanted
+    for i in 0..wanted.len() {
+        if bytes[offset + i] != wanted[i] {
+            return true;
+        }
+    }
+    false
 }

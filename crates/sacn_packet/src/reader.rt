@@ -3,17 +3,21 @@ ghost use Rattle.std.specs.Result.{result_err};
 ghost use Rattle.sacn_packet.specs.Faults.{fault_of, lengths_disagree, count_disagrees};
 ghost use Rattle.sacn_packet.specs.Wire.{Packet, HasPacket};
 
-use crate::bytes::{differs, flags_at, length_at, number_at};
+use crate::bytes::{differs, differs_from, flags_at, length_at, number_at};
 use crate::data_packet::DataPacket;
 use crate::unreadable::Unreadable;
 
-const PREAMBLE: [u8; 4] = [0x00, 0x10, 0x00, 0x00];
+// Preamble size and post-amble size.
+const PREAMBLE: u32 = 0x0010_0000;
 
 const IDENTIFIER: [u8; 12] = *b"ASC-E1.17\0\0\0";
 
-const ROOT_VECTOR: [u8; 4] = [0x00, 0x00, 0x00, 0x04];
+// VECTOR_ROOT_E131_DATA
+const ROOT_VECTOR: u32 = 0x0000_0004;
 
-const FRAMING_VECTOR: [u8; 4] = [0x00, 0x00, 0x00, 0x02];
+// VECTOR_E131_DATA_PACKET
+const FRAMING_VECTOR: u32 = 0x0000_0002;
+
 // Vector, address and data type, first address, increment.
 const DMP_FORM: [u8; 6] = [0x02, 0xa1, 0x00, 0x00, 0x00, 0x01];
 
@@ -47,15 +51,15 @@ fn fault_in(datagram: &[u8]) -> Option<Unreadable>
 {
     if datagram.len() < 126 {
         Some(Unreadable::Short)
-    } else if differs(datagram, 0, &PREAMBLE) {
+    } else if differs_from(datagram, 0, PREAMBLE) {
         Some(Unreadable::Preamble)
     } else if differs(datagram, 4, &IDENTIFIER) {
         Some(Unreadable::Identifier)
-    } else if differs(datagram, 18, &ROOT_VECTOR) {
+    } else if differs_from(datagram, 18, ROOT_VECTOR) {
         Some(Unreadable::RootVector)
     } else if has_bad_lengths(datagram) {
         Some(Unreadable::Length)
-    } else if differs(datagram, 40, &FRAMING_VECTOR) {
+    } else if differs_from(datagram, 40, FRAMING_VECTOR) {
         Some(Unreadable::FramingVector)
     } else if datagram[108] > 200 {
         Some(Unreadable::Priority)
