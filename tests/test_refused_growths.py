@@ -1,0 +1,62 @@
+"""Each growth of a run's memory refused in turn: the run then tells its want of memory and prints nothing,
+or ends as it does with all memory."""
+
+import os
+import shutil
+import struct
+import subprocess
+import tempfile
+import unittest
+from pathlib import Path
+
+from program import CID, Outcome, ProgramTest, run, text
+
+COMPILER = shutil.which("cc")
+MEMORY = Outcome(6, b"", b"memory\n")
+SHOW = text(
+    "IDENT 3:0",
+    *(f"PATCH 1 {channel}<{channel}@FL {channel}<{channel + 512}@H80" for channel in range(1, 41)),
+    *(f"{record} {number}\nCHAN 1@50 2@FL 3@H01" for record in ("SUB", "GROUP", "CUE") for number in range(1, 41)),
+)
+
+
+@unittest.skipUnless(COMPILER, "no C compiler to build what refuses a growth")
+class RefusedGrowths(ProgramTest):
+    @classmethod
+    def setUpClass(cls):
+        folder = tempfile.TemporaryDirectory()
+        cls.addClassCleanup(folder.cleanup)
+        cls.library = Path(folder.name, "refuse.so")
+        cls.counted = Path(folder.name, "counted")
+        cls.counted.write_bytes(bytes(8))
+        source = Path(__file__).resolve().parent / "refuse.c"
+        subprocess.run([COMPILER, "-shared", "-fPIC", "-o", cls.library, source], check=True)
+
+    def run_without(self, growth, words, stdin):
+        """How the run ends where the growth of this number is refused, and how many it asks for."""
+        kept = {"LD_PRELOAD": str(self.library), "REFUSED": str(growth), "COUNTED": str(self.counted)}
+        outcome = run(*words, stdin=stdin, env=os.environ | kept)
+        return outcome, struct.unpack("q", self.counted.read_bytes())[0]
+
+    def assertEachRefused(self, words, stdin):
+        whole, growths = self.run_without(0, words, stdin)
+        self.assertEqual(run(*words, stdin=stdin), whole)
+        refused = 0
+        for growth in range(1, growths + 1):
+            with self.subTest(words=words, growth=growth):
+                outcome, _ = self.run_without(growth, words, stdin)
+                self.assertIn(outcome, (MEMORY, whole))
+                refused += outcome == MEMORY
+        # A block that is made smaller may stay where it is.
+        self.assertGreaterEqual(refused, growths - 1)
+        self.assertGreater(refused, 0)
+
+    def test_check(self):
+        self.assertEachRefused(["check", "-"], SHOW)
+
+    def test_look(self):
+        self.assertEachRefused(["look", "-", "7", "--cid", CID], SHOW)
+
+    def test_words(self):
+        for words in (["--help"], ["look", "-"], ["look", "-", "x", "--cid", CID], ["check", "a", "b"]):
+            self.assertEachRefused(words, b"")
