@@ -32,6 +32,6 @@ latest_frame show (act ∷ older) ordinal = shown_by act.call (frame show older 
   shown_by tick new before = new
   shown_by (order command) new before = before
 
--- the numbers of the universes (E1.31, 6.2.7) that have a patched dimmer: the base plus the ordinal
+-- the numbers of the universes (E1.31, Universe) that have a patched dimmer: the base plus the ordinal
 unfoldable pub universe_numbers : PatchMap → ℕ → List ℕ
 universe_numbers patch base = map (λ ordinal. base + ordinal) (universes_of patch)

@@ -28,7 +28,7 @@ const MOMENTS: u64 = 0x1_0000_0000_0000;
 /// Ticks are at least so many milliseconds apart: a full packet of DMX512-A takes 22.7 (E1.31, Transmission Rate).
 const SHORTEST_GAP: u64 = 23;
 
-/// So many ticks after End carry the end of the streams (E1.31, 6.2.6: Stream_Terminated).
+/// So many ticks after End carry the end of the streams (E1.31, Options: Stream_Terminated).
 const ENDING_TICKS: u8 = 3;
 
 /// A console: a show, its playback and masters, and the frames of its universes as the latest tick showed them.

@@ -13,7 +13,7 @@ pub record Rigging : Type 0 where
   pub base : ℕ
   pub patch : PatchMap
 
--- a universe number (E1.31, 6.2.7): from 1 to 63999
+-- a universe number (E1.31, Universe): from 1 to 63999
 abbrev pub is_universe : ℕ → Bool
 is_universe = is_within 63999
 

@@ -12,7 +12,7 @@ use show_core::{CHANNELS, DIMMERS, SLOTS, Show, UNIVERSES};
 use std::alloc::{AllocError, Global};
 use std::marker::Model;
 
-/// Universes are numbered from 1 to this (E1.31, 6.2.7).
+/// Universes are numbered from 1 to this (E1.31, Universe).
 pub const TOP_UNIVERSE: u32 = 63_999;
 
 /// The patch of a show, and the number of the universe of ordinal 0: what makes frames of levels.
