@@ -7,7 +7,6 @@ use Rattle.sacn_packet.specs.Wire.{Packet, HasPacket}
 use Rattle.sacn_packet.specs.Reading.{front_packet}
 use Rattle.sacn_packet.specs.Faults.{fault_of}
 use Rattle.sacn_packet.proofs.Found.{packet_ends}
-use Rattle.sacn_receiver.specs.declared.receiver.TheConstants.{SOURCES}
 use Rattle.sacn_receiver.specs.declared.answer.Ignored.{Ignored}
 use Rattle.sacn_receiver.specs.declared.answer.Ignored.TheVariants.{Backwards, Unreadable}
 use Rattle.sacn_receiver.specs.Source.{Entry, last_moment}
@@ -24,37 +23,37 @@ module _ (r : Kept) (h : List Entry) (t : ℕ) (d : List ℕ) (p : Packet) (s : 
   front : front_packet d ≡ p
   front = packet_ends d p has
 
-  by_packet : ignored SOURCES r.universe h t d ≡ ignored_packet SOURCES r.universe h t p
+  by_packet : ignored 4 r.universe h t d ≡ ignored_packet 4 r.universe h t p
   by_packet =
-      ap (λ b. if b then Some Backwards else option_or (option_map Unreadable (fault_of d)) (ignored_packet SOURCES r.universe h t (front_packet d))) (not_before (last_moment h) t (omega (arith, s.latest_is, time)))
-      ∙ ap (λ o. option_or (option_map Unreadable o) (ignored_packet SOURCES r.universe h t (front_packet d))) (sym fault)
-      ∙ ap (ignored_packet SOURCES r.universe h t) front
+      ap (λ b. if b then Some Backwards else option_or (option_map Unreadable (fault_of d)) (ignored_packet 4 r.universe h t (front_packet d))) (not_before (last_moment h) t (omega (arith, s.latest_is, time)))
+      ∙ ap (λ o. option_or (option_map Unreadable o) (ignored_packet 4 r.universe h t (front_packet d))) (sym fault)
+      ∙ ap (ignored_packet 4 r.universe h t) front
 
-  answer_is : (o : Option Ignored) → ignored_packet SOURCES r.universe h t p ≡ o → answer SOURCES r.universe h t d ≡ option_map_or Err o (Ok (taken_of p))
+  answer_is : (o : Option Ignored) → ignored_packet 4 r.universe h t p ≡ o → answer 4 r.universe h t d ≡ option_map_or Err o (Ok (taken_of p))
   answer_is o e =
       ap (λ o. option_map_or Err o (Ok (taken_of (front_packet d)))) (by_packet ∙ e)
       ∙ ap (λ p. option_map_or Err o (Ok (taken_of p))) front
 
-  pub unheard_answer : (reason : Ignored) → Some reason ≡ unheard r.universe p → answer SOURCES r.universe h t d ≡ Err reason
-  unheard_answer reason e = answer_is (Some reason) (ap (λ o. option_or o (refusal SOURCES h t p.fields.cid p.fields.sequence)) (sym e))
+  pub unheard_answer : (reason : Ignored) → Some reason ≡ unheard r.universe p → answer 4 r.universe h t d ≡ Err reason
+  unheard_answer reason e = answer_is (Some reason) (ap (λ o. option_or o (refusal 4 h t p.fields.cid p.fields.sequence)) (sym e))
 
-  after_unheard : None ≡ unheard r.universe p → ignored_packet SOURCES r.universe h t p ≡ refusal SOURCES r.records t p.fields.cid p.fields.sequence
+  after_unheard : None ≡ unheard r.universe p → ignored_packet 4 r.universe h t p ≡ refusal 4 r.records t p.fields.cid p.fields.sequence
   after_unheard e =
-      ap (λ o. option_or o (refusal SOURCES h t p.fields.cid p.fields.sequence)) (sym e)
-      ∙ sym (same_refusal SOURCES t r.records h (λ c. s.records_are t c time) p.fields.cid p.fields.sequence)
+      ap (λ o. option_or o (refusal 4 h t p.fields.cid p.fields.sequence)) (sym e)
+      ∙ sym (same_refusal 4 t r.records h (λ c. s.records_are t c time) p.fields.cid p.fields.sequence)
 
   same_at : (cid : List ℕ) (number : ℕ) (es : List Entry) → es ≡ r.records → cid ≡ p.fields.cid → number ≡ p.fields.sequence
-      → refusal SOURCES es t cid number ≡ refusal SOURCES r.records t p.fields.cid p.fields.sequence
+      → refusal 4 es t cid number ≡ refusal 4 r.records t p.fields.cid p.fields.sequence
   same_at cid number es is c n =
-      ap (λ es. refusal SOURCES es t cid number) is ∙ ap (λ cid. refusal SOURCES r.records t cid number) c ∙ ap (refusal SOURCES r.records t p.fields.cid) n
+      ap (λ es. refusal 4 es t cid number) is ∙ ap (λ cid. refusal 4 r.records t cid number) c ∙ ap (refusal 4 r.records t p.fields.cid) n
 
   pub refused_answer : (reason : Ignored) (cid : List ℕ) (number : ℕ) (es : List Entry) → None ≡ unheard r.universe p → es ≡ r.records → cid ≡ p.fields.cid → number ≡ p.fields.sequence
-      → Some reason ≡ refusal SOURCES es t cid number → answer SOURCES r.universe h t d ≡ Err reason
+      → Some reason ≡ refusal 4 es t cid number → answer 4 r.universe h t d ≡ Err reason
   refused_answer reason cid number es e is c n q =
       answer_is (Some reason) (after_unheard e ∙ sym (same_at cid number es is c n) ∙ sym q)
 
   pub taken_answer : (cid : List ℕ) (number : ℕ) (es : List Entry) → None ≡ unheard r.universe p → es ≡ r.records → cid ≡ p.fields.cid → number ≡ p.fields.sequence
-      → None ≡ refusal SOURCES es t cid number → answer SOURCES r.universe h t d ≡ Ok (taken_of p)
+      → None ≡ refusal 4 es t cid number → answer 4 r.universe h t d ≡ Ok (taken_of p)
   taken_answer cid number es e is c n q =
       answer_is None (after_unheard e ∙ sym (same_at cid number es is c n) ∙ sym q)
 

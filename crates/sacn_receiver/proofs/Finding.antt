@@ -8,7 +8,6 @@ use Rattle.std.proofs.lemmas.List.Filters.{length-filter_both}
 use Rattle.std.proofs.lemmas.List.Folds.{find-append}
 use Rattle.std.proofs.lemmas.List.Quantifiers.{position-Some}
 use Rattle.std.proofs.lemmas.Bool.Decides.{nat_tests}
-use Rattle.sacn_receiver.specs.declared.receiver.TheConstants.{SOURCES}
 use Rattle.sacn_receiver.specs.Source.{Entry, same_cid, is_there, is_after, records, while_there, record_of}
 use Rattle.sacn_receiver.specs.Taking.{refusal}
 use Rattle.sacn_receiver.specs.declared.answer.Ignored.TheVariants.{OutOfSequence, SourcesFull}
@@ -65,7 +64,7 @@ module _ (es : List Entry) (i : ℕ) where
 
   module _ (t : ℕ) (cid : List ℕ) where
     -- the place of the CID's own record
-    pub own_place : AreApart es → length es ≤ SOURCES → i < length es → same_cid cid at ≡ true → IsPlace es t cid i
+    pub own_place : AreApart es → length es ≤ 4 → i < length es → same_cid cid at ≡ true → IsPlace es t cid i
     own_place a few l q = record {
       within = omega arith;
       room = omega arith;
@@ -86,7 +85,7 @@ module _ (es : List Entry) (i : ℕ) where
     own_record a l q = ap (while_there t) (own_found a l q)
 
     -- a place that is gone, for a CID that has no record
-    pub other_place : find (same_cid cid) es ≡ None → i < SOURCES → i ≤ length es → IsGone t (drop i es) → IsPlace es t cid i
+    pub other_place : find (same_cid cid) es ≡ None → i < 4 → i ≤ length es → IsGone t (drop i es) → IsPlace es t cid i
     other_place none room le gone = record {
       within = le;
       room = room;
@@ -129,13 +128,13 @@ not_true false q = refl
 
 module _ (es : List Entry) (t : ℕ) where
   -- a record that is gone makes room
-  pub gone_room : (i : ℕ) → length es ≤ SOURCES → position (λ e. not (is_there t e)) es ≡ Some i → true ≡ nat_lt (length (filter (is_there t) es)) SOURCES
+  pub gone_room : (i : ℕ) → length es ≤ 4 → position (λ e. not (is_there t e)) es ≡ Some i → true ≡ nat_lt (length (filter (is_there t) es)) 4
   gone_room i few e =
       let w = place_says (λ e. not (is_there t e)) es i e in
       let f : length (filter (is_there t) es) < length es = fewer_there es i t w.0 (not_true (is_there t (at es i)) w.1) in
       grind (arith, nat_tests)
 
-  pub gone_place : (i : ℕ) → length es ≤ SOURCES → position (λ e. not (is_there t e)) es ≡ Some i → (i < SOURCES) × (i ≤ length es) × IsGone t (drop i es)
+  pub gone_place : (i : ℕ) → length es ≤ 4 → position (λ e. not (is_there t e)) es ≡ Some i → (i < 4) × (i ≤ length es) × IsGone t (drop i es)
   gone_place i few e =
       let w = place_says (λ e. not (is_there t e)) es i e in
       (omega arith, omega arith, gone_at es i t w.0 (not_true (is_there t (at es i)) w.1))

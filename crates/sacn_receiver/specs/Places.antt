@@ -1,6 +1,5 @@
 -- Where a receiver keeps a new packet: in place of its CID's older one, of one that is gone, or behind all.
 use Rattle.std.specs.Prelude.{◌≡◌, ℕ, ◌+◌, ◌<◌, ◌≤◌, true, false, not, ◌||◌, List, [], ◌∷◌, ◌++◌, length, take, drop, filter, find, None}
-use Rattle.sacn_receiver.specs.declared.receiver.TheConstants.{SOURCES}
 use Rattle.sacn_receiver.specs.Source.{Entry, same_cid, is_there}
 
 -- at most one of each CID
@@ -28,6 +27,6 @@ IsFree t cid (e ∷ es) = (same_cid cid e || not (is_there t e)) ≡ true
 -- a packet of this CID may be kept at this place from moment t on
 pub record IsPlace (es : List Entry) (t : ℕ) (cid : List ℕ) (i : ℕ) : Type 0 where
   pub within : i ≤ length es
-  pub room : i < SOURCES
+  pub room : i < 4
   pub free : IsFree t cid (drop i es)
   pub no_other : find (same_cid cid) (others es i) ≡ None

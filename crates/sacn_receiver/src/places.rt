@@ -22,9 +22,9 @@ fn known_place(records: &[Record], cid: &[u8; 16]) -> Option<usize>
 
 // A place for a new source: that of a record that is gone, else behind all.
 fn free_place(records: &[Record], moment: u64) -> Option<usize>
-    requires { length records.now ≤ SOURCES }
-    ensures there_is { is_some result ≡ nat_lt (length (filter (source.is_there moment) (entries records.now))) SOURCES }
-    ensures place { IfSome result (λ place. (place < SOURCES) × (place ≤ length records.now) × IsGone moment (drop place (entries records.now))) }
+    requires { length records.now ≤ 4 }
+    ensures there_is { is_some result ≡ nat_lt (length (filter (source.is_there moment) (entries records.now))) 4 }
+    ensures place { IfSome result (λ place. (place < 4) × (place ≤ length records.now) × IsGone moment (drop place (entries records.now))) }
 {
     match gone_place(records, moment) {
         Some(place) => Some(place),
@@ -55,9 +55,9 @@ pub(crate) fn place_for(
     number: u8,
 ) -> Result<usize, Ignored>
     requires apart { AreApart (entries records.now) }
-    requires room { length records.now ≤ SOURCES }
+    requires room { length records.now ≤ 4 }
     ensures place { IfOk result (λ place. IsPlace (entries records.now) moment cid.now place) }
-    ensures refused { result_err result ≡ refusal SOURCES (entries records.now) moment cid.now number }
+    ensures refused { result_err result ≡ refusal 4 (entries records.now) moment cid.now number }
 {
     match known_place(records, cid) {
         Some(place) => {
@@ -79,7 +79,7 @@ pub(crate) fn keep_at(
     packet: &DataPacket,
 )
     requires within { place ≤ array_vec_len records.old }
-    requires room { place < SOURCES }
+    requires room { place < 4 }
     requires slots { length packet.now.slots ≤ 512 }
     ensures { entries records.new.items ≡ put (entries records.old.items) place (entry_of moment packet.now) }
 {

@@ -3,7 +3,6 @@ use Rattle.std.proofs.lemmas.Result.{err_from_is_err_and}
 use Rattle.sacn_packet.specs.Wire.{HasPacket}
 use Rattle.sacn_packet.specs.Reading.{front_packet}
 use Rattle.sacn_packet.proofs.Found.{packet_ends}
-use Rattle.sacn_receiver.specs.declared.receiver.TheConstants.{SOURCES}
 use Rattle.sacn_receiver.specs.declared.answer.Taken.{Taken}
 use Rattle.sacn_receiver.specs.Taking.{answer, taken_of, entry_of}
 use Rattle.sacn_receiver.specs.Kept.{Kept, StandsFor}
@@ -15,13 +14,13 @@ use Rattle.sacn_receiver.proofs.receiver.Receiver.take.Goals as goal
 pub returns-in_err-hear-clause-answer : goal.returns-in_err-hear-clause-answer
 returns-in_err-hear-clause-answer c = λ h.
     let p = err_from_is_err_and c.from_residual-in_err-hear.result c.from_residual-in_err-hear.ensures.1 in
-    subst (λ (k : Kept). StandsFor k h → c.from_residual-in_err-hear.result ≡ answer SOURCES k.universe h c.args.moment c.args.datagram.now) c.self.view_is
+    subst (λ (k : Kept). StandsFor k h → c.from_residual-in_err-hear.result ≡ answer 4 k.universe h c.args.moment c.args.datagram.now) c.self.view_is
     (λ s. p.1 ∙ ap Err p.2 ∙ sym (unheard_answer _ h c.args.moment c.args.datagram.now c.in_ok-packet.packet s c.if-moment-self.false c.in_ok-packet.ensures.fault c.in_ok-packet.ensures.ok c.in_err-hear.field-0.0 c.in_err-hear.ensures))
 
 pub returns-in_err-place-clause-answer : goal.returns-in_err-place-clause-answer
 returns-in_err-place-clause-answer c = λ h.
     let p = err_from_is_err_and c.from_residual-in_err-place.result c.from_residual-in_err-place.ensures.1 in
-    subst (λ (k : Kept). StandsFor k h → c.from_residual-in_err-place.result ≡ answer SOURCES k.universe h c.args.moment c.args.datagram.now) c.self.view_is
+    subst (λ (k : Kept). StandsFor k h → c.from_residual-in_err-place.result ≡ answer 4 k.universe h c.args.moment c.args.datagram.now) c.self.view_is
     (λ s. p.1 ∙ ap Err p.2 ∙ sym (refused_answer _ h c.args.moment c.args.datagram.now c.in_ok-packet.packet s c.if-moment-self.false c.in_ok-packet.ensures.fault c.in_ok-packet.ensures.ok c.in_err-place.field-0.0
     c.cid.result c.sequence-sequence.result (entries c.as_slice.result.now) c.in_ok-hear.ensures (ap entries c.as_slice.ensures.value) c.cid.ensures c.sequence-sequence.ensures c.in_err-place.ensures.refused))
 
@@ -35,7 +34,7 @@ pub returns-clause-answer : goal.returns-clause-answer
 returns-clause-answer c = λ h.
     let taken : Taken = record { sequence = c.sequence-sequence.result; terminated = c.is_termination.result } in
     let is : taken ≡ taken_of c.in_ok-packet.packet = cc in
-    subst (λ (k : Kept). StandsFor k h → Ok taken ≡ answer SOURCES k.universe h c.args.moment c.args.datagram.now) c.self.view_is
+    subst (λ (k : Kept). StandsFor k h → Ok taken ≡ answer 4 k.universe h c.args.moment c.args.datagram.now) c.self.view_is
     (λ s. ap Ok is ∙ sym (taken_answer _ h c.args.moment c.args.datagram.now c.in_ok-packet.packet s c.if-moment-self.false c.in_ok-packet.ensures.fault c.in_ok-packet.ensures.ok
     c.cid.result c.sequence-sequence.result (entries c.as_slice.result.now) c.in_ok-hear.ensures (ap entries c.as_slice.ensures.value) c.cid.ensures c.sequence-sequence.ensures c.in_ok-place.ensures.refused))
 
