@@ -16,7 +16,7 @@ use Rattle.sacn_receiver.specs.Places.{AreApart, IsPlace, put}
 use Rattle.sacn_receiver.proofs.Same.{same_refusal}
 use Rattle.sacn_receiver.proofs.Placing.{put_apart, stands_more}
 
-not_before : (m n : ℕ) → m ≤ n → nat_lt n m ≡ false
+pub not_before : (m n : ℕ) → m ≤ n → nat_lt n m ≡ false
 not_before m n l = grind (arith, nat_tests)
 
 module _ (r : Kept) (h : List Entry) (t : ℕ) (d : List ℕ) (p : Packet) (s : StandsFor r h) (time : r.latest ≤ t) (fault : None ≡ fault_of d) (has : HasPacket d p) where

@@ -59,7 +59,7 @@ find_says c (x ∷ h) e f = go (same_cid c x) refl f (find_says c h e)
     go true q g ih = let s : Some x ≡ Some e = rw q at g in let k : x ≡ e = cc in subst (λ (y : Entry). same_cid c y ≡ true) k q
     go false q g ih = ih (rw q at g)
 
-was_true : (b : Bool) → not b ≡ true → b ≡ false
+pub was_true : (b : Bool) → not b ≡ true → b ≡ false
 was_true true q = cc
 was_true false q = refl
 

@@ -14,12 +14,12 @@ use Rattle.sacn_receiver.proofs.Same.{record_found, records_apart, merged_same}
 
 -- an element, by its place and by recursion
 module _ {A : Type 0} (x : A) where
-  in_from_place : (xs : List A) (k : ℕ) → k < length xs → get_or xs k x ≡ x → In x xs
+  pub in_from_place : (xs : List A) (k : ℕ) → k < length xs → get_or xs k x ≡ x → In x xs
   in_from_place [] k l e = absurd (omega arith)
   in_from_place (y ∷ ys) zero l e = inl (sym e)
   in_from_place (y ∷ ys) (suc k) l e = inr (in_from_place ys k (omega arith) e)
 
-  place_from_in : (xs : List A) → In x xs → Contains xs x
+  pub place_from_in : (xs : List A) → In x xs → Contains xs x
   place_from_in [] i = absurd i
   place_from_in (y ∷ ys) (inl e) = (zero, omega arith, sym e)
   place_from_in (y ∷ ys) (inr i) = let r = place_from_in ys i in (suc r.0, omega (arith, r.1), r.2)
@@ -29,7 +29,7 @@ by_membership lights others same s =
     merged_same lights others s (λ l i. let r = (same l).0 (place_from_in l lights i) in in_from_place l others r.0 r.1 r.2)
     (λ l i. let r = (same l).1 (place_from_in l others i) in in_from_place l lights r.0 r.1 r.2)
 
-found_in : {A : Type 0} (p : A → Bool) (xs : List A) (x : A) → find p xs ≡ Some x → In x xs
+pub found_in : {A : Type 0} (p : A → Bool) (xs : List A) (x : A) → find p xs ≡ Some x → In x xs
 found_in p [] x f = cc
 found_in p (y ∷ ys) x f = go (p y) f (found_in p ys x)
   where
@@ -37,15 +37,15 @@ found_in p (y ∷ ys) x f = go (p y) f (found_in p ys x)
     go true g ih = inl (let k : x ≡ y = cc in k)
     go false g ih = inr (ih g)
 
-find_agree : {A : Type 0} (p q : A → Bool) → ((x : A) → p x ≡ q x) → (xs : List A) → find p xs ≡ find q xs
+pub find_agree : {A : Type 0} (p q : A → Bool) → ((x : A) → p x ≡ q x) → (xs : List A) → find p xs ≡ find q xs
 find_agree p q h [] = refl
 find_agree p q h (x ∷ xs) = ap (λ b. cond b (Some x) (find p xs)) (h x) ∙ ap (λ o. cond (q x) (Some x) o) (find_agree p q h xs)
 
-same_find : (c d : List ℕ) (e : Entry) (h : List Entry) → same_cid c e ≡ true → d ≡ e.cid → find (same_cid c) h ≡ find (same_cid d) h
+pub same_find : (c d : List ℕ) (e : Entry) (h : List Entry) → same_cid c e ≡ true → d ≡ e.cid → find (same_cid c) h ≡ find (same_cid d) h
 same_find c d e h q is = find_agree (same_cid c) (same_cid d) (λ f. nat_list_eq_equiv.congr c e.cid f.cid q ∙ ap (λ d. same_cid d f) (sym is)) h
 
 -- a CID without a record has no entry among the records
-absent : (c : List ℕ) (t : ℕ) (h : List Entry) → record_of h t c ≡ None → length (filter (same_cid c) (records h t)) ≡ 0
+pub absent : (c : List ℕ) (t : ℕ) (h : List Entry) → record_of h t c ≡ None → length (filter (same_cid c) (records h t)) ≡ 0
 absent c t h n = none_found (same_cid c) (records h t) (go (find (same_cid c) (records h t)) refl)
   where
     go : (o : Option Entry) → find (same_cid c) (records h t) ≡ o → find (same_cid c) (records h t) ≡ None
@@ -57,7 +57,7 @@ absent c t h n = none_found (same_cid c) (records h t) (go (find (same_cid c) (r
         absurd (let z : None ≡ Some f = sym n ∙ s ∙ r in cc)
 
 -- a CID without a record finds room among as many as there are CIDs
-room_for : (cids : List (List ℕ)) (e : Entry) (t : ℕ) (h : List Entry) → AllIn cids h → list_any (λ c. same_cid c e) cids ≡ true → record_of h t e.cid ≡ None → length (records h t) < length cids
+pub room_for : (cids : List (List ℕ)) (e : Entry) (t : ℕ) (h : List Entry) → AllIn cids h → list_any (λ c. same_cid c e) cids ≡ true → record_of h t e.cid ≡ None → length (records h t) < length cids
 room_for cids e t h a m n =
     let rs : List Entry = records h t in
     let more : length (e ∷ rs) ≤ length cids = fits cids (e ∷ rs) (m, AllIn-filter cids _ (newest h) (AllIn-newest cids h a)) (apart rs) in
@@ -72,7 +72,7 @@ room_for cids e t h a m n =
             rw q (omega (arith, none))
         go false q = rw q (records_apart h t c)
 
-accepted_in : (room : ℕ) (cids : List (List ℕ)) (es : List Entry) → AllIn cids es → AllIn cids (accepted room es)
+pub accepted_in : (room : ℕ) (cids : List (List ℕ)) (es : List Entry) → AllIn cids es → AllIn cids (accepted room es)
 accepted_in room cids [] a = tt
 accepted_in room cids (e ∷ es) a = go (is_accepted room (accepted room es) e.moment e.cid e.number) (accepted_in room cids es a.1)
   where
@@ -88,7 +88,7 @@ module _ (room : ℕ) (cids : List (List ℕ)) (e : Entry) (few : length cids �
       let fits : nat_lt (length (records h e.moment)) room ≡ true = grind (arith, nat_tests) in
       rw n fits
 
-  alike : (g h : List Entry) → AllIn cids g → AllIn cids h → record_of g e.moment e.cid ≡ record_of h e.moment e.cid
+  pub alike : (g h : List Entry) → AllIn cids g → AllIn cids h → record_of g e.moment e.cid ≡ record_of h e.moment e.cid
       → is_accepted room g e.moment e.cid e.number ≡ is_accepted room h e.moment e.cid e.number
   alike g h a b s = go (record_of h e.moment e.cid) refl
     where
@@ -98,7 +98,7 @@ module _ (room : ℕ) (cids : List (List ℕ)) (e : Entry) (few : length cids �
           let k : record_of g e.moment e.cid ≡ Some f = s ∙ n in
           ap (λ o. is_taken room o (length (records g e.moment)) e.number) k ∙ sym (ap (λ o. is_taken room o (length (records h e.moment)) e.number) n)
 
-independent : (room : ℕ) (cids : List (List ℕ)) (c : List ℕ) → length cids ≤ room → (es : List Entry) → AllIn cids es
+pub independent : (room : ℕ) (cids : List (List ℕ)) (c : List ℕ) → length cids ≤ room → (es : List Entry) → AllIn cids es
     → find (same_cid c) (accepted room es) ≡ find (same_cid c) (accepted room (filter (same_cid c) es))
 independent room cids c few [] a = refl
 independent room cids c few (e ∷ es) a = go (same_cid c e) refl (independent room cids c few es a.1)
@@ -131,7 +131,7 @@ independent room cids c few (e ∷ es) a = go (same_cid c e) refl (independent r
         left : same_cid c e ≡ false → filter (same_cid c) (e ∷ es) ≡ filter (same_cid c) es
         left q = rw q
 
-one_of : (e : Entry) (cids : List (List ℕ)) → In e.cid cids → list_any (λ c. same_cid c e) cids ≡ true
+pub one_of : (e : Entry) (cids : List (List ℕ)) → In e.cid cids → list_any (λ c. same_cid c e) cids ≡ true
 one_of e [] i = absurd i
 one_of e (c ∷ cids) (inl s) = rw (subst (λ d. same_cid d e ≡ true) s (nat_list_eq_equiv.refl e.cid))
 one_of e (c ∷ cids) (inr i) = go (same_cid c e) (one_of e cids i)
@@ -140,7 +140,7 @@ one_of e (c ∷ cids) (inr i) = go (same_cid c e) (one_of e cids i)
     go true q = refl
     go false q = q
 
-all_in : (cids : List (List ℕ)) (es : List Entry) → All (λ e. Contains cids e.cid) es → AllIn cids es
+pub all_in : (cids : List (List ℕ)) (es : List Entry) → All (λ e. Contains cids e.cid) es → AllIn cids es
 all_in cids [] a = tt
 all_in cids (e ∷ es) a =
     let h = All-head (λ (e : Entry). Contains cids e.cid) e es a in

@@ -7,4 +7,6 @@ pub mod Known
 pub mod Merging
 pub mod Answering
 pub mod Independent
+pub mod Arriving
+pub mod Living
 pub mod Rows

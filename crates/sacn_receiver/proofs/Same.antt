@@ -26,7 +26,7 @@ while_says t (Some x) e w = go (is_there t x) refl w
     go true q v = (v, (let k : x ≡ e = cc in subst (λ (y : Entry). is_there t y ≡ true) k q))
     go false q v = absurd (let k : None ≡ Some e = v in cc)
 
-found_record : (h : List Entry) (t : ℕ) (c : List ℕ) (e : Entry) → record_of h t c ≡ Some e → In e (records h t)
+pub found_record : (h : List Entry) (t : ℕ) (c : List ℕ) (e : Entry) → record_of h t c ≡ Some e → In e (records h t)
 found_record h t c e f =
     let w = while_says t (find (same_cid c) h) e f in
     In_filter (is_there t) e (newest h) (found_newest c h e w.0) w.1
@@ -49,7 +49,7 @@ live_members t g h s e i =
     let j = In_filtered (λ f. not f.ended) e (records g t) i in
     In_filter (λ f. not f.ended) e (records h t) (same_members t g h s e j.0) j.1
 
-live_apart : (h : List Entry) (t : ℕ) → AreApart (live h t)
+pub live_apart : (h : List Entry) (t : ℕ) → AreApart (live h t)
 live_apart h t = filter_apart (λ e. not e.ended) (records h t) (records_apart h t)
 
 pub same_live : (t : ℕ) (g h : List Entry) → AreSame t g h → length (live g t) ≡ length (live h t)

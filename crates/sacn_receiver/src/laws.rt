@@ -1,11 +1,36 @@
-//! What holds of every receiver, whatever comes to it. Each law is the contract of a function that does nothing: call it where
-//! its fact is wanted.
+//! What holds of every receiver, whatever comes to it. Each law is the contract of a function that does nothing: call it
+//! where its fact is wanted.
 
-ghost use Rattle.sacn_receiver.specs.Laws.{SourcesAreIndependent, MergeIsByMembership};
+ghost use Rattle.sacn_receiver.specs.Laws.{HeardAreAccepted, SourcesAreIndependent, RecordsAreIndependent};
+ghost use Rattle.sacn_receiver.specs.Laws.{AnswersAreIndependent, LiveAreRecords, LiveAreApart, MergeIsByMembership};
 
-/// With no more sources than there is room for, what a receiver keeps of a source depends on the packets of that source alone.
+/// A receiver whose moments never fall accepts what the source rule alone accepts of the packets that it hears.
+pub fn heard_are_accepted()
+    ensures { HeardAreAccepted }
+{}
+
+/// With no more sources than there is room for, what a receiver keeps of a source depends on the packets of that source
+/// alone. This speaks of packets whose moments never fall; `records_are_independent` speaks of datagrams.
 pub fn sources_are_independent()
     ensures { SourcesAreIndependent }
+{}
+
+/// With no more sources than there is room for, and moments that never fall, what a receiver keeps of a source depends on
+/// the datagrams of that source alone, whatever else comes that is not heard.
+pub fn records_are_independent()
+    ensures { RecordsAreIndependent }
+{}
+
+/// With no more sources than there is room for, and moments that never fall, `Receiver::take` answers to a datagram as if
+/// those of its source alone had come before.
+pub fn answers_are_independent()
+    ensures { AnswersAreIndependent }
+{}
+
+/// The live records are those that are there and not ended, one of each source at most.
+pub fn live_are_records()
+    ensures members { LiveAreRecords }
+    ensures apart { LiveAreApart }
 {}
 
 /// Live sources with the same priorities and slots show alike, in whichever order.

@@ -254,6 +254,10 @@ fn fewer_slots(rt: HostRuntime) {
 
 #[test]
 fn every_law() {
+    laws::heard_are_accepted();
     laws::sources_are_independent();
+    laws::records_are_independent();
+    laws::answers_are_independent();
+    laws::live_are_records();
     laws::merge_is_by_membership();
 }

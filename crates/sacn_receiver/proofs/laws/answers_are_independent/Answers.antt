@@ -1,0 +1,5 @@
+use Rattle.sacn_receiver.proofs.Arriving.{answers_independent}
+use Rattle.sacn_receiver.proofs.laws.answers_are_independent.Goals as goal
+
+pub returns : goal.returns
+returns c = answers_independent

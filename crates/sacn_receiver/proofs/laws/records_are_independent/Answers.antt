@@ -1,0 +1,5 @@
+use Rattle.sacn_receiver.proofs.Arriving.{records_independent}
+use Rattle.sacn_receiver.proofs.laws.records_are_independent.Goals as goal
+
+pub returns : goal.returns
+returns c = records_independent
