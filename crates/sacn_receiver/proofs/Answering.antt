@@ -7,10 +7,11 @@ use Rattle.sacn_packet.specs.Wire.{Packet, HasPacket}
 use Rattle.sacn_packet.specs.Reading.{front_packet}
 use Rattle.sacn_packet.specs.Faults.{fault_of}
 use Rattle.sacn_packet.proofs.Found.{packet_ends}
+use Rattle.sacn_receiver.specs.declared.answer.Taken.{Taken}
 use Rattle.sacn_receiver.specs.declared.answer.Ignored.{Ignored}
 use Rattle.sacn_receiver.specs.declared.answer.Ignored.TheVariants.{Backwards, Unreadable}
 use Rattle.sacn_receiver.specs.Source.{Entry, last_moment}
-use Rattle.sacn_receiver.specs.Taking.{entry_of, unheard, refusal, ignored_packet, ignored, taken_of, answer}
+use Rattle.sacn_receiver.specs.Taking.{entry_of, unheard, refusal, ignored_packet, ignored, taken_of, answer, heard}
 use Rattle.sacn_receiver.specs.Kept.{Kept, StandsFor}
 use Rattle.sacn_receiver.specs.Places.{AreApart, IsPlace, put}
 use Rattle.sacn_receiver.proofs.Same.{same_refusal}
@@ -71,3 +72,23 @@ module _ (t : ℕ) (d : List ℕ) (p : Packet) (has : HasPacket d p) (es : List 
       let stands : StandsFor (record { universe = r.universe; latest = t; records = put es i (entry_of t p) }) (entry_of t p ∷ h) = stands_more es i (entry_of t p) r h same apart here time s in
       let with_new : StandsFor (record { universe = r.universe; latest = t; records = new }) (entry_of t p ∷ h) = subst (λ (l : List Entry). StandsFor (record { universe = r.universe; latest = t; records = l }) (entry_of t p ∷ h)) (sym e) stands in
       subst (λ (q : Packet). StandsFor (record { universe = r.universe; latest = t; records = new }) (entry_of t q ∷ h)) (sym (packet_ends d p has)) with_new
+
+-- what is heard of a datagram, by its answer
+module _ (universe : ℕ) (h : List Entry) (t : ℕ) (d : List ℕ) where
+  pub heard_refused : (r : Kept) (reason : Ignored) → answer 4 universe h t d ≡ Err reason → StandsFor r h
+      → StandsFor r (heard 4 universe h t d)
+  heard_refused r reason is s = go (ignored 4 universe h t d) is
+    where
+      go : (o : Option Ignored) → option_map_or Err o (Ok (taken_of (front_packet d))) ≡ Err reason
+          → StandsFor r (option_map_or (λ _. h) o (entry_of t (front_packet d) ∷ h))
+      go None e = cc
+      go (Some x) e = s
+
+  pub heard_taken : (r : Kept) (taken : Taken) → answer 4 universe h t d ≡ Ok taken
+      → StandsFor r (entry_of t (front_packet d) ∷ h) → StandsFor r (heard 4 universe h t d)
+  heard_taken r taken is s = go (ignored 4 universe h t d) is
+    where
+      go : (o : Option Ignored) → option_map_or Err o (Ok (taken_of (front_packet d))) ≡ Ok taken
+          → StandsFor r (option_map_or (λ _. h) o (entry_of t (front_packet d) ∷ h))
+      go None e = s
+      go (Some x) e = cc

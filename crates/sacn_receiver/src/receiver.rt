@@ -3,7 +3,7 @@ ghost use Rattle.std.specs.Result.{result_err};
 ghost use Rattle.sacn_packet.specs.Wire.{HasPacket};
 ghost use Rattle.sacn_packet.specs.Reading.{front_packet};
 ghost use Rattle.sacn_receiver.specs.Source.{Entry, last_moment};
-ghost use Rattle.sacn_receiver.specs.Taking.{answer, entry_of, unheard};
+ghost use Rattle.sacn_receiver.specs.Taking.{answer, entry_of, heard, unheard};
 ghost use Rattle.sacn_receiver.specs.Shown.{live, shown_slots};
 ghost use Rattle.sacn_receiver.specs.Kept.{StandsFor};
 
@@ -21,7 +21,7 @@ pub const SOURCES: usize = 4;
 const PREVIEW_DATA: u8 = 0x80;
 
 /// A receiver of one universe. Moments are in milliseconds, from any beginning.
-#[derive(Drop)]
+#[derive(Debug, Drop)]
 pub struct Receiver {
     universe: u16,
     latest: u64,
@@ -55,14 +55,25 @@ impl Receiver {
         }
     }
 
-    /// Takes a datagram that came at `moment`. Its packet, where it is accepted, takes the place of the one kept of its source.
+    /// Takes a datagram that came at `moment`. Its packet, where it is accepted, takes the place of the one kept of its
+    /// source.
     ///
     /// # Errors
     ///
     /// The first reason of `Ignored` that applies: then nothing changes.
     pub fn take(&mut self, moment: u64, datagram: &[u8]) -> Result<Taken, Ignored>
-        ensures answer { (h : List Entry) → StandsFor self.old h → result ≡ answer 4 self.old.universe h moment datagram.now }
-        ensures accepted { OnOk result ((h : List Entry) → StandsFor self.old h → StandsFor self.new (entry_of moment (front_packet datagram.now) ∷ h)) }
+        ensures answer {
+            (h : List Entry) → StandsFor self.old h
+            → result ≡ answer 4 self.old.universe h moment datagram.now
+        }
+        ensures heard {
+            (h : List Entry) → StandsFor self.old h
+            → StandsFor self.new (heard 4 self.old.universe h moment datagram.now)
+        }
+        ensures accepted {
+            OnOk result ((h : List Entry) → StandsFor self.old h
+            → StandsFor self.new (entry_of moment (front_packet datagram.now) ∷ h))
+        }
         ensures packet { OnOk result (HasPacket datagram.now (front_packet datagram.now)) }
         ensures universe { self.new.universe ≡ self.old.universe }
         ensures ignored { OnErr result (self.new ≡ self.old) }
@@ -91,7 +102,8 @@ impl Receiver {
         merge(self.records.as_slice(), moment, out);
     }
 
-    /// How many sources are live at `moment`: less than 2,500 ms ago a packet of theirs was accepted, and it was no termination.
+    /// How many sources are live at `moment`: less than 2,500 ms ago a packet of theirs was accepted, and it was no
+    /// termination.
     pub fn live(&self, moment: u64) -> usize
         requires { self.now.latest ≤ moment }
         ensures { (h : List Entry) → StandsFor self.now h → result ≡ length (live h moment) }

@@ -8,7 +8,7 @@ use Rattle.sacn_receiver.specs.Taking.{answer, taken_of, entry_of}
 use Rattle.sacn_receiver.specs.Kept.{Kept, StandsFor}
 use Rattle.sacn_receiver.specs.Places.{IsPlace}
 use Rattle.sacn_receiver.specs.Records.{entries}
-use Rattle.sacn_receiver.proofs.Answering.{unheard_answer, refused_answer, taken_answer, kept_apart, kept_stands}
+use Rattle.sacn_receiver.proofs.Answering.{unheard_answer, refused_answer, taken_answer, kept_apart, kept_stands, heard_refused, heard_taken}
 use Rattle.sacn_receiver.proofs.receiver.Receiver.take.Goals as goal
 
 pub returns-in_err-hear-clause-answer : goal.returns-in_err-hear-clause-answer
@@ -48,3 +48,20 @@ returns-clause-accepted c = λ h.
 
 pub returns-clause-packet : goal.returns-clause-packet
 returns-clause-packet c = subst (HasPacket c.args.datagram.now) (sym (packet_ends c.args.datagram.now c.in_ok-packet.packet c.in_ok-packet.ensures.ok)) c.in_ok-packet.ensures.ok
+
+pub returns-in_err-hear-clause-heard : goal.returns-in_err-hear-clause-heard
+returns-in_err-hear-clause-heard c = λ h s.
+    let p = err_from_is_err_and c.from_residual-in_err-hear.result c.from_residual-in_err-hear.ensures.1 in
+    heard_refused c.args.self.now.universe h c.args.moment c.args.datagram.now c.args.self.now _
+    (sym (returns-in_err-hear-clause-answer c h s) ∙ p.1) s
+
+pub returns-in_err-place-clause-heard : goal.returns-in_err-place-clause-heard
+returns-in_err-place-clause-heard c = λ h s.
+    let p = err_from_is_err_and c.from_residual-in_err-place.result c.from_residual-in_err-place.ensures.1 in
+    heard_refused c.args.self.now.universe h c.args.moment c.args.datagram.now c.args.self.now _
+    (sym (returns-in_err-place-clause-answer c h s) ∙ p.1) s
+
+pub returns-clause-heard : goal.returns-clause-heard
+returns-clause-heard c = λ h s.
+    heard_taken c.args.self.now.universe h c.args.moment c.args.datagram.now _ _
+    (sym (returns-clause-answer c h s)) (returns-clause-accepted c h s)
