@@ -18,6 +18,7 @@ pub says_live : (h : List Entry) (t : ℕ) (e : Entry) → record_of h t e.cid �
 says_live h t e r q = In_filter (λ f. not f.ended) e (records h t) (found_record h t e.cid e r) (ap not q)
 
 pub live_records : LiveAreRecords
-live_records h t e =
-    (λ c. live_says h t e (in_from_place e (live h t) c.0 c.1 c.2),
-    λ r. place_from_in e (live h t) (says_live h t e r.0 r.1))
+live_records h t e = (
+  λ c. live_says h t e (in_from_place e (live h t) c.0 c.1 c.2),
+  λ r. place_from_in e (live h t) (says_live h t e r.0 r.1),
+)

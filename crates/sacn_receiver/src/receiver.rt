@@ -62,18 +62,12 @@ impl Receiver {
     ///
     /// The first reason of `Ignored` that applies: then nothing changes.
     pub fn take(&mut self, moment: u64, datagram: &[u8]) -> Result<Taken, Ignored>
-        ensures answer {
-            (h : List Entry) → StandsFor self.old h
-            → result ≡ answer 4 self.old.universe h moment datagram.now
-        }
-        ensures heard {
-            (h : List Entry) → StandsFor self.old h
-            → StandsFor self.new (heard 4 self.old.universe h moment datagram.now)
-        }
-        ensures accepted {
-            OnOk result ((h : List Entry) → StandsFor self.old h
-            → StandsFor self.new (entry_of moment (front_packet datagram.now) ∷ h))
-        }
+        ensures answer { (h : List Entry) → StandsFor self.old h
+            → result ≡ answer 4 self.old.universe h moment datagram.now }
+        ensures heard { (h : List Entry) → StandsFor self.old h
+            → StandsFor self.new (heard 4 self.old.universe h moment datagram.now) }
+        ensures accepted { OnOk result ((h : List Entry) → StandsFor self.old h
+            → StandsFor self.new (entry_of moment (front_packet datagram.now) ∷ h)) }
         ensures packet { OnOk result (HasPacket datagram.now (front_packet datagram.now)) }
         ensures universe { self.new.universe ≡ self.old.universe }
         ensures ignored { OnErr result (self.new ≡ self.old) }
