@@ -1,5 +1,6 @@
 -- What is in a list, and what filters leave in it.
-use Rattle.std.proofs.Common.{◌≡◌, ◌≤◌, Bool, true, false, not, ◌⊎◌, refl, ap, arith, sym, inl, inr, ◌∙◌, List, [], ◌∷◌, map, length, Some, None}
+use Rattle.std.proofs.Common.{◌≡◌, ◌≤◌, Bool, true, false, not, ◌⊎◌, refl, ap, arith, sym, inl, inr}
+use Rattle.std.proofs.Common.{◌∙◌, List, [], ◌∷◌, map, length, Some, None}
 use Rattle.std.specs.Prelude.{filter, find}
 
 -- membership
@@ -21,8 +22,13 @@ module _ {A : Type 0} (p : A → Bool) where
   In_filtered e [] i = absurd i
   In_filtered e (x ∷ xs) i = go (p x) refl i (In_filtered e xs)
     where
-      go : (b : Bool) → p x ≡ b → In e (filter p (x ∷ xs)) → (In e (filter p xs) → In e xs × (p e ≡ true)) → In e (x ∷ xs) × (p e ≡ true)
-      go true h j ih = elim (rw h at j) [ inl s ↦ (inl s, ap p s ∙ h) | inr k ↦ (inr (ih k).0, (ih k).1) ]
+      go : (b : Bool) → p x ≡ b → In e (filter p (x ∷ xs))
+          → (In e (filter p xs) → In e xs × (p e ≡ true)) → In e (x ∷ xs) × (p e ≡ true)
+      go true h j ih = elim (rw h at j) [
+        | inl s ↦ (inl s, ap p s ∙ h)
+        | inr k ↦
+            (inr (ih k).0, (ih k).1)
+      ]
       go false h j ih = let k = ih (rw h at j) in (inr k.0, k.1)
 
   -- what a filter leaves out is not in it
@@ -30,7 +36,8 @@ module _ {A : Type 0} (p : A → Bool) where
   filter_out [] = refl
   filter_out (e ∷ es) = go (p e) refl (filter_out es)
     where
-      go : (b : Bool) → p e ≡ b → length (filter p (filter (λ f. not (p f)) es)) ≡ 0 → length (filter p (filter (λ f. not (p f)) (e ∷ es))) ≡ 0
+      go : (b : Bool) → p e ≡ b → length (filter p (filter (λ f. not (p f)) es)) ≡ 0
+          → length (filter p (filter (λ f. not (p f)) (e ∷ es))) ≡ 0
       go true q ih = rw q ih
       go false q ih = rw (q, q) ih
 
@@ -39,7 +46,9 @@ module _ {A : Type 0} (p : A → Bool) where
   filter_all [] n = refl
   filter_all (e ∷ es) n = go (p e) refl n (filter_all es)
     where
-      go : (b : Bool) → p e ≡ b → length (filter (λ f. not (p f)) (e ∷ es)) ≡ 0 → (length (filter (λ f. not (p f)) es) ≡ 0 → filter p es ≡ es) → filter p (e ∷ es) ≡ e ∷ es
+      go : (b : Bool) → p e ≡ b → length (filter (λ f. not (p f)) (e ∷ es)) ≡ 0
+          → (length (filter (λ f. not (p f)) es) ≡ 0 → filter p es ≡ es)
+          → filter p (e ∷ es) ≡ e ∷ es
       go true q m ih = rw q (ap (λ l. e ∷ l) (ih (rw q at m)))
       go false q m ih = absurd (let k = rw q at m in omega (arith, k))
 
@@ -48,7 +57,8 @@ module _ {A : Type 0} (p : A → Bool) where
   find_none [] n = refl
   find_none (e ∷ es) n = go (p e) refl n (find_none es)
     where
-      go : (b : Bool) → p e ≡ b → length (filter p (e ∷ es)) ≡ 0 → (length (filter p es) ≡ 0 → find p es ≡ None) → find p (e ∷ es) ≡ None
+      go : (b : Bool) → p e ≡ b → length (filter p (e ∷ es)) ≡ 0
+          → (length (filter p es) ≡ 0 → find p es ≡ None) → find p (e ∷ es) ≡ None
       go true q m ih = absurd (let k = rw q at m in omega (arith, k))
       go false q m ih = rw q (ih (rw q at m))
 
@@ -56,7 +66,8 @@ module _ {A : Type 0} (p : A → Bool) where
   none_found [] n = refl
   none_found (e ∷ es) n = go (p e) refl n (none_found es)
     where
-      go : (b : Bool) → p e ≡ b → find p (e ∷ es) ≡ None → (find p es ≡ None → length (filter p es) ≡ 0) → length (filter p (e ∷ es)) ≡ 0
+      go : (b : Bool) → p e ≡ b → find p (e ∷ es) ≡ None
+          → (find p es ≡ None → length (filter p es) ≡ 0) → length (filter p (e ∷ es)) ≡ 0
       go true q m ih = absurd (let k : Some e ≡ None = rw q at m in cc)
       go false q m ih = rw q (ih (rw q at m))
 
@@ -66,7 +77,8 @@ module _ {A : Type 0} (p q : A → Bool) where
   filter_less [] = omega arith
   filter_less (e ∷ es) = go (p e) (q e) refl refl (filter_less es)
     where
-      go : (b c : Bool) → p e ≡ b → q e ≡ c → length (filter q (filter p es)) ≤ length (filter q es) → length (filter q (filter p (e ∷ es))) ≤ length (filter q (e ∷ es))
+      go : (b c : Bool) → p e ≡ b → q e ≡ c → length (filter q (filter p es)) ≤ length (filter q es)
+          → length (filter q (filter p (e ∷ es))) ≤ length (filter q (e ∷ es))
       go true true h k ih = rw (h, k) (omega arith)
       go true false h k ih = rw (h, k) ih
       go false true h k ih = rw (h, k) (omega arith)
@@ -77,7 +89,8 @@ module _ {A : Type 0} (p q : A → Bool) where
   filter_swap [] = refl
   filter_swap (e ∷ es) = go (p e) (q e) refl refl (filter_swap es)
     where
-      go : (b c : Bool) → p e ≡ b → q e ≡ c → filter p (filter q es) ≡ filter q (filter p es) → filter p (filter q (e ∷ es)) ≡ filter q (filter p (e ∷ es))
+      go : (b c : Bool) → p e ≡ b → q e ≡ c → filter p (filter q es) ≡ filter q (filter p es)
+          → filter p (filter q (e ∷ es)) ≡ filter q (filter p (e ∷ es))
       go true true h k ih = simp (h, k) (ap (λ l. e ∷ l) ih)
       go true false h k ih = simp (h, k) ih
       go false true h k ih = simp (h, k) ih

@@ -1,12 +1,18 @@
 -- The worked rows, by evaluation of the definitions.
-use Rattle.std.proofs.Common.{◌≡◌, ℕ, List, [], ◌∷◌, ◌++◌, length, replicate, refl, Option, Some, None}
+use Rattle.std.proofs.Common.{◌≡◌, ℕ, true, false, List, [], ◌∷◌, ◌++◌, length, map, drop}
+use Rattle.std.proofs.Common.{replicate, refl, Option, Some, None}
 use Rattle.sacn_packet.specs.Wire.{Packet}
 use Rattle.sacn_packet.specs.Layers.{root_layer, framing_layer, dmp_layer}
 use Rattle.sacn_packet.specs.declared.unreadable.Unreadable.TheVariants.{Priority}
 use Rattle.sacn_receiver.specs.declared.answer.Ignored.{Ignored}
-use Rattle.sacn_receiver.specs.declared.answer.Ignored.TheVariants.{Backwards, Unreadable, OtherUniverse, Preview, AltStart, OutOfSequence, SourcesFull}
+use Rattle.sacn_receiver.specs.declared.answer.Ignored.TheVariants.{Backwards, Unreadable}
+use Rattle.sacn_receiver.specs.declared.answer.Ignored.TheVariants.{OtherUniverse, Preview}
+use Rattle.sacn_receiver.specs.declared.answer.Ignored.TheVariants.{AltStart, OutOfSequence}
+use Rattle.sacn_receiver.specs.declared.answer.Ignored.TheVariants.{SourcesFull}
 use Rattle.sacn_receiver.specs.Source.{Entry, last_moment}
 use Rattle.sacn_receiver.specs.Taking.{ignored_packet, ignored, heard, entry_of}
+use Rattle.sacn_receiver.specs.Arrivals.{Arrival, heard_all, is_heard}
+use Rattle.sacn_receiver.specs.Laws.{accepted}
 use Rattle.sacn_receiver.specs.Shown.{live, shown, shown_slots}
 
 -- a packet of a source, with its number, options and first slot
@@ -40,7 +46,8 @@ wrap_order_254 = refl
 wrap_order_1 : reason (after 255 0) 20 (packet 1 1 0 0) ≡ None
 wrap_order_1 = refl
 
-wrap_order_0 : reason (entry_of 20 (packet 1 1 0 0) ∷ after 255 0) 30 (packet 1 0 0 0) ≡ Some OutOfSequence
+wrap_order_0 : reason (entry_of 20 (packet 1 1 0 0) ∷ after 255 0) 30 (packet 1 0 0 0)
+    ≡ Some OutOfSequence
 wrap_order_0 = refl
 
 -- sequence_edges
@@ -77,7 +84,11 @@ older_3500 = refl
 
 -- four_sources
 abbrev four : List Entry
-four = entry_of 3 (packet 4 0 0 0) ∷ entry_of 2 (packet 3 0 0 0) ∷ entry_of 1 (packet 2 0 0 0) ∷ entry_of 0 (packet 1 0 0x40 0) ∷ []
+four = entry_of 3 (packet 4 0 0 0) ∷ entry_of 2 (packet 3 0 0 0) ∷ entry_of 1
+    (packet 2 0 0 0) ∷ entry_of 0 (packet 1 0 0x40 0) ∷ []
+
+fourth_3 : reason (drop 1 four) 3 (packet 4 0 0 0) ≡ None
+fourth_3 = refl
 
 fifth_2499 : reason four 2499 (packet 5 0 0 0) ≡ Some SourcesFull
 fifth_2499 = refl
@@ -111,7 +122,17 @@ again_shows = refl
 abbrev bytes : ℕ → ℕ → ℕ → ℕ → List ℕ
 bytes priority options universe start =
     root_layer 512 (replicate 16 1)
-    ++ framing_layer 512 (record { cid = replicate 16 1; name = replicate 64 0; priority = priority; sync = 0; sequence = 0; options = options; universe = universe; start = start })
+    ++ framing_layer 512 (record {
+      cid = replicate 16 1;
+      name = replicate 64 0;
+      priority =
+          priority;
+      sync = 0;
+      sequence = 0;
+      options = options;
+      universe = universe;
+      start = start;
+    })
     ++ dmp_layer 512 start (9 ∷ replicate 511 0)
 
 abbrev kind : ℕ → ℕ → ℕ → ℕ → Option Ignored
@@ -148,6 +169,37 @@ backwards = refl
 backwards_keeps : last_moment (heard 4 1 (after 0 1000) 999 (bytes 100 0 1 0)) ≡ 1000
 backwards_keeps = refl
 
+-- what comes before the last moment is in no history of a receiver, though the source rule alone
+-- accepts it
+backwards_heard : map (λ e. e.moment) (heard 4 1 (after 0 1000) 999 (bytes 100 0 1 0)) ≡ 1000 ∷ []
+backwards_heard = refl
+
+backwards_accepted : map (λ e. e.moment) (accepted 4 (entry_of 999 (packet 2 0 0 0) ∷ after 0 1000))
+    ≡ 999 ∷ 1000 ∷ []
+backwards_accepted = refl
+
+-- datagrams of which a receiver of universe 1 hears some: of universes 1, 2, 1 and 1, the last one
+-- for no stage
+abbrev arrivals : List Arrival
+arrivals =
+    record { moment = 30; datagram = bytes 100 0x80 1 0 } ∷ record {
+      moment = 20;
+      datagram =
+          bytes 100 0x40 1 0;
+    }
+    ∷ record { moment = 20; datagram = bytes 100 0 2 0 } ∷ record {
+      moment = 10;
+      datagram =
+          bytes 100 0 1 0;
+    } ∷ []
+
+arrivals_heard : map (is_heard 1) arrivals ≡ false ∷ true ∷ false ∷ true ∷ []
+arrivals_heard = refl
+
+-- both packets that are heard have number 0, so the second one is ignored
+arrivals_accepted : map (λ e. e.moment) (heard_all 4 1 arrivals) ≡ 10 ∷ []
+arrivals_accepted = refl
+
 -- lost_third_send: of the numbers 0, 1, 2, 3 the third is lost
 abbrev at_200 : ℕ → Packet
 at_200 number = packet 1 number 0 200
@@ -155,12 +207,17 @@ at_200 number = packet 1 number 0 200
 lost_third_taken : reason (entry_of 25 (at_200 1) ∷ entry_of 0 (at_200 0) ∷ []) 75 (at_200 3) ≡ None
 lost_third_taken = refl
 
-lost_third_shows : shown (entry_of 75 (at_200 3) ∷ entry_of 25 (at_200 1) ∷ entry_of 0 (at_200 0) ∷ []) 75 0 ≡ 200
+lost_third_shows : shown (entry_of 75 (at_200 3) ∷ entry_of 25 (at_200 1) ∷ entry_of 0
+    (at_200 0) ∷ []) 75 0 ≡ 200
 lost_third_shows = refl
 
--- two_consoles_highest, two_consoles_priority and silent_console: what a receiver shows of two sources
+-- two_consoles_highest, two_consoles_priority and silent_console: what a receiver shows of two
+-- sources
 abbrev two : ℕ → ℕ → List Entry
-two priority t = entry_of t (packet 1 0 0 128) ∷ record (entry_of 0 (packet 2 0 0 64)) { priority = priority } ∷ []
+two priority t = entry_of t (packet 1 0 0 128) ∷ record (entry_of 0 (packet 2 0 0 64)) {
+  priority =
+      priority;
+} ∷ []
 
 two_consoles_highest : shown (two 100 0) 0 0 ≡ 128
 two_consoles_highest = refl

@@ -5,7 +5,11 @@ use Rattle.sacn_receiver.specs.Records.{entries}
 use Rattle.sacn_receiver.specs.Places.{AreApart}
 
 abbrev pub receiver_view : Inside → Kept
-receiver_view r = record { universe = r.universe; latest = r.latest; records = entries r.records.items }
+receiver_view r = record {
+  universe = r.universe;
+  latest = r.latest;
+  records = entries r.records.items;
+}
 
 -- no two records are of one CID
 abbrev pub IsReceiver : Inside → Type 0

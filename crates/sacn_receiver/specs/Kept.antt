@@ -2,7 +2,8 @@
 use Rattle.std.specs.Prelude.{◌≡◌, ℕ, ◌≤◌, List}
 use Rattle.sacn_receiver.specs.Source.{Entry, record_of, last_moment}
 
--- its universe, the moment of the last packet that it accepted (0 before), and at most one packet of each CID, in no order
+-- its universe, the moment of the last packet that it accepted (0 before), and at most one packet
+-- of each CID, in no order
 pub record Kept : Type 0 where
   pub universe : ℕ
   pub latest : ℕ
@@ -11,4 +12,5 @@ pub record Kept : Type 0 where
 -- a receiver stands for a history: from now on, each CID has the record that the history gives it
 pub record StandsFor (r : Kept) (h : List Entry) : Type 0 where
   pub latest_is : r.latest ≡ last_moment h
-  pub records_are : (t : ℕ) (cid : List ℕ) → r.latest ≤ t → record_of r.records t cid ≡ record_of h t cid
+  pub records_are : (t : ℕ) (cid : List ℕ) → r.latest ≤ t
+      → record_of r.records t cid ≡ record_of h t cid

@@ -1,29 +1,33 @@
 -- Laws over the definitions alone.
-use Rattle.std.specs.Prelude.{◌≡◌, ◌↔◌, ℕ, ◌≤◌, false, List, [], ◌∷◌, length, if◌then◌else◌, filter, find, Some, All, Contains}
+use Rattle.std.specs.Prelude.{◌≡◌, ◌↔◌, ℕ, ◌≤◌, false, List, [], ◌∷◌, length, if◌then◌else◌, filter}
+use Rattle.std.specs.Prelude.{find, Some, All, Contains}
 use Rattle.sacn_receiver.specs.Source.{Entry, same_cid, record_of, is_accepted}
 use Rattle.sacn_receiver.specs.Shown.{Light, live, merged}
 use Rattle.sacn_receiver.specs.Taking.{answer}
 use Rattle.sacn_receiver.specs.Places.{AreApart}
-use Rattle.sacn_receiver.specs.Arrivals.{Arrival, heard_all, NeverFall, cid_of, is_from, HeardAreFrom, packets_heard}
+use Rattle.sacn_receiver.specs.Arrivals.{Arrival, heard_all, NeverFall, cid_of, is_from}
+use Rattle.sacn_receiver.specs.Arrivals.{HeardAreFrom, packets_heard}
 
--- these packets, the newest first, without those that the source rule does not accept. It knows nothing of a packet that comes
--- before the last moment: where the moments never fall, it is the history of a receiver to which the packets come
--- (`HeardAreAccepted`)
+-- these packets without those that the source rule does not accept, the newest first. Where their
+-- moments never fall, this is the history of a receiver to which they come (`HeardAreAccepted`). It
+-- is none where they do: a packet from before the last moment, which a receiver ignores, may stand
+-- in it
 abbrev pub accepted : ℕ → List Entry → List Entry
 accepted room [] = []
 accepted room (e ∷ older) =
     if is_accepted room (accepted room older) e.moment e.cid e.number then e ∷ accepted room older
     else accepted room older
 
--- the history of a receiver is of its packets: where the moments never fall, it is the one that the source rule alone makes of
--- those packets that are heard
+-- where the moments never fall, the history of a receiver is what the source rule alone accepts of
+-- the packets that are heard
 abbrev pub HeardAreAccepted : Type 0
 HeardAreAccepted =
     (room universe : ℕ) (arrivals : List Arrival) → NeverFall arrivals
     → heard_all room universe arrivals ≡ accepted room (packets_heard universe arrivals)
 
--- sources are independent: where all packets come from no more sources than there is room for, the newest accepted packet of
--- a source is the one that it would be if the packets of that source alone had come
+-- sources are independent: where all packets come from no more sources than there is room for, the
+-- newest accepted packet of a source is the one that it would be if the packets of that source
+-- alone had come
 abbrev pub SourcesAreIndependent : Type 0
 SourcesAreIndependent =
     (room : ℕ) (cids : List (List ℕ)) (packets : List Entry)
@@ -32,9 +36,9 @@ SourcesAreIndependent =
     → find (same_cid cid) (accepted room packets)
     ≡ find (same_cid cid) (accepted room (filter (same_cid cid) packets))
 
--- the same of the receiver's own history, over datagrams: where their moments never fall, and those that are heard come from
--- no more sources than there is room for, the newest accepted packet of a source is the one that it would be if the datagrams
--- of that source alone had come
+-- the same of the receiver's own history, over datagrams: where their moments never fall, and those
+-- that are heard come from no more sources than there is room for, the newest accepted packet of a
+-- source is the one that it would be if the datagrams of that source alone had come
 abbrev pub RecordsAreIndependent : Type 0
 RecordsAreIndependent =
     (room universe : ℕ) (cids : List (List ℕ)) (arrivals : List Arrival)
@@ -43,13 +47,15 @@ RecordsAreIndependent =
     → find (same_cid cid) (heard_all room universe arrivals)
     ≡ find (same_cid cid) (heard_all room universe (filter (is_from cid) arrivals))
 
--- and of the answers: a datagram is answered as if the datagrams of its source alone had come before it
+-- and of the answers: a datagram is answered as if the datagrams of its source alone had come
+-- before it
 abbrev pub AnswersAreIndependent : Type 0
 AnswersAreIndependent =
     (room universe : ℕ) (cids : List (List ℕ)) (a : Arrival) (older : List Arrival)
     → length cids ≤ room → HeardAreFrom cids universe (a ∷ older) → NeverFall (a ∷ older)
     → answer room universe (heard_all room universe older) a.moment a.datagram
-    ≡ answer room universe (heard_all room universe (filter (is_from (cid_of a)) older)) a.moment a.datagram
+    ≡ (let own = filter (is_from (cid_of a)) older in
+    answer room universe (heard_all room universe own) a.moment a.datagram)
 
 -- a live record is the record of its CID that is there, and no termination
 abbrev pub LiveAreRecords : Type 0

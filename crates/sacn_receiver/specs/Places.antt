@@ -1,5 +1,7 @@
--- Where a receiver keeps a new packet: in place of its CID's older one, of one that is gone, or behind all.
-use Rattle.std.specs.Prelude.{◌≡◌, ℕ, ◌+◌, ◌<◌, ◌≤◌, true, false, not, ◌||◌, List, [], ◌∷◌, ◌++◌, length, take, drop, filter, find, None}
+-- Where a receiver keeps a new packet: in place of its CID's older one, of one that is gone, or
+-- behind all.
+use Rattle.std.specs.Prelude.{◌≡◌, ℕ, ◌+◌, ◌<◌, ◌≤◌, true, false, not, ◌||◌, List, [], ◌∷◌, ◌++◌}
+use Rattle.std.specs.Prelude.{length, take, drop, filter, find, None}
 use Rattle.sacn_receiver.specs.Source.{Entry, same_cid, is_there}
 
 -- at most one of each CID

@@ -24,8 +24,8 @@ light_of e = record { priority = e.priority; slots = e.slots }
 abbrev pub leading : List Light → List Light
 leading lights = filter (λ l. l.priority == greatest (map (λ m. m.priority) lights)) lights
 
--- slot s, counted from 0, of all of them together: the greatest value among those of the greatest priority, 0 where
--- there is none (E1.31-2018, requirements for merging and arbitrating)
+-- slot s, counted from 0, of all of them together: the greatest value among those of the greatest
+-- priority, 0 where there is none (E1.31-2018, requirements for merging and arbitrating)
 abbrev pub merged : List Light → ℕ → ℕ
 merged lights s = greatest (map (λ l. slice_index l.slots s) (leading lights))
 

@@ -1,12 +1,16 @@
 -- What a receiver makes of a datagram: the packet in it, whether it is accepted, and why not.
-use Rattle.std.specs.Prelude.{ℕ, ◌-◌, ◌==◌, Bool, not, ◌&&◌, List, ◌∷◌, ◌++◌, length, replicate, nat_lt, bit_and, if◌then◌else◌, Option, Some, None, Result, Ok, Err}
+use Rattle.std.specs.Prelude.{ℕ, ◌-◌, ◌==◌, Bool, not, ◌&&◌, List, ◌∷◌, ◌++◌, length, replicate}
+use Rattle.std.specs.Prelude.{nat_lt, bit_and, if◌then◌else◌, Option, Some, None, Result, Ok, Err}
 use Rattle.std.specs.Option.{option_or, option_map, option_map_or}
 use Rattle.sacn_packet.specs.Wire.{Packet}
 use Rattle.sacn_packet.specs.Reading.{front_packet}
 use Rattle.sacn_packet.specs.Faults.{fault_of}
 use Rattle.sacn_receiver.specs.declared.answer.Taken.{Taken}
 use Rattle.sacn_receiver.specs.declared.answer.Ignored.{Ignored}
-use Rattle.sacn_receiver.specs.declared.answer.Ignored.TheVariants.{Backwards, Unreadable, OtherUniverse, Preview, AltStart, OutOfSequence, SourcesFull}
+use Rattle.sacn_receiver.specs.declared.answer.Ignored.TheVariants.{Backwards, Unreadable}
+use Rattle.sacn_receiver.specs.declared.answer.Ignored.TheVariants.{OtherUniverse, Preview}
+use Rattle.sacn_receiver.specs.declared.answer.Ignored.TheVariants.{AltStart, OutOfSequence}
+use Rattle.sacn_receiver.specs.declared.answer.Ignored.TheVariants.{SourcesFull}
 use Rattle.sacn_receiver.specs.Source.{Entry, is_accepted, record_of, last_moment}
 
 -- levels that are not for the stage (E1.31-2018, options: Preview_Data)
@@ -17,7 +21,8 @@ is_preview p = not (bit_and p.fields.options 0x80 == 0)
 abbrev pub is_termination : Packet → Bool
 is_termination p = not (bit_and p.fields.options 0x40 == 0)
 
--- the slots carry something else than levels, under an alternate START code; a termination's slots do not matter
+-- the slots carry something else than levels, under an alternate START code; a termination's slots
+-- do not matter
 abbrev pub is_alternate : Packet → Bool
 is_alternate p = not (p.fields.start == 0) && not (is_termination p)
 
@@ -32,7 +37,8 @@ entry_of t p = record {
   ended = is_termination p;
 }
 
--- why the source rule does not accept a packet: with a record of its CID it is the number, without one the room
+-- why the source rule does not accept a packet: with a record of its CID it is the number, without
+-- one the room
 abbrev pub reason_of : Option Entry → Ignored
 reason_of None = SourcesFull
 reason_of (Some e) = OutOfSequence
@@ -73,4 +79,5 @@ answer room universe h t datagram =
 -- the history after a datagram: only what is accepted lengthens it
 abbrev pub heard : ℕ → ℕ → List Entry → ℕ → List ℕ → List Entry
 heard room universe h t datagram =
-    option_map_or (λ _. h) (ignored room universe h t datagram) (entry_of t (front_packet datagram) ∷ h)
+    option_map_or (λ _. h) (ignored room universe h t datagram)
+    (entry_of t (front_packet datagram) ∷ h)

@@ -29,19 +29,20 @@ pub enum Ignored {
     /// Its START code is not 0, and it is no termination (E1.31-2018, START code).
     #[error("AltStart")]
     AltStart,
-    /// Its number is that of the source's last accepted packet, or up to 19 behind (E1.31-2018, sequence numbering).
+    /// Its number is that of the source's last accepted packet, or up to 19 behind (E1.31-2018,
+    /// sequence numbering).
     #[error("OutOfSequence")]
     OutOfSequence,
-    /// Its source is new, and there are as many sources as the receiver has room for (E1.31-2018, requirements for
-    /// sources exceeded resolution).
+    /// Its source is new, and there are as many sources as the receiver has room for (E1.31-2018,
+    /// requirements for sources exceeded resolution).
     #[error("SourcesFull")]
     SourcesFull,
 }
 
 impl From<sacn_packet::Unreadable> for Ignored {
-    ghost use Rattle.sacn_receiver.specs.declared.answer.Ignored.TheVariants.{Unreadable as unreadable};
+    ghost use Rattle.sacn_receiver.specs.declared.answer.Ignored.TheVariants as reason;
 
-    ghost from_gives = { λ fault e. e ≡ unreadable fault };
+    ghost from_gives = { λ fault e. e ≡ reason.Unreadable fault };
 
     fn from(fault: sacn_packet::Unreadable) -> Ignored {
         Ignored::Unreadable(fault)

@@ -1,28 +1,31 @@
-//! What holds of every receiver, whatever comes to it. Each law is the contract of a function that does nothing: call it
-//! where its fact is wanted.
+//! What holds of every receiver, whatever comes to it. Each law is the contract of a function that
+//! does nothing: call it where its fact is wanted.
 
-ghost use Rattle.sacn_receiver.specs.Laws.{HeardAreAccepted, SourcesAreIndependent, RecordsAreIndependent};
-ghost use Rattle.sacn_receiver.specs.Laws.{AnswersAreIndependent, LiveAreRecords, LiveAreApart, MergeIsByMembership};
+ghost use Rattle.sacn_receiver.specs.Laws.{HeardAreAccepted, SourcesAreIndependent};
+ghost use Rattle.sacn_receiver.specs.Laws.{RecordsAreIndependent, AnswersAreIndependent};
+ghost use Rattle.sacn_receiver.specs.Laws.{LiveAreRecords, LiveAreApart, MergeIsByMembership};
 
-/// A receiver whose moments never fall accepts what the source rule alone accepts of the packets that it hears.
+/// A receiver whose moments never fall accepts what the source rule alone accepts of the packets
+/// that it hears.
 pub fn heard_are_accepted()
     ensures { HeardAreAccepted }
 {}
 
-/// With no more sources than there is room for, what a receiver keeps of a source depends on the packets of that source
-/// alone. This speaks of packets whose moments never fall; `records_are_independent` speaks of datagrams.
+/// With no more sources than there is room for, what the source rule accepts of a source depends on
+/// the packets of that source alone. For packets whose moments never fall this is what a receiver
+/// keeps; `records_are_independent` says it of datagrams.
 pub fn sources_are_independent()
     ensures { SourcesAreIndependent }
 {}
 
-/// With no more sources than there is room for, and moments that never fall, what a receiver keeps of a source depends on
-/// the datagrams of that source alone, whatever else comes that is not heard.
+/// With no more sources than there is room for, and moments that never fall, what a receiver keeps
+/// of a source depends on the datagrams of that source alone. What is not heard counts for none.
 pub fn records_are_independent()
     ensures { RecordsAreIndependent }
 {}
 
-/// With no more sources than there is room for, and moments that never fall, `Receiver::take` answers to a datagram as if
-/// those of its source alone had come before.
+/// With no more sources than there is room for, and moments that never fall, `Receiver::take`
+/// answers to a datagram as if those of its source alone had come before.
 pub fn answers_are_independent()
     ensures { AnswersAreIndependent }
 {}

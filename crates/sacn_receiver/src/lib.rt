@@ -1,4 +1,5 @@
-//! A receiver of one E1.31 universe: which packets of its sources it accepts, and the levels that they make together.
+//! A receiver of one E1.31 universe: which packets of its sources it accepts, and the levels that
+//! they make together.
 #![tactic(auto)]
 
 mod answer;

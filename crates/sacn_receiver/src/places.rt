@@ -1,4 +1,5 @@
-ghost use Rattle.std.specs.Prelude.{◌≡◌, ◌≤◌, ◌<◌, not, nat_lt, length, drop, filter, is_some, IfSome, IfOk};
+ghost use Rattle.std.specs.Prelude.{◌≡◌, ◌≤◌, ◌<◌, not, nat_lt, length, drop, filter, is_some};
+ghost use Rattle.std.specs.Prelude.{IfSome, IfOk};
 ghost use Rattle.std.specs.List.{position};
 ghost use Rattle.std.specs.Result.{result_err};
 ghost use Rattle.arrayvec.specs.ArrayVec.{array_vec_len};
@@ -23,8 +24,10 @@ fn known_place(records: &[Record], cid: &[u8; 16]) -> Option<usize>
 // A place for a new source: that of a record that is gone, else behind all.
 fn free_place(records: &[Record], moment: u64) -> Option<usize>
     requires { length records.now ≤ 4 }
-    ensures there_is { is_some result ≡ nat_lt (length (filter (source.is_there moment) (entries records.now))) 4 }
-    ensures place { IfSome result (λ place. (place < 4) × (place ≤ length records.now) × IsGone moment (drop place (entries records.now))) }
+    ensures there_is { is_some result
+        ≡ nat_lt (length (filter (source.is_there moment) (entries records.now))) 4 }
+    ensures place { IfSome result (λ place. (place < 4) × (place ≤ length records.now)
+        × IsGone moment (drop place (entries records.now))) }
 {
     match gone_place(records, moment) {
         Some(place) => Some(place),

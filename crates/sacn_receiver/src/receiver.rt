@@ -55,8 +55,8 @@ impl Receiver {
         }
     }
 
-    /// Takes a datagram that came at `moment`. Its packet, where it is accepted, takes the place of the one kept of its
-    /// source.
+    /// Takes a datagram that came at `moment`. Its packet, where it is accepted, takes the place of
+    /// the one kept of its source.
     ///
     /// # Errors
     ///
@@ -87,8 +87,8 @@ impl Receiver {
         })
     }
 
-    /// Writes the levels of the 512 slots at `moment`: of the live sources, those of the greatest priority, and of these
-    /// the greatest level, slot by slot; zeros where no source is live.
+    /// Writes the levels of the 512 slots at `moment`: of the live sources, those of the greatest
+    /// priority, and of these the greatest level, slot by slot; zeros where no source is live.
     pub fn slots(&self, moment: u64, out: &mut [u8; 512])
         requires { self.now.latest ≤ moment }
         ensures { (h : List Entry) → StandsFor self.now h → out.new ≡ shown_slots h moment }
@@ -96,8 +96,8 @@ impl Receiver {
         merge(self.records.as_slice(), moment, out);
     }
 
-    /// How many sources are live at `moment`: less than 2,500 ms ago a packet of theirs was accepted, and it was no
-    /// termination.
+    /// How many sources are live at `moment`: less than 2,500 ms ago a packet of theirs was
+    /// accepted, and it was no termination.
     pub fn live(&self, moment: u64) -> usize
         requires { self.now.latest ≤ moment }
         ensures { (h : List Entry) → StandsFor self.now h → result ≡ length (live h moment) }

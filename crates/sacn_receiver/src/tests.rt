@@ -151,7 +151,8 @@ fn stranger_termination(rt: HostRuntime) {
     assert_eq!(rt; shown(&rt, &receiver, 5040), (9, 1));
 }
 
-// Options, universe, START code and priority of a packet, and its answer to a receiver of universe 1.
+// Options, universe, START code and priority of a packet, and its answer to a receiver of universe
+// 1.
 #[test]
 fn ignored_kinds(rt: HostRuntime) {
     let taken = |terminated| {
@@ -209,8 +210,9 @@ fn lost_third_send(rt: HostRuntime) {
     assert_eq!(rt; shown(&rt, &receiver, 75), (200, 1));
 }
 
-// A terminated record holds its place for 2,500 ms, and its priority does not count. Moment, source, priority, options,
-// answer, and then the first slot and the number of live sources. Each source's level is its number.
+// A terminated record holds its place for 2,500 ms, and its priority does not count. Moment,
+// source, priority, options, answer, and then the first slot and the number of live sources. Each
+// source's level is its number.
 #[test]
 fn terminated_records(rt: HostRuntime) {
     let mut receiver = Receiver::new(1);
