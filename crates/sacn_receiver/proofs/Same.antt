@@ -54,7 +54,8 @@ same_count t g h s =
     omega (
       arith,
       fewer (records g t) (records h t) (records_apart g t) (same_members t g h s),
-      fewer (records h t) (records g t) (records_apart h t) (same_members t h g (other_way t g h s)),
+      fewer (records h t) (records g t) (records_apart h t)
+          (same_members t h g (other_way t g h s)),
     )
 
 live_members : (t : ℕ) (g h : List Entry) → AreSame t g h → (e : Entry) → In e (live g t)

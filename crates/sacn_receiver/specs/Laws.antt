@@ -9,9 +9,9 @@ use Rattle.sacn_receiver.specs.Arrivals.{Arrival, heard_all, NeverFall, cid_of, 
 use Rattle.sacn_receiver.specs.Arrivals.{HeardAreFrom, packets_heard}
 
 -- these packets without those that the source rule does not accept, the newest first. Where their
--- moments never fall, this is the history of a receiver to which they come (`HeardAreAccepted`). It
--- is none where they do: a packet from before the last moment, which a receiver ignores, may stand
--- in it
+-- moments never fall, this is the history of a receiver to which they come (`HeardAreAccepted`).
+-- Where they fall it need not be: a receiver ignores a packet from before its last moment, and the
+-- source rule alone does not
 abbrev pub accepted : ℕ → List Entry → List Entry
 accepted room [] = []
 accepted room (e ∷ older) =
@@ -27,7 +27,7 @@ HeardAreAccepted =
 
 -- sources are independent: where all packets come from no more sources than there is room for, the
 -- newest accepted packet of a source is the one that it would be if the packets of that source
--- alone had come
+-- alone had come. What holds of a receiver to which datagrams come is `RecordsAreIndependent`
 abbrev pub SourcesAreIndependent : Type 0
 SourcesAreIndependent =
     (room : ℕ) (cids : List (List ℕ)) (packets : List Entry)
@@ -36,7 +36,7 @@ SourcesAreIndependent =
     → find (same_cid cid) (accepted room packets)
     ≡ find (same_cid cid) (accepted room (filter (same_cid cid) packets))
 
--- the same of the receiver's own history, over datagrams: where their moments never fall, and those
+-- the same of a receiver's own history, over datagrams: where their moments never fall, and those
 -- that are heard come from no more sources than there is room for, the newest accepted packet of a
 -- source is the one that it would be if the datagrams of that source alone had come
 abbrev pub RecordsAreIndependent : Type 0

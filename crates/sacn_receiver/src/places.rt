@@ -84,7 +84,8 @@ pub(crate) fn keep_at(
     requires within { place ≤ array_vec_len records.old }
     requires room { place < 4 }
     requires slots { length packet.now.slots ≤ 512 }
-    ensures { entries records.new.items ≡ put (entries records.old.items) place (entry_of moment packet.now) }
+    ensures { entries records.new.items
+        ≡ put (entries records.old.items) place (entry_of moment packet.now) }
 {
     if let Some(record) = records.get_mut(place) {
         record.keep(moment, packet);
