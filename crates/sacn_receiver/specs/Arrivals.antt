@@ -32,19 +32,21 @@ abbrev pub NeverFall : List Arrival → Type 0
 NeverFall [] = Unit {0}
 NeverFall (a ∷ older) = (last_arrival older ≤ a.moment) × NeverFall older
 
--- why a datagram is not heard on a universe, whatever came before: it holds no data packet, or none
--- that is meant for it
+-- why a datagram is not heard on a universe, whatever came before: there is no data packet in it, or
+-- one that is not meant for the universe's stage
 abbrev pub not_heard : ℕ → List ℕ → Option Ignored
 not_heard universe datagram =
     option_or (option_map Unreadable (fault_of datagram)) (unheard universe (front_packet datagram))
 
+-- it is heard: there is a packet of the universe in it, with data for the stage
 abbrev pub is_heard : ℕ → Arrival → Bool
 is_heard universe a = is_none (not_heard universe a.datagram)
 
--- the CID of the source that it comes from, as its packet has it
+-- the CID of the source that it comes from, as its packet has it; without a packet it says nothing
 abbrev pub cid_of : Arrival → List ℕ
 cid_of a = (front_packet a.datagram).fields.cid
 
+-- it comes from the source with this CID
 abbrev pub is_from : List ℕ → Arrival → Bool
 is_from cid a = bytes_eq cid (cid_of a)
 
