@@ -1,1 +1,3 @@
-pub mod Tells
+pub mod Tape
+pub mod Send
+pub mod Sends

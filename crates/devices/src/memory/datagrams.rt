@@ -1,31 +1,33 @@
-ghost use Rattle.std.specs.Prelude.{◌≡◌, ◌+◌, ◌<◌, ◌≤◌, ◌^◌, false, length, map, take};
+ghost use Rattle.std.specs.Prelude.{◌≡◌, ◌≤◌, false, length, map, take};
 
+use crate::memory::Faults;
 use crate::{Datagrams, LinkFault};
 
-/// A source over memory: some calls pass, some then fail, and all later ones pass. It stops telling
-/// where a datagram is asked for after the last one, and fails there too.
-#[derive(Drop)]
+/// A source of datagrams over memory. It stops telling where a datagram is asked for after the last
+/// one, and fails there too.
+#[derive(Debug, Drop)]
 pub struct MemoryDatagrams<'a> {
     datagrams: &'a [&'a [u8]],
     next: usize,
+    /// A datagram was asked for after the last one.
     pub exhausted: bool,
-    pub failed: u64,
-    passing: u64,
-    failing: u64,
-    ghost counted: { failed + failing < 2 ^ 64 },
+    pub faults: Faults,
     ghost within: { next ≤ length datagrams.now },
 }
 
 impl<'a> MemoryDatagrams<'a> {
-    /// The first `passing` calls pass, and the next `failing` ones fail.
-    pub fn new(datagrams: &'a [&'a [u8]], passing: u64, failing: u64) -> Self {
+    /// A source of which the first `passing` calls pass, and the next `failing` ones fail.
+    pub fn new(datagrams: &'a [&'a [u8]], passing: u64, failing: u64) -> Self
+        ensures tells { result.exhausted ≡ false }
+        ensures passing { result.faults.passing ≡ passing }
+        ensures failing { result.faults.failing ≡ failing }
+        ensures unfailed { result.faults.failed ≡ 0 }
+    {
         MemoryDatagrams {
             datagrams,
             next: 0,
             exhausted: false,
-            failed: 0,
-            passing,
-            failing,
+            faults: Faults::new(passing, failing),
         }
     }
 }
@@ -33,19 +35,14 @@ impl<'a> MemoryDatagrams<'a> {
 impl Datagrams for MemoryDatagrams<'_> {
     ghost tells = { λ m. m.exhausted ≡ false };
 
-    ghost given = { λ m. map (λ d. take 1500 d.now) (take m.next m.datagrams.now) };
-
-    ghost failures = { λ m. m.failed };
+    ghost tape = { λ m. record {
+      items = map (λ d. take 1500 d.now) (take m.next m.datagrams.now);
+      failures = m.faults.failed;
+    } };
 
     #[tactic(auto, using(std::proofs::lemmas::List::map_more))]
     fn receive(&mut self, buf: &mut [u8; 1500]) -> Result<usize, LinkFault> {
-        if self.passing > 0 {
-            self.passing -= 1;
-        } else if self.failing > 0 {
-            self.failing -= 1;
-            self.failed += 1;
-            return Err(LinkFault);
-        }
+        self.faults.count()?;
         if self.next == self.datagrams.len() {
             self.exhausted = true;
             return Err(LinkFault);

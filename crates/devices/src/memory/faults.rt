@@ -1,0 +1,50 @@
+ghost use Rattle.std.specs.Prelude.{◌≡◌, ◌+◌, ◌-◌, ◌<◌, ◌^◌, ◌↔◌, IsErr, OnOk, OnErr};
+
+use crate::LinkFault;
+
+/// Which calls of a device fail: the next `passing` pass, then `failing` fail, and all later ones
+/// pass.
+#[derive(Clone, Copy, Debug, PartialEq, Eq)]
+pub struct Faults {
+    pub passing: u64,
+    pub failing: u64,
+    /// How many calls have failed so far.
+    pub failed: u64,
+    pub ghost counted: { failed + failing < 2 ^ 64 },
+}
+
+impl Faults {
+    /// Before the first call.
+    pub fn new(passing: u64, failing: u64) -> Faults
+        ensures passing { result.passing ≡ passing }
+        ensures failing { result.failing ≡ failing }
+        ensures failed { result.failed ≡ 0 }
+    {
+        Faults {
+            passing,
+            failing,
+            failed: 0,
+        }
+    }
+
+    /// Counts a call, and fails where it is one of those that fail.
+    pub fn count(&mut self) -> Result<(), LinkFault>
+        ensures fails { IsErr result ↔ (self.old.passing ≡ 0) × (0 < self.old.failing) }
+        ensures passing { self.new.passing ≡ self.old.passing - 1 }
+        ensures passes { OnOk result ((self.new.failing ≡ self.old.failing)
+            × (self.new.failed ≡ self.old.failed)) }
+        ensures failed { OnErr result ((self.new.failing ≡ self.old.failing - 1)
+            × (self.new.failed ≡ self.old.failed + 1)) }
+    {
+        if self.passing > 0 {
+            self.passing -= 1;
+            return Ok(());
+        }
+        if self.failing == 0 {
+            return Ok(());
+        }
+        self.failing -= 1;
+        self.failed += 1;
+        Err(LinkFault)
+    }
+}

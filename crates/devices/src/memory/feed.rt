@@ -1,0 +1,51 @@
+ghost use Rattle.std.specs.Prelude.{◌≡◌, ◌≤◌, length, take, ⊤};
+
+use crate::memory::Faults;
+use crate::{Feed, LinkFault};
+
+/// A feed over memory.
+#[derive(Debug, Drop)]
+pub struct MemoryFeed<'a> {
+    bytes: &'a [u8],
+    next: usize,
+    step: usize,
+    pub faults: Faults,
+    ghost within: { next ≤ length bytes.now },
+    ghost some: { 1 ≤ step },
+}
+
+impl<'a> MemoryFeed<'a> {
+    /// A feed that gives at most `step` bytes by a call, and of which the first `passing` calls
+    /// pass, and the next `failing` ones fail.
+    pub fn new(bytes: &'a [u8], step: usize, passing: u64, failing: u64) -> Self
+        requires { 1 ≤ step }
+        ensures passing { result.faults.passing ≡ passing }
+        ensures failing { result.faults.failing ≡ failing }
+        ensures unfailed { result.faults.failed ≡ 0 }
+    {
+        MemoryFeed {
+            bytes,
+            next: 0,
+            step,
+            faults: Faults::new(passing, failing),
+        }
+    }
+}
+
+impl Feed for MemoryFeed<'_> {
+    ghost tells = { λ _. ⊤ };
+
+    ghost tape = { λ m. record { items = take m.next m.bytes.now; failures = m.faults.failed } };
+
+    ghost ended = { λ m. m.next ≡ length m.bytes.now };
+
+    fn read(&mut self, buf: &mut [u8; 4096]) -> Result<usize, LinkFault> {
+        self.faults.count()?;
+        let left = self.bytes.len() - self.next;
+        let count = left.min(self.step).min(buf.len());
+        let end = self.next + count;
+        buf[..count].copy_from_slice(&self.bytes[self.next..end]);
+        self.next = end;
+        Ok(count)
+    }
+}

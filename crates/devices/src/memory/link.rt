@@ -1,0 +1,77 @@
+ghost use Rattle.std.specs.Prelude.{◌≡◌, [], ◌∷◌, ◌++◌, false, map, OnOk};
+ghost use Rattle.devices.specs.Sends.{send_of};
+
+use crate::memory::Faults;
+use crate::{Link, LinkFault};
+use std::alloc::{AllocError, Global};
+
+/// One send that a link over memory was offered.
+#[derive(Debug, Drop)]
+pub struct MemorySend {
+    pub universe: u16,
+    pub bytes: Vec<u8>,
+    pub failed: bool,
+}
+
+/// A link over memory. It stops telling where memory for a packet is refused.
+#[derive(Debug, Drop)]
+pub struct MemoryLink {
+    alloc: Global,
+    /// What it was offered, the first first.
+    pub sends: Vec<MemorySend>,
+    /// Memory was refused: sends are missing.
+    pub full: bool,
+    pub faults: Faults,
+}
+
+impl MemoryLink {
+    /// A link of which the first `passing` sends pass, and the next `failing` ones fail.
+    pub fn new(alloc: Global, passing: u64, failing: u64) -> Self
+        ensures empty { result.sends.items ≡ [] }
+        ensures tells { result.full ≡ false }
+        ensures passing { result.faults.passing ≡ passing }
+        ensures failing { result.faults.failing ≡ failing }
+        ensures unfailed { result.faults.failed ≡ 0 }
+    {
+        MemoryLink {
+            alloc,
+            sends: Vec::new(alloc),
+            full: false,
+            faults: Faults::new(passing, failing),
+        }
+    }
+}
+
+fn keep(
+    alloc: Global,
+    sends: &mut Vec<MemorySend>,
+    universe: u16,
+    bytes: &[u8],
+    failed: bool,
+) -> Result<(), AllocError>
+    ensures { OnOk result (map send_of sends.new.items ≡ map send_of sends.old.items
+        ++ record { universe = universe; bytes = bytes.now; failed = failed } ∷ []) }
+{
+    let bytes = Vec::from_slice(alloc, bytes)?;
+    sends.push(MemorySend {
+        universe,
+        bytes,
+        failed,
+    })?;
+    Ok(())
+}
+
+impl Link for MemoryLink {
+    ghost tells = { λ m. m.full ≡ false };
+
+    ghost offered = { λ m. map send_of m.sends.items };
+
+    fn send(&mut self, universe: u16, bytes: &[u8]) -> Result<(), LinkFault> {
+        let counted = self.faults.count();
+        let failed = counted.is_err();
+        if keep(self.alloc, &mut self.sends, universe, bytes, failed).is_err() {
+            self.full = true;
+        }
+        counted
+    }
+}

@@ -1,0 +1,47 @@
+ghost use Rattle.std.specs.Prelude.{◌≡◌, [], false};
+ghost use Rattle.devices.specs.Tape.{Tape};
+
+use crate::memory::Faults;
+use crate::{LinkFault, Output};
+use std::alloc::Global;
+
+/// An output over memory. It stops telling where memory for the bytes is refused.
+#[derive(Debug, Drop)]
+pub struct MemoryOutput {
+    /// What it took.
+    pub bytes: Vec<u8>,
+    /// Memory was refused: bytes are missing.
+    pub full: bool,
+    pub faults: Faults,
+}
+
+impl MemoryOutput {
+    /// An output of which the first `passing` writes pass, and the next `failing` ones fail.
+    pub fn new(alloc: Global, passing: u64, failing: u64) -> Self
+        ensures empty { result.bytes.items ≡ [] }
+        ensures tells { result.full ≡ false }
+        ensures passing { result.faults.passing ≡ passing }
+        ensures failing { result.faults.failing ≡ failing }
+        ensures unfailed { result.faults.failed ≡ 0 }
+    {
+        MemoryOutput {
+            bytes: Vec::new(alloc),
+            full: false,
+            faults: Faults::new(passing, failing),
+        }
+    }
+}
+
+impl Output for MemoryOutput {
+    ghost tells = { λ m. m.full ≡ false };
+
+    ghost tape = { λ m. record { items = m.bytes.items; failures = m.faults.failed } };
+
+    fn write(&mut self, bytes: &[u8]) -> Result<(), LinkFault> {
+        self.faults.count()?;
+        if self.bytes.extend_from_slice(bytes).is_err() {
+            self.full = true;
+        }
+        Ok(())
+    }
+}
