@@ -7,13 +7,8 @@ use Rattle.show_reader.specs.declared.fault.ShowFault.TheVariants as show_fault
 use Rattle.show_reader.specs.Text.{statements_of}
 use Rattle.show_reader.specs.Meaning.{is_there}
 use Rattle.show_reader.specs.Reading.{fault_of}
-use Rattle.cueplayer_runs.specs.declared.fault.RunFault.{RunFault}
-use Rattle.cueplayer_runs.specs.declared.fault.RunFault.TheVariants as run
-
--- what the reader's fault is to a run: want of memory is the run's own
-abbrev pub of_show : ShowFault → RunFault
-of_show show_fault.Memory = run.Memory
-of_show fault = run.Show fault
+use Rattle.cueplayer_faults.specs.declared.fault.RunFault.{RunFault}
+use Rattle.cueplayer_faults.specs.declared.fault.RunFault.TheVariants as run
 
 -- the show was not read: its text has this fault
 abbrev pub ReadFails : List ℕ → RunFault → Type 0

@@ -1,6 +1,6 @@
 ghost use Rattle.std.specs.Prelude.{◌≡◌};
-ghost use Rattle.cueplayer_runs.specs.declared.fault.RunFault.TheVariants.{Device, Memory};
-ghost use Rattle.cueplayer_runs.specs.Faults.{of_show};
+ghost use Rattle.cueplayer_faults.specs.declared.fault.RunFault.TheVariants.{Device, Memory};
+ghost use Rattle.cueplayer_faults.specs.Shows.{of_show};
 
 use devices::LinkFault;
 use show_reader::ShowFault;
@@ -16,9 +16,18 @@ pub enum RunFault {
     /// The show has no cue of the number asked for.
     #[error("no such cue")]
     NoCue,
-    /// A file or an output failed.
+    /// A universe of the show would have no number from 1 to 63999.
+    #[error("a universe has no number")]
+    Base,
+    /// The input line of this number, from 1, is malformed or too long, or is one line too many.
+    #[error("line {0} is refused")]
+    Line(u32),
+    /// A file, a socket, an input or an output failed.
     #[error("a device failed")]
     Device,
+    /// The run was whole, but so many packets were lost: their sends failed.
+    #[error("{0} packets were lost")]
+    Lost(u64),
     /// A growth was refused.
     #[error("out of memory")]
     Memory,

@@ -1,5 +1,5 @@
 ghost use Rattle.std.specs.Prelude.{◌≡◌, ◌≤◌, ◌+◌, ◌++◌, ◌∷◌, [], length, decimal};
-ghost use Rattle.cueplayer_runs.specs.Status.{line_fault_text, fault_text, fault_status, status_of, Reports};
+ghost use Rattle.cueplayer_faults.specs.Status.{line_fault_text, fault_text, fault_status, status_of, Reports};
 
 use crate::fault::RunFault;
 use arrayvec::ArrayString;
@@ -11,16 +11,16 @@ use show_reader::ShowFault;
 // writes of any number.
 type Report = ArrayString<66>;
 
-/// Reports how a run ended, and answers the program's exit status: 0 done, 3 show refused,
-/// 5 device fault, 6 want of memory. It takes no memory.
+/// Reports how a run ended, and answers the program's exit status: 0 done, 2 base refused, 3 show
+/// refused, 4 input line refused, 5 device fault or lost packets, 6 want of memory. It takes no
+/// memory.
 ///
 /// The report of a fault is one line on the output, and there is none for a run that ended well.
 /// The status is the same where that write fails.
 pub fn exit_status<W: Output>(answer: &Result<(), RunFault>, err: &mut W) -> u8
     ensures status { result ≡ status_of answer.now }
     ensures told { W.tells err.new → W.tells err.old }
-    ensures text { W.tells err.new → Reports answer.now
-        (W.written err.old) (W.written err.new) (W.failures err.old) (W.failures err.new) }
+    ensures text { W.tells err.new → Reports answer.now (W.tape err.old) (W.tape err.new) }
 {
     match answer {
         Ok(()) => 0,
@@ -36,8 +36,10 @@ fn status_of(fault: RunFault) -> u8
 {
     match fault {
         RunFault::Memory | RunFault::Show(ShowFault::Memory) => 6,
+        RunFault::Base => 2,
         RunFault::Show(_) | RunFault::NoCue => 3,
-        RunFault::Device => 5,
+        RunFault::Line(_) => 4,
+        RunFault::Device | RunFault::Lost(_) => 5,
     }
 }
 
@@ -47,7 +49,10 @@ fn report_of(fault: RunFault) -> Report
     match fault {
         RunFault::Show(fault) => show_report(fault),
         RunFault::NoCue => plain("show: NoCue"),
+        RunFault::Base => plain("base: Universe"),
+        RunFault::Line(line) => numbered("line ", u64::from(line), " refused"),
         RunFault::Device => plain("device fault"),
+        RunFault::Lost(count) => numbered("lost ", count, ""),
         RunFault::Memory => plain("memory"),
     }
 }
@@ -78,6 +83,19 @@ fn at_line(line: u32, name: &str) -> Report
     report.push_str(Buffer::new().format(line));
     report.push_str(": ");
     report.push_str(name);
+    report.push_str("\n");
+    report
+}
+
+fn numbered(before: &str, number: u64, behind: &str) -> Report
+    requires before { length before.now ≤ 5 }
+    requires behind { length behind.now ≤ 8 }
+    ensures { result.bytes ≡ before.now ++ decimal number ++ behind.now ++ 10 ∷ [] }
+{
+    let mut report = ArrayString::new();
+    report.push_str(before);
+    report.push_str(Buffer::new().format(number));
+    report.push_str(behind);
     report.push_str("\n");
     report
 }

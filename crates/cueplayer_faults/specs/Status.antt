@@ -1,17 +1,21 @@
 -- The exit status of a run, and what is reported of its end.
 use Rattle.std.specs.Prelude.{◌≡◌, ◌⊎◌, ℕ, List, ◌++◌, Result, Ok, Err, codes, decimal}
-use Rattle.devices.specs.Tells.{Took, Failed}
+use Rattle.devices.specs.Tape.{Tape, with_more, with_failure}
 use Rattle.show_reader.specs.declared.fault.ShowFault.{ShowFault}
 use Rattle.show_reader.specs.declared.fault.ShowFault.TheVariants as show_fault
-use Rattle.cueplayer_runs.specs.declared.fault.RunFault.{RunFault}
-use Rattle.cueplayer_runs.specs.declared.fault.RunFault.TheVariants as run
+use Rattle.cueplayer_faults.specs.declared.fault.RunFault.{RunFault}
+use Rattle.cueplayer_faults.specs.declared.fault.RunFault.TheVariants as run
 
--- a fault's status: 3 where the show is refused, 5 where a device failed, 6 at want of memory
+-- a fault's status: 2 where a word is refused, 3 where the show is, 4 where an input line is, 5 where a device
+-- failed or packets were lost, 6 at want of memory
 abbrev pub fault_status : RunFault → ℕ
 fault_status (run.Show show_fault.Memory) = 6
 fault_status (run.Show fault) = 3
 fault_status run.NoCue = 3
+fault_status run.Base = 2
+fault_status (run.Line line) = 4
 fault_status run.Device = 5
+fault_status (run.Lost count) = 5
 fault_status run.Memory = 6
 
 -- the status of a run, 0 where it ended well
@@ -40,14 +44,17 @@ show_fault_text show_fault.Memory = codes "memory"
 abbrev pub fault_text : RunFault → List ℕ
 fault_text (run.Show fault) = show_fault_text fault
 fault_text run.NoCue = codes "show: NoCue"
+fault_text run.Base = codes "base: Universe"
+fault_text (run.Line line) = codes "line " ++ decimal line ++ codes " refused"
 fault_text run.Device = codes "device fault"
+fault_text (run.Lost count) = codes "lost " ++ decimal count
 fault_text run.Memory = codes "memory"
 
 -- one write of this text: the output took it all, or the write failed
-abbrev pub Wrote : List ℕ → List ℕ → List ℕ → ℕ → ℕ → Type 0
-Wrote text before after failed fails = Took text before after failed fails ⊎ Failed before after failed fails
+abbrev pub Wrote : List ℕ → Tape ℕ → Tape ℕ → Type 0
+Wrote text before after = (after ≡ with_more before text) ⊎ (after ≡ with_failure before)
 
 -- what is reported of a run: a line with its fault's text, or nothing where it ended well
-abbrev pub Reports : {X : Type 0} → Result X RunFault → List ℕ → List ℕ → ℕ → ℕ → Type 0
-Reports (Ok x) before after failed fails = (after ≡ before) × (fails ≡ failed)
-Reports (Err fault) before after failed fails = Wrote (fault_text fault ++ codes "\n") before after failed fails
+abbrev pub Reports : {X : Type 0} → Result X RunFault → Tape ℕ → Tape ℕ → Type 0
+Reports (Ok x) before after = after ≡ before
+Reports (Err fault) before after = Wrote (fault_text fault ++ codes "\n") before after
