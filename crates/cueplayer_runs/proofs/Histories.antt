@@ -4,7 +4,6 @@ use Rattle.std.specs.Option.{option_map_or}
 use Rattle.sacn_packet.specs.Reading.{front_packet}
 use Rattle.sacn_receiver.specs.declared.answer.Taken.{Taken}
 use Rattle.sacn_receiver.specs.declared.answer.Ignored.{Ignored}
-use Rattle.sacn_receiver.specs.declared.receiver.TheConstants.{SOURCES}
 use Rattle.sacn_receiver.specs.Source.{Entry, last_moment}
 use Rattle.sacn_receiver.specs.Taking.{answer, entry_of, heard, ignored, taken_of}
 use Rattle.sacn_receiver.specs.Kept.{Kept, StandsFor}
@@ -24,11 +23,11 @@ stands_after (Some e) taken entry h r r' reply stands is accepted same =
 
 -- after one more datagram it stands for what was heard
 pub stands_heard : (universe : ℕ) (h : List Entry) (datagram : List ℕ) (r r' : Kept) (reply : Result Taken Ignored)
-    → StandsFor r h → reply ≡ answer SOURCES universe h 0 datagram
+    → StandsFor r h → reply ≡ answer 4 universe h 0 datagram
     → OnOk reply ((older : List Entry) → StandsFor r older → StandsFor r' (entry_of 0 (front_packet datagram) ∷ older))
-    → OnErr reply (r' ≡ r) → StandsFor r' (heard SOURCES universe h 0 datagram)
+    → OnErr reply (r' ≡ r) → StandsFor r' (heard 4 universe h 0 datagram)
 stands_heard universe h datagram r r' reply stands is accepted same =
-    stands_after (ignored SOURCES universe h 0 datagram) (taken_of (front_packet datagram)) (entry_of 0 (front_packet datagram))
+    stands_after (ignored 4 universe h 0 datagram) (taken_of (front_packet datagram)) (entry_of 0 (front_packet datagram))
     h r r' reply stands is accepted same
 
 moment_after : (reason : Option Ignored) (entry : Entry) (h : List Entry) → entry.moment ≡ 0 → last_moment h ≡ 0
@@ -40,5 +39,5 @@ moment_after (Some e) entry h now was = was
 pub last_moment-history : (universe : ℕ) (datagrams : List (List ℕ)) → last_moment (history universe datagrams) ≡ 0
 last_moment-history universe [] = refl
 last_moment-history universe (datagram ∷ older) =
-    moment_after (ignored SOURCES universe (history universe older) 0 datagram) (entry_of 0 (front_packet datagram))
+    moment_after (ignored 4 universe (history universe older) 0 datagram) (entry_of 0 (front_packet datagram))
     (history universe older) refl (last_moment-history universe older)

@@ -1,7 +1,7 @@
 -- What `look` prints of a few shows, evaluated.
-use Rattle.std.proofs.Common.{◌≡◌, ◌<◌, ◌≤◌, refl, ap, sym, subst, ◌∙◌, ℕ, ◌+◌, ◌*◌, true, Option, Some, None, List, [], ◌∷◌, ◌++◌, map, replicate, length, arith}
+use Rattle.std.proofs.Common.{◌≡◌, ◌<◌, refl, ap, sym, subst, ◌∙◌, ℕ, ◌+◌, ◌*◌, true, Option, Some, None, List, [], ◌∷◌, ◌++◌, map, replicate, length, arith}
 use Rattle.std.specs.Prelude.{◌==◌, filter, unwrap_or, codes}
-use Rattle.std.specs.List.{AllZip, list_any, range_with_len}
+use Rattle.std.specs.List.{list_any, range_with_len}
 use Rattle.std.specs.Option.{option_map_or}
 use Rattle.std.specs.Ordering.{nat_cmp}
 use Rattle.std.specs.Cmp.{nat_cmp_total}

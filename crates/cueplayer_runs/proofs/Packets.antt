@@ -7,7 +7,6 @@ use Rattle.std.proofs.lemmas.List.{take_more, flat_map_more}
 use Rattle.std.proofs.lemmas.List.FromFn.{get_or-range_with_len, length-range_with_len}
 use Rattle.hex.specs.Hex.{encode_lower}
 use Rattle.sacn_packet.specs.Wire.{IsData}
-use Rattle.show_core.specs.declared.limits.TheConstants.{UNIVERSES}
 use Rattle.show_core.specs.declared.cue.CueData.{CueData}
 use Rattle.show_core.specs.Tables.{LevelMap, PatchMap}
 use Rattle.show_core.specs.Readers.{universes_of, has_dimmer_in, look_frame}
@@ -20,9 +19,9 @@ below n = λ k d h.
     omega (arith, get_or-range_with_len 0 n k d within)
 
 -- the ordinals of a show are below 16
-pub universes_in_range : (patch : PatchMap) → All (λ k. k < UNIVERSES) (universes_of patch)
+pub universes_in_range : (patch : PatchMap) → All (λ k. k < 16) (universes_of patch)
 universes_in_range patch =
-    All-filter (has_dimmer_in patch) (λ k. k < UNIVERSES) (range_with_len 0 UNIVERSES) (below UNIVERSES)
+    All-filter (has_dimmer_in patch) (λ k. k < 16) (range_with_len 0 16) (below 16)
 
 -- a relation of pairs holds of one pair more
 zip_more : {A B : Type 0} (R : A → B → Type 0) (xs : List A) (ys : List B) (x : A) (y : B)

@@ -1,6 +1,5 @@
 pub mod Texts
 pub mod Prints
 pub mod Faults
-pub mod Status
 pub mod Replies
 pub mod Listening

@@ -1,14 +1,14 @@
 -- What a run leaves on its output.
 use Rattle.std.specs.Prelude.{◌≡◌, ℕ, List, Result, Ok, Err, IsSomeAnd}
 use Rattle.std.specs.FinMap as maps
-use Rattle.devices.specs.Tells.{Took, Failed}
+use Rattle.devices.specs.Tape.{Tape, with_more, with_failure}
 use Rattle.show_core.specs.Tables.{Tables}
 use Rattle.show_line.specs.Said.{desk}
 use Rattle.show_reader.specs.Text.{statements_of}
 use Rattle.show_reader.specs.Shows.{IsShowOf}
 use Rattle.show_reader.specs.Reading.{lines_read, lines_skipped}
-use Rattle.cueplayer_runs.specs.declared.fault.RunFault.{RunFault}
-use Rattle.cueplayer_runs.specs.declared.fault.RunFault.TheVariants as run
+use Rattle.cueplayer_faults.specs.declared.fault.RunFault.{RunFault}
+use Rattle.cueplayer_faults.specs.declared.fault.RunFault.TheVariants as run
 use Rattle.cueplayer_runs.specs.Texts.{check_text, IsLookText}
 
 -- there is a show that the text means, and this holds of each that it means
@@ -28,9 +28,7 @@ IsLookOf show cue cid text = OfItsShow show (λ s.
 
 -- at Ok the output took such a text and nothing else, at Device one write failed, and at any other fault
 -- nothing was written
-abbrev pub Prints : {X : Type 0} → Result X RunFault → (List ℕ → Type 0)
-    → List ℕ → List ℕ → ℕ → ℕ → Type 0
-Prints (Ok x) IsText before after failed fails =
-    (text : List ℕ) × IsText text × Took text before after failed fails
-Prints (Err run.Device) IsText before after failed fails = Failed before after failed fails
-Prints (Err fault) IsText before after failed fails = (after ≡ before) × (fails ≡ failed)
+abbrev pub Prints : {X : Type 0} → Result X RunFault → (List ℕ → Type 0) → Tape ℕ → Tape ℕ → Type 0
+Prints (Ok x) IsText before after = (text : List ℕ) × IsText text × (after ≡ with_more before text)
+Prints (Err run.Device) IsText before after = after ≡ with_failure before
+Prints (Err fault) IsText before after = after ≡ before

@@ -1,10 +1,10 @@
-ghost use Rattle.std.specs.Prelude.{◌≡◌, ℕ, ◌+◌, ◌≤◌, List, ◌∷◌, length, OnOk, OnErr, IfErr};
-ghost use Rattle.devices.specs.Tells.{Gave, Took};
+ghost use Rattle.std.specs.Prelude.{◌≡◌, ℕ, ◌+◌, ◌≤◌, List, [], ◌∷◌, length, OnOk, OnErr, IfErr};
+ghost use Rattle.devices.specs.Tape.{with_more};
 ghost use Rattle.sacn_receiver.specs.Kept.{StandsFor};
 ghost use Rattle.cueplayer_runs.specs.Listening.{history, reply_line, Listens, NextFails};
 
-use crate::fault::RunFault;
 use crate::replies::{reply_line, slots_line};
+use cueplayer_faults::RunFault;
 use devices::{Datagrams, Output};
 use sacn_receiver::Receiver;
 
@@ -29,8 +29,7 @@ pub fn listen<D: Datagrams, W: Output>(
     ensures told_source { D.tells source.new → D.tells source.old }
     ensures told_output { W.tells out.new → W.tells out.old }
     ensures text { D.tells source.new → W.tells out.new → Listens result universe count
-        (D.given source.old) (D.given source.new) (D.failures source.old) (D.failures source.new)
-        (W.written out.old) (W.written out.new) (W.failures out.old) (W.failures out.new) }
+        (D.tape source.old) (D.tape source.new) (W.tape out.old) (W.tape out.new) }
     ensures fault { IfErr result (λ fault. fault ≡ RunFault.Device) }
 {
     let mut receiver = Receiver::new(universe);
@@ -56,13 +55,11 @@ fn reply_to_next<D: Datagrams, W: Output>(
     ensures ok { OnOk result ((universe : ℕ) (older : List (List ℕ)) → receiver.old.universe ≡ universe
         → number ≡ length older + 1 → StandsFor receiver.old (history universe older)
         → (datagram : List ℕ) × StandsFor receiver.new (history universe (datagram ∷ older))
-        × (D.tells source.new → Gave datagram (D.given source.old) (D.given source.new)
-        (D.failures source.old) (D.failures source.new))
-        × (W.tells out.new → Took (reply_line universe datagram older)
-        (W.written out.old) (W.written out.new) (W.failures out.old) (W.failures out.new))) }
+        × (D.tells source.new → D.tape source.new ≡ with_more (D.tape source.old) (datagram ∷ []))
+        × (W.tells out.new → W.tape out.new
+        ≡ with_more (W.tape out.old) (reply_line universe datagram older))) }
     ensures err { OnErr result (D.tells source.new → W.tells out.new → NextFails
-        (D.given source.old) (D.given source.new) (D.failures source.old) (D.failures source.new)
-        (W.written out.old) (W.written out.new) (W.failures out.old) (W.failures out.new)) }
+        (D.tape source.old) (D.tape source.new) (W.tape out.old) (W.tape out.new)) }
     ensures fault { IfErr result (λ fault. fault ≡ RunFault.Device) }
 {
     let mut datagram = [0; 1500];

@@ -1,12 +1,15 @@
-ghost use Rattle.std.specs.Prelude.{◌≡◌, ◌<◌, OnOk, IfErr, None, length};
+ghost use Rattle.std.specs.Prelude.{◌≡◌, ◌<◌, true, OnOk, IfErr, None, length};
 ghost use Rattle.show_line.specs.Said.{desk};
+ghost use Rattle.show_line.specs.declared.statement.Record.TheVariants.{Cue};
+ghost use Rattle.show_reader.specs.Meaning.{is_there};
+ghost use Rattle.show_reader.specs.Text.{statements_of};
 ghost use Rattle.show_reader.specs.declared.fault.ShowFault.TheVariants as show_fault;
 ghost use Rattle.show_reader.specs.Reading.{fault_of, longest_text};
 ghost use Rattle.cueplayer_runs.specs.Faults.{CheckFails, LookFails};
 ghost use Rattle.cueplayer_runs.specs.Prints.{IsCheckOf, IsLookOf, Prints};
 
-use crate::fault::RunFault;
 use crate::texts::{check_text, look_text};
+use cueplayer_faults::RunFault;
 use devices::Output;
 use show_reader::read_show;
 use std::alloc::Global;
@@ -21,8 +24,7 @@ use std::alloc::Global;
 /// The text's fault; `Memory` where a growth was refused; `Device` where the write failed.
 pub fn check<W: Output>(alloc: Global, show: &[u8], out: &mut W) -> Result<(), RunFault>
     ensures told { W.tells out.new → W.tells out.old }
-    ensures text { W.tells out.new → Prints result (IsCheckOf show.now)
-        (W.written out.old) (W.written out.new) (W.failures out.old) (W.failures out.new) }
+    ensures text { W.tells out.new → Prints result (IsCheckOf show.now) (W.tape out.old) (W.tape out.new) }
     ensures faultless { OnOk result (fault_of desk show.now ≡ None) }
     ensures fault { IfErr result (CheckFails show.now) }
     ensures too_long { longest_text < length show.now → result ≡ Err (RunFault.Show show_fault.TooLong) }
@@ -52,9 +54,9 @@ pub fn look<W: Output>(
     out: &mut W,
 ) -> Result<(), RunFault>
     ensures told { W.tells out.new → W.tells out.old }
-    ensures text { W.tells out.new → Prints result (IsLookOf show.now cue cid)
-        (W.written out.old) (W.written out.new) (W.failures out.old) (W.failures out.new) }
+    ensures text { W.tells out.new → Prints result (IsLookOf show.now cue cid) (W.tape out.old) (W.tape out.new) }
     ensures faultless { OnOk result (fault_of desk show.now ≡ None) }
+    ensures there { OnOk result (is_there (Cue cue) (statements_of desk show.now) ≡ true) }
     ensures fault { IfErr result (LookFails show.now cue) }
     ensures too_long { longest_text < length show.now → result ≡ Err (RunFault.Show show_fault.TooLong) }
 {

@@ -1,10 +1,8 @@
 mod listening;
-mod memory_datagrams;
-mod memory_output;
 
-use crate::{RunFault, check, exit_status, look};
-use memory_output::MemoryOutput;
-use show_reader::ShowFault;
+use crate::{check, look};
+use cueplayer_faults::RunFault;
+use devices::memory::MemoryOutput;
 use std::alloc::Global;
 
 const CID: [u8; 16] = [
@@ -39,7 +37,7 @@ fn end(
 ) -> (Result<(), RunFault>, MemoryOutput) {
     let mut out = MemoryOutput::new(alloc, 0, failing);
     let answer = run(alloc, call, show, &mut out);
-    let refused = answer == Err(RunFault::Memory) && out.failed == 0 || out.full;
+    let refused = answer == Err(RunFault::Memory) && out.faults.failed == 0 || out.full;
     if !refused || !out.bytes.is_empty() {
         return (answer, out);
     }
@@ -181,6 +179,6 @@ fn each_device_fails(rt: HostRuntime) {
     for call in [Call::Check, Call::Look(1000)] {
         let (answer, out) = end(rt.alloc(), call, ONE_LAMP, 1);
         assert_eq!(rt; answer, Err(RunFault::Device), "{call:?}");
-        assert!(rt; out.bytes.is_empty() && out.failed == 1, "{call:?}");
+        assert!(rt; out.bytes.is_empty() && out.faults.failed == 1, "{call:?}");
     }
 }

@@ -1,6 +1,5 @@
 ghost use Rattle.std.specs.Prelude.{◌≡◌, ◌<◌, All, IfOk, IfSome, IsTrue, codes, string_bytes};
 ghost use Rattle.std.specs.FinMap as maps;
-ghost use Rattle.show_core.specs.declared.limits.TheConstants.{UNIVERSES};
 ghost use Rattle.show_core.specs.Readers.{look_frame};
 ghost use Rattle.sacn_packet.specs.Wire.{IsData};
 ghost use Rattle.cueplayer_runs.specs.Texts.{check_text, counts_line, look_fields, IsLinesOf, IsLookText};
@@ -60,7 +59,7 @@ fn look_lines(
     ordinals: &[u16],
 ) -> Result<Vec<u8>, AllocError>
     requires there { IsTrue (maps.contains_key show.now.cues cue) }
-    requires range { All (λ ordinal. ordinal < UNIVERSES) ordinals.now }
+    requires range { All (λ ordinal. ordinal < 16) ordinals.now }
     ensures { IfOk result (λ text. IfSome (maps.get show.now.cues cue) (λ look.
         IsLinesOf look.levels show.now.patch cid ordinals.now text.items)) }
 {
@@ -75,7 +74,7 @@ fn look_lines(
 }
 
 fn look_packet(cid: [u8; 16], ordinal: u16, slots: &[u8; 512]) -> [u8; 638]
-    requires { ordinal < UNIVERSES }
+    requires { ordinal < 16 }
     ensures { IsData result (look_fields cid ordinal) slots.now }
 {
     let header = Header {

@@ -1,7 +1,7 @@
 use super::CID;
-use super::memory_datagrams::MemoryDatagrams;
-use super::memory_output::MemoryOutput;
-use crate::{RunFault, listen};
+use crate::listen;
+use cueplayer_faults::RunFault;
+use devices::memory::{MemoryDatagrams, MemoryOutput};
 use sacn_packet::{Header, SourceName, encode};
 use std::alloc::Global;
 
@@ -73,7 +73,7 @@ fn each_device_of_listen_fails(rt: HostRuntime) {
                 out.bytes.as_slice() == &THREE[..taken],
                 "receive {passing}"
             );
-            assert_eq!(rt; out.failed, 0);
+            assert_eq!(rt; out.faults.failed, 0);
         }
     }
 }

@@ -19,8 +19,8 @@ loop-older-preserved g c =
         datagrams = more.0 ∷ heard.datagrams;
         count_is = omega (arith, heard.count_is);
         stands = more.1;
-        gave = λ tells. gave_more more.0 heard.datagrams _ _ _ _ _ _ (heard.gave (next.told_source tells)) (more.2 tells);
-        took = λ tells. took_more c.args.universe more.0 heard.datagrams _ _ _ _ _ _ (heard.took (next.told_output tells)) (more.3 tells);
+        gave = λ tells. gave_more more.0 heard.datagrams _ _ _ (heard.gave (next.told_source tells)) (more.2 tells);
+        took = λ tells. took_more c.args.universe more.0 heard.datagrams _ _ _ (heard.took (next.told_output tells)) (more.3 tells);
       };
     }
 
@@ -33,8 +33,8 @@ pub returns-in_err-write-clause-text : goal.returns-in_err-write-clause-text
 returns-in_err-write-clause-text g c = λ source_tells output_tells.
     let heard = c.loop-older.invariant.heard in
     let all : length heard.datagrams ≡ c.args.count = omega (arith, heard.count_is, c.loop-older-test.false, c.loop-older.auto.older-end) in
-    ends c.from_residual-in_err-write.result c.args.universe c.args.count _ _ _ _ _ _ _ _ c.from_residual-in_err-write.ensures.1
-    (inr (inr (slots_failed c.args.universe c.args.count heard.datagrams _ _ _ _ _ _ _ _ _ _ all (heard.gave source_tells)
+    ends c.from_residual-in_err-write.result c.args.universe c.args.count _ _ _ _ c.from_residual-in_err-write.ensures.1
+    (inr (inr (slots_failed c.args.universe c.args.count heard.datagrams _ _ _ _ _ all (heard.gave source_tells)
     (heard.took (c.write.ensures.told output_tells)) (c.in_err-write.ensures.err output_tells))))
 
 pub returns-clause-told_output : goal.returns-clause-told_output
@@ -49,6 +49,6 @@ returns-clause-text g c = λ source_tells output_tells.
       datagrams = heard.datagrams;
       all = omega (arith, heard.count_is, c.loop-older-test.false, c.loop-older.auto.older-end);
       gave = heard.gave source_tells;
-      took = took_all c.args.universe heard.datagrams _ _ _ _ _ _ _ line
+      took = took_all c.args.universe heard.datagrams _ _ _ _ line
           (heard.took (c.write.ensures.told output_tells)) (c.in_ok-write.ensures.ok output_tells);
     }

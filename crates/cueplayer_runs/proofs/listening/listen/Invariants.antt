@@ -8,8 +8,6 @@ invariant-loop-older g l = record {
   told_source : g.D.Datagrams.tells l.source → g.D.Datagrams.tells l.fn.source;
   told_output : g.W.Output.tells l.out → g.W.Output.tells l.fn.out;
   heard : Heard l.universe l.older l.receiver (g.D.Datagrams.tells l.source) (g.W.Output.tells l.out)
-      (g.D.Datagrams.given l.fn.source) (g.D.Datagrams.given l.source)
-      (g.D.Datagrams.failures l.fn.source) (g.D.Datagrams.failures l.source)
-      (g.W.Output.written l.fn.out) (g.W.Output.written l.out)
-      (g.W.Output.failures l.fn.out) (g.W.Output.failures l.out);
+      (g.D.Datagrams.tape l.fn.source) (g.D.Datagrams.tape l.source)
+      (g.W.Output.tape l.fn.out) (g.W.Output.tape l.out);
 }

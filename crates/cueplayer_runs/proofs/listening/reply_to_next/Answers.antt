@@ -1,9 +1,8 @@
-use Rattle.std.proofs.Common.{ℕ, ◌+◌, ◌≡◌, List, ◌++◌, length, take, codes, Result, Ok, Err, OnErr, subst, ap, ◌∙◌, inr}
+use Rattle.std.proofs.Common.{ℕ, ◌+◌, ◌≡◌, List, ◌++◌, length, take, codes, Result, Ok, Err, OnErr, ap, ◌∙◌, inr}
 use Rattle.std.specs.Prelude.{decimal}
-use Rattle.devices.specs.Tells.{Took}
+use Rattle.devices.specs.Tape.{with_more}
 use Rattle.sacn_receiver.specs.declared.answer.Taken.{Taken}
 use Rattle.sacn_receiver.specs.declared.answer.Ignored.{Ignored}
-use Rattle.sacn_receiver.specs.declared.receiver.TheConstants.{SOURCES}
 use Rattle.sacn_receiver.specs.Source.{Entry}
 use Rattle.sacn_receiver.specs.Taking.{answer}
 use Rattle.cueplayer_runs.specs.Replies.{reply_text}
@@ -17,12 +16,12 @@ on_err P (Err e) p = p
 
 -- the reply, where the receiver is one of the universe
 answered_at : (u universe : ℕ) (h : List Entry) (datagram : List ℕ) (reply : Result Taken Ignored)
-    → u ≡ universe → reply ≡ answer SOURCES u h 0 datagram → reply ≡ answer SOURCES universe h 0 datagram
-answered_at u universe h datagram reply is answered = answered ∙ ap (λ v. answer SOURCES v h 0 datagram) is
+    → u ≡ universe → reply ≡ answer 4 u h 0 datagram → reply ≡ answer 4 universe h 0 datagram
+answered_at u universe h datagram reply is answered = answered ∙ ap (λ v. answer 4 v h 0 datagram) is
 
 -- the line that was written is that of the datagram
 line_is : (universe : ℕ) (datagram : List ℕ) (older : List (List ℕ)) (number : ℕ) (reply : Result Taken Ignored) (line : List ℕ)
-    → number ≡ length older + 1 → reply ≡ answer SOURCES universe (history universe older) 0 datagram
+    → number ≡ length older + 1 → reply ≡ answer 4 universe (history universe older) 0 datagram
     → line ≡ decimal number ++ codes " " ++ reply_text reply ++ codes "\n" → line ≡ reply_line universe datagram older
 line_is universe datagram older number reply line numbered answered is =
     is ∙ ap (λ n. decimal n ++ codes " " ++ reply_text reply ++ codes "\n") numbered
@@ -31,10 +30,8 @@ line_is universe datagram older number reply line numbered answered is =
 pub returns-in_err-write-clause-err : goal.returns-in_err-write-clause-err
 returns-in_err-write-clause-err g c =
     let fails : g.D.Datagrams.tells c.receive.new.self → g.W.Output.tells c.write.new.self → NextFails
-    (g.D.Datagrams.given c.args.source.now) (g.D.Datagrams.given c.receive.new.self)
-    (g.D.Datagrams.failures c.args.source.now) (g.D.Datagrams.failures c.receive.new.self)
-    (g.W.Output.written c.args.out.now) (g.W.Output.written c.write.new.self)
-    (g.W.Output.failures c.args.out.now) (g.W.Output.failures c.write.new.self)
+    (g.D.Datagrams.tape c.args.source.now) (g.D.Datagrams.tape c.receive.new.self)
+    (g.W.Output.tape c.args.out.now) (g.W.Output.tape c.write.new.self)
     = λ source_tells output_tells. inr (
       take c.in_ok-length.length c.receive.new.buf,
       c.in_ok-length.ensures.ok source_tells,
@@ -52,8 +49,6 @@ returns-clause-ok g c = λ universe older universe_is numbered stands.
       λ tells. c.in_ok-length.ensures.ok tells,
       λ tells.
           let line = c.as_bytes.ensures.value ∙ c.as_str.ensures.value ∙ c.reply_line.ensures in
-          let P : List ℕ → Type 0 = λ text. Took text (g.W.Output.written c.args.out.now) (g.W.Output.written c.write.new.self)
-          (g.W.Output.failures c.args.out.now) (g.W.Output.failures c.write.new.self) in
-          subst P (line_is universe datagram older c.args.number c.take-reply.result _ numbered answered line)
-          (c.in_ok-write.ensures.ok tells),
+          c.in_ok-write.ensures.ok tells ∙ ap (with_more (g.W.Output.tape c.args.out.now))
+          (line_is universe datagram older c.args.number c.take-reply.result _ numbered answered line),
     )

@@ -6,8 +6,8 @@ use Rattle.show_line.specs.declared.statement.Record.TheVariants.{Cue}
 use Rattle.show_reader.specs.Text.{statements_of}
 use Rattle.show_reader.specs.Meaning.{is_there}
 use Rattle.show_reader.specs.Reading.{fault_of}
-use Rattle.cueplayer_runs.specs.declared.fault.RunFault.{RunFault}
-use Rattle.cueplayer_runs.specs.declared.fault.RunFault.TheVariants as run
+use Rattle.cueplayer_faults.specs.declared.fault.RunFault.{RunFault}
+use Rattle.cueplayer_faults.specs.declared.fault.RunFault.TheVariants as run
 use Rattle.cueplayer_runs.specs.Texts.{IsLookText}
 use Rattle.cueplayer_runs.specs.Faults.{LookFails}
 use Rattle.cueplayer_runs.proofs.Shows.{look_of, cue_is_there}
@@ -51,3 +51,10 @@ returns-clause-text g c = λ tells.
       look_of c.args.show.now c.args.cue c.args.cid text show c.in_ok-loaded.ensures.show there lines,
       c.in_ok-write.ensures.ok tells,
     )
+
+pub returns-clause-there : goal.returns-clause-there
+returns-clause-there g c =
+    let show = c.in_ok-loaded.loaded.show in
+    let there : is_some (maps.get show.cues c.args.cue) ≡ true =
+    ap is_some (sym c.cue.ensures) ∙ c.is_none.ensures ∙ ap not c.if-is_none.false in
+    cue_is_there (statements_of desk c.args.show.now) show c.args.cue c.in_ok-loaded.ensures.show ∙ there

@@ -1,6 +1,5 @@
 use Rattle.std.proofs.Common.{◌∙◌, ◌<◌}
 use Rattle.std.proofs.lemmas.List.Elements.{All-same}
-use Rattle.show_core.specs.declared.limits.TheConstants.{UNIVERSES}
 use Rattle.show_core.specs.Readers.{universes_of}
 use Rattle.cueplayer_runs.proofs.Packets.{universes_in_range}
 use Rattle.cueplayer_runs.proofs.texts.look_text.Goals as goal
@@ -8,5 +7,5 @@ use Rattle.cueplayer_runs.proofs.texts.look_text.Goals as goal
 pub look_lines-requires-clause-range : goal.look_lines-requires-clause-range
 look_lines-requires-clause-range c =
     let patch = c.args.show.now.patch in
-    All-same (λ k. k < UNIVERSES) c.as_slice.result.now (universes_of patch)
+    All-same (λ k. k < 16) c.as_slice.result.now (universes_of patch)
     (c.as_slice.ensures.value ∙ c.universes.ensures) (universes_in_range patch)
