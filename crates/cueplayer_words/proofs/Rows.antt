@@ -1,5 +1,5 @@
 -- Words that are written out, by evaluation.
-use Rattle.std.proofs.Common.{List, [], ◌∷◌, false, Some, None, ◌≡◌, refl, codes}
+use Rattle.std.proofs.Common.{ℕ, List, [], ◌∷◌, false, Some, None, ◌≡◌, refl, codes}
 use Rattle.clap.specs.Words.{Text, fault_of, takes}
 use Rattle.clap.specs.declared.error.kind.ErrorKind.TheVariants.{MissingRequiredArgument}
 use Rattle.clap.proofs.OnLiterals.{clap_on_literals}
@@ -8,7 +8,7 @@ use Rattle.cueplayer_words.specs.Program.{program}
 use Rattle.cueplayer_words.specs.Address.{address_of}
 use Rattle.cueplayer_words.specs.Job.{job_of, number_between}
 use Rattle.cueplayer_words.specs.Asked.{Passes}
-use Rattle.cueplayer_words.specs.declared.job.Job.TheVariants.{Check, Look, Listen}
+use Rattle.cueplayer_words.specs.declared.job.Job.TheVariants.{Check, Look, Play, Listen}
 
 -- `check a.asc`
 abbrev check_words : List Text
@@ -78,6 +78,33 @@ listen_default_port = refl
 listen_unfit_job : job_of (listen_words (codes "127.0.0.1:") (codes "1")) ≡ None
 unfolding clap_on_literals
 listen_unfit_job = refl
+
+-- `play a.asc --to ADDR --cid CID`, with more options
+abbrev play_words : Text → List Text → List Text
+play_words address more = codes "cueplayer" ∷ codes "play" ∷ codes "a.asc" ∷ codes "--to" ∷ address
+    ∷ codes "--cid" ∷ codes "c0ffee00-0000-4000-8000-00000000e131" ∷ more
+
+abbrev cid : List ℕ
+cid = 192 ∷ 255 ∷ 238 ∷ 0 ∷ 0 ∷ 0 ∷ 64 ∷ 0 ∷ 128 ∷ 0 ∷ 0 ∷ 0 ∷ 0 ∷ 0 ∷ 225 ∷ 49 ∷ []
+
+play_passes : Passes (play_words (codes "127.0.0.1") [])
+unfolding clap_on_literals
+play_passes = refl
+
+play_job : job_of (play_words (codes "127.0.0.1") [])
+    ≡ Some (Play (codes "a.asc") (127 ∷ 0 ∷ 0 ∷ 1 ∷ [], 5568) cid 100 1)
+unfolding clap_on_literals uuid_on_literals
+play_job = refl
+
+play_options : job_of (play_words (codes "10.0.0.9:5000")
+    (codes "--base" ∷ codes "63999" ∷ codes "--priority" ∷ codes "200" ∷ []))
+    ≡ Some (Play (codes "a.asc") (10 ∷ 0 ∷ 0 ∷ 9 ∷ [], 5000) cid 200 63999)
+unfolding clap_on_literals uuid_on_literals
+play_options = refl
+
+play_unfit_job : job_of (play_words (codes "127.0.0.1") (codes "--priority" ∷ codes "201" ∷ [])) ≡ None
+unfolding clap_on_literals uuid_on_literals
+play_unfit_job = refl
 
 -- the forms of an address
 addresses : (address_of (codes "127.000.000.001:0") ≡ Some (127 ∷ 0 ∷ 0 ∷ 1 ∷ [], 0))

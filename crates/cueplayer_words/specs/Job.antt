@@ -1,6 +1,7 @@
 -- The job that words ask for.
 use Rattle.std.specs.Prelude.{ℕ, ◌≤◌, List, Option, Some, None, codes, option_map, option_and_then}
 use Rattle.std.specs.Prelude.{if◌then◌else◌, nat_le}
+use Rattle.std.specs.Option.{option_map_or}
 use Rattle.std.specs.Str.{bytes_eq}
 use Rattle.clap.specs.Words.{Row, Text, first_of, subcommand_of}
 use Rattle.uuid.specs.Text.{parsed}
@@ -8,11 +9,15 @@ use Rattle.ascii_text.specs.Forms.{cue_number_of, whole_of}
 use Rattle.cueplayer_words.specs.Address.{address_of}
 use Rattle.cueplayer_words.specs.Program.{program}
 use Rattle.cueplayer_words.specs.declared.job.Job.{Job}
-use Rattle.cueplayer_words.specs.declared.job.Job.TheVariants.{Check, Look, Listen}
+use Rattle.cueplayer_words.specs.declared.job.Job.TheVariants.{Check, Look, Play, Listen}
 
 -- the value of an argument that has to be there: its text, read by a form
 abbrev pub value_by : {X : Type 0} → (Text → Option X) → Text → List Row → Option X
 value_by form id rows = option_and_then form (first_of id rows)
+
+-- the value of an argument that may be absent, and is this then
+abbrev pub value_or : {X : Type 0} → X → (Text → Option X) → Text → List Row → Option X
+value_or absent form id rows = option_map_or form (first_of id rows) (Some absent)
 
 -- a number from least to most
 abbrev pub number_between : ℕ → ℕ → Text → Option ℕ
@@ -33,6 +38,18 @@ abbrev pub look_of : List Row → Option Job
 look_of rows = look_with (first_of (codes "SHOW") rows) (value_by cue_number_of (codes "CUE") rows)
     (value_by parsed (codes "cid") rows)
 
+-- a play, where each of its values is there
+abbrev pub play_with : Option Text → Option (List ℕ × ℕ) → Option (List ℕ) → Option ℕ → Option ℕ → Option Job
+play_with (Some show) (Some to) (Some cid) (Some priority) (Some base) = Some (Play show to cid priority base)
+play_with _ _ _ _ _ = None
+
+-- the job of `play SHOW --to ADDR --cid UUID [--priority P] [--base U]`: a priority is 0 to 200 and 100 where it
+-- is absent (E1.31-2018, priority), the base a universe number, 1 where it is absent
+abbrev pub play_of : List Row → Option Job
+play_of rows = play_with (first_of (codes "SHOW") rows) (value_by address_of (codes "to") rows)
+    (value_by parsed (codes "cid") rows) (value_or 100 (number_between 0 200) (codes "priority") rows)
+    (value_or 1 (number_between 1 63999) (codes "base") rows)
+
 -- a listen, where each of its values is there
 abbrev pub listen_with : Option (List ℕ × ℕ) → Option ℕ → Option ℕ → Option Job
 listen_with (Some at) (Some universe) (Some count) = Some (Listen at universe count)
@@ -47,13 +64,15 @@ listen_of rows = listen_with (value_by address_of (codes "ADDR") rows)
 -- the numbers of a job are in the ranges that its run asks for
 abbrev pub IsInRange : Job → Type 0
 IsInRange (Listen at universe count) = (1 ≤ universe) × (universe ≤ 63999)
+IsInRange (Play show to cid priority base) = priority ≤ 200
 IsInRange _ = Unit {0}
 
 -- the job of a line, by its name and the texts of its arguments
 abbrev pub line_of : Text × List Row → Option Job
 line_of line = if bytes_eq line.0 (codes "check") then check_of line.1
     else (if bytes_eq line.0 (codes "look") then look_of line.1
-    else (if bytes_eq line.0 (codes "listen") then listen_of line.1 else None))
+    else (if bytes_eq line.0 (codes "play") then play_of line.1
+    else (if bytes_eq line.0 (codes "listen") then listen_of line.1 else None)))
 
 -- the job of the line that clap's meaning of the program gives for the words, where each of the
 -- texts that this meaning gives has its form

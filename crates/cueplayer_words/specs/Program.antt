@@ -10,6 +10,10 @@ required id = record (new_rule id) { required = true }
 abbrev pub required_option : Text → Rule
 required_option id = record (required id) { long = Some id; value_names = 1 }
 
+-- an option that may be absent
+abbrev pub option : Text → Rule
+option id = record (new_rule id) { long = Some id; value_names = 1 }
+
 -- `check SHOW`
 abbrev pub check_line : App
 check_line = with_rule (new_app (codes "check")) (required (codes "SHOW"))
@@ -18,6 +22,15 @@ check_line = with_rule (new_app (codes "check")) (required (codes "SHOW"))
 abbrev pub look_line : App
 look_line = with_rule (with_rule (with_rule (new_app (codes "look"))
     (required (codes "SHOW"))) (required (codes "CUE"))) (required_option (codes "cid"))
+
+-- `play SHOW --to ADDR --cid UUID`
+abbrev pub short_play_line : App
+short_play_line = with_rule (with_rule (with_rule (new_app (codes "play"))
+    (required (codes "SHOW"))) (required_option (codes "to"))) (required_option (codes "cid"))
+
+-- `play SHOW --to ADDR --cid UUID [--priority P] [--base U]`
+abbrev pub play_line : App
+play_line = with_rule (with_rule short_play_line (option (codes "priority"))) (option (codes "base"))
 
 -- `listen ADDR UNIVERSE COUNT`
 abbrev pub listen_line : App
@@ -30,7 +43,10 @@ without_lines = record (new_app (codes "cueplayer")) {
   top = record (new_app (codes "cueplayer")).top { subcommand_required = true };
 }
 
--- the program with its lines
+-- the program with the lines that only print
+abbrev pub printing_lines : App
+printing_lines = with_subcommand (with_subcommand without_lines check_line.top) look_line.top
+
+-- the program with all its lines
 abbrev pub program : App
-program = with_subcommand (with_subcommand (with_subcommand without_lines check_line.top) look_line.top)
-    listen_line.top
+program = with_subcommand (with_subcommand printing_lines play_line.top) listen_line.top

@@ -2,7 +2,7 @@ ghost use Rattle.std.specs.Prelude.{◌≡◌, ◌≤◌, IfSome, option_map};
 ghost use Rattle.clap.specs.Words.{first_of, found_of, rows_of};
 ghost use Rattle.uuid.specs.Text.{parsed};
 ghost use Rattle.ascii_text.specs.Forms.{cue_number_of};
-ghost use Rattle.cueplayer_words.specs.Job.{number_between, value_by};
+ghost use Rattle.cueplayer_words.specs.Job.{number_between, value_by, value_or};
 ghost use Rattle.cueplayer_words.specs.Address.{address_of};
 
 use crate::address::address;
@@ -31,7 +31,33 @@ pub(crate) fn number_at(matches: &ArgMatches<'_>, id: &str, least: u32, most: u3
         ≡ value_by (number_between least most) id.now (rows_of (found_of matches.now)) }
     ensures within { IfSome result (λ number. (least ≤ number) × (number ≤ most)) }
 {
-    let number = whole(text_at(matches, id)?.as_bytes(), most)?;
+    number_between(text_at(matches, id)?, least, most)
+}
+
+/// The number from `least` to `most` that an argument spells; where it is absent, this one.
+pub(crate) fn number_or(
+    matches: &ArgMatches<'_>,
+    id: &str,
+    absent: u32,
+    least: u32,
+    most: u32,
+) -> Option<u32>
+    requires { (least ≤ absent) × (absent ≤ most) }
+    ensures value { result
+        ≡ value_or absent (number_between least most) id.now (rows_of (found_of matches.now)) }
+    ensures within { IfSome result (λ number. (least ≤ number) × (number ≤ most)) }
+{
+    match text_at(matches, id) {
+        Some(text) => number_between(text, least, most),
+        None => Some(absent),
+    }
+}
+
+fn number_between(text: &str, least: u32, most: u32) -> Option<u32>
+    ensures value { result ≡ number_between least most text.now }
+    ensures within { IfSome result (λ number. (least ≤ number) × (number ≤ most)) }
+{
+    let number = whole(text.as_bytes(), most)?;
     if number < least { None } else { Some(number) }
 }
 

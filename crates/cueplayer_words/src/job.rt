@@ -50,6 +50,18 @@ pub enum Job {
         cid: [u8; 16],
     },
 
+    /// `play SHOW --to ADDR --cid UUID [--priority P] [--base U]`: play input lines to the network.
+    /// `to` is the IPv4 address and the UDP port to send to, the CID the UUID's 16 bytes in order,
+    /// the priority 0 to 200 (100 where it is absent), and the base the number of the first
+    /// universe, 1 to 63,999 (1 where it is absent).
+    Play {
+        show: Name,
+        to: ([u8; 4], u16),
+        cid: [u8; 16],
+        priority: u8,
+        base: u16,
+    },
+
     /// `listen ADDR UNIVERSE COUNT`: receive datagrams and print the replies to them. `at` is the
     /// IPv4 address and the UDP port to receive at, the universe is 1 to 63,999, and the count of
     /// datagrams 1 to 1,000,000.

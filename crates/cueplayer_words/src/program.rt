@@ -1,8 +1,8 @@
 ghost use Rattle.std.specs.Prelude.{◌≡◌, IfOk, false};
 ghost use Rattle.clap.specs.Words.{app_of, rule_of};
 ghost use Rattle.clap.specs.declared.builder.Command.TheViews.{out-Command as fields_of};
-ghost use Rattle.cueplayer_words.specs.Program.{required, required_option, check_line, look_line};
-ghost use Rattle.cueplayer_words.specs.Program.{listen_line, without_lines, program};
+ghost use Rattle.cueplayer_words.specs.Program.{required, required_option, option, check_line, look_line};
+ghost use Rattle.cueplayer_words.specs.Program.{short_play_line, play_line, listen_line, without_lines, printing_lines, program};
 
 use clap::{Arg, Command};
 use std::alloc::{AllocError, Global};
@@ -11,10 +11,17 @@ use std::alloc::{AllocError, Global};
 pub(crate) fn program<'a>(alloc: Global) -> Result<Command<'a>, AllocError>
     ensures { IfOk result (λ command. app_of command ≡ program) }
 {
+    printing_lines(alloc)?
+        .subcommand(play_line(alloc)?)?
+        .subcommand(listen_line(alloc)?)
+}
+
+fn printing_lines<'a>(alloc: Global) -> Result<Command<'a>, AllocError>
+    ensures { IfOk result (λ command. app_of command ≡ printing_lines) }
+{
     without_lines(alloc)?
         .subcommand(check_line(alloc)?)?
-        .subcommand(look_line(alloc)?)?
-        .subcommand(listen_line(alloc)?)
+        .subcommand(look_line(alloc)?)
 }
 
 fn without_lines<'a>(alloc: Global) -> Result<Command<'a>, AllocError>
@@ -46,6 +53,42 @@ fn look_line<'a>(alloc: Global) -> Result<Command<'a>, AllocError>
         .arg(required_option(alloc, "cid", "UUID", "The sender's CID"))
 }
 
+fn play_line<'a>(alloc: Global) -> Result<Command<'a>, AllocError>
+    ensures app { IfOk result (λ command. app_of command ≡ play_line) }
+    ensures local { IfOk result (λ command. (fields_of command).has_globals ≡ false) }
+{
+    short_play_line(alloc)?
+        .arg(option(
+            alloc,
+            "priority",
+            "P",
+            "The priority, 0 to 200; 100 where it is absent",
+        ))?
+        .arg(option(
+            alloc,
+            "base",
+            "U",
+            "The number of the first universe; 1 where it is absent",
+        ))
+}
+
+// What `play` cannot do without.
+fn short_play_line<'a>(alloc: Global) -> Result<Command<'a>, AllocError>
+    ensures app { IfOk result (λ command. app_of command ≡ short_play_line) }
+    ensures local { IfOk result (λ command. (fields_of command).has_globals ≡ false) }
+{
+    Command::new(alloc, "play")
+        .about("Plays the lines of standard input to the network")
+        .arg(required(alloc, "SHOW", "The show's file"))?
+        .arg(required_option(
+            alloc,
+            "to",
+            "ADDR",
+            "The address to send to, or 239.255.0.0 for the universes' multicast groups",
+        ))?
+        .arg(required_option(alloc, "cid", "UUID", "The sender's CID"))
+}
+
 fn listen_line<'a>(alloc: Global) -> Result<Command<'a>, AllocError>
     ensures app { IfOk result (λ command. app_of command ≡ listen_line) }
     ensures local { IfOk result (λ command. (fields_of command).has_globals ≡ false) }
@@ -70,6 +113,13 @@ fn required<'a>(alloc: Global, id: &'a str, help: &'a str) -> Arg<'a>
     ensures local { result.global ≡ false }
 {
     Arg::new(alloc, id).required(true).help(help)
+}
+
+fn option<'a>(alloc: Global, id: &'a str, value: &'a str, help: &'a str) -> Arg<'a>
+    ensures rule { rule_of result ≡ option id.now }
+    ensures local { result.global ≡ false }
+{
+    Arg::new(alloc, id).help(help).long(id).value_name(value)
 }
 
 fn required_option<'a>(alloc: Global, id: &'a str, value: &'a str, help: &'a str) -> Arg<'a>

@@ -1,10 +1,10 @@
 ghost use Rattle.std.specs.Prelude.{◌≡◌, ◌≤◌, map, option_map, option_and_then, IfOk, IfErr, IfSome};
 ghost use Rattle.clap.specs.Words.{found_of, rows_of, subcommand_rows_of};
 ghost use Rattle.cueplayer_words.specs.Job.{line_of, check_of, look_of, look_with};
-ghost use Rattle.cueplayer_words.specs.Job.{listen_of, listen_with, IsInRange};
+ghost use Rattle.cueplayer_words.specs.Job.{play_of, play_with, listen_of, listen_with, IsInRange};
 ghost use Rattle.cueplayer_words.specs.Asked.{Explains, IsAsked, RefusedBy};
 
-use crate::arguments::{address_at, cid_at, cue_at, number_at, text_at};
+use crate::arguments::{address_at, cid_at, cue_at, number_at, number_or, text_at};
 use crate::job::{Job, Name, WordsFault};
 use crate::program::program;
 use clap::error::ErrorKind;
@@ -58,6 +58,8 @@ fn read_line(alloc: Global, matches: &ArgMatches<'_>) -> Result<Option<Job>, All
         read_check(alloc, inner)
     } else if line == "look" {
         read_look(alloc, inner)
+    } else if line == "play" {
+        read_play(alloc, inner)
     } else if line == "listen" {
         Ok(read_listen(inner))
     } else {
@@ -109,6 +111,49 @@ fn look_job(
     };
     let show = Name::new(alloc, show)?;
     Ok(Some(Job::Look { show, cue, cid }))
+}
+
+fn read_play(alloc: Global, matches: &ArgMatches<'_>) -> Result<Option<Job>, AllocError>
+    ensures job { IfOk result (λ job. job ≡ play_of (rows_of (found_of matches.now))) }
+    ensures ranges { IfOk result (λ job. IfSome job IsInRange) }
+{
+    let show = text_at(matches, "SHOW");
+    let to = address_at(matches, "to");
+    let cid = cid_at(matches, "cid");
+    let priority = number_or(matches, "priority", 100, 0, 200);
+    let base = number_or(matches, "base", 1, 1, 63999);
+    play_job(alloc, show, to, cid, priority, base)
+}
+
+fn play_job(
+    alloc: Global,
+    show: Option<&str>,
+    to: Option<([u8; 4], u16)>,
+    cid: Option<[u8; 16]>,
+    priority: Option<u32>,
+    base: Option<u32>,
+) -> Result<Option<Job>, AllocError>
+    requires priority { IfSome priority (λ number. number ≤ 200) }
+    requires base { IfSome base (λ number. number ≤ 63999) }
+    ensures job { IfOk result (λ job.
+        job ≡ play_with (option_map (λ text. text.now) show.entry) to cid priority base) }
+    ensures ranges { IfOk result (λ job. IfSome job IsInRange) }
+{
+    let (Some(show), Some(to), Some(cid), Some(priority), Some(base)) = (
+        show, to, cid, priority, base,
+    ) else {
+        return Ok(None);
+    };
+    let show = Name::new(alloc, show)?;
+    let priority = priority as u8;
+    let base = base as u16;
+    Ok(Some(Job::Play {
+        show,
+        to,
+        cid,
+        priority,
+        base,
+    }))
 }
 
 fn read_listen(matches: &ArgMatches<'_>) -> Option<Job>

@@ -150,6 +150,109 @@ fn words_of_listen(rt: HostRuntime) -> Result<(), Fail> {
 }
 
 #[test]
+fn words_of_play(rt: HostRuntime) -> Result<(), Fail> {
+    let spellings = [
+        (
+            [
+                "cueplayer",
+                "play",
+                "a.asc",
+                "--to",
+                "127.0.0.1",
+                "--cid",
+                CID,
+            ]
+            .as_slice(),
+            5568,
+            100,
+            1,
+        ),
+        (
+            &[
+                "cueplayer",
+                "play",
+                "--base",
+                "63999",
+                "--priority",
+                "0",
+                "--cid",
+                CID,
+                "--to",
+                "127.0.0.1:9",
+                "a.asc",
+            ],
+            9,
+            0,
+            63999,
+        ),
+    ];
+    for (words, port, its_priority, its_base) in spellings {
+        let Ok(
+            Job::Play {
+                show,
+                to,
+                cid,
+                priority,
+                base,
+            },
+        ) = read(rt.alloc(), words)
+        else {
+            return Err(Fail::from("no play"));
+        };
+        assert!(rt; show.as_str() == "a.asc" && cid == CID_BYTES);
+        assert!(rt; to.0 == [127, 0, 0, 1] && to.1 == port);
+        assert!(rt; priority == its_priority && base == its_base);
+    }
+    for (option, value) in [
+        ("--priority", "201"),
+        ("--priority", "x"),
+        ("--base", "0"),
+        ("--base", "64000"),
+        ("--priority", "0000000100"),
+    ] {
+        let words = [
+            "cueplayer",
+            "play",
+            "a.asc",
+            "--to",
+            "127.0.0.1",
+            "--cid",
+            CID,
+            option,
+            value,
+        ];
+        assert!(rt;
+            matches!(read(rt.alloc(), words.as_slice()), Err(WordsFault::Unfit)),
+            "{words:?}"
+        );
+    }
+    for words in [
+        ["cueplayer", "play", "a.asc", "--cid", CID].as_slice(),
+        &["cueplayer", "play", "a.asc", "--to", "127.0.0.1"],
+        &["cueplayer", "play", "--to", "127.0.0.1", "--cid", CID],
+        &[
+            "cueplayer",
+            "play",
+            "a.asc",
+            "--to",
+            "127.0.0.1",
+            "--cid",
+            CID,
+            "--base",
+            "1",
+            "--base",
+            "2",
+        ],
+    ] {
+        assert!(rt;
+            matches!(read(rt.alloc(), words), Err(WordsFault::Refused(_))),
+            "{words:?}"
+        );
+    }
+    Ok(())
+}
+
+#[test]
 fn refusal_text(rt: HostRuntime) -> Result<(), Fail> {
     let words = ["bin/other", "look", "-", "1"];
     let Err(WordsFault::Refused(error)) = read(rt.alloc(), words.as_slice()) else {
