@@ -3,20 +3,24 @@
 
 ghost use Rattle.cueplayer_words.specs.Job.{IsInRange};
 
-mod console;
+mod input;
+mod output;
 mod reading;
 mod socket;
+mod words;
 
 use clap::Error;
-use console::Console;
-use cueplayer_runs::{RunFault, check, exit_status, listen, look};
+use cueplayer_faults::{RunFault, exit_status};
+use cueplayer_runs::{check, listen, look};
 use cueplayer_words::{Job, WordsFault, read_words};
 use devices::Output;
-use reading::show_text;
-use socket::Socket;
+use output::SystemOutput;
+use reading::{file_text, show_text};
+use socket::{ReceivingSocket, SendingSocket};
 use std::env;
 use std::io::ErrorKind;
 use std::process::ExitCode;
+use words::UserWords;
 
 // The exit status of words that are refused.
 const REFUSED: u8 = 2;
@@ -24,7 +28,7 @@ const REFUSED: u8 = 2;
 fn run(rt: &HostRuntime, job: Job) -> Result<(), RunFault>
     requires { IsInRange job }
 {
-    let mut out = Console::new(rt.stdout());
+    let mut out = SystemOutput::new(rt.stdout());
     match job {
         Job::Check { show } => {
             let text = show_text(rt, show.as_str())?;
@@ -34,12 +38,17 @@ fn run(rt: &HostRuntime, job: Job) -> Result<(), RunFault>
             let text = show_text(rt, show.as_str())?;
             look(rt.alloc(), text.as_slice(), cue, cid, &mut out)
         }
+        Job::Play { show, to, .. } => {
+            let _text = file_text(rt, show.as_str())?;
+            let _link = SendingSocket::open(rt, to)?;
+            Ok(())
+        }
         Job::Listen {
             at,
             universe,
             count,
         } => {
-            let mut source = Socket::bind(rt, at)?;
+            let mut source = ReceivingSocket::bind(rt, at)?;
             listen(&mut source, universe, count, &mut out)
         }
     }
@@ -47,11 +56,11 @@ fn run(rt: &HostRuntime, job: Job) -> Result<(), RunFault>
 
 // Tells on standard error how the run ended.
 fn report(rt: &HostRuntime, answer: &Result<(), RunFault>) -> u8 {
-    exit_status(answer, &mut Console::new(rt.stderr()))
+    exit_status(answer, &mut SystemOutput::new(rt.stderr()))
 }
 
 fn unfit(rt: &HostRuntime) -> u8 {
-    let _ = Console::new(rt.stderr()).write(b"words refused\n");
+    let _ = SystemOutput::new(rt.stderr()).write(b"words refused\n");
     REFUSED
 }
 
@@ -66,7 +75,7 @@ fn explain(rt: &HostRuntime, error: &Error) -> u8 {
 }
 
 fn status(rt: &HostRuntime) -> u8 {
-    let words = match env::args(rt) {
+    let words = match env::args(&(UserWords::new(rt), rt.alloc())) {
         Ok(words) => words,
         Err(error) if error.kind() == ErrorKind::OutOfMemory => {
             return report(rt, &Err(RunFault::Memory));

@@ -1,9 +1,9 @@
-ghost use Rattle.std.specs.Prelude.{◌≡◌, ◌≤◌, ◌+◌, ◌⊎◌, IfOk, IfErr, IfSome, length, take};
+ghost use Rattle.std.specs.Prelude.{◌≡◌, ◌≤◌, ◌⊎◌, IfOk, IfErr, IfSome, length, take};
 ghost use Rattle.std.specs.Io.KnownBytes.{ReadConsumes};
-ghost use Rattle.show_reader.specs.declared.fault.TheConstants.{LONGEST_TEXT};
-ghost use Rattle.cueplayer_runs.specs.declared.fault.RunFault.TheVariants as run;
+ghost use Rattle.cueplayer_faults.specs.declared.fault.RunFault.TheVariants as run;
 
-use cueplayer_runs::RunFault;
+use cueplayer_faults::RunFault;
+use devices::LinkFault;
 use show_reader::LONGEST_TEXT;
 use std::alloc::Global;
 use std::fs::File;
@@ -14,29 +14,51 @@ const MOST: usize = LONGEST_TEXT + 1;
 
 const BLOCK: usize = 65536;
 
-/// The bytes of a show, of which at most one more than the longest text has is read. The name `-`
-/// stands for standard input.
+/// The first bytes of the show of this name: `-` stands for standard input.
+///
+/// # Errors
+///
+/// As [`file_text`].
+pub fn show_text(rt: &HostRuntime, name: &str) -> Result<Vec<u8>, RunFault>
+    ensures most { IfOk result (λ bytes. length bytes.items ≤ 1048577) }
+    ensures fault { IfErr result (λ fault. (fault ≡ run.Device) ⊎ (fault ≡ run.Memory)) }
+{
+    if name == "-" {
+        return first_bytes(rt.alloc(), &mut rt.stdin());
+    }
+    file_text(rt, name)
+}
+
+/// The first bytes of the show in the file of this name.
 ///
 /// # Errors
 ///
 /// `Device` where the file cannot be opened or read; `Memory` where a growth was refused.
-pub fn show_text(rt: &HostRuntime, name: &str) -> Result<Vec<u8>, RunFault>
-    ensures most { IfOk result (λ bytes. length bytes.items ≤ LONGEST_TEXT + 1) }
+pub fn file_text(rt: &HostRuntime, name: &str) -> Result<Vec<u8>, RunFault>
+    ensures most { IfOk result (λ bytes. length bytes.items ≤ 1048577) }
     ensures fault { IfErr result (λ fault. (fault ≡ run.Device) ⊎ (fault ≡ run.Memory)) }
 {
-    if name == "-" {
-        return read_most(rt.alloc(), &mut rt.stdin(), MOST);
-    }
     let Ok(mut file) = File::open(rt, name) else {
         return Err(RunFault::Device);
     };
-    read_most(rt.alloc(), &mut file, MOST)
+    first_bytes(rt.alloc(), &mut file)
+}
+
+// What is read of a show: the first 1,048,577 bytes of a reader, one more than the longest show has.
+fn first_bytes<R: Read>(alloc: Global, reader: &mut R) -> Result<Vec<u8>, RunFault>
+    ensures most { IfOk result (λ bytes. length bytes.items ≤ 1048577) }
+    ensures first { IfOk result (λ bytes. IfSome (R.remaining reader.old)
+        (λ left. bytes.items ≡ take 1048577 left)) }
+    ensures fault { IfErr result (λ fault. (fault ≡ run.Device) ⊎ (fault ≡ run.Memory)) }
+{
+    read_most(alloc, reader, MOST)
 }
 
 // The first bytes of a reader, at most so many.
 fn read_most<R: Read>(alloc: Global, reader: &mut R, most: usize) -> Result<Vec<u8>, RunFault>
     ensures most { IfOk result (λ bytes. length bytes.items ≤ most) }
-    ensures first { IfOk result (λ bytes. IfSome (R.remaining reader.old) (λ left. bytes.items ≡ take most left)) }
+    ensures first { IfOk result (λ bytes. IfSome (R.remaining reader.old)
+        (λ left. bytes.items ≡ take most left)) }
     ensures fault { IfErr result (λ fault. (fault ≡ run.Device) ⊎ (fault ≡ run.Memory)) }
 {
     let mut bytes = Vec::new(alloc);
@@ -52,18 +74,18 @@ fn read_most<R: Read>(alloc: Global, reader: &mut R, most: usize) -> Result<Vec<
     Ok(bytes)
 }
 
-// The next bytes; none at the end. A read that a signal interrupted is made again.
-fn read_some<R: Read>(reader: &mut R, block: &mut [u8]) -> Result<usize, RunFault>
+/// The next bytes of a reader, put to the front of the block; none at its end. A read that a signal
+/// interrupted is made again.
+pub fn read_some<R: Read>(reader: &mut R, block: &mut [u8]) -> Result<usize, LinkFault>
     ensures within { IfOk result (λ count. count ≤ length block.old) }
     ensures bytes { ReadConsumes (R.remaining reader.old) (R.remaining reader.new) result block.new }
-    ensures fault { IfErr result (λ fault. fault ≡ run.Device) }
 {
     for _ in 0..u64::MAX {
         match reader.read(block) {
             Ok(count) => return Ok(count),
             Err(error) if error.kind() == ErrorKind::Interrupted => {}
-            Err(_) => return Err(RunFault::Device),
+            Err(_) => return Err(LinkFault),
         }
     }
-    Err(RunFault::Device)
+    Err(LinkFault)
 }

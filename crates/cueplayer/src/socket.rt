@@ -1,33 +1,28 @@
-ghost use Rattle.std.specs.Prelude.{◌≤◌, [], IfOk};
+ghost use Rattle.std.specs.Prelude.{[]};
 
-use cueplayer_runs::RunFault;
-use devices::{Datagrams, LinkFault};
-use std::io::ErrorKind;
+use cueplayer_faults::RunFault;
+use devices::{Datagrams, Link, LinkFault};
+use std::io::{ErrorKind, Result as IoResult};
 use std::net::{IpAddr, Net, SocketAddr, UdpSocket};
 
 /// A UDP socket that receives. It does not tell what it gave.
 #[derive(Drop)]
-pub struct Socket {
+pub struct ReceivingSocket {
     inner: UdpSocket,
 }
 
-impl Socket {
+impl ReceivingSocket {
     /// A socket at an IPv4 address and a port of this machine.
     pub fn bind(rt: &impl Net, at: ([u8; 4], u16)) -> Result<Self, RunFault> {
-        let (host, port) = at;
-        match UdpSocket::bind(rt, SocketAddr::new(IpAddr::from(host), port)) {
-            Ok(inner) => Ok(Socket { inner }),
-            Err(_) => Err(RunFault::Device),
-        }
+        let inner = bind(rt, at).map_err(|_| RunFault::Device)?;
+        Ok(ReceivingSocket { inner })
     }
 }
 
-impl Datagrams for Socket {
+impl Datagrams for ReceivingSocket {
     ghost tells = { λ _. ⊥ };
 
-    ghost given = { λ _. [] };
-
-    ghost failures = { λ _. 0 };
+    ghost tape = { λ _. record { items = []; failures = 0 } };
 
     // `recv` would not take an empty datagram off the socket. A call that a signal interrupted is
     // made again.
@@ -41,4 +36,60 @@ impl Datagrams for Socket {
         }
         Err(LinkFault)
     }
+}
+
+// All universes are sent to their own multicast groups where this address is asked for.
+const MULTICAST: [u8; 4] = [239, 255, 0, 0];
+
+/// A UDP socket that sends. It is not connected: what the network answers to one datagram does not
+/// fail a later one. It does not tell what it was offered.
+#[derive(Drop)]
+pub struct SendingSocket {
+    inner: UdpSocket,
+    host: [u8; 4],
+    port: u16,
+}
+
+impl SendingSocket {
+    /// A socket that sends all universes to this IPv4 address and port; or, where the address is
+    /// 239.255.0.0, each to the multicast group of its number (E1.31, multicast addressing).
+    pub fn open(rt: &impl Net, to: ([u8; 4], u16)) -> Result<Self, RunFault> {
+        let inner = bind(rt, ([0, 0, 0, 0], 0)).map_err(|_| RunFault::Device)?;
+        let (host, port) = to;
+        Ok(SendingSocket { inner, host, port })
+    }
+
+    fn address(&self, universe: u16) -> SocketAddr {
+        let host = if self.host == MULTICAST {
+            let [high, low] = universe.to_be_bytes();
+            [239, 255, high, low]
+        } else {
+            self.host
+        };
+        SocketAddr::new(IpAddr::from(host), self.port)
+    }
+}
+
+impl Link for SendingSocket {
+    ghost tells = { λ _. ⊥ };
+
+    ghost offered = { λ _. [] };
+
+    // A call that a signal interrupted sent nothing, and is made again.
+    fn send(&mut self, universe: u16, bytes: &[u8]) -> Result<(), LinkFault> {
+        let address = self.address(universe);
+        for _ in 0..u64::MAX {
+            match self.inner.send_to(bytes, address) {
+                Ok(count) if count == bytes.len() => return Ok(()),
+                Err(error) if error.kind() == ErrorKind::Interrupted => {}
+                _ => return Err(LinkFault),
+            }
+        }
+        Err(LinkFault)
+    }
+}
+
+fn bind(rt: &impl Net, at: ([u8; 4], u16)) -> IoResult<UdpSocket> {
+    let (host, port) = at;
+    UdpSocket::bind(rt, SocketAddr::new(IpAddr::from(host), port))
 }

@@ -5,22 +5,20 @@ use std::io::Write;
 
 /// An output of the system: a file, a pipe or a terminal. It does not tell what it took.
 #[derive(Drop)]
-pub struct Console<W> {
+pub struct SystemOutput<W> {
     inner: W,
 }
 
-impl<W: Write> Console<W> {
+impl<W: Write> SystemOutput<W> {
     pub fn new(inner: W) -> Self {
-        Console { inner }
+        SystemOutput { inner }
     }
 }
 
-impl<W: Write> Output for Console<W> {
+impl<W: Write> Output for SystemOutput<W> {
     ghost tells = { λ _. ⊥ };
 
-    ghost written = { λ _. [] };
-
-    ghost failures = { λ _. 0 };
+    ghost tape = { λ _. record { items = []; failures = 0 } };
 
     fn write(&mut self, bytes: &[u8]) -> Result<(), LinkFault> {
         self.inner.write_all(bytes).map_err(|_| LinkFault)
