@@ -2,8 +2,10 @@
 
 import os
 import shutil
+import signal
 import subprocess
 import tempfile
+import time
 import unittest
 from pathlib import Path
 
@@ -50,21 +52,31 @@ class Scripts(unittest.TestCase):
         file.write_text(content)
         file.chmod(0o755)
 
-    def run_script(self, script, *words, path=None):
+    def start(self, script, *words, path=None):
+        """Starts a script of the copy, with all temporary files in a folder of the copy."""
+        (self.top / "tmp").mkdir(exist_ok=True)
         environment = {
             "PATH": path or f"{self.top}/bin:{os.environ['PATH']}",
             "PROVER_TOP": str(self.top),
             "PROVER_LOG": str(self.log),
+            "TMPDIR": str(self.top / "tmp"),
         }
-        done = subprocess.run(
+        started = subprocess.Popen(
             [self.top / script, *words],
-            input="a show\n",
-            capture_output=True,
+            stdin=subprocess.PIPE,
+            stdout=subprocess.PIPE,
+            stderr=subprocess.PIPE,
             text=True,
-            timeout=60,
             env=environment,
         )
-        return done.returncode, done.stdout, done.stderr
+        self.addCleanup(started.wait)
+        self.addCleanup(started.kill)
+        return started
+
+    def run_script(self, script, *words, path=None):
+        started = self.start(script, *words, path=path)
+        out, err = started.communicate("a show\n", timeout=60)
+        return started.returncode, out, err
 
     def proved(self):
         """How often the prover was started."""
@@ -98,6 +110,52 @@ class Scripts(unittest.TestCase):
         self.assertEqual((1, ""), (status, out))
         self.assertIn("open goal", err)
 
+    def test_two_first_calls_build_once(self):
+        self.write("bin/rt", PROVER.replace("mkdir", "sleep 1\nmkdir", 1))
+        calls = [self.start("cueplayer", "check", name) for name in "ab"]
+        for name, call in zip("ab", calls):
+            out, _ = call.communicate("a show\n", timeout=60)
+            self.assertEqual((3, f"words: check {name}\na show\n"), (call.returncode, out))
+        self.assertEqual(1, self.proved())
+
+    def test_interrupted_build_leaves_nothing(self):
+        """Neither half a program, nor a temporary file, nor the prover."""
+        program = self.top / "crates/cueplayer/out/cueplayer"
+        self.write("bin/rt", PROVER + 'echo $$ >"$PROVER_TOP/prover"\nexec sleep 60\n')
+        for interruption in (signal.SIGTERM, signal.SIGINT, signal.SIGHUP):
+            with self.subTest(interruption):
+                started = self.start("cueplayer", "check", "-")
+                prover = self.top / "prover"
+                self.wait_for(lambda: prover.exists() and prover.read_text().strip())
+                number = int(prover.read_text())
+                started.send_signal(interruption)
+                started.communicate(timeout=60)
+                self.assertNotEqual(0, started.returncode)
+                self.assertFalse(program.exists())
+                self.assertEqual([], list((self.top / "tmp").iterdir()))
+                self.wait_for(lambda: not Path(f"/proc/{number}").exists())
+                prover.unlink()
+
+    def wait_for(self, condition):
+        for _ in range(600):
+            if condition():
+                return
+            time.sleep(0.05)
+        self.fail("nothing came of it within 30 seconds")
+
+    def test_prover_that_leaves_no_program(self):
+        self.write("bin/rt", "#!/bin/sh\necho all is well\n")
+        status, out, err = self.run_script("cueplayer", "check", "-")
+        self.assertEqual((1, ""), (status, out))
+        self.assertIn("all is well", err)
+        self.assertIn("there is no program at", err)
+
+    def test_limit_on_files_is_no_signal(self):
+        """The program is started with the signal of that limit ignored, so that a write fails."""
+        self.write("made", "#!/bin/sh\ngrep SigIgn /proc/self/status\n")
+        _, out, _ = self.run_script("cueplayer", "check", "-")
+        self.assertTrue(int(out.split()[1], 16) >> signal.SIGXFSZ - 1 & 1, out)
+
     def test_gate_sums_both_runs(self):
         self.assertEqual((0, "11 passed, 0 failed"), self.closing(self.run_script(".ci/run")))
 
@@ -119,7 +177,7 @@ class Scripts(unittest.TestCase):
     def test_without_prover(self):
         bare = self.top / "bare"
         bare.mkdir()
-        for tool in ("bash", "dirname", "readlink", "find", "cat", "env"):
+        for tool in ("bash", "dirname", "readlink", "find", "cat", "env", "flock"):
             (bare / tool).symlink_to(shutil.which(tool))
         for script in (".ci/run", "cueplayer"):
             with self.subTest(script):
