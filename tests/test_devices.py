@@ -101,6 +101,16 @@ class Outputs(ProgramTest):
         with open("/dev/full", "wb") as full:
             self.assertOutputFails(stdout=full)
 
+    def test_limit_on_files(self):
+        """With the signal of the limit ignored, as ./cueplayer starts the program."""
+
+        def limit():
+            signal.signal(signal.SIGXFSZ, signal.SIG_IGN)
+            resource.setrlimit(resource.RLIMIT_FSIZE, (0, 0))
+
+        with tempfile.TemporaryFile() as file:
+            self.assertOutputFails(stdout=file, preexec_fn=limit)
+
     def test_broken_pipe(self):
         """A reader that has gone is a fault like any other, and no signal ends the program."""
         reader, writer = os.pipe()
