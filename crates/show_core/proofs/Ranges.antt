@@ -106,6 +106,15 @@ module _ {V : Type 0} (Q : V → Type 0) where
   pub value_in : (m : map.FinMap nat_cmp V) (q : ℕ) → All (λ e. Q e.1) (map.entries m) → IfSome (map.get m q) Q
   value_in m q h = rw (map.get-entries m q) (value_at q (map.entries m) h)
 
+  pub values-changed : (m : map.FinMap nat_cmp V) (n : ℕ) (change : V → V)
+      → ((v : V) → Q v → Q (change v)) → All (λ e. Q e.1) (map.entries m)
+      → All (λ e. Q e.1) (map.entries (option_map_or (λ v. map.insert m n (change v)) (map.get m n) m))
+  values-changed m n change keep h =
+      elim (map.get m n) as (λ o. IfSome o Q → All (λ e. Q e.1) (map.entries (option_map_or (λ v. map.insert m n (change v)) o m))) [
+        | None ↦ λ _. h
+        | Some v ↦ λ q. values-insert m n (change v) h (keep v q)
+      ] (value_in m n h)
+
 -- ---- the empty map
 
 no_entries : (X : Type 0) → map.entries (map.empty {X = X} {R = nat_cmp}) ≡ []

@@ -4,7 +4,6 @@ use Rattle.std.specs.Option.{option_map_or}
 use Rattle.std.specs.FinMap as map
 use Rattle.show_core.specs.declared.cue.CueData.{CueData}
 use Rattle.show_core.specs.declared.rate.Rate.{Rate}
-use Rattle.show_core.specs.declared.limits.TheConstants.{CHANNELS, CUES}
 use Rattle.show_core.specs.Numbers.{is_cue_number, is_dimmer}
 use Rattle.show_core.specs.Tables.{CueMap, MasterMap, PatchMap}
 
@@ -20,7 +19,7 @@ opened cues n = if map.contains_key cues n then cues else map.insert cues n blan
 
 -- n is a cue number, and is there or is not one cue too many
 abbrev pub can_open : CueMap → ℕ → Bool
-can_open cues n = is_cue_number n && (map.contains_key cues n || nat_lt (map.len cues) CUES)
+can_open cues n = is_cue_number n && (map.contains_key cues n || nat_lt (map.len cues) 2000)
 
 -- with what the function makes of cue n, where it is there
 abbrev pub changed : CueMap → ℕ → (CueData → CueData) → CueMap
@@ -52,7 +51,7 @@ with_listed masters n channel byte = option_map_or (λ levels. map.insert master
 
 -- the dimmer may take the channel; channel 0 leaves it unpatched
 abbrev pub can_patch : ℕ → ℕ → Bool
-can_patch dimmer channel = is_dimmer dimmer && nat_le channel CHANNELS
+can_patch dimmer channel = is_dimmer dimmer && nat_le channel 4096
 
 -- with the dimmer patched to the channel, or unpatched at channel 0
 abbrev pub patched_with : PatchMap → ℕ → ℕ → ℕ → PatchMap

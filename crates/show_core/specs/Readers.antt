@@ -1,11 +1,12 @@
 -- What the readers answer.
-use Rattle.std.specs.Prelude.{ℕ, ◌+◌, ◌-◌, ◌*◌, ◌/◌, ◌≤◌, ◌==◌, Option, Bool, IsTrue, List, All, filter, map, unwrap_or, find, reverse, nat_lt}
+use Rattle.std.specs.Prelude.{ℕ, ◌+◌, ◌-◌, ◌*◌, ◌/◌, ◌≤◌, ◌==◌, nat_lt, Bool, IsTrue}
+use Rattle.std.specs.Prelude.{Option, IfSome, unwrap_or, List, All, filter, map, find, reverse}
 use Rattle.std.specs.List.{list_any, range_with_len}
 use Rattle.std.specs.Option.{option_or, option_map_or}
 use Rattle.std.specs.FinMap as maps
+use Rattle.show_core.specs.declared.cue.CueData.{CueData}
 use Rattle.show_core.specs.declared.rate.Rate.{Rate}
-use Rattle.show_core.specs.declared.limits.TheConstants.{CUES, SLOTS, UNIVERSES}
-use Rattle.show_core.specs.Numbers.{is_channel, is_dimmer, is_sub, is_group, is_cue_number}
+use Rattle.show_core.specs.Numbers.{is_channel, is_dimmer, is_sub, is_group, is_cue_number, is_time}
 use Rattle.show_core.specs.Tables.{LevelMap, CueMap, PatchMap, Tables}
 
 -- the rate that is set, else the other's, else zeros
@@ -26,7 +27,7 @@ cue_below cues n = find (λ k. nat_lt k n) (reverse (maps.keys cues))
 
 -- the ordinal of the universe that a dimmer is in: dimmer d is slot (d - 1) mod 512 + 1 of ordinal (d - 1) / 512
 abbrev pub ordinal_of : ℕ → ℕ
-ordinal_of dimmer = (dimmer - 1) / SLOTS
+ordinal_of dimmer = (dimmer - 1) / 512
 
 -- a dimmer of the universe is patched
 abbrev pub has_dimmer_in : PatchMap → ℕ → Bool
@@ -34,7 +35,7 @@ has_dimmer_in patch ordinal = list_any (λ e. ordinal_of e.0 == ordinal) (maps.e
 
 -- the ordinals with a patched dimmer, ascending
 abbrev pub universes_of : PatchMap → List ℕ
-universes_of patch = filter (has_dimmer_in patch) (range_with_len 0 UNIVERSES)
+universes_of patch = filter (has_dimmer_in patch) (range_with_len 0 16)
 
 -- a slot: the fine level of its channel, scaled by the grand master and the patch byte, to the nearest byte
 abbrev pub slot_of : ℕ → ℕ → ℕ → ℕ
@@ -46,16 +47,26 @@ look_slot levels patch dimmer = option_map_or (λ p. slot_of (255 * level_in lev
 
 -- the frame of a universe: the slots of its 512 dimmers
 abbrev pub look_frame : LevelMap → PatchMap → ℕ → List ℕ
-look_frame levels patch ordinal = map (look_slot levels patch) (range_with_len (SLOTS * ordinal + 1) SLOTS)
+look_frame levels patch ordinal = map (look_slot levels patch) (range_with_len (512 * ordinal + 1) 512)
 
 -- channels stay in their range
 abbrev pub HasChannels : LevelMap → Type 0
 HasChannels levels = All (λ c. IsTrue (is_channel c)) (maps.keys levels)
 
+-- a rate's time and delay are in their range
+abbrev pub IsRateInRange : Rate → Type 0
+IsRateInRange rate = IsTrue (is_time rate.time) × IsTrue (is_time rate.delay)
+
+-- each rate that a cue has set is in its range
+pub record HasRates (cue : CueData) : Type 0 where
+  pub up_in : IfSome cue.up IsRateInRange
+  pub down_in : IfSome cue.down IsRateInRange
+
 -- what holds of each show that the builders make: no number is outside its range
 pub record IsInRange (show : Tables) : Type 0 where
   pub cues_in : All (λ n. IsTrue (is_cue_number n)) (maps.keys show.cues)
-  pub cues_fit : maps.len show.cues ≤ CUES
+  pub cues_fit : maps.len show.cues ≤ 2000
+  pub rates_in : All (λ e. HasRates e.1) (maps.entries show.cues)
   pub subs_in : All (λ n. IsTrue (is_sub n)) (maps.keys show.subs)
   pub groups_in : All (λ n. IsTrue (is_group n)) (maps.keys show.groups)
   pub dimmers_in : All (λ d. IsTrue (is_dimmer d)) (maps.keys show.patch)

@@ -1,6 +1,6 @@
-ghost use Rattle.std.specs.Prelude.{◌≡◌, IfOk};
+ghost use Rattle.std.specs.Prelude.{◌≡◌, ◌≤◌, IfOk};
 ghost use Rattle.std.specs.FinMap as map;
-ghost use Rattle.show_core.specs.Readers.{HasChannels, rate_of, level_in};
+ghost use Rattle.show_core.specs.Readers.{HasChannels, HasRates, rate_of, level_in};
 
 use crate::levels::Levels;
 use crate::rate::Rate;
@@ -44,10 +44,15 @@ impl<'a> Model for Cue<'a> {
     ghost coded = { cue_data.the_row.coded };
 
     ghost view = { λ c. c.data.now };
+
+    ghost use Rattle.show_core.specs.Readers.{HasRates};
+
+    ghost invariant = { λ c. HasRates c.data.now };
 }
 
 impl<'a> Cue<'a> {
     pub(crate) fn of(cue: &'a CueData) -> Cue<'a>
+        requires { HasRates cue.now }
         ensures { result ≡ cue.now }
     {
         Cue { data: cue }
@@ -69,8 +74,11 @@ impl<'a> Cue<'a> {
     }
 
     /// The rate of rising levels: the one set last, else that of falling levels, else zeros.
+    /// Its time and delay are at most 5,999,990 milliseconds.
     pub fn up(&self) -> Rate
-        ensures { result ≡ rate_of self.now.up self.now.down }
+        ensures rate { result ≡ rate_of self.now.up self.now.down }
+        ensures time { result.time ≤ 5999990 }
+        ensures delay { result.delay ≤ 5999990 }
     {
         self.data
             .up
@@ -79,8 +87,11 @@ impl<'a> Cue<'a> {
     }
 
     /// The rate of falling levels: the one set last, else that of rising levels, else zeros.
+    /// Its time and delay are at most 5,999,990 milliseconds.
     pub fn down(&self) -> Rate
-        ensures { result ≡ rate_of self.now.down self.now.up }
+        ensures rate { result ≡ rate_of self.now.down self.now.up }
+        ensures time { result.time ≤ 5999990 }
+        ensures delay { result.delay ≤ 5999990 }
     {
         self.data
             .down

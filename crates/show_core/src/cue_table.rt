@@ -2,7 +2,7 @@ ghost use Rattle.std.specs.Prelude.{◌≡◌, IsTrue, IsOk, IfOk, OnOk, OnErr, 
 ghost use Rattle.std.specs.FinMap as map;
 ghost use Rattle.show_core.specs.Numbers.{is_channel};
 ghost use Rattle.show_core.specs.Builders.{opened, with_level, with_up, with_down};
-ghost use Rattle.show_core.specs.Readers.{cue_above, cue_below};
+ghost use Rattle.show_core.specs.Readers.{HasRates, cue_above, cue_below};
 
 use crate::cue::{Cue, CueData};
 use crate::levels::Levels;
@@ -110,6 +110,7 @@ impl CueTable {
     }
 
     pub fn get(&self, n: u32) -> Option<Cue<'_>>
+        requires { IfSome (map.get self.now n) HasRates }
         ensures { result ≡ map.get self.now n }
     {
         match place(&self.entries, n) {

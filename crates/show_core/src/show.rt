@@ -1,4 +1,5 @@
 ghost use Rattle.std.specs.Prelude.{◌≡◌, ◌*◌, ◌<◌, ◌↔◌, ◌==◌, ◌||◌, IsTrue, IsFalse, IsOk, IfOk, OnOk, OnErr, IfSome, Some, Err, All, option_map};
+ghost use Rattle.std.specs.Option.{OnSome};
 ghost use Rattle.std.specs.FinMap as map;
 ghost use Rattle.show_core.specs.Numbers.{is_channel, is_dimmer, is_sub, is_group, is_time};
 ghost use Rattle.show_core.specs.Builders.{opened, can_open, with_level, with_up, with_down, opened_in, with_listed, can_patch, patched_with};
@@ -281,6 +282,7 @@ impl Show {
     /// The channels of submaster `n` and their level bytes. The entries of a map are sorted, so the channels strictly ascend.
     pub fn sub(&self, n: u16) -> Option<&[(u16, u8)]>
         ensures entries { option_map (λ pairs. pairs.now) result ≡ option_map map.entries (map.get self.now.subs n) }
+        ensures number { OnSome result (IsTrue (is_sub n)) }
         ensures range { IfSome result (λ pairs. All (λ e. IsTrue (is_channel e.0)) pairs.now) }
     {
         self.subs.pairs(n)
@@ -289,6 +291,7 @@ impl Show {
     /// The channels of group `n` and their level bytes. The entries of a map are sorted, so the channels strictly ascend.
     pub fn group(&self, n: u16) -> Option<&[(u16, u8)]>
         ensures entries { option_map (λ pairs. pairs.now) result ≡ option_map map.entries (map.get self.now.groups n) }
+        ensures number { OnSome result (IsTrue (is_group n)) }
         ensures range { IfSome result (λ pairs. All (λ e. IsTrue (is_channel e.0)) pairs.now) }
     {
         self.groups.pairs(n)
@@ -318,7 +321,7 @@ impl Show {
     /// The 512 slots of the universe of an ordinal below 16, with the cue alone at full and the grand master at 255.
     pub fn look_slots(&self, cue: u32, ordinal: u16) -> [u8; 512]
         requires there { IsTrue (map.contains_key self.now.cues cue) }
-        requires range { ordinal < UNIVERSES }
+        requires range { ordinal < 16 }
         ensures { IfSome (map.get self.now.cues cue) (λ look. result ≡ look_frame look.levels self.now.patch ordinal) }
     {
         let mut slots = [0; 512];
@@ -363,7 +366,10 @@ impl Show {
     ///
     /// Where a growth was refused.
     pub fn clone_in(&self, alloc: Global) -> Result<Show, AllocError>
-        ensures { IfOk result (λ copy. copy ≡ self.now) }
+        ensures copy { IfOk result (λ copy. copy ≡ self.now) }
+
+        // What holds of every show.
+        ensures range { IsInRange self.now }
     {
         let cues = self.cues.clone_in(alloc)?;
         let subs = self.subs.clone_in(alloc)?;

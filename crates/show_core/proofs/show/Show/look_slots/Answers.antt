@@ -4,7 +4,6 @@ use Rattle.std.specs.List.{range_with_len}
 use Rattle.std.proofs.lemmas.List.{ext_get_or, length-set}
 use Rattle.std.proofs.lemmas.List.Edits.{fill_by_more}
 use Rattle.std.proofs.lemmas.List.FromFn.{length-map-range_with_len, get_or-map-range_with_len}
-use Rattle.show_core.specs.declared.limits.TheConstants.{SLOTS}
 use Rattle.show_core.specs.Readers.{look_slot}
 use Rattle.show_core.proofs.show.Show.look_slots.Goals as goal
 
@@ -14,7 +13,7 @@ frame_is f a n xs size each = ext_get_or 0 xs (map f (range_with_len a n)) (size
 
 pub loop-place-preserved : goal.loop-place-preserved
 loop-place-preserved c =
-    let f : ℕ → ℕ = λ (i : ℕ). look_slot c.in-Some.look.levels c.args.self.now.patch (SLOTS * c.args.ordinal + 1 + i) in
+    let f : ℕ → ℕ = λ (i : ℕ). look_slot c.in-Some.look.levels c.args.self.now.patch (512 * c.args.ordinal + 1 + i) in
     let lt : c.loop-place.place < length c.loop-place.slots = omega (arith, c.loop-place.invariant.size) in
     record {
       size = simp length-set c.loop-place.invariant.size;
@@ -23,5 +22,5 @@ loop-place-preserved c =
 
 pub returns-after-loop-place : goal.returns-after-loop-place
 returns-after-loop-place c =
-    rw (← c.cue.ensures, c.in-Some.is) (frame_is (look_slot c.in-Some.look.levels c.args.self.now.patch) (SLOTS * c.args.ordinal + 1) 512 c.loop-place.slots c.loop-place.invariant.size
+    rw (← c.cue.ensures, c.in-Some.is) (frame_is (look_slot c.in-Some.look.levels c.args.self.now.patch) (512 * c.args.ordinal + 1) 512 c.loop-place.slots c.loop-place.invariant.size
     (λ i lt. let before : i < c.loop-place.place = omega arith in c.loop-place.invariant.so_far i before))

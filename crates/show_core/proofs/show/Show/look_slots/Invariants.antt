@@ -1,10 +1,9 @@
 use Rattle.std.proofs.Common.{◌≡◌, ℕ, ◌+◌, ◌*◌, ◌<◌, length, get_or}
-use Rattle.show_core.specs.declared.limits.TheConstants.{SLOTS}
 use Rattle.show_core.specs.Readers.{look_slot}
 use Rattle.show_core.proofs.show.Show.look_slots.Given as goal
 
 abbrev pub invariant-loop-place : goal.invariant-loop-place
 invariant-loop-place l = record {
   size : length l.slots ≡ 512;
-  so_far : (i : ℕ) → i < l.place → get_or l.slots i 0 ≡ look_slot l.look.levels l.self.patch (SLOTS * l.ordinal + 1 + i);
+  so_far : (i : ℕ) → i < l.place → get_or l.slots i 0 ≡ look_slot l.look.levels l.self.patch (512 * l.ordinal + 1 + i);
 }
