@@ -3,3 +3,4 @@ pub mod Removed
 pub mod Changes
 pub mod Ranges
 pub mod InRange
+mod Rows
