@@ -22,8 +22,6 @@ pub const TOP_CUE: u32 = 9_999_999;
 /// The longest time or delay, in milliseconds.
 pub const LONGEST_TIME: u32 = 5_999_990;
 
-const _: () = prove!(LONGEST_TIME == 5_999_990);
-
 /// The slots of a universe.
 pub const SLOTS: u16 = 512;
 
