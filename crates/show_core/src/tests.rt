@@ -102,6 +102,19 @@ fn rates_of_cues(rt: HostRuntime) -> Result<(), Fail> {
 }
 
 #[test]
+fn rates_beyond_their_range(rt: HostRuntime) {
+    for (time, delay, fits) in [
+        (0, 0, true),
+        (5_999_990, 5_999_990, true),
+        (5_999_991, 0, false),
+        (0, 5_999_991, false),
+    ] {
+        let rate = Rate { time, delay };
+        assert!(rt; rate.is_in_range() == fits, "{time} after {delay}");
+    }
+}
+
+#[test]
 fn cues_in_order(rt: HostRuntime) -> Result<(), Fail> {
     let mut show = Show::new(rt.alloc());
     for n in [2000, 1500, 1000] {
@@ -217,6 +230,13 @@ fn records_beyond_their_range(rt: HostRuntime) {
     for (n, answer) in [(0, LIMIT), (1, Ok(())), (500, Ok(())), (501, LIMIT)] {
         assert!(rt; show.open_group(n) == answer, "group {n}");
     }
+    let two_of_each = Counts {
+        cues: 2,
+        subs: 2,
+        groups: 2,
+        dimmers: 0,
+    };
+    assert!(rt; show.counts() == two_of_each);
 }
 
 #[test]
@@ -225,7 +245,7 @@ fn channels_beyond_their_range(rt: HostRuntime) -> Result<(), Fail> {
     show.open_cue(1)?;
     show.open_sub(1)?;
     show.open_group(1)?;
-    for (channel, answer) in [(0, LIMIT), (4096, Ok(())), (4097, LIMIT)] {
+    for (channel, answer) in [(0, LIMIT), (1, Ok(())), (4096, Ok(())), (4097, LIMIT)] {
         assert!(rt;
             light_cue(&rt, &mut show, 1, channel, 255) == answer,
             "channel {channel}"
@@ -246,6 +266,10 @@ fn channels_beyond_their_range(rt: HostRuntime) -> Result<(), Fail> {
 fn patches_beyond_their_range(rt: HostRuntime) {
     let mut show = Show::new(rt.alloc());
     for (dimmer, channel, answer) in [
+        (1, 0, Ok(())),
+        (1, 1, Ok(())),
+        (1, 4096, Ok(())),
+        (8192, 1, Ok(())),
         (8192, 4096, Ok(())),
         (8192, 0, Ok(())),
         (1, 4097, LIMIT),
@@ -254,9 +278,10 @@ fn patches_beyond_their_range(rt: HostRuntime) {
     ] {
         assert!(rt;
             show.set_patch(dimmer, channel, 255) == answer,
-            "dimmer {dimmer}"
+            "dimmer {dimmer} at channel {channel}"
         );
     }
+    assert!(rt; show.patched(1) == Some((4096, 255)));
     assert!(rt; show.patched(8192).is_none());
 }
 
@@ -264,7 +289,7 @@ fn patches_beyond_their_range(rt: HostRuntime) {
 fn too_many_cues(rt: HostRuntime) -> Result<(), Fail> {
     let mut show = Show::new(rt.alloc());
     for n in 1..=2000 {
-        show.open_cue(1000 * n)?;
+        assert!(rt; show.open_cue(1000 * n) == Ok(()), "cue {n}");
     }
     assert!(rt; show.open_cue(2_001_000) == LIMIT);
     show.open_cue(1000)?;
