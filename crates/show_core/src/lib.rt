@@ -11,6 +11,7 @@ mod patch_table;
 mod place;
 mod rate;
 mod show;
+mod slots;
 
 pub use cue::Cue;
 pub use fault::BuildFault;
@@ -19,6 +20,7 @@ pub use limits::{
 };
 pub use rate::Rate;
 pub use show::{Counts, Show};
+pub use slots::slot;
 
 #[cfg(test)]
 mod tests;

@@ -3,7 +3,7 @@ ghost use Rattle.std.specs.Option.{OnSome};
 ghost use Rattle.std.specs.FinMap as map;
 ghost use Rattle.show_core.specs.Numbers.{is_channel, is_dimmer, is_sub, is_group, is_time};
 ghost use Rattle.show_core.specs.Builders.{opened, can_open, with_level, with_up, with_down, opened_in, with_listed, can_patch, patched_with};
-ghost use Rattle.show_core.specs.Readers.{cue_above, cue_below, universes_of, look_slot, look_frame, slot_of, IsInRange};
+ghost use Rattle.show_core.specs.Readers.{cue_above, cue_below, universes_of, look_slot, look_frame, IsInRange};
 ghost use Rattle.show_core.specs.declared.fault.BuildFault.TheVariants.{Limit, Memory};
 
 use crate::cue::Cue;
@@ -15,6 +15,7 @@ use crate::limits::{
 use crate::master_table::MasterTable;
 use crate::patch_table::PatchTable;
 use crate::rate::Rate;
+use crate::slots::slot;
 use arrayvec::ArrayVec;
 use std::alloc::{AllocError, Global};
 use std::marker::Model;
@@ -337,7 +338,7 @@ impl Show {
         ensures { result ≡ look_slot look.now.levels self.now.patch dimmer }
     {
         match self.patch.get(dimmer) {
-            Some((channel, byte)) => full_slot(look.level(channel), byte),
+            Some((channel, byte)) => slot(255 * u32::from(look.level(channel)), 255, byte),
             None => 0,
         }
     }
@@ -389,12 +390,4 @@ fn can_patch(dimmer: u16, channel: u16) -> bool
     ensures { result ≡ can_patch dimmer channel }
 {
     is_dimmer(dimmer) && channel <= CHANNELS
-}
-
-// The slot of a level and a patch byte, both scaled by a grand master at 255.
-fn full_slot(level: u8, byte: u8) -> u8
-    ensures { result ≡ slot_of (255 * level) 255 byte }
-{
-    let product = 255 * u32::from(level) * 255 * u32::from(byte);
-    ((product + 8_290_687) / 16_581_375) as u8
 }
