@@ -27,7 +27,8 @@ changed cues n change = option_map_or (λ cue. map.insert cues n (change cue)) (
 
 -- with a level of cue n
 abbrev pub with_level : CueMap → ℕ → ℕ → ℕ → CueMap
-with_level cues n channel byte = changed cues n (λ cue. record cue { levels = map.insert cue.levels channel byte })
+with_level cues n channel byte =
+    changed cues n (λ cue. record cue { levels = map.insert cue.levels channel byte })
 
 -- with the rate of rising levels of cue n
 abbrev pub with_up : CueMap → ℕ → Rate → CueMap
@@ -45,7 +46,9 @@ opened_in masters n = if map.contains_key masters n then masters else map.insert
 
 -- with a level of record n
 abbrev pub with_listed : MasterMap → ℕ → ℕ → ℕ → MasterMap
-with_listed masters n channel byte = option_map_or (λ levels. map.insert masters n (map.insert levels channel byte)) (map.get masters n) masters
+with_listed masters n channel byte =
+    option_map_or (λ levels. map.insert masters n (map.insert levels channel byte))
+    (map.get masters n) masters
 
 -- ---- the patch
 
@@ -55,4 +58,5 @@ can_patch dimmer channel = is_dimmer dimmer && nat_le channel 4096
 
 -- with the dimmer patched to the channel, or unpatched at channel 0
 abbrev pub patched_with : PatchMap → ℕ → ℕ → ℕ → PatchMap
-patched_with patch dimmer channel byte = if channel == 0 then map.remove patch dimmer else map.insert patch dimmer (channel, byte)
+patched_with patch dimmer channel byte =
+    if channel == 0 then map.remove patch dimmer else map.insert patch dimmer (channel, byte)

@@ -5,16 +5,19 @@ use Rattle.std.specs.declared.cmp.Ordering.{Ordering}
 use Rattle.std.specs.declared.cmp.Ordering.TheVariants.{Less, Equal, Greater}
 
 -- the entry at place i has the key, and those before it smaller ones
-pub record IsAt {K V : Type 0} (R : K → K → Ordering) (es : List (K × V)) (key : K) (i : ℕ) : Type 0 where
+pub record IsAt {K V : Type 0} (R : K → K → Ordering) (es : List (K × V)) (key : K) (i : ℕ)
+    : Type 0 where
   pub in_range : i < length es
   pub smaller_before : (j : ℕ) (e : K × V) → j < i → R (slice_index_or es j e).0 key ≡ Less
   pub has_key : (e : K × V) → R (slice_index_or es i e).0 key ≡ Equal
 
 -- the key would go at place i: smaller keys before it, and greater keys from it on
-pub record IsGap {K V : Type 0} (R : K → K → Ordering) (es : List (K × V)) (key : K) (i : ℕ) : Type 0 where
+pub record IsGap {K V : Type 0} (R : K → K → Ordering) (es : List (K × V)) (key : K) (i : ℕ)
+    : Type 0 where
   pub in_range : i ≤ length es
   pub smaller_before : (j : ℕ) (e : K × V) → j < i → R (slice_index_or es j e).0 key ≡ Less
-  pub greater_after : (j : ℕ) (e : K × V) → i ≤ j → j < length es → R (slice_index_or es j e).0 key ≡ Greater
+  pub greater_after : (j : ℕ) (e : K × V) → i ≤ j → j < length es
+      → R (slice_index_or es j e).0 key ≡ Greater
 
 -- the entries but for the key
 abbrev pub without : {K V : Type 0} → (K → K → Ordering) → K → List (K × V) → List (K × V)

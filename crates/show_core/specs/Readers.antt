@@ -25,7 +25,8 @@ cue_above cues n = find (λ k. nat_lt n k) (maps.keys cues)
 abbrev pub cue_below : CueMap → ℕ → Option ℕ
 cue_below cues n = find (λ k. nat_lt k n) (reverse (maps.keys cues))
 
--- the ordinal of the universe that a dimmer is in: dimmer d is slot (d - 1) mod 512 + 1 of ordinal (d - 1) / 512
+-- the ordinal of the universe that a dimmer is in: dimmer d is slot (d - 1) mod 512 + 1 of ordinal
+-- (d - 1) / 512
 abbrev pub ordinal_of : ℕ → ℕ
 ordinal_of dimmer = (dimmer - 1) / 512
 
@@ -37,17 +38,21 @@ has_dimmer_in patch ordinal = list_any (λ e. ordinal_of e.0 == ordinal) (maps.e
 abbrev pub universes_of : PatchMap → List ℕ
 universes_of patch = filter (has_dimmer_in patch) (range_with_len 0 16)
 
--- a slot: the fine level of its channel, scaled by the grand master and the patch byte, to the nearest byte
+-- a slot: the fine level of its channel, scaled by the grand master and the patch byte, to the
+-- nearest byte
 abbrev pub slot_of : ℕ → ℕ → ℕ → ℕ
 slot_of level grand byte = (level * grand * byte + 8290687) / 16581375
 
--- the slot of a dimmer with these levels alone at full, and the grand master at 255; 0 where it is not patched
+-- the slot of a dimmer with these levels alone at full, and the grand master at 255; 0 where it is
+-- not patched
 abbrev pub look_slot : LevelMap → PatchMap → ℕ → ℕ
-look_slot levels patch dimmer = option_map_or (λ p. slot_of (255 * level_in levels p.0) 255 p.1) (maps.get patch dimmer) 0
+look_slot levels patch dimmer =
+    option_map_or (λ p. slot_of (255 * level_in levels p.0) 255 p.1) (maps.get patch dimmer) 0
 
 -- the frame of a universe: the slots of its 512 dimmers
 abbrev pub look_frame : LevelMap → PatchMap → ℕ → List ℕ
-look_frame levels patch ordinal = map (look_slot levels patch) (range_with_len (512 * ordinal + 1) 512)
+look_frame levels patch ordinal =
+    map (look_slot levels patch) (range_with_len (512 * ordinal + 1) 512)
 
 -- channels stay in their range
 abbrev pub HasChannels : LevelMap → Type 0

@@ -8,7 +8,7 @@ use std::alloc::{AllocError, Global};
 use std::marker::Model;
 
 /// What a cue has: its levels, and the rates that were set.
-#[derive(Drop)]
+#[derive(Debug, Drop)]
 pub struct CueData {
     pub levels: Levels,
     pub up: Option<Rate>,
@@ -29,7 +29,7 @@ impl CueData {
 }
 
 /// A cue of a show. It is a whole look: a channel that is not listed is at 0.
-#[derive(Drop)]
+#[derive(Debug, Drop)]
 pub struct Cue<'a> {
     data: &'a CueData,
 }
@@ -65,7 +65,8 @@ impl<'a> Cue<'a> {
         self.data.levels.get(channel).unwrap_or(0)
     }
 
-    /// The channels that are listed and their level bytes. The entries of a map are sorted, so the channels strictly ascend.
+    /// The channels that are listed and their level bytes. The entries of a map are sorted, so the
+    /// channels strictly ascend.
     pub fn pairs(&self) -> &'a [(u16, u8)]
         ensures entries { result.now ≡ map.entries self.now.levels }
         ensures range { HasChannels self.now.levels }

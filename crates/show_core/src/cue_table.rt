@@ -1,4 +1,5 @@
-ghost use Rattle.std.specs.Prelude.{◌≡◌, IsTrue, IsOk, IfOk, OnOk, OnErr, IfSome, find, reverse, nat_lt, map as map_list};
+ghost use Rattle.std.specs.Prelude.{◌≡◌, IsTrue, IsOk, IfOk, OnOk, OnErr, IfSome};
+ghost use Rattle.std.specs.Prelude.{find, reverse, nat_lt, map as map_list};
 ghost use Rattle.std.specs.FinMap as map;
 ghost use Rattle.show_core.specs.Numbers.{is_channel};
 ghost use Rattle.show_core.specs.Builders.{opened, with_level, with_up, with_down};
@@ -12,7 +13,7 @@ use std::alloc::{AllocError, Global};
 use std::marker::Model;
 
 /// The cues, by their numbers in thousandths.
-#[derive(Drop)]
+#[derive(Debug, Drop)]
 pub struct CueTable {
     entries: Vec<(u32, CueData)>,
 }
@@ -78,7 +79,8 @@ impl CueTable {
         requires range { IsTrue (is_channel channel) }
         ensures set { OnOk result (self.new ≡ with_level self.old n channel byte) }
         ensures unchanged { OnErr result (self.new ≡ self.old) }
-        ensures sure { IfSome (map.get self.old n) (λ cue. IsTrue (map.contains_key cue.levels channel) → IsOk result) }
+        ensures sure { IfSome (map.get self.old n)
+            (λ cue. IsTrue (map.contains_key cue.levels channel) → IsOk result) }
     {
         if let Ok(at) = place(&self.entries, n) {
             let cue = &mut self.entries[at].1;

@@ -7,7 +7,7 @@ use std::alloc::{AllocError, Global};
 use std::marker::Model;
 
 /// The level byte of each channel that is listed.
-#[derive(Drop)]
+#[derive(Debug, Drop)]
 pub struct Levels {
     pairs: Vec<(u16, u8)>,
 }

@@ -1,4 +1,5 @@
-//! The tables of a show: cues, submasters, groups and the patch, and the calls that build and read them.
+//! The tables of a show: cues, submasters, groups and the patch, and the calls that build and read
+//! them.
 #![tactic(auto)]
 
 mod cue;

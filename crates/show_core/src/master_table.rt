@@ -9,7 +9,7 @@ use std::alloc::{AllocError, Global};
 use std::marker::Model;
 
 /// Submasters or groups, by their numbers.
-#[derive(Drop)]
+#[derive(Debug, Drop)]
 pub struct MasterTable {
     entries: Vec<(u16, Levels)>,
 }
@@ -68,7 +68,8 @@ impl MasterTable {
         requires range { IsTrue (is_channel channel) }
         ensures set { OnOk result (self.new ≡ with_listed self.old n channel byte) }
         ensures unchanged { OnErr result (self.new ≡ self.old) }
-        ensures sure { IfSome (map.get self.old n) (λ levels. IsTrue (map.contains_key levels channel) → IsOk result) }
+        ensures sure { IfSome (map.get self.old n)
+            (λ levels. IsTrue (map.contains_key levels channel) → IsOk result) }
     {
         if let Ok(at) = place(&self.entries, n) {
             let levels = &mut self.entries[at].1;
@@ -85,7 +86,8 @@ impl MasterTable {
 
     // The channels that record `n` lists, ascending.
     pub fn pairs(&self, n: u16) -> Option<&[(u16, u8)]>
-        ensures entries { option_map (λ pairs. pairs.now) result ≡ option_map map.entries (map.get self.now n) }
+        ensures entries { option_map (λ pairs. pairs.now) result
+            ≡ option_map map.entries (map.get self.now n) }
         ensures range { IfSome result (λ pairs. All (λ e. IsTrue (is_channel e.0)) pairs.now) }
     {
         match place(&self.entries, n) {

@@ -10,7 +10,7 @@ use std::alloc::{AllocError, Global};
 use std::marker::Model;
 
 /// For each patched dimmer its channel and its level byte.
-#[derive(Drop)]
+#[derive(Debug, Drop)]
 pub struct PatchTable {
     entries: Vec<(u16, (u16, u8))>,
 }

@@ -11,7 +11,8 @@ pub fn place<K: Ord + Copy, V>(entries: &[(K, V)], key: K) -> Result<usize, usiz
     ensures found { IfOk result (IsAt K.cmp entries.now key) }
     ensures absent { IfErr result (IsGap K.cmp entries.now key) }
 {
-    // Shows list most of their numbers in ascending order: a key is then mostly that of the last entry, or above it.
+    // Shows list most of their numbers in ascending order: a key is then mostly that of the last
+    // entry, or above it.
     if let Some(last) = entries.last() {
         match last.0.cmp(&key) {
             Ordering::Less => return Err(entries.len()),

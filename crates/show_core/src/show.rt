@@ -1,9 +1,12 @@
-ghost use Rattle.std.specs.Prelude.{◌≡◌, ◌*◌, ◌<◌, ◌↔◌, ◌==◌, ◌||◌, IsTrue, IsFalse, IsOk, IfOk, OnOk, OnErr, IfSome, Some, Err, All, option_map};
+ghost use Rattle.std.specs.Prelude.{◌≡◌, ◌*◌, ◌<◌, ◌↔◌, ◌==◌, ◌||◌, IsTrue, IsFalse, IsOk, IfOk};
+ghost use Rattle.std.specs.Prelude.{OnOk, OnErr, IfSome, Some, Err, All, option_map};
 ghost use Rattle.std.specs.Option.{OnSome};
 ghost use Rattle.std.specs.FinMap as map;
 ghost use Rattle.show_core.specs.Numbers.{is_channel, is_dimmer, is_sub, is_group, is_time};
-ghost use Rattle.show_core.specs.Builders.{opened, can_open, with_level, with_up, with_down, opened_in, with_listed, can_patch, patched_with};
-ghost use Rattle.show_core.specs.Readers.{cue_above, cue_below, universes_of, look_slot, look_frame, IsInRange};
+ghost use Rattle.show_core.specs.Builders.{opened, can_open, with_level, with_up, with_down};
+ghost use Rattle.show_core.specs.Builders.{opened_in, with_listed, can_patch, patched_with};
+ghost use Rattle.show_core.specs.Readers.{cue_above, cue_below, universes_of};
+ghost use Rattle.show_core.specs.Readers.{look_slot, look_frame, IsInRange};
 ghost use Rattle.show_core.specs.declared.fault.BuildFault.TheVariants.{Limit, Memory};
 
 use crate::cue::Cue;
@@ -30,7 +33,7 @@ pub struct Counts {
 }
 
 /// The tables of a show: cues, submasters, groups and the patch.
-#[derive(Drop)]
+#[derive(Debug, Drop)]
 pub struct Show {
     alloc: Global,
     cues: CueTable,
@@ -44,13 +47,9 @@ impl Model for Show {
 
     ghost Value = { Tables };
 
-    ghost use Rattle.std.specs.Coded.{code_by, coded×, coded_ℕ};
-    ghost use Rattle.std.specs.Prelude.{refl};
-    ghost use Rattle.std.specs.FinMap as map;
-    ghost use Rattle.show_core.specs.Tables.{CueMap, MasterMap, PatchMap};
-    ghost use Rattle.show_core.specs.contracts.cue.CueData as cue_data;
+    ghost use Rattle.show_core.specs.Codes.{tables_code};
 
-    ghost coded = { code_by (CueMap × (MasterMap × (MasterMap × PatchMap))) (coded× (map.code coded_ℕ cue_data.the_row.coded) (coded× (map.code coded_ℕ (map.code coded_ℕ coded_ℕ)) (coded× (map.code coded_ℕ (map.code coded_ℕ coded_ℕ)) (map.code coded_ℕ (coded× coded_ℕ coded_ℕ))))) (λ s. (s.cues, (s.subs, (s.groups, s.patch)))) (λ p. record { cues = p.0; subs = p.1.0; groups = p.1.1.0; patch = p.1.1.1 }) (λ _. refl) };
+    ghost coded = { tables_code };
 
     ghost use Rattle.show_core.specs.Inside.{show_view, IsShow};
 
@@ -80,12 +79,15 @@ impl Show {
     ///
     /// # Errors
     ///
-    /// `Limit` where `n` is not 1 to 9,999,999, or the cue would be the 2,001st; `Memory` where a growth was refused.
+    /// `Limit` where `n` is not 1 to 9,999,999, or the cue would be the 2,001st; `Memory` where a
+    /// growth was refused.
     pub fn open_cue(&mut self, n: u32) -> Result<(), BuildFault>
-        ensures opened { OnOk result (self.new ≡ record self.old { cues = opened self.old.cues n }) }
+        ensures opened { OnOk result (self.new
+            ≡ record self.old { cues = opened self.old.cues n }) }
         ensures unchanged { OnErr result (self.new ≡ self.old) }
         ensures limit { (result ≡ Err Limit) ↔ IsFalse (can_open self.old.cues n) }
-        ensures sure { IsTrue (can_open self.old.cues n) → IsTrue (map.contains_key self.old.cues n) → IsOk result }
+        ensures sure { IsTrue (can_open self.old.cues n) → IsTrue (map.contains_key self.old.cues n)
+            → IsOk result }
     {
         if !self.can_open(n) {
             return Err(BuildFault::Limit);
@@ -106,10 +108,12 @@ impl Show {
     ///
     /// `Limit` where `n` is not 1 to 100; `Memory` where a growth was refused.
     pub fn open_sub(&mut self, n: u16) -> Result<(), BuildFault>
-        ensures opened { OnOk result (self.new ≡ record self.old { subs = opened_in self.old.subs n }) }
+        ensures opened { OnOk result (self.new
+            ≡ record self.old { subs = opened_in self.old.subs n }) }
         ensures unchanged { OnErr result (self.new ≡ self.old) }
         ensures limit { (result ≡ Err Limit) ↔ IsFalse (is_sub n) }
-        ensures sure { IsTrue (is_sub n) → IsTrue (map.contains_key self.old.subs n) → IsOk result }
+        ensures sure { IsTrue (is_sub n) → IsTrue (map.contains_key self.old.subs n)
+            → IsOk result }
     {
         if !is_sub(n) {
             return Err(BuildFault::Limit);
@@ -124,10 +128,12 @@ impl Show {
     ///
     /// `Limit` where `n` is not 1 to 500; `Memory` where a growth was refused.
     pub fn open_group(&mut self, n: u16) -> Result<(), BuildFault>
-        ensures opened { OnOk result (self.new ≡ record self.old { groups = opened_in self.old.groups n }) }
+        ensures opened { OnOk result (self.new
+            ≡ record self.old { groups = opened_in self.old.groups n }) }
         ensures unchanged { OnErr result (self.new ≡ self.old) }
         ensures limit { (result ≡ Err Limit) ↔ IsFalse (is_group n) }
-        ensures sure { IsTrue (is_group n) → IsTrue (map.contains_key self.old.groups n) → IsOk result }
+        ensures sure { IsTrue (is_group n) → IsTrue (map.contains_key self.old.groups n)
+            → IsOk result }
     {
         if !is_group(n) {
             return Err(BuildFault::Limit);
@@ -143,10 +149,12 @@ impl Show {
     /// `Limit` where the channel is not 1 to 4096; `Memory` where a growth was refused.
     pub fn cue_level(&mut self, n: u32, channel: u16, byte: u8) -> Result<(), BuildFault>
         requires { IsTrue (map.contains_key self.old.cues n) }
-        ensures set { OnOk result (self.new ≡ record self.old { cues = with_level self.old.cues n channel byte }) }
+        ensures set { OnOk result (self.new
+            ≡ record self.old { cues = with_level self.old.cues n channel byte }) }
         ensures unchanged { OnErr result (self.new ≡ self.old) }
         ensures limit { (result ≡ Err Limit) ↔ IsFalse (is_channel channel) }
-        ensures sure { IsTrue (is_channel channel) → IfSome (map.get self.old.cues n) (λ cue. IsTrue (map.contains_key cue.levels channel) → IsOk result) }
+        ensures sure { IsTrue (is_channel channel) → IfSome (map.get self.old.cues n)
+            (λ cue. IsTrue (map.contains_key cue.levels channel) → IsOk result) }
     {
         if !is_channel(channel) {
             return Err(BuildFault::Limit);
@@ -162,10 +170,12 @@ impl Show {
     /// `Limit` where the channel is not 1 to 4096; `Memory` where a growth was refused.
     pub fn sub_level(&mut self, n: u16, channel: u16, byte: u8) -> Result<(), BuildFault>
         requires { IsTrue (map.contains_key self.old.subs n) }
-        ensures set { OnOk result (self.new ≡ record self.old { subs = with_listed self.old.subs n channel byte }) }
+        ensures set { OnOk result (self.new
+            ≡ record self.old { subs = with_listed self.old.subs n channel byte }) }
         ensures unchanged { OnErr result (self.new ≡ self.old) }
         ensures limit { (result ≡ Err Limit) ↔ IsFalse (is_channel channel) }
-        ensures sure { IsTrue (is_channel channel) → IfSome (map.get self.old.subs n) (λ levels. IsTrue (map.contains_key levels channel) → IsOk result) }
+        ensures sure { IsTrue (is_channel channel) → IfSome (map.get self.old.subs n)
+            (λ levels. IsTrue (map.contains_key levels channel) → IsOk result) }
     {
         if !is_channel(channel) {
             return Err(BuildFault::Limit);
@@ -181,10 +191,12 @@ impl Show {
     /// `Limit` where the channel is not 1 to 4096; `Memory` where a growth was refused.
     pub fn group_level(&mut self, n: u16, channel: u16, byte: u8) -> Result<(), BuildFault>
         requires { IsTrue (map.contains_key self.old.groups n) }
-        ensures set { OnOk result (self.new ≡ record self.old { groups = with_listed self.old.groups n channel byte }) }
+        ensures set { OnOk result (self.new
+            ≡ record self.old { groups = with_listed self.old.groups n channel byte }) }
         ensures unchanged { OnErr result (self.new ≡ self.old) }
         ensures limit { (result ≡ Err Limit) ↔ IsFalse (is_channel channel) }
-        ensures sure { IsTrue (is_channel channel) → IfSome (map.get self.old.groups n) (λ levels. IsTrue (map.contains_key levels channel) → IsOk result) }
+        ensures sure { IsTrue (is_channel channel) → IfSome (map.get self.old.groups n)
+            (λ levels. IsTrue (map.contains_key levels channel) → IsOk result) }
     {
         if !is_channel(channel) {
             return Err(BuildFault::Limit);
@@ -193,16 +205,20 @@ impl Show {
         Ok(())
     }
 
-    /// Patches a dimmer to a channel at a level byte, or leaves it unpatched at channel 0. The last patch of a dimmer counts.
+    /// Patches a dimmer to a channel at a level byte, or leaves it unpatched at channel 0. The last
+    /// patch of a dimmer counts.
     ///
     /// # Errors
     ///
-    /// `Limit` where the dimmer is not 1 to 8192 or the channel above 4096; `Memory` where a growth was refused.
+    /// `Limit` where the dimmer is not 1 to 8192 or the channel above 4096; `Memory` where a growth
+    /// was refused.
     pub fn set_patch(&mut self, dimmer: u16, channel: u16, byte: u8) -> Result<(), BuildFault>
-        ensures set { OnOk result (self.new ≡ record self.old { patch = patched_with self.old.patch dimmer channel byte }) }
+        ensures set { OnOk result (self.new
+            ≡ record self.old { patch = patched_with self.old.patch dimmer channel byte }) }
         ensures unchanged { OnErr result (self.new ≡ self.old) }
         ensures limit { (result ≡ Err Limit) ↔ IsFalse (can_patch dimmer channel) }
-        ensures sure { IsTrue (can_patch dimmer channel) → IsTrue ((channel == 0) || map.contains_key self.old.patch dimmer) → IsOk result }
+        ensures sure { IsTrue (can_patch dimmer channel)
+            → IsTrue ((channel == 0) || map.contains_key self.old.patch dimmer) → IsOk result }
     {
         if !can_patch(dimmer, channel) {
             return Err(BuildFault::Limit);
@@ -211,7 +227,8 @@ impl Show {
         Ok(())
     }
 
-    /// Sets the rate of rising levels of cue `n`; its time and delay are at most 5,999,990 milliseconds.
+    /// Sets the rate of rising levels of cue `n`; its time and delay are at most 5,999,990
+    /// milliseconds.
     pub fn set_up(&mut self, n: u32, rate: Rate)
         requires there { IsTrue (map.contains_key self.old.cues n) }
         requires time { IsTrue (is_time rate.time) }
@@ -221,7 +238,8 @@ impl Show {
         self.cues.set_up(n, rate);
     }
 
-    /// Sets the rate of falling levels of cue `n`; its time and delay are at most 5,999,990 milliseconds.
+    /// Sets the rate of falling levels of cue `n`; its time and delay are at most 5,999,990
+    /// milliseconds.
     pub fn set_down(&mut self, n: u32, rate: Rate)
         requires there { IsTrue (map.contains_key self.old.cues n) }
         requires time { IsTrue (is_time rate.time) }
@@ -280,18 +298,22 @@ impl Show {
         self.cues.before(n)
     }
 
-    /// The channels of submaster `n` and their level bytes. The entries of a map are sorted, so the channels strictly ascend.
+    /// The channels of submaster `n` and their level bytes. The entries of a map are sorted, so the
+    /// channels strictly ascend.
     pub fn sub(&self, n: u16) -> Option<&[(u16, u8)]>
-        ensures entries { option_map (λ pairs. pairs.now) result ≡ option_map map.entries (map.get self.now.subs n) }
+        ensures entries { option_map (λ pairs. pairs.now) result
+            ≡ option_map map.entries (map.get self.now.subs n) }
         ensures number { OnSome result (IsTrue (is_sub n)) }
         ensures range { IfSome result (λ pairs. All (λ e. IsTrue (is_channel e.0)) pairs.now) }
     {
         self.subs.pairs(n)
     }
 
-    /// The channels of group `n` and their level bytes. The entries of a map are sorted, so the channels strictly ascend.
+    /// The channels of group `n` and their level bytes. The entries of a map are sorted, so the
+    /// channels strictly ascend.
     pub fn group(&self, n: u16) -> Option<&[(u16, u8)]>
-        ensures entries { option_map (λ pairs. pairs.now) result ≡ option_map map.entries (map.get self.now.groups n) }
+        ensures entries { option_map (λ pairs. pairs.now) result
+            ≡ option_map map.entries (map.get self.now.groups n) }
         ensures number { OnSome result (IsTrue (is_group n)) }
         ensures range { IfSome result (λ pairs. All (λ e. IsTrue (is_channel e.0)) pairs.now) }
     {
@@ -319,11 +341,13 @@ impl Show {
         found
     }
 
-    /// The 512 slots of the universe of an ordinal below 16, with the cue alone at full and the grand master at 255.
+    /// The 512 slots of the universe of an ordinal below 16, with the cue alone at full and the
+    /// grand master at 255.
     pub fn look_slots(&self, cue: u32, ordinal: u16) -> [u8; 512]
         requires there { IsTrue (map.contains_key self.now.cues cue) }
         requires range { ordinal < 16 }
-        ensures { IfSome (map.get self.now.cues cue) (λ look. result ≡ look_frame look.levels self.now.patch ordinal) }
+        ensures { IfSome (map.get self.now.cues cue)
+            (λ look. result ≡ look_frame look.levels self.now.patch ordinal) }
     {
         let mut slots = [0; 512];
         if let Some(look) = self.cue(cue) {

@@ -4,8 +4,8 @@ ghost use Rattle.show_core.specs.Readers.{slot_of};
 // What brings a fine level, times two bytes, back to a byte.
 const SCALE: u32 = 255 * 255 * 255;
 
-/// The slot of a dimmer: its channel's fine level, 0 to 65025, scaled by the grand master and by the
-/// dimmer's own byte, to the nearest byte.
+/// The slot of a dimmer: its channel's fine level, 0 to 65025, scaled by the grand master and by
+/// the dimmer's own byte, to the nearest byte.
 pub fn slot(level: u32, grand: u8, byte: u8) -> u8
     requires { level ≤ 65025 }
     ensures { result ≡ slot_of level grand byte }

@@ -328,7 +328,8 @@ fn sizes(show: &Show) -> (Counts, Option<usize>, Option<usize>, Option<usize>) {
     (show.counts(), cue, sub, group)
 }
 
-// `rt try --test --fail-alloc N` refuses the Nth growth: N from 1 to 14 refuses each growth of this test in turn, and it passes each time. The other tests then answer their error.
+// `rt try --test --fail-alloc N` refuses the Nth growth: N from 1 to 14 refuses each growth of this
+// test in turn, and it passes each time. The other tests then answer their error.
 #[test]
 fn each_growth_refused(rt: HostRuntime) {
     let mut show = Show::new(rt.alloc());
