@@ -1,5 +1,6 @@
 -- Each builder keeps the numbers of a show in their ranges.
-use Rattle.std.proofs.Common.{◌≡◌, ℕ, ◌+◌, ◌<◌, ◌≤◌, ◌==◌, true, false, cond, IsTrue, Option, Some, None, is_some, refl, ap, ◌∙◌, arith}
+use Rattle.std.proofs.Common.{◌≡◌, ℕ, ◌+◌, ◌<◌, ◌≤◌, ◌==◌, true, false, cond, IsTrue, Option, Some}
+use Rattle.std.proofs.Common.{None, is_some, refl, ap, ◌∙◌, arith}
 use Rattle.std.specs.Prelude.{All, IfSome, option_map}
 use Rattle.std.specs.Option.{OnSome}
 use Rattle.std.specs.Ordering.{nat_cmp}
@@ -10,15 +11,20 @@ use Rattle.show_core.specs.declared.cue.CueData.{CueData}
 use Rattle.show_core.specs.declared.rate.Rate.{Rate}
 use Rattle.show_core.specs.Numbers.{is_channel, is_dimmer, is_sub, is_group, is_cue_number, is_time}
 use Rattle.show_core.specs.Tables.{Tables, LevelMap, CueMap, MasterMap, PatchMap}
-use Rattle.show_core.specs.Builders.{blank, opened, can_open, changed, opened_in, with_listed, can_patch, patched_with}
+use Rattle.show_core.specs.Builders.{blank, opened, can_open, changed, opened_in, with_listed}
+use Rattle.show_core.specs.Builders.{can_patch, patched_with}
 use Rattle.show_core.specs.Readers.{IsInRange, IsRateInRange, HasRates, rate_of}
 use Rattle.show_core.proofs.Sorted.{and_left, from_true, to_true}
-use Rattle.show_core.proofs.Ranges.{keys-insert, keys-changed, keys-remove, key_in, len-changed, values-insert, values-remove, values-changed, value_in, none_in, no_values}
+use Rattle.show_core.proofs.Ranges.{keys-insert, keys-changed, keys-remove, key_in, len-changed}
+use Rattle.show_core.proofs.Ranges.{values-insert, values-remove, values-changed, value_in, none_in}
+use Rattle.show_core.proofs.Ranges.{no_values}
 
 -- a map of records has only keys of a kind, also with one more
-opened_in_range : (P : ℕ → Type 0) (masters : MasterMap) (n : ℕ) → All P (map.keys masters) → P n → All P (map.keys (opened_in masters n))
+opened_in_range : (P : ℕ → Type 0) (masters : MasterMap) (n : ℕ) → All P (map.keys masters) → P n
+    → All P (map.keys (opened_in masters n))
 opened_in_range P masters n h p =
-    elim (map.contains_key masters n) as (λ b. All P (map.keys (cond b masters (map.insert masters n map.empty)))) [
+    elim (map.contains_key masters n)
+    as (λ b. All P (map.keys (cond b masters (map.insert masters n map.empty)))) [
       | true ↦ h
       | false ↦ keys-insert P masters n map.empty h p
     ]
@@ -36,14 +42,16 @@ rate_in_range (Some rate) other here there = here
 rate_in_range None (Some rate) here there = there
 rate_in_range None None here there = (refl, refl)
 
-module _ (set other : Option Rate) (here : IfSome set IsRateInRange) (there : IfSome other IsRateInRange) where
+module _ (set other : Option Rate) (here : IfSome set IsRateInRange)
+    (there : IfSome other IsRateInRange) where
   pub rate_time_fits : (rate_of set other).time ≤ 5999990
   rate_time_fits = time_fits (rate_of set other).time (rate_in_range set other here there).0
 
   pub rate_delay_fits : (rate_of set other).delay ≤ 5999990
   rate_delay_fits = time_fits (rate_of set other).delay (rate_in_range set other here there).1
 
-pub empty_in_range : IsInRange (record { cues = map.empty; subs = map.empty; groups = map.empty; patch = map.empty })
+pub empty_in_range : IsInRange
+    (record { cues = map.empty; subs = map.empty; groups = map.empty; patch = map.empty })
 empty_in_range = record {
   cues_in = none_in CueData (λ n. IsTrue (is_cue_number n));
   cues_fit = omega (arith, map.len-empty nat_cmp CueData);
@@ -56,29 +64,74 @@ empty_in_range = record {
 
 module _ (t : Tables) (h : IsInRange t) where
   -- one table is replaced
-  cues_in_range : (cues : CueMap) → All (λ n. IsTrue (is_cue_number n)) (map.keys cues) → map.len cues ≤ 2000
+  cues_in_range : (cues : CueMap) → All (λ n. IsTrue (is_cue_number n)) (map.keys cues)
+      → map.len cues ≤ 2000
       → All (λ e. HasRates e.1) (map.entries cues) → IsInRange (record t { cues = cues })
-  cues_in_range cues s fit rates = record { cues_in = s; cues_fit = fit; rates_in = rates; subs_in = h.subs_in; groups_in = h.groups_in; dimmers_in = h.dimmers_in; patch_channels = h.patch_channels }
+  cues_in_range cues s fit rates = record {
+    cues_in = s;
+    cues_fit = fit;
+    rates_in = rates;
+    subs_in = h.subs_in;
+    groups_in = h.groups_in;
+    dimmers_in = h.dimmers_in;
+    patch_channels = h.patch_channels;
+  }
 
-  subs_in_range : (subs : MasterMap) → All (λ n. IsTrue (is_sub n)) (map.keys subs) → IsInRange (record t { subs = subs })
-  subs_in_range subs s = record { cues_in = h.cues_in; cues_fit = h.cues_fit; rates_in = h.rates_in; subs_in = s; groups_in = h.groups_in; dimmers_in = h.dimmers_in; patch_channels = h.patch_channels }
+  subs_in_range : (subs : MasterMap) → All (λ n. IsTrue (is_sub n)) (map.keys subs)
+      → IsInRange (record t { subs = subs })
+  subs_in_range subs s = record {
+    cues_in = h.cues_in;
+    cues_fit = h.cues_fit;
+    rates_in = h.rates_in;
+    subs_in = s;
+    groups_in = h.groups_in;
+    dimmers_in = h.dimmers_in;
+    patch_channels = h.patch_channels;
+  }
 
-  groups_in_range : (groups : MasterMap) → All (λ n. IsTrue (is_group n)) (map.keys groups) → IsInRange (record t { groups = groups })
-  groups_in_range groups s = record { cues_in = h.cues_in; cues_fit = h.cues_fit; rates_in = h.rates_in; subs_in = h.subs_in; groups_in = s; dimmers_in = h.dimmers_in; patch_channels = h.patch_channels }
+  groups_in_range : (groups : MasterMap) → All (λ n. IsTrue (is_group n)) (map.keys groups)
+      → IsInRange (record t { groups = groups })
+  groups_in_range groups s = record {
+    cues_in = h.cues_in;
+    cues_fit = h.cues_fit;
+    rates_in = h.rates_in;
+    subs_in = h.subs_in;
+    groups_in = s;
+    dimmers_in = h.dimmers_in;
+    patch_channels = h.patch_channels;
+  }
 
-  patch_in_range : (patch : PatchMap) → All (λ d. IsTrue (is_dimmer d)) (map.keys patch) → All (λ e. IsTrue (is_channel e.1.0)) (map.entries patch) → IsInRange (record t { patch = patch })
-  patch_in_range patch s c = record { cues_in = h.cues_in; cues_fit = h.cues_fit; rates_in = h.rates_in; subs_in = h.subs_in; groups_in = h.groups_in; dimmers_in = s; patch_channels = c }
+  patch_in_range : (patch : PatchMap) → All (λ d. IsTrue (is_dimmer d)) (map.keys patch)
+      → All (λ e. IsTrue (is_channel e.1.0)) (map.entries patch)
+      → IsInRange (record t { patch = patch })
+  patch_in_range patch s c = record {
+    cues_in = h.cues_in;
+    cues_fit = h.cues_fit;
+    rates_in = h.rates_in;
+    subs_in = h.subs_in;
+    groups_in = h.groups_in;
+    dimmers_in = s;
+    patch_channels = c;
+  }
 
-  pub opened_cue_in_range : (n : ℕ) → can_open t.cues n ≡ true → IsInRange (record t { cues = opened t.cues n })
+  pub opened_cue_in_range : (n : ℕ) → can_open t.cues n ≡ true
+      → IsInRange (record t { cues = opened t.cues n })
   opened_cue_in_range n can =
-      elim (map.contains_key t.cues n) as (λ b. map.contains_key t.cues n ≡ b → IsInRange (record t { cues = cond b t.cues (map.insert t.cues n blank) })) [
+      elim (map.contains_key t.cues n)
+      as (λ b. map.contains_key t.cues n ≡ b
+      → IsInRange (record t { cues = cond b t.cues (map.insert t.cues n blank) })) [
         | true ↦ λ _. h
         | false ↦ λ absent.
-            let number : IsTrue (is_cue_number n) = to_true (and_left (is_cue_number n) _ (from_true can)) in
+            let number : IsTrue (is_cue_number n) =
+            to_true (and_left (is_cue_number n) _ (from_true can)) in
             let can' : can_open t.cues n ≡ true = can in
             let room : map.len t.cues < 2000 = grind (arith, nat_tests, rw absent at can') in
-            let more : map.len (map.insert t.cues n blank) ≡ map.len t.cues + 1 = map.len-insert nat_cmp_total t.cues n blank ∙ ap (λ b. cond b (map.len t.cues) (map.len t.cues + 1)) absent in
-            cues_in_range (map.insert t.cues n blank) (keys-insert (λ k. IsTrue (is_cue_number k)) t.cues n blank h.cues_in number) (omega arith)
+            let more : map.len (map.insert t.cues n blank) ≡ map.len t.cues + 1 =
+            map.len-insert nat_cmp_total t.cues n blank
+            ∙ ap (λ b. cond b (map.len t.cues) (map.len t.cues + 1)) absent in
+            cues_in_range (map.insert t.cues n blank)
+            (keys-insert (λ k. IsTrue (is_cue_number k)) t.cues n blank h.cues_in number)
+            (omega arith)
             (values-insert HasRates t.cues n blank h.rates_in no_rates)
       ] refl
 
@@ -88,51 +141,90 @@ module _ (t : Tables) (h : IsInRange t) where
   changed_cue_in_range n change keep =
       let many : map.len (changed t.cues n change) ≡ map.len t.cues = len-changed t.cues n change in
       let few : map.len t.cues ≤ 2000 = h.cues_fit in
-      cues_in_range (changed t.cues n change) (keys-changed (λ k. IsTrue (is_cue_number k)) t.cues n change h.cues_in) (omega arith)
+      cues_in_range (changed t.cues n change)
+      (keys-changed (λ k. IsTrue (is_cue_number k)) t.cues n change h.cues_in) (omega arith)
       (values-changed HasRates t.cues n change keep h.rates_in)
 
   pub no_cues_in_range : IsInRange (record t { cues = map.empty })
-  no_cues_in_range = cues_in_range map.empty (none_in CueData (λ n. IsTrue (is_cue_number n))) (omega (arith, map.len-empty nat_cmp CueData))
+  no_cues_in_range =
+      cues_in_range map.empty (none_in CueData (λ n. IsTrue (is_cue_number n)))
+      (omega (arith, map.len-empty nat_cmp CueData))
       (no_values CueData (λ e. HasRates e.1))
 
-  pub opened_sub_in_range : (n : ℕ) → IsTrue (is_sub n) → IsInRange (record t { subs = opened_in t.subs n })
-  opened_sub_in_range n number = subs_in_range (opened_in t.subs n) (opened_in_range (λ k. IsTrue (is_sub k)) t.subs n h.subs_in number)
+  pub opened_sub_in_range : (n : ℕ) → IsTrue (is_sub n)
+      → IsInRange (record t { subs = opened_in t.subs n })
+  opened_sub_in_range n number =
+      subs_in_range (opened_in t.subs n)
+      (opened_in_range (λ k. IsTrue (is_sub k)) t.subs n h.subs_in number)
 
-  pub changed_sub_in_range : (n channel byte : ℕ) → IsInRange (record t { subs = with_listed t.subs n channel byte })
-  changed_sub_in_range n channel byte = subs_in_range (with_listed t.subs n channel byte) (keys-changed (λ k. IsTrue (is_sub k)) t.subs n (λ levels. map.insert levels channel byte) h.subs_in)
+  pub changed_sub_in_range : (n channel byte : ℕ)
+      → IsInRange (record t { subs = with_listed t.subs n channel byte })
+  changed_sub_in_range n channel byte =
+      subs_in_range (with_listed t.subs n channel byte)
+      (keys-changed (λ k. IsTrue (is_sub k)) t.subs n
+      (λ levels. map.insert levels channel byte) h.subs_in)
 
   pub no_subs_in_range : IsInRange (record t { subs = map.empty })
   no_subs_in_range = subs_in_range map.empty (none_in LevelMap (λ n. IsTrue (is_sub n)))
 
-  pub opened_group_in_range : (n : ℕ) → IsTrue (is_group n) → IsInRange (record t { groups = opened_in t.groups n })
-  opened_group_in_range n number = groups_in_range (opened_in t.groups n) (opened_in_range (λ k. IsTrue (is_group k)) t.groups n h.groups_in number)
+  pub opened_group_in_range : (n : ℕ) → IsTrue (is_group n)
+      → IsInRange (record t { groups = opened_in t.groups n })
+  opened_group_in_range n number =
+      groups_in_range (opened_in t.groups n)
+      (opened_in_range (λ k. IsTrue (is_group k)) t.groups n h.groups_in number)
 
-  pub changed_group_in_range : (n channel byte : ℕ) → IsInRange (record t { groups = with_listed t.groups n channel byte })
-  changed_group_in_range n channel byte = groups_in_range (with_listed t.groups n channel byte) (keys-changed (λ k. IsTrue (is_group k)) t.groups n (λ levels. map.insert levels channel byte) h.groups_in)
+  pub changed_group_in_range : (n channel byte : ℕ)
+      → IsInRange (record t { groups = with_listed t.groups n channel byte })
+  changed_group_in_range n channel byte =
+      groups_in_range (with_listed t.groups n channel byte)
+      (keys-changed (λ k. IsTrue (is_group k)) t.groups n
+      (λ levels. map.insert levels channel byte) h.groups_in)
 
   pub no_groups_in_range : IsInRange (record t { groups = map.empty })
   no_groups_in_range = groups_in_range map.empty (none_in LevelMap (λ n. IsTrue (is_group n)))
 
-  pub patched_in_range : (dimmer channel byte : ℕ) → can_patch dimmer channel ≡ true → IsInRange (record t { patch = patched_with t.patch dimmer channel byte })
+  pub patched_in_range : (dimmer channel byte : ℕ) → can_patch dimmer channel ≡ true
+      → IsInRange (record t { patch = patched_with t.patch dimmer channel byte })
   patched_in_range dimmer channel byte can =
-      let number : IsTrue (is_dimmer dimmer) = to_true (and_left (is_dimmer dimmer) _ (from_true can)) in
+      let number : IsTrue (is_dimmer dimmer) =
+      to_true (and_left (is_dimmer dimmer) _ (from_true can)) in
       let can' : can_patch dimmer channel ≡ true = can in
-      elim (channel == 0) as (λ b. (channel == 0) ≡ b → IsInRange (record t { patch = cond b (map.remove t.patch dimmer) (map.insert t.patch dimmer (channel, byte)) })) [
-        | true ↦ λ _. patch_in_range (map.remove t.patch dimmer) (keys-remove (λ d. IsTrue (is_dimmer d)) t.patch dimmer h.dimmers_in) (values-remove (λ v. IsTrue (is_channel v.0)) t.patch dimmer h.patch_channels)
+      elim (channel == 0)
+      as (λ b. (channel == 0) ≡ b
+      → IsInRange (record t {
+        patch = cond b (map.remove t.patch dimmer)
+            (map.insert t.patch dimmer (channel, byte));
+      })) [
+        | true ↦ λ _. patch_in_range (map.remove t.patch dimmer)
+            (keys-remove (λ d. IsTrue (is_dimmer d)) t.patch dimmer h.dimmers_in)
+            (values-remove (λ v. IsTrue (is_channel v.0)) t.patch dimmer h.patch_channels)
         | false ↦ λ some.
             let there : IsTrue (is_channel channel) = grind (arith, nat_tests) in
-            patch_in_range (map.insert t.patch dimmer (channel, byte)) (keys-insert (λ d. IsTrue (is_dimmer d)) t.patch dimmer (channel, byte) h.dimmers_in number) (values-insert (λ v. IsTrue (is_channel v.0)) t.patch dimmer (channel, byte) h.patch_channels there)
+            patch_in_range (map.insert t.patch dimmer (channel, byte))
+            (keys-insert (λ d. IsTrue (is_dimmer d)) t.patch dimmer
+            (channel, byte) h.dimmers_in number)
+            (values-insert (λ v. IsTrue (is_channel v.0)) t.patch dimmer
+            (channel, byte) h.patch_channels there)
       ] refl
 
   pub no_patch_in_range : IsInRange (record t { patch = map.empty })
-  no_patch_in_range = patch_in_range map.empty (none_in (ℕ × ℕ) (λ d. IsTrue (is_dimmer d))) (no_values (ℕ × ℕ) (λ e. IsTrue (is_channel e.1.0)))
+  no_patch_in_range =
+      patch_in_range map.empty (none_in (ℕ × ℕ) (λ d. IsTrue (is_dimmer d)))
+      (no_values (ℕ × ℕ) (λ e. IsTrue (is_channel e.1.0)))
 
   -- what is patched is in range
-  pub found_in_range : (dimmer : ℕ) → IfSome (map.get t.patch dimmer) (λ p. IsTrue (is_dimmer dimmer) × IsTrue (is_channel p.0))
+  pub found_in_range : (dimmer : ℕ)
+      → IfSome (map.get t.patch dimmer) (λ p. IsTrue (is_dimmer dimmer) × IsTrue (is_channel p.0))
   found_in_range dimmer =
-      elim (map.get t.patch dimmer) as (λ o. map.get t.patch dimmer ≡ o → IfSome o (λ p. IsTrue (is_channel p.0)) → IfSome o (λ p. IsTrue (is_dimmer dimmer) × IsTrue (is_channel p.0))) [
+      elim (map.get t.patch dimmer)
+      as (λ o. map.get t.patch dimmer ≡ o → IfSome o (λ p. IsTrue (is_channel p.0))
+      → IfSome o (λ p. IsTrue (is_dimmer dimmer) × IsTrue (is_channel p.0))) [
         | None ↦ λ _ _. tt
-        | Some v ↦ λ is channel. (key_in (λ d. IsTrue (is_dimmer d)) t.patch dimmer h.dimmers_in (ap is_some is), channel)
+        | Some v ↦ λ is channel. (
+          key_in (λ d. IsTrue (is_dimmer d)) t.patch dimmer h.dimmers_in
+              (ap is_some is),
+          channel,
+        )
       ] refl (value_in (λ v. IsTrue (is_channel v.0)) t.patch dimmer h.patch_channels)
 
   -- a submaster that is found has a submaster's number, and a group a group's
@@ -147,11 +239,13 @@ module _ (t : Tables) (h : IsInRange t) where
   found_group_in_range n =
       elim (map.get t.groups n) as (λ o. map.get t.groups n ≡ o → OnSome o (IsTrue (is_group n))) [
         | None ↦ λ _. tt
-        | Some levels ↦ λ is. key_in (λ k. IsTrue (is_group k)) t.groups n h.groups_in (ap is_some is)
+        | Some levels ↦ λ is. key_in (λ k. IsTrue (is_group k)) t.groups n h.groups_in
+            (ap is_some is)
       ] refl
 
 -- what is said of both or of neither
-pub on_some_both : {A B C : Type 0} (f : A → C) (g : B → C) (a : Option A) (b : Option B) (P : Type 0)
+pub on_some_both : {A B C : Type 0} (f : A → C) (g : B → C) (a : Option A) (b : Option B)
+    (P : Type 0)
     → option_map f a ≡ option_map g b → OnSome b P → OnSome a P
 on_some_both f g None b P same h = tt
 on_some_both f g (Some x) (Some y) P same h = h

@@ -1,6 +1,5 @@
 -- The tables of a show as a code, which equality of shows rests on.
-use Rattle.std.specs.Prelude.{ℕ, refl}
-use Rattle.std.specs.Ordering.{nat_cmp}
+use Rattle.std.specs.Prelude.{refl}
 use Rattle.std.specs.Coded.{Coded, code_by, coded×, coded_ℕ}
 use Rattle.std.specs.FinMap as map
 use Rattle.show_core.specs.contracts.cue.CueData as cue_data

@@ -8,5 +8,10 @@ use Rattle.show_core.proofs.cue_table.CueTable.before.Goals as goal
 
 pub returns : goal.returns
 returns c =
-    let e : map.entries c.args.self.now ≡ c.self.inside.entries.items = ap map.entries (sym c.self.view_is) ∙ entries_are nat_cmp nat_cmp_total c.self.inside.entries.items c.self.invariant in
-    rw e (c.last_below.ensures ∙ ap (find (λ k. nat_lt k c.args.n)) (map-reverse (λ x. x.0) c.deref.result.now) ∙ ap (λ es. find (λ k. nat_lt k c.args.n) (reverse (map_list (λ x. x.0) es))) c.deref.ensures.value)
+    let e : map.entries c.args.self.now ≡ c.self.inside.entries.items =
+    ap map.entries (sym c.self.view_is)
+    ∙ entries_are nat_cmp nat_cmp_total c.self.inside.entries.items c.self.invariant in
+    rw e (c.last_below.ensures
+    ∙ ap (find (λ k. nat_lt k c.args.n)) (map-reverse (λ x. x.0) c.deref.result.now)
+    ∙ ap (λ es. find (λ k. nat_lt k c.args.n) (reverse (map_list (λ x. x.0) es)))
+    c.deref.ensures.value)

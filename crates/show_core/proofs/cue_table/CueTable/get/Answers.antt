@@ -18,7 +18,14 @@ of-requires c =
     subst (λ o. IfSome o HasRates) (sym is) c.requires
 
 pub returns-in-Ok : goal.returns-in-Ok
-returns-in-Ok c = rw (c.of.ensures, ← c.self.view_is) (lookup_at nat_cmp nat_cmp_total c.self.inside.entries.items c.self.invariant c.args.n c.in-Ok.at c.index.result.now (rw c.deref.ensures.value at c.in-Ok.ensures.found) c.index.ensures)
+returns-in-Ok c =
+    rw (c.of.ensures, ← c.self.view_is)
+    (lookup_at nat_cmp nat_cmp_total c.self.inside.entries.items c.self.invariant c.args.n
+    c.in-Ok.at c.index.result.now
+    (rw c.deref.ensures.value at c.in-Ok.ensures.found) c.index.ensures)
 
 pub returns-in-Err : goal.returns-in-Err
-returns-in-Err c = rw (← c.self.view_is) (lookup_gap nat_cmp nat_cmp_total c.self.inside.entries.items c.self.invariant c.args.n c.in-Err.field-0 (rw c.deref.ensures.value at c.in-Err.ensures.absent))
+returns-in-Err c =
+    rw (← c.self.view_is)
+    (lookup_gap nat_cmp nat_cmp_total c.self.inside.entries.items c.self.invariant c.args.n
+    c.in-Err.field-0 (rw c.deref.ensures.value at c.in-Err.ensures.absent))

@@ -8,5 +8,7 @@ use Rattle.show_core.proofs.cue_table.CueTable.next.Goals as goal
 
 pub returns : goal.returns
 returns c =
-    let e : map.entries c.args.self.now ≡ c.self.inside.entries.items = ap map.entries (sym c.self.view_is) ∙ entries_are nat_cmp nat_cmp_total c.self.inside.entries.items c.self.invariant in
+    let e : map.entries c.args.self.now ≡ c.self.inside.entries.items =
+    ap map.entries (sym c.self.view_is)
+    ∙ entries_are nat_cmp nat_cmp_total c.self.inside.entries.items c.self.invariant in
     rw e (grind (arith, common_steps))

@@ -12,12 +12,26 @@ invariant_of-self-2 c =
     let es = c.self.inside.pairs.items in
     let sorted = c.self.invariant.sorted in
     record {
-      sorted = rw c.in_ok-put.ensures.ok (sorted_put nat_cmp nat_cmp_total es sorted c.args.channel c.args.byte);
-      channels_in = rw (c.in_ok-put.ensures.ok, from_sorted-put nat_cmp nat_cmp_total es sorted c.args.channel c.args.byte) (keys-insert (λ k. IsTrue (is_channel k)) (map.from_sorted es) c.args.channel c.args.byte c.self.invariant.channels_in c.requires);
+      sorted = rw c.in_ok-put.ensures.ok
+          (sorted_put nat_cmp nat_cmp_total es sorted c.args.channel c.args.byte);
+      channels_in =
+          rw (
+            c.in_ok-put.ensures.ok,
+            from_sorted-put nat_cmp nat_cmp_total es sorted c.args.channel
+                c.args.byte,
+          ) (keys-insert (λ k. IsTrue (is_channel k))
+          (map.from_sorted es) c.args.channel c.args.byte c.self.invariant.channels_in c.requires);
     }
 
 pub returns-clause-ok : goal.returns-clause-ok
-returns-clause-ok c = rw (c.in_ok-put.ensures.ok, ← c.self.view_is) (from_sorted-put nat_cmp nat_cmp_total c.self.inside.pairs.items c.self.invariant.sorted c.args.channel c.args.byte)
+returns-clause-ok c =
+    rw (c.in_ok-put.ensures.ok, ← c.self.view_is)
+    (from_sorted-put nat_cmp nat_cmp_total c.self.inside.pairs.items c.self.invariant.sorted
+    c.args.channel c.args.byte)
 
 pub returns-in_err-put-clause-sure : goal.returns-in_err-put-clause-sure
-returns-in_err-put-clause-sure c = λ there. not_so (c.in_err-put.ensures.sure (found_from_contains nat_cmp c.self.inside.pairs.items c.self.invariant.sorted c.args.channel (ap (λ m. map.contains_key m c.args.channel) c.self.view_is ∙ there)))
+returns-in_err-put-clause-sure c =
+    λ there. not_so
+    (c.in_err-put.ensures.sure
+    (found_from_contains nat_cmp c.self.inside.pairs.items c.self.invariant.sorted c.args.channel
+    (ap (λ m. map.contains_key m c.args.channel) c.self.view_is ∙ there)))

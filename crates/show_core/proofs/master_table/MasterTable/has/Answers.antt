@@ -7,4 +7,7 @@ use Rattle.show_core.proofs.master_table.MasterTable.has.Goals as goal
 pub returns : goal.returns
 returns c =
     c.is_ok.ensures.value
-    ∙ rw (← c.self.view_is) (is_ok-place nat_cmp nat_cmp_total c.self.inside.entries.items c.self.invariant c.args.n c.place.result (rw c.deref.ensures.value at c.place.ensures.found) (rw c.deref.ensures.value at c.place.ensures.absent))
+    ∙ rw (← c.self.view_is)
+    (is_ok-place nat_cmp nat_cmp_total c.self.inside.entries.items c.self.invariant c.args.n
+    c.place.result (rw c.deref.ensures.value at c.place.ensures.found)
+    (rw c.deref.ensures.value at c.place.ensures.absent))

@@ -8,5 +8,7 @@ use Rattle.show_core.proofs.master_table.MasterTable.len.Goals as goal
 
 pub returns : goal.returns
 returns c =
-    let many : map.len c.args.self.now ≡ length c.self.inside.entries.items = ap map.len (sym c.self.view_is) ∙ len_is nat_cmp nat_cmp_total c.self.inside.entries.items c.self.invariant in
+    let many : map.len c.args.self.now ≡ length c.self.inside.entries.items =
+    ap map.len (sym c.self.view_is)
+    ∙ len_is nat_cmp nat_cmp_total c.self.inside.entries.items c.self.invariant in
     grind (arith, common_steps, many)

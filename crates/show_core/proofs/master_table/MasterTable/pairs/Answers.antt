@@ -9,10 +9,22 @@ use Rattle.show_core.proofs.Ranges.{entries_from_keys}
 use Rattle.show_core.proofs.master_table.MasterTable.pairs.Goals as goal
 
 pub returns-in-Ok-clause-entries : goal.returns-in-Ok-clause-entries
-returns-in-Ok-clause-entries c = rw (c.pairs.ensures.entries, ← c.self.view_is) (ap (option_map map.entries) (lookup_at nat_cmp nat_cmp_total c.self.inside.entries.items c.self.invariant c.args.n c.in-Ok.at c.index.result.now (rw c.deref.ensures.value at c.in-Ok.ensures.found) c.index.ensures))
+returns-in-Ok-clause-entries c =
+    rw (c.pairs.ensures.entries, ← c.self.view_is)
+    (ap (option_map map.entries)
+    (lookup_at nat_cmp nat_cmp_total c.self.inside.entries.items c.self.invariant c.args.n
+    c.in-Ok.at c.index.result.now
+    (rw c.deref.ensures.value at c.in-Ok.ensures.found) c.index.ensures))
 
 pub returns-in-Ok-clause-range : goal.returns-in-Ok-clause-range
-returns-in-Ok-clause-range c = rw c.pairs.ensures.entries (entries_from_keys (λ k. IsTrue (is_channel k)) (map.entries c.index.result.now.1) c.pairs.ensures.range)
+returns-in-Ok-clause-range c =
+    rw c.pairs.ensures.entries
+    (entries_from_keys (λ k. IsTrue (is_channel k))
+    (map.entries c.index.result.now.1) c.pairs.ensures.range)
 
 pub returns-in-Err-clause-entries : goal.returns-in-Err-clause-entries
-returns-in-Err-clause-entries c = rw (← c.self.view_is) (ap (option_map map.entries) (lookup_gap nat_cmp nat_cmp_total c.self.inside.entries.items c.self.invariant c.args.n c.in-Err.field-0 (rw c.deref.ensures.value at c.in-Err.ensures.absent)))
+returns-in-Err-clause-entries c =
+    rw (← c.self.view_is)
+    (ap (option_map map.entries)
+    (lookup_gap nat_cmp nat_cmp_total c.self.inside.entries.items c.self.invariant c.args.n
+    c.in-Err.field-0 (rw c.deref.ensures.value at c.in-Err.ensures.absent)))

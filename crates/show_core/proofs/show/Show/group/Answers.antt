@@ -7,5 +7,7 @@ use Rattle.show_core.proofs.show.Show.group.Goals as goal
 
 pub returns-clause-number : goal.returns-clause-number
 returns-clause-number c =
-    on_some_both (λ pairs. pairs.now) map.entries c.pairs.result (map.get c.self.inside.groups c.args.n) (IsTrue (is_group c.args.n))
-    c.pairs.ensures.entries (found_group_in_range (show_view c.self.inside) c.self.invariant c.args.n)
+    on_some_both (λ pairs. pairs.now) map.entries c.pairs.result
+    (map.get c.self.inside.groups c.args.n) (IsTrue (is_group c.args.n))
+    c.pairs.ensures.entries
+    (found_group_in_range (show_view c.self.inside) c.self.invariant c.args.n)

@@ -8,4 +8,5 @@ use Rattle.show_core.proofs.show.Show.open_group.Goals as goal
 pub invariant_of-self-2 : goal.invariant_of-self-2
 invariant_of-self-2 c =
     let number : is_group c.args.n ≡ true = grind (arith, common_steps) in
-    rw c.in_ok-open.ensures.opened (opened_group_in_range (show_view c.self.inside) c.self.invariant c.args.n number)
+    rw c.in_ok-open.ensures.opened
+    (opened_group_in_range (show_view c.self.inside) c.self.invariant c.args.n number)

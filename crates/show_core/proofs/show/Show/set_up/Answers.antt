@@ -4,5 +4,8 @@ use Rattle.show_core.proofs.InRange.{changed_cue_in_range}
 use Rattle.show_core.proofs.show.Show.set_up.Goals as goal
 
 pub invariant_of-self : goal.invariant_of-self
-invariant_of-self c = rw c.set_up.ensures (changed_cue_in_range (show_view c.self.inside) c.self.invariant c.args.n (λ cue. record cue { up = Some c.args.rate })
+invariant_of-self c =
+    rw c.set_up.ensures
+    (changed_cue_in_range (show_view c.self.inside) c.self.invariant c.args.n
+    (λ cue. record cue { up = Some c.args.rate })
     (λ cue has. record { up_in = (c.requires.time, c.requires.delay); down_in = has.down_in }))
