@@ -1,4 +1,4 @@
--- The tables of a show as a code, which equality of shows rests on.
+-- The codes of the tables of a show, by which proofs tell their values apart.
 use Rattle.std.specs.Prelude.{refl}
 use Rattle.std.specs.Coded.{Coded, code_by, coded×, coded_ℕ}
 use Rattle.std.specs.FinMap as map
