@@ -40,8 +40,8 @@ def counts(lines, cues=0, subs=0, groups=0, dimmers=0, skipped=0):
     ).encode()
 
 
-def packet(universe, slots):
-    """The E1.31 data packet of a look, field by field: `slots` has the slots that are not 0."""
+def packet(universe, slots, sequence=0, options=0, priority=100, cid=CID):
+    """An E1.31 data packet of the program, field by field: `slots` has the slots that are not 0."""
     levels = bytearray(512)
     for slot, level in slots.items():
         levels[slot - 1] = level
@@ -49,10 +49,10 @@ def packet(universe, slots):
         bytes.fromhex("00100000"),  # preamble and post-amble size
         b"ASC-E1.17\0\0\0",  # packet identifier
         bytes.fromhex("726e 00000004"),  # root layer: flags and length, vector
-        bytes.fromhex(CID.replace("-", "")),
+        bytes.fromhex(cid.replace("-", "")),
         bytes.fromhex("7258 00000002"),  # framing layer: flags and length, vector
         b"cueplayer".ljust(64, b"\0"),  # source name
-        bytes([100, 0, 0, 0, 0]),  # priority, synchronization address, sequence number, options
+        bytes([priority, 0, 0, sequence, options]),  # 0, 0: the synchronization address
         universe.to_bytes(2, "big"),
         bytes.fromhex("720b 02 a1 0000 0001 0201"),  # DMP layer, up to the property value count
         b"\0",  # START code
