@@ -3,4 +3,5 @@ pub mod Ranges
 pub mod Forms
 pub mod Ranged
 pub mod Wider
+pub mod Room
 mod Rows

@@ -7,7 +7,6 @@ use Rattle.std.proofs.lemmas.Bool.Decides.{nat_tests}
 use Rattle.std.proofs.lemmas.List.Elements.{All-nil, All-cons}
 use Rattle.std.proofs.lemmas.Option.{none-some}
 use Rattle.ascii_text.specs.Forms.{same_word, number_of, level_of, time_of, cue_number_of}
-use Rattle.show_core.specs.declared.limits.TheConstants.{SUBMASTERS, GROUPS}
 use Rattle.show_core.specs.Numbers.{is_within, is_time}
 use Rattle.show_core.specs.Builders.{can_patch}
 use Rattle.show_line.specs.declared.fault.LineFault.{LineFault}
@@ -109,10 +108,10 @@ is_spelt (Some n) f h = refl
 cue_in_range : (word : List ℕ) → cue_fault word ≡ None → IsRecordInRange (cue_named word)
 cue_in_range word h = cue_number_small word _ (is_spelt (cue_number_of word) BadNumber h)
 
-group_in_range : (word : List ℕ) → number_fault 1 GROUPS word ≡ None → IsRecordInRange (group_named word)
+group_in_range : (word : List ℕ) → number_fault 1 500 word ≡ None → IsRecordInRange (group_named word)
 group_in_range word h = let r = number_in_range 1 500 word h in is_within-le 500 _ r.above r.below
 
-sub_in_range : (word : List ℕ) → number_fault 1 SUBMASTERS word ≡ None → IsRecordInRange (sub_named word)
+sub_in_range : (word : List ℕ) → number_fault 1 100 word ≡ None → IsRecordInRange (sub_named word)
 sub_in_range word h = let r = number_in_range 1 100 word h in is_within-le 100 _ r.above r.below
 
 IsSound-patch_said : (words : List (List ℕ)) → IsSound (patch_said desk words)
@@ -156,8 +155,8 @@ pub said_in_range : (owner : Option Record) (keyword : Keyword) (words : List (L
 said_in_range owner Clear words = IsSound-clear_said words
 said_in_range owner Ident words = IsSound-ident_said words
 said_in_range owner Cue words = IsSound-record_said cue_fault cue_named cue_in_range words
-said_in_range owner Group words = IsSound-record_said (number_fault 1 GROUPS) group_named group_in_range words
-said_in_range owner Sub words = IsSound-record_said (number_fault 1 SUBMASTERS) sub_named sub_in_range words
+said_in_range owner Group words = IsSound-record_said (number_fault 1 500) group_named group_in_range words
+said_in_range owner Sub words = IsSound-record_said (number_fault 1 100) sub_named sub_in_range words
 said_in_range owner Patch words = IsSound-patch_said words
 said_in_range owner EndData words = tt
 said_in_range owner Setting words = tt

@@ -1,7 +1,6 @@
 -- The pairs of CHAN and the triples of PATCH.
 use Rattle.std.specs.Prelude.{ℕ, List, [], ◌∷◌, Option, Some, None, unwrap_or}
 use Rattle.ascii_text.specs.Forms.{number_of, level_of}
-use Rattle.show_core.specs.declared.limits.TheConstants.{CHANNELS, DIMMERS}
 use Rattle.show_line.specs.declared.fault.LineFault.{LineFault}
 use Rattle.show_line.specs.declared.fault.LineFault.TheVariants.{HalfPair, HalfTriple}
 use Rattle.show_line.specs.declared.triples.Triple.{Triple}
@@ -12,9 +11,9 @@ pub record Limits : Type 0 where
   pub channels : ℕ
   pub dimmers : ℕ
 
--- the room of this desk
+-- the room of this desk: 4,096 channels and 8,192 dimmers
 abbrev pub desk : Limits
-desk = record { channels = CHANNELS; dimmers = DIMMERS }
+desk = record { channels = 4096; dimmers = 8192 }
 
 -- the lowest fault of the words of CHAN: channel, level, channel, level ..
 abbrev pub pair_fault : Limits → List (List ℕ) → Option LineFault

@@ -4,7 +4,6 @@ use Rattle.std.specs.Prelude.{unwrap_or}
 use Rattle.std.specs.Option.{option_map_or}
 use Rattle.ascii_text.specs.Forms.{same_word, number_of, time_of, cue_number_of}
 use Rattle.show_core.specs.declared.rate.Rate.{Rate}
-use Rattle.show_core.specs.declared.limits.TheConstants.{SUBMASTERS, GROUPS}
 use Rattle.show_line.specs.declared.fault.LineFault.{LineFault}
 use Rattle.show_line.specs.declared.fault.LineFault.TheVariants.{MissingNumber}
 use Rattle.show_line.specs.declared.fault.LineFault.TheVariants.{Ident as BadIdent}
@@ -113,13 +112,13 @@ cue_said says (record_of.Cue n) = says n
 cue_said says (record_of.Group n) = Quiet
 cue_said says (record_of.Sub n) = Quiet
 
--- what a line says
+-- what a line says; groups are numbered from 1 to 500, and submasters from 1 to 100
 abbrev pub said : Limits → Option Record → Keyword → List (List ℕ) → Statement
 said lim owner Clear words = clear_said words
 said lim owner Ident words = ident_said words
 said lim owner Cue words = record_said cue_fault cue_named words
-said lim owner Group words = record_said (number_fault 1 GROUPS) group_named words
-said lim owner Sub words = record_said (number_fault 1 SUBMASTERS) sub_named words
+said lim owner Group words = record_said (number_fault 1 500) group_named words
+said lim owner Sub words = record_said (number_fault 1 100) sub_named words
 said lim owner Patch words = patch_said lim words
 said lim owner EndData words = Quiet
 said lim owner Setting words = Quiet

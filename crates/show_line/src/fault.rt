@@ -3,26 +3,35 @@ ghost use Rattle.ascii_text.specs.Forms.{number_of};
 ghost use Rattle.show_line.specs.Faults.{rank_of, lower, number_fault, level_fault};
 
 use ascii_text::{level, number};
+use thiserror::Error;
 
 /// What can be wrong with a line. Of several faults of one line the first of this list is answered,
 /// whatever the order of its words.
-#[derive(Clone, Copy, Debug, PartialEq, Eq)]
+#[derive(Clone, Copy, Debug, PartialEq, Eq, Error)]
 pub enum LineFault {
     /// IDENT without a version, or with another than `3:0`.
+    #[error("IDENT is not 3:0")]
     Ident = 2,
     /// A line that needs a number or a time has none.
+    #[error("a number is missing")]
     MissingNumber = 3,
     /// A word that must be a number or a cue number is not.
+    #[error("not a number")]
     BadNumber = 4,
     /// A word that must be a level is not.
+    #[error("not a level")]
     BadLevel = 5,
     /// A time or a delay of a cue is not a time.
+    #[error("not a time")]
     BadTime = 6,
     /// The words of CHAN are odd in number.
+    #[error("a channel without a level")]
     HalfPair = 7,
     /// The words of PATCH after the page are not a multiple of three.
+    #[error("an unfinished triple")]
     HalfTriple = 8,
     /// A number is outside its range.
+    #[error("beyond a limit")]
     Limit = 9,
 }
 

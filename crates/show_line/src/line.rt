@@ -20,7 +20,7 @@ use ascii_text::{Words, cue_number, number, same_word, time};
 use show_core::{GROUPS, Rate, SUBMASTERS};
 
 /// A line that has words: what its first word makes of it, and what it says.
-#[derive(Drop)]
+#[derive(Debug, Drop)]
 pub struct Reading<'a> {
     pub keyword: Keyword,
     pub statement: Statement<'a>,
@@ -116,7 +116,7 @@ fn cue_statement<'a>(operands: &'a [u8]) -> Statement<'a>
 }
 
 fn group_statement<'a>(operands: &'a [u8]) -> Statement<'a>
-    ensures { result ≡ record_said (number_fault 1 GROUPS) group_named (words_of operands.now) }
+    ensures { result ≡ record_said (number_fault 1 500) group_named (words_of operands.now) }
 {
     let mut words = Words::new(operands);
     match words.next() {
@@ -126,7 +126,7 @@ fn group_statement<'a>(operands: &'a [u8]) -> Statement<'a>
 }
 
 fn sub_statement<'a>(operands: &'a [u8]) -> Statement<'a>
-    ensures { result ≡ record_said (number_fault 1 SUBMASTERS) sub_named (words_of operands.now) }
+    ensures { result ≡ record_said (number_fault 1 100) sub_named (words_of operands.now) }
 {
     let mut words = Words::new(operands);
     match words.next() {

@@ -14,13 +14,15 @@ use std::marker::Model;
 // How many pairs of a line are kept from the first reading of its words. Most lines have fewer.
 const KEPT: usize = 16;
 
-/// The pairs of a CHAN line that are left: channel, from 1 to [`CHANNELS`], and level byte, in the
-/// order of the line. Its words have no fault.
+/// The pairs of a CHAN line that are left: channel, from 1 to 4096, and level byte, in the order of
+/// the line. Its words have no fault.
 #[derive(Drop)]
+#[derive_where(Debug)]
 pub struct Pairs<'a> {
     // The first pairs, and how many of these were handed out; the others are read again.
     kept: ArrayVec<(u16, u8), KEPT>,
     given: usize,
+    #[derive_where(skip)]
     words: Words<'a>,
 }
 
@@ -80,11 +82,14 @@ impl<'a> Iterator for Pairs<'a> {
     }
 }
 
-// Keeps the first pairs of the words of CHAN, up to one with a fault, and answers that fault. The words behind are left.
+// Keeps the first pairs of the words of CHAN, up to one with a fault, and answers that fault. The
+// words behind are left.
 fn keep_pairs(words: &mut Words<'_>, kept: &mut ArrayVec<(u16, u8), KEPT>) -> Option<LineFault>
     requires { kept.old.items ≡ [] }
-    ensures fault { pair_fault desk (words_left words.old) ≡ lower result (pair_fault desk (words_left words.new)) }
-    ensures pairs { result ≡ None → pairs_in (words_left words.old) ≡ kept.new.items ++ pairs_in (words_left words.new) }
+    ensures fault { pair_fault desk (words_left words.old)
+        ≡ lower result (pair_fault desk (words_left words.new)) }
+    ensures pairs { result ≡ None
+        → pairs_in (words_left words.old) ≡ kept.new.items ++ pairs_in (words_left words.new) }
 {
     while !kept.is_full() {
         let channel = words.next()?;

@@ -28,7 +28,7 @@ pub enum Cleared {
 }
 
 /// What a line says.
-#[derive(Drop)]
+#[derive(Debug, Drop)]
 pub enum Statement<'a> {
     /// It opens a record, or continues it.
     Opens(Record),

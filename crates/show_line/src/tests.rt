@@ -54,6 +54,48 @@ fn lowest_fault_of_a_line(rt: HostRuntime) {
     }
 }
 
+// One beyond each end of a range.
+#[test]
+fn numbers_out_of_range(rt: HostRuntime) {
+    for (line, fault) in [
+        (b"CUE 0".as_slice(), LineFault::BadNumber),
+        (b"CUE 10000", LineFault::BadNumber),
+        (b"GROUP 0", LineFault::Limit),
+        (b"GROUP 501", LineFault::Limit),
+        (b"SUB 0", LineFault::Limit),
+        (b"SUB 101", LineFault::Limit),
+        (b"CHAN 0@FL", LineFault::Limit),
+        (b"CHAN 4097@FL", LineFault::Limit),
+        (b"PATCH 1 4097<1@FL", LineFault::Limit),
+        (b"PATCH 1 1<0@FL", LineFault::Limit),
+        (b"PATCH 1 1<8193@FL", LineFault::Limit),
+    ] {
+        assert_eq!(rt; fault_of(line), Some(fault), "{line:?}");
+    }
+}
+
+#[test]
+fn faults_in_words(rt: HostRuntime) -> Result<(), Fail> {
+    for (fault, words) in [
+        (LineFault::Ident, "IDENT is not 3:0"),
+        (LineFault::MissingNumber, "a number is missing"),
+        (LineFault::BadNumber, "not a number"),
+        (LineFault::BadLevel, "not a level"),
+        (LineFault::BadTime, "not a time"),
+        (LineFault::HalfPair, "a channel without a level"),
+        (LineFault::HalfTriple, "an unfinished triple"),
+        (LineFault::Limit, "beyond a limit"),
+    ] {
+        let told = format!(in rt.alloc(); "{fault}")?;
+        assert_eq!(rt; told.as_str(), words);
+    }
+    let line = format!(in rt.alloc(); "{:?}", read_line(None, b"GROUP 500"))?;
+    assert!(rt; line.contains("Group(500)"), "{line}");
+    let line = format!(in rt.alloc(); "{:?}", read_line(CUE, b"CHAN 7@H9"))?;
+    assert!(rt; line.contains("(7, 9)"), "{line}");
+    Ok(())
+}
+
 #[test]
 fn opened_records(rt: HostRuntime) -> Result<(), Fail> {
     for (line, opened, keyword) in [
@@ -62,7 +104,10 @@ fn opened_records(rt: HostRuntime) -> Result<(), Fail> {
             Some(Record::Cue(9_999_999)),
             Keyword::Cue,
         ),
+        (b"CUE .001", Some(Record::Cue(1)), Keyword::Cue),
+        (b"GROUP 1", Some(Record::Group(1)), Keyword::Group),
         (b"Group 500", Some(Record::Group(500)), Keyword::Group),
+        (b"SUB 1", Some(Record::Sub(1)), Keyword::Sub),
         (b"SUB 100 000000001", Some(Record::Sub(100)), Keyword::Sub),
         (b"CUE 3 2", None, Keyword::Cue),
         (b"CUE 1 0", None, Keyword::Cue),

@@ -9,8 +9,8 @@ use ascii_text::{Words, level, number};
 use show_core::{CHANNELS, DIMMERS};
 use std::marker::Model;
 
-/// A triple of a PATCH line: the channel, from 0 (which leaves the dimmer unpatched) to
-/// [`CHANNELS`], the dimmer, from 1 to [`DIMMERS`], and the level byte.
+/// A triple of a PATCH line: the channel, from 0 (which leaves the dimmer unpatched) to 4096, the
+/// dimmer, from 1 to 8192, and the level byte.
 #[derive(Clone, Copy, Debug, PartialEq, Eq)]
 pub struct Triple {
     pub channel: u16,
@@ -20,7 +20,9 @@ pub struct Triple {
 
 /// The triples of a PATCH line that are left, in the order of the line. Its words have no fault.
 #[derive(Drop)]
+#[derive_where(Debug)]
 pub struct Triples<'a> {
+    #[derive_where(skip)]
     words: Words<'a>,
 }
 

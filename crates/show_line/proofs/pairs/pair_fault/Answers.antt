@@ -1,7 +1,6 @@
 use Rattle.std.proofs.Common.{◌≡◌, ℕ, List, [], ◌∷◌, ap, ◌∙◌, arith, Some}
 use Rattle.std.proofs.lemmas.Grind.{common_steps}
 use Rattle.ascii_text.specs.LinesLeft.{words_left}
-use Rattle.show_core.specs.declared.limits.TheConstants.{CHANNELS}
 use Rattle.show_line.specs.declared.fault.LineFault.TheVariants.{HalfPair}
 use Rattle.show_line.specs.Faults.{lower, number_fault, level_fault}
 use Rattle.show_line.specs.Pairs.{desk, pair_fault}
@@ -13,7 +12,7 @@ pub loop-channel-preserved : goal.loop-channel-preserved
 loop-channel-preserved c =
     let lowest = c.loop-channel.lowest in
     let channel = c.in-Some.channel.now in
-    let of_channel = number_fault 1 CHANNELS channel in
+    let of_channel = number_fault 1 4096 channel in
     let left = words_left c.next-in-Some.new.self in
     let faults = λ (ws : List (List ℕ)). lower lowest (pair_fault desk ws) in
     let first : words_left c.loop-channel.words ≡ channel ∷ words_left c.next.new.self

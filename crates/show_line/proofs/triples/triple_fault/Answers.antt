@@ -1,7 +1,6 @@
 use Rattle.std.proofs.Common.{◌≡◌, ℕ, List, [], ◌∷◌, ap, ◌∙◌, arith, Some}
 use Rattle.std.proofs.lemmas.Grind.{common_steps}
 use Rattle.ascii_text.specs.LinesLeft.{words_left}
-use Rattle.show_core.specs.declared.limits.TheConstants.{CHANNELS, DIMMERS}
 use Rattle.show_line.specs.declared.fault.LineFault.TheVariants.{HalfTriple}
 use Rattle.show_line.specs.Faults.{lower, number_fault, level_fault}
 use Rattle.show_line.specs.Pairs.{desk, triple_fault}
@@ -13,7 +12,7 @@ pub loop-channel-preserved : goal.loop-channel-preserved
 loop-channel-preserved c =
     let lowest = c.loop-channel.lowest in
     let channel = c.in-Some.channel.now in
-    let of_channel = number_fault 0 CHANNELS channel in
+    let of_channel = number_fault 0 4096 channel in
     let left = words_left c.next-in-Some-2.new.self in
     let faults = λ (ws : List (List ℕ)). lower lowest (triple_fault desk ws) in
     let first : words_left c.loop-channel.words ≡ channel ∷ words_left c.next.new.self
@@ -21,7 +20,7 @@ loop-channel-preserved c =
     elim c.match-next-2.branch [
       | in-Some-next v ↦
           let dimmer = v.in-Some-next.dimmer.now in
-          let of_both = lower of_channel (number_fault 1 DIMMERS dimmer) in
+          let of_both = lower of_channel (number_fault 1 8192 dimmer) in
           let second : words_left c.next.new.self ≡ dimmer ∷ words_left c.next-in-Some.new.self
           = grind (arith, common_steps) in
           elim c.match-next-3.branch [
