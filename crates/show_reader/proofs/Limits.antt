@@ -23,7 +23,8 @@ use Rattle.show_reader.specs.Text.{Words, owns, record_opened, owner_below, stat
 use Rattle.show_reader.specs.Text.{statements_of, lines_in}
 use Rattle.show_reader.specs.Shows.{IsShowOf}
 use Rattle.show_reader.specs.Reading.{fault_at, fault_below, first_fault, fault_of, ReadsAlike, longest_text}
-use Rattle.show_reader.proofs.Lines.{both_none}
+use Rattle.show_reader.proofs.Lines.{both_none, none_at_all}
+use Rattle.show_reader.proofs.Room.{statements_within, show_fits}
 
 -- ---- owners do not depend on the limits
 
@@ -78,11 +79,6 @@ module _ (narrow wide : Limits) where
       of_last (Some l) = of_line l
 
 -- ---- a statement without a fault
-
--- no fault of a line is no fault
-none_at_all : (line : ℕ) (o : Option LineFault) → option_map (fault_at line) o ≡ None → o ≡ None
-none_at_all line None h = refl
-none_at_all line (Some f) h = absurd (none-some (fault_at line f) (sym h))
 
 -- a statement without a fault is not faulty
 faultless_is : (above : List Statement) (s : Statement) → fault_below above s ≡ None → IsFaultless s
@@ -146,5 +142,8 @@ module _ (narrow wide : Limits) (more_channels : narrow.channels ≤ wide.channe
                 ap (λ c. cond c (Some show_fault.TooLong) (first_fault [] (statements_of wide text))) e
                 ∙ ap (first_fault []) alike ∙ faultless;
             statements = alike;
-            shows = λ show h. subst (λ ss. IsShowOf ss show) (sym alike) h;
+            fits =
+                λ show h. show_fits narrow (statements_of narrow text)
+                (statements_within narrow [] (lines_in text)) show
+                (subst (λ ss. IsShowOf ss show) alike h);
           }

@@ -1,5 +1,5 @@
 -- What one more line changes in the statements, the owner and the fault of a text.
-use Rattle.std.proofs.Common.{◌≡◌, ◌+◌, true, false, cond, List, [], ◌∷◌, ◌++◌, length, refl, sym}
+use Rattle.std.proofs.Common.{◌≡◌, ℕ, ◌+◌, true, false, cond, List, [], ◌∷◌, ◌++◌, length, refl, sym}
 use Rattle.std.proofs.Common.{ap, ◌∙◌, append_assoc, arith, Option, Some, None}
 use Rattle.std.specs.Prelude.{filter, option_map, option_and_then}
 use Rattle.std.specs.List.{last_or}
@@ -8,6 +8,7 @@ use Rattle.std.proofs.lemmas.List.{append-nil}
 use Rattle.std.proofs.lemmas.List.Elements.{filter-append}
 use Rattle.std.proofs.lemmas.Option.{none-some}
 use mathlib.Core.Bool.{false≢true}
+use Rattle.show_line.specs.declared.fault.LineFault.{LineFault}
 use Rattle.show_line.specs.declared.keyword.Keyword.{Keyword}
 use Rattle.show_line.specs.declared.keyword.Keyword.TheVariants.{Clear, Ident, Cue, Group, Sub, Patch}
 use Rattle.show_line.specs.declared.keyword.Keyword.TheVariants.{EndData, Setting, Chan, Up, Down, Remark}
@@ -80,6 +81,11 @@ owner_push lim above l =
 pub both_none : {X : Type 0} (o r : Option X) → option_or o r ≡ None → (o ≡ None) × (r ≡ None)
 both_none None r e = (refl, e)
 both_none (Some x) r e = absurd (none-some x (sym e))
+
+-- no fault of a line is no fault
+pub none_at_all : (line : ℕ) (o : Option LineFault) → option_map (fault_at line) o ≡ None → o ≡ None
+none_at_all line None h = refl
+none_at_all line (Some f) h = absurd (none-some (fault_at line f) (sym h))
 
 -- no line so far has a fault: the next line's decides, and then those below
 pub first_fault-append : (above ss : List Statement) (s : Statement) (rest : List Statement)

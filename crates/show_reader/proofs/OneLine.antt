@@ -9,7 +9,6 @@ use Rattle.std.proofs.lemmas.Bool.{eq-eqb}
 use Rattle.std.proofs.lemmas.Bool.Decides.{nat_tests}
 use Rattle.std.proofs.lemmas.Option.{none-some}
 use mathlib.Core.Bool.{false≢true}
-use Rattle.show_core.specs.declared.limits.TheConstants.{CUES, SUBMASTERS, GROUPS}
 use Rattle.show_core.specs.declared.rate.Rate.{Rate}
 use Rattle.show_core.specs.Numbers.{is_cue_number}
 use Rattle.show_core.specs.Tables.{Tables}
@@ -110,8 +109,8 @@ module _ (ss : List Statement) where
   said_owned owner word.Clear words h = clear_owned words
   said_owned owner word.Ident words h = ident_owned words
   said_owned owner word.Cue words h = record_owned cue_fault cue_named words
-  said_owned owner word.Group words h = record_owned (number_fault 1 GROUPS) group_named words
-  said_owned owner word.Sub words h = record_owned (number_fault 1 SUBMASTERS) sub_named words
+  said_owned owner word.Group words h = record_owned (number_fault 1 500) group_named words
+  said_owned owner word.Sub words h = record_owned (number_fault 1 100) sub_named words
   said_owned owner word.Patch words h = patch_owned words
   said_owned owner word.EndData words h = tt
   said_owned owner word.Setting words h = tt
@@ -232,11 +231,11 @@ not_less a b = grind (arith, nat_tests)
 pub refused_is : (ss : List Statement) (s : Statement) (show : Tables) → IsSound s → IsShowOf ss show
     → cue_count ss ≡ map.len show.cues → refused_by show s ≡ fault_below ss s
 refused_is ss (Opens (Cue n)) show numbered h count =
-    by_tests (is_cue_number n) (map.contains_key show.cues n) (nat_lt (map.len show.cues) CUES) numbered
-    ∙ ap (λ b. cond (not b && not (nat_lt (map.len show.cues) CUES)) (Some fault.Limit) None)
+    by_tests (is_cue_number n) (map.contains_key show.cues n) (nat_lt (map.len show.cues) 2000) numbered
+    ∙ ap (λ b. cond (not b && not (nat_lt (map.len show.cues) 2000)) (Some fault.Limit) None)
     (sym (cue_there show n) ∙ h.records (Cue n))
     ∙ ap (λ b. cond (not (is_there (Cue n) ss) && b) (Some fault.Limit) None)
-    (not_less (map.len show.cues) CUES ∙ ap (nat_le CUES) (sym count))
+    (not_less (map.len show.cues) 2000 ∙ ap (nat_le 2000) (sym count))
   where
     by_tests : (a b c : Bool) → a ≡ true
         → cond (a && (b || c)) None (Some fault.Limit) ≡ cond (not b && not c) (Some fault.Limit) None
@@ -318,7 +317,7 @@ module _ (lines : List Words) (l : Words) (r : Reader) (h : Reads lines r) where
   says = said_below r.owner l
 
   -- the line says what it says below the reader's owner
-  said_here : statement_below desk lines l ≡ says
+  pub said_here : statement_below desk lines l ≡ says
   said_here = statement_is lines l ∙ ap (λ o. said_below o l) (sym h.owner)
 
   -- it has the owner that it needs

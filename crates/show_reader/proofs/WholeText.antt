@@ -7,9 +7,10 @@ use Rattle.std.specs.Option.{option_or}
 use Rattle.std.specs.FinMap as maps
 use Rattle.std.specs.Ordering.{nat_cmp}
 use Rattle.std.proofs.lemmas.Bool.Decides.{nat_tests}
-use Rattle.std.proofs.lemmas.List.{length-append}
+use Rattle.std.proofs.lemmas.List.{append-nil, length-append}
 use Rattle.std.proofs.lemmas.List.Sums.{count_by-le-length}
 use Rattle.std.proofs.lemmas.Option.{none-some}
+use mathlib.Core.Bool.{false≢true}
 use Rattle.ascii_text.specs.Text.{words_of, lines_of, numbered_from}
 use Rattle.show_core.specs.declared.cue.CueData.{CueData}
 use Rattle.show_core.specs.Tables.{Tables}
@@ -30,15 +31,20 @@ use Rattle.show_reader.specs.Text.{statements_of}
 use Rattle.show_reader.specs.Meaning.{is_skipped}
 use Rattle.show_reader.specs.Shows.{levels_of, level_in, up_in, down_in, IsShowOf}
 use Rattle.show_reader.specs.Reading.{fault_at, fault_below, first_fault, fault_of, lines_read, lines_skipped}
-use Rattle.show_reader.specs.Reading.{longest_text}
+use Rattle.show_reader.specs.Reading.{longest_text, grows, faultless_front, NothingGrows}
 use Rattle.show_reader.specs.Applied.{refused_by, Explains}
-use Rattle.show_reader.specs.Reads.{said_by, Reads, line_fault, EndsAt, refusal_at}
+use Rattle.show_reader.specs.Reads.{said_by, Reads, line_fault, MayLackMemory, EndsAt, refusal_at}
 use Rattle.show_reader.proofs.Lines.{statements_below-append, length-statements_below, first_fault-append}
-use Rattle.show_reader.proofs.OneLine.{said_below, fault_here}
+use Rattle.show_reader.proofs.Lines.{both_none, none_at_all}
+use Rattle.show_reader.proofs.OneLine.{said_below, said_here, fault_here}
 
 -- what holds of each holds of each but the first
 pub all_rest : {X : Type 0} (P : X → Type 0) (x : X) (xs : List X) → All P (x ∷ xs) → All P xs
 all_rest P x xs h k d lt = h (suc k) d (omega arith)
+
+-- what holds of each holds of the first
+pub first_of : {X : Type 0} (P : X → Type 0) (x : X) (xs : List X) → All P (x ∷ xs) → P x
+first_of P x xs h = h 0 x (omega arith)
 
 -- ---- one line
 
@@ -75,9 +81,17 @@ skipped_few lines r h =
 
 -- a refused statement ends reading with the fault of its line, or for want of memory
 pub ends_at : (lines : List Words) (l : Words) (r : Reader) → Reads lines r → (s : Statement)
-    → s ≡ said_below r.owner l → IsSound s → (e : Refusal) → Explains (refused_by r.show s) e → (n : ℕ)
+    → s ≡ said_below r.owner l → IsSound s → (e : Refusal) → Explains r.show s e → (n : ℕ)
     → n ≡ r.lines + 1 → EndsAt lines l (refusal_at n e)
-ends_at lines l r h s is sound refusal.Memory explained n number = inl refl
+ends_at lines l r h s is sound refusal.Memory explained n number =
+    let lacks : MayLackMemory lines l
+    = record {
+      faultless =
+          sym (fault_here lines l r h (subst IsSound is sound)) ∙ ap (refused_by r.show) (sym is)
+          ∙ explained.0;
+      grows = ap grows (said_here lines l r h ∙ sym is) ∙ explained.1;
+    } in
+    inl (refl, lacks)
 ends_at lines l r h s is sound (refusal.Fault f) explained n number =
     let here : fault_below (said_by lines) (statement_below desk lines l) ≡ Some f
     = sym (fault_here lines l r h (subst IsSound is sound)) ∙ ap (refused_by r.show) (sym is)
@@ -196,6 +210,49 @@ fault_found text lines l ls f short h none fault =
     by_test : (b : Bool) → ends l ≡ b → first_fault [] (statements_below desk [] (lines_in text)) ≡ Some f
     by_test true e = found [] (stop_here text lines l ls h e)
     by_test false e = found (up_to_end ls) (h ∙ ap (λ b. lines ++ cond b (l ∷ []) (l ∷ up_to_end ls)) e)
+
+-- what stands above a statement without a fault, and is without one, is at the front
+faultless_next : (P : Statement → Type 0) (above ss : List Statement) (s : Statement) (rest : List Statement)
+    → first_fault above ss ≡ None → fault_below (above ++ ss) s ≡ None
+    → All P (faultless_front above (ss ++ s ∷ rest)) → P s
+faultless_next P above [] s rest none fine all =
+    let here : fault_below above s ≡ None
+    = ap (λ a. fault_below a s) (sym (append-nil above)) ∙ fine in
+    first_of P s (faultless_front (above ++ s ∷ []) rest)
+    (subst (All P)
+    (ap (λ o. cond (is_some o) [] (s ∷ faultless_front (above ++ s ∷ []) rest)) here) all)
+faultless_next P above (t ∷ ss) s rest none fine all =
+    let parts
+    = both_none (option_map (fault_at (length above + 1)) (fault_below above t))
+    (first_fault (above ++ t ∷ []) ss) none in
+    let here : fault_below above t ≡ None = none_at_all (length above + 1) (fault_below above t) parts.0 in
+    faultless_next P (above ++ t ∷ []) ss s rest parts.1
+    (ap (λ a. fault_below a s) (append_assoc above (t ∷ []) ss) ∙ fine)
+    (all_rest P t (faultless_front (above ++ t ∷ []) (ss ++ s ∷ rest))
+    (subst (All P)
+    (ap (λ o. cond (is_some o) [] (t ∷ faultless_front (above ++ t ∷ []) (ss ++ s ∷ rest))) here) all))
+
+-- where memory may run out at the next line, something grows
+pub something_grows : (text : List ℕ) (lines : List Words) (l : Words) (ls : List Words)
+    → lines_in text ≡ lines ++ up_to_end (l ∷ ls) → first_fault [] (said_by lines) ≡ None
+    → MayLackMemory lines l → NothingGrows desk text → ⊥
+something_grows text lines l ls h none lacks nothing = by_test (ends l) refl
+  where
+    below : (rest : List Words) → lines_in text ≡ lines ++ l ∷ rest → ⊥
+    below rest e =
+        let says = statement_below desk lines l in
+        let all : statements_of desk text
+        ≡ said_by lines ++ says ∷ statements_below desk (lines ++ l ∷ []) rest
+        = ap (λ ms. statements_below desk [] ms) e ∙ statements_below-append desk [] lines (l ∷ rest) in
+        let none_grows
+        = faultless_next (λ s. grows s ≡ false) [] (said_by lines) says
+        (statements_below desk (lines ++ l ∷ []) rest) none lacks.faultless
+        (subst (λ ss. All (λ s. grows s ≡ false) (faultless_front [] ss)) all nothing) in
+        false≢true (sym none_grows ∙ lacks.grows)
+
+    by_test : (b : Bool) → ends l ≡ b → ⊥
+    by_test true e = below [] (stop_here text lines l ls h e)
+    by_test false e = below (up_to_end ls) (h ∙ ap (λ b. lines ++ cond b (l ∷ []) (l ∷ up_to_end ls)) e)
 
 -- ---- the last line
 

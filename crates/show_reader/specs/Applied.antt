@@ -1,5 +1,5 @@
 -- What a statement does to a show, by the effects of the builders.
-use Rattle.std.specs.Prelude.{◌≡◌, ℕ, if◌then◌else◌, IsTrue, List, [], ◌∷◌, Option, Some, None, is_some}
+use Rattle.std.specs.Prelude.{◌≡◌, ℕ, true, if◌then◌else◌, IsTrue, List, [], ◌∷◌, Option, Some, None, is_some}
 use Rattle.std.specs.FinMap as maps
 use Rattle.show_core.specs.Tables.{PatchMap, Tables}
 use Rattle.show_core.specs.Builders.{opened, opened_in, with_level, with_listed, with_up, with_down}
@@ -18,6 +18,7 @@ use Rattle.show_line.specs.declared.triples.Triple.{Triple}
 use Rattle.show_reader.specs.declared.apply.Refusal.{Refusal}
 use Rattle.show_reader.specs.declared.apply.Refusal.TheVariants as refusal
 use Rattle.show_reader.specs.Shows.{levels_of}
+use Rattle.show_reader.specs.Reading.{grows}
 
 -- with the record opened
 abbrev pub with_record : Tables → Record → Tables
@@ -72,7 +73,8 @@ HasOwner show (Rises n rate) = IsTrue (maps.contains_key show.cues n)
 HasOwner show (Falls n rate) = IsTrue (maps.contains_key show.cues n)
 HasOwner show _ = Unit {0}
 
--- why a statement was not carried out: the fault that the show has with it, or want of memory
-abbrev pub Explains : Option LineFault → Refusal → Type 0
-Explains fault (refusal.Fault f) = fault ≡ Some f
-Explains fault refusal.Memory = Unit {0}
+-- why a statement was not carried out: the fault that the show has with it; or want of memory, where it has
+-- none and the statement grows it
+abbrev pub Explains : Tables → Statement → Refusal → Type 0
+Explains show s (refusal.Fault f) = refused_by show s ≡ Some f
+Explains show s refusal.Memory = (refused_by show s ≡ None) × (grows s ≡ true)

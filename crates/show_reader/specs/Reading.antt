@@ -1,26 +1,29 @@
 -- What reading a show text answers.
-use Rattle.std.specs.Prelude.{◌≡◌, ℕ, ◌+◌, ◌≤◌, not, ◌&&◌, if◌then◌else◌, nat_le, nat_lt, List, [], ◌∷◌, ◌++◌}
-use Rattle.std.specs.Prelude.{count_by, length, Option, Some, None, option_map}
+use Rattle.std.specs.Prelude.{◌≡◌, ℕ, ◌+◌, ◌≤◌, ◌<◌, ◌==◌, Bool, true, false, not, ◌&&◌, if◌then◌else◌}
+use Rattle.std.specs.Prelude.{nat_le, nat_lt, List, [], ◌∷◌, ◌++◌, All, count_by, length, Option, Some}
+use Rattle.std.specs.Prelude.{None, IfSome, is_some, option_map}
+use Rattle.std.specs.List.{list_any}
+use Rattle.std.specs.FinMap as maps
 use Rattle.std.specs.Option.{option_or}
-use Rattle.show_core.specs.declared.limits.TheConstants.{CUES}
 use Rattle.show_core.specs.Tables.{Tables}
 use Rattle.show_line.specs.declared.fault.LineFault.{LineFault}
 use Rattle.show_line.specs.declared.fault.LineFault.TheVariants as fault
+use Rattle.show_line.specs.declared.statement.Record.{Record}
 use Rattle.show_line.specs.declared.statement.Record.TheVariants.{Cue}
 use Rattle.show_line.specs.declared.statement.Statement.{Statement}
-use Rattle.show_line.specs.declared.statement.Statement.TheVariants.{Opens, Faulty}
+use Rattle.show_line.specs.declared.statement.Statement.TheVariants.{Opens, Levels, Patches, Faulty}
 use Rattle.show_line.specs.Pairs.{Limits}
 use Rattle.show_reader.specs.declared.fault.ShowFault.{ShowFault}
 use Rattle.show_reader.specs.declared.fault.ShowFault.TheVariants as show_fault
 use Rattle.show_reader.specs.Text.{statements_of}
 use Rattle.show_reader.specs.Meaning.{is_there, cue_count, is_skipped}
-use Rattle.show_reader.specs.Shows.{IsShowOf}
+use Rattle.show_reader.specs.Shows.{level_in, IsShowOf}
 
--- a line's fault below the statements above it; a line that opens one cue too many has one too
+-- a line's fault below the statements above it; a line that opens the 2,001st cue has one too
 abbrev pub fault_below : List Statement → Statement → Option LineFault
 fault_below above (Faulty f) = Some f
 fault_below above (Opens (Cue n)) =
-    if not (is_there (Cue n) above) && nat_le CUES (cue_count above) then Some fault.Limit else None
+    if not (is_there (Cue n) above) && nat_le 2000 (cue_count above) then Some fault.Limit else None
 fault_below above _ = None
 
 -- the fault of a line, with its number
@@ -57,15 +60,43 @@ lines_read lim text = length (statements_of lim text)
 abbrev pub lines_skipped : Limits → List ℕ → ℕ
 lines_skipped lim text = count_by is_skipped (statements_of lim text)
 
--- what wider limits leave of a text without a fault under narrower ones: it has none, says the same and
--- means the same show
+-- ---- what needs memory
+
+-- a statement that may grow a show: it opens a record, lists a channel or patches a dimmer
+abbrev pub grows : Statement → Bool
+grows (Opens r) = true
+grows (Levels r []) = false
+grows (Levels r (pair ∷ pairs)) = true
+grows (Patches triples) = list_any (λ t. not (t.channel == 0)) triples
+grows _ = false
+
+-- the statements above the first that has a fault, or all of them, below the statements above
+abbrev pub faultless_front : List Statement → List Statement → List Statement
+faultless_front above [] = []
+faultless_front above (s ∷ ss) =
+    if is_some (fault_below above s) then [] else s ∷ faultless_front (above ++ s ∷ []) ss
+
+-- no line above the first faulty one, or of the whole text, grows the show
+abbrev pub NothingGrows : Limits → List ℕ → Type 0
+NothingGrows lim text = All (λ s. grows s ≡ false) (faultless_front [] (statements_of lim text))
+
+-- ---- wider limits
+
+-- no dimmer beyond the limits is patched, and no channel beyond them is listed or patched to
+pub record FitsIn (lim : Limits) (show : Tables) : Type 0 where
+  pub dimmers : (dimmer : ℕ) → lim.dimmers < dimmer → maps.get show.patch dimmer ≡ None
+  pub channels : (r : Record) (channel : ℕ) → lim.channels < channel → level_in show r channel ≡ None
+  pub patched : (dimmer : ℕ) → IfSome (maps.get show.patch dimmer) (λ p. p.0 ≤ lim.channels)
+
+-- what wider limits leave of a text without a fault under narrower ones: it has none and says the same, and
+-- the show that it means has no dimmer and no channel beyond the narrower limits
 pub record ReadsAlike (narrow wide : Limits) (text : List ℕ) : Type 0 where
   pub faultless : fault_of wide text ≡ None
   pub statements : statements_of wide text ≡ statements_of narrow text
-  pub shows : (show : Tables)
-      → IsShowOf (statements_of narrow text) show → IsShowOf (statements_of wide text) show
+  pub fits : (show : Tables) → IsShowOf (statements_of wide text) show → FitsIn narrow show
 
--- a desk with more room reads each text that one with less room accepted, to the same show
+-- a desk with more room reads each text that one with less room accepted, to the same show, of which
+-- nothing is in the room that it has more
 abbrev pub LimitsLaw : Type 0
 LimitsLaw = (narrow wide : Limits) → narrow.channels ≤ wide.channels → narrow.dimmers ≤ wide.dimmers
     → (text : List ℕ) → fault_of narrow text ≡ None → ReadsAlike narrow wide text

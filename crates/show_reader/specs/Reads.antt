@@ -12,7 +12,7 @@ use Rattle.show_reader.specs.declared.apply.Refusal.TheVariants as refusal
 use Rattle.show_reader.specs.Text.{Words, owner_below, statement_below, statements_below}
 use Rattle.show_reader.specs.Meaning.{is_there, cue_count, is_skipped}
 use Rattle.show_reader.specs.Shows.{IsShowOf}
-use Rattle.show_reader.specs.Reading.{fault_at, fault_below, first_fault}
+use Rattle.show_reader.specs.Reading.{fault_at, fault_below, first_fault, grows}
 
 -- what lines say to this desk
 abbrev pub said_by : List Words → List Statement
@@ -33,9 +33,15 @@ abbrev pub line_fault : List Words → Words → Option ShowFault
 line_fault lines l =
     option_map (fault_at (length lines + 1)) (fault_below (said_by lines) (statement_below desk lines l))
 
+-- memory may run out at the line below these: it has no fault and grows the show
+pub record MayLackMemory (lines : List Words) (l : Words) : Type 0 where
+  pub faultless : fault_below (said_by lines) (statement_below desk lines l) ≡ None
+  pub grows : grows (statement_below desk lines l) ≡ true
+
 -- why reading ended at the line below these: its fault, or want of memory
 abbrev pub EndsAt : List Words → Words → ShowFault → Type 0
-EndsAt lines l fault = (fault ≡ show_fault.Memory) ⊎ (line_fault lines l ≡ Some fault)
+EndsAt lines l fault =
+    ((fault ≡ show_fault.Memory) × MayLackMemory lines l) ⊎ (line_fault lines l ≡ Some fault)
 
 -- what the refusal of a statement is to a line of this number
 abbrev pub refusal_at : ℕ → Refusal → ShowFault

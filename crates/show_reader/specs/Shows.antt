@@ -33,3 +33,7 @@ pub record IsShowOf (ss : List Statement) (show : Tables) : Type 0 where
   pub ups : (n : ℕ) → up_in show n ≡ up_of n ss
   pub downs : (n : ℕ) → down_in show n ≡ down_of n ss
   pub patch : (dimmer : ℕ) → maps.get show.patch dimmer ≡ patched_by (triple_at dimmer ss)
+
+-- statements mean one show: two shows that they mean are equal
+abbrev pub OneShowLaw : Type 0
+OneShowLaw = (ss : List Statement) (s t : Tables) → IsShowOf ss s → IsShowOf ss t → s ≡ t

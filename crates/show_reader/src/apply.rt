@@ -1,18 +1,19 @@
-ghost use Rattle.std.specs.Prelude.{◌≡◌, IsTrue, All, OnOk, IfOk, IfErr, is_some, None};
+ghost use Rattle.std.specs.Prelude.{◌≡◌, true, IsTrue, All, OnOk, OnErr, IfErr, is_some, None};
 ghost use Rattle.show_core.specs.Numbers.{is_channel};
 ghost use Rattle.show_core.specs.Builders.{can_patch};
 ghost use Rattle.show_core.specs.declared.fault.BuildFault.TheVariants as build_fault;
 ghost use Rattle.show_line.specs.declared.fault.LineFault.TheVariants as line_fault;
 ghost use Rattle.show_line.specs.Sound.{IsSound};
 ghost use Rattle.show_reader.specs.Shows.{levels_of};
-ghost use Rattle.show_reader.specs.Applied.{applied, refused_by, with_record, with_channel, with_pairs, with_triples};
-ghost use Rattle.show_reader.specs.Applied.{without, HasOwner, Explains};
+ghost use Rattle.show_reader.specs.Reading.{grows};
+ghost use Rattle.show_reader.specs.Applied.{applied, refused_by, with_record, with_channel, with_pairs};
+ghost use Rattle.show_reader.specs.Applied.{with_triples, without, HasOwner, Explains};
 
 use show_core::{BuildFault, Show};
 use show_line::{Cleared, LineFault, Pairs, Record, Statement, Table, Triples};
 
 /// Why a statement was not carried out.
-#[derive(Clone, Copy)]
+#[derive(Clone, Copy, Debug)]
 pub enum Refusal {
     Fault(LineFault),
     Memory,
@@ -35,7 +36,7 @@ pub fn apply(show: &mut Show, statement: Statement<'_>) -> Result<(), Refusal>
     requires owned { HasOwner show.old statement }
     ensures fine { OnOk result (refused_by show.old statement.entry ≡ None) }
     ensures ok { OnOk result (show.new ≡ applied statement.entry show.old) }
-    ensures err { IfErr result (Explains (refused_by show.old statement.entry)) }
+    ensures err { IfErr result (Explains show.old statement.entry) }
 {
     match statement {
         Statement::Opens(which) => open(show, which),
@@ -62,7 +63,7 @@ fn open(show: &mut Show, which: Record) -> Result<(), Refusal>
     requires sound { IsSound (Statement.Opens which) }
     ensures fine { OnOk result (refused_by show.old (Statement.Opens which) ≡ None) }
     ensures ok { OnOk result (show.new ≡ with_record show.old which) }
-    ensures err { IfErr result (Explains (refused_by show.old (Statement.Opens which))) }
+    ensures err { IfErr result (Explains show.old (Statement.Opens which)) }
 {
     let opened = match which {
         Record::Cue(n) => show.open_cue(n),
@@ -79,6 +80,7 @@ fn list(show: &mut Show, which: Record, pairs: Pairs<'_>) -> Result<(), Refusal>
     requires sound { All (λ pair. IsTrue (is_channel pair.0)) pairs }
     ensures ok { OnOk result (show.new ≡ with_pairs show.old which pairs.entry) }
     ensures err { IfErr result (λ e. e ≡ Refusal.Memory) }
+    ensures grows { OnErr result (grows (Statement.Levels which pairs.entry) ≡ true) }
 {
     for (channel, byte) in pairs {
         if let Err(_) = set_level(show, which, channel, byte) {
@@ -103,8 +105,10 @@ fn set_level(show: &mut Show, which: Record, channel: u16, byte: u8) -> Result<(
 // Patches the dimmers of the triples of a PATCH line, which are in range too.
 fn patch(show: &mut Show, triples: Triples<'_>) -> Result<(), Refusal>
     requires { All (λ triple. IsTrue (can_patch triple.dimmer triple.channel)) triples }
-    ensures ok { OnOk result (show.new ≡ record show.old { patch = with_triples show.old.patch triples.entry }) }
+    ensures ok { OnOk result
+        (show.new ≡ record show.old { patch = with_triples show.old.patch triples.entry }) }
     ensures err { IfErr result (λ e. e ≡ Refusal.Memory) }
+    ensures grows { OnErr result (grows (Statement.Patches triples.entry) ≡ true) }
 {
     for triple in triples {
         if let Err(_) = show.set_patch(triple.dimmer, triple.channel, triple.level) {

@@ -7,7 +7,7 @@ mod law;
 mod read;
 
 pub use fault::{LONGEST_TEXT, ShowFault};
-pub use law::limits_law;
+pub use law::{limits_law, one_show_law};
 pub use read::{Loaded, read_show};
 
 #[cfg(test)]

@@ -7,6 +7,7 @@ ghost use Rattle.show_reader.specs.Text.{Words, ends, statements_of};
 ghost use Rattle.show_reader.specs.Meaning.{is_skipped};
 ghost use Rattle.show_reader.specs.Shows.{IsShowOf};
 ghost use Rattle.show_reader.specs.Reading.{fault_at, fault_of, lines_read, lines_skipped};
+ghost use Rattle.show_reader.specs.Reading.{NothingGrows};
 ghost use Rattle.show_reader.specs.Reads.{Reads, EndsAt, refusal_at};
 
 use crate::apply::{Refusal, apply};
@@ -18,8 +19,10 @@ use std::alloc::Global;
 
 /// A show that was read, and what its text had.
 #[derive(Drop)]
+#[derive_where(Debug)]
 pub struct Loaded {
     /// The show that the text means.
+    #[derive_where(skip)]
     pub show: Show,
     /// How many lines were read, that of ENDDATA included.
     pub lines: u32,
@@ -113,14 +116,18 @@ impl Reader {
 /// # Errors
 ///
 /// The fault of the first faulty line, as [`ShowFault`] lists them; `TooLong` before any line. `Memory`
-/// is answered only where a growth was refused. No clause can say so, since none sees the memory that is
-/// left: tests check it.
+/// is answered only where a growth was refused. No clause sees the memory that is left, but a text of
+/// which no line above its first faulty one opens a record, lists a channel or patches a dimmer is never
+/// answered so; that a reading at ample memory ends well is tested.
 pub fn read_show(alloc: Global, text: &[u8]) -> Result<Loaded, ShowFault>
     ensures faultless { OnOk result (fault_of desk text.now ≡ None) }
     ensures show { IfOk result (λ loaded. IsShowOf (statements_of desk text.now) loaded.show) }
     ensures lines { IfOk result (λ loaded. loaded.lines ≡ lines_read desk text.now) }
     ensures skipped { IfOk result (λ loaded. loaded.skipped ≡ lines_skipped desk text.now) }
-    ensures fault { IfErr result (λ fault. (fault ≡ show_fault.Memory) ⊎ (fault_of desk text.now ≡ Some fault)) }
+    ensures fault { IfErr result
+        (λ fault. (fault ≡ show_fault.Memory) ⊎ (fault_of desk text.now ≡ Some fault)) }
+    ensures sure { NothingGrows desk text.now
+        → IfErr result (λ fault. fault_of desk text.now ≡ Some fault) }
     ensures too_long { 1048576 < length text.now → result ≡ Err show_fault.TooLong }
 {
     if text.len() > LONGEST_TEXT {

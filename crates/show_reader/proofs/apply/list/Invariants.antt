@@ -1,6 +1,8 @@
-use Rattle.std.proofs.Common.{◌≡◌, IsTrue, is_some}
+use Rattle.std.proofs.Common.{◌≡◌, false, IsTrue, is_some}
 use Rattle.std.specs.Prelude.{All}
 use Rattle.show_core.specs.Numbers.{is_channel}
+use Rattle.show_line.specs.declared.statement.Statement.TheVariants.{Levels}
+use Rattle.show_reader.specs.Reading.{grows}
 use Rattle.show_reader.specs.Shows.{levels_of}
 use Rattle.show_reader.specs.Applied.{with_pairs}
 use Rattle.show_reader.proofs.apply.list.Given as goal
@@ -9,5 +11,7 @@ abbrev pub invariant-loop-channel : goal.invariant-loop-channel
 invariant-loop-channel l = record {
   owned : IsTrue (is_some (levels_of l.show l.which));
   sound : All (λ pair. IsTrue (is_channel pair.0)) l.channel-iterator;
+  grown : grows (Levels l.which l.fn.pairs) ≡ false
+      → grows (Levels l.which l.channel-iterator) ≡ false;
   put : with_pairs l.initial.show l.which l.fn.pairs ≡ with_pairs l.show l.which l.channel-iterator;
 }

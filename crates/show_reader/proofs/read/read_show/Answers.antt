@@ -6,6 +6,7 @@ use Rattle.std.proofs.lemmas.List.{append-nil}
 use Rattle.ascii_text.specs.Text.{lines_of, words_of, numbered_from}
 use Rattle.show_reader.specs.Text.{ends, up_to_end}
 use Rattle.show_reader.proofs.WholeText.{nothing_read, numbered_lines, first_lines, go_on, stop_here}
+use Rattle.show_reader.proofs.WholeText.{something_grows}
 use Rattle.show_reader.proofs.WholeText.{fault_found, IsRead, all_read, next_numbered, not_longer, one_more}
 use Rattle.show_reader.proofs.read.read_show.Goals as goal
 use Rattle.show_reader.proofs.read.read_show.Goals.{in-None, in-Some+in-Ok-true}
@@ -62,10 +63,25 @@ returns-in-Err-clause-fault c =
     let all = c.loop-line.invariant.reads.2
     ∙ ap (λ ps. lines ++ up_to_end (map (λ q. words_of q.1) ps)) front in
     elim (c.in-Err.ensures.fault lines h) [
-      | inl memory ↦ inl memory
+      | inl memory ↦ inl memory.0
       | inr fault ↦
           inr (fault_found c.args.text.now lines l (map (λ q. words_of q.1) c.next.new.self) c.in-Err.fault
           (not_longer _ _ c.if-text-gt-LONGEST_TEXT.false) all h.faultless fault)
+    ]
+
+pub returns-in-Err-clause-sure : goal.returns-in-Err-clause-sure
+returns-in-Err-clause-sure c = λ nothing.
+    let lines = c.loop-line.invariant.reads.0 in
+    let h = c.loop-line.invariant.reads.1 in
+    let l = words_of c.in-Some.line.bytes.now in
+    let ls = map (λ q. words_of q.1) c.next.new.self in
+    let all = c.loop-line.invariant.reads.2
+    ∙ ap (λ ps. lines ++ up_to_end (map (λ q. words_of q.1) ps)) c.in-Some.ensures.steps in
+    elim (c.in-Err.ensures.fault lines h) [
+      | inl memory ↦ absurd (something_grows c.args.text.now lines l ls all h.faultless memory.1 nothing)
+      | inr fault ↦
+          fault_found c.args.text.now lines l ls c.in-Err.fault
+          (not_longer _ _ c.if-text-gt-LONGEST_TEXT.false) all h.faultless fault
     ]
 
 -- at the end of the lines, or behind ENDDATA, the whole text is read
