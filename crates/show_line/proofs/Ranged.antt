@@ -1,5 +1,6 @@
 -- What a line says has its numbers in their ranges.
-use Rattle.std.proofs.Common.{◌≡◌, ℕ, ◌≤◌, Bool, true, false, List, [], ◌∷◌, IsTrue, All, refl, sym, arith}
+use Rattle.std.proofs.Common.{◌≡◌, ℕ, ◌≤◌, Bool, true, false, List, [], ◌∷◌, IsTrue, All, refl, sym}
+use Rattle.std.proofs.Common.{arith}
 use Rattle.std.proofs.Common.{Option, Some, None}
 use Rattle.std.specs.Prelude.{unwrap_or, is_some, codes, if◌then◌else◌}
 use Rattle.std.specs.Option.{option_map_or}
@@ -13,25 +14,31 @@ use Rattle.show_line.specs.declared.fault.LineFault.{LineFault}
 use Rattle.show_line.specs.declared.fault.LineFault.TheVariants.{BadNumber, BadTime}
 use Rattle.show_line.specs.declared.fault.LineFault.TheVariants.{Ident as BadIdent}
 use Rattle.show_line.specs.declared.keyword.Keyword.{Keyword}
-use Rattle.show_line.specs.declared.keyword.Keyword.TheVariants.{Clear, Ident, Cue, Group, Sub, Patch}
+use Rattle.show_line.specs.declared.keyword.Keyword.TheVariants.{Clear, Ident, Cue, Group, Sub}
+use Rattle.show_line.specs.declared.keyword.Keyword.TheVariants.{Patch}
 use Rattle.show_line.specs.declared.keyword.Keyword.TheVariants.{EndData, Setting}
-use Rattle.show_line.specs.declared.keyword.Keyword.TheVariants.{Chan, Up, Down, Remark, Maker, Unknown}
+use Rattle.show_line.specs.declared.keyword.Keyword.TheVariants.{Chan, Up, Down, Remark, Maker}
+use Rattle.show_line.specs.declared.keyword.Keyword.TheVariants.{Unknown}
 use Rattle.show_line.specs.declared.statement.Cleared.{Cleared}
 use Rattle.show_line.specs.declared.statement.Record.{Record}
 use Rattle.show_line.specs.declared.statement.Record.TheVariants as record_of
 use Rattle.show_line.specs.declared.statement.Statement.{Statement}
-use Rattle.show_line.specs.declared.statement.Statement.TheVariants.{Opens, Levels, Rises, Falls, Patches}
+use Rattle.show_line.specs.declared.statement.Statement.TheVariants.{Opens, Levels, Rises, Falls}
+use Rattle.show_line.specs.declared.statement.Statement.TheVariants.{Patches}
 use Rattle.show_line.specs.declared.statement.Statement.TheVariants.{Clears, Quiet}
 use Rattle.show_line.specs.declared.statement.Statement.TheVariants.{Skipped, Faulty}
 use Rattle.show_line.specs.Keywords.{named}
 use Rattle.show_line.specs.Faults.{lower, unless, number_fault, cue_fault, page_fault, time_fault}
 use Rattle.show_line.specs.Pairs.{desk, pair_fault, pairs_in, triple_fault, triples_in}
-use Rattle.show_line.specs.Said.{unless_faulty, is_page_1, record_said, cue_named, group_named, sub_named}
+use Rattle.show_line.specs.Said.{unless_faulty, is_page_1, record_said, cue_named, group_named}
+use Rattle.show_line.specs.Said.{sub_named}
 use Rattle.show_line.specs.Said.{patch_said}
-use Rattle.show_line.specs.Said.{rate_fault, rate_in, rate_said, ident_said, cleared_names, clear_said}
+use Rattle.show_line.specs.Said.{rate_fault, rate_in, rate_said, ident_said, cleared_names}
+use Rattle.show_line.specs.Said.{clear_said}
 use Rattle.show_line.specs.Said.{levels_said}
 use Rattle.show_line.specs.Said.{owned_said, cue_said, said}
-use Rattle.show_line.specs.Sound.{IsRecordInRange, IsRateInRange, IsPairInRange, IsTripleInRange, IsSound}
+use Rattle.show_line.specs.Sound.{IsRecordInRange, IsRateInRange, IsPairInRange, IsTripleInRange}
+use Rattle.show_line.specs.Sound.{IsSound}
 use Rattle.show_line.proofs.Lowest.{lower_both}
 use Rattle.show_line.proofs.Ranges.{number_in_range, faultless_pair, faultless_triple}
 use Rattle.show_line.proofs.Forms.{time_small, cue_number_small}
@@ -44,7 +51,8 @@ can_patch-le : (dimmer channel : ℕ) → 1 ≤ dimmer → dimmer ≤ 8192 → c
 can_patch-le dimmer channel a b c = grind (arith, nat_tests)
 
 -- the channels of a CHAN line without a fault
-pub pairs_in_range : (words : List (List ℕ)) → pair_fault desk words ≡ None → All IsPairInRange (pairs_in words)
+pub pairs_in_range : (words : List (List ℕ)) → pair_fault desk words ≡ None
+    → All IsPairInRange (pairs_in words)
 pairs_in_range [] h = All-nil IsPairInRange
 pairs_in_range (channel ∷ []) h = All-nil IsPairInRange
 pairs_in_range (channel ∷ level ∷ words) h =
@@ -65,7 +73,8 @@ triples_in_range (channel ∷ dimmer ∷ level ∷ words) h =
       channel = unwrap_or (number_of channel) 0;
       dimmer = unwrap_or (number_of dimmer) 0;
       level = unwrap_or (level_of level) 0;
-    }) (triples_in words) (can_patch-le _ _ p.1.above p.1.below p.0.below) (triples_in_range words p.2)
+    }) (triples_in words) (can_patch-le _ _ p.1.above p.1.below p.0.below)
+    (triples_in_range words p.2)
 
 IsSound-unless_faulty : (fault : Option LineFault) (s : Statement) → (fault ≡ None → IsSound s)
     → IsSound (unless_faulty fault s)
@@ -97,7 +106,8 @@ IsSound-record_said : (fault : List ℕ → Option LineFault) (which : List ℕ 
 IsSound-record_said fault which fine [] = tt
 IsSound-record_said fault which fine (number ∷ words) =
     let opens = Opens (which number) in
-    IsSound-unless_faulty (lower (fault number) (page_fault words)) (if is_page_1 words then opens else Skipped)
+    IsSound-unless_faulty (lower (fault number) (page_fault words))
+    (if is_page_1 words then opens else Skipped)
     (λ e. IsSound-if (is_page_1 words) opens Skipped
     (fine number (lower_both (fault number) (page_fault words) e).0) tt)
 
@@ -108,7 +118,8 @@ is_spelt (Some n) f h = refl
 cue_in_range : (word : List ℕ) → cue_fault word ≡ None → IsRecordInRange (cue_named word)
 cue_in_range word h = cue_number_small word _ (is_spelt (cue_number_of word) BadNumber h)
 
-group_in_range : (word : List ℕ) → number_fault 1 500 word ≡ None → IsRecordInRange (group_named word)
+group_in_range : (word : List ℕ) → number_fault 1 500 word ≡ None
+    → IsRecordInRange (group_named word)
 group_in_range word h = let r = number_in_range 1 500 word h in is_within-le 500 _ r.above r.below
 
 sub_in_range : (word : List ℕ) → number_fault 1 100 word ≡ None → IsRecordInRange (sub_named word)
@@ -118,11 +129,14 @@ IsSound-patch_said : (words : List (List ℕ)) → IsSound (patch_said desk word
 IsSound-patch_said [] = tt
 IsSound-patch_said (page ∷ words) =
     let triples = unless_faulty (triple_fault desk words) (Patches (triples_in words)) in
-    IsSound-unless_faulty (page_fault (page ∷ words)) (if is_page_1 (page ∷ words) then triples else Skipped)
+    IsSound-unless_faulty (page_fault (page ∷ words))
+    (if is_page_1 (page ∷ words) then triples else Skipped)
     (λ _. IsSound-if (is_page_1 (page ∷ words)) triples Skipped
-    (IsSound-unless_faulty (triple_fault desk words) (Patches (triples_in words)) (triples_in_range words)) tt)
+    (IsSound-unless_faulty (triple_fault desk words) (Patches (triples_in words))
+    (triples_in_range words)) tt)
 
-time_in_range : (word : List ℕ) → time_fault word ≡ None → IsTrue (is_time (unwrap_or (time_of word) 0))
+time_in_range : (word : List ℕ) → time_fault word ≡ None
+    → IsTrue (is_time (unwrap_or (time_of word) 0))
 time_in_range word h = time_small word _ (is_spelt (time_of word) BadTime h)
 
 rate_in_range : (words : List (List ℕ)) → rate_fault words ≡ None → IsRateInRange (rate_in words)
@@ -132,19 +146,22 @@ rate_in_range (time ∷ delay ∷ words) h =
     let p = lower_both (time_fault time) (time_fault delay) h in
     (time_in_range time p.0, time_in_range delay p.1)
 
-IsSound-rises : (words : List (List ℕ)) (r : Record) → IsSound (cue_said (λ n. rate_said (Rises n) words) r)
+IsSound-rises : (words : List (List ℕ)) (r : Record)
+    → IsSound (cue_said (λ n. rate_said (Rises n) words) r)
 IsSound-rises words (record_of.Cue n) =
     IsSound-unless_faulty (rate_fault words) (Rises n (rate_in words)) (rate_in_range words)
 IsSound-rises words (record_of.Group n) = tt
 IsSound-rises words (record_of.Sub n) = tt
 
-IsSound-falls : (words : List (List ℕ)) (r : Record) → IsSound (cue_said (λ n. rate_said (Falls n) words) r)
+IsSound-falls : (words : List (List ℕ)) (r : Record)
+    → IsSound (cue_said (λ n. rate_said (Falls n) words) r)
 IsSound-falls words (record_of.Cue n) =
     IsSound-unless_faulty (rate_fault words) (Falls n (rate_in words)) (rate_in_range words)
 IsSound-falls words (record_of.Group n) = tt
 IsSound-falls words (record_of.Sub n) = tt
 
-IsSound-owned_said : (owner : Option Record) (says : Record → Statement) → ((r : Record) → IsSound (says r))
+IsSound-owned_said : (owner : Option Record) (says : Record → Statement)
+    → ((r : Record) → IsSound (says r))
     → IsSound (owned_said owner says)
 IsSound-owned_said None says h = tt
 IsSound-owned_said (Some r) says h = h r
@@ -155,14 +172,17 @@ pub said_in_range : (owner : Option Record) (keyword : Keyword) (words : List (L
 said_in_range owner Clear words = IsSound-clear_said words
 said_in_range owner Ident words = IsSound-ident_said words
 said_in_range owner Cue words = IsSound-record_said cue_fault cue_named cue_in_range words
-said_in_range owner Group words = IsSound-record_said (number_fault 1 500) group_named group_in_range words
-said_in_range owner Sub words = IsSound-record_said (number_fault 1 100) sub_named sub_in_range words
+said_in_range owner Group words =
+    IsSound-record_said (number_fault 1 500) group_named group_in_range words
+said_in_range owner Sub words =
+    IsSound-record_said (number_fault 1 100) sub_named sub_in_range words
 said_in_range owner Patch words = IsSound-patch_said words
 said_in_range owner EndData words = tt
 said_in_range owner Setting words = tt
 said_in_range owner Chan words =
     IsSound-owned_said owner (levels_said desk words)
-    (λ r. IsSound-unless_faulty (pair_fault desk words) (Levels r (pairs_in words)) (pairs_in_range words))
+    (λ r. IsSound-unless_faulty (pair_fault desk words) (Levels r (pairs_in words))
+    (pairs_in_range words))
 said_in_range owner Up words =
     IsSound-owned_said owner (cue_said (λ n. rate_said (Rises n) words)) (IsSound-rises words)
 said_in_range owner Down words =

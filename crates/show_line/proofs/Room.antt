@@ -1,5 +1,6 @@
 -- What a line says stays within the limits under which it was read.
-use Rattle.std.proofs.Common.{◌≡◌, ℕ, ◌≤◌, Bool, true, false, List, [], ◌∷◌, All, refl, Option, Some, None}
+use Rattle.std.proofs.Common.{◌≡◌, ℕ, ◌≤◌, Bool, true, false, List, [], ◌∷◌, All, refl, Option}
+use Rattle.std.proofs.Common.{Some, None}
 use Rattle.std.specs.Prelude.{unwrap_or, codes, if◌then◌else◌}
 use Rattle.std.specs.Option.{option_map_or}
 use Rattle.std.proofs.lemmas.List.Elements.{All-nil, All-cons}
@@ -8,21 +9,26 @@ use Rattle.show_core.specs.declared.rate.Rate.{Rate}
 use Rattle.show_line.specs.declared.fault.LineFault.{LineFault}
 use Rattle.show_line.specs.declared.fault.LineFault.TheVariants.{Ident as BadIdent}
 use Rattle.show_line.specs.declared.keyword.Keyword.{Keyword}
-use Rattle.show_line.specs.declared.keyword.Keyword.TheVariants.{Clear, Ident, Cue, Group, Sub, Patch}
-use Rattle.show_line.specs.declared.keyword.Keyword.TheVariants.{EndData, Setting, Chan, Up, Down, Remark}
+use Rattle.show_line.specs.declared.keyword.Keyword.TheVariants.{Clear, Ident, Cue, Group, Sub}
+use Rattle.show_line.specs.declared.keyword.Keyword.TheVariants.{Patch}
+use Rattle.show_line.specs.declared.keyword.Keyword.TheVariants.{EndData, Setting, Chan, Up, Down}
+use Rattle.show_line.specs.declared.keyword.Keyword.TheVariants.{Remark}
 use Rattle.show_line.specs.declared.keyword.Keyword.TheVariants.{Maker, Unknown}
 use Rattle.show_line.specs.declared.statement.Cleared.{Cleared}
 use Rattle.show_line.specs.declared.statement.Record.{Record}
 use Rattle.show_line.specs.declared.statement.Record.TheVariants as record_of
 use Rattle.show_line.specs.declared.statement.Statement.{Statement}
-use Rattle.show_line.specs.declared.statement.Statement.TheVariants.{Opens, Levels, Rises, Falls, Patches}
+use Rattle.show_line.specs.declared.statement.Statement.TheVariants.{Opens, Levels, Rises, Falls}
+use Rattle.show_line.specs.declared.statement.Statement.TheVariants.{Patches}
 use Rattle.show_line.specs.declared.statement.Statement.TheVariants.{Clears, Quiet, Skipped, Faulty}
 use Rattle.show_line.specs.declared.triples.Triple.{Triple}
 use Rattle.show_line.specs.Keywords.{named}
 use Rattle.show_line.specs.Faults.{lower, number_fault, cue_fault, page_fault}
 use Rattle.show_line.specs.Pairs.{Limits, pair_fault, pairs_in, triple_fault, triples_in}
-use Rattle.show_line.specs.Said.{unless_faulty, is_page_1, record_said, cue_named, group_named, sub_named}
-use Rattle.show_line.specs.Said.{patch_said, rate_fault, rate_in, rate_said, ident_said, cleared_names}
+use Rattle.show_line.specs.Said.{unless_faulty, is_page_1, record_said, cue_named, group_named}
+use Rattle.show_line.specs.Said.{sub_named}
+use Rattle.show_line.specs.Said.{patch_said, rate_fault, rate_in, rate_said, ident_said}
+use Rattle.show_line.specs.Said.{cleared_names}
 use Rattle.show_line.specs.Said.{clear_said, levels_said, owned_said, cue_said, said}
 use Rattle.show_line.proofs.Ranges.{faultless_pair, faultless_triple}
 
@@ -70,7 +76,8 @@ within-record_said lim fault which [] = tt
 within-record_said lim fault which (number ∷ words) =
     let opens = Opens (which number) in
     within-unless_faulty lim (lower (fault number) (page_fault words))
-    (if is_page_1 words then opens else Skipped) (λ _. within-if lim (is_page_1 words) opens Skipped tt tt)
+    (if is_page_1 words then opens else Skipped)
+    (λ _. within-if lim (is_page_1 words) opens Skipped tt tt)
 
 within-rates : (lim : Limits) (says : ℕ → Rate → Statement)
     → ((n : ℕ) (rate : Rate) → IsWithin lim (says n rate)) → (words : List (List ℕ)) (r : Record)
@@ -112,7 +119,8 @@ triples_within lim (channel ∷ dimmer ∷ level ∷ words) h =
 within-levels_said : (lim : Limits) (words : List (List ℕ)) (r : Record)
     → IsWithin lim (levels_said lim words r)
 within-levels_said lim words r =
-    within-unless_faulty lim (pair_fault lim words) (Levels r (pairs_in words)) (pairs_within lim words)
+    within-unless_faulty lim (pair_fault lim words) (Levels r (pairs_in words))
+    (pairs_within lim words)
 
 within-patch_said : (lim : Limits) (words : List (List ℕ)) → IsWithin lim (patch_said lim words)
 within-patch_said lim [] = tt

@@ -1,19 +1,23 @@
 -- What single lines say, evaluated.
 use Rattle.std.specs.Prelude.{◌≡◌, ℕ, List, [], ◌∷◌, codes, Option, Some, None, option_map, refl}
 use Rattle.ascii_text.specs.Text.{words_of}
-use Rattle.show_line.specs.declared.fault.LineFault.TheVariants.{Ident, MissingNumber, BadNumber, BadLevel}
-use Rattle.show_line.specs.declared.fault.LineFault.TheVariants.{BadTime, HalfPair, HalfTriple, Limit}
+use Rattle.show_line.specs.declared.fault.LineFault.TheVariants.{Ident, MissingNumber, BadNumber}
+use Rattle.show_line.specs.declared.fault.LineFault.TheVariants.{BadLevel}
+use Rattle.show_line.specs.declared.fault.LineFault.TheVariants.{BadTime, HalfPair, HalfTriple}
+use Rattle.show_line.specs.declared.fault.LineFault.TheVariants.{Limit}
 use Rattle.show_line.specs.declared.statement.Cleared.TheVariants.{All, Only}
 use Rattle.show_line.specs.declared.statement.Record.TheVariants.{Cue, Group, Sub}
 use Rattle.show_line.specs.declared.statement.Statement.{Statement}
-use Rattle.show_line.specs.declared.statement.Statement.TheVariants.{Opens, Levels, Rises, Falls, Patches}
+use Rattle.show_line.specs.declared.statement.Statement.TheVariants.{Opens, Levels, Rises, Falls}
+use Rattle.show_line.specs.declared.statement.Statement.TheVariants.{Patches}
 use Rattle.show_line.specs.declared.statement.Statement.TheVariants.{Clears, Quiet, Skipped, Faulty}
 use Rattle.show_line.specs.declared.statement.Table.TheVariants.{Cues, Patch}
 use Rattle.show_line.specs.Said.{desk, reading_of}
 
 -- what a line says below cue 1, and below no record
 abbrev in_cue : List ℕ → Option Statement
-in_cue line = option_map (λ reading. reading.statement) (reading_of desk (Some (Cue 1000)) (words_of line))
+in_cue line =
+    option_map (λ reading. reading.statement) (reading_of desk (Some (Cue 1000)) (words_of line))
 
 abbrev alone : List ℕ → Option Statement
 alone line = option_map (λ reading. reading.statement) (reading_of desk None (words_of line))
@@ -92,14 +96,16 @@ records : (alone (codes "Cue 1.5 000000001") ≡ Some (Opens (Cue 1500)))
 records = (refl, refl, refl)
 
 within_records :
-    (in_cue (codes "  Chan 1/Hff 2/H80 ! house") ≡ Some (Levels (Cue 1000) ((1, 255) ∷ (2, 128) ∷ [])))
+    (in_cue (codes "  Chan 1/Hff 2/H80 ! house")
+    ≡ Some (Levels (Cue 1000) ((1, 255) ∷ (2, 128) ∷ [])))
     × (in_cue (codes "CHAN") ≡ Some (Levels (Cue 1000) []))
     × (in_cue (codes "UP 5 3") ≡ Some (Rises 1000 (record { time = 5000; delay = 3000 })))
     × (in_cue (codes "Down .5") ≡ Some (Falls 1000 (record { time = 500; delay = 0 })))
 within_records = (refl, refl, refl, refl)
 
 patches : (alone (codes "PATCH 1") ≡ Some (Patches []))
-    × (alone (codes "PATCH 1 0<1@50") ≡ Some (Patches (record { channel = 0; dimmer = 1; level = 128 } ∷ [])))
+    × (alone (codes "PATCH 1 0<1@50")
+    ≡ Some (Patches (record { channel = 0; dimmer = 1; level = 128 } ∷ [])))
 patches = (refl, refl)
 
 clears : (alone (codes "Clear all") ≡ Some (Clears All))

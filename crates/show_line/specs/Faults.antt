@@ -1,10 +1,13 @@
 -- The faults of words in their roles.
-use Rattle.std.specs.Prelude.{ℕ, Bool, ◌&&◌, nat_le, nat_lt, if◌then◌else◌, List, [], ◌∷◌, Option, Some, None}
+use Rattle.std.specs.Prelude.{ℕ, Bool, ◌&&◌, nat_le, nat_lt, if◌then◌else◌, List, [], ◌∷◌, Option}
+use Rattle.std.specs.Prelude.{Some, None}
 use Rattle.std.specs.Prelude.{is_some}
 use Rattle.ascii_text.specs.Forms.{number_of, level_of, time_of, cue_number_of}
 use Rattle.show_line.specs.declared.fault.LineFault.{LineFault}
-use Rattle.show_line.specs.declared.fault.LineFault.TheVariants.{Ident, MissingNumber, BadNumber, BadLevel}
-use Rattle.show_line.specs.declared.fault.LineFault.TheVariants.{BadTime, HalfPair, HalfTriple, Limit}
+use Rattle.show_line.specs.declared.fault.LineFault.TheVariants.{Ident, MissingNumber, BadNumber}
+use Rattle.show_line.specs.declared.fault.LineFault.TheVariants.{BadLevel}
+use Rattle.show_line.specs.declared.fault.LineFault.TheVariants.{BadTime, HalfPair, HalfTriple}
+use Rattle.show_line.specs.declared.fault.LineFault.TheVariants.{Limit}
 
 -- the number of a fault: of several the lowest is answered
 abbrev pub rank_of : LineFault → ℕ

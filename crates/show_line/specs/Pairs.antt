@@ -28,13 +28,14 @@ pairs_in (channel ∷ level ∷ words) =
     (unwrap_or (number_of channel) 0, unwrap_or (level_of level) 0) ∷ pairs_in words
 pairs_in _ = []
 
--- the lowest fault of the words of PATCH behind the page: channel, dimmer, level, and so on; channel 0 leaves
--- a dimmer unpatched
+-- the lowest fault of the words of PATCH behind the page: channel, dimmer, level, and so on;
+-- channel 0 leaves a dimmer unpatched
 abbrev pub triple_fault : Limits → List (List ℕ) → Option LineFault
 triple_fault lim [] = None
 triple_fault lim (channel ∷ []) = lower (number_fault 0 lim.channels channel) (Some HalfTriple)
 triple_fault lim (channel ∷ dimmer ∷ []) =
-    lower (lower (number_fault 0 lim.channels channel) (number_fault 1 lim.dimmers dimmer)) (Some HalfTriple)
+    lower (lower (number_fault 0 lim.channels channel) (number_fault 1 lim.dimmers dimmer))
+    (Some HalfTriple)
 triple_fault lim (channel ∷ dimmer ∷ level ∷ words) =
     lower
     (lower

@@ -1,5 +1,6 @@
 -- What a line says, by its keyword, the record that owns it, and the words behind the keyword.
-use Rattle.std.specs.Prelude.{ℕ, Bool, true, ◌==◌, if◌then◌else◌, List, [], ◌∷◌, codes, Option, Some, None}
+use Rattle.std.specs.Prelude.{ℕ, Bool, true, ◌==◌, if◌then◌else◌, List, [], ◌∷◌, codes, Option}
+use Rattle.std.specs.Prelude.{Some, None}
 use Rattle.std.specs.Prelude.{unwrap_or}
 use Rattle.std.specs.Option.{option_map_or}
 use Rattle.ascii_text.specs.Forms.{same_word, number_of, time_of, cue_number_of}
@@ -8,8 +9,10 @@ use Rattle.show_line.specs.declared.fault.LineFault.{LineFault}
 use Rattle.show_line.specs.declared.fault.LineFault.TheVariants.{MissingNumber}
 use Rattle.show_line.specs.declared.fault.LineFault.TheVariants.{Ident as BadIdent}
 use Rattle.show_line.specs.declared.keyword.Keyword.{Keyword}
-use Rattle.show_line.specs.declared.keyword.Keyword.TheVariants.{Clear, Ident, Cue, Group, Sub, Patch}
-use Rattle.show_line.specs.declared.keyword.Keyword.TheVariants.{EndData, Setting, Chan, Up, Down, Remark}
+use Rattle.show_line.specs.declared.keyword.Keyword.TheVariants.{Clear, Ident, Cue, Group, Sub}
+use Rattle.show_line.specs.declared.keyword.Keyword.TheVariants.{Patch}
+use Rattle.show_line.specs.declared.keyword.Keyword.TheVariants.{EndData, Setting, Chan, Up, Down}
+use Rattle.show_line.specs.declared.keyword.Keyword.TheVariants.{Remark}
 use Rattle.show_line.specs.declared.keyword.Keyword.TheVariants.{Maker, Unknown}
 use Rattle.show_line.specs.declared.statement.Record.{Record}
 use Rattle.show_line.specs.declared.statement.Record.TheVariants as record_of
@@ -18,10 +21,12 @@ use Rattle.show_line.specs.declared.statement.Cleared.{Cleared}
 use Rattle.show_line.specs.declared.statement.Cleared.TheVariants.{All, Only}
 use Rattle.show_line.specs.declared.line.Reading.{Reading}
 use Rattle.show_line.specs.declared.statement.Statement.{Statement}
-use Rattle.show_line.specs.declared.statement.Statement.TheVariants.{Opens, Levels, Rises, Falls, Patches}
+use Rattle.show_line.specs.declared.statement.Statement.TheVariants.{Opens, Levels, Rises, Falls}
+use Rattle.show_line.specs.declared.statement.Statement.TheVariants.{Patches}
 use Rattle.show_line.specs.declared.statement.Statement.TheVariants.{Clears, Quiet, Skipped, Faulty}
 use Rattle.show_line.specs.Keywords.{named, keyword_of}
-use Rattle.show_line.specs.Faults.{lower, number_fault, cue_fault, page_fault, time_fault, delay_fault}
+use Rattle.show_line.specs.Faults.{lower, number_fault, cue_fault, page_fault, time_fault}
+use Rattle.show_line.specs.Faults.{delay_fault}
 pub use Rattle.show_line.specs.Pairs.{desk}
 use Rattle.show_line.specs.Pairs.{Limits, pair_fault, pairs_in, triple_fault, triples_in}
 
@@ -37,7 +42,8 @@ is_page_1 (page ∷ words) = unwrap_or (number_of page) 0 == 1
 -- a record line whose number has this fault, or names this record; a page may be next
 abbrev pub on_page : Option LineFault → Record → List (List ℕ) → Statement
 on_page fault which words =
-    unless_faulty (lower fault (page_fault words)) (if is_page_1 words then Opens which else Skipped)
+    unless_faulty (lower fault (page_fault words))
+    (if is_page_1 words then Opens which else Skipped)
 
 -- CUE, GROUP or SUB: a number, whose fault and record these functions give, and perhaps a page
 abbrev pub record_said : (List ℕ → Option LineFault) → (List ℕ → Record) → List (List ℕ) → Statement
@@ -91,7 +97,8 @@ abbrev pub cleared_names : List (List ℕ × Cleared)
 cleared_names =
     (codes "all", All) ∷ (codes "cue", Only table.Cues) ∷ (codes "cues", Only table.Cues)
     ∷ (codes "group", Only table.Groups) ∷ (codes "groups", Only table.Groups)
-    ∷ (codes "sub", Only table.Subs) ∷ (codes "subs", Only table.Subs) ∷ (codes "patch", Only table.Patch) ∷ []
+    ∷ (codes "sub", Only table.Subs) ∷ (codes "subs", Only table.Subs)
+    ∷ (codes "patch", Only table.Patch) ∷ []
 
 -- CLEAR with one word that names tables; else it is skipped
 abbrev pub clear_said : List (List ℕ) → Statement

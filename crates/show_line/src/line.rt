@@ -213,7 +213,8 @@ fn down_statement<'a>(owner: Option<Record>, operands: &'a [u8]) -> Statement<'a
 // The rate that the words of UP or DOWN spell.
 fn rate(operands: &[u8]) -> Result<Rate, LineFault>
     ensures { MatchResult result
-        (λ rate. (rate_fault (words_of operands.now) ≡ None) × (rate ≡ rate_in (words_of operands.now)))
+        (λ rate. (rate_fault (words_of operands.now) ≡ None)
+        × (rate ≡ rate_in (words_of operands.now)))
         (λ fault. rate_fault (words_of operands.now) ≡ Some fault) }
 {
     let mut words = Words::new(operands);

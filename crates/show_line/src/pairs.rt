@@ -33,7 +33,8 @@ impl<'a> Model for Pairs<'a> {
 
     ghost Value = { List (ℕ × ℕ) };
 
-    ghost view = { λ pairs. drop pairs.given pairs.kept.items ++ pairs_in (words_left pairs.words) };
+    ghost view = { λ pairs.
+        drop pairs.given pairs.kept.items ++ pairs_in (words_left pairs.words) };
 
     ghost invariant = { λ pairs. pair_fault desk (words_left pairs.words) ≡ None };
 }
