@@ -1,5 +1,5 @@
 -- What is left of a statement that is not to grow a show.
-use Rattle.std.proofs.Common.{◌≡◌, ℕ, Bool, true, false, not, ◌||◌, List, [], ◌∷◌, refl, sym, ap, ◌∙◌}
+use Rattle.std.proofs.Common.{◌≡◌, ℕ, Bool, true, false, not, ◌||◌, List, ◌∷◌, refl, sym, ap, ◌∙◌}
 use Rattle.std.specs.Prelude.{◌==◌}
 use mathlib.Core.Bool.{false≢true}
 use Rattle.show_line.specs.declared.statement.Record.{Record}

@@ -1,14 +1,18 @@
 -- What whole texts mean, evaluated.
-use Rattle.std.specs.Prelude.{◌≡◌, ℕ, true, false, List, [], ◌∷◌, ◌++◌, codes, flat_map, Option, Some, None, refl}
+use Rattle.std.specs.Prelude.{◌≡◌, ℕ, Bool, true, false, not, ◌&&◌, if◌then◌else◌, List, [], ◌∷◌, ◌++◌}
+use Rattle.std.specs.Prelude.{codes, flat_map, map, Option, Some, None, refl}
+use Rattle.show_line.specs.declared.fault.LineFault.TheVariants as line_fault
 use Rattle.show_line.specs.declared.statement.Record.TheVariants.{Cue, Group}
 use Rattle.show_line.specs.declared.statement.Statement.{Statement}
+use Rattle.show_line.specs.declared.statement.Statement.TheVariants.{Opens}
 use Rattle.show_line.specs.Said.{desk}
 use Rattle.show_reader.specs.declared.fault.ShowFault.{ShowFault}
 use Rattle.show_reader.specs.declared.fault.ShowFault.TheVariants.{Ident, MissingNumber, BadNumber, BadLevel}
 use Rattle.show_reader.specs.declared.fault.ShowFault.TheVariants.{BadTime, HalfPair, HalfTriple, Limit}
 use Rattle.show_reader.specs.Text.{statements_of}
 use Rattle.show_reader.specs.Meaning.{is_there, level_at, up_of, down_of, triple_at, patched_by, cue_count}
-use Rattle.show_reader.specs.Reading.{fault_of, lines_read, lines_skipped}
+use Rattle.show_reader.specs.Reading.{fault_below, fault_of, lines_read, lines_skipped}
+use Rattle.show_reader.specs.Reading.{grows, faultless_front}
 
 -- lines that end in LF, and in CR LF
 abbrev text_of : List (List ℕ) → List ℕ
@@ -68,6 +72,54 @@ first_fault_decides : (fault_3 (codes "CUE 1") (codes "CHAN 5000") (codes "IDENT
     × (fault_1 (codes "GROUP 0") ≡ Some (Limit 1))
     × (fault_1 (codes "PATCH 1 0<1@101") ≡ Some (BadLevel 1))
 first_fault_decides = (refl, refl, refl, refl, refl, refl, refl, refl)
+
+-- each number at both ends of its range, and beyond
+ranges : (fault_2 (codes "CUE 1") (codes "CHAN 1@FL 4096@FL") ≡ None)
+    × (fault_2 (codes "CUE 1") (codes "CHAN 0@FL") ≡ Some (Limit 2))
+    × (fault_2 (codes "CUE 1") (codes "CHAN 4097@FL") ≡ Some (Limit 2))
+    × (fault_1 (codes "PATCH 1 0<1@FL 4096<8192@FL") ≡ None)
+    × (fault_1 (codes "PATCH 1 4097<1@FL") ≡ Some (Limit 1))
+    × (fault_1 (codes "PATCH 1 1<0@FL") ≡ Some (Limit 1))
+    × (fault_1 (codes "PATCH 1 1<8193@FL") ≡ Some (Limit 1))
+    × (fault_2 (codes "GROUP 1") (codes "GROUP 500") ≡ None)
+    × (fault_1 (codes "GROUP 501") ≡ Some (Limit 1))
+    × (fault_2 (codes "SUB 1") (codes "SUB 100") ≡ None)
+    × (fault_1 (codes "SUB 101") ≡ Some (Limit 1))
+    × (fault_2 (codes "CUE .001") (codes "CUE 9999.999") ≡ None)
+    × (fault_1 (codes "CUE 0") ≡ Some (BadNumber 1))
+ranges = (refl, refl, refl, refl, refl, refl, refl, refl, refl, refl, refl, refl, refl)
+
+-- the 2,000th cue has no fault, and the 2,001st has; one that is there already has none
+cue_2000 : (above : List Statement) (n : ℕ) → cue_count above ≡ 1999
+    → fault_below above (Opens (Cue n)) ≡ None
+cue_2000 above n count = rw count (neither (is_there (Cue n) above))
+  where
+    neither : (b : Bool) → (if not b && false then Some line_fault.Limit else None) ≡ None
+    neither true = refl
+    neither false = refl
+
+cue_2001 : (above : List Statement) (n : ℕ) → cue_count above ≡ 2000 → is_there (Cue n) above ≡ false
+    → fault_below above (Opens (Cue n)) ≡ Some line_fault.Limit
+cue_2001 above n count new = rw (count, new) refl
+
+cue_again : (above : List Statement) (n : ℕ) → cue_count above ≡ 2000 → is_there (Cue n) above ≡ true
+    → fault_below above (Opens (Cue n)) ≡ None
+cue_again above n count there = rw (count, there) refl
+
+-- which of the lines above the first faulty one grow the show
+abbrev growing : List (List ℕ) → List Bool
+growing lines = map grows (faultless_front [] (statements_of desk (text_of lines)))
+
+what_grows : (growing [] ≡ [])
+    × (growing (codes "! c" ∷ codes "UP 5" ∷ codes "CHAN 1@FL" ∷ []) ≡ false ∷ false ∷ false ∷ [])
+    × (growing (codes "CUE x" ∷ codes "CUE 1" ∷ []) ≡ [])
+    × (growing (codes "IDENT 3:0" ∷ codes "CLEAR ALL" ∷ codes "EFFECT 1" ∷ codes "IDENT" ∷ [])
+    ≡ false ∷ false ∷ false ∷ [])
+    × (growing (codes "PATCH 1" ∷ codes "PATCH 1 0<1@FL" ∷ codes "PATCH 1 0<1@FL 1<2@FL" ∷ [])
+    ≡ false ∷ false ∷ true ∷ [])
+    × (growing (codes "GROUP 1" ∷ codes "CHAN" ∷ codes "UP 5" ∷ codes "CHAN 1@0" ∷ [])
+    ≡ true ∷ false ∷ false ∷ true ∷ [])
+what_grows = (refl, refl, refl, refl, refl, refl)
 
 -- accepted without a look at all their words
 accepted : (fault_1 (codes "PATCH 2 x") ≡ None)

@@ -1,4 +1,4 @@
-use crate::{Loaded, ShowFault, limits_law, read_show};
+use crate::{Loaded, ShowFault, limits_law, one_show_law, read_show};
 use show_core::{Counts, Rate};
 use std::alloc::Global;
 use std::test::Fail;
@@ -22,6 +22,65 @@ fn sizes(loaded: &Loaded) -> (u32, u32, Counts) {
 fn reading(alloc: Global, text: &[u8]) -> Result<(u32, u32), ShowFault> {
     let loaded = read(alloc, text)?;
     Ok((loaded.lines, loaded.skipped))
+}
+
+// A record of each kind at both ends of its numbers, with channels and dimmers at both ends of theirs.
+#[test]
+fn every_record(rt: HostRuntime) -> Result<(), Fail> {
+    one_show_law();
+    let text = b"IDENT 3:0\nCUE .001\nUP 5 1\nDOWN 99:59.99\nCHAN 4096@50 1@FL\nCUE 9999.999\n\
+        CHAN 4096@H1\nGROUP 1\nCHAN 1@H2\nGROUP 500\nCHAN 4096@H3 1@0\nSUB 1\nCHAN 4096@H4\n\
+        SUB 100\nCHAN 1@H5 4096@FL\nPATCH 1 1<1@FL 4096<8192@50 0<2@FL\nENDDATA\n";
+    let loaded = read(rt.alloc(), text)?;
+    let counts = Counts {
+        cues: 2,
+        subs: 2,
+        groups: 2,
+        dimmers: 2,
+    };
+    assert_eq!(rt; sizes(&loaded), (17, 0, counts));
+    let show = &loaded.show;
+    let first = show.cue(1).expect(&rt, "cue .001");
+    let up = Rate {
+        time: 5000,
+        delay: 1000,
+    };
+    let down = Rate {
+        time: 5_999_990,
+        delay: 0,
+    };
+    assert_eq!(rt; (first.up(), first.down()), (up, down));
+    assert_eq!(rt; first.pairs(), [(1, 255), (4096, 128)].as_slice());
+    let last = show.cue(9_999_999).expect(&rt, "cue 9999.999");
+    assert_eq!(rt; last.pairs(), [(4096, 1)].as_slice());
+    assert_eq!(rt; show.group(1), Some([(1, 2)].as_slice()));
+    assert_eq!(rt; show.group(500), Some([(1, 0), (4096, 3)].as_slice()));
+    assert_eq!(rt; show.sub(1), Some([(4096, 4)].as_slice()));
+    assert_eq!(rt; show.sub(100), Some([(1, 5), (4096, 255)].as_slice()));
+    assert_eq!(rt; show.patched(1), Some((1, 255)));
+    assert_eq!(rt; show.patched(8192), Some((4096, 128)));
+    assert_eq!(rt; show.patched(2), None);
+    let told = format!(in rt.alloc(); "{loaded:?}")?;
+    assert!(rt; told.contains("lines: 17"), "{told}");
+    Ok(())
+}
+
+// A text that grows nothing above its fault needs no memory.
+#[test]
+fn nothing_grows(rt: HostRuntime) {
+    for (text, answer) in [
+        (b"".as_slice(), Ok((0, 0))),
+        (b"! a comment\n\n", Ok((2, 0))),
+        (b"CUE x\nCUE 1", Err(ShowFault::BadNumber(1))),
+        (b"UP 5\nIDENT 3:0\nCLEAR ALL\nEFFECT 1", Ok((4, 2))),
+        (b"PATCH 1 0<1@FL\nSUB 101", Err(ShowFault::Limit(2))),
+    ] {
+        let answered = match read_show(rt.alloc(), text) {
+            Ok(loaded) => Ok((loaded.lines, loaded.skipped)),
+            Err(fault) => Err(fault),
+        };
+        assert_eq!(rt; answered, answer, "{text:?}");
+    }
 }
 
 #[test]
