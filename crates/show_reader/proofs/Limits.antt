@@ -1,16 +1,20 @@
 -- Wider limits leave the meaning of a text that has no fault under narrower ones.
-use Rattle.std.proofs.Common.{◌≡◌, ℕ, ◌+◌, ◌≤◌, Bool, true, false, cond, List, [], ◌∷◌, ◌++◌, length, refl}
+use Rattle.std.proofs.Common.{◌≡◌, ℕ, ◌+◌, ◌≤◌, Bool, true, false, cond, List, [], ◌∷◌, ◌++◌}
+use Rattle.std.proofs.Common.{length, refl}
 use Rattle.std.proofs.Common.{sym, ap, subst, ◌∙◌, Option, Some, None}
 use Rattle.std.specs.Prelude.{nat_lt, filter, option_map, option_and_then}
 use Rattle.std.specs.List.{last_or}
 use Rattle.std.proofs.lemmas.Option.{none-some}
 use Rattle.show_line.specs.declared.fault.LineFault.{LineFault}
 use Rattle.show_line.specs.declared.keyword.Keyword.{Keyword}
-use Rattle.show_line.specs.declared.keyword.Keyword.TheVariants.{Clear, Ident, Cue, Group, Sub, Patch}
-use Rattle.show_line.specs.declared.keyword.Keyword.TheVariants.{EndData, Setting, Chan, Up, Down, Remark}
+use Rattle.show_line.specs.declared.keyword.Keyword.TheVariants.{Clear, Ident, Cue, Group, Sub}
+use Rattle.show_line.specs.declared.keyword.Keyword.TheVariants.{Patch}
+use Rattle.show_line.specs.declared.keyword.Keyword.TheVariants.{EndData, Setting, Chan, Up, Down}
+use Rattle.show_line.specs.declared.keyword.Keyword.TheVariants.{Remark}
 use Rattle.show_line.specs.declared.keyword.Keyword.TheVariants.{Maker, Unknown}
 use Rattle.show_line.specs.declared.statement.Statement.{Statement}
-use Rattle.show_line.specs.declared.statement.Statement.TheVariants.{Opens, Levels, Rises, Falls, Patches}
+use Rattle.show_line.specs.declared.statement.Statement.TheVariants.{Opens, Levels, Rises, Falls}
+use Rattle.show_line.specs.declared.statement.Statement.TheVariants.{Patches}
 use Rattle.show_line.specs.declared.statement.Statement.TheVariants.{Clears, Quiet, Skipped, Faulty}
 use Rattle.show_line.specs.Keywords.{keyword_of}
 use Rattle.show_line.specs.Faults.{page_fault}
@@ -19,10 +23,12 @@ use Rattle.show_line.specs.Said.{unless_faulty, is_page_1, patch_said, said, ope
 use Rattle.show_line.specs.Sound.{IsFaultless}
 use Rattle.show_line.proofs.Wider.{said_wider}
 use Rattle.show_reader.specs.declared.fault.ShowFault.TheVariants as show_fault
-use Rattle.show_reader.specs.Text.{Words, owns, record_opened, owner_below, statement_below, statements_below}
+use Rattle.show_reader.specs.Text.{Words, owns, record_opened, owner_below, statement_below}
+use Rattle.show_reader.specs.Text.{statements_below}
 use Rattle.show_reader.specs.Text.{statements_of, lines_in}
 use Rattle.show_reader.specs.Shows.{IsShowOf}
-use Rattle.show_reader.specs.Reading.{fault_at, fault_below, first_fault, fault_of, ReadsAlike, longest_text}
+use Rattle.show_reader.specs.Reading.{fault_at, fault_below, first_fault, fault_of, ReadsAlike}
+use Rattle.show_reader.specs.Reading.{longest_text}
 use Rattle.show_reader.proofs.Lines.{both_none, none_at_all}
 use Rattle.show_reader.proofs.Room.{statements_within, show_fits}
 
@@ -33,7 +39,8 @@ patch_opens : (lim : Limits) (words : Words) → opened (patch_said lim words) �
 patch_opens lim [] = refl
 patch_opens lim (page ∷ words) = of_page (page_fault (page ∷ words)) (is_page_1 (page ∷ words))
   where
-    of_triples : (o : Option LineFault) → opened (unless_faulty o (Patches (triples_in words))) ≡ None
+    of_triples : (o : Option LineFault)
+        → opened (unless_faulty o (Patches (triples_in words))) ≡ None
     of_triples None = refl
     of_triples (Some f) = refl
 
@@ -139,7 +146,8 @@ module _ (narrow wide : Limits) (more_channels : narrow.channels ≤ wide.channe
           let alike = statements_alike [] [] (lines_in text) faultless in
           record {
             faultless =
-                ap (λ c. cond c (Some show_fault.TooLong) (first_fault [] (statements_of wide text))) e
+                ap (λ c. cond c (Some show_fault.TooLong)
+                (first_fault [] (statements_of wide text))) e
                 ∙ ap (first_fault []) alike ∙ faultless;
             statements = alike;
             fits =

@@ -1,5 +1,6 @@
 -- What one more line changes in the statements, the owner and the fault of a text.
-use Rattle.std.proofs.Common.{◌≡◌, ℕ, ◌+◌, true, false, cond, List, [], ◌∷◌, ◌++◌, length, refl, sym}
+use Rattle.std.proofs.Common.{◌≡◌, ℕ, ◌+◌, true, false, cond, List, [], ◌∷◌, ◌++◌, length, refl}
+use Rattle.std.proofs.Common.{sym}
 use Rattle.std.proofs.Common.{ap, ◌∙◌, append_assoc, arith, Option, Some, None}
 use Rattle.std.specs.Prelude.{filter, option_map, option_and_then}
 use Rattle.std.specs.List.{last_or}
@@ -10,15 +11,18 @@ use Rattle.std.proofs.lemmas.Option.{none-some}
 use mathlib.Core.Bool.{false≢true}
 use Rattle.show_line.specs.declared.fault.LineFault.{LineFault}
 use Rattle.show_line.specs.declared.keyword.Keyword.{Keyword}
-use Rattle.show_line.specs.declared.keyword.Keyword.TheVariants.{Clear, Ident, Cue, Group, Sub, Patch}
-use Rattle.show_line.specs.declared.keyword.Keyword.TheVariants.{EndData, Setting, Chan, Up, Down, Remark}
+use Rattle.show_line.specs.declared.keyword.Keyword.TheVariants.{Clear, Ident, Cue, Group, Sub}
+use Rattle.show_line.specs.declared.keyword.Keyword.TheVariants.{Patch}
+use Rattle.show_line.specs.declared.keyword.Keyword.TheVariants.{EndData, Setting, Chan, Up, Down}
+use Rattle.show_line.specs.declared.keyword.Keyword.TheVariants.{Remark}
 use Rattle.show_line.specs.declared.keyword.Keyword.TheVariants.{Maker, Unknown}
 use Rattle.show_line.specs.declared.statement.Record.{Record}
 use Rattle.show_line.specs.declared.statement.Statement.{Statement}
 use Rattle.show_line.specs.Keywords.{may_own}
 use Rattle.show_line.specs.Pairs.{Limits}
 use Rattle.show_line.specs.Said.{said}
-use Rattle.show_reader.specs.Text.{Words, owns, record_opened, owner_below, statement_below, statements_below}
+use Rattle.show_reader.specs.Text.{Words, owns, record_opened, owner_below, statement_below}
+use Rattle.show_reader.specs.Text.{statements_below}
 use Rattle.show_reader.specs.Reading.{fault_below, fault_at, first_fault}
 use Rattle.show_reader.proofs.Append.{last_or-append}
 
@@ -28,7 +32,8 @@ use Rattle.show_reader.proofs.Append.{last_or-append}
 pub statements_below-append : (lim : Limits) (above ls ms : List Words)
     → statements_below lim above (ls ++ ms)
     ≡ statements_below lim above ls ++ statements_below lim (above ++ ls) ms
-statements_below-append lim above [] ms = ap (λ a. statements_below lim a ms) (sym (append-nil above))
+statements_below-append lim above [] ms =
+    ap (λ a. statements_below lim a ms) (sym (append-nil above))
 statements_below-append lim above (l ∷ ls) ms =
     ap (λ ss. statement_below lim above l ∷ ss)
     (statements_below-append lim (above ++ l ∷ []) ls ms
@@ -64,15 +69,21 @@ said_owner lim owner Unknown words h = absurd (false≢true h)
 
 -- the owner below one line more
 pub owner_push : (lim : Limits) (above : List Words) (l : Words)
-    → owner_below lim (above ++ l ∷ []) ≡ cond (owns l) (record_opened lim l) (owner_below lim above)
+    → owner_below lim (above ++ l ∷ [])
+    ≡ cond (owns l) (record_opened lim l) (owner_below lim above)
 owner_push lim above l =
-    ap (λ ls. option_and_then (record_opened lim) (last_or None ls)) (filter-append owns above (l ∷ []))
+    ap (λ ls. option_and_then (record_opened lim) (last_or None ls))
+    (filter-append owns above (l ∷ []))
     ∙ elim (owns l) as
-    (λ b. option_and_then (record_opened lim) (last_or None (filter owns above ++ cond b (l ∷ []) []))
+    (λ b. option_and_then (record_opened lim)
+    (last_or None (filter owns above ++ cond b (l ∷ []) []))
     ≡ cond b (record_opened lim l) (owner_below lim above)) [
-      | true ↦ ap (option_and_then (record_opened lim)) (last_or-append None (filter owns above) (l ∷ []))
+      | true ↦
+          ap (option_and_then (record_opened lim))
+          (last_or-append None (filter owns above) (l ∷ []))
       | false ↦
-          ap (λ ls. option_and_then (record_opened lim) (last_or None ls)) (append-nil (filter owns above))
+          ap (λ ls. option_and_then (record_opened lim) (last_or None ls))
+          (append-nil (filter owns above))
     ]
 
 -- ---- faults
@@ -89,8 +100,10 @@ none_at_all line (Some f) h = absurd (none-some (fault_at line f) (sym h))
 
 -- no line so far has a fault: the next line's decides, and then those below
 pub first_fault-append : (above ss : List Statement) (s : Statement) (rest : List Statement)
-    → first_fault above ss ≡ None → first_fault above (ss ++ s ∷ rest) ≡ first_fault (above ++ ss) (s ∷ rest)
-first_fault-append above [] s rest none = ap (λ a. first_fault a (s ∷ rest)) (sym (append-nil above))
+    → first_fault above ss ≡ None
+    → first_fault above (ss ++ s ∷ rest) ≡ first_fault (above ++ ss) (s ∷ rest)
+first_fault-append above [] s rest none =
+    ap (λ a. first_fault a (s ∷ rest)) (sym (append-nil above))
 first_fault-append above (t ∷ ss) s rest none =
     let parts
     = both_none (option_map (fault_at (length above + 1)) (fault_below above t))

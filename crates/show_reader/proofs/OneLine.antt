@@ -21,18 +21,21 @@ use Rattle.show_line.specs.declared.statement.Record.TheVariants.{Cue, Group, Su
 use Rattle.show_line.specs.declared.statement.Table.{Table}
 use Rattle.show_line.specs.declared.statement.Cleared.{Cleared}
 use Rattle.show_line.specs.declared.statement.Statement.{Statement}
-use Rattle.show_line.specs.declared.statement.Statement.TheVariants.{Opens, Levels, Rises, Falls, Patches}
+use Rattle.show_line.specs.declared.statement.Statement.TheVariants.{Opens, Levels, Rises, Falls}
+use Rattle.show_line.specs.declared.statement.Statement.TheVariants.{Patches}
 use Rattle.show_line.specs.declared.statement.Statement.TheVariants.{Clears, Quiet, Skipped, Faulty}
 use Rattle.show_line.specs.Keywords.{keyword_of, may_own, named}
 use Rattle.show_line.specs.Faults.{lower, cue_fault, number_fault, page_fault}
 use Rattle.show_line.specs.Pairs.{pair_fault, pairs_in, triple_fault, triples_in}
-use Rattle.show_line.specs.Said.{desk, said, opened, unless_faulty, record_said, patch_said, rate_fault}
+use Rattle.show_line.specs.Said.{desk, said, opened, unless_faulty, record_said, patch_said}
+use Rattle.show_line.specs.Said.{rate_fault}
 use Rattle.show_line.specs.Said.{rate_said, ident_said, clear_said, is_page_1}
 use Rattle.show_line.specs.Said.{cue_named, group_named, sub_named, rate_in, cleared_names}
 use Rattle.show_line.specs.Sound.{IsSound}
 use Rattle.show_reader.specs.Text.{Words, owns, record_opened, owner_below, statement_below}
 use Rattle.std.specs.List.{list_any}
-use Rattle.show_reader.specs.Meaning.{opened_by, is_there, same_record, empties, cue_count, is_skipped}
+use Rattle.show_reader.specs.Meaning.{opened_by, is_there, same_record, empties, cue_count}
+use Rattle.show_reader.specs.Meaning.{is_skipped}
 use Rattle.show_reader.specs.Shows.{IsShowOf}
 use Rattle.show_reader.specs.Reading.{fault_below, first_fault}
 use Rattle.show_reader.specs.declared.read.Reader.{Reader}
@@ -40,7 +43,8 @@ use Rattle.show_reader.specs.Applied.{applied, refused_by, HasOwner}
 use Rattle.show_reader.specs.Reads.{said_by, Reads}
 use Rattle.std.proofs.lemmas.List.{length-append}
 use Rattle.std.proofs.lemmas.List.Sums.{fold-append}
-use Rattle.show_reader.proofs.Lines.{said_owner, statements_below-append, owner_push, first_fault_later}
+use Rattle.show_reader.proofs.Lines.{said_owner, statements_below-append, owner_push}
+use Rattle.show_reader.proofs.Lines.{first_fault_later}
 use Rattle.show_reader.proofs.Counted.{count_step}
 use Rattle.show_reader.proofs.Looks.{or_true}
 use Rattle.show_reader.proofs.Steps.{IsOwned, there_more, cue_there, step}
@@ -49,7 +53,8 @@ use Rattle.show_reader.proofs.Steps.{IsOwned, there_more, cue_there, step}
 
 module _ (ss : List Statement) where
   -- a faulty statement needs nothing
-  unless_owned : (o : Option LineFault) (s : Statement) → IsOwned ss s → IsOwned ss (unless_faulty o s)
+  unless_owned : (o : Option LineFault) (s : Statement) → IsOwned ss s
+      → IsOwned ss (unless_faulty o s)
   unless_owned None s h = h
   unless_owned (Some f) s h = tt
 
@@ -58,7 +63,8 @@ module _ (ss : List Statement) where
       → IsOwned ss (record_said f which words)
   record_owned f which [] = tt
   record_owned f which (n ∷ words) =
-      unless_owned (lower (f n) (page_fault words)) (cond (is_page_1 words) (Opens (which n)) Skipped)
+      unless_owned (lower (f n) (page_fault words))
+      (cond (is_page_1 words) (Opens (which n)) Skipped)
       (go (is_page_1 words))
     where
       go : (b : Bool) → IsOwned ss (cond b (Opens (which n)) Skipped)
@@ -75,14 +81,17 @@ module _ (ss : List Statement) where
       (go (is_page_1 (page ∷ words)))
     where
       go : (b : Bool)
-          → IsOwned ss (cond b (unless_faulty (triple_fault desk words) (Patches (triples_in words))) Skipped)
+          → IsOwned ss
+          (cond b (unless_faulty (triple_fault desk words) (Patches (triples_in words))) Skipped)
       go true = unless_owned (triple_fault desk words) (Patches (triples_in words)) tt
       go false = tt
 
   -- UP and DOWN need their cue
-  rate_owned : (says : Rate → Statement) → ((rate : Rate) → IsOwned ss (says rate)) → (words : Words)
+  rate_owned : (says : Rate → Statement) → ((rate : Rate) → IsOwned ss (says rate))
+      → (words : Words)
       → IsOwned ss (rate_said says words)
-  rate_owned says h words = unless_owned (rate_fault words) (says (rate_in words)) (h (rate_in words))
+  rate_owned says h words =
+      unless_owned (rate_fault words) (says (rate_in words)) (h (rate_in words))
 
   -- IDENT needs nothing
   ident_owned : (words : Words) → IsOwned ss (ident_said words)
@@ -115,7 +124,8 @@ module _ (ss : List Statement) where
   said_owned owner word.EndData words h = tt
   said_owned owner word.Setting words h = tt
   said_owned None word.Chan words h = tt
-  said_owned (Some r) word.Chan words h = unless_owned (pair_fault desk words) (Levels r (pairs_in words)) h
+  said_owned (Some r) word.Chan words h =
+      unless_owned (pair_fault desk words) (Levels r (pairs_in words)) h
   said_owned None word.Up words h = tt
   said_owned (Some (Cue n)) word.Up words h = rate_owned (Rises n) (λ rate. h) words
   said_owned (Some (Group n)) word.Up words h = tt
@@ -140,7 +150,8 @@ unless_keeps t (Some f) s h = refl
 -- UP and DOWN empty none
 rate_keeps : (t : Table) (says : Rate → Statement) → ((rate : Rate) → empties t (says rate) ≡ false)
     → (words : Words) → empties t (rate_said says words) ≡ false
-rate_keeps t says h words = unless_keeps t (rate_fault words) (says (rate_in words)) (h (rate_in words))
+rate_keeps t says h words =
+    unless_keeps t (rate_fault words) (says (rate_in words)) (h (rate_in words))
 
 -- no line empties a table that cannot own others
 said_keeps : (owner : Option Record) (keyword : Keyword) (words : Words) → may_own keyword ≡ false
@@ -175,7 +186,8 @@ said_keeps owner word.Unknown words h t = refl
 there_of_opened : (ss : List Statement) (s : Statement) (q : Record) → opened s ≡ Some q
     → is_there q (ss ++ s ∷ []) ≡ true
 there_of_opened ss (Opens r) q h =
-    there_more ss (Opens r) (λ t. refl) q ∙ ap (λ p. is_there q ss || (same_record q p || false)) (some_is h)
+    there_more ss (Opens r) (λ t. refl) q
+    ∙ ap (λ p. is_there q ss || (same_record q p || false)) (some_is h)
     ∙ same q
   where
     some_is : Some r ≡ Some q → r ≡ q
@@ -201,7 +213,8 @@ opened_present ss s None h = tt
 opened_present ss s (Some q) h = there_of_opened ss s q h
 
 -- an owner stays there below a line that empties no table
-kept_present : (ss : List Statement) (s : Statement) (o : Option Record) → ((t : Table) → empties t s ≡ false)
+kept_present : (ss : List Statement) (s : Statement) (o : Option Record)
+    → ((t : Table) → empties t s ≡ false)
     → IfSome o (λ q. is_there q ss ≡ true) → IfSome o (λ q. is_there q (ss ++ s ∷ []) ≡ true)
 kept_present ss s None keeps h = tt
 kept_present ss s (Some q) keeps h =
@@ -218,8 +231,10 @@ present_step ss owner keyword words h = go (may_own keyword) refl
         → IfSome (cond b (opened (said desk owner keyword words)) owner)
         (λ q. is_there q (ss ++ said desk owner keyword words ∷ []) ≡ true)
     go true e =
-        opened_present ss (said desk owner keyword words) (opened (said desk owner keyword words)) refl
-    go false e = kept_present ss (said desk owner keyword words) owner (said_keeps owner keyword words e) h
+        opened_present ss (said desk owner keyword words) (opened (said desk owner keyword words))
+        refl
+    go false e =
+        kept_present ss (said desk owner keyword words) owner (said_keeps owner keyword words e) h
 
 -- ---- the show refuses what the text's meaning refuses
 
@@ -228,17 +243,20 @@ not_less : (a b : ℕ) → not (nat_lt a b) ≡ nat_le b a
 not_less a b = grind (arith, nat_tests)
 
 -- a show that the statements mean refuses the next one where it has a fault
-pub refused_is : (ss : List Statement) (s : Statement) (show : Tables) → IsSound s → IsShowOf ss show
+pub refused_is : (ss : List Statement) (s : Statement) (show : Tables) → IsSound s
+    → IsShowOf ss show
     → cue_count ss ≡ map.len show.cues → refused_by show s ≡ fault_below ss s
 refused_is ss (Opens (Cue n)) show numbered h count =
-    by_tests (is_cue_number n) (map.contains_key show.cues n) (nat_lt (map.len show.cues) 2000) numbered
+    by_tests (is_cue_number n) (map.contains_key show.cues n) (nat_lt (map.len show.cues) 2000)
+    numbered
     ∙ ap (λ b. cond (not b && not (nat_lt (map.len show.cues) 2000)) (Some fault.Limit) None)
     (sym (cue_there show n) ∙ h.records (Cue n))
     ∙ ap (λ b. cond (not (is_there (Cue n) ss) && b) (Some fault.Limit) None)
     (not_less (map.len show.cues) 2000 ∙ ap (nat_le 2000) (sym count))
   where
     by_tests : (a b c : Bool) → a ≡ true
-        → cond (a && (b || c)) None (Some fault.Limit) ≡ cond (not b && not c) (Some fault.Limit) None
+        → cond (a && (b || c)) None (Some fault.Limit)
+        ≡ cond (not b && not c) (Some fault.Limit) None
     by_tests true true c h = refl
     by_tests true false true h = refl
     by_tests true false false h = refl
@@ -299,7 +317,8 @@ count_push : {X : Type 0} (p : X → Bool) (xs : List X) (x : X)
 count_push {X} p xs x = fold-append (λ (a : ℕ) (y : X). a + cond (p y) 1 0) 0 xs (x ∷ [])
 
 -- a show has the owners that its statements have
-pub has_owner : (ss : List Statement) (s : Statement) (show : Tables) → IsShowOf ss show → IsOwned ss s
+pub has_owner : (ss : List Statement) (s : Statement) (show : Tables) → IsShowOf ss show
+    → IsOwned ss s
     → HasOwner show s
 has_owner ss (Opens r) show h owned = tt
 has_owner ss (Levels r ps) show h owned = h.records r ∙ owned
@@ -322,7 +341,9 @@ module _ (lines : List Words) (l : Words) (r : Reader) (h : Reads lines r) where
 
   -- it has the owner that it needs
   pub owner_here : HasOwner r.show says
-  owner_here = has_owner (said_by lines) says r.show h.shows (owned_below (said_by lines) r.owner l h.present)
+  owner_here =
+      has_owner (said_by lines) says r.show h.shows
+      (owned_below (said_by lines) r.owner l h.present)
 
   -- the show refuses it where it has a fault
   pub fault_here : IsSound says
@@ -332,7 +353,8 @@ module _ (lines : List Words) (l : Words) (r : Reader) (h : Reads lines r) where
       ∙ ap (fault_below (said_by lines)) (sym said_here)
 
   -- the reader behind it
-  pub line_read : (r' : Reader) → IsSound says → refused_by r.show says ≡ None → r'.show ≡ applied says r.show
+  pub line_read : (r' : Reader) → IsSound says → refused_by r.show says ≡ None
+      → r'.show ≡ applied says r.show
       → r'.owner ≡ cond (owns l) (opened says) r.owner → r'.lines ≡ r.lines + 1
       → r'.skipped ≡ r.skipped + cond (is_skipped says) 1 0 → Reads (lines ++ l ∷ []) r'
   line_read r' sound fine show owner number skipped =
@@ -349,7 +371,8 @@ module _ (lines : List Words) (l : Words) (r : Reader) (h : Reads lines r) where
             ∙ first_fault_later ss says h.faultless
             (sym (refused_is ss says r.show sound h.shows h.count) ∙ fine);
         owner =
-            owner ∙ sym (opened_is r.owner l) ∙ ap (λ o. cond (owns l) (record_opened desk l) o) h.owner
+            owner ∙ sym (opened_is r.owner l)
+            ∙ ap (λ o. cond (owns l) (record_opened desk l) o) h.owner
             ∙ sym (owner_push desk lines l);
         present =
             subst (λ ts. IfSome r'.owner (λ q. is_there q ts ≡ true)) (sym more)
@@ -360,6 +383,7 @@ module _ (lines : List Words) (l : Words) (r : Reader) (h : Reads lines r) where
             ∙ ap (λ t. map.len t.cues) (sym show);
         number = number ∙ ap (λ n. n + 1) h.number ∙ sym (length-append lines (l ∷ []));
         skipped =
-            skipped ∙ ap (λ n. n + cond (is_skipped says) 1 0) h.skipped ∙ sym (count_push is_skipped ss says)
+            skipped ∙ ap (λ n. n + cond (is_skipped says) 1 0) h.skipped
+            ∙ sym (count_push is_skipped ss says)
             ∙ ap (count_by is_skipped) (sym more);
       }

@@ -13,7 +13,8 @@ use Rattle.show_line.specs.declared.statement.Statement.{Statement}
 use Rattle.show_reader.specs.Shows.{levels_of, IsShowOf}
 
 -- two maps with the same value at each key are one
-same_map : {X : Type 0} (m n : maps.FinMap nat_cmp X) → ((q : ℕ) → maps.get m q ≡ maps.get n q) → m ≡ n
+same_map : {X : Type 0} (m n : maps.FinMap nat_cmp X) → ((q : ℕ) → maps.get m q ≡ maps.get n q)
+    → m ≡ n
 same_map m n is = maps.same_map nat_cmp_total maps.nat_cmp-IsAntisymmetric m n is
 
 -- the level of a channel, where it is listed
@@ -36,7 +37,8 @@ same_cue a b levels up down =
     let same : made a.levels a.up a.down ≡ made b.levels b.up b.down = cc in
     same
 
-same_cues : (a b : Option CueData) → option_map (λ cue. cue.levels) a ≡ option_map (λ cue. cue.levels) b
+same_cues : (a b : Option CueData)
+    → option_map (λ cue. cue.levels) a ≡ option_map (λ cue. cue.levels) b
     → option_and_then (λ cue. cue.up) a ≡ option_and_then (λ cue. cue.up) b
     → option_and_then (λ cue. cue.down) a ≡ option_and_then (λ cue. cue.down) b
     → a ≡ b

@@ -1,5 +1,6 @@
 -- The show that a text means has nothing beyond the limits under which the text was read.
-use Rattle.std.proofs.Common.{◌≡◌, ℕ, ◌≤◌, ◌<◌, Bool, true, false, cond, List, [], ◌∷◌, ◌++◌, All, refl, sym}
+use Rattle.std.proofs.Common.{◌≡◌, ℕ, ◌≤◌, ◌<◌, Bool, true, false, cond, List, [], ◌∷◌, ◌++◌, All}
+use Rattle.std.proofs.Common.{refl, sym}
 use Rattle.std.proofs.Common.{ap, subst, ◌∙◌, arith, Option, Some, None}
 use Rattle.std.specs.Prelude.{◌==◌, IfSome, filter, filter_map, flat_map}
 use Rattle.std.specs.List.{last_or}
@@ -10,14 +11,16 @@ use Rattle.show_line.specs.declared.statement.Record.{Record}
 use Rattle.show_line.specs.declared.statement.Table.{Table}
 use Rattle.show_line.specs.declared.statement.Table.TheVariants.{Patch}
 use Rattle.show_line.specs.declared.statement.Statement.{Statement}
-use Rattle.show_line.specs.declared.statement.Statement.TheVariants.{Opens, Levels, Rises, Falls, Patches}
+use Rattle.show_line.specs.declared.statement.Statement.TheVariants.{Opens, Levels, Rises, Falls}
+use Rattle.show_line.specs.declared.statement.Statement.TheVariants.{Patches}
 use Rattle.show_line.specs.declared.statement.Statement.TheVariants.{Clears, Quiet, Skipped, Faulty}
 use Rattle.show_line.specs.declared.triples.Triple.{Triple}
 use Rattle.show_line.specs.Keywords.{keyword_of}
 use Rattle.show_line.specs.Pairs.{Limits}
 use Rattle.show_line.proofs.Room.{IsPairWithin, IsTripleWithin, IsWithin, said_within}
 use Rattle.show_reader.specs.Text.{Words, owner_below, statement_below, statements_below}
-use Rattle.show_reader.specs.Meaning.{last, same_record, table_of, counting, gathered, pairs_for, level_for}
+use Rattle.show_reader.specs.Meaning.{last, same_record, table_of, counting, gathered, pairs_for}
+use Rattle.show_reader.specs.Meaning.{level_for}
 use Rattle.show_reader.specs.Meaning.{triples_of, triple_at, patched_by}
 use Rattle.show_reader.specs.Shows.{IsShowOf}
 use Rattle.show_reader.specs.Reading.{FitsIn}
@@ -35,7 +38,8 @@ All-flat_map P f (y ∷ ys) h =
 last_within : {X : Type 0} (P : X → Type 0) (o : Option X) (xs : List X) → IfSome o P → All P xs
     → IfSome (last_or o xs) P
 last_within P o [] h all = h
-last_within P o (x ∷ xs) h all = last_within P (Some x) xs (first_of P x xs all) (all_rest P x xs all)
+last_within P o (x ∷ xs) h all =
+    last_within P (Some x) xs (first_of P x xs all) (all_rest P x xs all)
 
 module _ (lim : Limits) where
   -- ---- what lines say
@@ -44,10 +48,12 @@ module _ (lim : Limits) where
   statement_within above [] = tt
   statement_within above (w ∷ words) = said_within lim (owner_below lim above) (keyword_of w) words
 
-  pub statements_within : (above ls : List Words) → All (IsWithin lim) (statements_below lim above ls)
+  pub statements_within : (above ls : List Words)
+      → All (IsWithin lim) (statements_below lim above ls)
   statements_within above [] = All-nil (IsWithin lim)
   statements_within above (l ∷ ls) =
-      All-cons (IsWithin lim) (statement_below lim above l) (statements_below lim (above ++ l ∷ []) ls)
+      All-cons (IsWithin lim) (statement_below lim above l)
+      (statements_below lim (above ++ l ∷ []) ls)
       (statement_within above l) (statements_within (above ++ l ∷ []) ls)
 
   -- ---- what is gathered of it
@@ -59,7 +65,8 @@ module _ (lim : Limits) where
       let counted : All (IsWithin lim) (counting t ss) = All-drop (IsWithin lim) _ ss h in
       All-flat_map P kind (counting t ss) (λ k d lt. each _ (counted k d lt))
 
-  pairs_kept : (r : Record) (s : Statement) → IsWithin lim s → All (IsPairWithin lim) (pairs_for r s)
+  pairs_kept : (r : Record) (s : Statement) → IsWithin lim s
+      → All (IsPairWithin lim) (pairs_for r s)
   pairs_kept r (Levels q pairs) h = go (same_record r q)
     where
       go : (b : Bool) → All (IsPairWithin lim) (cond b pairs [])
@@ -87,7 +94,8 @@ module _ (lim : Limits) where
 
   -- ---- none of it is beyond the limits
 
-  no_level : (channel : ℕ) → lim.channels < channel → (ps : List (ℕ × ℕ)) → All (IsPairWithin lim) ps
+  no_level : (channel : ℕ) → lim.channels < channel → (ps : List (ℕ × ℕ))
+      → All (IsPairWithin lim) ps
       → filter_map (level_for channel) ps ≡ []
   no_level channel beyond [] h = refl
   no_level channel beyond (p ∷ ps) h =
@@ -121,7 +129,8 @@ module _ (lim : Limits) where
       record {
         dimmers =
             λ d beyond. is.patch d
-            ∙ ap (λ ts. patched_by (last ts)) (no_triple d beyond (gathered Patch triples_of ss) triples);
+            ∙ ap (λ ts. patched_by (last ts))
+            (no_triple d beyond (gathered Patch triples_of ss) triples);
         channels =
             λ r c beyond. is.levels r c
             ∙ ap last (no_level c beyond (gathered (table_of r) (pairs_for r) ss)
@@ -131,5 +140,6 @@ module _ (lim : Limits) where
             (patched_within (triple_at d ss)
             (last_within (IsTripleWithin lim) None
             (filter (λ t. t.dimmer == d) (gathered Patch triples_of ss)) tt
-            (All-filter (λ t. t.dimmer == d) (IsTripleWithin lim) (gathered Patch triples_of ss) triples)));
+            (All-filter (λ t. t.dimmer == d) (IsTripleWithin lim) (gathered Patch triples_of ss)
+            triples)));
       }

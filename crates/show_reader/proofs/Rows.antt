@@ -1,5 +1,6 @@
 -- What whole texts mean, evaluated.
-use Rattle.std.specs.Prelude.{◌≡◌, ℕ, Bool, true, false, not, ◌&&◌, if◌then◌else◌, List, [], ◌∷◌, ◌++◌}
+use Rattle.std.specs.Prelude.{◌≡◌, ℕ, Bool, true, false, not, ◌&&◌, if◌then◌else◌, List, [], ◌∷◌}
+use Rattle.std.specs.Prelude.{◌++◌}
 use Rattle.std.specs.Prelude.{codes, flat_map, map, Option, Some, None, refl}
 use Rattle.show_line.specs.declared.fault.LineFault.TheVariants as line_fault
 use Rattle.show_line.specs.declared.statement.Record.TheVariants.{Cue, Group}
@@ -7,10 +8,13 @@ use Rattle.show_line.specs.declared.statement.Statement.{Statement}
 use Rattle.show_line.specs.declared.statement.Statement.TheVariants.{Opens}
 use Rattle.show_line.specs.Said.{desk}
 use Rattle.show_reader.specs.declared.fault.ShowFault.{ShowFault}
-use Rattle.show_reader.specs.declared.fault.ShowFault.TheVariants.{Ident, MissingNumber, BadNumber, BadLevel}
-use Rattle.show_reader.specs.declared.fault.ShowFault.TheVariants.{BadTime, HalfPair, HalfTriple, Limit}
+use Rattle.show_reader.specs.declared.fault.ShowFault.TheVariants.{Ident, MissingNumber, BadNumber}
+use Rattle.show_reader.specs.declared.fault.ShowFault.TheVariants.{BadLevel}
+use Rattle.show_reader.specs.declared.fault.ShowFault.TheVariants.{BadTime, HalfPair, HalfTriple}
+use Rattle.show_reader.specs.declared.fault.ShowFault.TheVariants.{Limit}
 use Rattle.show_reader.specs.Text.{statements_of}
-use Rattle.show_reader.specs.Meaning.{is_there, level_at, up_of, down_of, triple_at, patched_by, cue_count}
+use Rattle.show_reader.specs.Meaning.{is_there, level_at, up_of, down_of, triple_at, patched_by}
+use Rattle.show_reader.specs.Meaning.{cue_count}
 use Rattle.show_reader.specs.Reading.{fault_below, fault_of, lines_read, lines_skipped}
 use Rattle.show_reader.specs.Reading.{grows, faultless_front}
 
@@ -63,7 +67,8 @@ foreign_page_order : (fault_1 (codes "CUE x 2") ≡ Some (BadNumber 1))
 foreign_page_order = (refl, refl, refl, refl)
 
 -- the first faulty line decides, and on it the lowest fault
-first_fault_decides : (fault_3 (codes "CUE 1") (codes "CHAN 5000") (codes "IDENT") ≡ Some (HalfPair 2))
+first_fault_decides : (fault_3 (codes "CUE 1") (codes "CHAN 5000") (codes "IDENT")
+    ≡ Some (HalfPair 2))
     × (fault_2 (codes "CUE 1") (codes "CHAN 1 FL x") ≡ Some (BadNumber 2))
     × (fault_3 (codes "CUE 1") (codes "$$") (codes "CHAN x") ≡ Some (BadNumber 3))
     × (fault_2 (codes "CUE 1") (codes "CHAN 1234567890@FL") ≡ Some (BadNumber 2))
@@ -98,11 +103,13 @@ cue_2000 above n count = rw count (neither (is_there (Cue n) above))
     neither true = refl
     neither false = refl
 
-cue_2001 : (above : List Statement) (n : ℕ) → cue_count above ≡ 2000 → is_there (Cue n) above ≡ false
+cue_2001 : (above : List Statement) (n : ℕ) → cue_count above ≡ 2000
+    → is_there (Cue n) above ≡ false
     → fault_below above (Opens (Cue n)) ≡ Some line_fault.Limit
 cue_2001 above n count new = rw (count, new) refl
 
-cue_again : (above : List Statement) (n : ℕ) → cue_count above ≡ 2000 → is_there (Cue n) above ≡ true
+cue_again : (above : List Statement) (n : ℕ) → cue_count above ≡ 2000
+    → is_there (Cue n) above ≡ true
     → fault_below above (Opens (Cue n)) ≡ None
 cue_again above n count there = rw (count, there) refl
 
@@ -185,7 +192,8 @@ clear_cues = (refl, refl, refl, refl, refl, refl)
 
 abbrev console_text : List ℕ
 console_text = carriage_text_of (
-    codes "Ident 3:0" ∷ codes "Manufacturer Example" ∷ codes "Console Example" ∷ codes "$$Format 3.20"
+    codes "Ident 3:0" ∷ codes "Manufacturer Example" ∷ codes "Console Example" ∷
+    codes "$$Format 3.20"
     ∷ codes "Clear all" ∷ codes "Set Channels 96" ∷ codes "Patch 1 1<1@Hff 2<2@Hff" ∷ codes "Cue 1"
     ∷ codes "  Up 3" ∷ codes "  Text Opening ! house" ∷ codes "  Chan 1/Hff 2/H80" ∷ codes "EndData"
     ∷ codes "Cue 9" ∷ []
@@ -216,13 +224,16 @@ top_channel : (level_at (Cue 1000) 4096 top_statements ≡ Some 255)
 top_channel = (refl, refl)
 
 -- channel 0 leaves a dimmer unpatched
-unpatched : patched_by (triple_at 1 (statements_of desk (text_of (codes "PATCH 1 1<1@FL 0<1@FL" ∷ [])))) ≡ None
+unpatched :
+    patched_by (triple_at 1 (statements_of desk (text_of (codes "PATCH 1 1<1@FL 0<1@FL" ∷ []))))
+    ≡ None
 unpatched = refl
 
 -- the last UP line wins whole; the lines of a cue that is opened twice count together
 abbrev twice_opened : List Statement
 twice_opened = statements_of desk (text_of (
-    codes "CUE 1" ∷ codes "UP 5 3" ∷ codes "CHAN 1@FL" ∷ codes "UP 5" ∷ codes "GROUP 1" ∷ codes "CUE 1"
+    codes "CUE 1" ∷ codes "UP 5 3" ∷ codes "CHAN 1@FL" ∷ codes "UP 5" ∷ codes "GROUP 1"
+    ∷ codes "CUE 1"
     ∷ codes "DOWN 4 1" ∷ codes "CHAN 7@HF" ∷ []
     ))
 

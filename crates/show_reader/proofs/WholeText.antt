@@ -1,6 +1,7 @@
 -- The lines of a whole text, and what a reader makes of them one after the other.
 use Rattle.std.proofs.Common.{◌≡◌, ℕ, suc, ◌+◌, ◌≤◌, Bool, true, false, cond, List, [], ◌∷◌, ◌++◌}
-use Rattle.std.proofs.Common.{length, map, refl, sym, ap, subst, ◌∙◌, append_assoc, arith, Option, Some, None}
+use Rattle.std.proofs.Common.{length, map, refl, sym, ap, subst, ◌∙◌, append_assoc, arith, Option}
+use Rattle.std.proofs.Common.{Some, None}
 use Rattle.std.proofs.Common.{inl, inr}
 use Rattle.std.specs.Prelude.{All, nat_lt, count_by, is_some, option_map, option_and_then}
 use Rattle.std.specs.Option.{option_or}
@@ -26,15 +27,18 @@ use Rattle.show_reader.specs.declared.apply.Refusal.TheVariants as refusal
 use Rattle.show_reader.specs.declared.fault.ShowFault.{ShowFault}
 use Rattle.show_reader.specs.declared.fault.ShowFault.TheVariants as show_fault
 use Rattle.show_reader.specs.declared.read.Reader.{Reader}
-use Rattle.show_reader.specs.Text.{Words, owns, ends, up_to_end, lines_in, statement_below, statements_below}
+use Rattle.show_reader.specs.Text.{Words, owns, ends, up_to_end, lines_in, statement_below}
+use Rattle.show_reader.specs.Text.{statements_below}
 use Rattle.show_reader.specs.Text.{statements_of}
 use Rattle.show_reader.specs.Meaning.{is_skipped}
 use Rattle.show_reader.specs.Shows.{levels_of, level_in, up_in, down_in, IsShowOf}
-use Rattle.show_reader.specs.Reading.{fault_at, fault_below, first_fault, fault_of, lines_read, lines_skipped}
+use Rattle.show_reader.specs.Reading.{fault_at, fault_below, first_fault, fault_of, lines_read}
+use Rattle.show_reader.specs.Reading.{lines_skipped}
 use Rattle.show_reader.specs.Reading.{longest_text, grows, faultless_front, NothingGrows}
 use Rattle.show_reader.specs.Applied.{refused_by, Explains}
 use Rattle.show_reader.specs.Reads.{said_by, Reads, line_fault, MayLackMemory, EndsAt, refusal_at}
-use Rattle.show_reader.proofs.Lines.{statements_below-append, length-statements_below, first_fault-append}
+use Rattle.show_reader.proofs.Lines.{statements_below-append, length-statements_below}
+use Rattle.show_reader.proofs.Lines.{first_fault-append}
 use Rattle.show_reader.proofs.Lines.{both_none, none_at_all}
 use Rattle.show_reader.proofs.OneLine.{said_below, said_here, fault_here}
 
@@ -59,7 +63,8 @@ pub reading_is : (owner : Option Record) (l : Words) (reading : Reading)
     → Some reading ≡ reading_of desk owner l → IsReading owner l reading
 reading_is owner [] reading e = absurd (none-some reading (sym e))
 reading_is owner (w ∷ words) reading e =
-    let is : reading ≡ record { keyword = keyword_of w; statement = said desk owner (keyword_of w) words }
+    let is : reading
+    ≡ record { keyword = keyword_of w; statement = said desk owner (keyword_of w) words }
     = cc in
     record {
       statement = ap (λ (r : Reading). r.statement) is;
@@ -106,7 +111,14 @@ pub nothing_read : (show : Tables) → show.cues ≡ maps.empty → show.subs �
     → show.groups ≡ maps.empty → show.patch ≡ maps.empty
     → Reads [] (record { show = show; owner = None; lines = 0; skipped = 0 })
 nothing_read show cues subs groups patch = record {
-  shows = record { records = no_record; levels = no_level; ups = no_up; downs = no_down; patch = no_dimmer };
+  shows =
+      record {
+        records = no_record;
+        levels = no_level;
+        ups = no_up;
+        downs = no_down;
+        patch = no_dimmer;
+      };
   faultless = refl;
   owner = refl;
   present = tt;
@@ -180,7 +192,8 @@ stop_here text lines l ls h end = h ∙ ap (λ b. lines ++ cond b (l ∷ []) (l 
 -- the fault of the next line is the text's
 pub fault_found : (text : List ℕ) (lines : List Words) (l : Words) (ls : List Words) (f : ShowFault)
     → nat_lt longest_text (length text) ≡ false → lines_in text ≡ lines ++ up_to_end (l ∷ ls)
-    → first_fault [] (said_by lines) ≡ None → line_fault lines l ≡ Some f → fault_of desk text ≡ Some f
+    → first_fault [] (said_by lines) ≡ None → line_fault lines l ≡ Some f
+    → fault_of desk text ≡ Some f
 fault_found text lines l ls f short h none fault =
     ap
     (λ b. cond b (Some show_fault.TooLong)
@@ -207,12 +220,15 @@ fault_found text lines l ls f short h none fault =
         (length-statements_below desk [] lines)
         ∙ ap (λ o. option_or o (below rest)) fault
 
-    by_test : (b : Bool) → ends l ≡ b → first_fault [] (statements_below desk [] (lines_in text)) ≡ Some f
+    by_test : (b : Bool) → ends l ≡ b
+        → first_fault [] (statements_below desk [] (lines_in text)) ≡ Some f
     by_test true e = found [] (stop_here text lines l ls h e)
-    by_test false e = found (up_to_end ls) (h ∙ ap (λ b. lines ++ cond b (l ∷ []) (l ∷ up_to_end ls)) e)
+    by_test false e =
+        found (up_to_end ls) (h ∙ ap (λ b. lines ++ cond b (l ∷ []) (l ∷ up_to_end ls)) e)
 
 -- what stands above a statement without a fault, and is without one, is at the front
-faultless_next : (P : Statement → Type 0) (above ss : List Statement) (s : Statement) (rest : List Statement)
+faultless_next : (P : Statement → Type 0) (above ss : List Statement) (s : Statement)
+    (rest : List Statement)
     → first_fault above ss ≡ None → fault_below (above ++ ss) s ≡ None
     → All P (faultless_front above (ss ++ s ∷ rest)) → P s
 faultless_next P above [] s rest none fine all =
@@ -225,12 +241,14 @@ faultless_next P above (t ∷ ss) s rest none fine all =
     let parts
     = both_none (option_map (fault_at (length above + 1)) (fault_below above t))
     (first_fault (above ++ t ∷ []) ss) none in
-    let here : fault_below above t ≡ None = none_at_all (length above + 1) (fault_below above t) parts.0 in
+    let here : fault_below above t ≡ None
+    = none_at_all (length above + 1) (fault_below above t) parts.0 in
     faultless_next P (above ++ t ∷ []) ss s rest parts.1
     (ap (λ a. fault_below a s) (append_assoc above (t ∷ []) ss) ∙ fine)
     (all_rest P t (faultless_front (above ++ t ∷ []) (ss ++ s ∷ rest))
     (subst (All P)
-    (ap (λ o. cond (is_some o) [] (t ∷ faultless_front (above ++ t ∷ []) (ss ++ s ∷ rest))) here) all))
+    (ap (λ o. cond (is_some o) [] (t ∷ faultless_front (above ++ t ∷ []) (ss ++ s ∷ rest))) here)
+    all))
 
 -- where memory may run out at the next line, something grows
 pub something_grows : (text : List ℕ) (lines : List Words) (l : Words) (ls : List Words)
@@ -243,7 +261,8 @@ something_grows text lines l ls h none lacks nothing = by_test (ends l) refl
         let says = statement_below desk lines l in
         let all : statements_of desk text
         ≡ said_by lines ++ says ∷ statements_below desk (lines ++ l ∷ []) rest
-        = ap (λ ms. statements_below desk [] ms) e ∙ statements_below-append desk [] lines (l ∷ rest) in
+        = ap (λ ms. statements_below desk [] ms) e
+        ∙ statements_below-append desk [] lines (l ∷ rest) in
         let none_grows
         = faultless_next (λ s. grows s ≡ false) [] (said_by lines) says
         (statements_below desk (lines ++ l ∷ []) rest) none lacks.faultless
@@ -252,7 +271,8 @@ something_grows text lines l ls h none lacks nothing = by_test (ends l) refl
 
     by_test : (b : Bool) → ends l ≡ b → ⊥
     by_test true e = below [] (stop_here text lines l ls h e)
-    by_test false e = below (up_to_end ls) (h ∙ ap (λ b. lines ++ cond b (l ∷ []) (l ∷ up_to_end ls)) e)
+    by_test false e =
+        below (up_to_end ls) (h ∙ ap (λ b. lines ++ cond b (l ∷ []) (l ∷ up_to_end ls)) e)
 
 -- ---- the last line
 
@@ -264,14 +284,17 @@ pub record IsRead (text : List ℕ) (r : Reader) : Type 0 where
   pub skipped : r.skipped ≡ lines_skipped desk text
 
 -- a reader behind all lines answers for the text
-pub all_read : (text : List ℕ) (lines : List Words) (r : Reader) → nat_lt longest_text (length text) ≡ false
+pub all_read : (text : List ℕ) (lines : List Words) (r : Reader)
+    → nat_lt longest_text (length text) ≡ false
     → lines_in text ≡ lines → Reads lines r → IsRead text r
 all_read text lines r short all h = record {
   faultless =
       ap (λ b. cond b (Some show_fault.TooLong) (first_fault [] (statements_of desk text))) short
       ∙ ap (λ ls. first_fault [] (said_by ls)) all ∙ h.faultless;
   show = subst (λ ls. IsShowOf (said_by ls) r.show) (sym all) h.shows;
-  lines = h.number ∙ sym (length-statements_below desk [] lines) ∙ ap (λ ls. length (said_by ls)) (sym all);
+  lines =
+      h.number ∙ sym (length-statements_below desk [] lines)
+      ∙ ap (λ ls. length (said_by ls)) (sym all);
   skipped = h.skipped ∙ ap (λ ls. count_by is_skipped (said_by ls)) (sym all);
 }
 
@@ -288,6 +311,8 @@ pub not_longer : (a b : ℕ) → b ≤ a → nat_lt a b ≡ false
 not_longer a b h = grind (arith, nat_tests)
 
 -- a reader behind one line more has counted it
-pub one_more : (lines : List Words) (l : Words) (r r' : Reader) → Reads lines r → Reads (lines ++ l ∷ []) r'
+pub one_more : (lines : List Words) (l : Words) (r r' : Reader) → Reads lines r
+    → Reads (lines ++ l ∷ []) r'
     → r'.lines ≡ r.lines + 1
-one_more lines l r r' h h' = h'.number ∙ length-append lines (l ∷ []) ∙ ap (λ n. n + 1) (sym h.number)
+one_more lines l r r' h h' =
+    h'.number ∙ length-append lines (l ∷ []) ∙ ap (λ n. n + 1) (sym h.number)

@@ -1,5 +1,6 @@
 -- What a statement does to a show, by the effects of the builders.
-use Rattle.std.specs.Prelude.{◌≡◌, ℕ, true, if◌then◌else◌, IsTrue, List, [], ◌∷◌, Option, Some, None, is_some}
+use Rattle.std.specs.Prelude.{◌≡◌, ℕ, true, if◌then◌else◌, IsTrue, List, [], ◌∷◌, Option, Some}
+use Rattle.std.specs.Prelude.{None, is_some}
 use Rattle.std.specs.FinMap as maps
 use Rattle.show_core.specs.Tables.{PatchMap, Tables}
 use Rattle.show_core.specs.Builders.{opened, opened_in, with_level, with_listed, with_up, with_down}
@@ -12,7 +13,8 @@ use Rattle.show_line.specs.declared.statement.Table.TheVariants.{Cues, Groups, S
 use Rattle.show_line.specs.declared.statement.Cleared.{Cleared}
 use Rattle.show_line.specs.declared.statement.Cleared.TheVariants.{All, Only}
 use Rattle.show_line.specs.declared.statement.Statement.{Statement}
-use Rattle.show_line.specs.declared.statement.Statement.TheVariants.{Opens, Levels, Rises, Falls, Patches}
+use Rattle.show_line.specs.declared.statement.Statement.TheVariants.{Opens, Levels, Rises, Falls}
+use Rattle.show_line.specs.declared.statement.Statement.TheVariants.{Patches}
 use Rattle.show_line.specs.declared.statement.Statement.TheVariants.{Clears, Faulty}
 use Rattle.show_line.specs.declared.triples.Triple.{Triple}
 use Rattle.show_reader.specs.declared.apply.Refusal.{Refusal}
@@ -29,7 +31,8 @@ with_record show (Sub n) = record show { subs = opened_in show.subs n }
 -- with a level of the record
 abbrev pub with_channel : Tables → Record → ℕ → ℕ → Tables
 with_channel show (Cue n) channel byte = record show { cues = with_level show.cues n channel byte }
-with_channel show (Group n) channel byte = record show { groups = with_listed show.groups n channel byte }
+with_channel show (Group n) channel byte =
+    record show { groups = with_listed show.groups n channel byte }
 with_channel show (Sub n) channel byte = record show { subs = with_listed show.subs n channel byte }
 
 -- with the levels of pairs, one after the other
@@ -40,11 +43,13 @@ with_pairs show r (pair ∷ pairs) = with_pairs (with_channel show r pair.0 pair
 -- with the dimmers of triples, one after the other
 abbrev pub with_triples : PatchMap → List Triple → PatchMap
 with_triples patch [] = patch
-with_triples patch (t ∷ triples) = with_triples (patched_with patch t.dimmer t.channel t.level) triples
+with_triples patch (t ∷ triples) =
+    with_triples (patched_with patch t.dimmer t.channel t.level) triples
 
 -- with tables emptied
 abbrev pub without : Cleared → Tables → Tables
-without All show = record { cues = maps.empty; subs = maps.empty; groups = maps.empty; patch = maps.empty }
+without All show =
+    record { cues = maps.empty; subs = maps.empty; groups = maps.empty; patch = maps.empty }
 without (Only Cues) show = record show { cues = maps.empty }
 without (Only Groups) show = record show { groups = maps.empty }
 without (Only Subs) show = record show { subs = maps.empty }
@@ -73,8 +78,8 @@ HasOwner show (Rises n rate) = IsTrue (maps.contains_key show.cues n)
 HasOwner show (Falls n rate) = IsTrue (maps.contains_key show.cues n)
 HasOwner show _ = Unit {0}
 
--- why a statement was not carried out: the fault that the show has with it; or want of memory, where it has
--- none and the statement grows it
+-- why a statement was not carried out: the fault that the show has with it; or want of memory,
+-- where it has none and the statement grows it
 abbrev pub Explains : Tables → Statement → Refusal → Type 0
 Explains show s (refusal.Fault f) = refused_by show s ≡ Some f
 Explains show s refusal.Memory = (refused_by show s ≡ None) × (grows s ≡ true)

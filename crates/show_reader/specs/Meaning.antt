@@ -1,5 +1,6 @@
 -- What statements mean: at each key the last that counts.
-use Rattle.std.specs.Prelude.{ℕ, ◌+◌, Bool, true, false, ◌==◌, if◌then◌else◌, List, [], ◌∷◌, filter, flat_map}
+use Rattle.std.specs.Prelude.{ℕ, ◌+◌, Bool, true, false, ◌==◌, if◌then◌else◌, List, [], ◌∷◌, filter}
+use Rattle.std.specs.Prelude.{flat_map}
 use Rattle.std.specs.Prelude.{filter_map, Option, Some, None}
 use Rattle.std.specs.List.{list_any, after_last, last_or}
 use Rattle.show_core.specs.declared.rate.Rate.{Rate}
@@ -9,7 +10,8 @@ use Rattle.show_line.specs.declared.statement.Table.{Table}
 use Rattle.show_line.specs.declared.statement.Table.TheVariants.{Cues, Groups, Subs, Patch}
 use Rattle.show_line.specs.declared.statement.Cleared.TheVariants.{All, Only}
 use Rattle.show_line.specs.declared.statement.Statement.{Statement}
-use Rattle.show_line.specs.declared.statement.Statement.TheVariants.{Opens, Levels, Rises, Falls, Patches}
+use Rattle.show_line.specs.declared.statement.Statement.TheVariants.{Opens, Levels, Rises, Falls}
+use Rattle.show_line.specs.declared.statement.Statement.TheVariants.{Patches}
 use Rattle.show_line.specs.declared.statement.Statement.TheVariants.{Clears, Skipped}
 use Rattle.show_line.specs.declared.triples.Triple.{Triple}
 
@@ -74,7 +76,8 @@ level_for channel pair = if pair.0 == channel then Some pair.1 else None
 
 -- the level of a record's channel: that of its last pair; none where it has no pair
 abbrev pub level_at : Record → ℕ → List Statement → Option ℕ
-level_at r channel ss = last (filter_map (level_for channel) (gathered (table_of r) (pairs_for r) ss))
+level_at r channel ss =
+    last (filter_map (level_for channel) (gathered (table_of r) (pairs_for r) ss))
 
 -- the rate of an UP line of cue n
 abbrev pub rises_for : ℕ → Statement → List Rate
@@ -120,7 +123,8 @@ cue_opened _ = []
 -- how many different numbers there are
 abbrev pub distinct_count : List ℕ → ℕ
 distinct_count [] = 0
-distinct_count (x ∷ xs) = if list_any (λ y. y == x) xs then distinct_count xs else distinct_count xs + 1
+distinct_count (x ∷ xs) =
+    if list_any (λ y. y == x) xs then distinct_count xs else distinct_count xs + 1
 
 -- how many cues are there
 abbrev pub cue_count : List Statement → ℕ

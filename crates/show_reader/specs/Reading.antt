@@ -1,7 +1,7 @@
 -- What reading a show text answers.
-use Rattle.std.specs.Prelude.{◌≡◌, ℕ, ◌+◌, ◌≤◌, ◌<◌, ◌==◌, Bool, true, false, not, ◌&&◌, if◌then◌else◌}
-use Rattle.std.specs.Prelude.{nat_le, nat_lt, List, [], ◌∷◌, ◌++◌, All, count_by, length, Option, Some}
-use Rattle.std.specs.Prelude.{None, IfSome, is_some, option_map}
+use Rattle.std.specs.Prelude.{◌≡◌, ℕ, ◌+◌, ◌≤◌, ◌<◌, ◌==◌, Bool, true, false, not, ◌&&◌}
+use Rattle.std.specs.Prelude.{if◌then◌else◌, nat_le, nat_lt, List, [], ◌∷◌, ◌++◌, All, count_by}
+use Rattle.std.specs.Prelude.{length, Option, Some, None, IfSome, is_some, option_map}
 use Rattle.std.specs.List.{list_any}
 use Rattle.std.specs.FinMap as maps
 use Rattle.std.specs.Option.{option_or}
@@ -41,7 +41,8 @@ fault_at line fault.Limit = show_fault.Limit line
 abbrev pub first_fault : List Statement → List Statement → Option ShowFault
 first_fault above [] = None
 first_fault above (s ∷ ss) =
-    option_or (option_map (fault_at (length above + 1)) (fault_below above s)) (first_fault (above ++ s ∷ []) ss)
+    option_or (option_map (fault_at (length above + 1)) (fault_below above s))
+    (first_fault (above ++ s ∷ []) ss)
 
 -- the most bytes that a show text has
 abbrev pub longest_text : ℕ
@@ -50,7 +51,8 @@ longest_text = 1048576
 -- the fault of a show text: it is too long, or its first faulty line decides
 abbrev pub fault_of : Limits → List ℕ → Option ShowFault
 fault_of lim text =
-    if nat_lt longest_text (length text) then Some show_fault.TooLong else first_fault [] (statements_of lim text)
+    if nat_lt longest_text (length text) then Some show_fault.TooLong
+    else first_fault [] (statements_of lim text)
 
 -- how many lines were read, that of ENDDATA included
 abbrev pub lines_read : Limits → List ℕ → ℕ
@@ -70,7 +72,8 @@ grows (Levels r (pair ∷ pairs)) = true
 grows (Patches triples) = list_any (λ t. not (t.channel == 0)) triples
 grows _ = false
 
--- the statements above the first that has a fault, or all of them, below the statements above
+-- of statements that stand below those above: the ones before the first that has a fault, or all
+-- where none has
 abbrev pub faultless_front : List Statement → List Statement → List Statement
 faultless_front above [] = []
 faultless_front above (s ∷ ss) =
@@ -85,18 +88,19 @@ NothingGrows lim text = All (λ s. grows s ≡ false) (faultless_front [] (state
 -- no dimmer beyond the limits is patched, and no channel beyond them is listed or patched to
 pub record FitsIn (lim : Limits) (show : Tables) : Type 0 where
   pub dimmers : (dimmer : ℕ) → lim.dimmers < dimmer → maps.get show.patch dimmer ≡ None
-  pub channels : (r : Record) (channel : ℕ) → lim.channels < channel → level_in show r channel ≡ None
+  pub channels : (r : Record) (channel : ℕ) → lim.channels < channel
+      → level_in show r channel ≡ None
   pub patched : (dimmer : ℕ) → IfSome (maps.get show.patch dimmer) (λ p. p.0 ≤ lim.channels)
 
--- what wider limits leave of a text without a fault under narrower ones: it has none and says the same, and
--- the show that it means has no dimmer and no channel beyond the narrower limits
+-- what wider limits leave of a text without a fault under narrower ones: it has none and says the
+-- same, and the show that it means has no dimmer and no channel beyond the narrower limits
 pub record ReadsAlike (narrow wide : Limits) (text : List ℕ) : Type 0 where
   pub faultless : fault_of wide text ≡ None
   pub statements : statements_of wide text ≡ statements_of narrow text
   pub fits : (show : Tables) → IsShowOf (statements_of wide text) show → FitsIn narrow show
 
--- a desk with more room reads each text that one with less room accepted, to the same show, of which
--- nothing is in the room that it has more
+-- a desk with more room reads each text that one with less room accepted, to the same show, which
+-- has nothing beyond the smaller room
 abbrev pub LimitsLaw : Type 0
 LimitsLaw = (narrow wide : Limits) → narrow.channels ≤ wide.channels → narrow.dimmers ≤ wide.dimmers
     → (text : List ℕ) → fault_of narrow text ≡ None → ReadsAlike narrow wide text

@@ -31,7 +31,8 @@ pub record Reads (lines : List Words) (r : Reader) : Type 0 where
 -- the fault of the line below these, if it has one
 abbrev pub line_fault : List Words → Words → Option ShowFault
 line_fault lines l =
-    option_map (fault_at (length lines + 1)) (fault_below (said_by lines) (statement_below desk lines l))
+    option_map (fault_at (length lines + 1))
+    (fault_below (said_by lines) (statement_below desk lines l))
 
 -- memory may run out at the line below these: it has no fault and grows the show
 pub record MayLackMemory (lines : List Words) (l : Words) : Type 0 where

@@ -1,5 +1,6 @@
 -- The lines of a show text, and what they say.
-use Rattle.std.specs.Prelude.{ℕ, Bool, false, if◌then◌else◌, List, [], ◌∷◌, ◌++◌, filter, map, Option, None}
+use Rattle.std.specs.Prelude.{ℕ, Bool, false, if◌then◌else◌, List, [], ◌∷◌, ◌++◌, filter, map}
+use Rattle.std.specs.Prelude.{Option, None}
 use Rattle.std.specs.Prelude.{option_and_then}
 use Rattle.std.specs.List.{last_or}
 use Rattle.ascii_text.specs.Text.{lines_of, words_of}
@@ -38,8 +39,8 @@ abbrev pub record_opened : Limits → Words → Option Record
 record_opened lim [] = None
 record_opened lim (word ∷ words) = opened (said lim None (keyword_of word) words)
 
--- the owner of a secondary line below these lines: the record of the nearest line that is primary or opens a
--- maker's record
+-- the owner of a secondary line below these lines: the record of the nearest line that is primary
+-- or opens a maker's record
 abbrev pub owner_below : Limits → List Words → Option Record
 owner_below lim above = option_and_then (record_opened lim) (last_or None (filter owns above))
 
@@ -51,7 +52,8 @@ statement_below lim above (word ∷ words) = said lim (owner_below lim above) (k
 -- what lines say below others, in their order
 abbrev pub statements_below : Limits → List Words → List Words → List Statement
 statements_below lim above [] = []
-statements_below lim above (l ∷ ls) = statement_below lim above l ∷ statements_below lim (above ++ l ∷ []) ls
+statements_below lim above (l ∷ ls) =
+    statement_below lim above l ∷ statements_below lim (above ++ l ∷ []) ls
 
 -- what the lines of a show text say
 abbrev pub statements_of : Limits → List ℕ → List Statement

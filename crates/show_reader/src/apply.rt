@@ -6,8 +6,9 @@ ghost use Rattle.show_line.specs.declared.fault.LineFault.TheVariants as line_fa
 ghost use Rattle.show_line.specs.Sound.{IsSound};
 ghost use Rattle.show_reader.specs.Shows.{levels_of};
 ghost use Rattle.show_reader.specs.Reading.{grows};
-ghost use Rattle.show_reader.specs.Applied.{applied, refused_by, with_record, with_channel, with_pairs};
-ghost use Rattle.show_reader.specs.Applied.{with_triples, without, HasOwner, Explains};
+ghost use Rattle.show_reader.specs.Applied.{applied, refused_by, with_record, with_channel};
+ghost use Rattle.show_reader.specs.Applied.{with_pairs, with_triples, without, HasOwner};
+ghost use Rattle.show_reader.specs.Applied.{Explains};
 
 use show_core::{BuildFault, Show};
 use show_line::{Cleared, LineFault, Pairs, Record, Statement, Table, Triples};
@@ -73,8 +74,8 @@ fn open(show: &mut Show, which: Record) -> Result<(), Refusal>
     opened.map_err(refusal_of)
 }
 
-// Sets the levels of the pairs of a CHAN line. Their channels are in range, so that only want of memory
-// is left to refuse one.
+// Sets the levels of the pairs of a CHAN line. Their channels are in range, so that only want of
+// memory is left to refuse one.
 fn list(show: &mut Show, which: Record, pairs: Pairs<'_>) -> Result<(), Refusal>
     requires owned { IsTrue (is_some (levels_of show.old which)) }
     requires sound { All (λ pair. IsTrue (is_channel pair.0)) pairs }

@@ -25,7 +25,8 @@ pub enum ShowFault {
     /// A word that must be a level is not: a percent to 100, FL, FF, or H and a byte in hex digits.
     #[error("line {0}: not a level")]
     BadLevel(u32),
-    /// A time or a delay of a cue is not a time: seconds to 5999.99, or minutes and seconds to 99:59.99.
+    /// A time or a delay of a cue is not a time: seconds to 5999.99, or minutes and seconds to
+    /// 99:59.99.
     #[error("line {0}: not a time")]
     BadTime(u32),
     /// The words of CHAN are odd in number.
@@ -34,8 +35,8 @@ pub enum ShowFault {
     /// The words of PATCH after the page are not a multiple of three.
     #[error("line {0}: an unfinished triple")]
     HalfTriple(u32),
-    /// A number is outside its range (channels to 4096, dimmers to 8192, submasters 1 to 100, groups 1 to
-    /// 500), or a CUE line would make the 2,001st cue.
+    /// A number is outside its range (channels to 4096, dimmers to 8192, submasters 1 to 100,
+    /// groups 1 to 500), or a CUE line would make the 2,001st cue.
     #[error("line {0}: beyond a limit")]
     Limit(u32),
     /// A growth was refused; it may come before a later faulty line is seen.

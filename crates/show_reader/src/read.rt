@@ -107,18 +107,19 @@ impl Reader {
     }
 }
 
-/// Reads a show text: the show that it means, and how many lines were read and skipped; or its fault.
+/// Reads a show text: the show that it means, and how many lines were read and skipped; or its
+/// fault.
 ///
 /// A text is lines that open with a keyword, with records of CUE, GROUP, SUB and PATCH (USITT ASCII
-/// Text Representation for Lighting Console Data 3.0). It has at most [`LONGEST_TEXT`] bytes. Reading
-/// ends with the first line whose first word is ENDDATA, or with the text.
+/// Text Representation for Lighting Console Data 3.0). It has at most [`LONGEST_TEXT`] bytes.
+/// Reading ends with the first line whose first word is ENDDATA, or with the text.
 ///
 /// # Errors
 ///
-/// The fault of the first faulty line, as [`ShowFault`] lists them; `TooLong` before any line. `Memory`
-/// is answered only where a growth was refused. No clause sees the memory that is left, but a text of
-/// which no line above its first faulty one opens a record, lists a channel or patches a dimmer is never
-/// answered so; that a reading at ample memory ends well is tested.
+/// The fault of the first faulty line, as [`ShowFault`] lists them; `TooLong` before any line.
+/// `Memory` is answered only where a growth was refused. No clause sees the memory that is left,
+/// but a text of which no line above its first faulty one opens a record, lists a channel or
+/// patches a dimmer is never answered so; that a reading at ample memory ends well is tested.
 pub fn read_show(alloc: Global, text: &[u8]) -> Result<Loaded, ShowFault>
     ensures faultless { OnOk result (fault_of desk text.now ≡ None) }
     ensures show { IfOk result (λ loaded. IsShowOf (statements_of desk text.now) loaded.show) }

@@ -3,9 +3,9 @@ use show_core::{Counts, Rate};
 use std::alloc::Global;
 use std::test::Fail;
 
-// What is read of a text. `rt try --test --fail-alloc N` refuses the Nth growth alone: where a reading
-// meets it, the answer is Memory, and the next reading gives what the text says. At ample memory the
-// first reading has to. Texts that a test builds answer their own refusal.
+// What is read of a text. `rt try --test --fail-alloc N` refuses the Nth growth alone: where a
+// reading meets it, the answer is Memory, and the next reading gives what the text says. At ample
+// memory the first reading has to. Texts that a test builds answer their own refusal.
 fn read(alloc: Global, text: &[u8]) -> Result<Loaded, ShowFault> {
     match read_show(alloc, text) {
         Err(ShowFault::Memory) => read_show(alloc, text),
@@ -24,7 +24,8 @@ fn reading(alloc: Global, text: &[u8]) -> Result<(u32, u32), ShowFault> {
     Ok((loaded.lines, loaded.skipped))
 }
 
-// A record of each kind at both ends of its numbers, with channels and dimmers at both ends of theirs.
+// A record of each kind at both ends of its numbers, with channels and dimmers at both ends of
+// theirs.
 #[test]
 fn every_record(rt: HostRuntime) -> Result<(), Fail> {
     one_show_law();

@@ -18,7 +18,8 @@ loop-triple-preserved c =
     let set = c.in_default.ensures.set in
     record {
       sound =
-          all_rest (λ triple. IsTrue (can_patch triple.dimmer triple.channel)) c.in-Some.triple c.next.new.self
+          all_rest (λ triple. IsTrue (can_patch triple.dimmer triple.channel)) c.in-Some.triple
+          c.next.new.self
           (subst (λ ts. All (λ triple. IsTrue (can_patch triple.dimmer triple.channel)) ts) front
           c.loop-triple.invariant.sound);
       grown = λ e.
@@ -27,8 +28,10 @@ loop-triple-preserved c =
           (subst (λ ts. grows (Patches ts) ≡ false) front left)).1;
       put =
           c.loop-triple.invariant.put
-          ∙ ap (λ ts. record c.loop-triple.show { patch = with_triples c.loop-triple.show.patch ts }) front
-          ∙ ap (λ (s : Tables). record s { patch = with_triples s.patch c.next.new.self }) (sym set);
+          ∙ ap (λ ts.
+          record c.loop-triple.show { patch = with_triples c.loop-triple.show.patch ts }) front
+          ∙ ap (λ (s : Tables). record s { patch = with_triples s.patch c.next.new.self })
+          (sym set);
     }
 
 pub returns-in-Err-clause-grows : goal.returns-in-Err-clause-grows

@@ -1,13 +1,16 @@
--- The reader stands behind the lines so far, and the text's lines are those and the ones that are left.
+-- The reader stands behind the lines so far, and the text's lines are those and the ones that are
+-- left.
 use Rattle.std.proofs.Common.{◌≡◌, ◌+◌, true, false, [], ◌∷◌, ◌++◌, map}
 use Rattle.std.proofs.Common.{sym, ap, subst, ◌∙◌, arith, inl, inr}
 use Rattle.std.proofs.lemmas.Grind.{common_steps}
 use Rattle.std.proofs.lemmas.List.{append-nil}
 use Rattle.ascii_text.specs.Text.{lines_of, words_of, numbered_from}
 use Rattle.show_reader.specs.Text.{ends, up_to_end}
-use Rattle.show_reader.proofs.WholeText.{nothing_read, numbered_lines, first_lines, go_on, stop_here}
+use Rattle.show_reader.proofs.WholeText.{nothing_read, numbered_lines, first_lines, go_on}
+use Rattle.show_reader.proofs.WholeText.{stop_here}
 use Rattle.show_reader.proofs.WholeText.{something_grows}
-use Rattle.show_reader.proofs.WholeText.{fault_found, IsRead, all_read, next_numbered, not_longer, one_more}
+use Rattle.show_reader.proofs.WholeText.{fault_found, IsRead, all_read, next_numbered, not_longer}
+use Rattle.show_reader.proofs.WholeText.{one_more}
 use Rattle.show_reader.proofs.read.read_show.Goals as goal
 use Rattle.show_reader.proofs.read.read_show.Goals.{in-None, in-Some+in-Ok-true}
 
@@ -36,7 +39,8 @@ loop-line-preserved c =
     let on : ends l ≡ false = sym c.in-Ok-false.ensures.last ∙ c.in-Ok-false.field-0-test in
     let more = c.in-Ok-false.ensures.more lines h in
     let counted = one_more lines l c.loop-line.reader c.take.new.self h more in
-    let left = subst (λ ps. ps ≡ numbered_from (c.loop-line.reader.lines + 1) (map (λ q. q.1) ps)) front
+    let left
+    = subst (λ ps. ps ≡ numbered_from (c.loop-line.reader.lines + 1) (map (λ q. q.1) ps)) front
     c.loop-line.invariant.numbered in
     let all = c.loop-line.invariant.reads.2
     ∙ ap (λ ps. lines ++ up_to_end (map (λ q. words_of q.1) ps)) front in
@@ -65,7 +69,8 @@ returns-in-Err-clause-fault c =
     elim (c.in-Err.ensures.fault lines h) [
       | inl memory ↦ inl memory.0
       | inr fault ↦
-          inr (fault_found c.args.text.now lines l (map (λ q. words_of q.1) c.next.new.self) c.in-Err.fault
+          inr (fault_found c.args.text.now lines l (map (λ q. words_of q.1) c.next.new.self)
+          c.in-Err.fault
           (not_longer _ _ c.if-text-gt-LONGEST_TEXT.false) all h.faultless fault)
     ]
 
@@ -78,7 +83,8 @@ returns-in-Err-clause-sure c = λ nothing.
     let all = c.loop-line.invariant.reads.2
     ∙ ap (λ ps. lines ++ up_to_end (map (λ q. words_of q.1) ps)) c.in-Some.ensures.steps in
     elim (c.in-Err.ensures.fault lines h) [
-      | inl memory ↦ absurd (something_grows c.args.text.now lines l ls all h.faultless memory.1 nothing)
+      | inl memory ↦
+          absurd (something_grows c.args.text.now lines l ls all h.faultless memory.1 nothing)
       | inr fault ↦
           fault_found c.args.text.now lines l ls c.in-Err.fault
           (not_longer _ _ c.if-text-gt-LONGEST_TEXT.false) all h.faultless fault
@@ -104,7 +110,8 @@ finished c =
           ∙ ap (λ ps. lines ++ up_to_end (map (λ q. words_of q.1) ps)) w.in-Some.ensures.steps in
           let all = stop_here text lines l (map (λ q. words_of q.1) c.next.new.self) left end in
           subst (IsRead text) (sym w.reader-is)
-          (all_read text (lines ++ l ∷ []) w.take.new.self short all (w.in-Ok-true.ensures.more lines h))
+          (all_read text (lines ++ l ∷ []) w.take.new.self short all
+          (w.in-Ok-true.ensures.more lines h))
     ]
 
 pub returns-clause-faultless : goal.returns-clause-faultless

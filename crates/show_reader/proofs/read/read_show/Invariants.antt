@@ -10,5 +10,6 @@ invariant-loop-line l = record {
   numbered : lines_left l.line-iterator
       ≡ numbered_from (l.reader.lines + 1) (map (λ p. p.1) (lines_left l.line-iterator));
   reads : (lines : List Words) × Reads lines l.reader
-      × (lines_in l.text ≡ lines ++ up_to_end (map (λ p. words_of p.1) (lines_left l.line-iterator)));
+      × (lines_in l.text
+      ≡ lines ++ up_to_end (map (λ p. words_of p.1) (lines_left l.line-iterator)));
 }

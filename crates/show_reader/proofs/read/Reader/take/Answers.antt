@@ -1,4 +1,5 @@
--- One line: what was read of it is what it says, and where the show refuses that, it is the line's fault.
+-- One line: what was read of it is what it says, and where the show refuses that, it is the line's
+-- fault.
 use Rattle.std.proofs.Common.{◌≡◌, ◌+◌, ◌≤◌, cond, [], ◌∷◌, ◌++◌, refl, sym, ap, subst}
 use Rattle.std.proofs.Common.{◌∙◌, arith, None, add-zero}
 use Rattle.ascii_text.specs.Text.{words_of}
@@ -12,11 +13,14 @@ use Rattle.show_reader.specs.Reads.{Reads, EndsAt}
 use Rattle.show_reader.proofs.OneLine.{said_below, owner_here, line_read}
 use Rattle.show_reader.proofs.WholeText.{reading_is, no_reading, skipped_few, ends_at}
 use Rattle.show_reader.proofs.read.Reader.take.Goals as goal
-use Rattle.show_reader.proofs.read.Reader.take.Goals.{then-may_own, else-may_own, then-skipped, else-skipped}
+use Rattle.show_reader.proofs.read.Reader.take.Goals.{then-may_own, else-may_own, then-skipped}
+use Rattle.show_reader.proofs.read.Reader.take.Goals.{else-skipped}
 
 pub returns-in_default-clause-more : goal.returns-in_default-clause-more
 returns-in_default-clause-more c = λ lines h.
-    let none = no_reading c.args.self.now.owner (words_of c.args.line.bytes.now) c.in_default.ensures.means in
+    let none
+    = no_reading c.args.self.now.owner (words_of c.args.line.bytes.now)
+    c.in_default.ensures.means in
     let r : Reader = record c.args.self.now { lines = c.args.line.number } in
     subst (λ l. Reads (lines ++ l ∷ []) r) (sym none)
     (line_read lines [] c.args.self.now h r tt refl refl refl c.requires.next (omega arith))
@@ -33,7 +37,8 @@ returns-in-Err-clause-fault c = λ lines h.
     let l = words_of c.args.line.bytes.now in
     let is = reading_is c.args.self.now.owner l c.in-Some.reading c.in-Some.ensures.means in
     subst (EndsAt lines l) (sym c.at.ensures)
-    (ends_at lines l c.args.self.now h c.in-Some.reading.statement is.statement c.in-Some.ensures.sound
+    (ends_at lines l c.args.self.now h c.in-Some.reading.statement is.statement
+    c.in-Some.ensures.sound
     c.in-Err.refusal c.in-Err.ensures.err c.args.line.number c.requires.next)
 
 pub overflow_add-self : goal.overflow_add-self
@@ -60,7 +65,8 @@ returns-clause-more c = λ lines h.
           w.owner-is ∙ w.opened-owner.ensures ∙ ap opened is.statement
           ∙ ap (λ b. cond b (opened says) c.args.self.now.owner) (sym w.if-may_own.true ∙ owns_is)
       | else-may_own w ↦
-          w.owner-is ∙ ap (λ b. cond b (opened says) c.args.self.now.owner) (sym w.if-may_own.false ∙ owns_is)
+          w.owner-is ∙ ap (λ b. cond b (opened says) c.args.self.now.owner)
+          (sym w.if-may_own.false ∙ owns_is)
     ] in
     let skipped_is : c.is_skipped-skipped.result ≡ is_skipped says
     = c.is_skipped-skipped.ensures ∙ ap is_skipped is.statement in
