@@ -1,13 +1,13 @@
-use Rattle.std.proofs.Common.{ℕ, ◌+◌, ◌≡◌, List, ◌++◌, length, take, codes, Result, Ok, Err, OnErr, ap, ◌∙◌, inr}
+use Rattle.std.proofs.Common.{subst, ℕ, ◌+◌, ◌≡◌, List, ◌++◌, length, take, codes, Result, Ok, Err, OnErr, ap, ◌∙◌, inr}
 use Rattle.std.specs.Prelude.{decimal}
 use Rattle.devices.specs.Tape.{with_more}
 use Rattle.sacn_receiver.specs.declared.answer.Taken.{Taken}
 use Rattle.sacn_receiver.specs.declared.answer.Ignored.{Ignored}
 use Rattle.sacn_receiver.specs.Source.{Entry}
-use Rattle.sacn_receiver.specs.Taking.{answer}
+use Rattle.sacn_receiver.specs.Taking.{answer, heard}
+use Rattle.sacn_receiver.specs.Kept.{StandsFor}
 use Rattle.cueplayer_runs.specs.Replies.{reply_text}
 use Rattle.cueplayer_runs.specs.Listening.{history, reply_line, NextFails}
-use Rattle.cueplayer_runs.proofs.Histories.{stands_heard}
 use Rattle.cueplayer_runs.proofs.listening.reply_to_next.Goals as goal
 
 on_err : {T E : Type 0} (P : Type 0) (r : Result T E) → P → OnErr r P
@@ -44,8 +44,8 @@ returns-clause-ok g c = λ universe older universe_is numbered stands.
     let answered = answered_at c.args.receiver.now.universe universe (history universe older) datagram c.take-reply.result
     universe_is (c.take-reply.ensures.answer (history universe older) stands) in (
       datagram,
-      stands_heard universe (history universe older) datagram c.args.receiver.now c.take-reply.new.self c.take-reply.result
-          stands answered c.take-reply.ensures.accepted c.take-reply.ensures.ignored,
+      subst (λ (u : ℕ). StandsFor c.take-reply.new.self (heard 4 u (history universe older) 0 datagram))
+          universe_is (c.take-reply.ensures.heard (history universe older) stands),
       λ tells. c.in_ok-length.ensures.ok tells,
       λ tells.
           let line = c.as_bytes.ensures.value ∙ c.as_str.ensures.value ∙ c.reply_line.ensures in
