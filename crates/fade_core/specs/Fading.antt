@@ -3,7 +3,8 @@ use Rattle.std.specs.Prelude.{◌≡◌, ℕ, ◌-◌, ◌*◌, ◌≤◌, List,
 use Rattle.show_core.specs.declared.rate.Rate.{Rate}
 use Rattle.fade_core.specs.Level.{Start, level_after, split_fade}
 
--- each channel's level at the last start and the byte that it goes to, the rates, when it started, and the latest moment
+-- each channel's level at the last start and the byte that it goes to, the rates, when it started,
+-- and the latest moment
 pub record Fading : Type 0 where
   pub from : List ℕ
   pub to : List ℕ
@@ -15,7 +16,8 @@ pub record Fading : Type 0 where
 -- the level of a channel at a moment, where nothing else starts
 abbrev pub shown_at : Fading → ℕ → ℕ → ℕ
 shown_at f channel moment =
-    split_fade (slice_index f.from (channel - 1)) (255 * slice_index f.to (channel - 1)) f.up f.down (moment - f.began)
+    split_fade (slice_index f.from (channel - 1)) (255 * slice_index f.to (channel - 1)) f.up f.down
+    (moment - f.began)
 
 -- from now on, each channel is at what these starts make
 abbrev pub Shows : Fading → List Start → Type 0

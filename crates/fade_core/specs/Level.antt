@@ -1,17 +1,22 @@
 -- Playback level: what the level of one channel is, as cues start and time passes.
-use Rattle.std.specs.Prelude.{ℕ, ◌+◌, ◌-◌, ◌*◌, ◌/◌, ◌≤◌, ◌⊎◌, List, [], ◌∷◌, nat_le, nat_lt, if◌then◌else◌, unwrap_or}
+use Rattle.std.specs.Prelude.{ℕ, ◌+◌, ◌-◌, ◌*◌, ◌/◌, ◌≤◌, ◌⊎◌, List, [], ◌∷◌}
+use Rattle.std.specs.Prelude.{nat_le, nat_lt, if◌then◌else◌, unwrap_or}
 use Rattle.std.specs.Ordering.{nat_cmp}
 use Rattle.std.specs.FinMap.{find}
 use Rattle.show_core.specs.declared.rate.Rate.{Rate}
 
--- a level that goes from a to b at a rate, this long after the start: b once the delay and the time are over,
--- a until the delay is over, and between them a moved towards b by the whole part of its share
+-- a level that goes from a to b at a rate, this long after the start: b once the delay and the time
+-- are over, a until the delay is over, and between them a moved towards b by the whole part of its share
 abbrev pub fade : ℕ → ℕ → Rate → ℕ → ℕ
 fade a b rate elapsed =
     if nat_le (rate.delay + rate.time) elapsed then b
     else (if nat_le elapsed rate.delay then a
     else (if nat_lt a b then a + (b - a) * (elapsed - rate.delay) / rate.time
     else a - (a - b) * (elapsed - rate.delay) / rate.time))
+
+-- the range of a rate: a time and a delay of at most 5999990 milliseconds, as a show's
+abbrev pub IsRate : Rate → Type 0
+IsRate rate = (rate.time ≤ 5999990) × (rate.delay ≤ 5999990)
 
 -- a rising level goes at the rate for rising ones, any other at the rate for falling ones
 unfoldable pub split_fade : ℕ → ℕ → Rate → Rate → ℕ → ℕ
@@ -32,7 +37,8 @@ byte_of look channel = unwrap_or (find nat_cmp channel look) 0
 abbrev pub level_after : List Start → ℕ → ℕ → ℕ
 level_after [] channel moment = 0
 level_after (s ∷ older) channel moment =
-    split_fade (level_after older channel s.moment) (255 * byte_of s.look channel) s.up s.down (moment - s.moment)
+    split_fade (level_after older channel s.moment) (255 * byte_of s.look channel) s.up s.down
+    (moment - s.moment)
 
 -- where a channel goes after these starts
 abbrev pub target_after : List Start → ℕ → ℕ

@@ -1,3 +1,4 @@
 pub mod Level
+pub mod Laws
 pub mod Fading
 pub mod Plain

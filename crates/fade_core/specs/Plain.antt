@@ -5,7 +5,14 @@ use Rattle.fade_core.specs.Fading.{Fading}
 
 -- the lists in place of the vectors
 abbrev pub fading_view : Inside → Fading
-fading_view f = record { from = f.from.items; to = f.to.items; up = f.up; down = f.down; began = f.began; now = f.now }
+fading_view f = record {
+  from = f.from.items;
+  to = f.to.items;
+  up = f.up;
+  down = f.down;
+  began = f.began;
+  now = f.now;
+}
 
 -- both lists have an entry for each channel, the levels are in their range, and the start is over
 pub record IsFading (f : Fading) : Type 0 where

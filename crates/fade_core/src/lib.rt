@@ -2,6 +2,7 @@
 #![tactic(auto)]
 
 mod fader;
+pub mod laws;
 mod plain;
 
 pub use fader::Fader;

@@ -1,4 +1,5 @@
-ghost use Rattle.std.specs.Prelude.{◌≡◌, ℕ, ◌+◌, ◌*◌, ◌^◌, ◌<◌, ◌≤◌, IsTrue, All, EachIndex, length, slice_index};
+ghost use Rattle.std.specs.Prelude.{◌≡◌, ℕ, ◌+◌, ◌*◌, ◌^◌, ◌<◌, ◌≤◌};
+ghost use Rattle.std.specs.Prelude.{IsTrue, All, EachIndex, length, slice_index};
 ghost use Rattle.std.specs.Ordering.{nat_cmp};
 ghost use Rattle.std.specs.FinMap.{is_sorted};
 ghost use Rattle.fade_core.specs.Level.{byte_of, split_fade};
@@ -8,8 +9,9 @@ use show_core::Rate;
 use std::alloc::{AllocError, Global};
 use std::marker::Model;
 
-/// Keeps each channel's level at the last start, and where it goes. A level is worked out when it is asked for.
-#[derive(Drop)]
+/// Keeps each channel's level at the last start, and where it goes. A level is worked out when it is
+/// asked for.
+#[derive(Debug, Drop)]
 pub struct PlainFader {
     from: Vec<u32>,
     to: Vec<u8>,
@@ -102,7 +104,8 @@ fn faded(a: u32, b: u32, up: Rate, down: Rate, elapsed: u64) -> u32
     }
 }
 
-// Puts each channel's level, `elapsed` milliseconds after the start, in place of its level at the start.
+// Puts each channel's level, `elapsed` milliseconds after the start, in place of its level at the
+// start.
 fn settle(from: &mut [u32], to: &[u8], up: Rate, down: Rate, elapsed: u64)
     requires same_length { length to.now ≡ length from.old }
     requires full { All (λ level. level ≤ 65025) from.old }

@@ -1,4 +1,5 @@
 ghost use Rattle.std.specs.Prelude.{◌≡◌, ◌^◌, ◌<◌, ◌≤◌, IfOk};
+ghost use Rattle.fade_core.specs.Level.{IsRate};
 
 use crate::{Fader, PlainFader, Rate};
 use std::alloc::{AllocError, Global};
@@ -13,6 +14,7 @@ const SLOWEST: Rate = Rate {
 
 // A fader of four channels, the first of which starts to full at moment 0.
 fn rising<F: Fader>(alloc: Global, up: Rate) -> Result<F, AllocError>
+    requires { IsRate up }
     ensures latest { IfOk result (λ fader. F.latest fader ≡ 0) }
     ensures channels { IfOk result (λ fader. F.channels fader ≡ 4) }
 {
@@ -22,14 +24,18 @@ fn rising<F: Fader>(alloc: Global, up: Rate) -> Result<F, AllocError>
 }
 
 // The level at a moment to which a single call moves on.
-fn level_at<F: Fader>(alloc: Global, up: Rate, moment: u32) -> Result<u32, AllocError> {
+fn level_at<F: Fader>(alloc: Global, up: Rate, moment: u32) -> Result<u32, AllocError>
+    requires { IsRate up }
+{
     let mut fader: F = rising(alloc, up)?;
     fader.advance(u64::from(moment));
     Ok(fader.level(1))
 }
 
 // The level at a moment to which a call every 23 milliseconds moves on.
-fn level_by_ticks<F: Fader>(alloc: Global, up: Rate, moment: u32) -> Result<u32, AllocError> {
+fn level_by_ticks<F: Fader>(alloc: Global, up: Rate, moment: u32) -> Result<u32, AllocError>
+    requires { IsRate up }
+{
     let mut fader: F = rising(alloc, up)?;
     for tick in 0..moment / 23 {
         fader.advance(23 * u64::from(tick));
@@ -72,8 +78,8 @@ fn slow_fade_exact(rt: HostRuntime) -> Result<(), Fail> {
     Ok(())
 }
 
-// `rt try --test --fail-alloc N` refuses the Nth growth: N from 1 to 2 refuses each growth of `new` in turn,
-// and this test passes each time. The other tests then answer their error.
+// `rt try --test --fail-alloc N` refuses the Nth growth: N from 1 to 2 refuses each growth of `new` in
+// turn, and this test passes each time. The other tests then answer their error.
 #[test]
 fn each_growth_refused(rt: HostRuntime) {
     let fader = match PlainFader::new(rt.alloc(), 4) {
