@@ -4,8 +4,9 @@ use Rattle.show_core.specs.Tables.{Tables}
 use Rattle.playback_core.specs.Playing.{Playing}
 use Rattle.master_core.specs.Settings.{Bytes}
 
--- the show and the number of the universe of ordinal 0; the playback and the masters; the moments of the last call and of the last tick;
--- the ticks since End, where there was one; and the frame of each ordinal, as the last tick left it
+-- the show and the number of the universe of ordinal 0; the playback and the masters; the moments
+-- of the last call and of the last tick; the ticks since End, where there was one; and the frame of
+-- each ordinal, as the last tick left it
 pub record DeskState (F : Type 0) : Type 0 where
   pub show : Tables
   pub base : ℕ

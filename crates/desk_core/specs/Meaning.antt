@@ -13,18 +13,21 @@ use Rattle.desk_core.specs.Played.{Call, order, tick, Act, ended, moves, setting
 abbrev pub dark : List ℕ
 dark = replicate SLOTS 0
 
--- the level of a channel at a moment after a history: the highest of playback, submasters and groups
+-- the level of a channel at a moment after a history: the highest of playback, submasters and
+-- groups
 abbrev pub channel_level : Tables → List Act → ℕ → ℕ → ℕ
 channel_level show history moment channel = level_after show (settings history) channel (playback_level show (moves show history) channel moment)
 
--- the frame of an ordinal at a tick of this moment after a history: what the patch and the grand master make of the levels;
--- dark after End (E1.31, Options: what a packet with Stream_Terminated carries is ignored)
+-- the frame of an ordinal at a tick of this moment after a history: what the patch and the grand
+-- master make of the levels; dark after End (E1.31, Options: what a packet with Stream_Terminated
+-- carries is ignored)
 unfoldable pub frame : Tables → List Act → ℕ → ℕ → List ℕ
 frame show history moment ordinal =
     if is_some (ended history) then dark
     else frame_of show.patch (channel_level show history moment) (grand_after (settings history)) ordinal
 
--- the frame of an ordinal after a history: that of the latest tick, under the calls before it; dark before the first tick
+-- the frame of an ordinal after a history: that of the latest tick, under the calls before it; dark
+-- before the first tick
 abbrev pub latest_frame : Tables → List Act → ℕ → List ℕ
 latest_frame show [] ordinal = dark
 latest_frame show (act ∷ older) ordinal = shown_by act.call (frame show older act.moment ordinal) (latest_frame show older ordinal) where
@@ -32,6 +35,7 @@ latest_frame show (act ∷ older) ordinal = shown_by act.call (frame show older 
   shown_by tick new before = new
   shown_by (order command) new before = before
 
--- the numbers of the universes (E1.31, Universe) that have a patched dimmer: the base plus the ordinal
+-- the numbers of the universes (E1.31, Universe) that have a patched dimmer: the base plus the
+-- ordinal
 unfoldable pub universe_numbers : PatchMap → ℕ → List ℕ
 universe_numbers patch base = map (λ ordinal. base + ordinal) (universes_of patch)

@@ -1,4 +1,5 @@
--- What a console does: its calls, why one is refused, and the moves and settings that the accepted ones make.
+-- What a console does: its calls, why one is refused, and the moves and settings that the accepted
+-- ones make.
 use Rattle.std.specs.Prelude.{ℕ, ◌+◌, ◌^◌, Bool, true, false, List, [], ◌∷◌, Option, Some, None, Result, Ok, Err, is_some, nat_lt, nat_le, if◌then◌else◌}
 use Rattle.std.specs.Option.{option_or}
 use Rattle.std.specs.FinMap as map
@@ -17,7 +18,8 @@ pub data Call : Type 0 where
   order : Command → Call
   tick : Call
 
--- a call at its moment, in milliseconds. A history is the list of the calls that were accepted, the newest first
+-- a call at its moment, in milliseconds. A history is the list of the calls that were accepted, the
+-- newest first
 pub record Act : Type 0 where
   pub moment : ℕ
   pub call : Call
@@ -79,13 +81,15 @@ settings (act ∷ older) = set_by act.call (settings older)
 
 -- ---- refusals and answers
 
--- after End: no command, and no tick after the third (E1.31, Options: three packets with Stream_Terminated end a stream)
+-- after End: no command, and no tick after the third (E1.31, Options: three packets with
+-- Stream_Terminated end a stream)
 abbrev pub is_over : Option ℕ → Call → Bool
 is_over None call = false
 is_over (Some ticks) (order command) = true
 is_over (Some ticks) tick = nat_le 3 ticks
 
--- a tick less than 23 ms after the last one (E1.31, Transmission Rate: no faster than DMX512-A, whose full packet takes 22.7 ms)
+-- a tick less than 23 ms after the last one (E1.31, Transmission Rate: no faster than DMX512-A,
+-- whose full packet takes 22.7 ms)
 abbrev pub is_soon : Option ℕ → ℕ → Call → Bool
 is_soon None moment call = false
 is_soon (Some last) moment (order command) = false

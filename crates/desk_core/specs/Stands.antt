@@ -9,7 +9,8 @@ use Rattle.desk_core.specs.DeskState.{DeskState}
 use Rattle.desk_core.specs.Played.{Act, last_moment, last_tick, ended, moves, settings}
 use Rattle.desk_core.specs.Meaning.{latest_frame}
 
--- a desk stands for a history of a show with a base: each part that it keeps is what the history leaves
+-- a desk stands for a history of a show with a base: each part that it keeps is what the history
+-- leaves
 pub record StandsFor {F : Type 0} (fader_stands_for : F → List Start → Type 0) (show : Tables) (base : ℕ) (desk : DeskState F) (history : List Act) : Type 0 where
   pub show_is : desk.show ≡ show
   pub base_is : desk.base ≡ base

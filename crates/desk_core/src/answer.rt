@@ -9,7 +9,8 @@ use playback_core::NoMove;
 pub enum Ticked {
     /// A tick before any End: the frames are what the show means.
     Live,
-    /// The first, second or third tick after End: the frames are dark, and the streams end (E1.31, Options: Stream_Terminated).
+    /// The first, second or third tick after End: the frames are dark, and the streams end (E1.31,
+    /// Options: Stream_Terminated).
     Ending(u8),
 }
 

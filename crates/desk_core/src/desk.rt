@@ -25,16 +25,19 @@ use std::marker::Model;
 /// Moments are below this, 2^48 milliseconds.
 const MOMENTS: u64 = 0x1_0000_0000_0000;
 
-/// Ticks are at least so many milliseconds apart: a full packet of DMX512-A takes 22.7 (E1.31, Transmission Rate).
+/// Ticks are at least so many milliseconds apart: a full packet of DMX512-A takes 22.7 (E1.31,
+/// Transmission Rate).
 const SHORTEST_GAP: u64 = 23;
 
 /// So many ticks after End carry the end of the streams (E1.31, Options: Stream_Terminated).
 const ENDING_TICKS: u8 = 3;
 
-/// A console: a show, its playback and masters, and the frames of its universes as the latest tick showed them.
+/// A console: a show, its playback and masters, and the frames of its universes as the latest tick
+/// showed them.
 ///
-/// Moments are in milliseconds. Calls are taken whole, one after another; a refused one changes nothing.
-/// A frame has 512 slots of a level byte; what commands do is seen in it from the next tick on.
+/// Moments are in milliseconds. Calls are taken whole, one after another; a refused one changes
+/// nothing. A frame has 512 slots of a level byte; what commands do is seen in it from the next
+/// tick on.
 ///
 /// Only `open` takes memory.
 #[derive(Drop)]
@@ -77,11 +80,13 @@ impl<F: Fader> Model for Desk<F> {
 }
 
 impl<F: Fader> Desk<F> {
-    /// A desk with a copy of the show, `base` as the number of the universe of ordinal 0, no current cue, and dark frames.
+    /// A desk with a copy of the show, `base` as the number of the universe of ordinal 0, no
+    /// current cue, and dark frames.
     ///
     /// # Errors
     ///
-    /// `Universe` where `base`, or `base` plus an ordinal with a patched dimmer, is not 1 to 63999; else `Memory` where a growth was refused.
+    /// `Universe` where `base`, or `base` plus an ordinal with a patched dimmer, is not 1 to 63999;
+    /// else `Memory` where a growth was refused.
     pub fn open(alloc: Global, show: &Show, base: u16) -> Result<Self, RigFault>
         ensures stands { IfOk result (λ desk. StandsFor F.stands_for show.now base desk []) }
         ensures universe { (result ≡ Err Universe) ↔ IsFalse (is_base show.now.patch base) }
@@ -110,7 +115,8 @@ impl<F: Fader> Desk<F> {
     ///
     /// # Errors
     ///
-    /// The first of `Backwards`, `MomentTooLarge`, `Ended`, `AtEnd`, `AtStart`, `NoCue`, `NoSub` and `NoGroup` that applies; then nothing changed.
+    /// The first of `Backwards`, `MomentTooLarge`, `Ended`, `AtEnd`, `AtStart`, `NoCue`, `NoSub`
+    /// and `NoGroup` that applies; then nothing changed.
     pub fn command(&mut self, moment: u64, command: Command) -> Result<(), Refused>
         ensures answer { (show : Tables) (base : ℕ) (history : List Act) → StandsFor F.stands_for show base self.old history
             → result ≡ outcome (refusal show history (record { moment = moment; call = order command })) tt }
@@ -137,7 +143,8 @@ impl<F: Fader> Desk<F> {
     ///
     /// # Errors
     ///
-    /// The first of `Backwards`, `MomentTooLarge`, `Ended` and `TooSoon` that applies; then nothing changed.
+    /// The first of `Backwards`, `MomentTooLarge`, `Ended` and `TooSoon` that applies; then nothing
+    /// changed.
     pub fn tick(&mut self, moment: u64) -> Result<Ticked, Refused>
         ensures answer { (show : Tables) (base : ℕ) (history : List Act) → StandsFor F.stands_for show base self.old history
             → result ≡ outcome (refusal show history (record { moment = moment; call = tick })) (ticked (ended history)) }
@@ -211,7 +218,8 @@ impl<F: Fader> Desk<F> {
         numbers
     }
 
-    /// The 512 slots of one of `universes`, as the latest tick showed them: all 0 before the first, and from the first after End on.
+    /// The 512 slots of one of `universes`, as the latest tick showed them: all 0 before the first,
+    /// and from the first after End on.
     pub fn slots(&self, universe: u16) -> &[u8; 512]
         requires { Contains (universe_numbers self.now.show.patch self.now.base) universe }
         ensures { (show : Tables) (base : ℕ) (history : List Act) → StandsFor F.stands_for show base self.now history

@@ -15,8 +15,9 @@ fn add_cue(rt: &impl Abort, show: &mut Show, n: u32, channel: u16) -> Result<(),
     show.cue_level(n, channel, 255)
 }
 
-// Cue 1 brings channel 1 to full over five seconds; cue 2 brings channel 2 to full over two, and channel 1 out over four.
-// Submaster 1 has channel 1 at half. Dimmers 1 and 2 are patched to channels 1 and 2 at full.
+// Cue 1 brings channel 1 to full over five seconds; cue 2 brings channel 2 to full over two, and
+// channel 1 out over four. Submaster 1 has channel 1 at half. Dimmers 1 and 2 are patched to
+// channels 1 and 2 at full.
 fn small_show(rt: &impl Abort, alloc: Global) -> Result<Show, BuildFault> {
     let mut show = Show::new(alloc);
     add_cue(rt, &mut show, 1000, 1)?;
@@ -285,8 +286,8 @@ fn universe_limit(rt: HostRuntime) -> Result<(), Fail> {
     Ok(())
 }
 
-// `rt try --test --fail-alloc N` refuses the Nth growth: N from 1 to 9 refuses each growth of this test in turn, and it passes each time.
-// The other tests then answer their error.
+// `rt try --test --fail-alloc N` refuses the Nth growth: N from 1 to 9 refuses each growth of this
+// test in turn, and it passes each time. The other tests then answer their error.
 #[test]
 fn each_growth_refused(rt: HostRuntime) {
     let mut show = Show::new(rt.alloc());

@@ -6,7 +6,8 @@ use Rattle.std.specs.FinMap.{find}
 use Rattle.show_core.specs.declared.rate.Rate.{Rate}
 
 -- a level that goes from a to b at a rate, this long after the start: b once the delay and the time
--- are over, a until the delay is over, and between them a moved towards b by the whole part of its share
+-- are over, a until the delay is over, and between them a moved towards b by the whole part of its
+-- share
 abbrev pub fade : ℕ → ℕ → Rate → ℕ → ℕ
 fade a b rate elapsed =
     if nat_le (rate.delay + rate.time) elapsed then b

@@ -14,8 +14,8 @@ use std::alloc::{AllocError, Global};
 ///
 /// A start aims each channel at 255 times its byte in the look, or at 0 where the look does not
 /// list it. A channel goes from its level at that moment to its target in a straight line: a rising
-/// one after `up`'s delay and over `up`'s time, a falling one by `down`'s. What a division leaves is
-/// dropped, so that the level never goes ahead of the line.
+/// one after `up`'s delay and over `up`'s time, a falling one by `down`'s. What a division leaves
+/// is dropped, so that the level never goes ahead of the line.
 ///
 /// Only `new` takes memory.
 pub trait Fader: Drop {

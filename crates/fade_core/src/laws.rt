@@ -1,5 +1,5 @@
-//! What holds of every fader, since its levels are those that its starts make. The law is the contract
-//! of a function that does nothing: call it where its fact is wanted.
+//! What holds of every fader, since its levels are those that its starts make. The law is the
+//! contract of a function that does nothing: call it where its fact is wanted.
 
 ghost use Rattle.fade_core.specs.Laws.{FadesNeverTurnBack};
 

@@ -9,8 +9,8 @@ use show_core::Rate;
 use std::alloc::{AllocError, Global};
 use std::marker::Model;
 
-/// Keeps each channel's level at the last start, and where it goes. A level is worked out when it is
-/// asked for.
+/// Keeps each channel's level at the last start, and where it goes. A level is worked out when it
+/// is asked for.
 #[derive(Debug, Drop)]
 pub struct PlainFader {
     from: Vec<u32>,

@@ -78,8 +78,8 @@ fn slow_fade_exact(rt: HostRuntime) -> Result<(), Fail> {
     Ok(())
 }
 
-// `rt try --test --fail-alloc N` refuses the Nth growth: N from 1 to 2 refuses each growth of `new` in
-// turn, and this test passes each time. The other tests then answer their error.
+// `rt try --test --fail-alloc N` refuses the Nth growth: N from 1 to 2 refuses each growth of `new`
+// in turn, and this test passes each time. The other tests then answer their error.
 #[test]
 fn each_growth_refused(rt: HostRuntime) {
     let fader = match PlainFader::new(rt.alloc(), 4) {

@@ -2,13 +2,15 @@
 use Rattle.std.specs.Prelude.{◌≡◌, ℕ, ◌==◌, if◌then◌else◌, IsTrue, List, [], ◌∷◌, slice_index}
 use Rattle.show_core.specs.Numbers.{is_sub, is_group}
 
--- a setting that was accepted: of a submaster or a group, by its number, or of the grand master, to a byte
+-- a setting that was accepted: of a submaster or a group, by its number, or of the grand master, to
+-- a byte
 pub data Setting : Type 0 where
   sub_setting : ℕ → ℕ → Setting
   group_setting : ℕ → ℕ → Setting
   grand_setting : ℕ → Setting
 
--- the master of submaster n after these settings, the newest first: the byte set last, or 0 where there is none
+-- the master of submaster n after these settings, the newest first: the byte set last, or 0 where
+-- there is none
 abbrev pub sub_after : List Setting → ℕ → ℕ
 sub_after [] n = 0
 sub_after (sub_setting k byte ∷ older) n = if k == n then byte else sub_after older n
@@ -35,5 +37,6 @@ pub record Bytes : Type 0 where
 -- the bytes are what these settings leave
 pub record StandsFor (masters : Bytes) (settings : List Setting) : Type 0 where
   pub subs_are : (n : ℕ) → IsTrue (is_sub n) → slice_index masters.subs n ≡ sub_after settings n
-  pub groups_are : (n : ℕ) → IsTrue (is_group n) → slice_index masters.groups n ≡ group_after settings n
+  pub groups_are : (n : ℕ) → IsTrue (is_group n)
+      → slice_index masters.groups n ≡ group_after settings n
   pub grand_is : masters.grand ≡ grand_after settings

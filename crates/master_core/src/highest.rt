@@ -11,7 +11,8 @@ use show_core::{GROUPS, SUBMASTERS, Show};
 
 // The greatest level that a submaster makes the channel, from the master of each.
 pub fn highest_sub(show: &Show, masters: &[u8; 101], channel: u16) -> u32
-    ensures greatest { (master : ℕ → ℕ) → ((n : ℕ) → IsTrue (is_sub n) → slice_index masters.now n ≡ master n)
+    ensures greatest { (master : ℕ → ℕ)
+        → ((n : ℕ) → IsTrue (is_sub n) → slice_index masters.now n ≡ master n)
         → result ≡ greatest_in show.now.subs master channel }
     ensures full { result ≤ 65025 }
 {
@@ -29,7 +30,8 @@ pub fn highest_sub(show: &Show, masters: &[u8; 101], channel: u16) -> u32
 
 // The greatest level that a group makes the channel, from the master of each.
 pub fn highest_group(show: &Show, masters: &[u8; 501], channel: u16) -> u32
-    ensures greatest { (master : ℕ → ℕ) → ((n : ℕ) → IsTrue (is_group n) → slice_index masters.now n ≡ master n)
+    ensures greatest { (master : ℕ → ℕ)
+        → ((n : ℕ) → IsTrue (is_group n) → slice_index masters.now n ≡ master n)
         → result ≡ greatest_in show.now.groups master channel }
     ensures full { result ≤ 65025 }
 {
@@ -53,7 +55,8 @@ fn product(byte: u8, master: u8) -> u32
 }
 
 fn sub_byte(show: &Show, n: u16, channel: u16) -> u8
-    ensures { result ≡ option_map_or (λ levels. level_in levels channel) (map.get show.now.subs n) 0 }
+    ensures { result
+        ≡ option_map_or (λ levels. level_in levels channel) (map.get show.now.subs n) 0 }
 {
     match show.sub(n) {
         Some(pairs) => byte_in(pairs, channel),
@@ -62,7 +65,8 @@ fn sub_byte(show: &Show, n: u16, channel: u16) -> u8
 }
 
 fn group_byte(show: &Show, n: u16, channel: u16) -> u8
-    ensures { result ≡ option_map_or (λ levels. level_in levels channel) (map.get show.now.groups n) 0 }
+    ensures { result
+        ≡ option_map_or (λ levels. level_in levels channel) (map.get show.now.groups n) 0 }
 {
     match show.group(n) {
         Some(pairs) => byte_in(pairs, channel),

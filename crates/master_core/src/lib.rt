@@ -1,4 +1,5 @@
-//! Masters: the bytes of the submasters, the groups and the grand master, and the level that they make a channel.
+//! Masters: the bytes of the submasters, the groups and the grand master, and the level that they
+//! make a channel.
 #![tactic(auto)]
 
 mod fault;

@@ -1,18 +1,21 @@
-ghost use Rattle.std.specs.Prelude.{◌≡◌, ◌↔◌, ◌≤◌, IsTrue, IsFalse, IsOk, OnOk, OnErr, Err, List, [], ◌∷◌};
+ghost use Rattle.std.specs.Prelude.{◌≡◌, ◌↔◌, ◌≤◌, List, [], ◌∷◌};
+ghost use Rattle.std.specs.Prelude.{IsTrue, IsFalse, IsOk, OnOk, OnErr, Err};
 ghost use Rattle.std.specs.Bool.{OnTrue};
 ghost use Rattle.std.specs.FinMap as map;
 ghost use Rattle.show_core.specs.Numbers.{is_sub, is_group};
 ghost use Rattle.master_core.specs.declared.fault.NoMaster.TheVariants.{NoSub, NoGroup};
 ghost use Rattle.master_core.specs.Merged.{level_after};
-ghost use Rattle.master_core.specs.Settings.{Setting, sub_setting, group_setting, grand_setting, grand_after, StandsFor};
+ghost use Rattle.master_core.specs.Settings.{Setting, sub_setting, group_setting, grand_setting};
+ghost use Rattle.master_core.specs.Settings.{grand_after, StandsFor};
 
 use crate::fault::NoMaster;
 use crate::highest::{highest_group, highest_sub};
 use show_core::Show;
 use std::marker::Model;
 
-/// The masters of a show: a byte, 0 to 255, for each submaster and each group, and one for the whole.
-#[derive(Drop)]
+/// The masters of a show: a byte, 0 to 255, for each submaster and each group, and one for the
+/// whole.
+#[derive(Debug, Drop)]
 pub struct Masters {
     subs: [u8; 101],
     groups: [u8; 501],
@@ -31,8 +34,20 @@ impl Model for Masters {
     ghost invariant = { IsMasters };
 }
 
+impl Default for Masters {
+    ghost use Rattle.std.specs.Prelude.{[]};
+    ghost use Rattle.master_core.specs.Settings.{StandsFor};
+
+    ghost is_default = { λ masters. StandsFor masters [] };
+
+    fn default() -> Masters {
+        Masters::new()
+    }
+}
+
 impl Masters {
-    /// The masters before any setting: each submaster and each group at 0, and the grand master at 255.
+    /// The masters before any setting: each submaster and each group at 0, and the grand master at
+    /// 255.
     pub fn new() -> Masters
         ensures { StandsFor result [] }
     {
@@ -49,7 +64,8 @@ impl Masters {
     ///
     /// `NoSub` where the show has no submaster `n`: then nothing changes.
     pub fn set_sub(&mut self, show: &Show, n: u16, byte: u8) -> Result<(), NoMaster>
-        ensures stands { OnOk result ((settings : List Setting) → StandsFor self.old settings → StandsFor self.new (sub_setting n byte ∷ settings)) }
+        ensures stands { OnOk result ((settings : List Setting) → StandsFor self.old settings
+            → StandsFor self.new (sub_setting n byte ∷ settings)) }
         ensures unchanged { OnErr result (self.new ≡ self.old) }
         ensures there { IsOk result ↔ IsTrue (map.contains_key show.now.subs n) }
         ensures absent { (result ≡ Err NoSub) ↔ IsFalse (map.contains_key show.now.subs n) }
@@ -67,7 +83,8 @@ impl Masters {
     ///
     /// `NoGroup` where the show has no group `n`: then nothing changes.
     pub fn set_group(&mut self, show: &Show, n: u16, byte: u8) -> Result<(), NoMaster>
-        ensures stands { OnOk result ((settings : List Setting) → StandsFor self.old settings → StandsFor self.new (group_setting n byte ∷ settings)) }
+        ensures stands { OnOk result ((settings : List Setting) → StandsFor self.old settings
+            → StandsFor self.new (group_setting n byte ∷ settings)) }
         ensures unchanged { OnErr result (self.new ≡ self.old) }
         ensures there { IsOk result ↔ IsTrue (map.contains_key show.now.groups n) }
         ensures absent { (result ≡ Err NoGroup) ↔ IsFalse (map.contains_key show.now.groups n) }
@@ -81,22 +98,26 @@ impl Masters {
 
     /// Sets the grand master.
     pub fn set_grand(&mut self, byte: u8)
-        ensures { (settings : List Setting) → StandsFor self.old settings → StandsFor self.new (grand_setting byte ∷ settings) }
+        ensures { (settings : List Setting) → StandsFor self.old settings
+            → StandsFor self.new (grand_setting byte ∷ settings) }
     {
         self.grand = byte;
     }
 
     /// The grand master.
     pub fn grand(&self) -> u8
-        ensures { (settings : List Setting) → StandsFor self.now settings → result ≡ grand_after settings }
+        ensures { (settings : List Setting) → StandsFor self.now settings
+            → result ≡ grand_after settings }
     {
         self.grand
     }
 
-    /// The level of a channel: the highest of the playback level, of its byte times the master in each submaster, and the same in each group.
-    /// Where the playback level is at most 65025, this is too. The grand master plays no part.
+    /// The level of a channel: the highest of the playback level, of its byte times the master in
+    /// each submaster, and the same in each group. Where the playback level is at most 65025, this
+    /// is too. The grand master plays no part.
     pub fn merged(&self, show: &Show, channel: u16, playback: u32) -> u32
-        ensures level { (settings : List Setting) → StandsFor self.now settings → result ≡ level_after show.now settings channel playback }
+        ensures level { (settings : List Setting) → StandsFor self.now settings
+            → result ≡ level_after show.now settings channel playback }
         ensures full { playback ≤ 65025 → result ≤ 65025 }
     {
         playback

@@ -52,6 +52,8 @@ fn no_such_master(rt: HostRuntime) -> Result<(), Fail> {
         );
     }
     assert!(rt; masters.merged(&show, 1, 0) == 32640 && masters.grand() == 255);
+    let fresh = Masters::default();
+    assert!(rt; fresh.merged(&show, 1, 0) == 0 && fresh.grand() == 255);
     Ok(())
 }
 

@@ -3,7 +3,6 @@ use Rattle.std.specs.Prelude.{ℕ, ◌+◌, ◌-◌, ◌*◌, Bool, ◌&&◌, Li
 use Rattle.std.specs.List.{list_all, range_with_len}
 use Rattle.std.specs.Option.{option_map_or}
 use Rattle.std.specs.FinMap as maps
-use Rattle.show_core.specs.declared.limits.TheConstants.{SLOTS}
 use Rattle.show_core.specs.Numbers.{is_within}
 use Rattle.show_core.specs.Readers.{slot_of, universes_of}
 use Rattle.show_core.specs.Tables.{PatchMap}
@@ -19,16 +18,20 @@ is_universe = is_within 63999
 
 -- the base is a universe number, and so is the base plus each ordinal with a patched dimmer
 unfoldable pub is_base : PatchMap → ℕ → Bool
-is_base patch base = is_universe base && list_all (λ ordinal. is_universe (base + ordinal)) (universes_of patch)
+is_base patch base =
+    is_universe base && list_all (λ ordinal. is_universe (base + ordinal)) (universes_of patch)
 
 -- the level of a channel in a list that begins with channel 1
 abbrev pub level_in : List ℕ → ℕ → ℕ
 level_in levels channel = slice_index levels (channel - 1)
 
--- the slot of a dimmer, from the level of each channel and the grand master; 0 where it is not patched
+-- the slot of a dimmer, from the level of each channel and the grand master; 0 where it is not
+-- patched
 abbrev pub dimmer_slot : PatchMap → (ℕ → ℕ) → ℕ → ℕ → ℕ
-dimmer_slot patch level grand dimmer = option_map_or (λ p. slot_of (level p.0) grand p.1) (maps.get patch dimmer) 0
+dimmer_slot patch level grand dimmer =
+    option_map_or (λ p. slot_of (level p.0) grand p.1) (maps.get patch dimmer) 0
 
 -- the frame of a universe: the slots of its 512 dimmers
 abbrev pub frame_of : PatchMap → (ℕ → ℕ) → ℕ → ℕ → List ℕ
-frame_of patch level grand ordinal = map (dimmer_slot patch level grand) (range_with_len (SLOTS * ordinal + 1) SLOTS)
+frame_of patch level grand ordinal =
+    map (dimmer_slot patch level grand) (range_with_len (512 * ordinal + 1) 512)

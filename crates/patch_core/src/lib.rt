@@ -7,7 +7,7 @@ mod rig;
 
 pub use fault::RigFault;
 pub use greatest::max_into;
-pub use rig::{Rig, TOP_UNIVERSE};
+pub use rig::{Rig, TOP_UNIVERSE, has_numbers};
 
 #[cfg(test)]
 mod tests;

@@ -1,4 +1,5 @@
-ghost use Rattle.std.specs.Prelude.{◌≡◌, ◌+◌, ◌*◌, ◌<◌, ◌≤◌, ◌↔◌, IsTrue, IsFalse, IfOk, Err, All, length};
+ghost use Rattle.std.specs.Prelude.{◌≡◌, ◌+◌, ◌*◌, ◌<◌, ◌≤◌, ◌↔◌};
+ghost use Rattle.std.specs.Prelude.{IsTrue, IsFalse, IfOk, Err, All, length};
 ghost use Rattle.std.specs.List.{AllWithin, list_all};
 ghost use Rattle.std.specs.Ordering.{nat_cmp};
 ghost use Rattle.std.specs.FinMap as map;
@@ -8,7 +9,7 @@ ghost use Rattle.patch_core.specs.Frame.{is_universe, is_base, level_in, frame_o
 ghost use Rattle.patch_core.specs.declared.fault.RigFault.TheVariants.{Universe, Memory};
 
 use crate::fault::RigFault;
-use show_core::{CHANNELS, DIMMERS, SLOTS, Show, UNIVERSES};
+use show_core::{DIMMERS, SLOTS, Show};
 use std::alloc::{AllocError, Global};
 use std::marker::Model;
 
@@ -16,7 +17,7 @@ use std::marker::Model;
 pub const TOP_UNIVERSE: u32 = 63_999;
 
 /// The patch of a show, and the number of the universe of ordinal 0: what makes frames of levels.
-#[derive(Drop)]
+#[derive(Debug, Drop)]
 pub struct Rig {
     base: u16,
     dimmers: Vec<(u16, (u16, u8))>,
@@ -32,7 +33,9 @@ impl Model for Rig {
     ghost use Rattle.std.specs.FinMap as map;
     ghost use Rattle.show_core.specs.Tables.{PatchMap};
 
-    ghost coded = { code_by (ℕ × PatchMap) (coded× coded_ℕ (map.code coded_ℕ (coded× coded_ℕ coded_ℕ))) (λ r. (r.base, r.patch)) (λ p. record { base = p.0; patch = p.1 }) (λ _. refl) };
+    ghost coded = { code_by (ℕ × PatchMap)
+        (coded× coded_ℕ (map.code coded_ℕ (coded× coded_ℕ coded_ℕ)))
+        (λ r. (r.base, r.patch)) (λ p. record { base = p.0; patch = p.1 }) (λ _. refl) };
 
     ghost use Rattle.patch_core.specs.Inside.{rig_view, IsRig};
 
@@ -46,19 +49,21 @@ impl Rig {
     ///
     /// # Errors
     ///
-    /// `Universe` where `base`, or `base` plus an ordinal with a patched dimmer, is not 1 to 63999; else `Memory` where a growth was refused.
+    /// `Universe` where `base`, or `base` plus an ordinal with a patched dimmer, is not 1 to 63999,
+    /// so where `has_numbers` does not hold; else `Memory` where a growth was refused.
     pub fn new(alloc: Global, show: &Show, base: u16) -> Result<Rig, RigFault>
         ensures rig { IfOk result (λ rig. rig ≡ record { base = base; patch = show.now.patch }) }
         ensures universe { (result ≡ Err Universe) ↔ IsFalse (is_base show.now.patch base) }
     {
-        if !is_base(show, base) {
+        if !has_numbers(show, base) {
             return Err(RigFault::Universe);
         }
         let dimmers = patched_dimmers(alloc, show)?;
         Ok(Rig { base, dimmers })
     }
 
-    /// The number of the universe of ordinal 0. Each universe with a patched dimmer has a number, too.
+    /// The number of the universe of ordinal 0. Each universe with a patched dimmer has a number,
+    /// too.
     pub fn base(&self) -> u16
         ensures base { result ≡ self.now.base }
         ensures range { IsTrue (is_base self.now.patch result) }
@@ -66,13 +71,14 @@ impl Rig {
         self.base
     }
 
-    /// Writes the frame of the universe of ordinal `k`, 0 to 15: for each patched dimmer its channel's level, scaled by the grand master
-    /// and by the dimmer's own byte, to the nearest byte; 0 for each other dimmer.
+    /// Writes the frame of the universe of ordinal `k`, 0 to 15: for each patched dimmer its
+    /// channel's level, scaled by the grand master and by the dimmer's own byte, to the nearest
+    /// byte; 0 for each other dimmer.
     ///
     /// `levels` has a level for each channel, from 0 to 65025, beginning with channel 1.
     pub fn frame(&self, k: u16, levels: &[u32], grand: u8, out: &mut [u8; 512])
-        requires ordinal { k < UNIVERSES }
-        requires each_channel { length levels.now ≡ CHANNELS }
+        requires ordinal { k < 16 }
+        requires each_channel { length levels.now ≡ 4096 }
         requires full { All (λ level. level ≤ 65025) levels.now }
         ensures { out.new ≡ frame_of self.now.patch (level_in levels.now) grand k }
     {
@@ -94,15 +100,17 @@ fn is_universe(number: u32) -> bool
     (1..=TOP_UNIVERSE).contains(&number)
 }
 
+/// Whether the universes of a show have numbers from 1 to 63999, with `base` as that of ordinal 0:
+/// `base` itself, and `base` plus each ordinal with a patched dimmer. It takes no memory.
 #[tactic(auto, unfolding(crate::specs::Frame::is_base))]
-fn is_base(show: &Show, base: u16) -> bool
+pub fn has_numbers(show: &Show, base: u16) -> bool
     ensures { result ≡ is_base show.now.patch base }
 {
-    is_universe(u32::from(base)) && have_numbers(base, &show.universes())
+    is_universe(u32::from(base)) && are_universes(base, &show.universes())
 }
 
-// Whether the universe of each ordinal has a number.
-fn have_numbers(base: u16, ordinals: &[u16]) -> bool
+// Whether the base plus each ordinal is a universe number.
+fn are_universes(base: u16, ordinals: &[u16]) -> bool
     ensures { result ≡ list_all (λ ordinal. is_universe (base + ordinal)) ordinals.now }
 {
     ordinals.iter().all(|ordinal| is_universe(u32::from(base) + u32::from(*ordinal)))

@@ -1,6 +1,6 @@
 ghost use Rattle.std.specs.Prelude.{◌<◌};
 
-use crate::{Rig, RigFault, max_into};
+use crate::{Rig, RigFault, has_numbers, max_into};
 use show_core::{BuildFault, Show};
 use std::alloc::Global;
 use std::process::Abort;
@@ -125,17 +125,20 @@ fn universe_limit(rt: HostRuntime) -> Result<(), Fail> {
         (65535, Some(RigFault::Universe)),
     ] {
         assert!(rt; fault_of(rt.alloc(), &show, base) == fault, "base {base}");
+        assert!(rt; has_numbers(&show, base) == fault.is_none(), "base {base}");
     }
     show.set_patch(513, 1, 255)?;
     for (base, fault) in [(63998, None), (63999, Some(RigFault::Universe))] {
         assert!(rt; fault_of(rt.alloc(), &show, base) == fault, "base {base}");
+        assert!(rt; has_numbers(&show, base) == fault.is_none(), "base {base}");
     }
     let rig = Rig::new(rt.alloc(), &show, 63998).expect(&rt, "a rig");
     assert!(rt; rig.base() == 63998);
     Ok(())
 }
 
-// `rt try --test --fail-alloc N` refuses the Nth growth: N of 1 and 2 refuses each growth of this test in turn, and it passes each time. The other tests then answer their error.
+// `rt try --test --fail-alloc N` refuses the Nth growth: N of 1 and 2 refuses each growth of this
+// test in turn, and it passes each time. The other tests then answer their error.
 #[test]
 fn each_growth_refused(rt: HostRuntime) {
     let mut show = Show::new(rt.alloc());

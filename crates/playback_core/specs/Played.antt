@@ -33,8 +33,8 @@ goto_target cues n = if map.contains_key cues n then Some n else None
 abbrev pub cue_at : Tables → ℕ → CueData
 cue_at show n = unwrap_or (map.get show.cues n) blank
 
--- the level of a channel at a moment after these moves: 0 before the first; a move fades from the level at its moment
--- to 255 times the byte in its cue, at the cue's rates
+-- the level of a channel at a moment after these moves: 0 before the first; a move fades from the
+-- level at its moment to 255 times the byte in its cue, at the cue's rates
 abbrev pub playback_level : Tables → List Move → ℕ → ℕ → ℕ
 playback_level show [] channel moment = 0
 playback_level show (move ∷ older) channel moment =

@@ -23,8 +23,9 @@ pub enum NoMove {
 
 /// The current cue of a show, and the level of each of 4096 channels on the way to it.
 ///
-/// All calls are given equal shows. Moments are in milliseconds, below 2^48, and never go back; the latest given is 0 at first.
-/// A move starts every channel from its level at that moment, and aims at the whole look of the cue, with the cue's times.
+/// All calls are given equal shows. Moments are in milliseconds, below 2^48, and never go back; the
+/// latest given is 0 at first. A move starts every channel from its level at that moment, and aims
+/// at the whole look of the cue, with the cue's times.
 ///
 /// Only `new` takes memory.
 #[derive(Drop)]
@@ -102,7 +103,8 @@ impl<F: Fader> Playback<F> {
         self.goto(show, cue, moment)
     }
 
-    /// Moves to cue `n` (in thousandths), also where it is the current one: its fade then starts anew from the present levels.
+    /// Moves to cue `n` (in thousandths), also where it is the current one: its fade then starts
+    /// anew from the present levels.
     ///
     /// # Errors
     ///
@@ -123,7 +125,8 @@ impl<F: Fader> Playback<F> {
         Ok(n)
     }
 
-    /// Moves on to this moment. It moves to no cue, so the levels do not depend on how often it is called.
+    /// Moves on to this moment. It moves to no cue, so the levels do not depend on how often it is
+    /// called.
     pub fn advance(&mut self, moment: u64)
         requires not_before { F.latest self.old.fader ≤ moment }
         requires below { moment < 2 ^ 48 }

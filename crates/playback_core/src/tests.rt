@@ -14,7 +14,8 @@ fn add_cue(rt: &impl Abort, show: &mut Show, n: u32, channel: u16) -> Result<(),
     show.cue_level(n, channel, 255)
 }
 
-// Cue 1 brings channel 1 to full over five seconds; cue 2 brings channel 2 to full over two, and channel 1 out over four.
+// Cue 1 brings channel 1 to full over five seconds; cue 2 brings channel 2 to full over two, and
+// channel 1 out over four.
 fn two_cues(rt: &impl Abort, alloc: Global) -> Result<Show, BuildFault> {
     let mut show = Show::new(alloc);
     add_cue(rt, &mut show, 1000, 1)?;
@@ -149,8 +150,8 @@ fn go_back_goto(rt: HostRuntime) -> Result<(), Fail> {
     Ok(())
 }
 
-// `rt try --test --fail-alloc N` refuses the Nth growth: N from 1 to 2 refuses each growth of `new` in turn,
-// and this test passes each time. The other tests then answer their error.
+// `rt try --test --fail-alloc N` refuses the Nth growth: N from 1 to 2 refuses each growth of `new`
+// in turn, and this test passes each time. The other tests then answer their error.
 #[test]
 fn each_growth_refused(rt: HostRuntime) {
     let playback: Playback<PlainFader> = match Playback::new(rt.alloc()) {
