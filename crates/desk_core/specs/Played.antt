@@ -1,17 +1,21 @@
 -- What a console does: its calls, why one is refused, and the moves and settings that the accepted
 -- ones make.
-use Rattle.std.specs.Prelude.{ℕ, ◌+◌, ◌^◌, Bool, true, false, List, [], ◌∷◌, Option, Some, None, Result, Ok, Err, is_some, nat_lt, nat_le, if◌then◌else◌}
+use Rattle.std.specs.Prelude.{ℕ, ◌+◌, ◌^◌, nat_lt, nat_le, Bool, true, false, if◌then◌else◌}
+use Rattle.std.specs.Prelude.{List, [], ◌∷◌, Option, Some, None, is_some, Result, Ok, Err}
 use Rattle.std.specs.Option.{option_or}
 use Rattle.std.specs.FinMap as map
 use Rattle.show_core.specs.Tables.{Tables}
 use Rattle.playback_core.specs.Played.{Move, current_after, go_target, back_target, goto_target}
 use Rattle.master_core.specs.Settings.{Setting, sub_setting, group_setting, grand_setting}
 use Rattle.desk_core.specs.declared.command.Command.{Command}
-use Rattle.desk_core.specs.declared.command.Command.TheVariants.{Go, Back, Goto, Sub, Group, Master, End}
+use Rattle.desk_core.specs.declared.command.Command.TheVariants.{Go, Back, Goto, Sub, Group}
+use Rattle.desk_core.specs.declared.command.Command.TheVariants.{Master, End}
 use Rattle.desk_core.specs.declared.answer.Ticked.{Ticked}
 use Rattle.desk_core.specs.declared.answer.Ticked.TheVariants.{Live, Ending}
 use Rattle.desk_core.specs.declared.answer.Refused.{Refused}
-use Rattle.desk_core.specs.declared.answer.Refused.TheVariants.{Backwards, MomentTooLarge, Ended, TooSoon, AtEnd, AtStart, NoCue, NoSub, NoGroup}
+use Rattle.desk_core.specs.declared.answer.Refused.TheVariants.{Backwards, MomentTooLarge, Ended}
+use Rattle.desk_core.specs.declared.answer.Refused.TheVariants.{TooSoon, AtEnd, AtStart, NoCue}
+use Rattle.desk_core.specs.declared.answer.Refused.TheVariants.{NoSub, NoGroup}
 
 -- a call: a command of the operator, or a tick, at which the universes are shown anew
 pub data Call : Type 0 where
@@ -65,7 +69,8 @@ moved_to (Some n) moment older = record { cue = n; moment = moment } ∷ older
 -- the moves of a history, the newest first
 abbrev pub moves : Tables → List Act → List Move
 moves show [] = []
-moves show (act ∷ older) = moved_to (target show (current_after (moves show older)) act.call) act.moment (moves show older)
+moves show (act ∷ older) =
+    moved_to (target show (current_after (moves show older)) act.call) act.moment (moves show older)
 
 -- a setting more, where the call sets a master
 abbrev pub set_by : Call → List Setting → List Setting
@@ -106,17 +111,24 @@ untimely last moment over soon =
 
 -- the refusal of a command whose cue, submaster or group the show does not have
 abbrev pub lacking : Tables → Option ℕ → Call → Option Refused
-lacking show current (order Go) = if is_some (go_target show.cues current) then None else Some AtEnd
-lacking show current (order Back) = if is_some (back_target show.cues current) then None else Some AtStart
-lacking show current (order (Goto n)) = if is_some (goto_target show.cues n) then None else Some NoCue
-lacking show current (order (Sub n byte)) = if map.contains_key show.subs n then None else Some NoSub
-lacking show current (order (Group n byte)) = if map.contains_key show.groups n then None else Some NoGroup
+lacking show current (order Go) =
+    if is_some (go_target show.cues current) then None else Some AtEnd
+lacking show current (order Back) =
+    if is_some (back_target show.cues current) then None else Some AtStart
+lacking show current (order (Goto n)) =
+    if is_some (goto_target show.cues n) then None else Some NoCue
+lacking show current (order (Sub n byte)) =
+    if map.contains_key show.subs n then None else Some NoSub
+lacking show current (order (Group n byte)) =
+    if map.contains_key show.groups n then None else Some NoGroup
 lacking show current _ = None
 
 -- why a call is refused after a history: the lowest refusal that applies, if any does
 abbrev pub refusal : Tables → List Act → Act → Option Refused
 refusal show history act =
-    option_or (untimely (last_moment history) act.moment (is_over (ended history) act.call) (is_soon (last_tick history) act.moment act.call))
+    option_or
+    (untimely (last_moment history) act.moment (is_over (ended history) act.call)
+    (is_soon (last_tick history) act.moment act.call))
     (lacking show (current_after (moves show history)) act.call)
 
 -- the answer of a call: its refusal, or else this

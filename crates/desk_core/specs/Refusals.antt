@@ -4,7 +4,8 @@ use Rattle.playback_core.specs.declared.playback.NoMove.TheVariants as moves
 use Rattle.master_core.specs.declared.fault.NoMaster.{NoMaster}
 use Rattle.master_core.specs.declared.fault.NoMaster.TheVariants as masters
 use Rattle.desk_core.specs.declared.answer.Refused.{Refused}
-use Rattle.desk_core.specs.declared.answer.Refused.TheVariants.{AtEnd, AtStart, NoCue, NoSub, NoGroup}
+use Rattle.desk_core.specs.declared.answer.Refused.TheVariants.{AtEnd, AtStart, NoCue}
+use Rattle.desk_core.specs.declared.answer.Refused.TheVariants.{NoSub, NoGroup}
 
 abbrev pub refused_move : NoMove → Refused
 refused_move moves.AtEnd = AtEnd

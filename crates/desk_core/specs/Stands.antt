@@ -1,6 +1,5 @@
 -- What a desk keeps, against its history.
 use Rattle.std.specs.Prelude.{◌≡◌, ◌<◌, ℕ, List, Some, slice_get}
-use Rattle.show_core.specs.declared.limits.TheConstants.{UNIVERSES}
 use Rattle.show_core.specs.Tables.{Tables}
 use Rattle.fade_core.specs.Level.{Start}
 use Rattle.playback_core.specs.Stands as playback
@@ -11,7 +10,8 @@ use Rattle.desk_core.specs.Meaning.{latest_frame}
 
 -- a desk stands for a history of a show with a base: each part that it keeps is what the history
 -- leaves
-pub record StandsFor {F : Type 0} (fader_stands_for : F → List Start → Type 0) (show : Tables) (base : ℕ) (desk : DeskState F) (history : List Act) : Type 0 where
+pub record StandsFor {F : Type 0} (fader_stands_for : F → List Start → Type 0) (show : Tables)
+    (base : ℕ) (desk : DeskState F) (history : List Act) : Type 0 where
   pub show_is : desk.show ≡ show
   pub base_is : desk.base ≡ base
   pub playback_stands : playback.StandsFor fader_stands_for show desk.playback (moves show history)
@@ -19,4 +19,5 @@ pub record StandsFor {F : Type 0} (fader_stands_for : F → List Start → Type 
   pub moment_is : desk.last_moment ≡ last_moment history
   pub tick_is : desk.last_tick ≡ last_tick history
   pub ended_is : desk.ended ≡ ended history
-  pub frames_are : (ordinal : ℕ) → ordinal < UNIVERSES → slice_get desk.frames ordinal ≡ Some (latest_frame show history ordinal)
+  pub frames_are : (ordinal : ℕ) → ordinal < 16
+      → slice_get desk.frames ordinal ≡ Some (latest_frame show history ordinal)

@@ -3,6 +3,7 @@ ghost use Rattle.desk_core.specs.Refusals.{refused_move, refused_master};
 
 use master_core::NoMaster;
 use playback_core::NoMove;
+use thiserror::Error;
 
 /// What a tick is.
 #[derive(Clone, Copy, Debug, PartialEq, Eq)]
@@ -15,25 +16,34 @@ pub enum Ticked {
 }
 
 /// Why a call is refused: the first of these that applies. A refused call changes nothing.
-#[derive(Clone, Copy, Debug, PartialEq, Eq)]
+#[derive(Clone, Copy, Debug, PartialEq, Eq, Error)]
 pub enum Refused {
     /// The moment is before that of the last accepted call.
+    #[error("the moment is before that of the last call")]
     Backwards,
     /// The moment is 2^48 milliseconds or more.
+    #[error("the moment is 2^48 milliseconds or more")]
     MomentTooLarge,
     /// A command after End, or a tick after the third since End.
+    #[error("the show has ended")]
     Ended,
     /// A tick less than 23 milliseconds after the last accepted one.
+    #[error("less than 23 milliseconds after the last tick")]
     TooSoon,
     /// Go, and no cue is above the current one.
+    #[error("no cue above the current one")]
     AtEnd,
     /// Back, and the current cue is the first, or there is none.
+    #[error("no cue below the current one")]
     AtStart,
     /// Goto, and the show has no such cue.
+    #[error("no such cue")]
     NoCue,
     /// The show has no such submaster.
+    #[error("no such submaster")]
     NoSub,
     /// The show has no such group.
+    #[error("no such group")]
     NoGroup,
 }
 

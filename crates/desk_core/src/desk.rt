@@ -1,4 +1,5 @@
-ghost use Rattle.std.specs.Prelude.{◌≡◌, ◌↔◌, ℕ, ◌-◌, ◌^◌, ◌<◌, ◌≤◌, IsTrue, IsFalse, IfOk, OnOk, OnErr, Err, None, Some, List, [], ◌∷◌, All, Contains};
+ghost use Rattle.std.specs.Prelude.{◌≡◌, ◌↔◌, ℕ, ◌-◌, ◌^◌, ◌<◌, ◌≤◌, List, [], ◌∷◌, All, Contains};
+ghost use Rattle.std.specs.Prelude.{IsTrue, IsFalse, IfOk, OnOk, OnErr, Err, None, Some};
 ghost use Rattle.std.specs.List.Sorted.{IsStrictlyIncreasing};
 ghost use Rattle.show_core.specs.Tables.{Tables};
 ghost use Rattle.playback_core.specs.Played.{current_after};
@@ -6,7 +7,9 @@ ghost use Rattle.playback_core.specs.Stands as playback_stands;
 ghost use Rattle.master_core.specs.Settings as masters_stand;
 ghost use Rattle.patch_core.specs.Frame.{is_universe, is_base};
 ghost use Rattle.patch_core.specs.declared.fault.RigFault.TheVariants.{Universe};
-ghost use Rattle.desk_core.specs.Played.{Act, order, tick, ended, ended_by, moves, settings, untimely, is_over, is_soon, lacking, refusal, outcome, ticked};
+ghost use Rattle.desk_core.specs.Played.{Act, order, tick, ended, ended_by, moves, settings};
+ghost use Rattle.desk_core.specs.Played.{untimely, is_over, is_soon, lacking, refusal};
+ghost use Rattle.desk_core.specs.Played.{outcome, ticked};
 ghost use Rattle.desk_core.specs.Meaning.{latest_frame, universe_numbers};
 ghost use Rattle.desk_core.specs.Stands.{StandsFor};
 
@@ -76,7 +79,8 @@ impl<F: Fader> Model for Desk<F> {
 
     ghost use Rattle.desk_core.specs.Inside.{IsDesk};
 
-    ghost invariant = { λ d. IsDesk (F.latest d.playback.fader) d.last_moment d.rig.patch d.show d.levels.items d.frames.items };
+    ghost invariant = { λ d. IsDesk (F.latest d.playback.fader) d.last_moment d.rig.patch d.show
+        d.levels.items d.frames.items };
 }
 
 impl<F: Fader> Desk<F> {
@@ -118,10 +122,14 @@ impl<F: Fader> Desk<F> {
     /// The first of `Backwards`, `MomentTooLarge`, `Ended`, `AtEnd`, `AtStart`, `NoCue`, `NoSub`
     /// and `NoGroup` that applies; then nothing changed.
     pub fn command(&mut self, moment: u64, command: Command) -> Result<(), Refused>
-        ensures answer { (show : Tables) (base : ℕ) (history : List Act) → StandsFor F.stands_for show base self.old history
-            → result ≡ outcome (refusal show history (record { moment = moment; call = order command })) tt }
-        ensures stands { OnOk result ((show : Tables) (base : ℕ) (history : List Act) → StandsFor F.stands_for show base self.old history
-            → StandsFor F.stands_for show base self.new (record { moment = moment; call = order command } ∷ history)) }
+        ensures answer { (show : Tables) (base : ℕ) (history : List Act)
+            → StandsFor F.stands_for show base self.old history
+            → let act : Act = record { moment = moment; call = order command } in
+            result ≡ outcome (refusal show history act) tt }
+        ensures stands { OnOk result ((show : Tables) (base : ℕ) (history : List Act)
+            → StandsFor F.stands_for show base self.old history
+            → let act : Act = record { moment = moment; call = order command } in
+            StandsFor F.stands_for show base self.new (act ∷ history)) }
         ensures unchanged { OnErr result (self.new ≡ self.old) }
     {
         if let Some(refused) = untimely(self.last_moment, moment, self.ended.is_some(), false) {
@@ -146,10 +154,14 @@ impl<F: Fader> Desk<F> {
     /// The first of `Backwards`, `MomentTooLarge`, `Ended` and `TooSoon` that applies; then nothing
     /// changed.
     pub fn tick(&mut self, moment: u64) -> Result<Ticked, Refused>
-        ensures answer { (show : Tables) (base : ℕ) (history : List Act) → StandsFor F.stands_for show base self.old history
-            → result ≡ outcome (refusal show history (record { moment = moment; call = tick })) (ticked (ended history)) }
-        ensures stands { OnOk result ((show : Tables) (base : ℕ) (history : List Act) → StandsFor F.stands_for show base self.old history
-            → StandsFor F.stands_for show base self.new (record { moment = moment; call = tick } ∷ history)) }
+        ensures answer { (show : Tables) (base : ℕ) (history : List Act)
+            → StandsFor F.stands_for show base self.old history
+            → let act : Act = record { moment = moment; call = tick } in
+            result ≡ outcome (refusal show history act) (ticked (ended history)) }
+        ensures stands { OnOk result ((show : Tables) (base : ℕ) (history : List Act)
+            → StandsFor F.stands_for show base self.old history
+            → let act : Act = record { moment = moment; call = tick } in
+            StandsFor F.stands_for show base self.new (act ∷ history)) }
         ensures unchanged { OnErr result (self.new ≡ self.old) }
     {
         let over = is_over(self.ended);
@@ -173,8 +185,10 @@ impl<F: Fader> Desk<F> {
         requires not_before { self.old.last_moment ≤ moment }
         requires below { moment < 2 ^ 48 }
         requires live { self.old.ended ≡ None }
-        ensures { (show : Tables) (base : ℕ) (history : List Act) → StandsFor F.stands_for show base self.old history
-            → StandsFor F.stands_for show base self.new (record { moment = moment; call = tick } ∷ history) }
+        ensures { (show : Tables) (base : ℕ) (history : List Act)
+            → StandsFor F.stands_for show base self.old history
+            → let act : Act = record { moment = moment; call = tick } in
+            StandsFor F.stands_for show base self.new (act ∷ history) }
     {
         self.playback.advance(moment);
         merge_levels(&mut self.levels, &self.show, &self.playback, &self.masters);
@@ -194,8 +208,10 @@ impl<F: Fader> Desk<F> {
         requires not_before { self.old.last_moment ≤ moment }
         requires ending { self.old.ended ≡ Some (ticks - 1) }
         requires from_one { 1 ≤ ticks }
-        ensures { (show : Tables) (base : ℕ) (history : List Act) → StandsFor F.stands_for show base self.old history
-            → StandsFor F.stands_for show base self.new (record { moment = moment; call = tick } ∷ history) }
+        ensures { (show : Tables) (base : ℕ) (history : List Act)
+            → StandsFor F.stands_for show base self.old history
+            → let act : Act = record { moment = moment; call = tick } in
+            StandsFor F.stands_for show base self.new (act ∷ history) }
     {
         darken(&mut self.frames);
         self.ended = Some(ticks);
@@ -222,7 +238,8 @@ impl<F: Fader> Desk<F> {
     /// and from the first after End on.
     pub fn slots(&self, universe: u16) -> &[u8; 512]
         requires { Contains (universe_numbers self.now.show.patch self.now.base) universe }
-        ensures { (show : Tables) (base : ℕ) (history : List Act) → StandsFor F.stands_for show base self.now history
+        ensures { (show : Tables) (base : ℕ) (history : List Act)
+            → StandsFor F.stands_for show base self.now history
             → result.now ≡ latest_frame show history (universe - base) }
     {
         &self.frames[usize::from(universe - self.rig.base())]
@@ -230,7 +247,8 @@ impl<F: Fader> Desk<F> {
 
     /// The current cue, in thousandths: that of the latest move.
     pub fn current(&self) -> Option<u32>
-        ensures { (show : Tables) (base : ℕ) (history : List Act) → StandsFor F.stands_for show base self.now history
+        ensures { (show : Tables) (base : ℕ) (history : List Act)
+            → StandsFor F.stands_for show base self.now history
             → result ≡ current_after (moves show history) }
     {
         self.playback.current()
@@ -289,10 +307,15 @@ fn carry_out<F: Fader>(
     requires not_before { F.latest playback.old.fader ≤ moment }
     requires below { moment < 2 ^ 48 }
     ensures answer { result ≡ outcome (lacking show.now playback.old.current (order command)) tt }
-    ensures playback { OnOk result ((history : List Act) → playback_stands.StandsFor F.stands_for show.now playback.old (moves show.now history)
-        → playback_stands.StandsFor F.stands_for show.now playback.new (moves show.now (record { moment = moment; call = order command } ∷ history))) }
-    ensures masters { OnOk result ((history : List Act) → masters_stand.StandsFor masters.old (settings history)
-        → masters_stand.StandsFor masters.new (settings (record { moment = moment; call = order command } ∷ history))) }
+    ensures playback { OnOk result ((history : List Act)
+        → playback_stands.StandsFor F.stands_for show.now playback.old (moves show.now history)
+        → let act : Act = record { moment = moment; call = order command } in
+        playback_stands.StandsFor F.stands_for show.now playback.new
+        (moves show.now (act ∷ history))) }
+    ensures masters { OnOk result ((history : List Act)
+        → masters_stand.StandsFor masters.old (settings history)
+        → let act : Act = record { moment = moment; call = order command } in
+        masters_stand.StandsFor masters.new (settings (act ∷ history))) }
     ensures not_ahead { F.latest playback.new.fader ≤ moment }
     ensures playback_unchanged { OnErr result (playback.new ≡ playback.old) }
     ensures masters_unchanged { OnErr result (masters.new ≡ masters.old) }

@@ -1,4 +1,5 @@
-ghost use Rattle.std.specs.Prelude.{◌≡◌, ◌<◌, ◌≤◌, ◌-◌, ℕ, List, Some, All, IsTrue, IfOk, length, replicate, slice_get, slice_index};
+ghost use Rattle.std.specs.Prelude.{◌≡◌, ◌<◌, ◌≤◌, ◌-◌, ℕ, List, Some, All, IsTrue, IfOk};
+ghost use Rattle.std.specs.Prelude.{length, replicate, slice_get, slice_index};
 ghost use Rattle.show_core.specs.Numbers.{is_channel};
 ghost use Rattle.playback_core.specs.Played.{Move, playback_level};
 ghost use Rattle.playback_core.specs.Stands as playback_stands;
@@ -16,7 +17,7 @@ use std::alloc::{AllocError, Global};
 
 // A frame for each ordinal, with every slot at 0.
 pub fn dark_frames(alloc: Global) -> Result<Vec<[u8; 512]>, AllocError>
-    ensures { IfOk result (λ frames. frames.items ≡ replicate UNIVERSES dark) }
+    ensures { IfOk result (λ frames. frames.items ≡ replicate 16 dark) }
 {
     let mut frames = Vec::with_capacity(alloc, usize::from(UNIVERSES))?;
     for _ordinal in 0..UNIVERSES {
@@ -32,10 +33,12 @@ pub fn merge_levels<F: Fader>(
     playback: &Playback<F>,
     masters: &Masters,
 )
-    requires { length levels.old ≡ CHANNELS }
-    ensures merged { (moves : List Move) (settings : List masters_stand.Setting) → playback_stands.StandsFor F.stands_for show.now playback.now moves
+    requires { length levels.old ≡ 4096 }
+    ensures merged { (moves : List Move) (settings : List masters_stand.Setting)
+        → playback_stands.StandsFor F.stands_for show.now playback.now moves
         → masters_stand.StandsFor masters.now settings → (channel : ℕ) → IsTrue (is_channel channel)
-        → level_in levels.new channel ≡ level_after show.now settings channel (playback_level show.now moves channel (F.latest playback.now.fader)) }
+        → let playback_is = playback_level show.now moves channel (F.latest playback.now.fader) in
+        level_in levels.new channel ≡ level_after show.now settings channel playback_is }
     ensures full { All (λ level. level ≤ 65025) levels.new }
 {
     for channel in 1..=CHANNELS {
@@ -45,10 +48,11 @@ pub fn merge_levels<F: Fader>(
 
 // Writes the frame of each ordinal.
 pub fn draw(frames: &mut [[u8; 512]], rig: &Rig, levels: &[u32], grand: u8)
-    requires each_ordinal { length frames.old ≡ UNIVERSES }
-    requires each_channel { length levels.now ≡ CHANNELS }
+    requires each_ordinal { length frames.old ≡ 16 }
+    requires each_channel { length levels.now ≡ 4096 }
     requires full { All (λ level. level ≤ 65025) levels.now }
-    ensures { (ordinal : ℕ) → ordinal < UNIVERSES → slice_get frames.new ordinal ≡ Some (frame_of rig.now.patch (level_in levels.now) grand ordinal) }
+    ensures { (ordinal : ℕ) → ordinal < 16 → slice_get frames.new ordinal
+        ≡ Some (frame_of rig.now.patch (level_in levels.now) grand ordinal) }
 {
     for ordinal in 0..UNIVERSES {
         rig.frame(ordinal, levels, grand, &mut frames[usize::from(ordinal)]);
@@ -57,7 +61,8 @@ pub fn draw(frames: &mut [[u8; 512]], rig: &Rig, levels: &[u32], grand: u8)
 
 // Puts every slot at 0.
 pub fn darken(frames: &mut [[u8; 512]])
-    ensures { (ordinal : ℕ) → ordinal < length frames.old → slice_get frames.new ordinal ≡ Some dark }
+    ensures { (ordinal : ℕ) → ordinal < length frames.old
+        → slice_get frames.new ordinal ≡ Some dark }
 {
     for frame in frames.iter_mut() {
         *frame = [0; 512];

@@ -1,3 +1,4 @@
 pub mod Playing
 pub mod Played
+pub mod Laws
 pub mod Stands

@@ -1,5 +1,6 @@
 -- The moves of a playback: which cue each takes, and the levels after them.
-use Rattle.std.specs.Prelude.{ℕ, ◌-◌, ◌*◌, List, [], ◌∷◌, Option, Some, None, unwrap_or, option_and_then, if◌then◌else◌}
+use Rattle.std.specs.Prelude.{ℕ, ◌-◌, ◌*◌, List, [], ◌∷◌, if◌then◌else◌}
+use Rattle.std.specs.Prelude.{Option, Some, None, unwrap_or, option_and_then}
 use Rattle.std.specs.FinMap as map
 use Rattle.show_core.specs.declared.cue.CueData.{CueData}
 use Rattle.show_core.specs.Builders.{blank}
@@ -51,4 +52,9 @@ playback_target show (move ∷ older) channel = 255 * level_in (cue_at show move
 abbrev pub start_of : Tables → Move → Start
 start_of show move =
     let cue = cue_at show move.cue in
-    record { look = map.entries cue.levels; up = rate_of cue.up cue.down; down = rate_of cue.down cue.up; moment = move.moment }
+    record {
+      look = map.entries cue.levels;
+      up = rate_of cue.up cue.down;
+      down = rate_of cue.down cue.up;
+      moment = move.moment;
+    }

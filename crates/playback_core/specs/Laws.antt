@@ -1,0 +1,13 @@
+-- Laws over the definitions alone.
+use Rattle.std.specs.Prelude.{ℕ, ◌≤◌, List}
+use Rattle.show_core.specs.Tables.{Tables}
+use Rattle.fade_core.specs.Level.{IsTowards}
+use Rattle.playback_core.specs.Played.{Move, playback_level, playback_target}
+
+-- between two moves a playback never turns back: as time passes, each channel goes from its level
+-- towards its target
+abbrev pub PlaybacksNeverTurnBack : Type 0
+PlaybacksNeverTurnBack =
+    (show : Tables) (moves : List Move) (channel x y : ℕ) → x ≤ y
+    → IsTowards (playback_level show moves channel x) (playback_target show moves channel)
+    (playback_level show moves channel y)
