@@ -96,8 +96,6 @@ impl<F: Fader> Desk<F> {
         ensures universe { (result ≡ Err Universe) ↔ IsFalse (is_base show.now.patch base) }
     {
         let rig = Rig::new(alloc, show, base)?;
-        // Its clauses say that the numbers of a show are in their ranges.
-        let _counts = show.counts();
         let show = show.clone_in(alloc)?;
         let playback = Playback::new(alloc)?;
         let levels = vec![in alloc; 0; usize::from(CHANNELS)]?;

@@ -15,10 +15,6 @@ fade a b rate elapsed =
     else (if nat_lt a b then a + (b - a) * (elapsed - rate.delay) / rate.time
     else a - (a - b) * (elapsed - rate.delay) / rate.time))
 
--- the range of a rate: a time and a delay of at most 5999990 milliseconds, as a show's
-abbrev pub IsRate : Rate → Type 0
-IsRate rate = (rate.time ≤ 5999990) × (rate.delay ≤ 5999990)
-
 -- a rising level goes at the rate for rising ones, any other at the rate for falling ones
 unfoldable pub split_fade : ℕ → ℕ → Rate → Rate → ℕ → ℕ
 split_fade a b up down = fade a b (if nat_lt a b then up else down)

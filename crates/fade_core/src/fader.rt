@@ -1,7 +1,8 @@
 ghost use Rattle.std.specs.Prelude.{◌≡◌, ℕ, ◌^◌, ◌<◌, ◌≤◌, IsTrue, List, [], ◌∷◌, All, IfOk};
 ghost use Rattle.std.specs.Ordering.{nat_cmp};
 ghost use Rattle.std.specs.FinMap.{is_sorted};
-ghost use Rattle.fade_core.specs.Level.{Start, IsRate, level_after};
+ghost use Rattle.show_core.specs.Readers.{IsRateInRange};
+ghost use Rattle.fade_core.specs.Level.{Start, level_after};
 
 use show_core::Rate;
 use std::alloc::{AllocError, Global};
@@ -40,13 +41,13 @@ pub trait Fader: Drop {
         ensures channels { IfOk result (λ fader. channels fader ≡ channel_count) };
 
     /// Starts a fade of all channels, from their levels at this moment, to the look: pairs of a
-    /// channel and its level byte, the channels strictly ascending. Each part of a rate is at most
-    /// 5,999,990 milliseconds.
+    /// channel and its level byte, the channels strictly ascending. Each time and delay is at most
+    /// 5,999,990 milliseconds, as `Rate::is_in_range` tests.
     fn start(&mut self, look: &[(u16, u8)], up: Rate, down: Rate, moment: u64)
         requires ascending { IsTrue (is_sorted nat_cmp look.now) }
         requires in_range { All (λ pair. (1 ≤ pair.0) × (pair.0 ≤ channels self.old)) look.now }
-        requires up_range { IsRate up }
-        requires down_range { IsRate down }
+        requires up_range { IsRateInRange up }
+        requires down_range { IsRateInRange down }
         requires not_before { latest self.old ≤ moment }
         requires below { moment < 2 ^ 48 }
         ensures stands { (starts : List Start) → stands_for self.old starts

@@ -1,5 +1,5 @@
 ghost use Rattle.std.specs.Prelude.{◌≡◌, ◌^◌, ◌<◌, ◌≤◌, IfOk};
-ghost use Rattle.fade_core.specs.Level.{IsRate};
+ghost use Rattle.show_core.specs.Readers.{IsRateInRange};
 
 use crate::{Fader, PlainFader, Rate};
 use std::alloc::{AllocError, Global};
@@ -14,7 +14,7 @@ const SLOWEST: Rate = Rate {
 
 // A fader of four channels, the first of which starts to full at moment 0.
 fn rising<F: Fader>(alloc: Global, up: Rate) -> Result<F, AllocError>
-    requires { IsRate up }
+    requires { IsRateInRange up }
     ensures latest { IfOk result (λ fader. F.latest fader ≡ 0) }
     ensures channels { IfOk result (λ fader. F.channels fader ≡ 4) }
 {
@@ -25,7 +25,7 @@ fn rising<F: Fader>(alloc: Global, up: Rate) -> Result<F, AllocError>
 
 // The level at a moment to which a single call moves on.
 fn level_at<F: Fader>(alloc: Global, up: Rate, moment: u32) -> Result<u32, AllocError>
-    requires { IsRate up }
+    requires { IsRateInRange up }
 {
     let mut fader: F = rising(alloc, up)?;
     fader.advance(u64::from(moment));
@@ -34,7 +34,7 @@ fn level_at<F: Fader>(alloc: Global, up: Rate, moment: u32) -> Result<u32, Alloc
 
 // The level at a moment to which a call every 23 milliseconds moves on.
 fn level_by_ticks<F: Fader>(alloc: Global, up: Rate, moment: u32) -> Result<u32, AllocError>
-    requires { IsRate up }
+    requires { IsRateInRange up }
 {
     let mut fader: F = rising(alloc, up)?;
     for tick in 0..moment / 23 {

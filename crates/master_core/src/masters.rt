@@ -131,7 +131,7 @@ fn has_sub(show: &Show, n: u16) -> bool
     ensures there { result ≡ map.contains_key show.now.subs n }
     ensures range { OnTrue result (IsTrue (is_sub n)) }
 {
-    show.counts().subs > 0 && show.sub(n).is_some()
+    show.sub(n).is_some()
 }
 
 // Whether the show has the group; its number is then one of a group.
@@ -139,5 +139,5 @@ fn has_group(show: &Show, n: u16) -> bool
     ensures there { result ≡ map.contains_key show.now.groups n }
     ensures range { OnTrue result (IsTrue (is_group n)) }
 {
-    show.counts().groups > 0 && show.group(n).is_some()
+    show.group(n).is_some()
 }

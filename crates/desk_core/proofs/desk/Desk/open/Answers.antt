@@ -5,7 +5,7 @@ use Rattle.desk_core.proofs.desk.Desk.open.Goals as goal
 
 pub returns-clause-stands : goal.returns-clause-stands
 returns-clause-stands g c = record {
-  show_is = c.in_ok-show.ensures;
+  show_is = c.in_ok-show.ensures.copy;
   base_is = ap (λ r. r.base) c.in_ok-rig.ensures.rig;
   playback_stands = c.in_ok-playback.ensures.stands c.args.show.now;
   masters_stand = c.new-3.ensures;
