@@ -34,9 +34,9 @@ abbrev pub latest_frame : Tables → List Act → ℕ → List ℕ
 latest_frame show [] ordinal = dark
 latest_frame show (act ∷ older) ordinal =
     shown_by act.call (frame show older act.moment ordinal) (latest_frame show older ordinal) where
-  shown_by : Call → List ℕ → List ℕ → List ℕ
-  shown_by tick new before = new
-  shown_by (order command) new before = before
+      shown_by : Call → List ℕ → List ℕ → List ℕ
+      shown_by tick new before = new
+      shown_by (order command) new before = before
 
 -- the numbers of the universes (E1.31, Universe) that have a patched dimmer: the base plus the
 -- ordinal

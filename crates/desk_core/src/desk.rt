@@ -23,6 +23,7 @@ use patch_core::{Rig, RigFault};
 use playback_core::Playback;
 use show_core::{CHANNELS, Show};
 use std::alloc::Global;
+use std::fmt;
 use std::marker::Model;
 
 /// Moments are below this, 2^48 milliseconds.
@@ -81,6 +82,19 @@ impl<F: Fader> Model for Desk<F> {
 
     ghost invariant = { λ d. IsDesk (F.latest d.playback.fader) d.last_moment d.rig.patch d.show
         d.levels.items d.frames.items };
+}
+
+impl<F: Fader> fmt::Debug for Desk<F> {
+    // Without the show, the levels and the frames, which are long.
+    fn fmt<W: fmt::Write>(&self, f: &mut fmt::Formatter<W>) -> fmt::Result {
+        f.debug_struct("Desk")
+            .field("base", &self.rig.base())
+            .field("current", &self.current())
+            .field("last_moment", &self.last_moment)
+            .field("last_tick", &self.last_tick)
+            .field("ended", &self.ended)
+            .finish_non_exhaustive()
+    }
 }
 
 impl<F: Fader> Desk<F> {

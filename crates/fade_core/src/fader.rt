@@ -52,7 +52,11 @@ pub trait Fader: Drop {
         requires below { moment < 2 ^ 48 }
         ensures stands { (starts : List Start) → stands_for self.old starts
             → let start : Start = record {
-                look = look.now; up = up; down = down; moment = moment } in
+              look = look.now;
+              up = up;
+              down = down;
+              moment = moment;
+            } in
             stands_for self.new (start ∷ starts) }
         ensures latest { latest self.new ≡ moment }
         ensures channels { channels self.new ≡ channels self.old };

@@ -17,6 +17,7 @@ pub fn highest_sub(show: &Show, masters: &[u8; 101], channel: u16) -> u32
     ensures full { result ≤ 65025 }
 {
     let mut most: u32 = 0;
+    // Of a show without submasters no master is looked at.
     if show.counts().subs > 0 {
         for n in 1..=SUBMASTERS {
             let master = masters[usize::from(n)];
@@ -36,6 +37,7 @@ pub fn highest_group(show: &Show, masters: &[u8; 501], channel: u16) -> u32
     ensures full { result ≤ 65025 }
 {
     let mut most: u32 = 0;
+    // Of a show without groups no master is looked at.
     if show.counts().groups > 0 {
         for n in 1..=GROUPS {
             let master = masters[usize::from(n)];
