@@ -53,7 +53,8 @@ module _ (show : Tables) (is : IsSmall show) where
   one_tick = at 100 tick ∷ []
 
   desk_refusals : (refusal show one_tick (at 99 (order Go)) ≡ Some Backwards) × (refusal show one_tick (at 110 tick) ≡ Some TooSoon)
-      × (refusal show one_tick (at 281474976710656 tick) ≡ Some MomentTooLarge) × (refusal show one_tick (at 281474976710655 tick) ≡ None)
+      × (refusal show one_tick (at 281474976710656 tick) ≡ Some MomentTooLarge)
+      × (refusal show one_tick (at 281474976710655 tick) ≡ None)
       × (refusal show one_tick (at 100 (order (Goto 3000))) ≡ Some NoCue)
       × (refusal show one_tick (at 100 (order (Sub 2 1))) ≡ Some NoSub) × (refusal show one_tick (at 100 (order (Group 1 1))) ≡ Some NoGroup)
       × (refusal show one_tick (at 100 (order Go)) ≡ None)
@@ -87,7 +88,8 @@ module _ (show : Tables) (is : IsSmall show) where
 
   play_refusals : (refusal show [] (at 0 (order Back)) ≡ Some AtStart) × (refusal show (end_at 0) (at 0 (order Go)) ≡ Some Ended) × (refusal show (end_at 0) (at 0 tick) ≡ None)
       × (ticked (ended []) ≡ Live) × (ticked (ended (end_at 0)) ≡ Ending 1) × (ticked (ended (at 0 tick ∷ end_at 0)) ≡ Ending 2)
-      × (ticked (ended (at 23 tick ∷ at 0 tick ∷ end_at 0)) ≡ Ending 3) × (refusal show (at 23 tick ∷ at 0 tick ∷ end_at 0) (at 46 tick) ≡ None)
+      × (ticked (ended (at 23 tick ∷ at 0 tick ∷ end_at 0)) ≡ Ending 3)
+      × (refusal show (at 23 tick ∷ at 0 tick ∷ end_at 0) (at 46 tick) ≡ None)
       × (refusal show three_ticks (at 69 tick) ≡ Some Ended)
   unfolding end_at three_ticks
   play_refusals = (refl, refl, refl, refl, refl, refl, refl, refl, refl)

@@ -10,7 +10,8 @@ use Rattle.show_core.proofs.Sorted.{to_true}
 
 -- the pairs of a record are sorted
 pub pairs_sorted : (o : Option LevelMap) (ps : List (ℕ × ℕ))
-    → ◌≡◌ {A = Option (List (ℕ × ℕ))} (Some ps) (option_map entries o) → IsTrue (is_sorted nat_cmp ps)
+    → ◌≡◌ {A = Option (List (ℕ × ℕ))} (Some ps) (option_map entries o)
+    → IsTrue (is_sorted nat_cmp ps)
 pairs_sorted None ps h = cc
 pairs_sorted (Some m) ps h =
     let is : ps ≡ entries m = cc in
@@ -23,4 +24,5 @@ pub byte-pairs : (o : Option LevelMap) (ps : List (ℕ × ℕ)) (channel : ℕ)
 byte-pairs None ps channel h = cc
 byte-pairs (Some m) ps channel h =
     let is : ps ≡ entries m = cc in
-    ap (λ l. unwrap_or (find nat_cmp channel l) 0) is ∙ ap (λ o. unwrap_or o 0) (sym (get-entries m channel))
+    ap (λ l. unwrap_or (find nat_cmp channel l) 0) is
+    ∙ ap (λ o. unwrap_or o 0) (sym (get-entries m channel))

@@ -1,5 +1,6 @@
 -- What patches make of levels, evaluated.
-use Rattle.std.proofs.Common.{◌≡◌, ℕ, ◌+◌, ◌*◌, T, Bool, true, false, List, [], ◌∷◌, Option, Some, None, refl, ap}
+use Rattle.std.proofs.Common.{◌≡◌, ℕ, ◌+◌, ◌*◌, T, Bool, true, false, List, [], ◌∷◌, refl, ap}
+use Rattle.std.proofs.Common.{Option, Some, None}
 use Rattle.std.specs.Prelude.{◌==◌, ◌&&◌, filter, slice_get}
 use Rattle.std.specs.List.{list_all, list_any, range_with_len}
 use Rattle.std.specs.Option.{option_map_or}
@@ -31,7 +32,8 @@ unpatched_is_dark = ap (λ o. option_map_or (λ p. slot_of 32640 255 p.1) o 0) (
 serves : ℕ → List (ℕ × (ℕ × ℕ)) → Bool
 serves base es =
     is_universe base
-    && list_all (λ k. is_universe (base + k)) (filter (λ k. list_any (λ e. ordinal_of e.0 == k) es) (range_with_len 0 16))
+    && list_all (λ k. is_universe (base + k))
+    (filter (λ k. list_any (λ e. ordinal_of e.0 == k) es) (range_with_len 0 16))
 
 base_serves : (base : ℕ) (es : List (ℕ × (ℕ × ℕ))) → T (is_sorted nat_cmp es) → is_base (patch_of es) base ≡ serves base es
 unfolding is_base serves patch_of

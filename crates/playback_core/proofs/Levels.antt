@@ -9,10 +9,14 @@ use Rattle.fade_core.proofs.Fade.{split_fade_towards}
 use Rattle.playback_core.specs.Played.{Move, start_of, cue_at, playback_level, playback_target}
 
 pub level_after-map : (show : Tables) (moves : List Move) (channel moment : ℕ)
-    → level_after (map (start_of show) moves) channel moment ≡ playback_level show moves channel moment
+    → level_after (map (start_of show) moves) channel moment
+    ≡ playback_level show moves channel moment
 level_after-map show [] channel moment = refl
 level_after-map show (move ∷ older) channel moment =
-    rw (level_after-map show older channel move.moment, get-entries (cue_at show move.cue).levels channel) refl
+    rw (
+      level_after-map show older channel move.moment,
+      get-entries (cue_at show move.cue).levels channel,
+    ) refl
 
 -- as time passes, a channel goes towards its target
 pub playback_level_towards : (show : Tables) (moves : List Move) (channel x y : ℕ) → x ≤ y
@@ -21,5 +25,6 @@ pub playback_level_towards : (show : Tables) (moves : List Move) (channel x y : 
 playback_level_towards show [] channel x y le = inl (omega arith, omega arith)
 playback_level_towards show (move ∷ older) channel x y le =
     let cue = cue_at show move.cue in
-    split_fade_towards (playback_level show older channel move.moment) (255 * level_in cue.levels channel)
-    (rate_of cue.up cue.down) (rate_of cue.down cue.up) (x - move.moment) (y - move.moment) (omega arith)
+    split_fade_towards (playback_level show older channel move.moment)
+    (255 * level_in cue.levels channel) (rate_of cue.up cue.down) (rate_of cue.down cue.up)
+    (x - move.moment) (y - move.moment) (omega arith)

@@ -15,7 +15,8 @@ invariant_of-result c =
     record {
       sorted = subst (λ es. IsTrue (map.is_sorted nat_cmp es)) (sym c.in_ok-dimmers.ensures.entries) (to_true (map.entries_sorted c.args.show.now.patch));
       channels_in = subst (λ es. All (λ e. IsTrue (is_channel e.1.0)) es) (sym c.in_ok-dimmers.ensures.entries) c.in_ok-dimmers.ensures.range.patch_channels;
-      base_in = subst (λ p. IsTrue (is_base p c.args.base)) (sym is) (sym c.has_numbers.ensures ∙ c.if-not-has_numbers.false);
+      base_in = subst (λ p. IsTrue (is_base p c.args.base)) (sym is)
+          (sym c.has_numbers.ensures ∙ c.if-not-has_numbers.false);
     }
 
 pub returns-clause-rig : goal.returns-clause-rig
