@@ -1,5 +1,5 @@
 -- Bytes at an offset that are compared, one by one or as a number.
-use Rattle.std.proofs.Common.{◌≡◌, ℕ, zero, suc, Bool, List, [], ◌∷◌, ◌≤◌, ◌<◌, ◌+◌, ◌*◌, ◌/◌, ◌%◌, ◌^◌, length, drop, get_or, arith, refl, ap, sym, ◌∙◌, true, false, not, nat_eq}
+use Rattle.std.proofs.Common.{◌≡◌, ℕ, zero, suc, Bool, List, ◌≤◌, ◌<◌, ◌+◌, length, drop, get_or, arith, refl, ap, sym, ◌∙◌, true, false, not, nat_eq}
 use Rattle.std.proofs.lemmas.Bool.Decides.{nat_tests}
 use Rattle.std.proofs.lemmas.Bool.{false_from_ne_true}
 use Rattle.std.proofs.lemmas.List.{get_or-take, get_or-drop, length-take-le, length-drop}

@@ -1,3 +1,4 @@
+pub mod KeptLemmas
 pub mod Names
 pub mod Packets
 pub mod Parts

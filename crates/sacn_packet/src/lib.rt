@@ -3,6 +3,7 @@
 
 mod bytes;
 mod data_packet;
+mod kept;
 pub mod laws;
 mod reader;
 mod source_name;
@@ -10,6 +11,7 @@ mod unreadable;
 mod writer;
 
 pub use data_packet::DataPacket;
+pub use kept::{refill, renumber, slots_in};
 pub use reader::parse;
 pub use source_name::SourceName;
 pub use unreadable::Unreadable;

@@ -2,7 +2,7 @@ ghost use Rattle.std.specs.Prelude.{◌≡◌, ◌∷◌, ◌+◌, ◌≤◌, le
 ghost use Rattle.sacn_packet.specs.Name.{padded};
 ghost use Rattle.sacn_packet.specs.Wire.{IsData};
 
-use crate::{Header, SourceName, Unreadable, encode, laws, parse};
+use crate::{Header, SourceName, Unreadable, encode, laws, parse, refill, slots_in};
 
 const CID: [u8; 16] = [
     0xc0, 0xff, 0xee, 0, 0, 0, 0x40, 0, 0x80, 0, 0, 0, 0, 0, 0xe1, 0x31,
@@ -176,6 +176,37 @@ fn readers(rt: HostRuntime) {
     overwrite(&mut bytes, 44, &[b'x'; 64]);
     let packet = parse(&bytes).expect(&rt, "a packet");
     assert_eq!(rt; packet.name(), [b'x'; 64].as_slice());
+}
+
+#[test]
+fn renumber(rt: HostRuntime) {
+    let before = look_one_packet();
+    let mut packet = before;
+    crate::renumber(&mut packet, 5, 0x40);
+    for offset in 0..638 {
+        let wanted = match offset {
+            111 => 0x05,
+            112 => 0x40,
+            _ => before[offset],
+        };
+        assert_eq!(rt; packet[offset], wanted, "offset {offset}");
+    }
+}
+
+#[test]
+fn refilled_slots(rt: HostRuntime) {
+    let before = look_one_packet();
+    let mut slots = [0; 512];
+    slots[0] = 0x40;
+    assert_eq!(rt; slots_in(&before), slots.as_slice());
+    slots[511] = 0xff;
+    let mut packet = before;
+    refill(&mut packet, &slots);
+    assert_eq!(rt; slots_in(&packet), slots.as_slice());
+    for offset in 0..637 {
+        assert_eq!(rt; packet[offset], before[offset], "offset {offset}");
+    }
+    assert_eq!(rt; packet[637], 0xff);
 }
 
 #[test]
