@@ -1,0 +1,84 @@
+-- A lane that takes an offer or a termination.
+use Rattle.std.proofs.Common.{◌≡◌, ℕ, Bool, true, false, not, ◌||◌, refl, ap, arith, sym}
+use Rattle.std.proofs.Common.{subst, ◌∙◌, ◌+◌, ◌%◌, List, [], ◌∷◌, ◌++◌, Some, None}
+use Rattle.std.proofs.lemmas.Bool.Decides.{nat_tests}
+use Rattle.std.specs.Cmp.Lexicographic.{pointwise}
+use Rattle.std.specs.Prelude.{nat_eq, ◌==◌, if◌then◌else◌, Option}
+use Rattle.devices.specs.Send.{Send}
+use Rattle.sacn_source.specs.Identify.{IsStreamPacket}
+use Rattle.sacn_source.specs.Identity.{Identity}
+use Rattle.sacn_source.specs.Kept.{Pace}
+use Rattle.sacn_source.specs.Offering.{Answers, Offers, answer_of, number_of}
+use Rattle.sacn_source.specs.Pacing as pacing
+use Rattle.sacn_source.specs.Pacing.{Paces}
+use Rattle.sacn_source.specs.Stream.{Offer, Packet, is_change, newest_frame}
+use Rattle.sacn_source.specs.declared.offered.Offered.{Offered}
+use Rattle.sacn_source.specs.declared.offered.Offered.TheVariants.{Quiet}
+
+-- an offer is a change where it has other slots than the newest frame, or is the first
+or_true : (b : Bool) → (b || true) ≡ true
+or_true true = refl
+or_true false = refl
+
+or_false : (b : Bool) → (b || false) ≡ b
+or_false true = refl
+or_false false = refl
+
+begun : (earliest moment : ℕ) → earliest ≡ moment + 1 → (earliest == 0) ≡ false
+begun earliest moment e = grind (arith, nat_tests)
+
+pub changed_by : (offers : List Offer) (pace : Pace) (moment : ℕ) (frame : List ℕ) (differs : Bool)
+    → Paces pace offers 0 → differs ≡ not (pointwise nat_eq frame (newest_frame offers))
+    → pacing.is_change pace differs ≡ is_change (record { moment = moment; frame = frame } ∷ offers)
+changed_by [] pace moment frame differs s d =
+    ap (λ (n : ℕ). differs || n == 0) s.earliest_is ∙ or_true differs
+changed_by (p ∷ older) pace moment frame differs s d =
+    ap (λ (b : Bool). differs || b) (begun pace.earliest p.moment s.earliest_is)
+    ∙ or_false differs ∙ d
+
+-- with and without a packet that is due
+pub unanswered : (due : Bool) (place : ℕ) (p : Packet) → due ≡ false
+    → Answers place (if due then Some p else None) Quiet
+unanswered true place p e = cc
+unanswered false place p e = refl
+
+pub quiet : (due : Bool) (who : Identity) (u place : ℕ) (p : Packet) (before after : List Send)
+    → after ≡ before → due ≡ false → Offers who u place (if due then Some p else None) Quiet before after
+quiet true who u place p before after same e = cc
+quiet false who u place p before after same e = (refl, same)
+
+pub offered : (due : Bool) (who : Identity) (u place : ℕ) (p : Packet) (answer : Offered)
+    (before after : List Send) → due ≡ true → Offers who u place (Some p) answer before after
+    → Offers who u place (if due then Some p else None) answer before after
+offered true who u place p answer before after e h = h
+offered false who u place p answer before after e h = cc
+
+pub answered : (due : Bool) (place : ℕ) (p : Packet) (answer : Offered) → due ≡ true
+    → Answers place (Some p) answer → Answers place (if due then Some p else None) answer
+answered true place p answer e a = a
+answered false place p answer e a = cc
+
+-- the packet that was sent, at the place that the definitions give
+pub sent_packet : (who : Identity) (u place at : ℕ) (p : Packet) (bytes : List ℕ) (answer : Offered)
+    (before after : List Send) → place ≡ at → IsStreamPacket who u place p bytes
+    → ((failed : Bool) × (answer ≡ answer_of failed place)
+    × (after ≡ before ++ record { universe = u; bytes = bytes; failed = failed } ∷ []))
+    → Offers who u at (Some p) answer before after
+sent_packet who u place at p bytes answer before after same is sent =
+    subst (λ (n : ℕ). Offers who u n (Some p) answer before after) same
+    (bytes, sent.0, is, sent.1, sent.2)
+
+pub answer_at : (place at : ℕ) (p : Packet) (answer : Offered) → place ≡ at
+    → ((failed : Bool) × (answer ≡ answer_of failed place)) → Answers at (Some p) answer
+answer_at place at p answer same a = subst (λ (n : ℕ). Answers n (Some p) answer) same a
+
+-- two answers at one place have one number
+number_at : (failed : Bool) (place : ℕ) → number_of (answer_of failed place) ≡ Some (place % 256)
+number_at true place = refl
+number_at false place = refl
+
+pub alike : (place : ℕ) (p : Option Packet) (one other : Offered) → Answers place p one
+    → Answers place p other → number_of one ≡ number_of other
+alike place None one other a b = ap number_of (a ∙ sym b)
+alike place (Some p) one other a b =
+    ap number_of a.1 ∙ number_at a.0 place ∙ sym (number_at b.0 place) ∙ sym (ap number_of b.1)

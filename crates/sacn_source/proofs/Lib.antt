@@ -1,0 +1,4 @@
+pub mod LaneLemmas
+pub mod PaceLemmas
+pub mod SenderLemmas
+pub mod KeepAlive

@@ -1,0 +1,223 @@
+-- A sender in which one lane changes.
+use Rattle.std.proofs.Common.{◌≡◌, ◌≢◌, ℕ, ◌+◌, ◌<◌, ◌≤◌, Bool, true, false, not, cond}
+use Rattle.std.proofs.Common.{refl, ap, arith, sym, subst, take, ◌∙◌, List, [], ◌∷◌, ◌++◌, length, get_or}
+use Rattle.std.proofs.lemmas.Bool.Decides.{nat_tests}
+use Rattle.std.proofs.Math.Seq.{map-set_same}
+use Rattle.std.proofs.lemmas.List.{get_or_default, length-map, map_push, take_more}
+use Rattle.std.proofs.lemmas.List.Folds.{find-set, find_at, find_past}
+use Rattle.std.proofs.lemmas.List.Sums.{prefix_len_passes, prefix_len_stops}
+use Rattle.std.proofs.lemmas.Option.{get_or_from_slice_get, slice_get-get_or, slice_get-map, slice_get_past}
+use Rattle.std.specs.List.{position, position_or_len}
+use Rattle.std.specs.Option.{option_map, option_map_or}
+use Rattle.std.specs.Prelude.{All, Contains, None, Option, Some, IsSome, nat_lt, slice_get, slice_set, ◌==◌}
+use Rattle.sacn_source.specs.Identity.{Identity}
+use Rattle.sacn_source.specs.Kept.{Lane}
+use Rattle.sacn_source.specs.Stands.{LaneStands, StandsAt, StandsFor, earliest_of, ended_of, lane_of, universes_of}
+use Rattle.sacn_source.specs.Stream.{Offer, earliest_after}
+
+is_it : (a u : ℕ) → a ≡ u → (a == u) ≡ true
+is_it a u e = grind (arith, nat_tests)
+
+is_not : (a u : ℕ) → a ≢ u → (a == u) ≡ false
+is_not a u e = grind (arith, nat_tests)
+
+it_is : (a u : ℕ) → (a == u) ≡ true → a ≡ u
+it_is a u e = grind (arith, nat_tests)
+
+-- where a universe is among those of the lanes, its lane is among the lanes
+abbrev place : List Lane → ℕ → ℕ
+place lanes u = position_or_len (λ (lane : Lane). lane.universe == u) lanes
+
+places : (lanes : List Lane) (u : ℕ) → position_or_len (λ (v : ℕ). v == u) (universes_of lanes) ≡ place lanes u
+places [] u = refl
+places (l ∷ ls) u = ap (λ (n : ℕ). cond (not (l.universe == u)) (1 + n) 0) (places ls u)
+
+found_by : (b : Bool) (p i n : ℕ) → nat_lt p n ≡ b → cond b (Some p) None ≡ Some i → (i ≡ p) × (i < n)
+found_by true p i n h e =
+    let same : i ≡ p = cc in
+    (same, grind (arith, nat_tests))
+found_by false p i n h e = cc
+
+found_some : (o : Option ℕ) → IsSome o → (i : ℕ) × (o ≡ Some i)
+found_some None s = cc
+found_some (Some i) s = (i, refl)
+
+some_at : (lanes : List Lane) (i : ℕ) → i < length lanes → (lane : Lane) × (lane ≡ get_or lanes i lane)
+some_at [] i within = absurd (omega arith)
+some_at (l ∷ ls) i within =
+    (get_or (l ∷ ls) i l, get_or_default (l ∷ ls) i l (get_or (l ∷ ls) i l) within)
+
+not_not : (b : Bool) → not b ≡ false → b ≡ true
+not_not true h = refl
+not_not false h = cc
+
+-- a universe that is there is found
+found_if : (b : Bool) (p n : ℕ) → nat_lt p n ≡ b → (n ≤ p → ⊥) → IsSome (cond b (Some p) None)
+found_if true p n h e = refl
+found_if false p n h e =
+    let past : n ≤ p = grind (arith, nat_tests) in
+    absurd (e past)
+
+pub is_found : (universes : List ℕ) (u : ℕ) → Contains universes u → IsSome (position (λ v. v == u) universes)
+is_found universes u here =
+    found_if _ _ (length universes) refl (λ past.
+    let k : here.0 < position_or_len (λ v. v == u) universes = omega (arith, here.1, past) in
+    let other : not (get_or universes here.0 u == u) ≡ true = prefix_len_passes (λ v. not (v == u)) universes here.0 u k in
+    let same : (get_or universes here.0 u == u) ≡ true = is_it _ _ here.2 in
+    cc)
+
+-- the lane of a universe, at its place
+pub record LaneAt (lanes now : List Lane) (u i : ℕ) (lane : Lane) : Type 0 where
+  pub same : lanes ≡ now
+  pub within : i < length lanes
+  pub first : i ≡ place lanes u
+  pub get : slice_get lanes i ≡ Some lane
+  pub is : lane.universe ≡ u
+  pub at : lane_of now u ≡ Some lane
+
+pub lane_at : (lanes now : List Lane) (universes : List ℕ) (u i : ℕ) (lane d : Lane) → lanes ≡ now
+    → universes ≡ universes_of lanes → position (λ v. v == u) universes ≡ Some i → lane ≡ get_or lanes i d
+    → LaneAt lanes now u i lane
+lane_at lanes now universes u i lane d same are found is =
+    let there : position (λ v. v == u) (universes_of lanes) ≡ Some i =
+    ap (λ (us : List ℕ). position (λ v. v == u) us) (sym are) ∙ found in
+    let found_in = found_by _ _ i (length (universes_of lanes)) refl there in
+    let within : i < length lanes = omega (arith, found_in.1, length-map lanes (λ (l : Lane). l.universe)) in
+    let first : i ≡ place lanes u = found_in.0 ∙ places lanes u in
+    let get : slice_get lanes i ≡ Some lane = slice_get-get_or lanes i d within ∙ ap Some (sym is) in
+    let stops : not (lane.universe == u) ≡ false =
+    ap (λ (l : Lane). not (l.universe == u)) (is ∙ ap (λ (k : ℕ). get_or lanes k d) first)
+    ∙ prefix_len_stops (λ l. not (l.universe == u)) lanes d (omega (arith, first, within)) in
+    record {
+      same = same;
+      within = within;
+      first = first;
+      get = get;
+      is = it_is _ _ (not_not _ stops);
+      at = ap (λ (ls : List Lane). lane_of ls u) (sym same) ∙ find_at (λ l. l.universe == u) lanes
+          ∙ ap (slice_get lanes) (sym first) ∙ get;
+    }
+
+pub lane_found : (lanes now : List Lane) (universes slice : List ℕ) (u i : ℕ) (found : Option ℕ)
+    (lane d : Lane) → lanes ≡ now → universes ≡ universes_of lanes → slice ≡ universes
+    → found ≡ position (λ v. v == u) slice → found ≡ Some i → lane ≡ get_or lanes i d
+    → LaneAt lanes now u i lane
+lane_found lanes now universes slice u i found lane d same are is result some at =
+    lane_at lanes now universes u i lane d same are
+    (ap (λ (us : List ℕ). position (λ v. v == u) us) (sym is) ∙ sym result ∙ some) at
+
+-- what is kept of a universe is what its lane keeps
+pub earliest_at : (lanes now : List Lane) (u i : ℕ) (lane : Lane) → LaneAt lanes now u i lane
+    → earliest_of now u ≡ lane.pace.earliest
+earliest_at lanes now u i lane p = ap (λ (o : Option Lane). option_map_or (λ l. l.pace.earliest) o 0) p.at
+
+pub ended_at : (lanes now : List Lane) (u i : ℕ) (lane : Lane) → LaneAt lanes now u i lane
+    → ended_of now u ≡ lane.pace.ended
+ended_at lanes now u i lane p = ap (λ (o : Option Lane). option_map_or (λ l. l.pace.ended) o 0) p.at
+
+pub lane_stands : (who : Identity) (lanes now : List Lane) (u i : ℕ) (lane : Lane) (offers : List Offer)
+    (n : ℕ) → LaneAt lanes now u i lane → StandsFor who now u offers n → LaneStands who lane offers n
+lane_stands who lanes now u i lane offers n p s =
+    subst (λ (o : Option Lane). StandsAt who o offers n) p.at s
+
+-- the lane changes, and keeps its universe
+pub record Changes (lanes now : List Lane) (u i : ℕ) (new : Lane) : Type 0 where
+  pub universes : universes_of (slice_set lanes i new) ≡ universes_of lanes
+  pub at : lane_of (slice_set lanes i new) u ≡ Some new
+  pub others : (v : ℕ) → v ≢ u → lane_of (slice_set lanes i new) v ≡ lane_of now v
+
+pub changes : (lanes now : List Lane) (u i : ℕ) (lane new : Lane) → LaneAt lanes now u i lane
+    → new.universe ≡ lane.universe → Changes lanes now u i new
+changes lanes now u i lane new p kept =
+    let was : lane ≡ get_or lanes i lane = sym (get_or_from_slice_get lanes i lane lane p.get) in
+    record {
+      universes = map-set_same (λ (l : Lane). l.universe) lanes i new lane
+          (kept ∙ ap (λ (l : Lane). l.universe) was);
+      at = find-set (λ l. l.universe == u) lanes i new p.first p.within (is_it _ _ (kept ∙ p.is));
+      others = λ v other. find_past (λ l. l.universe == v) lanes i new lane
+          (ap (λ (l : Lane). l.universe == v) (sym was) ∙ is_not _ _ (λ e. other (sym e ∙ p.is)))
+          (is_not _ _ (λ e. other (sym e ∙ kept ∙ p.is)))
+          ∙ ap (λ (ls : List Lane). lane_of ls v) p.same;
+    }
+
+pub sender_stands : (who : Identity) (lanes now : List Lane) (u i : ℕ) (new : Lane) (offers : List Offer)
+    (n : ℕ) → Changes lanes now u i new → LaneStands who new offers n
+    → StandsFor who (slice_set lanes i new) u offers n
+sender_stands who lanes now u i new offers n p s =
+    subst (λ (o : Option Lane). StandsAt who o offers n) (sym p.at) s
+
+-- a universe that is not found has no lane
+none_by : (b : Bool) (p n : ℕ) → nat_lt p n ≡ b → cond b (Some p) None ≡ None → n ≤ p
+none_by true p n h e = cc
+none_by false p n h e = grind (arith, nat_tests)
+
+pub no_lane : (who : Identity) (lanes now : List Lane) (universes : List ℕ) (u : ℕ) (offers : List Offer)
+    (n : ℕ) → lanes ≡ now → universes ≡ universes_of lanes → position (λ v. v == u) universes ≡ None
+    → StandsFor who now u offers n → ⊥
+no_lane who lanes now universes u offers n same are none s =
+    let there : position (λ v. v == u) (universes_of lanes) ≡ None =
+    ap (λ (us : List ℕ). position (λ v. v == u) us) (sym are) ∙ none in
+    let past : length lanes ≤ place lanes u = omega (
+      arith,
+      none_by _ _ _ refl there,
+      places lanes u,
+      length-map lanes (λ (l : Lane). l.universe),
+    ) in
+    let gone : lane_of now u ≡ None = ap (λ (ls : List Lane). lane_of ls u) (sym same)
+    ∙ find_at (λ l. l.universe == u) lanes ∙ slice_get_past lanes (place lanes u) past in
+    subst (λ (o : Option Lane). StandsAt who o offers n) gone s
+
+-- a universe that is found is among those of the lanes
+pub is_there : (lanes now : List Lane) (u i : ℕ) (lane : Lane) → LaneAt lanes now u i lane
+    → Contains (universes_of now) u
+is_there lanes now u i lane p =
+    subst (λ (ls : List Lane). Contains (universes_of ls) u) p.same (
+      i,
+      omega (arith, p.within, length-map lanes (λ (l : Lane). l.universe)),
+      get_or_from_slice_get (universes_of lanes) i u u (slice_get-map (λ (l : Lane). l.universe) lanes i
+          ∙ ap (option_map (λ (l : Lane). l.universe)) p.get ∙ ap Some p.is),
+    )
+
+-- a sender that was just opened
+pub opened : (who : Identity) (lanes : List Lane) (universes : List ℕ) (u : ℕ)
+    → universes_of lanes ≡ universes → All (λ lane. LaneStands who lane [] 0) lanes
+    → Contains universes u → StandsFor who lanes u [] 0
+opened who lanes universes u are all here =
+    let there : Contains (universes_of lanes) u = subst (λ (us : List ℕ). Contains us u) (sym are) here in
+    let found = found_some _ (is_found (universes_of lanes) u there) in
+    let within : found.0 < length lanes = omega (
+      arith,
+      (found_by _ _ found.0 (length (universes_of lanes)) refl found.1).1,
+      length-map lanes (λ (l : Lane). l.universe),
+    ) in
+    let some = some_at lanes found.0 within in
+    let p = lane_at lanes lanes (universes_of lanes) u found.0 some.0 some.0 refl refl found.1 some.1 in
+    subst (λ (o : Option Lane). StandsAt who o [] 0) (sym p.at)
+    (subst (λ (l : Lane). LaneStands who l [] 0) (sym some.1) (all found.0 some.0 within))
+
+pub universes_more : (lanes : List Lane) (lane : Lane) (universes : List ℕ) (i d : ℕ)
+    → i < length universes → lane.universe ≡ get_or universes i d
+    → universes_of lanes ≡ take i universes → universes_of (lanes ++ lane ∷ []) ≡ take (i + 1) universes
+universes_more lanes lane universes i d within is so_far =
+    map_push (λ (l : Lane). l.universe) lanes lane
+    ∙ ap (λ (us : List ℕ). us ++ lane.universe ∷ []) so_far
+    ∙ ap (λ (u : ℕ). take i universes ++ u ∷ []) is ∙ sym (take_more universes i d within)
+
+-- what is kept of a universe, by what it stands for
+earliest_stands : (who : Identity) (o : Option Lane) (offers : List Offer) (n : ℕ) → StandsAt who o offers n
+    → option_map_or (λ (l : Lane). l.pace.earliest) o 0 ≡ earliest_after offers
+earliest_stands who None offers n s = absurd s
+earliest_stands who (Some l) offers n s = s.paces.earliest_is
+
+ended_stands : (who : Identity) (o : Option Lane) (offers : List Offer) (n : ℕ) → StandsAt who o offers n
+    → option_map_or (λ (l : Lane). l.pace.ended) o 0 ≡ n
+ended_stands who None offers n s = absurd s
+ended_stands who (Some l) offers n s = s.paces.ended_is
+
+pub earliest_is : (who : Identity) (lanes : List Lane) (u : ℕ) (offers : List Offer) (n : ℕ)
+    → StandsFor who lanes u offers n → earliest_of lanes u ≡ earliest_after offers
+earliest_is who lanes u offers n s = earliest_stands who (lane_of lanes u) offers n s
+
+pub ended_is : (who : Identity) (lanes : List Lane) (u : ℕ) (offers : List Offer) (n : ℕ)
+    → StandsFor who lanes u offers n → ended_of lanes u ≡ n
+ended_is who lanes u offers n s = ended_stands who (lane_of lanes u) offers n s

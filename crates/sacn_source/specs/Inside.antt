@@ -1,0 +1,12 @@
+-- The fields of the types of this crate, seen as what contracts see.
+use Rattle.sacn_source.specs.declared.pace.Pace.TheInside.{Inside as PaceFields}
+use Rattle.sacn_source.specs.Kept.{Pace}
+
+abbrev pub pace_view : PaceFields → Pace
+pace_view pace = record {
+  sent = pace.sent;
+  repeats = pace.repeats;
+  last_sent = pace.last_sent;
+  earliest = pace.earliest;
+  ended = pace.ended;
+}

@@ -1,0 +1,10 @@
+pub mod Identify
+pub mod Identity
+pub mod Inside
+pub mod Kept
+pub mod Laws
+pub mod Offering
+pub mod Pacing
+pub mod Stands
+pub mod Stream
+pub mod Timing

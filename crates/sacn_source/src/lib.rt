@@ -1,0 +1,14 @@
+//! The stream of one E1.31 source: which frames go out, under which numbers, and the end of a stream.
+#![tactic(auto)]
+
+mod identity;
+mod lane;
+pub mod laws;
+mod offered;
+mod pace;
+mod sender;
+
+pub use devices::{Link, LinkFault};
+pub use identity::Identity;
+pub use offered::Offered;
+pub use sender::Sender;

@@ -1,0 +1,140 @@
+ghost use Rattle.std.specs.Prelude.{◌≡◌, ◌≢◌, ◌<◌, ◌≤◌, ◌+◌, ◌^◌, ◌==◌, ◌∷◌, [], ℕ, suc};
+ghost use Rattle.std.specs.Prelude.{List, length, All, Contains, IfOk};
+ghost use Rattle.std.specs.List.{position};
+ghost use Rattle.sacn_source.specs.Identity.{Identity as Who};
+ghost use Rattle.sacn_source.specs.Offering.{Answers, Offers};
+ghost use Rattle.sacn_source.specs.Stands.{StandsFor, earliest_of, ended_of, lane_of, universes_of};
+ghost use Rattle.sacn_source.specs.Stream.{Offer, due, last_packet, packets};
+
+use crate::identity::Identity;
+use crate::lane::Lane;
+use crate::offered::Offered;
+use devices::Link;
+use std::alloc::{AllocError, Global};
+use std::marker::Model;
+
+/// The source of some universes: a stream for each.
+#[derive(Debug, Drop)]
+pub struct Sender {
+    // Those of the lanes: beside them, a search for one walks no packets.
+    universes: Vec<u16>,
+    lanes: Vec<Lane>,
+}
+
+impl Model for Sender {
+    ghost use Rattle.std.specs.Prelude.{◌≡◌, List};
+    ghost use Rattle.sacn_source.specs.Kept as kept;
+
+    ghost Value = { List kept.Lane };
+
+    ghost use Rattle.sacn_source.specs.Stands.{universes_of};
+
+    ghost view = { λ a. a.lanes.items };
+
+    ghost invariant = { λ a. a.universes.items ≡ universes_of a.lanes.items };
+}
+
+impl Sender {
+    /// The source of these universes, which has sent nothing yet. Later calls take no memory.
+    ///
+    /// Each universe is 1 to 63999; of one that stands there twice, the first alone counts.
+    ///
+    /// # Errors
+    ///
+    /// `AllocError` where a growth was refused.
+    pub fn open(alloc: Global, who: Identity, universes: &[u16]) -> Result<Sender, AllocError>
+        requires range { All (λ universe. (1 ≤ universe) × (universe ≤ 63999)) universes.now }
+        ensures universes { IfOk result (λ sender. universes_of sender ≡ universes.now) }
+        ensures stands { IfOk result (λ sender. (universe : ℕ) → Contains universes.now universe →
+            StandsFor who sender universe [] 0) }
+    {
+        let mut lanes = Vec::with_capacity(alloc, universes.len())?;
+        for universe in universes {
+            lanes.push(Lane::new(&who, *universe))?;
+        }
+        Ok(Sender {
+            universes: Vec::from_slice(alloc, universes)?,
+            lanes,
+        })
+    }
+
+    /// Offers a universe the frame of a moment, in milliseconds. It sends a packet where the frame
+    /// is the first or another than the one before, three times more after such a change, and
+    /// where its last packet is 800 ms ago. A packet that is lost uses its number.
+    pub fn offer<L: Link>(
+        &mut self,
+        moment: u64,
+        universe: u16,
+        slots: &[u8; 512],
+        link: &mut L,
+    ) -> Offered
+        requires here { Contains (universes_of self.old) universe }
+        requires later { earliest_of self.old universe ≤ moment }
+        requires below { moment < 2 ^ 48 }
+        requires live { ended_of self.old universe ≡ 0 }
+        ensures universes { universes_of self.new ≡ universes_of self.old }
+        ensures stands { (who : Who) (offers : List Offer) →
+            StandsFor who self.old universe offers 0 →
+            StandsFor who self.new universe (record { moment = moment; frame = slots.now } ∷ offers) 0 }
+        ensures others { (other : ℕ) → other ≢ universe →
+            lane_of self.new other ≡ lane_of self.old other }
+        ensures answer { (who : Who) (offers : List Offer) →
+            StandsFor who self.old universe offers 0 →
+            Answers (length (packets offers 0))
+            (due (record { moment = moment; frame = slots.now } ∷ offers)) result }
+        ensures told { L.tells link.new → L.tells link.old }
+        ensures offered { (who : Who) (offers : List Offer) →
+            StandsFor who self.old universe offers 0 → L.tells link.new →
+            Offers who universe (length (packets offers 0))
+            (due (record { moment = moment; frame = slots.now } ∷ offers))
+            result (L.offered link.old) (L.offered link.new) }
+    {
+        let place = place_of(self.universes.as_slice(), universe).unwrap();
+        self.lanes[place].offer(moment, slots, link)
+    }
+
+    /// Sends a universe one packet with Stream_Terminated and every slot at 0. At most three end a
+    /// stream.
+    pub fn terminate<L: Link>(&mut self, universe: u16, link: &mut L) -> Offered
+        requires here { Contains (universes_of self.old) universe }
+        requires fewer { ended_of self.old universe < 3 }
+        ensures universes { universes_of self.new ≡ universes_of self.old }
+        ensures stands { (who : Who) (offers : List Offer) (n : ℕ) →
+            StandsFor who self.old universe offers n →
+            StandsFor who self.new universe offers (suc n) }
+        ensures others { (other : ℕ) → other ≢ universe →
+            lane_of self.new other ≡ lane_of self.old other }
+        ensures answer { (who : Who) (offers : List Offer) (n : ℕ) →
+            StandsFor who self.old universe offers n →
+            Answers (length (packets offers n)) (Some last_packet) result }
+        ensures told { L.tells link.new → L.tells link.old }
+        ensures offered { (who : Who) (offers : List Offer) (n : ℕ) →
+            StandsFor who self.old universe offers n → L.tells link.new →
+            Offers who universe (length (packets offers n)) (Some last_packet)
+            result (L.offered link.old) (L.offered link.new) }
+    {
+        let place = place_of(self.universes.as_slice(), universe).unwrap();
+        self.lanes[place].terminate(link)
+    }
+
+    /// How many packets were sent on a universe, terminations and lost ones too; 0 where it is none
+    /// of the sender's.
+    pub fn sent(&self, universe: u16) -> u64
+        ensures sent { (who : Who) (offers : List Offer) (n : ℕ) →
+            StandsFor who self.now universe offers n → result ≡ length (packets offers n) }
+        ensures other { (Contains (universes_of self.now) universe → ⊥) → result ≡ 0 }
+        ensures below { result < 2 ^ 48 + 4 }
+    {
+        match place_of(self.universes.as_slice(), universe) {
+            Some(place) => self.lanes[place].sent(),
+            None => 0,
+        }
+    }
+}
+
+// The place of a universe among these.
+fn place_of(universes: &[u16], universe: u16) -> Option<usize>
+    ensures { result ≡ position (λ other. other == universe) universes.now }
+{
+    universes.iter().position(|other| *other == universe)
+}
