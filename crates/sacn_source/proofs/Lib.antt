@@ -2,3 +2,4 @@ pub mod LaneLemmas
 pub mod PaceLemmas
 pub mod SenderLemmas
 pub mod KeepAlive
+mod Rows

@@ -146,6 +146,16 @@ pub sender_stands : (who : Identity) (lanes now : List Lane) (u i : ℕ) (new : 
 sender_stands who lanes now u i new offers n p s =
     subst (λ (o : Option Lane). StandsAt who o offers n) (sym p.at) s
 
+pub earliest_now : (lanes now : List Lane) (u i : ℕ) (new : Lane) → Changes lanes now u i new
+    → earliest_of (slice_set lanes i new) u ≡ new.pace.earliest
+earliest_now lanes now u i new p =
+    ap (λ (o : Option Lane). option_map_or (λ (l : Lane). l.pace.earliest) o 0) p.at
+
+pub ended_now : (lanes now : List Lane) (u i : ℕ) (new : Lane) → Changes lanes now u i new
+    → ended_of (slice_set lanes i new) u ≡ new.pace.ended
+ended_now lanes now u i new p =
+    ap (λ (o : Option Lane). option_map_or (λ (l : Lane). l.pace.ended) o 0) p.at
+
 -- a universe that is not found has no lane
 none_by : (b : Bool) (p n : ℕ) → nat_lt p n ≡ b → cond b (Some p) None ≡ None → n ≤ p
 none_by true p n h e = cc

@@ -74,6 +74,8 @@ impl Lane {
             L.tells link.new → Offers who self.old.universe (length (packets offers 0))
             (due (record { moment = moment; frame = slots.now } ∷ offers))
             result (L.offered link.old) (L.offered link.new) }
+        ensures earliest { self.new.pace.earliest ≡ moment + 1 }
+        ensures ended { self.new.pace.ended ≡ self.old.pace.ended }
     {
         let place = self.pace.sent();
         let differs = replace_slots(&mut self.packet, slots);
@@ -98,6 +100,8 @@ impl Lane {
             LaneStands who self.old offers n → L.tells link.new →
             Offers who self.old.universe (length (packets offers n)) (Some last_packet)
             result (L.offered link.old) (L.offered link.new) }
+        ensures earliest { self.new.pace.earliest ≡ self.old.pace.earliest }
+        ensures ended { self.new.pace.ended ≡ self.old.pace.ended + 1 }
     {
         let place = self.pace.sent();
         refill(&mut self.packet, &[0; 512]);

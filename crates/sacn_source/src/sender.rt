@@ -47,6 +47,10 @@ impl Sender {
         ensures universes { IfOk result (λ sender. universes_of sender ≡ universes.now) }
         ensures stands { IfOk result (λ sender. (universe : ℕ) → Contains universes.now universe →
             StandsFor who sender universe [] 0) }
+        ensures earliest { IfOk result (λ sender. (universe : ℕ) → Contains universes.now universe →
+            earliest_of sender universe ≡ 0) }
+        ensures ended { IfOk result (λ sender. (universe : ℕ) → Contains universes.now universe →
+            ended_of sender universe ≡ 0) }
     {
         let mut lanes = Vec::with_capacity(alloc, universes.len())?;
         for universe in universes {
@@ -75,7 +79,8 @@ impl Sender {
         ensures universes { universes_of self.new ≡ universes_of self.old }
         ensures stands { (who : Who) (offers : List Offer) →
             StandsFor who self.old universe offers 0 →
-            StandsFor who self.new universe (record { moment = moment; frame = slots.now } ∷ offers) 0 }
+            StandsFor who self.new universe
+            (record { moment = moment; frame = slots.now } ∷ offers) 0 }
         ensures others { (other : ℕ) → other ≢ universe →
             lane_of self.new other ≡ lane_of self.old other }
         ensures answer { (who : Who) (offers : List Offer) →
@@ -88,6 +93,8 @@ impl Sender {
             Offers who universe (length (packets offers 0))
             (due (record { moment = moment; frame = slots.now } ∷ offers))
             result (L.offered link.old) (L.offered link.new) }
+        ensures earliest { earliest_of self.new universe ≡ moment + 1 }
+        ensures ended { ended_of self.new universe ≡ 0 }
     {
         let place = place_of(self.universes.as_slice(), universe).unwrap();
         self.lanes[place].offer(moment, slots, link)
@@ -112,6 +119,8 @@ impl Sender {
             StandsFor who self.old universe offers n → L.tells link.new →
             Offers who universe (length (packets offers n)) (Some last_packet)
             result (L.offered link.old) (L.offered link.new) }
+        ensures earliest { earliest_of self.new universe ≡ earliest_of self.old universe }
+        ensures ended { ended_of self.new universe ≡ ended_of self.old universe + 1 }
     {
         let place = place_of(self.universes.as_slice(), universe).unwrap();
         self.lanes[place].terminate(link)

@@ -3,7 +3,7 @@ use Rattle.std.specs.Prelude.{Contains, IsSome}
 use Rattle.sacn_source.specs.Offering.{Offers}
 use Rattle.sacn_source.specs.Stands.{universes_of}
 use Rattle.sacn_source.specs.Stream.{due, packets}
-use Rattle.sacn_source.proofs.SenderLemmas.{changes, earliest_at, ended_at, is_found, lane_found}
+use Rattle.sacn_source.proofs.SenderLemmas.{changes, earliest_at, earliest_now, ended_at, ended_now, is_found, lane_found}
 use Rattle.sacn_source.proofs.SenderLemmas.{lane_stands, sender_stands}
 use Rattle.sacn_source.proofs.sender.Sender.offer.Goals as goal
 
@@ -60,4 +60,7 @@ returns g c =
           (g.L.Link.offered c.args.link.now) (g.L.Link.offered c.offer.new.link)) p.is
           (c.offer.ensures.offered who offers
           (lane_stands who c.self.inside.lanes.items c.args.self.now c.args.universe c.unwrap-place.result c.index_mut.result.now offers 0 p s) tells);
+      earliest = earliest_now c.self.inside.lanes.items c.args.self.now c.args.universe c.unwrap-place.result c.offer.new.self x ∙ c.offer.ensures.earliest;
+      ended = ended_now c.self.inside.lanes.items c.args.self.now c.args.universe c.unwrap-place.result c.offer.new.self x ∙ c.offer.ensures.ended
+          ∙ sym (ended_at c.self.inside.lanes.items c.args.self.now c.args.universe c.unwrap-place.result c.index_mut.result.now p) ∙ c.requires.live;
     }

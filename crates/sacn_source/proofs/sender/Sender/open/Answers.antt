@@ -3,7 +3,7 @@ use Rattle.std.proofs.lemmas.List.{take_all}
 use Rattle.std.proofs.lemmas.List.Elements.{All-push}
 use Rattle.sacn_source.specs.Kept.{Lane}
 use Rattle.sacn_source.specs.Stands.{LaneStands}
-use Rattle.sacn_source.proofs.SenderLemmas.{opened, universes_more}
+use Rattle.sacn_source.proofs.SenderLemmas.{earliest_is, ended_is, opened, universes_more}
 use Rattle.sacn_source.proofs.sender.Sender.open.Goals as goal
 
 pub loop-universe-preserved : goal.loop-universe-preserved
@@ -25,3 +25,11 @@ returns-clause-stands c = λ universe here.
     let all = take_all c.loop-universe.universe-index c.args.universes.now c.loop-universe-test.false in
     opened c.args.who c.loop-universe.lanes.items c.args.universes.now universe
     (c.loop-universe.invariant.universes ∙ all) c.loop-universe.invariant.stand here
+
+pub returns-clause-earliest : goal.returns-clause-earliest
+returns-clause-earliest c = λ universe here.
+    earliest_is c.args.who c.loop-universe.lanes.items universe [] 0 (returns-clause-stands c universe here)
+
+pub returns-clause-ended : goal.returns-clause-ended
+returns-clause-ended c = λ universe here.
+    ended_is c.args.who c.loop-universe.lanes.items universe [] 0 (returns-clause-stands c universe here)

@@ -1,9 +1,9 @@
-use Rattle.std.proofs.Common.{◌≡◌, ◌∙◌, suc, Some, List, ℕ, length, sym, ap, subst, arith}
+use Rattle.std.proofs.Common.{◌≡◌, ◌+◌, ◌∙◌, suc, Some, List, ℕ, length, sym, ap, subst, arith}
 use Rattle.std.specs.Prelude.{Contains, IsSome}
 use Rattle.sacn_source.specs.Offering.{Offers}
 use Rattle.sacn_source.specs.Stands.{universes_of}
 use Rattle.sacn_source.specs.Stream.{last_packet, packets}
-use Rattle.sacn_source.proofs.SenderLemmas.{changes, ended_at, is_found, lane_found}
+use Rattle.sacn_source.proofs.SenderLemmas.{changes, earliest_at, earliest_now, ended_at, ended_now, is_found, lane_found}
 use Rattle.sacn_source.proofs.SenderLemmas.{lane_stands, sender_stands}
 use Rattle.sacn_source.proofs.sender.Sender.terminate.Goals as goal
 
@@ -52,4 +52,8 @@ returns g c =
           (g.L.Link.offered c.args.link.now) (g.L.Link.offered c.terminate.new.link)) p.is
           (c.terminate.ensures.offered who offers n
           (lane_stands who c.self.inside.lanes.items c.args.self.now c.args.universe c.unwrap-place.result c.index_mut.result.now offers n p s) tells);
+      earliest = earliest_now c.self.inside.lanes.items c.args.self.now c.args.universe c.unwrap-place.result c.terminate.new.self x ∙ c.terminate.ensures.earliest
+          ∙ sym (earliest_at c.self.inside.lanes.items c.args.self.now c.args.universe c.unwrap-place.result c.index_mut.result.now p);
+      ended = ended_now c.self.inside.lanes.items c.args.self.now c.args.universe c.unwrap-place.result c.terminate.new.self x ∙ c.terminate.ensures.ended
+          ∙ ap (λ (n : ℕ). n + 1) (sym (ended_at c.self.inside.lanes.items c.args.self.now c.args.universe c.unwrap-place.result c.index_mut.result.now p));
     }
