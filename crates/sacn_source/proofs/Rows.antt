@@ -22,5 +22,5 @@ lost_third_send : answer_of false 0 ∷ answer_of false 1 ∷ answer_of true 2 �
 lost_third_send = refl
 
 -- keep_alive
-keep_alive_few : moments_sent (each_25_ms (replicate 512 0) 5) ≡ 75 ∷ 50 ∷ 25 ∷ 0 ∷ []
-keep_alive_few = refl
+keep_alive : moments_sent (each_25_ms (replicate 512 0) 67) ≡ 1675 ∷ 875 ∷ 75 ∷ 50 ∷ 25 ∷ 0 ∷ []
+keep_alive = refl
