@@ -1,36 +1,47 @@
 -- A packet with another number, and with other slots, is a packet.
-use Rattle.std.proofs.Common.{◌≡◌, ℕ, ◌+◌, ◌-◌, ◌<◌, ◌≤◌, List, [], ◌∷◌, ◌++◌, length, take, drop, sym, ◌∙◌, ap, arith}
+use Rattle.std.proofs.Common.{◌≡◌, ℕ, ◌+◌, ◌-◌, ◌<◌, ◌≤◌, List, [], ◌∷◌, ◌++◌, length, take, drop}
+use Rattle.std.proofs.Common.{sym, ◌∙◌, ap, arith}
 use Rattle.std.specs.Prelude.{slice_set}
-use Rattle.std.proofs.lemmas.List.{length-set, length-append, length-take-le, take_all, drop_at, drop-set, drop-set-add, drop-set-lt, take-set-le, drop-append-le, take-append-le, length-drop}
+use Rattle.std.proofs.lemmas.List.{length-set, length-append, length-take-le, take_all, drop_at}
+use Rattle.std.proofs.lemmas.List.{drop-set, drop-set-add, drop-set-lt, take-set-le, drop-append-le}
+use Rattle.std.proofs.lemmas.List.{take-append-le, length-drop}
 use Rattle.sacn_packet.specs.Wire.{Fields, IsData, bytes_at, flags_and_length}
 use Rattle.sacn_packet.proofs.Parts.{prefix}
 use Rattle.sacn_packet.proofs.Packets.{last}
 use Rattle.byteorder.specs.Endian.{big_bytes}
 
 -- a part before a byte that is set, and a part after it
-before : (p : List ℕ) (offset count i v : ℕ) → offset + count ≤ i → bytes_at (slice_set p i v) offset count ≡ bytes_at p offset count
+before : (p : List ℕ) (offset count i v : ℕ) → offset + count ≤ i
+    → bytes_at (slice_set p i v) offset count ≡ bytes_at p offset count
 before p offset count i v within =
     let there : i ≡ offset + (i - offset) = omega arith in
     ap (λ (j : ℕ). bytes_at (slice_set p j v) offset count) there
     ∙ ap (take count) (drop-set-add offset p (i - offset) v)
     ∙ take-set-le count (drop offset p) (i - offset) v (omega arith)
 
-after : (p : List ℕ) (offset count i v : ℕ) → i < offset → bytes_at (slice_set p i v) offset count ≡ bytes_at p offset count
+after : (p : List ℕ) (offset count i v : ℕ) → i < offset
+    → bytes_at (slice_set p i v) offset count ≡ bytes_at p offset count
 after p offset count i v behind = ap (take count) (drop-set-lt offset p i v behind)
 
 at_it : (p : List ℕ) (i v : ℕ) → i < length p → bytes_at (slice_set p i v) i 1 ≡ v ∷ []
 at_it p i v within = ap (take 1) (drop-set p i v within)
 
-pub renumbered : (p : List ℕ) (fields : Fields) (slots : List ℕ) (sequence options : ℕ) → IsData p fields slots
-    → IsData (slice_set (slice_set p 111 sequence) 112 options) (record fields { sequence = sequence; options = options }) slots
+pub renumbered : (p : List ℕ) (fields : Fields) (slots : List ℕ) (sequence options : ℕ)
+    → IsData p fields slots
+    → IsData (slice_set (slice_set p 111 sequence) 112 options)
+    (record fields { sequence = sequence; options = options }) slots
 renumbered p fields slots sequence options h =
     let q : List ℕ = slice_set p 111 sequence in
     let long : 126 ≤ length p = omega (arith, h.size) in
     let size : length q ≡ length p = length-set p 111 sequence in
-    let front : (offset count : ℕ) → offset + count ≤ 111 → bytes_at (slice_set q 112 options) offset count ≡ bytes_at p offset count =
-    λ offset count within. before q offset count 112 options (omega arith) ∙ before p offset count 111 sequence within in
-    let back : (offset count : ℕ) → 112 < offset → bytes_at (slice_set q 112 options) offset count ≡ bytes_at p offset count =
-    λ offset count behind. after q offset count 112 options behind ∙ after p offset count 111 sequence (omega arith) in
+    let front : (offset count : ℕ) → offset + count ≤ 111
+    → bytes_at (slice_set q 112 options) offset count ≡ bytes_at p offset count =
+    λ offset count within. before q offset count 112 options (omega arith)
+    ∙ before p offset count 111 sequence within in
+    let back : (offset count : ℕ) → 112 < offset
+    → bytes_at (slice_set q 112 options) offset count ≡ bytes_at p offset count =
+    λ offset count behind. after q offset count 112 options behind
+    ∙ after p offset count 111 sequence (omega arith) in
     record {
       size = length-set q 112 options ∙ size ∙ h.size;
       at_most_512 = h.at_most_512;
@@ -62,16 +73,20 @@ renumbered p fields slots sequence options h =
       values = back 126 (length slots) (omega arith) ∙ h.values;
     }
 
-pub refilled : (p : List ℕ) (fields : Fields) (old slots : List ℕ) → length slots ≡ length old → IsData p fields old
+pub refilled : (p : List ℕ) (fields : Fields) (old slots : List ℕ) → length slots ≡ length old
+    → IsData p fields old
     → IsData (take 126 p ++ slots) fields slots
 refilled p fields old slots same h =
     let head : length (take 126 p) ≡ 126 = length-take-le 126 p (omega (arith, h.size)) in
-    let kept : (offset count : ℕ) → offset + count ≤ 126 → bytes_at (take 126 p ++ slots) offset count ≡ bytes_at p offset count =
+    let kept : (offset count : ℕ) → offset + count ≤ 126
+    → bytes_at (take 126 p ++ slots) offset count ≡ bytes_at p offset count =
     λ offset count within.
     ap (take count) (drop-append-le offset (take 126 p) slots (omega (arith, head)))
-    ∙ take-append-le count (drop offset (take 126 p)) slots (omega (arith, head, length-drop offset (take 126 p)))
+    ∙ take-append-le count (drop offset (take 126 p)) slots
+    (omega (arith, head, length-drop offset (take 126 p)))
     ∙ prefix p 126 offset count within in
-    let row : (size : ℕ) → flags_and_length (size + length old) ≡ flags_and_length (size + length slots) =
+    let row : (size : ℕ)
+    → flags_and_length (size + length old) ≡ flags_and_length (size + length slots) =
     λ size. ap (λ (n : ℕ). flags_and_length (size + n)) (sym same) in
     record {
       size = length-append (take 126 p) slots ∙ ap (λ (n : ℕ). n + length slots) head;
@@ -99,10 +114,13 @@ refilled p fields old slots same h =
       address_type = kept 118 1 (omega arith) ∙ h.address_type;
       first_address = kept 119 2 (omega arith) ∙ h.first_address;
       increment = kept 121 2 (omega arith) ∙ h.increment;
-      value_count = kept 123 2 (omega arith) ∙ h.value_count ∙ ap (λ (n : ℕ). big_bytes 2 (1 + n)) (sym same);
+      value_count = kept 123 2 (omega arith) ∙ h.value_count
+          ∙ ap (λ (n : ℕ). big_bytes 2 (1 + n)) (sym same);
       start = kept 125 1 (omega arith) ∙ h.start;
-      values = ap (take (length slots)) (drop_at (take 126 p) slots 126 head) ∙ take_all (length slots) slots (omega arith);
+      values = ap (take (length slots)) (drop_at (take 126 p) slots 126 head)
+          ∙ take_all (length slots) slots (omega arith);
     }
 
-pub slots_are : (p : List ℕ) (fields : Fields) (slots : List ℕ) → IsData p fields slots → drop 126 p ≡ slots
+pub slots_are : (p : List ℕ) (fields : Fields) (slots : List ℕ) → IsData p fields slots
+    → drop 126 p ≡ slots
 slots_are p fields slots h = last p 126 slots h.size h.values

@@ -43,7 +43,8 @@ unanswered true place p e = cc
 unanswered false place p e = refl
 
 pub quiet : (due : Bool) (who : Identity) (u place : ℕ) (p : Packet) (before after : List Send)
-    → after ≡ before → due ≡ false → Offers who u place (if due then Some p else None) Quiet before after
+    → after ≡ before → due ≡ false
+    → Offers who u place (if due then Some p else None) Quiet before after
 quiet true who u place p before after same e = cc
 quiet false who u place p before after same e = (refl, same)
 

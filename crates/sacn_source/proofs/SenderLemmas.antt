@@ -1,18 +1,22 @@
 -- A sender in which one lane changes.
 use Rattle.std.proofs.Common.{◌≡◌, ◌≢◌, ℕ, ◌+◌, ◌<◌, ◌≤◌, Bool, true, false, not, cond}
-use Rattle.std.proofs.Common.{refl, ap, arith, sym, subst, take, ◌∙◌, List, [], ◌∷◌, ◌++◌, length, get_or}
+use Rattle.std.proofs.Common.{refl, ap, arith, sym, subst, take, ◌∙◌, List, [], ◌∷◌, ◌++◌, length}
+use Rattle.std.proofs.Common.{get_or}
 use Rattle.std.proofs.lemmas.Bool.Decides.{nat_tests}
 use Rattle.std.proofs.Math.Seq.{map-set_same}
 use Rattle.std.proofs.lemmas.List.{get_or_default, length-map, map_push, take_more}
 use Rattle.std.proofs.lemmas.List.Folds.{find-set, find_at, find_past}
 use Rattle.std.proofs.lemmas.List.Sums.{prefix_len_passes, prefix_len_stops}
-use Rattle.std.proofs.lemmas.Option.{get_or_from_slice_get, slice_get-get_or, slice_get-map, slice_get_past}
+use Rattle.std.proofs.lemmas.Option.{get_or_from_slice_get, slice_get-get_or, slice_get-map}
+use Rattle.std.proofs.lemmas.Option.{slice_get_past}
 use Rattle.std.specs.List.{position, position_or_len}
 use Rattle.std.specs.Option.{option_map, option_map_or}
-use Rattle.std.specs.Prelude.{All, Contains, None, Option, Some, IsSome, nat_lt, slice_get, slice_set, ◌==◌}
+use Rattle.std.specs.Prelude.{All, Contains, None, Option, Some, IsSome, nat_lt, slice_get}
+use Rattle.std.specs.Prelude.{slice_set, ◌==◌}
 use Rattle.sacn_source.specs.Identity.{Identity}
 use Rattle.sacn_source.specs.Kept.{Lane}
-use Rattle.sacn_source.specs.Stands.{LaneStands, StandsAt, StandsFor, earliest_of, ended_of, lane_of, universes_of}
+use Rattle.sacn_source.specs.Stands.{LaneStands, StandsAt, StandsFor, earliest_of, ended_of}
+use Rattle.sacn_source.specs.Stands.{lane_of, universes_of}
 use Rattle.sacn_source.specs.Stream.{Offer, earliest_after}
 
 is_it : (a u : ℕ) → a ≡ u → (a == u) ≡ true
@@ -28,11 +32,13 @@ it_is a u e = grind (arith, nat_tests)
 abbrev place : List Lane → ℕ → ℕ
 place lanes u = position_or_len (λ (lane : Lane). lane.universe == u) lanes
 
-places : (lanes : List Lane) (u : ℕ) → position_or_len (λ (v : ℕ). v == u) (universes_of lanes) ≡ place lanes u
+places : (lanes : List Lane) (u : ℕ)
+    → position_or_len (λ (v : ℕ). v == u) (universes_of lanes) ≡ place lanes u
 places [] u = refl
 places (l ∷ ls) u = ap (λ (n : ℕ). cond (not (l.universe == u)) (1 + n) 0) (places ls u)
 
-found_by : (b : Bool) (p i n : ℕ) → nat_lt p n ≡ b → cond b (Some p) None ≡ Some i → (i ≡ p) × (i < n)
+found_by : (b : Bool) (p i n : ℕ) → nat_lt p n ≡ b → cond b (Some p) None ≡ Some i → (i ≡ p)
+    × (i < n)
 found_by true p i n h e =
     let same : i ≡ p = cc in
     (same, grind (arith, nat_tests))
@@ -42,7 +48,8 @@ found_some : (o : Option ℕ) → IsSome o → (i : ℕ) × (o ≡ Some i)
 found_some None s = cc
 found_some (Some i) s = (i, refl)
 
-some_at : (lanes : List Lane) (i : ℕ) → i < length lanes → (lane : Lane) × (lane ≡ get_or lanes i lane)
+some_at : (lanes : List Lane) (i : ℕ) → i < length lanes → (lane : Lane)
+    × (lane ≡ get_or lanes i lane)
 some_at [] i within = absurd (omega arith)
 some_at (l ∷ ls) i within =
     (get_or (l ∷ ls) i l, get_or_default (l ∷ ls) i l (get_or (l ∷ ls) i l) within)
@@ -58,11 +65,13 @@ found_if false p n h e =
     let past : n ≤ p = grind (arith, nat_tests) in
     absurd (e past)
 
-pub is_found : (universes : List ℕ) (u : ℕ) → Contains universes u → IsSome (position (λ v. v == u) universes)
+pub is_found : (universes : List ℕ) (u : ℕ) → Contains universes u
+    → IsSome (position (λ v. v == u) universes)
 is_found universes u here =
     found_if _ _ (length universes) refl (λ past.
     let k : here.0 < position_or_len (λ v. v == u) universes = omega (arith, here.1, past) in
-    let other : not (get_or universes here.0 u == u) ≡ true = prefix_len_passes (λ v. not (v == u)) universes here.0 u k in
+    let other : not (get_or universes here.0 u == u) ≡ true =
+    prefix_len_passes (λ v. not (v == u)) universes here.0 u k in
     let same : (get_or universes here.0 u == u) ≡ true = is_it _ _ here.2 in
     cc)
 
@@ -76,15 +85,18 @@ pub record LaneAt (lanes now : List Lane) (u i : ℕ) (lane : Lane) : Type 0 whe
   pub at : lane_of now u ≡ Some lane
 
 pub lane_at : (lanes now : List Lane) (universes : List ℕ) (u i : ℕ) (lane d : Lane) → lanes ≡ now
-    → universes ≡ universes_of lanes → position (λ v. v == u) universes ≡ Some i → lane ≡ get_or lanes i d
+    → universes ≡ universes_of lanes → position (λ v. v == u) universes ≡ Some i
+    → lane ≡ get_or lanes i d
     → LaneAt lanes now u i lane
 lane_at lanes now universes u i lane d same are found is =
     let there : position (λ v. v == u) (universes_of lanes) ≡ Some i =
     ap (λ (us : List ℕ). position (λ v. v == u) us) (sym are) ∙ found in
     let found_in = found_by _ _ i (length (universes_of lanes)) refl there in
-    let within : i < length lanes = omega (arith, found_in.1, length-map lanes (λ (l : Lane). l.universe)) in
+    let within : i < length lanes =
+    omega (arith, found_in.1, length-map lanes (λ (l : Lane). l.universe)) in
     let first : i ≡ place lanes u = found_in.0 ∙ places lanes u in
-    let get : slice_get lanes i ≡ Some lane = slice_get-get_or lanes i d within ∙ ap Some (sym is) in
+    let get : slice_get lanes i ≡ Some lane =
+    slice_get-get_or lanes i d within ∙ ap Some (sym is) in
     let stops : not (lane.universe == u) ≡ false =
     ap (λ (l : Lane). not (l.universe == u)) (is ∙ ap (λ (k : ℕ). get_or lanes k d) first)
     ∙ prefix_len_stops (λ l. not (l.universe == u)) lanes d (omega (arith, first, within)) in
@@ -98,27 +110,28 @@ lane_at lanes now universes u i lane d same are found is =
           ∙ ap (slice_get lanes) (sym first) ∙ get;
     }
 
-pub lane_found : (lanes now : List Lane) (universes slice : List ℕ) (u i : ℕ) (found : Option ℕ)
-    (lane d : Lane) → lanes ≡ now → universes ≡ universes_of lanes → slice ≡ universes
+pub lane_found : {lanes now : List Lane} {universes slice : List ℕ} {i : ℕ} {found : Option ℕ}
+    {lane : Lane} (u : ℕ) (d : Lane) → lanes ≡ now → universes ≡ universes_of lanes
+    → slice ≡ universes
     → found ≡ position (λ v. v == u) slice → found ≡ Some i → lane ≡ get_or lanes i d
     → LaneAt lanes now u i lane
-lane_found lanes now universes slice u i found lane d same are is result some at =
+lane_found {lanes} {now} {universes} {slice} {i} {found} {lane} u d same are is result some at =
     lane_at lanes now universes u i lane d same are
     (ap (λ (us : List ℕ). position (λ v. v == u) us) (sym is) ∙ sym result ∙ some) at
 
 -- what is kept of a universe is what its lane keeps
-pub earliest_at : (lanes now : List Lane) (u i : ℕ) (lane : Lane) → LaneAt lanes now u i lane
+pub earliest_at : {lanes now : List Lane} {u i : ℕ} {lane : Lane} → LaneAt lanes now u i lane
     → earliest_of now u ≡ lane.pace.earliest
-earliest_at lanes now u i lane p = ap (λ (o : Option Lane). option_map_or (λ l. l.pace.earliest) o 0) p.at
+earliest_at p = ap (λ (o : Option Lane). option_map_or (λ l. l.pace.earliest) o 0) p.at
 
-pub ended_at : (lanes now : List Lane) (u i : ℕ) (lane : Lane) → LaneAt lanes now u i lane
+pub ended_at : {lanes now : List Lane} {u i : ℕ} {lane : Lane} → LaneAt lanes now u i lane
     → ended_of now u ≡ lane.pace.ended
-ended_at lanes now u i lane p = ap (λ (o : Option Lane). option_map_or (λ l. l.pace.ended) o 0) p.at
+ended_at p = ap (λ (o : Option Lane). option_map_or (λ l. l.pace.ended) o 0) p.at
 
-pub lane_stands : (who : Identity) (lanes now : List Lane) (u i : ℕ) (lane : Lane) (offers : List Offer)
-    (n : ℕ) → LaneAt lanes now u i lane → StandsFor who now u offers n → LaneStands who lane offers n
-lane_stands who lanes now u i lane offers n p s =
-    subst (λ (o : Option Lane). StandsAt who o offers n) p.at s
+pub lane_stands : {lanes now : List Lane} {u i : ℕ} {lane : Lane} (who : Identity)
+    (offers : List Offer) (n : ℕ) → LaneAt lanes now u i lane → StandsFor who now u offers n
+    → LaneStands who lane offers n
+lane_stands who offers n p s = subst (λ (o : Option Lane). StandsAt who o offers n) p.at s
 
 -- the lane changes, and keeps its universe
 pub record Changes (lanes now : List Lane) (u i : ℕ) (new : Lane) : Type 0 where
@@ -126,9 +139,10 @@ pub record Changes (lanes now : List Lane) (u i : ℕ) (new : Lane) : Type 0 whe
   pub at : lane_of (slice_set lanes i new) u ≡ Some new
   pub others : (v : ℕ) → v ≢ u → lane_of (slice_set lanes i new) v ≡ lane_of now v
 
-pub changes : (lanes now : List Lane) (u i : ℕ) (lane new : Lane) → LaneAt lanes now u i lane
+pub changes : {lanes now : List Lane} {u i : ℕ} {lane : Lane} (new : Lane)
+    → LaneAt lanes now u i lane
     → new.universe ≡ lane.universe → Changes lanes now u i new
-changes lanes now u i lane new p kept =
+changes {lanes} {now} {u} {i} {lane} new p kept =
     let was : lane ≡ get_or lanes i lane = sym (get_or_from_slice_get lanes i lane lane p.get) in
     record {
       universes = map-set_same (λ (l : Lane). l.universe) lanes i new lane
@@ -140,28 +154,26 @@ changes lanes now u i lane new p kept =
           ∙ ap (λ (ls : List Lane). lane_of ls v) p.same;
     }
 
-pub sender_stands : (who : Identity) (lanes now : List Lane) (u i : ℕ) (new : Lane) (offers : List Offer)
-    (n : ℕ) → Changes lanes now u i new → LaneStands who new offers n
+pub sender_stands : {lanes now : List Lane} {u i : ℕ} {new : Lane} (who : Identity)
+    (offers : List Offer) (n : ℕ) → Changes lanes now u i new → LaneStands who new offers n
     → StandsFor who (slice_set lanes i new) u offers n
-sender_stands who lanes now u i new offers n p s =
-    subst (λ (o : Option Lane). StandsAt who o offers n) (sym p.at) s
+sender_stands who offers n p s = subst (λ (o : Option Lane). StandsAt who o offers n) (sym p.at) s
 
-pub earliest_now : (lanes now : List Lane) (u i : ℕ) (new : Lane) → Changes lanes now u i new
+pub earliest_now : {lanes now : List Lane} {u i : ℕ} {new : Lane} → Changes lanes now u i new
     → earliest_of (slice_set lanes i new) u ≡ new.pace.earliest
-earliest_now lanes now u i new p =
-    ap (λ (o : Option Lane). option_map_or (λ (l : Lane). l.pace.earliest) o 0) p.at
+earliest_now p = ap (λ (o : Option Lane). option_map_or (λ (l : Lane). l.pace.earliest) o 0) p.at
 
-pub ended_now : (lanes now : List Lane) (u i : ℕ) (new : Lane) → Changes lanes now u i new
+pub ended_now : {lanes now : List Lane} {u i : ℕ} {new : Lane} → Changes lanes now u i new
     → ended_of (slice_set lanes i new) u ≡ new.pace.ended
-ended_now lanes now u i new p =
-    ap (λ (o : Option Lane). option_map_or (λ (l : Lane). l.pace.ended) o 0) p.at
+ended_now p = ap (λ (o : Option Lane). option_map_or (λ (l : Lane). l.pace.ended) o 0) p.at
 
 -- a universe that is not found has no lane
 none_by : (b : Bool) (p n : ℕ) → nat_lt p n ≡ b → cond b (Some p) None ≡ None → n ≤ p
 none_by true p n h e = cc
 none_by false p n h e = grind (arith, nat_tests)
 
-pub no_lane : (who : Identity) (lanes now : List Lane) (universes : List ℕ) (u : ℕ) (offers : List Offer)
+pub no_lane : (who : Identity) (lanes now : List Lane) (universes : List ℕ) (u : ℕ)
+    (offers : List Offer)
     (n : ℕ) → lanes ≡ now → universes ≡ universes_of lanes → position (λ v. v == u) universes ≡ None
     → StandsFor who now u offers n → ⊥
 no_lane who lanes now universes u offers n same are none s =
@@ -178,14 +190,16 @@ no_lane who lanes now universes u offers n same are none s =
     subst (λ (o : Option Lane). StandsAt who o offers n) gone s
 
 -- a universe that is found is among those of the lanes
-pub is_there : (lanes now : List Lane) (u i : ℕ) (lane : Lane) → LaneAt lanes now u i lane
+pub is_there : {lanes now : List Lane} {u i : ℕ} {lane : Lane} → LaneAt lanes now u i lane
     → Contains (universes_of now) u
-is_there lanes now u i lane p =
+is_there {lanes} {now} {u} {i} {lane} p =
+    let universe : Lane → ℕ = λ l. l.universe in
+    let at : slice_get (universes_of lanes) i ≡ Some u =
+    slice_get-map universe lanes i ∙ ap (option_map universe) p.get ∙ ap Some p.is in
     subst (λ (ls : List Lane). Contains (universes_of ls) u) p.same (
       i,
-      omega (arith, p.within, length-map lanes (λ (l : Lane). l.universe)),
-      get_or_from_slice_get (universes_of lanes) i u u (slice_get-map (λ (l : Lane). l.universe) lanes i
-          ∙ ap (option_map (λ (l : Lane). l.universe)) p.get ∙ ap Some p.is),
+      omega (arith, p.within, length-map lanes universe),
+      get_or_from_slice_get (universes_of lanes) i u u at,
     )
 
 -- a sender that was just opened
@@ -193,7 +207,8 @@ pub opened : (who : Identity) (lanes : List Lane) (universes : List ℕ) (u : �
     → universes_of lanes ≡ universes → All (λ lane. LaneStands who lane [] 0) lanes
     → Contains universes u → StandsFor who lanes u [] 0
 opened who lanes universes u are all here =
-    let there : Contains (universes_of lanes) u = subst (λ (us : List ℕ). Contains us u) (sym are) here in
+    let there : Contains (universes_of lanes) u =
+    subst (λ (us : List ℕ). Contains us u) (sym are) here in
     let found = found_some _ (is_found (universes_of lanes) u there) in
     let within : found.0 < length lanes = omega (
       arith,
@@ -201,25 +216,29 @@ opened who lanes universes u are all here =
       length-map lanes (λ (l : Lane). l.universe),
     ) in
     let some = some_at lanes found.0 within in
-    let p = lane_at lanes lanes (universes_of lanes) u found.0 some.0 some.0 refl refl found.1 some.1 in
+    let p = lane_at lanes lanes (universes_of lanes) u found.0 some.0 some.0 refl refl found.1
+    some.1 in
     subst (λ (o : Option Lane). StandsAt who o [] 0) (sym p.at)
     (subst (λ (l : Lane). LaneStands who l [] 0) (sym some.1) (all found.0 some.0 within))
 
 pub universes_more : (lanes : List Lane) (lane : Lane) (universes : List ℕ) (i d : ℕ)
     → i < length universes → lane.universe ≡ get_or universes i d
-    → universes_of lanes ≡ take i universes → universes_of (lanes ++ lane ∷ []) ≡ take (i + 1) universes
+    → universes_of lanes ≡ take i universes
+    → universes_of (lanes ++ lane ∷ []) ≡ take (i + 1) universes
 universes_more lanes lane universes i d within is so_far =
     map_push (λ (l : Lane). l.universe) lanes lane
     ∙ ap (λ (us : List ℕ). us ++ lane.universe ∷ []) so_far
     ∙ ap (λ (u : ℕ). take i universes ++ u ∷ []) is ∙ sym (take_more universes i d within)
 
 -- what is kept of a universe, by what it stands for
-earliest_stands : (who : Identity) (o : Option Lane) (offers : List Offer) (n : ℕ) → StandsAt who o offers n
+earliest_stands : (who : Identity) (o : Option Lane) (offers : List Offer) (n : ℕ)
+    → StandsAt who o offers n
     → option_map_or (λ (l : Lane). l.pace.earliest) o 0 ≡ earliest_after offers
 earliest_stands who None offers n s = absurd s
 earliest_stands who (Some l) offers n s = s.paces.earliest_is
 
-ended_stands : (who : Identity) (o : Option Lane) (offers : List Offer) (n : ℕ) → StandsAt who o offers n
+ended_stands : (who : Identity) (o : Option Lane) (offers : List Offer) (n : ℕ)
+    → StandsAt who o offers n
     → option_map_or (λ (l : Lane). l.pace.ended) o 0 ≡ n
 ended_stands who None offers n s = absurd s
 ended_stands who (Some l) offers n s = s.paces.ended_is

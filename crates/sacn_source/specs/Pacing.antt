@@ -10,7 +10,7 @@ pub record Paces (pace : Pace) (offers : List Offer) (n : ℕ) : Type 0 where
   pub last_is : pace.last_sent ≡ last_sent offers
   pub earliest_is : pace.earliest ≡ earliest_after offers
   pub ended_is : pace.ended ≡ n
-  -- three repeats are left where the newest offer is a change, two where the one before is, and so on
+  -- three repeats are left where the newest offer is a change, two where the one before it is
   pub repeats_are : (m : ℕ) → m ≤ 3 → changed_within m offers ≡ nat_lt (3 - m) pace.repeats
 
 -- what holds of every pace: at most one packet for each moment so far and each termination
@@ -27,7 +27,8 @@ is_change pace differs = differs || pace.earliest == 0
 
 -- whether an offer sends, by what the pace keeps
 abbrev pub is_due : Pace → Bool → ℕ → Bool
-is_due pace changed moment = (changed || nat_lt 0 pace.repeats) || nat_le (pace.last_sent + 800) moment
+is_due pace changed moment = (changed || nat_lt 0 pace.repeats) || nat_le (pace.last_sent + 800)
+    moment
 
 -- the pace after an offer
 abbrev pub pace_after : Pace → Bool → ℕ → Pace

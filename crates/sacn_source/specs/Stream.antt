@@ -1,7 +1,8 @@
 -- What the source of one universe sends (E1.31-2018: sequence numbering, transmission rate and
 -- termination, with this product's three repeats). Lists of offers have the newest first.
 use Rattle.std.specs.Prelude.{ℕ, suc, zero, ◌+◌, Bool, true, false, not, ◌||◌, nat_le, nat_eq}
-use Rattle.std.specs.Prelude.{List, [], ◌∷◌, ◌++◌, map, replicate, if◌then◌else◌, Option, Some, None}
+use Rattle.std.specs.Prelude.{List, [], ◌∷◌, ◌++◌, map, replicate, if◌then◌else◌, Option, Some}
+use Rattle.std.specs.Prelude.{None}
 use Rattle.std.specs.Cmp.Lexicographic.{pointwise}
 
 -- a frame that was offered, and when, in milliseconds

@@ -1,4 +1,4 @@
-//! The stream of one E1.31 source: which frames go out, under which numbers, and the end of a stream.
+//! The streams of one E1.31 source: which frames go out, under which numbers, and how each ends.
 #![tactic(auto)]
 
 mod identity;

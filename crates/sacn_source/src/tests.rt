@@ -21,7 +21,7 @@ fn frame(level: u8) -> [u8; 512] {
     slots
 }
 
-// What a packet of the player to universe 1 says of itself: its number, its options, its first slot.
+// What a packet of the player to universe 1 says: its number, its options and its first slot.
 fn said(bytes: &[u8]) -> Option<(u8, u8, u8)> {
     let packet = parse(bytes).ok()?;
     let from_player = packet.cid() == CID
@@ -92,7 +92,11 @@ fn keep_alive(rt: HostRuntime) {
             1675 => Sent(5),
             _ => Quiet,
         };
-        assert_eq!(rt; sender.offer(moment, 1, &[0; 512], &mut link), wanted, "{moment} ms");
+        assert_eq!(rt;
+            sender.offer(moment, 1, &[0; 512], &mut link),
+            wanted,
+            "{moment} ms"
+        );
     }
     assert_eq!(rt; link.sends.len(), 6);
     assert_eq!(rt; sender.sent(1), 6);

@@ -5,5 +5,6 @@ use Rattle.sacn_packet.proofs.kept.slots_in.Goals as goal
 
 pub returns : goal.returns
 returns c = λ fields slots h.
-    let few : length (drop 126 c.args.packet.now) ≤ 512 = omega (arith, length-drop 126 c.args.packet.now, c.told-packet) in
+    let few : length (drop 126 c.args.packet.now) ≤ 512 =
+    omega (arith, length-drop 126 c.args.packet.now, c.told-packet) in
     take_all 512 (drop 126 c.args.packet.now) few ∙ slots_are c.args.packet.now fields slots h

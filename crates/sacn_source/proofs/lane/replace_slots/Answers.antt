@@ -13,7 +13,8 @@ returns-then-eq-clause-differs c = λ fields old h.
 pub returns-then-eq-clause-packet : goal.returns-then-eq-clause-packet
 returns-then-eq-clause-packet c = λ fields old h.
     let slots_are = c.slots_in.ensures fields old h in
-    let same = (bytes_decides c.as_slice.result.now c.slots_in.result.now).0 (sym c.eq.ensures ∙ c.if-eq.true) in
+    let same = (bytes_decides c.as_slice.result.now c.slots_in.result.now).0
+    (sym c.eq.ensures ∙ c.if-eq.true) in
     let is : old ≡ c.args.slots.now = cc in
     subst (λ (slots : List ℕ). IsData c.args.packet.now fields slots) is h
 

@@ -6,5 +6,10 @@ use Rattle.sacn_source.proofs.lane.Lane.new.Goals as goal
 pub returns-clause-stands : goal.returns-clause-stands
 returns-clause-stands c = record {
   paces = c.new.ensures;
-  packet = (0, 0, subst (λ (fields : Fields). IsData c.encode.new.out fields (replicate 512 0)) c.header.ensures.fields c.encode.ensures);
+  packet = (
+    0,
+    0,
+    subst (λ (fields : Fields). IsData c.encode.new.out fields (replicate 512 0))
+        c.header.ensures.fields c.encode.ensures,
+  );
 }

@@ -14,7 +14,8 @@ returns-then-take_offer-clause-stands g c = λ who offers stands.
     let o : Offer = record { moment = c.args.moment; frame = c.args.slots.now } in
     let s = subst (λ (lane : Lane). LaneStands who lane offers 0) (sym c.self.view_is) stands in
     let differs = c.replace_slots-differs.ensures.differs _ _ s.packet.2 in
-    let changed = changed_by offers c.self.inside.pace o.moment o.frame c.replace_slots-differs.result s.paces differs in
+    let changed = changed_by offers c.self.inside.pace o.moment o.frame
+    c.replace_slots-differs.result s.paces differs in
     record {
       paces = subst (λ (pace : Pace). Paces pace (o ∷ offers) 0) (sym c.take_offer.ensures.state)
           (takes_offer c.self.inside.pace offers o _ changed s.paces);
@@ -30,7 +31,8 @@ returns-else-take_offer-clause-stands g c = λ who offers stands.
     let o : Offer = record { moment = c.args.moment; frame = c.args.slots.now } in
     let s = subst (λ (lane : Lane). LaneStands who lane offers 0) (sym c.self.view_is) stands in
     let differs = c.replace_slots-differs.ensures.differs _ _ s.packet.2 in
-    let changed = changed_by offers c.self.inside.pace o.moment o.frame c.replace_slots-differs.result s.paces differs in
+    let changed = changed_by offers c.self.inside.pace o.moment o.frame
+    c.replace_slots-differs.result s.paces differs in
     record {
       paces = subst (λ (pace : Pace). Paces pace (o ∷ offers) 0) (sym c.take_offer.ensures.state)
           (takes_offer c.self.inside.pace offers o _ changed s.paces);
@@ -42,7 +44,8 @@ returns-then-take_offer-clause-answer g c = λ who offers stands.
     let o : Offer = record { moment = c.args.moment; frame = c.args.slots.now } in
     let s = subst (λ (lane : Lane). LaneStands who lane offers 0) (sym c.self.view_is) stands in
     let differs = c.replace_slots-differs.ensures.differs _ _ s.packet.2 in
-    let changed = changed_by offers c.self.inside.pace o.moment o.frame c.replace_slots-differs.result s.paces differs in
+    let changed = changed_by offers c.self.inside.pace o.moment o.frame
+    c.replace_slots-differs.result s.paces differs in
     let is : sends (o ∷ offers) ≡ true =
     sym (due_same c.self.inside.pace offers o _ changed s.paces)
     ∙ sym c.take_offer.ensures.due ∙ c.if-take_offer.true in
@@ -55,17 +58,20 @@ returns-then-take_offer-clause-offered g c = λ who offers stands tells.
     let o : Offer = record { moment = c.args.moment; frame = c.args.slots.now } in
     let s = subst (λ (lane : Lane). LaneStands who lane offers 0) (sym c.self.view_is) stands in
     let differs = c.replace_slots-differs.ensures.differs _ _ s.packet.2 in
-    let changed = changed_by offers c.self.inside.pace o.moment o.frame c.replace_slots-differs.result s.paces differs in
+    let changed = changed_by offers c.self.inside.pace o.moment o.frame
+    c.replace_slots-differs.result s.paces differs in
     let is : sends (o ∷ offers) ≡ true =
     sym (due_same c.self.inside.pace offers o _ changed s.paces)
     ∙ sym c.take_offer.ensures.due ∙ c.if-take_offer.true in
     let before = g.L.Link.offered c.args.link.now in
     let after = g.L.Link.offered c.send.new.link in
-    subst (λ (lane : Lane). Offers who lane.universe (length (packets offers 0)) (due (o ∷ offers)) c.send.result before after)
+    subst (λ (lane : Lane). Offers who lane.universe (length (packets offers 0)) (due (o ∷ offers))
+    c.send.result before after)
     c.self.view_is
     (offered (sends (o ∷ offers)) who c.self.inside.universe (length (packets offers 0))
     (live_packet o.frame) c.send.result before after is
-    (sent_packet who c.self.inside.universe c.sent-place.result _ (live_packet o.frame) c.send.new.packet
+    (sent_packet who c.self.inside.universe c.sent-place.result _ (live_packet o.frame)
+    c.send.new.packet
     c.send.result before after (c.sent-place.ensures.value ∙ s.paces.sent_is)
     (c.send.ensures.packet _ _ (c.replace_slots-differs.ensures.packet _ _ s.packet.2))
     (c.send.ensures.offered tells)))
@@ -75,7 +81,8 @@ returns-else-take_offer-clause-answer g c = λ who offers stands.
     let o : Offer = record { moment = c.args.moment; frame = c.args.slots.now } in
     let s = subst (λ (lane : Lane). LaneStands who lane offers 0) (sym c.self.view_is) stands in
     let differs = c.replace_slots-differs.ensures.differs _ _ s.packet.2 in
-    let changed = changed_by offers c.self.inside.pace o.moment o.frame c.replace_slots-differs.result s.paces differs in
+    let changed = changed_by offers c.self.inside.pace o.moment o.frame
+    c.replace_slots-differs.result s.paces differs in
     let is : sends (o ∷ offers) ≡ false =
     sym (due_same c.self.inside.pace offers o _ changed s.paces)
     ∙ sym c.take_offer.ensures.due ∙ c.if-take_offer.false in
@@ -86,7 +93,8 @@ returns-else-take_offer-clause-offered g c = λ who offers stands tells.
     let o : Offer = record { moment = c.args.moment; frame = c.args.slots.now } in
     let s = subst (λ (lane : Lane). LaneStands who lane offers 0) (sym c.self.view_is) stands in
     let differs = c.replace_slots-differs.ensures.differs _ _ s.packet.2 in
-    let changed = changed_by offers c.self.inside.pace o.moment o.frame c.replace_slots-differs.result s.paces differs in
+    let changed = changed_by offers c.self.inside.pace o.moment o.frame
+    c.replace_slots-differs.result s.paces differs in
     let is : sends (o ∷ offers) ≡ false =
     sym (due_same c.self.inside.pace offers o _ changed s.paces)
     ∙ sym c.take_offer.ensures.due ∙ c.if-take_offer.false in

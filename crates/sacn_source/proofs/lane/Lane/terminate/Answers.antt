@@ -26,8 +26,11 @@ returns-clause-offered g c = λ who offers n stands tells.
     let s = subst (λ (lane : Lane). LaneStands who lane offers n) (sym c.self.view_is) stands in
     let before = g.L.Link.offered c.args.link.now in
     let after = g.L.Link.offered c.send.new.link in
-    subst (λ (lane : Lane). Offers who lane.universe (length (packets offers n)) (Some last_packet) c.send.result before after)
+    subst (λ (lane : Lane). Offers who lane.universe (length (packets offers n)) (Some last_packet)
+    c.send.result before after)
     c.self.view_is
-    (sent_packet who c.self.inside.universe c.sent-place.result _ last_packet c.send.new.packet c.send.result
+    (sent_packet who c.self.inside.universe c.sent-place.result _ last_packet c.send.new.packet
+    c.send.result
     before after (c.sent-place.ensures.value ∙ s.paces.sent_is)
-    (c.send.ensures.packet _ _ (c.refill.ensures.packet _ _ s.packet.2)) (c.send.ensures.offered tells))
+    (c.send.ensures.packet _ _ (c.refill.ensures.packet _ _ s.packet.2))
+    (c.send.ensures.offered tells))

@@ -2,9 +2,10 @@ use Rattle.std.proofs.Common.{◌≡◌, ◌∙◌, ◌∷◌, List, ℕ, length
 use Rattle.std.specs.Prelude.{Contains, IsSome}
 use Rattle.sacn_source.specs.Offering.{Offers}
 use Rattle.sacn_source.specs.Stands.{universes_of}
-use Rattle.sacn_source.specs.Stream.{due, packets}
-use Rattle.sacn_source.proofs.SenderLemmas.{changes, earliest_at, earliest_now, ended_at, ended_now, is_found, lane_found}
-use Rattle.sacn_source.proofs.SenderLemmas.{lane_stands, sender_stands}
+use Rattle.sacn_source.specs.Stream.{Offer, due, packets}
+use Rattle.sacn_source.proofs.SenderLemmas.{changes, earliest_at, earliest_now, ended_at}
+use Rattle.sacn_source.proofs.SenderLemmas.{ended_now, is_found, lane_found, lane_stands}
+use Rattle.sacn_source.proofs.SenderLemmas.{sender_stands}
 use Rattle.sacn_source.proofs.sender.Sender.offer.Goals as goal
 
 pub unwrap-place-requires : goal.unwrap-place-requires
@@ -16,51 +17,45 @@ unwrap-place-requires g c =
 
 pub offer-requires-clause-later : goal.offer-requires-clause-later
 offer-requires-clause-later g c =
-    let p = lane_found c.self.inside.lanes.items c.args.self.now c.self.inside.universes.items
-    c.as_slice.result.now c.args.universe c.unwrap-place.result c.place_of.result c.index_mut.result.now _
-    c.self.view_is c.self.invariant c.as_slice.ensures.value c.place_of.ensures c.unwrap-place.ensures
-    c.index_mut.ensures.value in
-    omega (arith, earliest_at c.self.inside.lanes.items c.args.self.now c.args.universe c.unwrap-place.result c.index_mut.result.now p, c.requires.later)
+    let p = lane_found c.args.universe _ c.self.view_is c.self.invariant
+    c.as_slice.ensures.value c.place_of.ensures c.unwrap-place.ensures c.index_mut.ensures.value
+    in
+    omega (arith, earliest_at p, c.requires.later)
 
 pub offer-requires-clause-live : goal.offer-requires-clause-live
 offer-requires-clause-live g c =
-    let p = lane_found c.self.inside.lanes.items c.args.self.now c.self.inside.universes.items
-    c.as_slice.result.now c.args.universe c.unwrap-place.result c.place_of.result c.index_mut.result.now _
-    c.self.view_is c.self.invariant c.as_slice.ensures.value c.place_of.ensures c.unwrap-place.ensures
-    c.index_mut.ensures.value in
-    sym (ended_at c.self.inside.lanes.items c.args.self.now c.args.universe c.unwrap-place.result c.index_mut.result.now p) ∙ c.requires.live
+    let p = lane_found c.args.universe _ c.self.view_is c.self.invariant
+    c.as_slice.ensures.value c.place_of.ensures c.unwrap-place.ensures c.index_mut.ensures.value
+    in
+    sym (ended_at p) ∙ c.requires.live
 
 pub invariant_of-self : goal.invariant_of-self
 invariant_of-self g c =
-    let p = lane_found c.self.inside.lanes.items c.args.self.now c.self.inside.universes.items
-    c.as_slice.result.now c.args.universe c.unwrap-place.result c.place_of.result c.index_mut.result.now _
-    c.self.view_is c.self.invariant c.as_slice.ensures.value c.place_of.ensures c.unwrap-place.ensures
-    c.index_mut.ensures.value in
-    let x = changes c.self.inside.lanes.items c.args.self.now c.args.universe c.unwrap-place.result c.index_mut.result.now c.offer.new.self p c.offer.ensures.universe in
+    let p = lane_found c.args.universe _ c.self.view_is c.self.invariant
+    c.as_slice.ensures.value c.place_of.ensures c.unwrap-place.ensures c.index_mut.ensures.value
+    in
+    let x = changes c.offer.new.self p c.offer.ensures.universe in
     c.self.invariant ∙ sym x.universes
 
 pub returns : goal.returns
 returns g c =
-    let p = lane_found c.self.inside.lanes.items c.args.self.now c.self.inside.universes.items
-    c.as_slice.result.now c.args.universe c.unwrap-place.result c.place_of.result c.index_mut.result.now _
-    c.self.view_is c.self.invariant c.as_slice.ensures.value c.place_of.ensures c.unwrap-place.ensures
-    c.index_mut.ensures.value in
-    let x = changes c.self.inside.lanes.items c.args.self.now c.args.universe c.unwrap-place.result c.index_mut.result.now c.offer.new.self p c.offer.ensures.universe in
+    let o : Offer = record { moment = c.args.moment; frame = c.args.slots.now } in
+    let p = lane_found c.args.universe _ c.self.view_is c.self.invariant
+    c.as_slice.ensures.value c.place_of.ensures c.unwrap-place.ensures c.index_mut.ensures.value
+    in
+    let x = changes c.offer.new.self p c.offer.ensures.universe in
     record {
       universes = x.universes ∙ ap universes_of c.self.view_is;
-      stands = λ who offers s. sender_stands who c.self.inside.lanes.items c.args.self.now c.args.universe c.unwrap-place.result c.offer.new.self (record { moment = c.args.moment; frame = c.args.slots.now } ∷ offers) 0 x
-          (c.offer.ensures.stands who offers
-          (lane_stands who c.self.inside.lanes.items c.args.self.now c.args.universe c.unwrap-place.result c.index_mut.result.now offers 0 p s));
+      stands = λ who offers s. sender_stands who (o ∷ offers) 0 x
+          (c.offer.ensures.stands who offers (lane_stands who offers 0 p s));
       others = x.others;
-      answer = λ who offers s. c.offer.ensures.answer who offers
-          (lane_stands who c.self.inside.lanes.items c.args.self.now c.args.universe c.unwrap-place.result c.index_mut.result.now offers 0 p s);
+      answer = λ who offers s. c.offer.ensures.answer who offers (lane_stands who offers 0 p s);
       told = c.offer.ensures.told;
       offered = λ who offers s tells.
-          subst (λ (u : ℕ). Offers who u (length (packets offers 0)) (due (record { moment = c.args.moment; frame = c.args.slots.now } ∷ offers)) c.offer.result
+          subst (λ (u : ℕ). Offers who u (length (packets offers 0)) (due (o ∷ offers))
+          c.offer.result
           (g.L.Link.offered c.args.link.now) (g.L.Link.offered c.offer.new.link)) p.is
-          (c.offer.ensures.offered who offers
-          (lane_stands who c.self.inside.lanes.items c.args.self.now c.args.universe c.unwrap-place.result c.index_mut.result.now offers 0 p s) tells);
-      earliest = earliest_now c.self.inside.lanes.items c.args.self.now c.args.universe c.unwrap-place.result c.offer.new.self x ∙ c.offer.ensures.earliest;
-      ended = ended_now c.self.inside.lanes.items c.args.self.now c.args.universe c.unwrap-place.result c.offer.new.self x ∙ c.offer.ensures.ended
-          ∙ sym (ended_at c.self.inside.lanes.items c.args.self.now c.args.universe c.unwrap-place.result c.index_mut.result.now p) ∙ c.requires.live;
+          (c.offer.ensures.offered who offers (lane_stands who offers 0 p s) tells);
+      earliest = earliest_now x ∙ c.offer.ensures.earliest;
+      ended = ended_now x ∙ c.offer.ensures.ended ∙ sym (ended_at p) ∙ c.requires.live;
     }

@@ -3,8 +3,9 @@ use Rattle.std.specs.Prelude.{Contains, IsSome}
 use Rattle.sacn_source.specs.Offering.{Offers}
 use Rattle.sacn_source.specs.Stands.{universes_of}
 use Rattle.sacn_source.specs.Stream.{last_packet, packets}
-use Rattle.sacn_source.proofs.SenderLemmas.{changes, earliest_at, earliest_now, ended_at, ended_now, is_found, lane_found}
-use Rattle.sacn_source.proofs.SenderLemmas.{lane_stands, sender_stands}
+use Rattle.sacn_source.proofs.SenderLemmas.{changes, earliest_at, earliest_now, ended_at}
+use Rattle.sacn_source.proofs.SenderLemmas.{ended_now, is_found, lane_found, lane_stands}
+use Rattle.sacn_source.proofs.SenderLemmas.{sender_stands}
 use Rattle.sacn_source.proofs.sender.Sender.terminate.Goals as goal
 
 pub unwrap-place-requires : goal.unwrap-place-requires
@@ -16,44 +17,38 @@ unwrap-place-requires g c =
 
 pub terminate-requires : goal.terminate-requires
 terminate-requires g c =
-    let p = lane_found c.self.inside.lanes.items c.args.self.now c.self.inside.universes.items
-    c.as_slice.result.now c.args.universe c.unwrap-place.result c.place_of.result c.index_mut.result.now _
-    c.self.view_is c.self.invariant c.as_slice.ensures.value c.place_of.ensures c.unwrap-place.ensures
-    c.index_mut.ensures.value in
-    record { fewer = omega (arith, ended_at c.self.inside.lanes.items c.args.self.now c.args.universe c.unwrap-place.result c.index_mut.result.now p, c.requires.fewer) }
+    let p = lane_found c.args.universe _ c.self.view_is c.self.invariant
+    c.as_slice.ensures.value c.place_of.ensures c.unwrap-place.ensures c.index_mut.ensures.value
+    in
+    record { fewer = omega (arith, ended_at p, c.requires.fewer) }
 
 pub invariant_of-self : goal.invariant_of-self
 invariant_of-self g c =
-    let p = lane_found c.self.inside.lanes.items c.args.self.now c.self.inside.universes.items
-    c.as_slice.result.now c.args.universe c.unwrap-place.result c.place_of.result c.index_mut.result.now _
-    c.self.view_is c.self.invariant c.as_slice.ensures.value c.place_of.ensures c.unwrap-place.ensures
-    c.index_mut.ensures.value in
-    let x = changes c.self.inside.lanes.items c.args.self.now c.args.universe c.unwrap-place.result c.index_mut.result.now c.terminate.new.self p c.terminate.ensures.universe in
+    let p = lane_found c.args.universe _ c.self.view_is c.self.invariant
+    c.as_slice.ensures.value c.place_of.ensures c.unwrap-place.ensures c.index_mut.ensures.value
+    in
+    let x = changes c.terminate.new.self p c.terminate.ensures.universe in
     c.self.invariant ∙ sym x.universes
 
 pub returns : goal.returns
 returns g c =
-    let p = lane_found c.self.inside.lanes.items c.args.self.now c.self.inside.universes.items
-    c.as_slice.result.now c.args.universe c.unwrap-place.result c.place_of.result c.index_mut.result.now _
-    c.self.view_is c.self.invariant c.as_slice.ensures.value c.place_of.ensures c.unwrap-place.ensures
-    c.index_mut.ensures.value in
-    let x = changes c.self.inside.lanes.items c.args.self.now c.args.universe c.unwrap-place.result c.index_mut.result.now c.terminate.new.self p c.terminate.ensures.universe in
+    let p = lane_found c.args.universe _ c.self.view_is c.self.invariant
+    c.as_slice.ensures.value c.place_of.ensures c.unwrap-place.ensures c.index_mut.ensures.value
+    in
+    let x = changes c.terminate.new.self p c.terminate.ensures.universe in
     record {
       universes = x.universes ∙ ap universes_of c.self.view_is;
-      stands = λ who offers n s. sender_stands who c.self.inside.lanes.items c.args.self.now c.args.universe c.unwrap-place.result c.terminate.new.self offers (suc n) x
-          (c.terminate.ensures.stands who offers n
-          (lane_stands who c.self.inside.lanes.items c.args.self.now c.args.universe c.unwrap-place.result c.index_mut.result.now offers n p s));
+      stands = λ who offers n s. sender_stands who offers (suc n) x
+          (c.terminate.ensures.stands who offers n (lane_stands who offers n p s));
       others = x.others;
       answer = λ who offers n s. c.terminate.ensures.answer who offers n
-          (lane_stands who c.self.inside.lanes.items c.args.self.now c.args.universe c.unwrap-place.result c.index_mut.result.now offers n p s);
+          (lane_stands who offers n p s);
       told = c.terminate.ensures.told;
       offered = λ who offers n s tells.
-          subst (λ (u : ℕ). Offers who u (length (packets offers n)) (Some last_packet) c.terminate.result
+          subst (λ (u : ℕ). Offers who u (length (packets offers n)) (Some last_packet)
+          c.terminate.result
           (g.L.Link.offered c.args.link.now) (g.L.Link.offered c.terminate.new.link)) p.is
-          (c.terminate.ensures.offered who offers n
-          (lane_stands who c.self.inside.lanes.items c.args.self.now c.args.universe c.unwrap-place.result c.index_mut.result.now offers n p s) tells);
-      earliest = earliest_now c.self.inside.lanes.items c.args.self.now c.args.universe c.unwrap-place.result c.terminate.new.self x ∙ c.terminate.ensures.earliest
-          ∙ sym (earliest_at c.self.inside.lanes.items c.args.self.now c.args.universe c.unwrap-place.result c.index_mut.result.now p);
-      ended = ended_now c.self.inside.lanes.items c.args.self.now c.args.universe c.unwrap-place.result c.terminate.new.self x ∙ c.terminate.ensures.ended
-          ∙ ap (λ (n : ℕ). n + 1) (sym (ended_at c.self.inside.lanes.items c.args.self.now c.args.universe c.unwrap-place.result c.index_mut.result.now p));
+          (c.terminate.ensures.offered who offers n (lane_stands who offers n p s) tells);
+      earliest = earliest_now x ∙ c.terminate.ensures.earliest ∙ sym (earliest_at p);
+      ended = ended_now x ∙ c.terminate.ensures.ended ∙ ap (λ (n : ℕ). n + 1) (sym (ended_at p));
     }
