@@ -1,4 +1,4 @@
--- The fields of the types of this crate, seen as what contracts see.
+-- The fields of a pace, seen as what contracts see.
 use Rattle.sacn_source.specs.declared.pace.Pace.TheInside.{Inside as PaceFields}
 use Rattle.sacn_source.specs.Kept.{Pace}
 

@@ -62,9 +62,10 @@ impl Sender {
         })
     }
 
-    /// Offers a universe the frame of a moment, in milliseconds. It sends a packet where the frame
-    /// is the first or another than the one before, three times more after such a change, and
-    /// where its last packet is 800 ms ago. A packet that is lost uses its number.
+    /// Offers a universe of the sender's the frame of a moment, in milliseconds, below 2^48 and
+    /// later than that of the last offer. It sends a packet where the frame is the first or another
+    /// than the one before, three times more after such a change, and where its last packet is
+    /// 800 ms ago. A packet that is lost uses its number. After a termination there are no offers.
     pub fn offer<L: Link>(
         &mut self,
         moment: u64,
@@ -100,8 +101,8 @@ impl Sender {
         self.lanes[place].offer(moment, slots, link)
     }
 
-    /// Sends a universe one packet with Stream_Terminated and every slot at 0. At most three end a
-    /// stream.
+    /// Sends a universe of the sender's one packet with Stream_Terminated and every slot at 0. At
+    /// most three end a stream.
     pub fn terminate<L: Link>(&mut self, universe: u16, link: &mut L) -> Offered
         requires here { Contains (universes_of self.old) universe }
         requires fewer { ended_of self.old universe < 3 }
