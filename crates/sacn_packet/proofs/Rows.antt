@@ -1,5 +1,5 @@
 -- The packet of the smallest show, and what is wrong with others like it, evaluated.
-use Rattle.std.specs.Prelude.{◌≡◌, refl, ℕ, ◌+◌, ◌-◌, List, [], ◌∷◌, ◌++◌, map, take, drop, replicate, slice_index, Option, Some, None, codes}
+use Rattle.std.specs.Prelude.{◌≡◌, refl, ℕ, ◌+◌, ◌-◌, List, [], ◌∷◌, ◌++◌, map, take, drop, replicate, slice_index, slice_set, Option, Some, None, codes}
 use Rattle.std.specs.List.{range_with_len}
 use Rattle.sacn_packet.specs.declared.unreadable.Unreadable.{Unreadable}
 use Rattle.sacn_packet.specs.declared.unreadable.Unreadable.TheVariants.{Short, Preamble, Identifier, RootVector, Length, FramingVector, Universe, Dmp, Count}
@@ -64,3 +64,13 @@ turned_framing_layer = (refl, refl, refl, refl, refl)
 turned_dmp_layer : (turned 115 2 ≡ replicate 2 (Some Length)) × (turned 117 6 ≡ replicate 6 (Some Dmp))
     × (turned 123 2 ≡ replicate 2 (Some Count)) × (turned 125 2 ≡ replicate 2 None) × (turned 637 1 ≡ None ∷ [])
 turned_dmp_layer = (refl, refl, refl, refl, refl)
+
+-- renumber, as its clause `bytes` says it: no other byte changes, and the packet is one still
+abbrev renumbered_packet : List ℕ
+renumbered_packet = slice_set (slice_set look_one_packet 111 5) 112 0x40
+
+renumber : renumbered_packet ≡ take 111 look_one_packet ++ 5 ∷ 0x40 ∷ drop 113 look_one_packet
+renumber = refl
+
+renumbered_faultless : fault_of renumbered_packet ≡ None
+renumbered_faultless = refl
