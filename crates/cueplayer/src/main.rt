@@ -1,6 +1,7 @@
 //! The program: it reads its words, runs what they ask for, and reports how that ended.
 #![tactic(auto)]
 
+ghost use Rattle.std.specs.Prelude.{◌≡◌, ◌≤◌, codes};
 ghost use Rattle.cueplayer_words.specs.Job.{IsInRange};
 
 mod input;
@@ -11,11 +12,16 @@ mod words;
 
 use clap::Error;
 use cueplayer_faults::{RunFault, exit_status};
+use cueplayer_play::play;
 use cueplayer_runs::{check, listen, look};
 use cueplayer_words::{Job, WordsFault, read_words};
 use devices::Output;
+use fade_core::PlainFader;
+use input::SystemInput;
 use output::SystemOutput;
 use reading::{file_text, show_text};
+use sacn_packet::SourceName;
+use sacn_source::Identity;
 use socket::{ReceivingSocket, SendingSocket};
 use std::env;
 use std::io::ErrorKind;
@@ -38,10 +44,26 @@ fn run(rt: &HostRuntime, job: Job) -> Result<(), RunFault>
             let text = show_text(rt, show.as_str())?;
             look(rt.alloc(), text.as_slice(), cue, cid, &mut out)
         }
-        Job::Play { show, to, .. } => {
-            let _text = file_text(rt, show.as_str())?;
-            let _link = SendingSocket::open(rt, to)?;
-            Ok(())
+        Job::Play {
+            show,
+            to,
+            cid,
+            priority,
+            base,
+        } => {
+            let text = file_text(rt, show.as_str())?;
+            let mut link = SendingSocket::open(rt, to)?;
+            let mut input = SystemInput::new(rt.stdin());
+            let source = identity(cid, priority);
+            play::<PlainFader, _, _, _>(
+                rt.alloc(),
+                text.as_slice(),
+                source,
+                base,
+                &mut input,
+                &mut link,
+                &mut out,
+            )
         }
         Job::Listen {
             at,
@@ -52,6 +74,19 @@ fn run(rt: &HostRuntime, job: Job) -> Result<(), RunFault>
             listen(&mut source, universe, count, &mut out)
         }
     }
+}
+
+// Who sends: the source name is the program's.
+fn identity(cid: [u8; 16], priority: u8) -> Identity
+    requires { priority ≤ 200 }
+    ensures { result ≡ record {
+      cid = cid;
+      name = codes "cueplayer";
+      priority = priority;
+    } }
+{
+    let name = SourceName::new("cueplayer").unwrap();
+    Identity::new(cid, name, priority).unwrap()
 }
 
 // Tells on standard error how the run ended.

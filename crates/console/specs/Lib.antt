@@ -1,0 +1,4 @@
+pub mod ConsoleState
+pub mod Streams
+pub mod Offering
+pub mod Stands

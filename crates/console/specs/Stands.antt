@@ -1,0 +1,33 @@
+-- What a console keeps, against its history.
+use Rattle.std.specs.Prelude.{◌≡◌, List, ◌∷◌, None, All, ℕ}
+use Rattle.fade_core.specs.Level.{Start}
+use Rattle.desk_core.specs.DeskState.{DeskState}
+use Rattle.desk_core.specs.Played.{Act, refusal}
+use Rattle.desk_core.specs.Stands as desk
+use Rattle.sacn_source.specs.Kept.{Lane}
+use Rattle.sacn_source.specs.Stands as sender
+use Rattle.console.specs.ConsoleState.{ConsoleState}
+use Rattle.console.specs.Streams.{Production, offers_of, terminations_of, tick_at, universes_of}
+
+-- a sender's stream of a universe has the offers and terminations of a history
+abbrev pub HasStream : Production → List Lane → List Act → ℕ → Type 0
+HasStream production lanes history universe = sender.StandsFor production.source lanes universe
+    (offers_of production universe history) (terminations_of history)
+
+-- a sender has the streams of all universes, and no others
+pub record HasStreams (production : Production) (lanes : List Lane) (history : List Act) : Type 0 where
+  pub universes_are : sender.universes_of lanes ≡ universes_of production
+  pub streams : All (HasStream production lanes history) (universes_of production)
+
+-- a console stands for a history of a production: its desk does, and its sender has the streams
+pub record StandsFor {F : Type 0} (fader_stands_for : F → List Start → Type 0) (production : Production)
+    (console : ConsoleState F) (history : List Act) : Type 0 where
+  pub desk_stands : desk.StandsFor fader_stands_for production.show production.base console.desk history
+  pub streams_stand : HasStreams production console.sender history
+
+-- in the middle of an accepted tick: the desk has taken it, and the sender has not
+pub record HasTicked {F : Type 0} (fader_stands_for : F → List Start → Type 0) (production : Production)
+    (state : DeskState F) (lanes : List Lane) (older : List Act) (moment : ℕ) : Type 0 where
+  pub desk_stands : desk.StandsFor fader_stands_for production.show production.base state (tick_at moment ∷ older)
+  pub streams_stand : HasStreams production lanes older
+  pub accepted : refusal production.show older (tick_at moment) ≡ None

@@ -1,0 +1,122 @@
+ghost use Rattle.std.specs.Prelude.{◌≡◌, ◌↔◌, None, Some, Err, IsFalse, List, [], ◌∷◌, IfOk, OnOk, OnErr, MatchResult};
+ghost use Rattle.patch_core.specs.Frame.{is_base};
+ghost use Rattle.patch_core.specs.declared.fault.RigFault.TheVariants.{Universe};
+ghost use Rattle.desk_core.specs.Played.{Act, ended, outcome, refusal, ticked};
+ghost use Rattle.console.specs.Offering.{Offers as OffersTo};
+ghost use Rattle.console.specs.Stands.{StandsFor};
+ghost use Rattle.console.specs.Streams.{Production, dues_at, order_at, tick_at};
+
+use crate::offers::Offers;
+use crate::tick::{offer_all, terminate_all};
+use desk_core::{Command, Desk, Refused, Ticked};
+use fade_core::Fader;
+use patch_core::RigFault;
+use sacn_source::{Identity, Link, Sender};
+use show_core::Show;
+use std::alloc::{AllocError, Global};
+use std::marker::Model;
+
+/// A desk, and the source that sends its frames.
+///
+/// Moments are in milliseconds. Calls are taken whole, one after another; a refused one changes
+/// nothing and sends nothing.
+///
+/// Only `open` takes memory.
+#[derive(Drop)]
+pub struct Console<F: Fader> {
+    desk: Desk<F>,
+    sender: Sender,
+}
+
+impl<F: Fader> Model for Console<F> {
+    ghost use Rattle.console.specs.ConsoleState.{ConsoleState};
+
+    ghost Value = { ConsoleState F };
+
+    ghost use Rattle.std.specs.Coded.{codes};
+    ghost use Rattle.show_core.specs.contracts.show.Show as show_model;
+
+    ghost coded = { Prim.hlevel (codes, show_model.the_row.coded) };
+
+    ghost view = { λ console. record { desk = console.desk; sender = console.sender } };
+}
+
+impl<F: Fader> Console<F> {
+    /// A console with a copy of the show, `base` as the number of the universe of ordinal 0, and
+    /// nothing sent yet.
+    ///
+    /// # Errors
+    ///
+    /// `Universe` where `base`, or `base` plus an ordinal with a patched dimmer, is not 1 to 63999;
+    /// else `Memory` where a growth was refused.
+    pub fn open(alloc: Global, show: &Show, base: u16, source: Identity) -> Result<Self, RigFault>
+        ensures stands { IfOk result (λ console. StandsFor F.stands_for
+            (record { show = show.now; base = base; source = source }) console []) }
+        ensures universe { (result ≡ Err Universe) ↔ IsFalse (is_base show.now.patch base) }
+    {
+        let desk = Desk::open(alloc, show, base)?;
+        let sender = match Sender::open(alloc, source, desk.universes().as_slice()) {
+            Ok(sender) => sender,
+            Err(AllocError) => return Err(RigFault::Memory),
+        };
+        Ok(Console { desk, sender })
+    }
+
+    /// Carries out a command.
+    ///
+    /// # Errors
+    ///
+    /// As [`Desk::command`]; then nothing changed.
+    pub fn command(&mut self, moment: u64, command: Command) -> Result<(), Refused>
+        ensures answer { (production : Production) (history : List Act)
+            → StandsFor F.stands_for production self.old history
+            → result ≡ outcome (refusal production.show history (order_at moment command)) tt }
+        ensures stands { OnOk result ((production : Production) (history : List Act)
+            → StandsFor F.stands_for production self.old history
+            → StandsFor F.stands_for production self.new (order_at moment command ∷ history)) }
+        ensures unchanged { OnErr result (self.new ≡ self.old) }
+    {
+        self.desk.command(moment, command)
+    }
+
+    /// Shows every universe anew, and offers each of them, ascending, its frame or, after End, the
+    /// end of its stream. A lost packet is not offered again, and the other universes are still
+    /// offered theirs.
+    ///
+    /// A console that is called stands for some history: a new one for the empty one.
+    ///
+    /// # Errors
+    ///
+    /// As [`Desk::tick`]; then nothing changed, and nothing was offered.
+    pub fn tick<L: Link>(&mut self, moment: u64, link: &mut L) -> Result<(Ticked, Offers), Refused>
+        requires real { (production : Production) × (history : List Act)
+            × StandsFor F.stands_for production self.old history }
+        ensures answer { (production : Production) (history : List Act)
+            → StandsFor F.stands_for production self.old history
+            → MatchResult result
+            (λ answer. (refusal production.show history (tick_at moment) ≡ None) × (answer.0 ≡ ticked (ended history)))
+            (λ refused. refusal production.show history (tick_at moment) ≡ Some refused) }
+        ensures stands { OnOk result ((production : Production) (history : List Act)
+            → StandsFor F.stands_for production self.old history
+            → StandsFor F.stands_for production self.new (tick_at moment ∷ history)) }
+        ensures offered { IfOk result (λ answer. (production : Production) (history : List Act)
+            → StandsFor F.stands_for production self.old history → L.tells link.new
+            → OffersTo production.source (dues_at production history moment) answer.1
+            (L.offered link.old) (L.offered link.new)) }
+        ensures told { L.tells link.new → L.tells link.old }
+        ensures unchanged { OnErr result (self.new ≡ self.old) }
+        ensures quiet { OnErr result (L.tells link.new → L.offered link.new ≡ L.offered link.old) }
+    {
+        match self.desk.tick(moment) {
+            Err(refused) => Err(refused),
+            Ok(Ticked::Live) => {
+                let offers = offer_all(&self.desk, &mut self.sender, moment, link);
+                Ok((Ticked::Live, offers))
+            }
+            Ok(Ticked::Ending(number)) => {
+                let offers = terminate_all(&self.desk, &mut self.sender, moment, link);
+                Ok((Ticked::Ending(number), offers))
+            }
+        }
+    }
+}

@@ -1,0 +1,99 @@
+ghost use Rattle.std.specs.Prelude.{◌≡◌};
+ghost use Rattle.console_text.specs.Spelling.{call_of, command_of, command_with, with_none, with_one, with_two};
+
+use ascii_text::{Words, cue_number, level, same_word, whole};
+use desk_core::Command;
+
+/// A call of a console, without its moment.
+#[derive(Clone, Copy, Debug, PartialEq, Eq)]
+pub enum Call {
+    /// A command of the operator.
+    Order(Command),
+    /// A tick.
+    Tick,
+}
+
+/// The command that the words spell, to their end: `go`, `back`, `goto N`, `sub N L`, `group N L`,
+/// `master L` or `end`, without regard to ASCII case. N of `goto` is a cue number, that of `sub`
+/// and `group` a number up to 65535, and L a level.
+pub fn command_in(words: &mut Words<'_>) -> Option<Command>
+    ensures { result ≡ command_of words.old }
+{
+    let keyword = words.next()?;
+    command_with(keyword, words)
+}
+
+/// The call that the words spell, to their end: a command, or `tick`.
+pub fn call_in(words: &mut Words<'_>) -> Option<Call>
+    ensures { result ≡ call_of words.old }
+{
+    let keyword = words.next()?;
+    if same_word(keyword, b"tick") {
+        return if words.next().is_some() {
+            None
+        } else {
+            Some(Call::Tick)
+        };
+    }
+    let command = command_with(keyword, words)?;
+    Some(Call::Order(command))
+}
+
+fn command_with(keyword: &[u8], operands: &mut Words<'_>) -> Option<Command>
+    ensures { result ≡ command_with keyword.now operands.old }
+{
+    let Some(first) = operands.next() else {
+        return with_none(keyword);
+    };
+    let Some(second) = operands.next() else {
+        return with_one(keyword, first);
+    };
+    if operands.next().is_some() {
+        return None;
+    }
+    with_two(keyword, first, second)
+}
+
+fn with_none(keyword: &[u8]) -> Option<Command>
+    ensures { result ≡ with_none keyword.now }
+{
+    if same_word(keyword, b"go") {
+        Some(Command::Go)
+    } else if same_word(keyword, b"back") {
+        Some(Command::Back)
+    } else if same_word(keyword, b"end") {
+        Some(Command::End)
+    } else {
+        None
+    }
+}
+
+fn with_one(keyword: &[u8], operand: &[u8]) -> Option<Command>
+    ensures { result ≡ with_one keyword.now operand.now }
+{
+    if same_word(keyword, b"goto") {
+        let cue = cue_number(operand)?;
+        Some(Command::Goto(cue))
+    } else if same_word(keyword, b"master") {
+        let byte = level(operand)?;
+        Some(Command::Master(byte))
+    } else {
+        None
+    }
+}
+
+fn with_two(keyword: &[u8], number: &[u8], operand: &[u8]) -> Option<Command>
+    ensures { result ≡ with_two keyword.now number.now operand.now }
+{
+    if same_word(keyword, b"sub") {
+        let number = whole(number, 65535)?;
+        let byte = level(operand)?;
+        Some(Command::Sub(number as u16, byte))
+    } else if same_word(keyword, b"group") {
+        let number = whole(number, 65535)?;
+        let byte = level(operand)?;
+        Some(Command::Group(number as u16, byte))
+    } else {
+        None
+    }
+}

@@ -1,0 +1,15 @@
+//! A console in words: the commands that words spell, the call that an input line spells, and the
+//! texts of the answers.
+//!
+//! [`read_call`] reads a whole line with its moment; [`command_in`] and [`call_in`] read the words
+//! behind one. [`done_line`], [`refused_line`] and [`ticked_line`] write an answer behind a number,
+//! which is the call's moment, or a script line's own number.
+#![tactic(auto)]
+
+mod answer;
+mod call;
+mod reading;
+
+pub use answer::{AnswerLine, done_line, refused_line, ticked_line};
+pub use call::{Call, call_in, command_in};
+pub use reading::{Reading, read_call};

@@ -1,0 +1,6 @@
+pub mod OneShow
+pub mod Carrying
+pub mod Running
+pub mod InputLines
+pub mod Playing
+pub mod Beginning

@@ -1,0 +1,6 @@
+pub mod Lost
+pub mod Lines
+pub mod Run
+pub mod Stage
+pub mod Play
+pub mod Untold
