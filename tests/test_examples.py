@@ -1,8 +1,22 @@
 """What the repository shows its users: the shows of examples/, and the examples of the documents."""
 
 import re
+import socket
 
 from program import CID, TOP, ProgramTest, counts, packet, run, text
+
+
+PLAYED = (
+    "0 live 1:s0",
+    "1000 ok",
+    "2000 live 1:s1",
+    "6000 live 1:s2",
+    "6500 ok",
+    "7500 live 1:s3",
+    "8500 live 1:s4",
+    "8600 ok",
+    "8600 live 1:s5",
+)
 
 
 def blocks(document):
@@ -40,6 +54,22 @@ class Examples(ProgramTest):
             "5": {1: {}, 2: {}, 3: {1: 255, 2: 255}},
         }
         self.assertExample("small-play.asc", printed, looks)
+
+
+    def test_one_dimmer_played(self):
+        """The lines of one-dimmer.play, printed as README shows them, and the packets that go out."""
+        lines = (TOP / "examples/one-dimmer.play").read_bytes()
+        printed = b"".join(line.encode() + b"\n" for line in PLAYED)
+        levels = (0, 26, 128, 191, 255, 230)
+        with socket.socket(socket.AF_INET, socket.SOCK_DGRAM) as receiver:
+            receiver.bind(("127.0.0.1", 0))
+            receiver.settimeout(30)
+            to = "127.0.0.1:{}".format(receiver.getsockname()[1])
+            words = ["play", TOP / "examples/one-dimmer.asc", "--to", to, "--cid", CID]
+            self.assertRuns(words, lines, out=printed)
+            for sequence, level in enumerate(levels):
+                self.assertEqual(packet(1, {1: level}, sequence), receiver.recv(1500))
+        self.assertIn(printed.decode(), blocks("README.md"))
 
 
 class Documents(ProgramTest):

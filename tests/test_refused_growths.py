@@ -57,6 +57,13 @@ class RefusedGrowths(ProgramTest):
     def test_look(self):
         self.assertEachRefused(["look", "-", "7", "--cid", CID], SHOW)
 
+    def test_play(self):
+        with tempfile.NamedTemporaryFile() as file:
+            file.write(SHOW)
+            file.flush()
+            words = ["play", file.name, "--to", "127.0.0.1:9", "--cid", CID]
+            self.assertEachRefused(words, b"0 go\n0 tick\n25 sub 1 50\n25 tick\n50 end\n50 tick\n")
+
     def test_words(self):
         for words in (["--help"], ["look", "-"], ["look", "-", "x", "--cid", CID], ["check", "a", "b"]):
             self.assertEachRefused(words, b"")
