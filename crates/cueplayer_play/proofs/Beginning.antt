@@ -1,5 +1,5 @@
 -- A play begins, or not.
-use Rattle.std.proofs.Common.{◌≡◌, ◌↔◌, ◌∙◌, ℕ, List, subst, refl, ap, Bool, true, false, Result, Ok, Err, None}
+use Rattle.std.proofs.Common.{◌≡◌, ◌↔◌, ◌∙◌, ℕ, List, refl, ap, Bool, true, false, Result, Ok, Err, None}
 use Rattle.std.specs.Prelude.{IsTrue, IsFalse}
 use Rattle.patch_core.specs.Frame.{is_base}
 use Rattle.patch_core.specs.declared.fault.RigFault.{RigFault}
@@ -9,13 +9,8 @@ use Rattle.show_line.specs.Said.{desk}
 use Rattle.show_reader.specs.Reading.{fault_of}
 use Rattle.show_reader.specs.Shows.{IsShowOf}
 use Rattle.show_reader.specs.Text.{statements_of}
-use Rattle.cueplayer_play.specs.Play.{OfItsShow}
-use Rattle.cueplayer_play.proofs.OneShow.{same_show}
-
--- what holds of one show that a text means holds of each
-pub of_its_show : (show : List ℕ) (P : Tables → Type 0) (s : Tables)
-    → IsShowOf (statements_of desk show) s → P s → OfItsShow show P
-of_its_show show P s is p = ((s, is), λ t it. subst P (same_show (statements_of desk show) s t is it) p)
+use Rattle.show_reader.specs.ItsShow.{OfItsShow}
+use Rattle.show_reader.proofs.OneShow.{of_its_show}
 
 -- a console that was opened has numbers for its universes
 pub is_based : {X : Type 0} (b : Bool) (r : Result X RigFault) (x : X) → r ≡ Ok x

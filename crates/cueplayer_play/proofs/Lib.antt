@@ -1,4 +1,3 @@
-pub mod OneShow
 pub mod Carrying
 pub mod Running
 pub mod InputLines

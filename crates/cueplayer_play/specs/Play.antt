@@ -2,11 +2,9 @@
 use Rattle.std.specs.Prelude.{◌≡◌, ◌⊎◌, ◌≤◌, ◌++◌, ◌∷◌, ℕ, Bool, true, false, List, Result, Ok, Err, Some, None, IsTrue, IsFalse}
 use Rattle.ascii_text.specs.Text.{lines_of}
 use Rattle.devices.specs.Tape.{Tape, with_failure, with_more}
-use Rattle.show_core.specs.Tables.{Tables}
 use Rattle.show_line.specs.Said.{desk}
 use Rattle.show_reader.specs.Reading.{fault_of}
-use Rattle.show_reader.specs.Shows.{IsShowOf}
-use Rattle.show_reader.specs.Text.{statements_of}
+use Rattle.show_reader.specs.ItsShow.{OfItsShow}
 use Rattle.patch_core.specs.Frame.{is_base}
 use Rattle.console.specs.Streams.{Production}
 use Rattle.cueplayer_faults.specs.declared.fault.RunFault.{RunFault}
@@ -75,11 +73,6 @@ has_begun (Err (run.Lost n)) = true
 has_begun (Err (run.Line n)) = true
 has_begun (Err run.Device) = true
 has_begun (Err _) = false
-
--- there is a show that the text means, and this holds of each that it means
-abbrev pub OfItsShow : List ℕ → (Tables → Type 0) → Type 0
-OfItsShow show P = ((s : Tables) × IsShowOf (statements_of desk show) s)
-    × ((s : Tables) → IsShowOf (statements_of desk show) s → P s)
 
 -- whether a play begins: its show has no fault and its universes have numbers; or why not. Want of memory may come
 -- in place of any other reason

@@ -1,5 +1,6 @@
 ghost use Rattle.std.specs.Prelude.{◌≡◌, true, false};
-ghost use Rattle.cueplayer_play.specs.Play.{Begins, OfItsShow, Plays, has_begun};
+ghost use Rattle.cueplayer_play.specs.Play.{Begins, Plays, has_begun};
+ghost use Rattle.show_reader.specs.ItsShow.{OfItsShow};
 ghost use Rattle.cueplayer_play.specs.Run.{emitted};
 
 use crate::fault::PlayFault;

@@ -1,5 +1,5 @@
 -- A text means one show alone.
-use Rattle.std.proofs.Common.{◌≡◌, ◌∙◌, sym, ap, subst, refl, ℕ, List, true, true≢false}
+use Rattle.std.proofs.Common.{◌≡◌, ◌∙◌, sym, ap, refl, ℕ, List, true, true≢false}
 use Rattle.std.proofs.Common.{Option, Some, None, is_some, option_map, IfSome, IsSomeAnd}
 use Rattle.std.specs.FinMap as maps
 use Rattle.show_core.specs.declared.cue.CueData.{CueData}
@@ -11,14 +11,9 @@ use Rattle.show_reader.specs.Text.{statements_of}
 use Rattle.show_reader.specs.Meaning.{is_there}
 use Rattle.show_reader.specs.Reading.{lines_read, lines_skipped}
 use Rattle.show_reader.specs.Shows.{IsShowOf}
-use Rattle.show_reader.proofs.OneShow.{same_show}
+use Rattle.show_reader.proofs.OneShow.{of_its_show}
 use Rattle.cueplayer_runs.specs.Texts.{check_text, IsLookText}
-use Rattle.cueplayer_runs.specs.Prints.{OfItsShow, IsCheckOf, IsLookOf}
-
--- what holds of one show that a text means holds of each
-pub of_its_show : (show : List ℕ) (P : Tables → Type 0) (s : Tables)
-    → IsShowOf (statements_of desk show) s → P s → OfItsShow show P
-of_its_show show P s is p = ((s, is), λ t it. subst P (same_show (statements_of desk show) s t is it) p)
+use Rattle.cueplayer_runs.specs.Prints.{IsCheckOf, IsLookOf}
 
 -- the line of `check`, from what the reader answers
 pub check_of : (show written : List ℕ) (lines skipped : ℕ) (s : Tables)

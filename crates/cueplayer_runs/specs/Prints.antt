@@ -2,19 +2,12 @@
 use Rattle.std.specs.Prelude.{◌≡◌, ℕ, List, Result, Ok, Err, IsSomeAnd}
 use Rattle.std.specs.FinMap as maps
 use Rattle.devices.specs.Tape.{Tape, with_more, with_failure}
-use Rattle.show_core.specs.Tables.{Tables}
 use Rattle.show_line.specs.Said.{desk}
-use Rattle.show_reader.specs.Text.{statements_of}
-use Rattle.show_reader.specs.Shows.{IsShowOf}
+use Rattle.show_reader.specs.ItsShow.{OfItsShow}
 use Rattle.show_reader.specs.Reading.{lines_read, lines_skipped}
 use Rattle.cueplayer_faults.specs.declared.fault.RunFault.{RunFault}
 use Rattle.cueplayer_faults.specs.declared.fault.RunFault.TheVariants as run
 use Rattle.cueplayer_runs.specs.Texts.{check_text, IsLookText}
-
--- there is a show that the text means, and this holds of each that it means
-abbrev pub OfItsShow : List ℕ → (Tables → Type 0) → Type 0
-OfItsShow show P = ((s : Tables) × IsShowOf (statements_of desk show) s)
-    × ((s : Tables) → IsShowOf (statements_of desk show) s → P s)
 
 -- what `check` prints of a show text
 abbrev pub IsCheckOf : List ℕ → List ℕ → Type 0

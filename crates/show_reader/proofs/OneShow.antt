@@ -1,5 +1,5 @@
 -- Statements mean one show alone.
-use Rattle.std.proofs.Common.{◌≡◌, ◌∙◌, sym, ap, refl, ℕ, List, true≢false}
+use Rattle.std.proofs.Common.{subst, ◌≡◌, ◌∙◌, sym, ap, refl, ℕ, List, true≢false}
 use Rattle.std.proofs.Common.{Option, Some, None, is_some, option_map, option_and_then}
 use Rattle.std.specs.Ordering.{nat_cmp}
 use Rattle.std.specs.FinMap as maps
@@ -10,6 +10,9 @@ use Rattle.show_core.specs.declared.rate.Rate.{Rate}
 use Rattle.show_line.specs.declared.statement.Record.{Record}
 use Rattle.show_line.specs.declared.statement.Record.TheVariants.{Cue, Group, Sub}
 use Rattle.show_line.specs.declared.statement.Statement.{Statement}
+use Rattle.show_line.specs.Said.{desk}
+use Rattle.show_reader.specs.Text.{statements_of}
+use Rattle.show_reader.specs.ItsShow.{OfItsShow}
 use Rattle.show_reader.specs.Shows.{levels_of, IsShowOf}
 
 -- two maps with the same value at each key are one
@@ -69,3 +72,8 @@ same_show ss s t a b =
     (same_map s.subs t.subs (λ n. levels (Sub n)))
     (same_map s.groups t.groups (λ n. levels (Group n)))
     (same_map s.patch t.patch (λ d. a.patch d ∙ sym (b.patch d)))
+
+-- what holds of one show that a text means holds of each
+pub of_its_show : (text : List ℕ) (P : Tables → Type 0) (s : Tables)
+    → IsShowOf (statements_of desk text) s → P s → OfItsShow text P
+of_its_show text P s is p = ((s, is), λ t it. subst P (same_show (statements_of desk text) s t is it) p)

@@ -4,3 +4,4 @@ pub mod Shows
 pub mod Reading
 pub mod Applied
 pub mod Reads
+pub mod ItsShow

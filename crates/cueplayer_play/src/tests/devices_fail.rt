@@ -35,7 +35,11 @@ fn each_read_fails(rt: HostRuntime) -> Result<(), Fail> {
         let given = (usize::from(read) * 7).min(FADE.len());
         let lines = FADE[..given].iter().filter(|byte| **byte == b'\n').count();
         let text = text_of(alloc, lines)?;
-        let answer = if read < 8 { Err(RunFault::Device) } else { Ok(()) };
+        let answer = if read < 7 {
+            Err(RunFault::Device)
+        } else {
+            Ok(())
+        };
         assert!(rt; run.is(answer, text.as_bytes()));
     }
     Ok(())
@@ -77,17 +81,15 @@ fn each_send_fails(rt: HostRuntime) -> Result<(), Fail> {
     for lost in 0usize..6 {
         let mut input = String::new(alloc);
         let mut text = String::new(alloc);
-        let mut packets = 0;
         for tick in 0u32..68 {
             let moment = tick * 25;
             input.push_str(format!(in alloc; "{moment} tick\n")?.as_str())?;
-            if !sending.contains(&moment) {
-                text.push_str(format!(in alloc; "{moment} live 1:-\n")?.as_str())?;
-                continue;
-            }
-            let mark = if packets == lost { "x" } else { "s" };
-            text.push_str(format!(in alloc; "{moment} live 1:{mark}{packets}\n")?.as_str())?;
-            packets += 1;
+            let line = match sending.iter().position(|at| *at == moment) {
+                None => format!(in alloc; "{moment} live 1:-\n")?,
+                Some(number) if number == lost => format!(in alloc; "{moment} live 1:x{number}\n")?,
+                Some(number) => format!(in alloc; "{moment} live 1:s{number}\n")?,
+            };
+            text.push_str(line.as_str())?;
         }
         let failing = Failing {
             send: lost as u64,

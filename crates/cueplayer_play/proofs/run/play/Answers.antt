@@ -8,7 +8,8 @@ use Rattle.cueplayer_play.specs.declared.fault.PlayFault.{PlayFault}
 use Rattle.cueplayer_play.specs.declared.fault.PlayFault.TheVariants as early
 use Rattle.cueplayer_play.specs.Play.{EndsEarly, PlaysAll}
 use Rattle.cueplayer_play.specs.Run.{Emitted, emitted}
-use Rattle.cueplayer_play.proofs.Beginning.{began, not_based, of_its_show}
+use Rattle.cueplayer_play.proofs.Beginning.{began, not_based}
+use Rattle.show_reader.proofs.OneShow.{of_its_show}
 use Rattle.cueplayer_play.proofs.run.play.Goals as goal
 
 pub returns-in-Err-Universe-clause-begins : goal.returns-in-Err-Universe-clause-begins

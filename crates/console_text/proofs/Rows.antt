@@ -1,0 +1,35 @@
+-- Input lines and answers, evaluated.
+use Rattle.std.specs.Prelude.{◌≡◌, refl, codes, [], ◌∷◌}
+use Rattle.std.specs.Fmt.{digits}
+use Rattle.desk_core.specs.declared.answer.Refused.TheVariants.{AtStart}
+use Rattle.desk_core.specs.declared.answer.Ticked.TheVariants.{Live, Ending}
+use Rattle.desk_core.specs.declared.command.Command.TheVariants.{Go, Goto, Sub, Group, Master}
+use Rattle.sacn_source.specs.declared.offered.Offered.TheVariants.{Sent, Lost, Quiet}
+use Rattle.console_text.specs.declared.call.Call.TheVariants.{Order, Tick}
+use Rattle.console_text.specs.declared.reading.Reading.TheVariants.{Blank, Malformed, At}
+use Rattle.console_text.specs.Spelling.{reading_of}
+use Rattle.console_text.specs.Texts.{done_text, numbered, refused_text, ticked_text}
+
+calls : (reading_of (codes "0 go") ≡ At 0 (Order Go))
+    × (reading_of (codes "2500 TICK ! now") ≡ At 2500 Tick)
+    × (reading_of (codes "5 sub 65535 FL") ≡ At 5 (Order (Sub 65535 255)))
+    × (reading_of (codes "5 group 0 50") ≡ At 5 (Order (Group 0 128)))
+    × (reading_of (codes "007 goto 1.5") ≡ At 7 (Order (Goto 1500)))
+    × (reading_of (codes "1 master H80") ≡ At 1 (Order (Master 128)))
+    × (reading_of (codes "  ! 0 go") ≡ Blank)
+calls = (refl, refl, refl, refl, refl, refl, refl)
+
+malformed : (reading_of (codes "5 jump") ≡ Malformed)
+    × (reading_of (codes "0 sub 65536 FL") ≡ Malformed)
+    × (reading_of (codes "1000000000000000 go") ≡ Malformed)
+    × (reading_of (codes "0 go 1") ≡ Malformed)
+    × (reading_of (codes "0 tick 1") ≡ Malformed)
+    × (reading_of (codes "0") ≡ Malformed)
+malformed = (refl, refl, refl, refl, refl, refl)
+
+answers : (numbered 0 done_text ≡ codes "0 ok\n")
+    × (numbered 0 (refused_text AtStart) ≡ codes "0 refused AtStart\n")
+    × (numbered 25 (ticked_text Live ((1, Lost 1) ∷ (2, Quiet) ∷ [])) ≡ codes "25 live 1:x1 2:-\n")
+    × (numbered 23 (ticked_text (Ending 2) ((1, Sent 1) ∷ [])) ≡ codes "23 ending 2 1:s1\n")
+unfolding digits
+answers = (refl, refl, refl, refl)
