@@ -4,12 +4,12 @@ ghost use Rattle.std.specs.List.{AllWithin, list_all};
 ghost use Rattle.std.specs.Ordering.{nat_cmp};
 ghost use Rattle.std.specs.FinMap as map;
 ghost use Rattle.show_core.specs.Numbers.{is_channel};
-ghost use Rattle.show_core.specs.Readers.{slot_of, IsInRange};
+ghost use Rattle.show_core.specs.Readers.{IsInRange};
 ghost use Rattle.patch_core.specs.Frame.{is_universe, is_base, level_in, frame_of};
 ghost use Rattle.patch_core.specs.declared.fault.RigFault.TheVariants.{Universe, Memory};
 
 use crate::fault::RigFault;
-use show_core::{DIMMERS, SLOTS, Show};
+use show_core::{DIMMERS, SLOTS, Show, slot};
 use std::alloc::{AllocError, Global};
 use std::marker::Model;
 
@@ -138,12 +138,4 @@ fn first_from(dimmers: &[(u16, (u16, u8))], dimmer: u16) -> usize
     ensures from_on { AllWithin (λ e. dimmer ≤ e.0) dimmers.now result (length dimmers.now) }
 {
     dimmers.partition_point(|entry| entry.0 < dimmer)
-}
-
-// The slot of a dimmer, from its channel's level, the grand master and its own byte.
-fn slot(level: u32, grand: u8, byte: u8) -> u8
-    requires { level ≤ 65025 }
-    ensures { result ≡ slot_of level grand byte }
-{
-    ((level * u32::from(grand) * u32::from(byte) + 8_290_687) / 16_581_375) as u8
 }
