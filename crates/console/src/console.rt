@@ -14,6 +14,7 @@ use patch_core::RigFault;
 use sacn_source::{Identity, Link, Sender};
 use show_core::Show;
 use std::alloc::{AllocError, Global};
+use std::fmt;
 use std::marker::Model;
 
 /// A desk, and the source that sends its frames.
@@ -39,6 +40,15 @@ impl<F: Fader> Model for Console<F> {
     ghost coded = { Prim.hlevel (codes, show_model.the_row.coded) };
 
     ghost view = { λ console. record { desk = console.desk; sender = console.sender } };
+}
+
+impl<F: Fader> fmt::Debug for Console<F> {
+    fn fmt<W: fmt::Write>(&self, f: &mut fmt::Formatter<W>) -> fmt::Result {
+        f.debug_struct("Console")
+            .field("desk", &self.desk)
+            .field("sender", &self.sender)
+            .finish()
+    }
 }
 
 impl<F: Fader> Console<F> {
