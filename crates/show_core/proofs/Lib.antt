@@ -3,4 +3,5 @@ pub mod Removed
 pub mod Changes
 pub mod Ranges
 pub mod InRange
+pub mod Ordinals
 mod Rows

@@ -1,5 +1,7 @@
-ghost use Rattle.std.specs.List.{list_any};
-ghost use Rattle.std.specs.Prelude.{◌≡◌, ◌==◌, ◌||◌, IsTrue, IsOk, IfOk, OnOk, OnErr};
+ghost use Rattle.std.specs.List.{AllWithin, list_any};
+ghost use Rattle.std.specs.Ordering.{nat_cmp};
+ghost use Rattle.std.specs.Prelude.{◌≡◌, ◌==◌, ◌||◌, ◌<◌, ◌≤◌, length};
+ghost use Rattle.std.specs.Prelude.{IsTrue, IsOk, IfOk, OnOk, OnErr};
 ghost use Rattle.std.specs.FinMap as map;
 ghost use Rattle.show_core.specs.Builders.{patched_with};
 ghost use Rattle.show_core.specs.Readers.{has_dimmer_in, ordinal_of};
@@ -97,10 +99,27 @@ impl PatchTable {
     }
 }
 
+// The entries are in the order of their universes, so the first that is not below this one tells.
 fn any_dimmer_in(entries: &[(u16, (u16, u8))], ordinal: u16) -> bool
+    requires { IsTrue (map.is_sorted nat_cmp entries.now) }
     ensures { result ≡ list_any (λ e. ordinal_of e.0 == ordinal) entries.now }
 {
-    entries
-        .iter()
-        .any(|entry| entry.0.saturating_sub(1) / SLOTS == ordinal)
+    let at = first_in(entries, ordinal);
+    at < entries.len() && ordinal_of(entries[at].0) == ordinal
+}
+
+// The place where the entries of this universe, and those above it, begin.
+fn first_in(entries: &[(u16, (u16, u8))], ordinal: u16) -> usize
+    requires { IsTrue (map.is_sorted nat_cmp entries.now) }
+    ensures below { AllWithin (λ e. ordinal_of e.0 < ordinal) entries.now 0 result }
+    ensures from_on { AllWithin (λ e. ordinal ≤ ordinal_of e.0) entries.now result
+        (length entries.now) }
+{
+    entries.partition_point(|entry| ordinal_of(entry.0) < ordinal)
+}
+
+fn ordinal_of(dimmer: u16) -> u16
+    ensures { result ≡ ordinal_of dimmer }
+{
+    dimmer.saturating_sub(1) / SLOTS
 }
