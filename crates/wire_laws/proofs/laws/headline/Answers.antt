@@ -1,0 +1,8 @@
+use Rattle.wire_laws.proofs.Alone.{headline, unpatched_zero}
+use Rattle.wire_laws.proofs.laws.headline.Goals as goal
+
+pub returns-clause-means : goal.returns-clause-means
+returns-clause-means c = headline
+
+pub returns-clause-unpatched : goal.returns-clause-unpatched
+returns-clause-unpatched c = unpatched_zero

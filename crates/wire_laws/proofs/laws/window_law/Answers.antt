@@ -1,0 +1,8 @@
+use Rattle.wire_laws.proofs.Alone.{window_law, silence_dark}
+use Rattle.wire_laws.proofs.laws.window_law.Goals as goal
+
+pub returns-clause-near : goal.returns-clause-near
+returns-clause-near c = window_law
+
+pub returns-clause-silence : goal.returns-clause-silence
+returns-clause-silence c = silence_dark

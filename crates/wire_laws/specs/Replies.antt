@@ -1,0 +1,112 @@
+-- The reply to each event, as a function of the events before it that were not skipped.
+use Rattle.std.specs.Prelude.{◌≡◌, ℕ, ◌^◌, ◌%◌, not, List, [], ◌∷◌, length, map, take, nat_lt}
+use Rattle.std.specs.Prelude.{nat_le, if◌then◌else◌, is_some, Option, Some, None, Result, Ok, Err}
+use Rattle.std.specs.Prelude.{slice_get, slice_range, unwrap_or}
+use Rattle.std.specs.List.{fold, range_with_len}
+use Rattle.std.specs.Option.{option_map_or}
+use Rattle.desk_core.specs.declared.answer.Refused.{Refused}
+use Rattle.desk_core.specs.Played.{ended, refusal, ticked}
+use Rattle.sacn_source.specs.declared.offered.Offered.{Offered}
+use Rattle.sacn_source.specs.declared.offered.Offered.TheVariants.{Sent, Quiet}
+use Rattle.sacn_receiver.specs.declared.answer.Taken.{Taken}
+use Rattle.sacn_receiver.specs.declared.answer.Ignored.{Ignored}
+use Rattle.sacn_receiver.specs.Taking.{answer}
+use Rattle.sacn_receiver.specs.Shown.{shown_slots}
+use Rattle.console.specs.Streams.{Due, dues_at, order_at, tick_at}
+use Rattle.wire_laws.specs.declared.event.Event.{Event}
+use Rattle.wire_laws.specs.declared.event.What.{What}
+use Rattle.wire_laws.specs.declared.event.What.TheVariants.{Order, Tick, Deliver, Stray, Show}
+use Rattle.wire_laws.specs.declared.reply.Skip.{Skip}
+use Rattle.wire_laws.specs.declared.reply.Skip.TheVariants.{Backwards, TooLarge, NoConsole}
+use Rattle.wire_laws.specs.declared.reply.Skip.TheVariants.{NoReceiver, NotSent}
+use Rattle.wire_laws.specs.declared.reply.Reply.{Reply}
+use Rattle.wire_laws.specs.declared.reply.Reply.TheVariants as reply
+use Rattle.wire_laws.specs.World.{World, console_at, universe_at}
+use Rattle.wire_laws.specs.Happened.{acts, sent, datagram, accepted_by}
+
+-- the moment of the last event; 0 before the first
+abbrev pub last_moment : List Event → ℕ
+last_moment [] = 0
+last_moment (e ∷ past) = e.moment
+
+-- ---- what is skipped
+
+abbrev pub no_console_at : World → ℕ → Option Skip
+no_console_at w i = if nat_lt i (length w.consoles) then None else Some NoConsole
+
+abbrev pub no_receiver_at : World → ℕ → Option Skip
+no_receiver_at w r = if nat_lt r (length w.receivers) then None else Some NoReceiver
+
+-- what an event names and is not there: the first of these
+abbrev pub missing : World → List Event → What → Option Skip
+missing w past (Order i command) = no_console_at w i
+missing w past (Tick i) = no_console_at w i
+missing w past (Deliver r i universe k) =
+    if not (nat_lt i (length w.consoles)) then Some NoConsole
+    else (if not (nat_lt r (length w.receivers)) then Some NoReceiver
+    else (if nat_lt k (length (sent w i universe past)) then None
+    else Some NotSent))
+missing w past (Stray r from to) = no_receiver_at w r
+missing w past (Show r) = no_receiver_at w r
+
+-- why an event is skipped: the first reason that applies
+abbrev pub skipped : World → List Event → Event → Option Skip
+skipped w past e =
+    if nat_lt e.moment (last_moment past) then Some Backwards
+    else (if nat_le (2 ^ 48) e.moment then Some TooLarge
+    else missing w past e.what)
+
+-- an event more, unless it is skipped
+abbrev pub done_one : World → List Event → Event → List Event
+done_one w past e = if is_some (skipped w past e) then past else e ∷ past
+
+-- of these events, the oldest first, those that were not skipped, the newest first
+abbrev pub done : World → List Event → List Event
+done w events = fold (done_one w) [] events
+
+-- ---- what is answered
+
+-- what a tick answers for a universe: its packet's number, or Quiet where none was due. No send of
+-- a rehearsal fails: loss is a packet that no event delivers
+abbrev pub due_answer : Due → ℕ × Offered
+due_answer due = (due.universe, option_map_or (λ _. Sent (due.place % 256)) due.packet Quiet)
+
+abbrev pub taken_reply : Result Taken Ignored → Reply
+taken_reply (Ok taken) = reply.Taken taken
+taken_reply (Err ignored) = reply.Ignored ignored
+
+-- the answer of receiver r to a datagram
+abbrev pub taken_by : World → ℕ → List Event → ℕ → List ℕ → Reply
+taken_by w r past moment bytes =
+    taken_reply (answer 4 (universe_at w r) (accepted_by w r past) moment bytes)
+
+-- the reply to an event that is not skipped
+abbrev pub replied : World → List Event → ℕ → What → Reply
+replied w past moment (Order i command) =
+    option_map_or reply.Refused
+    (refusal (console_at w i).show (acts w i past) (order_at moment command)) reply.Done
+replied w past moment (Tick i) =
+    option_map_or reply.Refused
+    (refusal (console_at w i).show (acts w i past) (tick_at moment))
+    (reply.Ticked (ticked (ended (acts w i past)))
+    (map due_answer (dues_at (console_at w i) (acts w i past) moment)))
+replied w past moment (Deliver r i universe k) =
+    taken_by w r past moment (unwrap_or (datagram w i universe k past) [])
+replied w past moment (Stray r from to) = taken_by w r past moment (slice_range w.strays from to)
+replied w past moment (Show r) = reply.Shown (shown_slots (accepted_by w r past) moment)
+
+-- the reply to an event after these
+abbrev pub reply_to : World → List Event → Event → Reply
+reply_to w past e = option_map_or reply.Skipped (skipped w past e) (replied w past e.moment e.what)
+
+-- the replies to all events, each by the events before it
+abbrev pub AreReplies : World → List Event → List Reply → Type 0
+AreReplies w events replies = (length replies ≡ length events)
+    × ((j : ℕ) (e : Event) → slice_get events j ≡ Some e
+    → slice_get replies j ≡ Some (reply_to w (done w (take j events)) e))
+
+-- the slots of each receiver after these events, at the moment of the last
+abbrev pub last_slots : World → List Event → List (List ℕ)
+last_slots w past =
+    map (λ r. shown_slots (accepted_by w r past) (last_moment past))
+    (range_with_len 0 (length w.receivers))

@@ -1,0 +1,44 @@
+use console::Offers;
+use desk_core::{Refused, Ticked};
+use sacn_receiver::{Ignored, Taken};
+use thiserror::Error;
+
+/// Why an event was skipped. Of several reasons the first of these is given. A skipped event changes
+/// nothing.
+#[derive(Clone, Copy, Debug, PartialEq, Eq, Error)]
+pub enum Skip {
+    /// It is before the last event that was not skipped.
+    #[error("Backwards")]
+    Backwards,
+    /// Its moment is 2^48 milliseconds or more.
+    #[error("TooLarge")]
+    TooLarge,
+    /// There is no such console.
+    #[error("NoConsole")]
+    NoConsole,
+    /// There is no such receiver.
+    #[error("NoReceiver")]
+    NoReceiver,
+    /// The console has not sent that packet of that universe yet.
+    #[error("NotSent")]
+    NotSent,
+}
+
+/// The reply to an event.
+#[derive(Debug, Drop)]
+pub enum Reply {
+    /// A command was carried out.
+    Done,
+    /// A command or a tick was refused.
+    Refused(Refused),
+    /// A tick, and what became of the frames of its console's universes.
+    Ticked(Ticked, Offers),
+    /// A datagram was accepted.
+    Taken(Taken),
+    /// A datagram was ignored.
+    Ignored(Ignored),
+    /// The slots of a receiver, each 0 to 255.
+    Shown([u8; 512]),
+    /// The event was skipped.
+    Skipped(Skip),
+}
