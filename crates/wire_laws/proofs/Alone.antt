@@ -1,9 +1,9 @@
 -- One console alone: the window law, and the headline.
-use Rattle.std.proofs.Common.{◌*◌, ◌≡◌, ℕ, zero, suc, ◌+◌, ◌-◌, ◌<◌, ◌≤◌, ◌⊎◌, Bool, true, false, not, ◌&&◌, max, refl, ap, arith, sym, subst, inl, inr, ◌∙◌, List, [], ◌∷◌, ◌++◌, map, length, replicate, Option, Some, None, get_or, append-nil}
-use Rattle.std.specs.Prelude.{nat_lt, nat_eq, if◌then◌else◌, slice_index, slice_get, is_some, find, Contains, unwrap_or}
+use Rattle.std.proofs.Common.{◌*◌, ◌≡◌, ℕ, zero, suc, ◌+◌, ◌-◌, ◌<◌, ◌≤◌, ◌⊎◌, Bool, true, false, not, ◌&&◌, max, refl, ap, arith, sym, subst, inl, inr, ◌∙◌, List, [], ◌∷◌, map, length, replicate, Some, None, append-nil}
+use Rattle.std.specs.Prelude.{nat_lt, nat_eq, if◌then◌else◌, slice_index, slice_get, is_some, find, Contains}
 use Rattle.std.specs.List.{range_with_len}
 use Rattle.std.specs.Option.{option_map}
-use Rattle.std.proofs.lemmas.Bool.{eqb-true, eq-eqb}
+use Rattle.std.proofs.lemmas.Bool.{eq-eqb}
 use Rattle.std.proofs.lemmas.Bool.Decides.{nat_tests}
 use Rattle.std.proofs.lemmas.Grind.{same_number_lists}
 use Rattle.std.proofs.lemmas.List.{length-map}
@@ -29,20 +29,20 @@ use Rattle.sacn_receiver.specs.Shown.{Light, light_of, merged, shown, shown_slot
 use Rattle.sacn_receiver.proofs.Members.{In, In_mapped}
 use Rattle.wire_laws.specs.declared.event.Event.{Event}
 use Rattle.wire_laws.specs.World.{World, console_at, universe_at, IsWorld}
-use Rattle.console.specs.Streams.{Production, offers_of}
+use Rattle.console.specs.Streams.{offers_of}
 use Rattle.wire_laws.specs.Happened.{acts, stream, has_universe, sent, accepted_by}
 use Rattle.wire_laws.specs.Replies.{last_moment, done}
-use Rattle.wire_laws.specs.Delivery.{Delivery, delivered, newest_of, arrived, IsInWindow}
-use Rattle.wire_laws.specs.Laws.{IsAlone, NoStray, IsFreshIn, IsFresh, is_live, meant, slots_at, Headline, IsOneOf, WindowLaw, UnpatchedSlotsAreZero, IsUnpatched, SilenceIsDark, is_silent, HearsOne}
-use Rattle.wire_laws.proofs.Kept.{takes, kept, kept_in_window, newest_shown, HasNewest, KeptOne, IsInTime, last_came}
+use Rattle.wire_laws.specs.Delivery.{Delivery, delivered, newest_of, IsInWindow}
+use Rattle.wire_laws.specs.Laws.{IsAlone, NoStray, IsFreshIn, IsFresh, is_live, meant, slots_at, Headline, IsOneOf, WindowLaw, UnpatchedSlotsAreZero, SilenceIsDark}
+use Rattle.wire_laws.proofs.Kept.{takes, kept, kept_in_window, newest_shown, IsInTime, last_came}
 use Rattle.sacn_source.specs.Stream.{newest_frame}
 use Rattle.wire_laws.proofs.Grows.{newest_packet, newest_at, newest_means, latest}
 use Rattle.wire_laws.proofs.Bytes.{entry}
 use Rattle.wire_laws.proofs.Full.{Each, sent_full, latest_full}
 use Rattle.wire_laws.proofs.Runs.{IsRun, done_runs}
-use Rattle.wire_laws.proofs.Came.{came, accepted_is, alone_came}
+use Rattle.wire_laws.proofs.Came.{accepted_is, alone_came}
 use Rattle.wire_laws.proofs.One.{one_source}
-use Rattle.wire_laws.proofs.Parts.{Part, IsOf, light_if, kept_light, part_light, joined, merge_kept}
+use Rattle.wire_laws.proofs.Parts.{Part, IsOf, light_if, kept_light, part_light, merge_kept}
 use Rattle.wire_laws.proofs.Delivered.{IsSent, delivered_sent, delivered_in_time, came_by_then}
 
 -- ---- lists of 512 slots
@@ -91,9 +91,9 @@ In_accepted room e (x ∷ es) i = go (is_accepted room (accepted room es) x.mome
 
 pub of_one : (c : Identity) (ds : List Delivery) → IsOf (record { identity = c; came = ds } ∷ []) (accepted 4 (map (entry c) ds))
 of_one c ds = record {
-    from = λ e i. let m = In_mapped (entry c) e ds (In_accepted 4 e (map (entry c) ds) i) in (record { identity = c; came = ds }, inl refl, ap (λ (x : Entry). x.cid) (sym m.2));
-    keeps = λ p i. elim i [ inl s ↦ subst (λ (q : Part). find (same_cid q.identity.cid) (accepted 4 (map (entry c) ds)) ≡ option_map (entry q.identity) (kept q.came)) (sym s) (one_source c ds) | inr n ↦ absurd n ];
-  }
+  from = λ e i. let m = In_mapped (entry c) e ds (In_accepted 4 e (map (entry c) ds) i) in (record { identity = c; came = ds }, inl refl, ap (λ (x : Entry). x.cid) (sym m.2));
+  keeps = λ p i. elim i [ inl s ↦ subst (λ (q : Part). find (same_cid q.identity.cid) (accepted 4 (map (entry c) ds)) ≡ option_map (entry q.identity) (kept q.came)) (sym s) (one_source c ds) | inr n ↦ absurd n ];
+}
 
 -- ---- the newest packet of a console
 

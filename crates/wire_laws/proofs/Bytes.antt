@@ -1,5 +1,5 @@
 -- The datagram of a packet, read back.
-use Rattle.std.proofs.Common.{◌≡◌, ℕ, ◌+◌, ◌-◌, ◌%◌, ◌<◌, ◌≤◌, Bool, true, false, not, refl, ap, sym, subst, ◌∙◌, arith, List, [], ◌∷◌, ◌++◌, length, take, replicate, append-nil, Option, Some, None, Ok, Err}
+use Rattle.std.proofs.Common.{◌≡◌, ℕ, ◌-◌, ◌%◌, ◌≤◌, Bool, true, false, not, refl, ap, sym, subst, ◌∙◌, arith, List, ◌∷◌, ◌++◌, length, replicate, append-nil, Option, Some, None}
 use Rattle.std.specs.Prelude.{if◌then◌else◌, nat_lt, nat_eq, is_some, bit_and}
 use Rattle.std.specs.Option.{option_or, option_map, option_map_or}
 use Rattle.std.proofs.lemmas.List.{take_all}
@@ -16,9 +16,9 @@ use Rattle.sacn_source.specs.Stream.{Packet}
 use Rattle.wire_laws.specs.Datagrams.{fields_at, packet_bytes}
 use Rattle.wire_laws.specs.World.{IsIdentity}
 use Rattle.sacn_receiver.specs.declared.answer.Ignored.{Ignored}
-use Rattle.sacn_receiver.specs.declared.answer.Ignored.TheVariants.{Backwards, Unreadable, OtherUniverse, Preview, AltStart}
+use Rattle.sacn_receiver.specs.declared.answer.Ignored.TheVariants.{Backwards, Unreadable, OtherUniverse}
 use Rattle.sacn_receiver.specs.Source.{Entry, last_moment, is_accepted}
-use Rattle.sacn_receiver.specs.Taking.{entry_of, unheard, refusal, reason_of, ignored_packet, ignored, taken_of, answer, heard}
+use Rattle.sacn_receiver.specs.Taking.{entry_of, unheard, refusal, ignored_packet, ignored, heard}
 use Rattle.wire_laws.specs.Delivery.{Delivery}
 use Rattle.sacn_receiver.specs.Arrivals.{not_heard}
 

@@ -1,25 +1,23 @@
 -- Without strays, a receiver accepts as from the list of the consoles' packets that came.
-use Rattle.std.proofs.Common.{◌≡◌, ℕ, ◌+◌, ◌%◌, ◌<◌, ◌≤◌, Bool, true, false, not, ◌&&◌, refl, ap, sym, subst, ◌∙◌, arith, List, [], ◌∷◌, ◌++◌, map, length, Option, Some, None}
-use Rattle.std.specs.Prelude.{if◌then◌else◌, nat_eq, slice_get, slice_range, filter, is_some}
+use Rattle.std.proofs.Common.{◌≡◌, ℕ, ◌%◌, ◌<◌, ◌≤◌, Bool, true, false, ◌&&◌, refl, ap, sym, subst, ◌∙◌, arith, List, [], ◌∷◌, ◌++◌, map, length, Option, Some, None}
+use Rattle.std.specs.Prelude.{if◌then◌else◌, nat_eq, slice_get, slice_range, filter}
 use Rattle.std.specs.Option.{option_map}
 use Rattle.std.specs.Str.{bytes_eq}
-use Rattle.std.proofs.lemmas.Bool.{eqb-true, eq-eqb}
-use Rattle.std.proofs.lemmas.Bool.Decides.{nat_tests}
+use Rattle.std.proofs.lemmas.Bool.{eqb-true}
 use Rattle.std.proofs.lemmas.Cmp.{nat_list_eq_equiv}
 use Rattle.sacn_source.specs.Identity.{Identity}
 use Rattle.sacn_source.specs.Stream.{Packet}
 use Rattle.wire_laws.specs.Datagrams.{packet_bytes}
 use Rattle.sacn_receiver.specs.Source as source
 use Rattle.sacn_receiver.specs.Source.{Entry, same_cid, is_accepted}
-use Rattle.sacn_receiver.specs.Taking.{heard}
 use Rattle.sacn_receiver.specs.Laws.{accepted}
 use Rattle.wire_laws.specs.declared.event.Event.{Event}
 use Rattle.wire_laws.specs.declared.event.What.{What}
 use Rattle.wire_laws.specs.declared.event.What.TheVariants.{Order, Tick, Deliver, Stray, Show}
 use Rattle.wire_laws.specs.World.{World, console_at, universe_at, IsConsole, IsWorld}
 use Rattle.wire_laws.specs.Happened.{sent, datagram, handed, hears, accepted_by}
-use Rattle.wire_laws.specs.Replies.{last_moment, missing}
-use Rattle.wire_laws.specs.Delivery.{Delivery, delivered_more, delivered_by, delivered}
+use Rattle.wire_laws.specs.Replies.{missing}
+use Rattle.wire_laws.specs.Delivery.{delivered_more, delivered_by, delivered}
 use Rattle.wire_laws.specs.Laws.{CidsDiffer, IsAlone, IsUnheard, NoStray}
 use Rattle.wire_laws.proofs.Grows.{Begins, sent_more}
 use Rattle.wire_laws.proofs.Bytes.{entry, heard_is, heard_elsewhere, stray_left}

@@ -1,5 +1,5 @@
 -- The deliveries of a console: in time, and each a packet that was sent.
-use Rattle.std.proofs.Common.{◌≡◌, ℕ, ◌+◌, ◌<◌, ◌≤◌, Bool, true, false, not, ◌&&◌, refl, ap, sym, subst, ◌∙◌, arith, List, [], ◌∷◌, ◌++◌, map, length, Option, Some, None}
+use Rattle.std.proofs.Common.{◌≡◌, ℕ, ◌≤◌, Bool, true, false, ◌&&◌, refl, arith, List, [], ◌∷◌, Option, Some, None}
 use Rattle.std.specs.Prelude.{if◌then◌else◌, nat_eq, slice_get}
 use Rattle.sacn_source.specs.Stream.{Packet}
 use Rattle.wire_laws.specs.declared.event.Event.{Event}
@@ -11,7 +11,7 @@ use Rattle.wire_laws.specs.Replies.{last_moment}
 use Rattle.wire_laws.specs.Delivery.{Delivery, delivered_more, delivered_by, delivered}
 use Rattle.wire_laws.proofs.Kept.{IsInTime, last_came}
 use Rattle.wire_laws.proofs.Full.{Each}
-use Rattle.wire_laws.proofs.Grows.{Begins, stays, sent_more}
+use Rattle.wire_laws.proofs.Grows.{stays, sent_more}
 use Rattle.wire_laws.proofs.Runs.{IsRun, timely}
 
 pub each_more : {A : Type 0} (P Q : A → Type 0) (xs : List A) → ((x : A) → P x → Q x) → Each P xs → Each Q xs
@@ -66,12 +66,15 @@ delivered_in_time w r i (e ∷ past) run = go e.what (delivered_in_time w r i pa
   where
     early : Each (λ d. d.moment ≤ e.moment) (delivered w r i past)
     early = each_more (λ d. d.moment ≤ last_moment past) (λ d. d.moment ≤ e.moment) _ (λ d h. omega (arith, h, (timely w past e run.0).after)) (delivered_by_then w r i past run.1)
+
     one : (k : ℕ) (o : Option Packet) → IsInTime (delivered w r i past) → IsInTime (delivered_more k e.moment o (delivered w r i past))
     one k None ih = ih
     one k (Some p) ih = in_time_more (record { k = k; moment = e.moment; packet = p }) (delivered w r i past) early ih
+
     deliver : (k : ℕ) (b : Bool) → IsInTime (delivered w r i past) → IsInTime (if b then delivered_more k e.moment (slice_get (sent w i (universe_at w r) past) k) (delivered w r i past) else delivered w r i past)
     deliver k true ih = one k (slice_get (sent w i (universe_at w r) past) k) ih
     deliver k false ih = ih
+
     go : (x : What) → IsInTime (delivered w r i past) → IsInTime (delivered_by w r i past e.moment x (delivered w r i past))
     go (Deliver q j u k) ih = deliver k ((nat_eq q r && nat_eq u (universe_at w r)) && nat_eq j i) ih
     go (Stray q from to) ih = ih

@@ -41,9 +41,9 @@ live_more : (o : Offer) (os : List Offer) (b : Bool)
     → Begins (map live_packet (frames_sent os))
     (map live_packet (if b then frames_sent os ++ o.frame ∷ [] else frames_sent os))
 live_more o os true = record {
-    rest = live_packet o.frame ∷ [];
-    are = map_more live_packet (frames_sent os) (o.frame ∷ []);
-  }
+  rest = live_packet o.frame ∷ [];
+  are = map_more live_packet (frames_sent os) (o.frame ∷ []);
+}
 live_more o os false = same_begins _ _ refl
 
 -- one call more leaves the packets, and adds at most one

@@ -1,16 +1,13 @@
 -- A receiver answers to a console as if that console alone had sent.
-use Rattle.std.proofs.Common.{◌≡◌, ℕ, zero, suc, ◌+◌, ◌-◌, ◌%◌, ◌<◌, ◌≤◌, Bool, true, false, not, ◌&&◌, ◌||◌, refl, ap, arith, sym, subst, inl, inr, ◌∙◌, List, [], ◌∷◌, map, length, Option, Some, None, Ok, Err}
-use Rattle.std.specs.Prelude.{nat_lt, nat_eq, if◌then◌else◌, find, slice_get}
-use Rattle.std.specs.List.{list_any, range_with_len}
+use Rattle.std.proofs.Common.{◌≡◌, ℕ, ◌%◌, ◌<◌, ◌≤◌, Bool, true, false, ◌&&◌, refl, ap, arith, sym, subst, inl, inr, ◌∙◌, List, [], ◌∷◌, map, length, Option, Some, None, Ok, Err}
+use Rattle.std.specs.Prelude.{nat_eq, if◌then◌else◌, find, slice_get}
+use Rattle.std.specs.List.{range_with_len}
 use Rattle.std.specs.Option.{option_map, option_map_or}
 use Rattle.std.proofs.lemmas.Bool.{eqb-true}
-use Rattle.std.proofs.lemmas.Bool.Decides.{nat_tests}
-use Rattle.std.proofs.lemmas.Cmp.{nat_list_eq_equiv}
 use Rattle.sacn_packet.specs.Reading.{front_packet}
 use Rattle.sacn_source.specs.Identity.{Identity}
 use Rattle.sacn_source.specs.Stream.{Packet}
 use Rattle.wire_laws.specs.Datagrams.{packet_bytes}
-use Rattle.sacn_receiver.specs.declared.answer.Ignored.{Ignored}
 use Rattle.sacn_receiver.specs.Source as source
 use Rattle.sacn_receiver.specs.Source.{Entry, same_cid, is_accepted, record_of, while_there}
 use Rattle.sacn_receiver.specs.Taking.{ignored, taken_of, answer, refusal, reason_of}
@@ -23,19 +20,19 @@ use Rattle.wire_laws.specs.declared.event.What.{What}
 use Rattle.wire_laws.specs.declared.event.What.TheVariants.{Order, Tick, Deliver, Stray, Show}
 use Rattle.wire_laws.specs.World.{World, console_at, universe_at, IsConsole, IsWorld}
 use Rattle.wire_laws.specs.Happened.{sent, datagram, hears, accepted_by}
-use Rattle.wire_laws.specs.Replies.{last_moment, missing, done}
+use Rattle.wire_laws.specs.Replies.{last_moment, done}
 use Rattle.wire_laws.specs.Delivery.{Delivery, delivered_more, delivered_by, delivered}
 use Rattle.wire_laws.specs.Laws.{CidsDiffer, NoStray, handed_from, accepted_from, ConsolesAreIndependent}
 use Rattle.wire_laws.proofs.Kept.{takes, kept}
 use Rattle.wire_laws.proofs.Bytes.{entry, heard_is, heard_elsewhere, ignored_here, ignored_there}
-use Rattle.wire_laws.proofs.Runs.{IsRun, timely, deliverer, done_runs, hears_last, last_accepted}
+use Rattle.wire_laws.proofs.Runs.{IsRun, timely, done_runs, hears_last, last_accepted}
 use Rattle.wire_laws.proofs.Full.{sent_full, sent_universe}
 use Rattle.wire_laws.proofs.Came.{came, accepted_is}
 use Rattle.wire_laws.proofs.One.{agrees, all_one, one_source}
 use Rattle.wire_laws.proofs.Several.{cid_of, all_cids, In_range, came_from, few_cids, follows}
 
 module _ (w : World) (r i : ℕ) (past : List Event) (t : ℕ) (h : List Entry) (c : IsConsole (console_at w i))
-  (is : h ≡ accepted 4 (map (entry (console_at w i).source) (delivered w r i past))) (time : source.last_moment h ≤ t) where
+    (is : h ≡ accepted 4 (map (entry (console_at w i).source) (delivered w r i past))) (time : source.last_moment h ≤ t) where
   abbrev me : Identity
   me = (console_at w i).source
 

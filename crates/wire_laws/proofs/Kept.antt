@@ -1,5 +1,5 @@
 -- What a receiver keeps of one console: in the window, one of the newest packets.
-use Rattle.std.proofs.Common.{◌≡◌, ℕ, ◌+◌, ◌-◌, ◌%◌, ◌<◌, ◌≤◌, Bool, true, false, cond, ◌||◌, ◌⊎◌, max, refl, ap, arith, sym, subst, inl, inr, ◌∙◌, List, [], ◌∷◌, Option, Some, None}
+use Rattle.std.proofs.Common.{◌≡◌, ℕ, ◌+◌, ◌%◌, ◌<◌, ◌≤◌, Bool, true, false, ◌||◌, ◌⊎◌, refl, ap, arith, sym, inl, inr, ◌∙◌, List, [], ◌∷◌, Option, Some, None}
 use Rattle.std.specs.Prelude.{nat_lt, nat_le, if◌then◌else◌}
 use Rattle.std.proofs.lemmas.Bool.{cases_lt}
 use Rattle.std.proofs.lemmas.Bool.Decides.{nat_tests}
@@ -75,14 +75,14 @@ taken : (d e a : Delivery) (ds : List Delivery) → Keeps (e ∷ ds) a → newes
 taken d e a ds h low high time t =
     let why : (a.moment + 2500 ≤ d.moment) ⊎ (a.k < d.k) = taken_means _ _ a.k d.k (sym (takes_in_window (newest_of (e ∷ ds)) a d h.not_far_behind h.not_ahead low high) ∙ t) in
     elim (cases_lt (newest_of (e ∷ ds)) d.k) [
-      inl newer ↦ record {
+      | inl newer ↦ record {
         not_far_behind = omega arith;
         not_ahead = omega arith;
         newest_or_late = inl (omega arith);
         after_arrival = omega (arith, arrived_newer d e ds newer);
         past = omega arith;
       }
-    | inr older ↦ record {
+      | inr older ↦ record {
         not_far_behind = omega arith;
         not_ahead = omega arith;
         newest_or_late = inr (rw (arrived_older d e ds older) (still_late (newest_of (e ∷ ds)) (arrived (e ∷ ds)) a.k a.moment d.k d.moment h.newest_or_late older h.not_ahead h.after_arrival (omega arith) why));
@@ -96,11 +96,11 @@ discarded d e a ds h low high time t =
     let older : d.k ≤ a.k = discarded_means _ a.k d.k (sym (takes_in_window (newest_of (e ∷ ds)) a d h.not_far_behind h.not_ahead low high) ∙ t) in
     let same : arrived (d ∷ e ∷ ds) ≡ arrived (e ∷ ds) = arrived_older d e ds (omega (arith, h.not_ahead)) in
     record {
-        not_far_behind = omega arith;
-        not_ahead = omega arith;
-        newest_or_late = rw same (elim h.newest_or_late [ inl at_newest ↦ inl (omega arith) | inr late ↦ inr late ]);
-        after_arrival = rw same h.after_arrival;
-        past = omega arith;
+      not_far_behind = omega arith;
+      not_ahead = omega arith;
+      newest_or_late = rw same (elim h.newest_or_late [ inl at_newest ↦ inl (omega arith) | inr late ↦ inr late ]);
+      after_arrival = rw same h.after_arrival;
+      past = omega arith;
     }
 
 -- what is kept of a console, over all its deliveries
@@ -130,8 +130,8 @@ pub newest_shown : (d : Delivery) (ds : List Delivery) (t : ℕ) → IsInWindow 
 newest_shown d ds t w i now fresh =
     let k = kept_in_window d ds w i in
     record {
-        one = k.one;
-        is_kept = k.is_kept;
-        is_newest = elim k.facts.newest_or_late [ inl e ↦ e | inr late ↦ absurd (omega (arith, k.facts.past)) ];
-        is_there = omega (arith, k.facts.after_arrival);
+      one = k.one;
+      is_kept = k.is_kept;
+      is_newest = elim k.facts.newest_or_late [ inl e ↦ e | inr late ↦ absurd (omega (arith, k.facts.past)) ];
+      is_there = omega (arith, k.facts.after_arrival);
     }

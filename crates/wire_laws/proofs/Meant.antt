@@ -1,7 +1,7 @@
 -- The laws of the replies, from the laws over the definitions.
-use Rattle.std.proofs.Common.{◌≡◌, ℕ, ◌<◌, ◌≤◌, refl, ap, sym, subst, ◌∙◌, arith, List, [], ◌∷◌}
+use Rattle.std.proofs.Common.{◌≡◌, ℕ, ◌<◌, ◌≤◌, refl, ap, sym, subst, ◌∙◌, arith, List, []}
 use Rattle.std.proofs.Common.{length, take, Option, Some, None, get_or}
-use Rattle.std.specs.Prelude.{slice_get, slice_index, ◌⊎◌, Bool, true, false, not, nat_lt}
+use Rattle.std.specs.Prelude.{slice_index, ◌⊎◌, Bool, true, false, not, nat_lt}
 use Rattle.std.specs.Prelude.{unwrap_or, if◌then◌else◌}
 use Rattle.std.specs.List.{range_with_len}
 use Rattle.std.specs.Option.{option_map, option_map_or}
@@ -24,7 +24,7 @@ use Rattle.wire_laws.specs.Happened.{sent, datagram}
 use Rattle.wire_laws.specs.Replies.{last_moment, skipped, done, taken_reply, taken_by, replied}
 use Rattle.wire_laws.specs.Replies.{reply_to, AreReplies, last_slots}
 use Rattle.wire_laws.specs.Delivery.{delivered}
-use Rattle.wire_laws.specs.Laws.{meant, slots_at, IsOneOf, accepted_from}
+use Rattle.wire_laws.specs.Laws.{slots_at, IsOneOf, accepted_from}
 use Rattle.wire_laws.specs.Shows.{IsShown, ShowsMeaning, ShowsUnpatched, LastMeans, ShowsNear}
 use Rattle.wire_laws.specs.Shows.{ShowsSilence, ShowsMerged, AnswersAlone}
 use Rattle.wire_laws.proofs.Runs.{timely, deliverer}
@@ -98,8 +98,12 @@ last_means w events v r i slots s hears fresh =
     let f : ℕ → List ℕ = λ r. slots_at w r past (last_moment past) in
     let l : r < length (last_slots w past) = slice_get_within (last_slots w past) r slots s in
     let n : r < length w.receivers =
-    omega (arith, l, length-map (range_with_len 0 (length w.receivers)) f,
-    length-range_with_len 0 (length w.receivers)) in
+    omega (
+      arith,
+      l,
+      length-map (range_with_len 0 (length w.receivers)) f,
+      length-range_with_len 0 (length w.receivers),
+    ) in
     sym (get_or_from_slice_get (last_slots w past) r slots [] s)
     ∙ get_or-map-range_with_len f 0 (length w.receivers) r r [] n (omega arith)
     ∙ headline w events r i (last_moment past) v (omega arith) hears fresh

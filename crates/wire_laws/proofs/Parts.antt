@@ -1,6 +1,6 @@
 -- What is shown is the merge of what is kept of each source; no window is asked.
-use Rattle.std.proofs.Common.{◌≡◌, ℕ, zero, suc, ◌+◌, ◌-◌, ◌<◌, ◌≤◌, ◌⊎◌, Bool, true, false, not, ◌&&◌, refl, ap, arith, sym, subst, inl, inr, ◌∙◌, List, [], ◌∷◌, ◌++◌, map, Option, Some, None}
-use Rattle.std.specs.Prelude.{nat_lt, if◌then◌else◌, filter, find, slice_index}
+use Rattle.std.proofs.Common.{◌≡◌, ℕ, ◌-◌, ◌⊎◌, Bool, true, false, not, ◌&&◌, refl, ap, sym, subst, inl, inr, ◌∙◌, List, [], ◌∷◌, ◌++◌, map, Option, Some, None}
+use Rattle.std.specs.Prelude.{nat_lt, if◌then◌else◌, find}
 use Rattle.std.specs.Option.{option_map}
 use Rattle.sacn_source.specs.Identity.{Identity}
 use Rattle.sacn_receiver.specs.Source.{Entry, same_cid, is_there, newest, records}
@@ -103,6 +103,7 @@ module _ (t : ℕ) (parts : List Part) (h : List Entry) (is : IsOf parts h) wher
           let P : Option Delivery → Type 0 = λ o. In l (kept_light t p.identity o) in
           let Q : Light → Type 0 = λ y. In y (kept_light t p.identity (Some a)) in
           subst P (sym k) (subst Q (ap light_of s ∙ sym le) (one_in _ (light_of (entry p.identity a)) (and _ _ (ap (is_there t) s ∙ there) (ap (λ (y : Entry). not y.ended) s ∙ n))))
+
       step : (e : Entry) → l ≡ light_of e → not e.ended ≡ true → In e (newest h) → is_there t e ≡ true → In l (joined (part_light t) parts)
       step e le ended j there =
           let c = is.from e (newest_in h e j) in

@@ -1,19 +1,18 @@
 -- Rows of the rehearsal, evaluated, over a show of which this much is known.
-use Rattle.std.proofs.Common.{◌≡◌, ℕ, ◌+◌, ◌-◌, Bool, true, false, List, [], ◌∷◌, ◌++◌, take, replicate, length, refl, arith, Option, Some, None, ap, sym, ◌∙◌}
+use Rattle.std.proofs.Common.{◌≡◌, ℕ, List, [], ◌∷◌, take, replicate, length, refl, arith}
 use Rattle.std.specs.FinMap as map
 use Rattle.show_core.specs.Tables.{Tables}
-use Rattle.playback_core.specs.Played.{go_target}
 use Rattle.desk_core.specs.declared.command.Command.TheVariants.{Go, End}
 use Rattle.desk_core.specs.declared.answer.Ticked.TheVariants.{Live, Ending}
 use Rattle.desk_core.specs.declared.answer.Refused.TheVariants as refused
-use Rattle.desk_core.specs.Played.{Act, order, tick}
+use Rattle.desk_core.specs.Played.{order, tick}
 use Rattle.desk_core.specs.Meaning.{frame, universe_numbers}
-use Rattle.sacn_source.specs.declared.offered.Offered.TheVariants.{Sent, Quiet}
+use Rattle.sacn_source.specs.declared.offered.Offered.TheVariants.{Sent}
 use Rattle.wire_laws.specs.declared.event.Event.{Event}
 use Rattle.wire_laws.specs.declared.event.What.{What}
-use Rattle.wire_laws.specs.declared.event.What.TheVariants.{Order, Tick, Deliver, Stray, Show}
+use Rattle.wire_laws.specs.declared.event.What.TheVariants.{Order, Tick, Deliver, Show}
 use Rattle.wire_laws.specs.declared.reply.Skip.TheVariants as skip
-use Rattle.wire_laws.specs.declared.reply.Reply.TheVariants.{Done, Refused, Ticked, Shown, Skipped}
+use Rattle.wire_laws.specs.declared.reply.Reply.TheVariants.{Done, Refused, Ticked, Skipped}
 use Rattle.wire_laws.specs.World.{World}
 use Rattle.wire_laws.specs.Replies.{done, reply_to}
 use Rattle.wire_laws.specs.Delivery.{delivered, IsInWindow}
@@ -25,12 +24,9 @@ use Rattle.sacn_receiver.specs.Shown.{shown}
 abbrev at : ℕ → What → Event
 at t x = record { moment = t; what = x }
 
-
-
-
 module _ (s : Tables) (numbers : universe_numbers s.patch 1 ≡ 1 ∷ []) (first : map.keys s.cues ≡ 1000 ∷ 2000 ∷ [])
-  (at_1000 : frame s (record { moment = 0; call = order Go } ∷ []) 1000 0 ≡ 51 ∷ replicate 511 0)
-  (at_2000 : frame s (record { moment = 1000; call = tick } ∷ record { moment = 0; call = order Go } ∷ []) 2000 0 ≡ 102 ∷ replicate 511 0) where
+    (at_1000 : frame s (record { moment = 0; call = order Go } ∷ []) 1000 0 ≡ 51 ∷ replicate 511 0)
+    (at_2000 : frame s (record { moment = 1000; call = tick } ∷ record { moment = 0; call = order Go } ∷ []) 2000 0 ≡ 102 ∷ replicate 511 0) where
   abbrev w : World
   w = record { consoles = record { show = s; base = 1; source = record { cid = replicate 16 7; name = []; priority = 100 } } ∷ []; receivers = 1 ∷ []; strays = [] }
 

@@ -1,19 +1,15 @@
 -- Several consoles: the merge law.
-use Rattle.std.proofs.Common.{◌≡◌, ℕ, zero, suc, ◌+◌, ◌-◌, ◌<◌, ◌≤◌, ◌⊎◌, Bool, true, false, not, ◌&&◌, max, refl, ap, arith, sym, subst, inl, inr, ◌∙◌, List, [], ◌∷◌, ◌++◌, map, length, Option, Some, None, get_or}
-use Rattle.std.specs.Prelude.{nat_lt, nat_le, nat_eq, if◌then◌else◌, filter, find, slice_index, slice_get, Contains, All}
-use Rattle.std.specs.List.{list_all, list_any, range_with_len}
+use Rattle.std.proofs.Common.{◌≡◌, ℕ, zero, suc, ◌+◌, ◌-◌, ◌<◌, ◌≤◌, ◌⊎◌, Bool, true, false, not, ◌&&◌, refl, ap, arith, sym, subst, inl, inr, ◌∙◌, List, [], ◌∷◌, ◌++◌, map, length, Option, Some, None, get_or}
+use Rattle.std.specs.Prelude.{nat_lt, nat_le, nat_eq, if◌then◌else◌, filter, find, slice_get, Contains, All}
+use Rattle.std.specs.List.{list_all, range_with_len}
 use Rattle.std.specs.Option.{option_map}
 use Rattle.std.proofs.lemmas.Bool.Decides.{nat_tests}
-use Rattle.std.proofs.lemmas.Cmp.{nat_list_eq_equiv}
 use Rattle.std.proofs.lemmas.List.{length-map}
 use Rattle.std.proofs.lemmas.List.FromFn.{length-range_with_len, get_or-map-range_with_len}
-use Rattle.desk_core.specs.Played.{Act}
-use Rattle.desk_core.specs.Meaning.{dark}
-use Rattle.sacn_source.specs.Identity.{Identity}
 use Rattle.sacn_source.specs.Stream.{Packet}
-use Rattle.sacn_receiver.specs.Source.{Entry, same_cid, is_accepted}
+use Rattle.sacn_receiver.specs.Source.{Entry, same_cid}
 use Rattle.sacn_receiver.specs.Laws.{accepted}
-use Rattle.sacn_receiver.specs.Shown.{Light, light_of, merged, shown, shown_slots}
+use Rattle.sacn_receiver.specs.Shown.{light_of, merged, shown}
 use Rattle.sacn_receiver.proofs.Members.{In, In_map, In_mapped}
 use Rattle.sacn_receiver.proofs.Independent.{sources_independent}
 use Rattle.wire_laws.specs.declared.event.Event.{Event}
@@ -21,9 +17,9 @@ use Rattle.wire_laws.specs.declared.event.What.{What}
 use Rattle.wire_laws.specs.declared.event.What.TheVariants.{Order, Tick, Deliver, Stray, Show}
 use Rattle.wire_laws.specs.World.{World, console_at, universe_at, IsWorld}
 use Rattle.wire_laws.specs.Happened.{acts, sent, accepted_by}
-use Rattle.wire_laws.specs.Replies.{last_moment, missing, done}
-use Rattle.wire_laws.specs.Delivery.{Delivery, delivered, IsInWindow}
-use Rattle.wire_laws.specs.Laws.{CidsDiffer, NoStray, IsFresh, is_silent, is_live, meant, slots_at, is_lit, light, lights, MergeLaw}
+use Rattle.wire_laws.specs.Replies.{missing, done}
+use Rattle.wire_laws.specs.Delivery.{Delivery, delivered}
+use Rattle.wire_laws.specs.Laws.{CidsDiffer, NoStray, IsFresh, is_silent, is_live, is_lit, light, MergeLaw}
 use Rattle.wire_laws.proofs.Kept.{kept}
 use Rattle.wire_laws.proofs.Bytes.{entry}
 use Rattle.wire_laws.proofs.Full.{Each}
@@ -68,9 +64,11 @@ module _ (w : World) (r : ℕ) where
       one i k l None h ih = ih h
       one i k l (Some p) (inl s) ih = (i, l, ap (λ (y : Entry). y.cid) (sym s))
       one i k l (Some p) (inr h) ih = ih h
+
       deliver : (i k : ℕ) → i < length w.consoles → (b : Bool) → In e (if b then came_more (console_at w i).source k x.moment (slice_get (sent w i (universe_at w r) past) k) (came w r past) else came w r past) → (In e (came w r past) → (i : ℕ) × (i < length w.consoles) × (cid_of w i ≡ e.cid)) → (i : ℕ) × (i < length w.consoles) × (cid_of w i ≡ e.cid)
       deliver i k l true h ih = one i k l (slice_get (sent w i (universe_at w r) past) k) h ih
       deliver i k l false h ih = ih h
+
       go : (y : What) → missing w past y ≡ None → In e (came_by w r past x.moment y (came w r past)) → (In e (came w r past) → (i : ℕ) × (i < length w.consoles) × (cid_of w i ≡ e.cid)) → (i : ℕ) × (i < length w.consoles) × (cid_of w i ≡ e.cid)
       go (Deliver q i u k) m h ih = deliver i k (deliverer w past q i u k m) (nat_eq q r && nat_eq u (universe_at w r)) h ih
       go (Stray q from to) m h ih = ih h
@@ -105,10 +103,10 @@ module _ (w : World) (v : IsWorld w) (apart : CidsDiffer w) (few : length w.cons
 
   of_all : IsOf parts (accepted 4 (came w r past))
   of_all = record {
-      from = λ e i. let c = came_from w r past run e (In_accepted 4 e (came w r past) i) in (part_of w r past c.0, In_map (part_of w r past) c.0 (range_with_len 0 (length w.consoles)) (In_range 0 (length w.consoles) c.0 (omega arith) (omega (arith, c.1))), c.2);
-      keeps = λ p i. let m = In_mapped (part_of w r past) p (range_with_len 0 (length w.consoles)) i in
-          subst (λ (q : Part). find (same_cid q.identity.cid) (accepted 4 (came w r past)) ≡ option_map (entry q.identity) (kept q.came)) (sym m.2) (follows m.0 (omega (arith, from_range 0 (length w.consoles) m.0 m.1)));
-    }
+    from = λ e i. let c = came_from w r past run e (In_accepted 4 e (came w r past) i) in (part_of w r past c.0, In_map (part_of w r past) c.0 (range_with_len 0 (length w.consoles)) (In_range 0 (length w.consoles) c.0 (omega arith) (omega (arith, c.1))), c.2);
+    keeps = λ p i. let m = In_mapped (part_of w r past) p (range_with_len 0 (length w.consoles)) i in
+        subst (λ (q : Part). find (same_cid q.identity.cid) (accepted 4 (came w r past)) ≡ option_map (entry q.identity) (kept q.came)) (sym m.2) (follows m.0 (omega (arith, from_range 0 (length w.consoles) m.0 m.1)));
+  }
 
   module _ (no_stray : NoStray w r past) (t : ℕ) where
     pub all_show : (s : ℕ) → shown (accepted_by w r past) t s ≡ merged (joined (part_light t) parts) s
@@ -186,8 +184,10 @@ merge_law w events r t v time hears state slot below =
     fresh_or_silent : (i : ℕ) → i < length w.consoles → IsFresh w r i (done w events) t ⊎ (is_silent w r i (done w events) t ≡ true) → part_light t (part_of w r (done w events) i) ≡ light_if (is_lit w r (done w events) t i) (light w r (done w events) i)
     fresh_or_silent i l (inl f) = lit_fresh w r (done w events) t i (fresh_one w r i (done w events) t (done_runs w events) time (hears.window i l) f)
     fresh_or_silent i l (inr q) = lit_silent w r (done w events) t i q
+
     by_sent : (i : ℕ) → i < length w.consoles → (ps : List Packet) → sent w i (universe_at w r) (done w events) ≡ ps → IsFresh w r i (done w events) t ⊎ (is_silent w r i (done w events) t ≡ true)
     by_sent i l [] e = inr (none_came t (sent w i (universe_at w r) (done w events)) (delivered w r i (done w events)) (delivered_sent w r i (done w events)) e)
     by_sent i l (p ∷ ps) e = state i l (λ n. let z : [] ≡ p ∷ ps = sym n ∙ e in cc)
+
     one : (i : ℕ) → i < length w.consoles → part_light t (part_of w r (done w events) i) ≡ light_if (is_lit w r (done w events) t i) (light w r (done w events) i)
     one i l = fresh_or_silent i l (by_sent i l (sent w i (universe_at w r) (done w events)) refl)

@@ -4,7 +4,7 @@ use Rattle.std.specs.Prelude.{if◌then◌else◌, Option, Some, None, slice_get
 use Rattle.sacn_source.specs.Stream.{Packet}
 use Rattle.wire_laws.specs.declared.event.Event.{Event}
 use Rattle.wire_laws.specs.declared.event.What.{What}
-use Rattle.wire_laws.specs.declared.event.What.TheVariants.{Order, Tick, Deliver, Stray, Show}
+use Rattle.wire_laws.specs.declared.event.What.TheVariants.{Deliver}
 use Rattle.wire_laws.specs.World.{World, universe_at}
 use Rattle.wire_laws.specs.Happened.{sent}
 

@@ -13,7 +13,7 @@ use Rattle.sacn_receiver.specs.Taking.{heard}
 use Rattle.console.specs.Streams.{Production, offers_of, terminations_of, universes_of}
 use Rattle.wire_laws.specs.declared.event.Event.{Event}
 use Rattle.wire_laws.specs.declared.event.What.{What}
-use Rattle.wire_laws.specs.declared.event.What.TheVariants.{Order, Tick, Deliver, Stray, Show}
+use Rattle.wire_laws.specs.declared.event.What.TheVariants.{Order, Tick, Deliver, Stray}
 use Rattle.wire_laws.specs.World.{World, console_at, universe_at}
 use Rattle.wire_laws.specs.Datagrams.{packet_bytes}
 

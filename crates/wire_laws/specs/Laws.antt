@@ -18,7 +18,7 @@ use Rattle.sacn_receiver.specs.Shown.{Light, merged, shown_slots}
 use Rattle.console.specs.Streams.{terminations_of}
 use Rattle.wire_laws.specs.declared.event.Event.{Event}
 use Rattle.wire_laws.specs.declared.event.What.{What}
-use Rattle.wire_laws.specs.declared.event.What.TheVariants.{Order, Tick, Deliver, Stray, Show}
+use Rattle.wire_laws.specs.declared.event.What.TheVariants.{Deliver, Stray}
 use Rattle.wire_laws.specs.World.{World, console_at, universe_at, IsWorld}
 use Rattle.wire_laws.specs.Happened.{acts, sent, datagram, hears, accepted_by}
 use Rattle.wire_laws.specs.Replies.{last_moment, done}

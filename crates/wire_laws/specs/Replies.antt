@@ -4,7 +4,6 @@ use Rattle.std.specs.Prelude.{nat_le, if◌then◌else◌, is_some, Option, Some
 use Rattle.std.specs.Prelude.{slice_get, slice_range, unwrap_or}
 use Rattle.std.specs.List.{fold, range_with_len}
 use Rattle.std.specs.Option.{option_map_or}
-use Rattle.desk_core.specs.declared.answer.Refused.{Refused}
 use Rattle.desk_core.specs.Played.{ended, refusal, ticked}
 use Rattle.sacn_source.specs.declared.offered.Offered.{Offered}
 use Rattle.sacn_source.specs.declared.offered.Offered.TheVariants.{Sent, Quiet}
