@@ -147,7 +147,8 @@ latest c u (a ∷ h) = go a.call (ended h) refl (latest c u h)
         ≡ (if nat_eq (unwrap_or n 0) 0 then newest_frame (offers_of c u h) else dark)
         → latest_frame c.show (record { moment = a.moment; call = call } ∷ h) (u - c.base)
         ≡ (if nat_eq (unwrap_or (ended_by call n) 0) 0
-        then newest_frame (offered_by call n (offer_at c u h a.moment) (offers_of c u h)) else dark)
+        then newest_frame (offered_by call n (offer_at c u h a.moment) (offers_of c u h))
+        else dark)
     go tick None e ih = refl
     go tick (Some n) e ih =
         let q : nat_eq (n + 1) 0 ≡ false = grind (arith, nat_tests) in

@@ -108,7 +108,9 @@ last_means w events v r i slots s hears fresh =
     ∙ get_or-map-range_with_len f 0 (length w.receivers) r r [] n (omega arith)
     ∙ headline w events r i (last_moment past) v (omega arith) hears fresh
 
-was_there : (a b c : Bool) (x y z : Skip) → (if not a then Some x else (if not b then Some y else (if c then None else Some z))) ≡ None → c ≡ true
+was_there : (a b c : Bool) (x y z : Skip)
+    → (if not a then Some x else (if not b then Some y else (if c then None else Some z))) ≡ None
+    → c ≡ true
 was_there false b c x y z h = cc
 was_there true false c x y z h = cc
 was_there true true true x y z h = refl
@@ -117,17 +119,27 @@ was_there true true false x y z h = cc
 is_lt : (m n : ℕ) → nat_lt m n ≡ true → m < n
 is_lt m n h = grind (arith, nat_tests)
 
-pub answers_alone : (w : World) (events : List Event) (replies : List Reply) → IsWorld w → AreReplies w events replies → AnswersAlone w events replies
+pub answers_alone : (w : World) (events : List Event) (replies : List Reply) → IsWorld w
+    → AreReplies w events replies → AnswersAlone w events replies
 answers_alone w events replies v are j r i u k t e s apart few no_stray =
     let past : List Event = done w (take j events) in
     let x : Event = record { moment = t; what = Deliver r i u k } in
     let m = timely w past x s in
-    let c : nat_lt k (length (sent w i u past)) ≡ true = was_there (nat_lt i (length w.consoles)) (nat_lt r (length w.receivers)) _ NoConsole NoReceiver NotSent m.there in
+    let c : nat_lt k (length (sent w i u past)) ≡ true =
+    was_there (nat_lt i (length w.consoles)) (nat_lt r (length w.receivers)) _ NoConsole NoReceiver
+    NotSent m.there in
     let blank : Packet = record { ends = true; slots = [] } in
     let p : Packet = get_or (sent w i u past) k blank in
-    let here : datagram w i u k past ≡ Some (packet_bytes (console_at w i).source u k p) = ap (option_map (packet_bytes (console_at w i).source u k)) (slice_get-get_or (sent w i u past) k blank (is_lt k (length (sent w i u past)) c)) in
+    let here : datagram w i u k past ≡ Some (packet_bytes (console_at w i).source u k p) =
+    ap (option_map (packet_bytes (console_at w i).source u k))
+    (slice_get-get_or (sent w i u past) k blank (is_lt k (length (sent w i u past)) c)) in
     are.1 j x e
     ∙ ap (λ o. Some (option_map_or Skipped o (replied w past t (Deliver r i u k)))) s
     ∙ ap (λ o. Some (taken_by w r past t (unwrap_or o []))) here
-    ∙ ap (λ a. Some (taken_reply a)) (consoles_independent w (take j events) r i u k t _ v apart few (deliverer w past r i u k m.there) m.after no_stray here)
-    ∙ sym (ap (λ o. Some (taken_reply (answer 4 (universe_at w r) (accepted_from w r i past) t (unwrap_or o [])))) here)
+    ∙ ap (λ a. Some (taken_reply a))
+    (consoles_independent w (take j events) r i u k t _ v apart few
+    (deliverer w past r i u k m.there) m.after no_stray here)
+    ∙ sym
+    (ap
+    (λ o. Some (taken_reply (answer 4 (universe_at w r) (accepted_from w r i past) t
+    (unwrap_or o [])))) here)

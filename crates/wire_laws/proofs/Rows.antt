@@ -24,15 +24,20 @@ use Rattle.sacn_receiver.specs.Shown.{shown}
 abbrev at : ℕ → What → Event
 at t x = record { moment = t; what = x }
 
-module _ (s : Tables) (numbers : universe_numbers s.patch 1 ≡ 1 ∷ []) (first : map.keys s.cues ≡ 1000 ∷ 2000 ∷ [])
+module _ (s : Tables) (numbers : universe_numbers s.patch 1 ≡ 1 ∷ []) (first : map.keys s.cues
+    ≡ 1000 ∷ 2000 ∷ [])
     (at_1000 : frame s (record { moment = 0; call = order Go } ∷ []) 1000 0 ≡ 51 ∷ replicate 511 0)
-    (at_2000 : frame s (record { moment = 1000; call = tick } ∷ record { moment = 0; call = order Go } ∷ []) 2000 0 ≡ 102 ∷ replicate 511 0) where
+    (at_2000 : frame s (record { moment = 1000; call = tick } ∷ record { moment = 0; call =
+    order Go } ∷ []) 2000 0 ≡ 102 ∷ replicate 511 0) where
   abbrev w : World
-  w = record { consoles = record { show = s; base = 1; source = record { cid = replicate 16 7; name = []; priority = 100 } } ∷ []; receivers = 1 ∷ []; strays = [] }
+  w = record { consoles = record { show = s; base = 1; source =
+      record { cid = replicate 16 7; name = []; priority = 100 } } ∷ []; receivers =
+      1 ∷ []; strays = [] }
 
   -- rehearse_basic, without its deliveries
   abbrev script : List Event
-  script = at 0 (Order 0 Go) ∷ at 1000 (Tick 0) ∷ at 2000 (Tick 0) ∷ at 2022 (Tick 0) ∷ at 2030 (Order 0 Go) ∷ at 2030 (Order 0 Go) ∷ at 2031 (Deliver 0 0 1 2) ∷ []
+  script = at 0 (Order 0 Go) ∷ at 1000 (Tick 0) ∷ at 2000 (Tick 0) ∷ at 2022 (Tick 0) ∷ at 2030
+      (Order 0 Go) ∷ at 2030 (Order 0 Go) ∷ at 2031 (Deliver 0 0 1 2) ∷ []
 
   line_3 : reply_to w (done w (take 0 script)) (at 0 (Order 0 Go)) ≡ Done
   line_3 = simp first refl
@@ -56,19 +61,24 @@ module _ (s : Tables) (numbers : universe_numbers s.patch 1 ≡ 1 ∷ []) (first
   line_14 = simp (first, numbers, at_1000, at_2000) refl
 
   -- skips
-  skips : (reply_to w [] (at 0 (Order 1 Go)) ≡ Skipped skip.NoConsole) × (reply_to w [] (at 0 (Show 1)) ≡ Skipped skip.NoReceiver)
+  skips : (reply_to w [] (at 0 (Order 1 Go)) ≡ Skipped skip.NoConsole)
+      × (reply_to w [] (at 0 (Show 1)) ≡ Skipped skip.NoReceiver)
       × (reply_to w (done w (at 5 (Tick 0) ∷ [])) (at 4 (Tick 0)) ≡ Skipped skip.Backwards)
-      × (reply_to w (done w (at 5 (Tick 0) ∷ [])) (at 281474976710656 (Tick 0)) ≡ Skipped skip.TooLarge)
+      × (reply_to w (done w (at 5 (Tick 0) ∷ [])) (at 281474976710656 (Tick 0))
+      ≡ Skipped skip.TooLarge)
   skips = (refl, refl, refl, refl)
 
   -- End, and its terminations
-  ending : reply_to w (done w (at 0 (Order 0 Go) ∷ at 1000 (Tick 0) ∷ at 1000 (Order 0 End) ∷ [])) (at 1023 (Tick 0)) ≡ Ticked (Ending 1) ((1, Sent 1) ∷ [])
+  ending : reply_to w (done w (at 0 (Order 0 Go) ∷ at 1000 (Tick 0) ∷ at 1000 (Order 0 End) ∷ []))
+      (at 1023 (Tick 0)) ≡ Ticked (Ending 1) ((1, Sent 1) ∷ [])
   ending = simp (first, numbers, at_1000) refl
 
-  -- with the deliveries: what the receiver shows, by what came (`accepted_is` joins it to the bytes)
+  -- with the deliveries: what the receiver shows, by what came (`accepted_is` joins it to the
+  -- bytes)
   abbrev with_deliveries : List Event
   with_deliveries =
-      at 0 (Order 0 Go) ∷ at 1000 (Tick 0) ∷ at 1000 (Deliver 0 0 1 0) ∷ at 2000 (Tick 0) ∷ at 2010 (Deliver 0 0 1 1) ∷ at 2011 (Deliver 0 0 1 1) ∷ []
+      at 0 (Order 0 Go) ∷ at 1000 (Tick 0) ∷ at 1000 (Deliver 0 0 1 0) ∷ at 2000 (Tick 0) ∷ at 2010
+      (Deliver 0 0 1 1) ∷ at 2011 (Deliver 0 0 1 1) ∷ []
 
   line_7 : shown (accepted 4 (came w 0 (done w (take 4 with_deliveries)))) 2000 0 ≡ 51
   line_7 = simp (first, numbers, at_1000, at_2000) refl
@@ -79,9 +89,15 @@ module _ (s : Tables) (numbers : universe_numbers s.patch 1 ≡ 1 ∷ []) (first
   line_10 : length (accepted 4 (came w 0 (done w (take 6 with_deliveries)))) ≡ 2
   line_10 = simp (first, numbers, at_1000, at_2000) refl
 
-  silence : (shown (accepted 4 (came w 0 (done w with_deliveries))) 4509 0 ≡ 102) × (shown (accepted 4 (came w 0 (done w with_deliveries))) 4510 0 ≡ 0)
-  silence = (simp (first, numbers, at_1000, at_2000) refl, simp (first, numbers, at_1000, at_2000) refl)
+  silence : (shown (accepted 4 (came w 0 (done w with_deliveries))) 4509 0 ≡ 102)
+      × (shown (accepted 4 (came w 0 (done w with_deliveries))) 4510 0 ≡ 0)
+  silence = (simp (first, numbers, at_1000, at_2000) refl,
+      simp (first, numbers, at_1000, at_2000) refl)
 
-  -- the premises of the headline hold of this script, from the second delivery until 2,500 ms later
-  premises : IsInWindow (delivered w 0 0 (done w with_deliveries)) × IsFresh w 0 0 (done w with_deliveries) 4509 × NoStray w 0 (done w with_deliveries)
-  premises = simp (first, numbers, at_1000, at_2000) ((omega arith, omega arith, (omega arith, omega arith, tt)), (refl, omega arith), (tt, (tt, (tt, (tt, (tt, (tt, tt)))))))
+  -- the premises of the headline hold of this script, from the second delivery until 2,500 ms
+  -- later
+  premises : IsInWindow (delivered w 0 0 (done w with_deliveries))
+      × IsFresh w 0 0 (done w with_deliveries) 4509 × NoStray w 0 (done w with_deliveries)
+  premises = simp (first, numbers, at_1000, at_2000)
+      ((omega arith, omega arith, (omega arith, omega arith, tt)), (refl, omega arith),
+      (tt, (tt, (tt, (tt, (tt, (tt, tt)))))))

@@ -38,8 +38,8 @@ abbrev pub newest_of : List Delivery → ℕ
 newest_of [] = 0
 newest_of (d ∷ older) = max d.k (newest_of older)
 
--- THE WINDOW of losses, repeats and reorderings: each packet but the first is at most 19 behind and
--- 217 ahead of the newest that came before it
+-- THE WINDOW of losses, repeats and reorderings: each packet but the first is at most 19 behind
+-- and 217 ahead of the newest that came before it
 abbrev pub IsInWindow : List Delivery → Type 0
 IsInWindow [] = Unit {0}
 IsInWindow (d ∷ []) = Unit {0}

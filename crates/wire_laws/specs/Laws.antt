@@ -1,5 +1,5 @@
--- What holds of every rehearsal: laws over the definitions alone. Each speaks of any list of events
--- and of those of them that were not skipped, `done w events`.
+-- What holds of every rehearsal: laws over the definitions alone. Each speaks of any list of
+-- events and of those of them that were not skipped, `done w events`.
 use Rattle.std.specs.Prelude.{◌≡◌, ℕ, suc, ◌+◌, ◌-◌, ◌*◌, ◌<◌, ◌≤◌, ◌==◌, ◌⊎◌, Bool, not, ◌&&◌}
 use Rattle.std.specs.Prelude.{IsTrue, IsFalse, List, [], ◌∷◌, length, map, filter, is_some, nat_le}
 use Rattle.std.specs.Prelude.{slice_index, slice_get, slice_range, Contains, if◌then◌else◌}
@@ -69,8 +69,8 @@ CidsDiffer w =
     (i j : ℕ) → i < length w.consoles → j < length w.consoles → IsFalse (j == i)
     → IsFalse (bytes_eq (console_at w i).source.cid (console_at w j).source.cid)
 
--- receiver r hears the consoles, at most four of them with CIDs of their own: no stray was heard on
--- its universe, and the packets that came to it from each console stayed in the window
+-- receiver r hears the consoles, at most four of them with CIDs of their own: no stray was heard
+-- on its universe, and the packets that came to it from each console stayed in the window
 pub record HearsAll (w : World) (r : ℕ) (past : List Event) : Type 0 where
   pub apart : CidsDiffer w
   pub few : length w.consoles ≤ 4
@@ -85,8 +85,8 @@ AreSettled w r past t =
 
 -- ---- what receivers show
 
--- what console i's show means for the universe of receiver r at the latest tick, under the commands
--- before that tick
+-- what console i's show means for the universe of receiver r at the latest tick, under the
+-- commands before that tick
 abbrev pub meant : World → ℕ → ℕ → List Event → List ℕ
 meant w r i past =
     latest_frame (console_at w i).show (acts w i past) (universe_at w r - (console_at w i).base)
@@ -119,8 +119,8 @@ UnpatchedSlotsAreZero =
     last_moment past ≤ t → HearsOne w r i past → IsFresh w r i past t
     → slot < 512 → IsUnpatched w r i slot → slice_index (slots_at w r past t) slot ≡ 0)
 
--- these slots are those of one packet that was sent and came less than 2,500 ms before moment t, at
--- most 19 behind the newest that came
+-- these slots are those of one packet that was sent and came less than 2,500 ms before moment t,
+-- at most 19 behind the newest that came
 pub record IsOneOf (t : ℕ) (slots : List ℕ) (packets : List Packet) (ds : List Delivery)
     : Type 0 where
   pub one : Delivery
@@ -194,9 +194,9 @@ accepted_from w r i [] = []
 accepted_from w r i (e ∷ past) =
     hears (universe_at w r) e.moment (handed_from w r i past e.what) (accepted_from w r i past)
 
--- CONSOLES ARE INDEPENDENT. With at most four consoles with CIDs of their own, and no stray heard on
--- its universe, a receiver answers to a packet of a console as if the packets of that console alone
--- had come
+-- CONSOLES ARE INDEPENDENT. With at most four consoles with CIDs of their own, and no stray heard
+-- on its universe, a receiver answers to a packet of a console as if the packets of that console
+-- alone had come
 abbrev pub ConsolesAreIndependent : Type 0
 ConsolesAreIndependent =
     (w : World) (events : List Event) (r i universe k t : ℕ) (bytes : List ℕ) → IsWorld w

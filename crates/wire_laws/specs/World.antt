@@ -7,8 +7,9 @@ use Rattle.sacn_packet.specs.Name.{padded}
 use Rattle.sacn_source.specs.Identity.{Identity}
 use Rattle.console.specs.Streams.{Production}
 
--- the consoles, each a production (a show, the number of its universe of ordinal 0, and who sends),
--- and the universes of the receivers, each by its number, from 0; and the bytes of all strays
+-- the consoles, each a production (a show, the number of its universe of ordinal 0, and who
+-- sends), and the universes of the receivers, each by its number, from 0; and the bytes of all
+-- strays
 pub record World : Type 0 where
   pub consoles : List Production
   pub receivers : List ℕ

@@ -1,5 +1,5 @@
-//! The rehearsal and its laws: what consoles, receivers and the network between them do together, as
-//! one list of events. The types of a rehearsal stand here, and what holds of every rehearsal.
+//! The rehearsal and its laws: what consoles, receivers and the network between them do together,
+//! as one list of events. The types of a rehearsal stand here, and what holds of every rehearsal.
 #![tactic(auto)]
 
 mod event;

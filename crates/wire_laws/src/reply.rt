@@ -3,8 +3,8 @@ use desk_core::{Refused, Ticked};
 use sacn_receiver::{Ignored, Taken};
 use thiserror::Error;
 
-/// Why an event was skipped. Of several reasons the first of these is given. A skipped event changes
-/// nothing.
+/// Why an event was skipped. Of several reasons the first of these is given. A skipped event
+/// changes nothing.
 #[derive(Clone, Copy, Debug, PartialEq, Eq, Error)]
 pub enum Skip {
     /// It is before the last event that was not skipped.
