@@ -110,10 +110,13 @@ pub of_one : (c : Identity) (ds : List Delivery)
 of_one c ds = record {
   from = λ e i. let m = In_mapped (entry c) e ds (In_accepted 4 e (map (entry c) ds) i) in
       (record { identity = c; came = ds }, inl refl, ap (λ (x : Entry). x.cid) (sym m.2));
-  keeps = λ p i. elim i [ inl s ↦
-      subst (λ (q : Part). find (same_cid q.identity.cid) (accepted 4 (map (entry c) ds))
-      ≡ option_map (entry q.identity) (kept q.came)) (sym s) (one_source c ds) | inr n ↦
-      absurd n ];
+  keeps = λ p i. elim i [
+    | inl s ↦
+        subst (λ (q : Part). find (same_cid q.identity.cid) (accepted 4 (map (entry c) ds))
+        ≡ option_map (entry q.identity) (kept q.came)) (sym s) (one_source c ds)
+    | inr n ↦
+        absurd n
+  ];
 }
 
 -- ---- the newest packet of a console
@@ -160,8 +163,14 @@ fresh_one w r i past t run time win fresh =
         ≡ newest_packet (sent w i (universe_at w r) past) =
         newest_at (sent w i (universe_at w r) past) n.one.k (omega (arith, f.0, n.is_newest)) in
         let m = sent_means w r i past n.one.packet (sym last ∙ at) in
-        record { one = n.one; is_kept = ap kept e
-        ∙ n.is_kept; there = within t n.one.moment n.is_there; slots_are = m.0; ends_is = m.1 }
+        record {
+          one = n.one;
+          is_kept = ap kept e
+              ∙ n.is_kept;
+          there = within t n.one.moment n.is_there;
+          slots_are = m.0;
+          ends_is = m.1;
+        }
 
 -- ---- one console alone
 
@@ -219,8 +228,11 @@ all_dark h t z = same_slots h t dark refl (λ s. z s ∙ sym (zero_at 512 s))
 module _ (w : World) (r i : ℕ) (past : List Event) (t : ℕ) (run : IsRun w past)
     (time : last_moment past ≤ t) (shows : (s : ℕ)
     → shown (accepted_by w r past) t s
-    ≡ merged (part_light t (record { identity = (console_at w i).source; came =
-    delivered w r i past })) s) where
+    ≡ merged (part_light t (record {
+      identity = (console_at w i).source;
+      came =
+          delivered w r i past;
+    })) s) where
   abbrev ps : List Packet
   ps = sent w i (universe_at w r) past
 

@@ -27,8 +27,15 @@ use Rattle.sacn_receiver.specs.Arrivals.{not_heard}
 
 -- what a delivery of a source's packet is to a receiver
 abbrev pub entry : Identity → Delivery → Entry
-entry identity d = record { cid = identity.cid; number = d.k % 256; moment = d.moment; priority =
-    identity.priority; slots = d.packet.slots; ended = d.packet.ends }
+entry identity d = record {
+  cid = identity.cid;
+  number = d.k % 256;
+  moment = d.moment;
+  priority =
+      identity.priority;
+  slots = d.packet.slots;
+  ended = d.packet.ends;
+}
 
 not_before : (m n : ℕ) → m ≤ n → nat_lt n m ≡ false
 not_before m n l = grind (arith, nat_tests)
@@ -48,9 +55,11 @@ module _ (identity : Identity) (universe k : ℕ) (packet : Packet) (is : IsIden
       is.name_size size (omega arith) is.priority_range (omega arith) low high
 
   has : HasPacket bytes wire
-  has =
-      (length bytes, subst (λ (xs : List ℕ). IsData xs (fields_at identity universe k packet)
-      packet.slots) (sym (take_all (length bytes) bytes (omega arith))) is_data)
+  has = (
+    length bytes,
+    subst (λ (xs : List ℕ). IsData xs (fields_at identity universe k packet)
+        packet.slots) (sym (take_all (length bytes) bytes (omega arith))) is_data,
+  )
 
   pub no_fault : fault_of bytes ≡ None
   no_fault = none_from_readable bytes
@@ -69,8 +78,15 @@ module _ (identity : Identity) (universe k : ℕ) (packet : Packet) (is : IsIden
 
   pub entry_is : (t : ℕ) → entry_of t wire
       ≡ entry identity (record { k = k; moment = t; packet = packet })
-  entry_is t = λ i. record { cid = identity.cid; number = k % 256; moment = t; priority =
-      identity.priority; slots = full i; ended = ends_is packet.ends i }
+  entry_is t = λ i. record {
+    cid = identity.cid;
+    number = k % 256;
+    moment = t;
+    priority =
+        identity.priority;
+    slots = full i;
+    ended = ends_is packet.ends i;
+  }
 
   no_preview : (b : Bool) → not (nat_eq (bit_and (if b then 0x40 else 0) 0x80) 0) ≡ false
   no_preview true = refl

@@ -116,8 +116,11 @@ discarded d e a ds h low high time t =
     record {
       not_far_behind = omega arith;
       not_ahead = omega arith;
-      newest_or_late = rw same (elim h.newest_or_late [ inl at_newest ↦
-          inl (omega arith) | inr late ↦ inr late ]);
+      newest_or_late = rw same (elim h.newest_or_late [
+        | inl at_newest ↦
+            inl (omega arith)
+        | inr late ↦ inr late
+      ]);
       after_arrival = rw same h.after_arrival;
       past = omega arith;
     }
@@ -132,18 +135,36 @@ next : (d e : Delivery) (ds : List Delivery) → KeptOne (e ∷ ds) → newest_o
     → d.k ≤ newest_of (e ∷ ds) + 217 → e.moment ≤ d.moment → (t : Bool)
     → takes (kept (e ∷ ds)) d ≡ t → KeptOne (d ∷ e ∷ ds)
 next d e ds k low high time true t =
-    record { one = d; is_kept = ap (λ b. if b then Some d else kept (e ∷ ds)) t; facts =
-    taken d e k.one ds k.facts low high time (sym (ap (λ o. takes o d) k.is_kept) ∙ t) }
+    record {
+      one = d;
+      is_kept = ap (λ b. if b then Some d else kept (e ∷ ds)) t;
+      facts =
+          taken d e k.one ds k.facts low high time (sym (ap (λ o. takes o d) k.is_kept) ∙ t);
+    }
 next d e ds k low high time false t =
-    record { one = k.one; is_kept = ap (λ b. if b then Some d else kept (e ∷ ds)) t
-    ∙ k.is_kept; facts = discarded d e k.one ds k.facts low high time
-    (sym (ap (λ o. takes o d) k.is_kept) ∙ t) }
+    record {
+      one = k.one;
+      is_kept = ap (λ b. if b then Some d else kept (e ∷ ds)) t
+          ∙ k.is_kept;
+      facts = discarded d e k.one ds k.facts low high time
+          (sym (ap (λ o. takes o d) k.is_kept) ∙ t);
+    }
 
 pub kept_in_window : (d : Delivery) (ds : List Delivery) → IsInWindow (d ∷ ds) → IsInTime (d ∷ ds)
     → KeptOne (d ∷ ds)
-kept_in_window d [] w i = record { one = d; is_kept = refl; facts =
-    record { not_far_behind = omega arith; not_ahead = omega arith; newest_or_late =
-    inl (omega arith); after_arrival = omega arith; past = omega arith } }
+kept_in_window d [] w i = record {
+  one = d;
+  is_kept = refl;
+  facts =
+      record {
+        not_far_behind = omega arith;
+        not_ahead = omega arith;
+        newest_or_late =
+            inl (omega arith);
+        after_arrival = omega arith;
+        past = omega arith;
+      };
+}
 kept_in_window d (e ∷ ds) w i =
     next d e ds (kept_in_window e ds w.2 i.1) w.0 w.1 i.0 (takes (kept (e ∷ ds)) d) refl
 
@@ -162,7 +183,10 @@ newest_shown d ds t w i now fresh =
     record {
       one = k.one;
       is_kept = k.is_kept;
-      is_newest = elim k.facts.newest_or_late [ inl e ↦ e | inr late ↦
-          absurd (omega (arith, k.facts.past)) ];
+      is_newest = elim k.facts.newest_or_late [
+        | inl e ↦ e
+        | inr late ↦
+            absurd (omega (arith, k.facts.past))
+      ];
       is_there = omega (arith, k.facts.after_arrival);
     }

@@ -11,6 +11,6 @@ pub mod Delivered
 pub mod Alone
 pub mod Several
 pub mod Independent
-pub mod Meant
+pub mod Lawful
 pub mod Wire
 mod Rows

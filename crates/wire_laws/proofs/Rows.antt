@@ -1,8 +1,8 @@
 -- Rows of the rehearsal, evaluated, over a show of which this much is known, and that the laws'
 -- premises are met there.
-use Rattle.std.proofs.Common.{◌≡◌, ℕ, zero, suc, ◌<◌, ◌≤◌, ◌⊎◌, Bool, true, false, List, [], ◌∷◌}
-use Rattle.std.proofs.Common.{take, replicate, length, refl, arith, inl, inr, ap, ◌∙◌}
-use Rattle.std.specs.Prelude.{IsTrue, IsFalse, ◌==◌, slice_index, nat_eq}
+use Rattle.std.proofs.Common.{◌≡◌, ℕ, zero, suc, ◌<◌, ◌≤◌, true, List, [], ◌∷◌}
+use Rattle.std.proofs.Common.{take, replicate, length, refl, arith, inl, ap, ◌∙◌}
+use Rattle.std.specs.Prelude.{IsFalse, ◌==◌, slice_index}
 use Rattle.std.specs.FinMap as map
 use Rattle.show_core.specs.Tables.{Tables}
 use Rattle.patch_core.specs.Frame.{is_base}
@@ -20,11 +20,11 @@ use Rattle.wire_laws.specs.declared.event.What.{What}
 use Rattle.wire_laws.specs.declared.event.What.TheVariants.{Order, Tick, Deliver, Show}
 use Rattle.wire_laws.specs.declared.reply.Skip.TheVariants as skip
 use Rattle.wire_laws.specs.declared.reply.Reply.TheVariants.{Done, Refused, Ticked, Skipped}
-use Rattle.wire_laws.specs.World.{World, IsIdentity, IsConsole, IsWorld}
-use Rattle.wire_laws.specs.Happened.{acts}
+use Rattle.wire_laws.specs.World.{World, IsConsole, IsWorld}
 use Rattle.wire_laws.specs.Replies.{last_moment, done, reply_to}
 use Rattle.wire_laws.specs.Delivery.{delivered, IsInWindow}
-use Rattle.wire_laws.specs.Laws.{CidsDiffer, HearsOne, HearsAll, IsFresh, AreSettled, slots_at, lights}
+use Rattle.wire_laws.specs.Laws.{CidsDiffer, HearsOne, HearsAll, IsFresh, AreSettled, slots_at}
+use Rattle.wire_laws.specs.Laws.{lights}
 use Rattle.wire_laws.proofs.Alone.{headline, silence_dark}
 use Rattle.wire_laws.proofs.Several.{merge_law}
 use Rattle.wire_laws.proofs.Came.{came}
@@ -47,9 +47,9 @@ console_of s byte priority = record {
 console_is : (s : Tables) (byte priority : ℕ) → priority ≤ 200 → is_base s.patch 1 ≡ true
     → IsConsole (console_of s byte priority)
 console_is s byte priority low based = record {
-    source_in = record { cid_size = refl; name_size = refl; priority_range = low };
-    base_in = based;
-  }
+  source_in = record { cid_size = refl; name_size = refl; priority_range = low };
+  base_in = based;
+}
 
 module _ (s : Tables) (numbers : universe_numbers s.patch 1 ≡ 1 ∷ [])
     (based : is_base s.patch 1 ≡ true) (cues : map.keys s.cues ≡ 1000 ∷ 2000 ∷ [])
@@ -117,8 +117,10 @@ module _ (s : Tables) (numbers : universe_numbers s.patch 1 ≡ 1 ∷ [])
 
   silence : (shown (accepted 4 (came w 0 (done w with_deliveries))) 4509 0 ≡ 102)
       × (shown (accepted 4 (came w 0 (done w with_deliveries))) 4510 0 ≡ 0)
-  silence = (simp (cues, numbers, at_1000, at_2000) refl,
-      simp (cues, numbers, at_1000, at_2000) refl)
+  silence = (
+    simp (cues, numbers, at_1000, at_2000) refl,
+    simp (cues, numbers, at_1000, at_2000) refl,
+  )
 
   -- ---- the premises of the headline and of the window law are met
 
@@ -133,12 +135,12 @@ module _ (s : Tables) (numbers : universe_numbers s.patch 1 ≡ 1 ∷ [])
   -- after all deliveries, until 4509, whatever is shown is what the show means: slots 1:102
   hears : HearsOne w 0 0 (done w with_deliveries)
   hears = record {
-      console = omega arith;
-      alone = λ j l f. absurd (alone j l f);
-      no_stray = simp (cues, numbers, at_1000, at_2000) (tt, (tt, (tt, (tt, (tt, (tt, tt))))));
-      window = simp (cues, numbers, at_1000, at_2000)
-          (omega arith, omega arith, (omega arith, omega arith, tt));
-    }
+    console = omega arith;
+    alone = λ j l f. absurd (alone j l f);
+    no_stray = simp (cues, numbers, at_1000, at_2000) (tt, (tt, (tt, (tt, (tt, (tt, tt))))));
+    window = simp (cues, numbers, at_1000, at_2000)
+        (omega arith, omega arith, (omega arith, omega arith, tt));
+  }
 
   fresh : IsFresh w 0 0 (done w with_deliveries) 4509
   fresh = simp (cues, numbers, at_1000, at_2000) (refl, omega arith)
@@ -161,11 +163,11 @@ module _ (s : Tables) (numbers : universe_numbers s.patch 1 ≡ 1 ∷ [])
   -- that came is not the newest that was sent
   hears_first : HearsOne w 0 0 (done w (take 4 with_deliveries))
   hears_first = record {
-      console = omega arith;
-      alone = λ j l f. absurd (alone j l f);
-      no_stray = simp (cues, numbers, at_1000, at_2000) (tt, (tt, (tt, (tt, tt))));
-      window = simp (cues, numbers, at_1000, at_2000) tt;
-    }
+    console = omega arith;
+    alone = λ j l f. absurd (alone j l f);
+    no_stray = simp (cues, numbers, at_1000, at_2000) (tt, (tt, (tt, (tt, tt))));
+    window = simp (cues, numbers, at_1000, at_2000) tt;
+  }
 
 -- two consoles on one universe, with CIDs and priorities of their own
 module _ (s : Tables) (numbers : universe_numbers s.patch 1 ≡ 1 ∷ [])
@@ -207,11 +209,11 @@ module _ (s : Tables) (numbers : universe_numbers s.patch 1 ≡ 1 ∷ [])
 
   hears_both : HearsAll two 0 (done two both_sent)
   hears_both = record {
-      apart = apart;
-      few = omega arith;
-      no_stray = simp (subs, numbers, at_full, at_half) (tt, (tt, (tt, (tt, (tt, (tt, tt))))));
-      window = window;
-    }
+    apart = apart;
+    few = omega arith;
+    no_stray = simp (subs, numbers, at_full, at_half) (tt, (tt, (tt, (tt, (tt, (tt, tt))))));
+    window = window;
+  }
 
   -- both are fresh until 2499
   settled : AreSettled two 0 (done two both_sent) 2499
@@ -232,8 +234,8 @@ module _ (s : Tables) (numbers : universe_numbers s.patch 1 ≡ 1 ∷ [])
       (simp (subs, numbers, at_full, at_half) (omega arith)) hears_both settled 0 (omega arith)
       ∙ ap (λ l. merged l 0) both_lit
 
--- two_consoles_highest and two_consoles_priority: with equal priorities the greater level is shown,
--- and else that of the greater priority
+-- two_consoles_highest and two_consoles_priority: with equal priorities the greater level is
+-- shown, and else that of the greater priority
 priorities : (merged (record { priority = 100; slots = first_at 128 }
     ∷ record { priority = 100; slots = first_at 64 } ∷ []) 0 ≡ 128)
     × (merged (record { priority = 100; slots = first_at 128 }

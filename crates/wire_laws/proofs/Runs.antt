@@ -56,8 +56,12 @@ timely w past e s = go (nat_lt e.moment (last_moment past)) (nat_le (2 ^ 48) e.m
         ≡ None → IsTimely w past e
     go true c p q s = cc
     go false true p q s = cc
-    go false false p q s = record { after = not_lt e.moment (last_moment past) p; below =
-        not_le (2 ^ 48) e.moment q; there = s }
+    go false false p q s = record {
+      after = not_lt e.moment (last_moment past) p;
+      below =
+          not_le (2 ^ 48) e.moment q;
+      there = s;
+    }
 
 some_none : (b : Bool) (s : Skip) (o : Option Skip) → (if not b then Some s else o) ≡ None
     → (b ≡ true) × (o ≡ None)

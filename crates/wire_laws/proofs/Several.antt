@@ -105,16 +105,27 @@ pub came_among : (w : World) (r : ℕ) (past : List Event) → IsRun w past
     → All (λ (e : Entry). Contains (all_cids w) e.cid) (came w r past)
 came_among w r past run k d l =
     let c = came_from w r past run (get_or (came w r past) k d) (at_place (came w r past) k d l) in
-    let n : ℕ = length w.consoles in
-    (c.0, omega (arith, c.1, length-map (range_with_len 0 n) (cid_of w),
-    length-range_with_len 0 n), get_or-map-range_with_len (cid_of w) 0 n c.0 c.0 _ c.1
-    (omega arith) ∙ c.2)
+    let n : ℕ = length w.consoles in (
+      c.0,
+      omega (
+        arith,
+        c.1,
+        length-map (range_with_len 0 n) (cid_of w),
+        length-range_with_len 0 n,
+      ),
+      get_or-map-range_with_len (cid_of w) 0 n c.0 c.0 _ c.1
+          (omega arith) ∙ c.2,
+    )
 
 module _ (w : World) (v : IsWorld w) (apart : CidsDiffer w) (few : length w.consoles ≤ 4) (r : ℕ)
     (past : List Event) (run : IsRun w past) where
   pub few_cids : length (all_cids w) ≤ 4
-  few_cids = omega (arith, few, length-map (range_with_len 0 (length w.consoles)) (cid_of w),
-      length-range_with_len 0 (length w.consoles))
+  few_cids = omega (
+    arith,
+    few,
+    length-map (range_with_len 0 (length w.consoles)) (cid_of w),
+    length-range_with_len 0 (length w.consoles),
+  )
 
   -- CONSOLES ARE INDEPENDENT: what is kept of a console is what its own deliveries give
   pub follows : (i : ℕ) → i < length w.consoles
@@ -131,9 +142,12 @@ module _ (w : World) (v : IsWorld w) (apart : CidsDiffer w) (few : length w.cons
 
   of_all : IsOf parts (accepted 4 (came w r past))
   of_all = record {
-    from = λ e i. let c = came_from w r past run e (In_accepted 4 e (came w r past) i) in
-        (part_of w r past c.0, In_map (part_of w r past) c.0 (range_with_len 0 (length w.consoles))
-        (In_range 0 (length w.consoles) c.0 (omega arith) (omega (arith, c.1))), c.2);
+    from = λ e i. let c = came_from w r past run e (In_accepted 4 e (came w r past) i) in (
+      part_of w r past c.0,
+      In_map (part_of w r past) c.0 (range_with_len 0 (length w.consoles))
+          (In_range 0 (length w.consoles) c.0 (omega arith) (omega (arith, c.1))),
+      c.2,
+    );
     keeps = λ p i. let m = In_mapped (part_of w r past) p (range_with_len 0 (length w.consoles))
         i in
         subst (λ (q : Part). find (same_cid q.identity.cid) (accepted 4 (came w r past))
@@ -224,8 +238,10 @@ module _ (w : World) (r : ℕ) (past : List Event) (t : ℕ) where
 
 each_range : (P : ℕ → Type 0) (a n : ℕ) → ((i : ℕ) → i < a + n → P i) → Each P (range_with_len a n)
 each_range P a zero h = tt
-each_range P a (suc n) h = (h a (omega arith),
-    each_range P (a + 1) n (λ i l. h i (omega (arith, l))))
+each_range P a (suc n) h = (
+  h a (omega arith),
+  each_range P (a + 1) n (λ i l. h i (omega (arith, l))),
+)
 
 -- nothing sent, nothing delivered
 none_came : (t : ℕ) (ps : List Packet) (ds : List Delivery) → Each (IsSent ps) ds → ps ≡ []

@@ -13,3 +13,6 @@ pub use event::{Event, What};
 pub use fault::Fault;
 pub use reply::{Reply, Skip};
 pub use setup::Setup;
+
+#[cfg(test)]
+mod tests;

@@ -1,7 +1,7 @@
 -- The laws of the replies, from the laws over the definitions.
 use Rattle.std.proofs.Common.{◌≡◌, ℕ, ◌<◌, ◌≤◌, refl, ap, sym, subst, ◌∙◌, arith, List, []}
 use Rattle.std.proofs.Common.{length, take, Option, Some, None, get_or}
-use Rattle.std.specs.Prelude.{slice_index, ◌⊎◌, Bool, true, false, not, nat_lt}
+use Rattle.std.specs.Prelude.{slice_get, Bool, true, false, not, nat_lt}
 use Rattle.std.specs.Prelude.{unwrap_or, if◌then◌else◌}
 use Rattle.std.specs.List.{range_with_len}
 use Rattle.std.specs.Option.{option_map, option_map_or}
@@ -9,7 +9,6 @@ use Rattle.std.proofs.lemmas.Bool.Decides.{nat_tests}
 use Rattle.std.proofs.lemmas.Option.{slice_get_within, get_or_from_slice_get, slice_get-get_or}
 use Rattle.std.proofs.lemmas.List.{length-map}
 use Rattle.std.proofs.lemmas.List.FromFn.{length-range_with_len, get_or-map-range_with_len}
-use Rattle.desk_core.specs.Meaning.{dark}
 use Rattle.sacn_source.specs.Stream.{Packet}
 use Rattle.sacn_receiver.specs.Taking.{answer}
 use Rattle.wire_laws.specs.declared.event.Event.{Event}
@@ -23,10 +22,9 @@ use Rattle.wire_laws.specs.Datagrams.{packet_bytes}
 use Rattle.wire_laws.specs.Happened.{sent, datagram}
 use Rattle.wire_laws.specs.Replies.{last_moment, skipped, done, taken_reply, taken_by, replied}
 use Rattle.wire_laws.specs.Replies.{reply_to, AreReplies, last_slots}
-use Rattle.wire_laws.specs.Delivery.{delivered}
-use Rattle.wire_laws.specs.Laws.{slots_at, IsOneOf, accepted_from}
-use Rattle.wire_laws.specs.Shows.{IsShown, ShowsMeaning, ShowsUnpatched, LastMeans, ShowsNear}
-use Rattle.wire_laws.specs.Shows.{ShowsSilence, ShowsMerged, AnswersAlone}
+use Rattle.wire_laws.specs.Laws.{slots_at, accepted_from}
+use Rattle.wire_laws.specs.Shows.{AreLawful, RepliesAreLawful, LastSlotsAreLawful}
+use Rattle.wire_laws.specs.Shows.{RepliesAreIndependent}
 use Rattle.wire_laws.proofs.Runs.{timely, deliverer}
 use Rattle.wire_laws.proofs.Alone.{headline, unpatched_zero, window_law, silence_dark}
 use Rattle.wire_laws.proofs.Several.{merge_law}
@@ -48,52 +46,39 @@ was_shown w past e r slots is h = go (skipped w past e) refl h
 
 -- the reply to an event that asks for slots, by the events before it
 shown_at : (w : World) (events : List Event) (replies : List Reply) → AreReplies w events replies
-    → (j r t : ℕ) (slots : List ℕ) → IsShown events replies j r t slots
+    → (j r t : ℕ) (slots : List ℕ)
+    → slice_get events j ≡ Some (record { moment = t; what = Show r })
+    → slice_get replies j ≡ Some (Shown slots)
     → (last_moment (done w (take j events)) ≤ t)
     × (slots ≡ slots_at w r (done w (take j events)) t)
-shown_at w events replies are j r t slots s =
+shown_at w events replies are j r t slots asked answered =
     let x : Event = record { moment = t; what = Show r } in
     let f : Some (reply_to w (done w (take j events)) x) ≡ Some (Shown slots) =
-    sym (are.1 j x s.asked) ∙ s.answered in
+    sym (are.1 j x asked) ∙ answered in
     let g : reply_to w (done w (take j events)) x ≡ Shown slots = cc in
     let k = was_shown w (done w (take j events)) x r slots refl g in
     ((timely w (done w (take j events)) x k.0).after, k.1)
 
-module _ (w : World) (events : List Event) (replies : List Reply) (v : IsWorld w)
-    (are : AreReplies w events replies) where
-  pub shows_meaning : ShowsMeaning w events replies
-  shows_meaning j r i t slots s hears fresh =
-      let k = shown_at w events replies are j r t slots s in
-      k.1 ∙ headline w (take j events) r i t v k.0 hears fresh
+-- the laws, of the slots that a receiver has
+lawful : (w : World) (events : List Event) (r t : ℕ) → IsWorld w → last_moment (done w events) ≤ t
+    → AreLawful w r (done w events) t (slots_at w r (done w events) t)
+lawful w events r t v time = record {
+  meaning = λ i hears fresh. headline w events r i t v time hears fresh;
+  unpatched = λ i slot hears fresh below none.
+      unpatched_zero w events r i t slot v time hears fresh below none;
+  near = λ i hears. window_law w events r i t v time hears;
+  silence = λ i hears silent. silence_dark w events r i t v time hears silent;
+  merge = λ hears settled slot below. merge_law w events r t v time hears settled slot below;
+}
 
-  pub shows_unpatched : ShowsUnpatched w events replies
-  shows_unpatched j r i t slot slots s hears fresh below none =
-      let k = shown_at w events replies are j r t slots s in
-      ap (λ l. slice_index l slot) k.1
-      ∙ unpatched_zero w (take j events) r i t slot v k.0 hears fresh below none
+pub replies_lawful : RepliesAreLawful
+replies_lawful w events replies v are j r t slots asked answered =
+    let past : List Event = done w (take j events) in
+    let k = shown_at w events replies are j r t slots asked answered in
+    subst (AreLawful w r past t) (sym k.1) (lawful w (take j events) r t v k.0)
 
-  pub shows_near : ShowsNear w events replies
-  shows_near j r i t slots s hears =
-      let k = shown_at w events replies are j r t slots s in
-      let past : List Event = done w (take j events) in
-      let P : List ℕ → Type 0 =
-      λ x. IsOneOf t x (sent w i (universe_at w r) past) (delivered w r i past) ⊎ (x ≡ dark) in
-      subst P (sym k.1) (window_law w (take j events) r i t v k.0 hears)
-
-  pub shows_silence : ShowsSilence w events replies
-  shows_silence j r i t slots s hears silent =
-      let k = shown_at w events replies are j r t slots s in
-      k.1 ∙ silence_dark w (take j events) r i t v k.0 hears silent
-
-  pub shows_merged : ShowsMerged w events replies
-  shows_merged j r t slots s hears settled slot below =
-      let k = shown_at w events replies are j r t slots s in
-      ap (λ l. slice_index l slot) k.1
-      ∙ merge_law w (take j events) r t v k.0 hears settled slot below
-
-pub last_means : (w : World) (events : List Event) → IsWorld w
-    → LastMeans w events (last_slots w (done w events))
-last_means w events v r i slots s hears fresh =
+pub last_lawful : LastSlotsAreLawful
+last_lawful w events v r slots s =
     let past : List Event = done w events in
     let f : ℕ → List ℕ = λ r. slots_at w r past (last_moment past) in
     let l : r < length (last_slots w past) = slice_get_within (last_slots w past) r slots s in
@@ -104,9 +89,11 @@ last_means w events v r i slots s hears fresh =
       length-map (range_with_len 0 (length w.receivers)) f,
       length-range_with_len 0 (length w.receivers),
     ) in
-    sym (get_or_from_slice_get (last_slots w past) r slots [] s)
-    ∙ get_or-map-range_with_len f 0 (length w.receivers) r r [] n (omega arith)
-    ∙ headline w events r i (last_moment past) v (omega arith) hears fresh
+    let e : slots_at w r past (last_moment past) ≡ slots =
+    sym (get_or-map-range_with_len f 0 (length w.receivers) r r [] n (omega arith))
+    ∙ get_or_from_slice_get (last_slots w past) r slots [] s in
+    subst (AreLawful w r past (last_moment past)) e
+    (lawful w events r (last_moment past) v (omega arith))
 
 was_there : (a b c : Bool) (x y z : Skip)
     → (if not a then Some x else (if not b then Some y else (if c then None else Some z))) ≡ None
@@ -119,8 +106,7 @@ was_there true true false x y z h = cc
 is_lt : (m n : ℕ) → nat_lt m n ≡ true → m < n
 is_lt m n h = grind (arith, nat_tests)
 
-pub answers_alone : (w : World) (events : List Event) (replies : List Reply) → IsWorld w
-    → AreReplies w events replies → AnswersAlone w events replies
+pub answers_alone : RepliesAreIndependent
 answers_alone w events replies v are j r i u k t e s apart few no_stray =
     let past : List Event = done w (take j events) in
     let x : Event = record { moment = t; what = Deliver r i u k } in
