@@ -33,7 +33,7 @@ use Rattle.sacn_receiver.proofs.Members.{In, In_mapped}
 use Rattle.wire_laws.specs.declared.event.Event.{Event}
 use Rattle.wire_laws.specs.World.{World, console_at, universe_at, IsWorld}
 use Rattle.console.specs.Streams.{offers_of}
-use Rattle.wire_laws.specs.Happened.{acts, stream, has_universe, sent, accepted_by}
+use Rattle.wire_laws.specs.Happened.{acts, stream, plays, sent, accepted_by}
 use Rattle.wire_laws.specs.Replies.{last_moment, done}
 use Rattle.wire_laws.specs.Delivery.{Delivery, delivered, newest_of, IsInWindow}
 use Rattle.wire_laws.specs.Laws.{IsAlone, NoStray, IsFreshIn, IsFresh, is_live, meant, slots_at}
@@ -124,7 +124,7 @@ of_one c ds = record {
 pub sent_means : (w : World) (r i : ℕ) (past : List Event) (p : Packet)
     → newest_packet (sent w i (universe_at w r) past) ≡ Some p
     → (p.slots ≡ meant w r i past) × (p.ends ≡ not (is_live (acts w i past)))
-sent_means w r i past p e = go (has_universe w i (universe_at w r)) e
+sent_means w r i past p e = go (plays (console_at w i) (universe_at w r)) e
   where
     go : (b : Bool)
         → newest_packet (if b then stream (console_at w i) (universe_at w r)

@@ -19,7 +19,7 @@ use Rattle.sacn_source.specs.Stream.{last_packet}
 use Rattle.wire_laws.specs.declared.event.Event.{Event}
 use Rattle.wire_laws.specs.World.{World, console_at, IsConsole}
 use Rattle.console.specs.Streams.{Production, offer_at, offered_by, offers_of, terminations_of}
-use Rattle.wire_laws.specs.Happened.{acts, stream, has_universe, sent}
+use Rattle.wire_laws.specs.Happened.{acts, stream, plays, sent}
 
 -- P holds of each element
 abbrev pub Each : {A : Type 0} → (A → Type 0) → List A → Type 0
@@ -88,7 +88,7 @@ packets_full os (suc n) a = each_append (λ (p : Packet). IsFull p.slots) (packe
 
 pub sent_full : (w : World) (i u k : ℕ) (past : List Event) (p : Packet)
     → slice_get (sent w i u past) k ≡ Some p → length p.slots ≡ 512
-sent_full w i u k past p e = go (has_universe w i u) e
+sent_full w i u k past p e = go (plays (console_at w i) u) e
   where
     go : (b : Bool) → slice_get (if b then stream (console_at w i) u (acts w i past) else []) k
         ≡ Some p → length p.slots ≡ 512
@@ -130,9 +130,9 @@ le_one u h = let b = both (nat_le 1 u) (nat_le u 63999) h in (le 1 u b.0, le u 6
 
 pub sent_universe : (w : World) (i u k : ℕ) (past : List Event) (p : Packet)
     → IsConsole (console_at w i) → slice_get (sent w i u past) k ≡ Some p → (1 ≤ u) × (u ≤ 63999)
-sent_universe w i u k past p c e = go (has_universe w i u) refl e
+sent_universe w i u k past p c e = go (plays (console_at w i) u) refl e
   where
-    go : (b : Bool) → has_universe w i u ≡ b
+    go : (b : Bool) → plays (console_at w i) u ≡ b
         → slice_get (if b then stream (console_at w i) u (acts w i past) else []) k ≡ Some p
         → (1 ≤ u) × (u ≤ 63999)
     go true q e = le_one u (universe_in (console_at w i).show.patch
@@ -150,7 +150,7 @@ latest_full s (a ∷ h) k = go a.call (latest_full s h k)
 
 pub slots_full : (w : World) (i u : ℕ) (past : List Event)
     → Each (λ (p : Packet). length p.slots ≡ 512) (sent w i u past)
-slots_full w i u past = go (has_universe w i u)
+slots_full w i u past = go (plays (console_at w i) u)
   where
     go : (b : Bool) → Each (λ (p : Packet). length p.slots ≡ 512)
         (if b then stream (console_at w i) u (acts w i past) else [])

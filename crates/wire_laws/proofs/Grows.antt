@@ -15,7 +15,7 @@ use Rattle.sacn_source.proofs.KeepAlive.{newest_packet as newest_front}
 use Rattle.console.specs.Streams.{Production, offer_at, offered_by, offers_of, terminations_of}
 use Rattle.wire_laws.specs.declared.event.Event.{Event}
 use Rattle.wire_laws.specs.World.{World, console_at}
-use Rattle.wire_laws.specs.Happened.{call_of, unless_refused, acted, acts, stream, has_universe}
+use Rattle.wire_laws.specs.Happened.{call_of, unless_refused, acted, acts, stream, plays}
 use Rattle.wire_laws.specs.Happened.{sent}
 use Rattle.wire_laws.specs.Laws.{is_live}
 
@@ -93,7 +93,7 @@ call_more c u t (Some call) h =
 -- what is sent stays
 pub sent_more : (w : World) (i u : ℕ) (e : Event) (past : List Event)
     → Begins (sent w i u past) (sent w i u (e ∷ past))
-sent_more w i u e past = go (has_universe w i u)
+sent_more w i u e past = go (plays (console_at w i) u)
   where
     go : (b : Bool)
         → Begins (if b then stream (console_at w i) u (acts w i past) else [])

@@ -70,7 +70,7 @@ module _ (s : Tables) (numbers : universe_numbers s.patch 1 ≡ 1 ∷ [])
   line_3 = simp cues refl
 
   line_4 : reply_to w (done w (take 1 script)) (at 1000 (Tick 0)) ≡ Ticked Live ((1, Sent 0) ∷ [])
-  line_4 = simp (cues, numbers, at_1000) refl
+  line_4 = simp (cues, numbers) refl
 
   line_6 : reply_to w (done w (take 2 script)) (at 2000 (Tick 0)) ≡ Ticked Live ((1, Sent 1) ∷ [])
   line_6 = simp (cues, numbers, at_1000, at_2000) refl
@@ -97,7 +97,7 @@ module _ (s : Tables) (numbers : universe_numbers s.patch 1 ≡ 1 ∷ [])
   -- End, and the numbers of its terminations
   ending : reply_to w (done w (at 0 (Order 0 Go) ∷ at 1000 (Tick 0) ∷ at 1000 (Order 0 End) ∷ []))
       (at 1023 (Tick 0)) ≡ Ticked (Ending 1) ((1, Sent 1) ∷ [])
-  ending = simp (cues, numbers, at_1000) refl
+  ending = simp (cues, numbers) refl
 
   -- with the deliveries: what the receiver shows, by what came (`accepted_is` joins it to the
   -- bytes)
@@ -107,7 +107,7 @@ module _ (s : Tables) (numbers : universe_numbers s.patch 1 ≡ 1 ∷ [])
       ∷ at 2010 (Deliver 0 0 1 1) ∷ at 2011 (Deliver 0 0 1 1) ∷ []
 
   line_7 : shown (accepted 4 (came w 0 (done w (take 4 with_deliveries)))) 2000 0 ≡ 51
-  line_7 = simp (cues, numbers, at_1000, at_2000) refl
+  line_7 = simp (cues, numbers, at_1000) refl
 
   line_9 : shown (accepted 4 (came w 0 (done w (take 5 with_deliveries)))) 2010 0 ≡ 102
   line_9 = simp (cues, numbers, at_1000, at_2000) refl

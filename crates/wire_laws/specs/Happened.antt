@@ -62,10 +62,6 @@ bytes_of console history universe k =
     option_map (packet_bytes console.source universe k)
     (slice_get (packets_of console history universe) k)
 
--- console i plays a universe
-abbrev pub has_universe : World → ℕ → ℕ → Bool
-has_universe w i universe = plays (console_at w i) universe
-
 -- the packets that console i has sent for a universe after these events
 abbrev pub sent : World → ℕ → ℕ → List Event → List Packet
 sent w i universe past = packets_of (console_at w i) (acts w i past) universe

@@ -214,5 +214,7 @@ abbrev pub DatagramsArePackets : Type 0
 DatagramsArePackets =
     (w : World) (i universe k : ℕ) (past : List Event) (packet : Packet) → IsWorld w
     → i < length w.consoles → slice_get (sent w i universe past) k ≡ Some packet
-    → (bytes : List ℕ) × (datagram w i universe k past ≡ Some bytes)
-    × IsStreamPacket (console_at w i).source universe k packet bytes
+    → (let source = (console_at w i).source in
+    (bytes : List ℕ) × (datagram w i universe k past ≡ Some bytes)
+    × IsStreamPacket source universe k packet bytes
+    × ((other : List ℕ) → IsStreamPacket source universe k packet other → other ≡ bytes))
