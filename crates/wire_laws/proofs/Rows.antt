@@ -165,8 +165,8 @@ module _ (s : Tables) (numbers : universe_numbers s.patch 1 ≡ 1 ∷ [])
   hears_first = record {
     console = omega arith;
     alone = λ j l f. absurd (alone j l f);
-    no_stray = simp (cues, numbers, at_1000, at_2000) (tt, (tt, (tt, (tt, tt))));
-    window = simp (cues, numbers, at_1000, at_2000) tt;
+    no_stray = simp (cues, numbers) (tt, (tt, (tt, (tt, tt))));
+    window = simp (cues, numbers) tt;
   }
 
 -- two consoles on one universe, with CIDs and priorities of their own
@@ -203,22 +203,22 @@ module _ (s : Tables) (numbers : universe_numbers s.patch 1 ≡ 1 ∷ [])
   apart (suc (suc i)) j l m f = absurd (omega (arith, l))
 
   window : (i : ℕ) → i < 2 → IsInWindow (delivered two 0 i (done two both_sent))
-  window zero l = simp (subs, numbers, at_full, at_half) tt
-  window (suc zero) l = simp (subs, numbers, at_full, at_half) tt
+  window zero l = simp (subs, numbers) tt
+  window (suc zero) l = simp (subs, numbers) tt
   window (suc (suc i)) l = absurd (omega (arith, l))
 
   hears_both : HearsAll two 0 (done two both_sent)
   hears_both = record {
     apart = apart;
     few = omega arith;
-    no_stray = simp (subs, numbers, at_full, at_half) (tt, (tt, (tt, (tt, (tt, (tt, tt))))));
+    no_stray = simp (subs, numbers) (tt, (tt, (tt, (tt, (tt, (tt, tt))))));
     window = window;
   }
 
   -- both are fresh until 2499
   settled : AreSettled two 0 (done two both_sent) 2499
-  settled zero l some = inl (simp (subs, numbers, at_full, at_half) (refl, omega arith))
-  settled (suc zero) l some = inl (simp (subs, numbers, at_full, at_half) (refl, omega arith))
+  settled zero l some = inl (simp (subs, numbers) (refl, omega arith))
+  settled (suc zero) l some = inl (simp (subs, numbers) (refl, omega arith))
   settled (suc (suc i)) l some = absurd (omega (arith, l))
 
   both_lit : lights two 0 (done two both_sent) 2499
@@ -231,7 +231,7 @@ module _ (s : Tables) (numbers : universe_numbers s.patch 1 ≡ 1 ∷ [])
       ∷ record { priority = priority; slots = first_at 64 } ∷ []) 0
   merge_met =
       merge_law two both_sent 0 2499 two_world
-      (simp (subs, numbers, at_full, at_half) (omega arith)) hears_both settled 0 (omega arith)
+      (simp (subs, numbers) (omega arith)) hears_both settled 0 (omega arith)
       ∙ ap (λ l. merged l 0) both_lit
 
 -- two_consoles_highest and two_consoles_priority: with equal priorities the greater level is

@@ -54,8 +54,9 @@ In_range a (suc n) i l h = go (nat_eq a i) refl (In_range (a + 1) n i)
         → (a + 1 ≤ i → i < a + 1 + n → In i (range_with_len (a + 1) n))
         → In i (range_with_len a (suc n))
     go true q ih = inl (let e : a ≡ i = grind (arith, nat_tests) in sym e)
-    go false q ih = let ne : (a ≡ i)
-        → ⊥ = grind (arith, nat_tests) in inr (ih (omega arith) (omega arith))
+    go false q ih =
+        let ne : (a ≡ i) → ⊥ = grind (arith, nat_tests) in
+        inr (ih (omega arith) (omega arith))
 
 from_range : (a n i : ℕ) → In i (range_with_len a n) → i < a + n
 from_range a zero i h = absurd h

@@ -26,12 +26,13 @@ use Rattle.wire_laws.specs.Delivery.{Delivery, delivered, newest_of, arrived, Is
 
 -- ---- what the laws ask of the events
 
--- no stray to receiver r was heard on its universe. Other strays may come anywhere
+-- an event is no stray to receiver r that is heard on its universe
 abbrev pub IsUnheard : World → ℕ → What → Type 0
 IsUnheard w r (Stray q from to) =
     q ≡ r → IsTrue (is_some (not_heard (universe_at w r) (slice_range w.strays from to)))
 IsUnheard w r _ = Unit {0}
 
+-- no stray to receiver r was heard on its universe. Other strays may come anywhere
 abbrev pub NoStray : World → ℕ → List Event → Type 0
 NoStray w r [] = Unit {0}
 NoStray w r (e ∷ past) = IsUnheard w r e.what × NoStray w r past

@@ -30,6 +30,7 @@ last_moment (e ∷ past) = e.moment
 
 -- ---- what is skipped
 
+-- there is no console i, or no receiver r
 abbrev pub no_console_at : World → ℕ → Option Skip
 no_console_at w i = if nat_lt i (length w.consoles) then None else Some NoConsole
 
@@ -70,6 +71,7 @@ done w events = fold (done_one w) [] events
 abbrev pub due_answer : Due → ℕ × Offered
 due_answer due = (due.universe, option_map_or (λ _. Sent (due.place % 256)) due.packet Quiet)
 
+-- the reply that a receiver's answer is
 abbrev pub taken_reply : Result Taken Ignored → Reply
 taken_reply (Ok taken) = reply.Taken taken
 taken_reply (Err ignored) = reply.Ignored ignored
