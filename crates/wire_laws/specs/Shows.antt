@@ -60,8 +60,8 @@ AnswersAlone w events replies =
     → slice_get replies j ≡ Some (taken_reply (answer 4 (universe_at w r)
     (accepted_from w r i past) t (unwrap_or (datagram w i universe k past) []))))
 
--- ---- every rehearsal keeps the laws: in its replies, in the slots after it, and in its answers to
--- deliveries
+-- ---- every rehearsal keeps the laws: in its Shown replies, in the slots after it, and in its
+-- answers to deliveries
 
 abbrev pub RepliesAreLawful : Type 0
 RepliesAreLawful =
