@@ -9,7 +9,7 @@ import sys
 import tempfile
 from pathlib import Path
 
-from program import CID, PROGRAM, Outcome, ProgramTest, packet, run, text
+from program import CID, LOOK_ONE, PROGRAM, Outcome, ProgramTest, packet, run, text
 
 S1 = text(
     "IDENT 3:0",
@@ -77,6 +77,10 @@ class Rows(PlayTest):
         out = ["0 ok", "0 live 1:s0", "2500 live 1:s1", "2525 live 1:s2", "5000 live 1:s3"]
         slots = [{}, {1: 127}, {1: 129}, {1: 255}]
         self.assertPlays(S1, lines, out, [packet(1, s, k) for k, s in enumerate(slots)])
+
+    def test_udp_link(self):
+        """The packet that `look` prints of the cue is the one that arrives."""
+        self.assertPlays(text(*LOOK_ONE), ["0 go", "0 tick"], ["0 ok", "0 live 1:s0"], [packet(1, {1: 64})])
 
     def test_split_crossfade(self):
         lines = ["0 go", "10000 go", "11000 tick", "11000 goto 1", "12000 tick"]

@@ -1,6 +1,11 @@
 """The words of the command line: forms, refusals, help, and the texts that the parser writes."""
 
-from program import CID, LOOK_ONE, ProgramTest, counts, packet, run, text
+import os
+import shutil
+import subprocess
+import tempfile
+
+from program import CID, LOOK_ONE, PROGRAM, ProgramTest, counts, packet, run, text
 
 SHOW = text(*LOOK_ONE)
 LINE = packet(1, {1: 64}).hex().encode() + b"\n"
@@ -102,3 +107,17 @@ class Words(ProgramTest):
                 outcome = run(*words, stdin=SHOW)
                 self.assertEqual((2, b""), (outcome.status, outcome.out))
                 self.assertNotEqual(b"", outcome.err)
+
+    def test_path_not_utf_8(self):
+        """The path by which the program is called is none of the user's words."""
+        with tempfile.TemporaryDirectory() as folder:
+            copy = os.path.join(os.fsencode(folder), b"b\xfchne", b"cueplayer")
+            os.mkdir(os.path.dirname(copy))
+            shutil.copy(PROGRAM, copy)
+            done = subprocess.run([copy, b"check", b"-"], input=SHOW, capture_output=True, timeout=60)
+            self.assertEqual((0, b""), (done.returncode, done.stderr))
+            done = subprocess.run([copy, b"check", b"\xfc"], capture_output=True, timeout=60)
+            self.assertEqual(2, done.returncode)
+            done = subprocess.run([copy], capture_output=True, timeout=60)
+            self.assertEqual(2, done.returncode)
+            self.assertIn(b"Usage: cueplayer <COMMAND>", done.stderr)
