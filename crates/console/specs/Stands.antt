@@ -15,19 +15,24 @@ HasStream production lanes history universe = sender.StandsFor production.source
     (offers_of production universe history) (terminations_of history)
 
 -- a sender has the streams of all universes, and no others
-pub record HasStreams (production : Production) (lanes : List Lane) (history : List Act) : Type 0 where
+pub record HasStreams (production : Production) (lanes : List Lane) (history : List Act)
+    : Type 0 where
   pub universes_are : sender.universes_of lanes ≡ universes_of production
   pub streams : All (HasStream production lanes history) (universes_of production)
 
 -- a console stands for a history of a production: its desk does, and its sender has the streams
-pub record StandsFor {F : Type 0} (fader_stands_for : F → List Start → Type 0) (production : Production)
+pub record StandsFor {F : Type 0} (fader_stands_for : F → List Start → Type 0)
+    (production : Production)
     (console : ConsoleState F) (history : List Act) : Type 0 where
-  pub desk_stands : desk.StandsFor fader_stands_for production.show production.base console.desk history
+  pub desk_stands : desk.StandsFor fader_stands_for production.show production.base
+      console.desk history
   pub streams_stand : HasStreams production console.sender history
 
 -- in the middle of an accepted tick: the desk has taken it, and the sender has not
-pub record HasTicked {F : Type 0} (fader_stands_for : F → List Start → Type 0) (production : Production)
+pub record HasTicked {F : Type 0} (fader_stands_for : F → List Start → Type 0)
+    (production : Production)
     (state : DeskState F) (lanes : List Lane) (older : List Act) (moment : ℕ) : Type 0 where
-  pub desk_stands : desk.StandsFor fader_stands_for production.show production.base state (tick_at moment ∷ older)
+  pub desk_stands : desk.StandsFor fader_stands_for production.show production.base state
+      (tick_at moment ∷ older)
   pub streams_stand : HasStreams production lanes older
   pub accepted : refusal production.show older (tick_at moment) ≡ None

@@ -1,5 +1,5 @@
--- The stream of each universe of a console: what is offered to it, and what is due at a tick. Histories and lists of
--- offers have the newest entry first.
+-- The stream of each universe of a console: what is offered to it, and what is due at a tick.
+-- Histories and lists of offers have the newest entry first.
 use Rattle.std.specs.Prelude.{ℕ, ◌-◌, List, [], ◌∷◌, Option, Some, None, length, map, unwrap_or}
 use Rattle.show_core.specs.Tables.{Tables}
 use Rattle.desk_core.specs.declared.command.Command.{Command}
@@ -28,7 +28,10 @@ universes_of production = universe_numbers production.show.patch production.base
 -- what a tick of this moment after a history offers to a universe: its frame
 abbrev pub offer_at : Production → ℕ → List Act → ℕ → Offer
 offer_at production universe older moment =
-    record { moment = moment; frame = frame production.show older moment (universe - production.base) }
+    record {
+      moment = moment;
+      frame = frame production.show older moment (universe - production.base);
+    }
 
 -- a tick before any End makes its offer
 abbrev pub offered_by : Call → Option ℕ → Offer → List Offer → List Offer
@@ -39,7 +42,8 @@ offered_by _ _ offer older = older
 abbrev pub offers_of : Production → ℕ → List Act → List Offer
 offers_of production universe [] = []
 offers_of production universe (act ∷ older) =
-    offered_by act.call (ended older) (offer_at production universe older act.moment) (offers_of production universe older)
+    offered_by act.call (ended older) (offer_at production universe older act.moment)
+    (offers_of production universe older)
 
 -- how many terminations were sent to each universe: one at each tick after End
 abbrev pub terminations_of : List Act → ℕ
@@ -61,7 +65,8 @@ abbrev pub due_at : Production → List Act → ℕ → ℕ → Due
 due_at production older moment universe = record {
   universe = universe;
   place = length (packets (offers_of production universe older) (terminations_of older));
-  packet = packet_due (ended older) (offer_at production universe older moment ∷ offers_of production universe older);
+  packet = packet_due (ended older) (offer_at production universe older moment
+      ∷ offers_of production universe older);
 }
 
 -- and on all universes, ascending

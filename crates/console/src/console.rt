@@ -1,4 +1,5 @@
-ghost use Rattle.std.specs.Prelude.{◌≡◌, ◌↔◌, None, Some, Err, IsFalse, List, [], ◌∷◌, IfOk, OnOk, OnErr, MatchResult};
+ghost use Rattle.std.specs.Prelude.{◌≡◌, ◌↔◌, None, Some, Err, IsFalse, List, [], ◌∷◌, IfOk, OnOk};
+ghost use Rattle.std.specs.Prelude.{OnErr, MatchResult};
 ghost use Rattle.patch_core.specs.Frame.{is_base};
 ghost use Rattle.patch_core.specs.declared.fault.RigFault.TheVariants.{Universe};
 ghost use Rattle.desk_core.specs.Played.{Act, ended, outcome, refusal, ticked};
@@ -104,7 +105,8 @@ impl<F: Fader> Console<F> {
         ensures answer { (production : Production) (history : List Act)
             → StandsFor F.stands_for production self.old history
             → MatchResult result
-            (λ answer. (refusal production.show history (tick_at moment) ≡ None) × (answer.0 ≡ ticked (ended history)))
+            (λ answer. (refusal production.show history (tick_at moment) ≡ None)
+            × (answer.0 ≡ ticked (ended history)))
             (λ refused. refusal production.show history (tick_at moment) ≡ Some refused) }
         ensures stands { OnOk result ((production : Production) (history : List Act)
             → StandsFor F.stands_for production self.old history

@@ -1,6 +1,7 @@
 //! A console: a desk whose frames go out as the streams of one source.
 //!
-//! Open a [`Console`] for a show, and give it commands and ticks, each with its moment. At an accepted tick
+//! Open a [`Console`] for a show, and give it commands and ticks, each with its moment. At an
+//! accepted tick
 //! it offers each universe's frame to a link, and after End the end of its stream; what became of
 //! each is in [`Offers`].
 #![tactic(auto)]

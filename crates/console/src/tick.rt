@@ -17,7 +17,8 @@ pub fn offer_all<F: Fader, L: Link>(
     link: &mut L,
 ) -> Offers
     requires real { (production : Production) × (older : List Act)
-        × HasTicked F.stands_for production desk.now sender.old older moment × (ended older ≡ None) }
+        × HasTicked F.stands_for production desk.now sender.old older moment
+        × (ended older ≡ None) }
     ensures stands { (production : Production) (older : List Act)
         → HasTicked F.stands_for production desk.now sender.old older moment → ended older ≡ None
         → HasStreams production sender.new (tick_at moment ∷ older) }
@@ -48,11 +49,13 @@ pub fn terminate_all<F: Fader, L: Link>(
         × HasTicked F.stands_for production desk.now sender.old older moment
         × ((ticks : ℕ) × (ended older ≡ Some ticks)) }
     ensures stands { (production : Production) (older : List Act) (ticks : ℕ)
-        → HasTicked F.stands_for production desk.now sender.old older moment → ended older ≡ Some ticks
+        → HasTicked F.stands_for production desk.now sender.old older moment
+        → ended older ≡ Some ticks
         → HasStreams production sender.new (tick_at moment ∷ older) }
     ensures told { L.tells link.new → L.tells link.old }
     ensures offered { (production : Production) (older : List Act) (ticks : ℕ)
-        → HasTicked F.stands_for production desk.now sender.old older moment → ended older ≡ Some ticks
+        → HasTicked F.stands_for production desk.now sender.old older moment
+        → ended older ≡ Some ticks
         → L.tells link.new → OffersTo production.source (dues_at production older moment) result
         (L.offered link.old) (L.offered link.new) }
 {

@@ -4,7 +4,8 @@ use Rattle.std.specs.Prelude.{option_map, option_and_then, if◌then◌else◌, 
 use Rattle.ascii_text.specs.Text.{words_of}
 use Rattle.ascii_text.specs.Forms.{same_word, moment_of, cue_number_of, level_of, whole_of}
 use Rattle.desk_core.specs.declared.command.Command.{Command}
-use Rattle.desk_core.specs.declared.command.Command.TheVariants.{Go, Back, Goto, Sub, Group, Master, End}
+use Rattle.desk_core.specs.declared.command.Command.TheVariants.{Go, Back, Goto, Sub, Group}
+use Rattle.desk_core.specs.declared.command.Command.TheVariants.{Master, End}
 use Rattle.desk_core.specs.Played.{Act}
 use Rattle.console.specs.Streams.{order_at, tick_at}
 use Rattle.console_text.specs.declared.call.Call.{Call}
@@ -24,19 +25,22 @@ with_none keyword =
 abbrev pub with_one : List ℕ → List ℕ → Option Command
 with_one keyword operand =
     if same_word keyword (codes "goto") then option_map (λ n. Goto n) (cue_number_of operand)
-    else (if same_word keyword (codes "master") then option_map (λ byte. Master byte) (level_of operand)
+    else (if same_word keyword (codes "master")
+    then option_map (λ byte. Master byte) (level_of operand)
     else None)
 
 -- `N L`: a number up to 65535, and a level
 abbrev pub master_of : (ℕ → ℕ → Command) → List ℕ → List ℕ → Option Command
 master_of command number operand =
-    option_and_then (λ n. option_map (λ byte. command n byte) (level_of operand)) (whole_of 65535 number)
+    option_and_then (λ n. option_map (λ byte. command n byte) (level_of operand))
+    (whole_of 65535 number)
 
 -- `sub N L` and `group N L`
 abbrev pub with_two : List ℕ → List ℕ → List ℕ → Option Command
 with_two keyword number operand =
     if same_word keyword (codes "sub") then master_of (λ n byte. Sub n byte) number operand
-    else (if same_word keyword (codes "group") then master_of (λ n byte. Group n byte) number operand
+    else (if same_word keyword (codes "group")
+    then master_of (λ n byte. Group n byte) number operand
     else None)
 
 -- a keyword and its operands; extra words spell nothing

@@ -1,5 +1,6 @@
 ghost use Rattle.std.specs.Prelude.{◌≡◌, ◌≤◌, ◌+◌, ◌++◌, length, codes, decimal};
-ghost use Rattle.console_text.specs.Texts.{numbered, refused_name, done_text, refused_text, outcome_text, pair_text, ticked_name, ticked_text};
+ghost use Rattle.console_text.specs.Texts.{numbered, refused_name, done_text, refused_text};
+ghost use Rattle.console_text.specs.Texts.{outcome_text, pair_text, ticked_name, ticked_text};
 
 use arrayvec::ArrayString;
 use console::Offers;

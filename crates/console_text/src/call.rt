@@ -1,5 +1,6 @@
 ghost use Rattle.std.specs.Prelude.{◌≡◌};
-ghost use Rattle.console_text.specs.Spelling.{call_of, command_of, command_with, with_none, with_one, with_two};
+ghost use Rattle.console_text.specs.Spelling.{call_of, command_of, command_with, with_none};
+ghost use Rattle.console_text.specs.Spelling.{with_one, with_two};
 
 use ascii_text::{Words, cue_number, level, same_word, whole};
 use desk_core::Command;

@@ -6,8 +6,8 @@ use Rattle.show_reader.specs.declared.fault.ShowFault.TheVariants as show_fault
 use Rattle.cueplayer_faults.specs.declared.fault.RunFault.{RunFault}
 use Rattle.cueplayer_faults.specs.declared.fault.RunFault.TheVariants as run
 
--- a fault's status: 2 where a word is refused, 3 where the show is, 4 where an input line is, 5 where a device
--- failed or packets were lost, 6 at want of memory
+-- a fault's status: 2 where a word is refused, 3 where the show is, 4 where an input line is, 5
+-- where a device failed or packets were lost, 6 at want of memory
 abbrev pub fault_status : RunFault → ℕ
 fault_status (run.Show show_fault.Memory) = 6
 fault_status (run.Show fault) = 3

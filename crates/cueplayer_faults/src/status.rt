@@ -1,5 +1,6 @@
 ghost use Rattle.std.specs.Prelude.{◌≡◌, ◌≤◌, ◌+◌, ◌++◌, ◌∷◌, [], length, decimal};
-ghost use Rattle.cueplayer_faults.specs.Status.{line_fault_text, fault_text, fault_status, status_of, Reports};
+ghost use Rattle.cueplayer_faults.specs.Status.{line_fault_text, fault_text, fault_status};
+ghost use Rattle.cueplayer_faults.specs.Status.{status_of, Reports};
 
 use crate::fault::RunFault;
 use arrayvec::ArrayString;

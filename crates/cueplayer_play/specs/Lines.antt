@@ -1,5 +1,6 @@
 -- Bytes as lines. Lists of lines have the newest first.
-use Rattle.std.specs.Prelude.{◌≡◌, ◌≤◌, ℕ, false, List, [], ◌∷◌, ◌++◌, ◌==◌, if◌then◌else◌, fold, length, All}
+use Rattle.std.specs.Prelude.{◌≡◌, ◌≤◌, ℕ, false, List, [], ◌∷◌, ◌++◌, ◌==◌, if◌then◌else◌, fold}
+use Rattle.std.specs.Prelude.{length, All}
 use Rattle.console_text.specs.Spelling.{is_malformed, reading_of}
 
 -- the lines that LF ended, and the bytes behind the last LF

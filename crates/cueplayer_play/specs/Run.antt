@@ -49,14 +49,17 @@ answer_text (Some refused) call ticks offers = refused_text refused
 answer_text None (Order command) ticks offers = done_text
 answer_text None Tick ticks offers = ticked_text (ticked ticks) offers
 
--- what is printed of a line: its moment and the answer to its call, or nothing where it has no words
+-- what is printed of a line: its moment and the answer to its call, or nothing where it has no
+-- words
 abbrev pub line_text : Production → List Act → Reading → List (ℕ × Offered) → List ℕ
 line_text p history (At moment call) offers =
-    numbered moment (answer_text (refusal p.show history (act_of moment call)) call (ended history) offers)
+    numbered moment (answer_text (refusal p.show history (act_of moment call)) call
+    (ended history) offers)
 line_text p history _ offers = []
 
 -- the link is offered what is due, so many of the sends fail, and this is the text
-pub record IsAnswered (p : Production) (history : List Act) (reading : Reading) (before after : List Send)
+pub record IsAnswered (p : Production) (history : List Act) (reading : Reading)
+    (before after : List Send)
     (text : List ℕ) (lost : ℕ) : Type 0 where
   pub sends : List Send
   pub offers : List (ℕ × Offered)
@@ -74,14 +77,16 @@ abbrev pub emitted : List Send → Tape ℕ → Emitted
 emitted offered printed = record { offered = offered; printed = printed }
 
 -- a line is carried out: it is answered, and the output takes its text
-pub record CarriesOut (p : Production) (history : List Act) (reading : Reading) (before after : Emitted)
+pub record CarriesOut (p : Production) (history : List Act) (reading : Reading)
+    (before after : Emitted)
     (lost : ℕ) : Type 0 where
   pub text : List ℕ
   pub answered : IsAnswered p history reading before.offered after.offered text lost
   pub printed_is : after.printed ≡ with_more before.printed text
 
 -- a line is answered, and the output fails
-pub record FailsToPrint (p : Production) (history : List Act) (reading : Reading) (before after : Emitted)
+pub record FailsToPrint (p : Production) (history : List Act) (reading : Reading)
+    (before after : Emitted)
     : Type 0 where
   pub text : List ℕ
   pub lost : ℕ
@@ -90,7 +95,8 @@ pub record FailsToPrint (p : Production) (history : List Act) (reading : Reading
 
 -- ---- the run
 
--- a line that was carried out: the sends that the link was offered at it, and what became of the offers
+-- a line that was carried out: the sends that the link was offered at it, and what became of the
+-- offers
 pub record Carried : Type 0 where
   pub line : List ℕ
   pub sends : List Send
@@ -117,8 +123,10 @@ text_of p [] = []
 text_of p (newest ∷ older) = text_of p older
     ++ line_text p (history_of p.show (lines_in older)) (reading_of newest.line) newest.offers
 
--- the run of these lines: the link was offered its sends, the output took its text, and so many sends failed
-pub record Ran (p : Production) (lines : List (List ℕ)) (before after : Emitted) (lost : ℕ) : Type 0 where
+-- the run of these lines: the link was offered its sends, the output took its text, and so many
+-- sends failed
+pub record Ran (p : Production) (lines : List (List ℕ)) (before after : Emitted) (lost : ℕ)
+    : Type 0 where
   pub run : List Carried
   pub lines_are : lines_in run ≡ lines
   pub is_run : IsRun p run

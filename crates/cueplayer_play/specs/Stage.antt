@@ -1,5 +1,6 @@
 -- Where a play stands in its input, and why a line ends it.
-use Rattle.std.specs.Prelude.{◌≡◌, ◌≢◌, ◌≤◌, ◌+◌, ◌-◌, ◌*◌, ℕ, List, ◌∷◌, ◌++◌, true, false, length, fold}
+use Rattle.std.specs.Prelude.{◌≡◌, ◌≢◌, ◌≤◌, ◌+◌, ◌-◌, ◌*◌, ℕ, List, ◌∷◌, ◌++◌, true, false}
+use Rattle.std.specs.Prelude.{length, fold}
 use Rattle.fade_core.specs.declared.fader.Fader.{Ghosts}
 use Rattle.fade_core.specs.Level.{Start}
 use Rattle.desk_core.specs.Played.{Act}
@@ -15,7 +16,8 @@ use Rattle.cueplayer_play.specs.Run.{Emitted, FailsToPrint, Ran, history_of}
 
 -- ---- one line
 
--- why the line of this number is not carried out: it is malformed; or it is not, and the output fails
+-- why the line of this number is not carried out: it is malformed; or it is not, and the output
+-- fails
 abbrev pub EndsLine : PlayFault → ℕ → Reading → Type 0
 EndsLine (Line n) number reading = (n ≡ number) × (is_malformed reading ≡ true)
 EndsLine Device number reading = is_malformed reading ≡ false
@@ -28,22 +30,25 @@ LeavesLine Device p history reading before after = FailsToPrint p history readin
 -- ---- the bytes of an input
 
 -- a stage stands for the bytes that are cut so: their lines were carried out
-pub record StandsFor {F : Type 0} {G : Ghosts F} (fader_stands_for : F → List Start → Type 0) (p : Production)
+pub record StandsFor {F : Type 0} {G : Ghosts F} (fader_stands_for : F → List Start → Type 0)
+    (p : Production)
     (stage : Stage F G) (cut : Cut) : Type 0 where
-  pub console_stands : console.StandsFor fader_stands_for p stage.console (history_of p.show cut.lines)
+  pub console_stands : console.StandsFor fader_stands_for p stage.console
+      (history_of p.show cut.lines)
   pub pending_is : stage.pending.items ≡ cut.rest
   pub number_is : stage.number ≡ length cut.lines
   pub fine : AreFine cut.lines
   pub short : length cut.rest ≤ 200
 
--- the next line is refused at this byte: it is line 10,000,001; it is longer than 200 bytes; or the byte ends it,
--- and it is malformed
+-- the next line is refused at this byte: it is line 10,000,001; it is longer than 200 bytes; or
+-- the byte ends it, and it is malformed
 pub data IsRefused (cut : Cut) (byte : ℕ) : Type 0 where
   late : length cut.lines ≡ 10000000 → IsRefused cut byte
   long : length cut.rest ≡ 200 → byte ≢ 10 → IsRefused cut byte
   malformed : byte ≡ 10 → is_malformed (reading_of cut.rest) ≡ true → IsRefused cut byte
 
--- why the byte behind these ends the play: the next line is refused; or it ends a line, and the output fails
+-- why the byte behind these ends the play: the next line is refused; or it ends a line, and the
+-- output fails
 abbrev pub Ends : PlayFault → Cut → ℕ → Type 0
 Ends (Line n) cut byte = (n ≡ length cut.lines + 1) × IsRefused cut byte
 Ends Device cut byte = (byte ≡ 10) × (is_malformed (reading_of cut.rest) ≡ false)
@@ -55,13 +60,15 @@ pub record RunsDry (p : Production) (cut : Cut) (before after : Emitted) : Type 
   pub ran : Ran p cut.lines before middle lost
   pub fails : FailsToPrint p (history_of p.show cut.lines) (reading_of cut.rest) middle after
 
--- what is left then: the run of the lines before; and of the line that was not printed what was offered
+-- what is left then: the run of the lines before; and of the line that was not printed what was
+-- offered
 abbrev pub Leaves : PlayFault → Production → Cut → Emitted → Emitted → Type 0
 Leaves (Line n) p cut before after = (lost : ℕ) × Ran p cut.lines before after lost
 Leaves Device p cut before after = RunsDry p cut before after
 
 -- the play of these bytes, behind those before, ends at one of them
-pub record EndsWithin (fault : PlayFault) (p : Production) (cut : Cut) (bytes : List ℕ) (before after : Emitted)
+pub record EndsWithin (fault : PlayFault) (p : Production) (cut : Cut) (bytes : List ℕ)
+    (before after : Emitted)
     : Type 0 where
   pub front : List ℕ
   pub byte : ℕ

@@ -38,7 +38,8 @@ pub fn take_line<F: Fader, L: Link, W: Output>(
     ensures leaves { IfErr result (λ fault. (p : Production) (history : List Act)
         → StandsFor F.stands_for p console.old history → L.tells link.new → W.tells out.new
         → LeavesLine fault p history (reading_of line.now)
-        (emitted (L.offered link.old) (W.tape out.old)) (emitted (L.offered link.new) (W.tape out.new))) }
+        (emitted (L.offered link.old) (W.tape out.old))
+        (emitted (L.offered link.new) (W.tape out.new))) }
 {
     match read_call(line) {
         Reading::Blank => Ok(0),

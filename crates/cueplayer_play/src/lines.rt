@@ -25,11 +25,13 @@ pub fn play_lines<F: Fader, R: Feed, L: Link, W: Output>(
     ensures all { IfOk result (λ lost. (p : Production) → StandsFor F.stands_for p console []
         → R.tells input.new → L.tells link.new → W.tells out.new
         → PlaysAll p (R.ended input.new) (R.tape input.old) (R.tape input.new)
-        (emitted (L.offered link.old) (W.tape out.old)) (emitted (L.offered link.new) (W.tape out.new)) lost) }
+        (emitted (L.offered link.old) (W.tape out.old))
+        (emitted (L.offered link.new) (W.tape out.new)) lost) }
     ensures ends { IfErr result (λ fault. (p : Production) → StandsFor F.stands_for p console []
         → R.tells input.new → L.tells link.new → W.tells out.new
         → EndsEarly p fault (R.ended input.new) (R.tape input.old) (R.tape input.new)
-        (emitted (L.offered link.old) (W.tape out.old)) (emitted (L.offered link.new) (W.tape out.new))) }
+        (emitted (L.offered link.old) (W.tape out.old))
+        (emitted (L.offered link.new) (W.tape out.new))) }
 {
     let mut stage = Stage {
         console,

@@ -38,9 +38,11 @@ pub fn play<F: Fader, R: Feed, L: Link, W: Output>(
     ensures begins { Begins result show.now base }
     ensures plays { has_begun result ≡ true
         → R.tells input.new → L.tells link.new → W.tells out.new
-        → OfItsShow show.now (λ s. Plays (record { show = s; base = base; source = identity }) result
+        → OfItsShow show.now (λ s. Plays
+        (record { show = s; base = base; source = identity }) result
         (R.ended input.new) (R.tape input.old) (R.tape input.new)
-        (emitted (L.offered link.old) (W.tape out.old)) (emitted (L.offered link.new) (W.tape out.new))) }
+        (emitted (L.offered link.old) (W.tape out.old))
+        (emitted (L.offered link.new) (W.tape out.new))) }
 
     // Else nothing was read, offered or printed.
     ensures unread { has_begun result ≡ false → R.tells input.new

@@ -44,7 +44,8 @@ impl<F: Fader> Stage<F> {
         ensures ran { OnOk result ((p : Production) (cut : Cut) (before : Emitted)
             → StandsFor F.stands_for p self.old cut → L.tells link.new → W.tells out.new
             → Ran p cut.lines before (emitted (L.offered link.old) (W.tape out.old)) self.old.lost
-            → Ran p (with_byte cut byte).lines before (emitted (L.offered link.new) (W.tape out.new)) self.new.lost) }
+            → Ran p (with_byte cut byte).lines before
+            (emitted (L.offered link.new) (W.tape out.new)) self.new.lost) }
         ensures room { OnOk result (room_of self.new.number self.new.pending.items
             < room_of self.old.number self.old.pending.items) }
         ensures ends { IfErr result (λ fault. (p : Production) (cut : Cut)
@@ -96,13 +97,15 @@ impl<F: Fader> Stage<F> {
             → Ran p cut.lines before (emitted (L.offered link.old) (W.tape out.old)) self.old.lost
             → Ran p (fold with_byte cut bytes.now).lines before
             (emitted (L.offered link.new) (W.tape out.new)) self.new.lost) }
-        ensures room { OnOk result (room_of self.new.number self.new.pending.items + length bytes.now
+        ensures room { OnOk result
+            (room_of self.new.number self.new.pending.items + length bytes.now
             ≤ room_of self.old.number self.old.pending.items) }
         ensures ends { IfErr result (λ fault. (p : Production) (cut : Cut)
             → StandsFor F.stands_for p self.old cut → L.tells link.new → W.tells out.new
             → (before : Emitted)
             → Ran p cut.lines before (emitted (L.offered link.old) (W.tape out.old)) self.old.lost
-            → EndsWithin fault p cut bytes.now before (emitted (L.offered link.new) (W.tape out.new))) }
+            → EndsWithin fault p cut bytes.now before
+            (emitted (L.offered link.new) (W.tape out.new))) }
     {
         for byte in bytes {
             self.take_byte(*byte, link, out)?;

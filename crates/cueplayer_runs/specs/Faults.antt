@@ -21,8 +21,11 @@ abbrev pub CheckFails : List ℕ → RunFault → Type 0
 CheckFails show run.Device = fault_of desk show ≡ None
 CheckFails show fault = ReadFails show fault
 
--- `look`: the show was not read; or it was, and the cue is not there; or it is there, and the output failed
+-- `look`: the show was not read; or it was, and the cue is not there; or it is there, and the
+-- output failed
 abbrev pub LookFails : List ℕ → ℕ → RunFault → Type 0
-LookFails show cue run.NoCue = (fault_of desk show ≡ None) × (is_there (Cue cue) (statements_of desk show) ≡ false)
-LookFails show cue run.Device = (fault_of desk show ≡ None) × (is_there (Cue cue) (statements_of desk show) ≡ true)
+LookFails show cue run.NoCue =
+    (fault_of desk show ≡ None) × (is_there (Cue cue) (statements_of desk show) ≡ false)
+LookFails show cue run.Device =
+    (fault_of desk show ≡ None) × (is_there (Cue cue) (statements_of desk show) ≡ true)
 LookFails show cue fault = ReadFails show fault

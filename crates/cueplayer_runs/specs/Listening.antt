@@ -1,5 +1,7 @@
--- What `listen` prints of the datagrams that it receives. In a list of them the newest stands first.
-use Rattle.std.specs.Prelude.{◌≡◌, ◌⊎◌, ℕ, ◌+◌, ◌<◌, ◌≤◌, List, [], ◌∷◌, ◌++◌, length, reverse, Result, Ok, Err, codes, decimal}
+-- What `listen` prints of the datagrams that it receives. In a list of them the newest stands
+-- first.
+use Rattle.std.specs.Prelude.{◌≡◌, ◌⊎◌, ℕ, ◌+◌, ◌<◌, ◌≤◌, List, [], ◌∷◌, ◌++◌, length, reverse}
+use Rattle.std.specs.Prelude.{Result, Ok, Err, codes, decimal}
 use Rattle.sacn_receiver.specs.Source.{Entry}
 use Rattle.sacn_receiver.specs.Taking.{answer, heard}
 use Rattle.sacn_receiver.specs.Shown.{shown_slots}
@@ -8,13 +10,14 @@ use Rattle.cueplayer_faults.specs.declared.fault.RunFault.{RunFault}
 use Rattle.cueplayer_faults.specs.declared.fault.RunFault.TheVariants as run
 use Rattle.cueplayer_runs.specs.Replies.{reply_text, slots_line}
 
--- the history of a receiver of a universe, with room for four sources, to which these datagrams came, all of them
--- at moment 0
+-- the history of a receiver of a universe, with room for four sources, to which these datagrams
+-- came, all of them at moment 0
 abbrev pub history : ℕ → List (List ℕ) → List Entry
 history universe [] = []
 history universe (datagram ∷ older) = heard 4 universe (history universe older) 0 datagram
 
--- the line of a datagram that came after older ones: its number, counted from 1, and the reply to it
+-- the line of a datagram that came after older ones: its number, counted from 1, and the reply to
+-- it
 abbrev pub reply_line : ℕ → List ℕ → List (List ℕ) → List ℕ
 reply_line universe datagram older =
     decimal (length older + 1) ++ codes " "
@@ -38,17 +41,20 @@ GaveAll datagrams given gives = gives ≡ with_more given (reverse datagrams)
 abbrev pub NextFails : Tape (List ℕ) → Tape (List ℕ) → Tape ℕ → Tape ℕ → Type 0
 NextFails given gives before after =
     ((gives ≡ with_failure given) × (after ≡ before))
-    ⊎ ((datagram : List ℕ) × (gives ≡ with_more given (datagram ∷ [])) × (after ≡ with_failure before))
+    ⊎ ((datagram : List ℕ) × (gives ≡ with_more given (datagram ∷ [])) ×
+    (after ≡ with_failure before))
 
 -- the source failed: it gave fewer datagrams than wanted, and the output took the replies to them
-pub record SourceFailed (universe count : ℕ) (given gives : Tape (List ℕ)) (before after : Tape ℕ) : Type 0 where
+pub record SourceFailed (universe count : ℕ) (given gives : Tape (List ℕ)) (before after : Tape ℕ)
+    : Type 0 where
   pub datagrams : List (List ℕ)
   pub fewer : length datagrams < count
   pub failed : gives ≡ with_failure (with_more given (reverse datagrams))
   pub took : after ≡ with_more before (replies universe datagrams)
 
 -- the output failed at the line of the newest datagram, and took the replies to the older ones
-pub record ReplyFailed (universe count : ℕ) (given gives : Tape (List ℕ)) (before after : Tape ℕ) : Type 0 where
+pub record ReplyFailed (universe count : ℕ) (given gives : Tape (List ℕ)) (before after : Tape ℕ)
+    : Type 0 where
   pub newest : List ℕ
   pub older : List (List ℕ)
   pub within : length (newest ∷ older) ≤ count
@@ -56,14 +62,16 @@ pub record ReplyFailed (universe count : ℕ) (given gives : Tape (List ℕ)) (b
   pub failed : after ≡ with_failure (with_more before (replies universe older))
 
 -- the output failed at the slots line, and took the replies to all datagrams
-pub record SlotsFailed (universe count : ℕ) (given gives : Tape (List ℕ)) (before after : Tape ℕ) : Type 0 where
+pub record SlotsFailed (universe count : ℕ) (given gives : Tape (List ℕ)) (before after : Tape ℕ)
+    : Type 0 where
   pub datagrams : List (List ℕ)
   pub all : length datagrams ≡ count
   pub gave : GaveAll datagrams given gives
   pub failed : after ≡ with_failure (with_more before (replies universe datagrams))
 
 -- so many datagrams came, and the output took the text of `listen` for them
-pub record Listened (universe count : ℕ) (given gives : Tape (List ℕ)) (before after : Tape ℕ) : Type 0 where
+pub record Listened (universe count : ℕ) (given gives : Tape (List ℕ)) (before after : Tape ℕ)
+    : Type 0 where
   pub datagrams : List (List ℕ)
   pub all : length datagrams ≡ count
   pub gave : GaveAll datagrams given gives
@@ -79,7 +87,8 @@ DeviceFailed universe count given gives before after =
 -- a run of `listen`, by what its source gave and its output took
 abbrev pub Listens : {X : Type 0} → Result X RunFault → ℕ → ℕ → Tape (List ℕ) → Tape (List ℕ)
     → Tape ℕ → Tape ℕ → Type 0
-Listens (Ok x) universe count given gives before after = Listened universe count given gives before after
+Listens (Ok x) universe count given gives before after =
+    Listened universe count given gives before after
 Listens (Err run.Device) universe count given gives before after =
     DeviceFailed universe count given gives before after
 Listens (Err fault) universe count given gives before after = ⊥

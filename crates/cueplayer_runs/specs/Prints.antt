@@ -19,8 +19,8 @@ abbrev pub IsLookOf : List ℕ → ℕ → List ℕ → List ℕ → Type 0
 IsLookOf show cue cid text = OfItsShow show (λ s.
     IsSomeAnd (maps.get s.cues cue) (λ look. IsLookText look.levels s.patch cid text))
 
--- at Ok the output took such a text and nothing else, at Device one write failed, and at any other fault
--- nothing was written
+-- at Ok the output took such a text and nothing else, at Device one write failed, and at any other
+-- fault nothing was written
 abbrev pub Prints : {X : Type 0} → Result X RunFault → (List ℕ → Type 0) → Tape ℕ → Tape ℕ → Type 0
 Prints (Ok x) IsText before after = (text : List ℕ) × IsText text × (after ≡ with_more before text)
 Prints (Err run.Device) IsText before after = after ≡ with_failure before

@@ -1,5 +1,6 @@
 -- What is printed of a receiver: its replies to datagrams, and its slots.
-use Rattle.std.specs.Prelude.{ℕ, ◌==◌, List, [], ◌++◌, if◌then◌else◌, Result, Ok, Err, codes, decimal, flat_map}
+use Rattle.std.specs.Prelude.{ℕ, ◌==◌, List, [], ◌++◌, if◌then◌else◌, Result, Ok, Err, codes}
+use Rattle.std.specs.Prelude.{decimal, flat_map}
 use Rattle.std.specs.List.{enumerate_from}
 use Rattle.sacn_packet.specs.declared.unreadable.Unreadable.{Unreadable}
 use Rattle.sacn_packet.specs.declared.unreadable.Unreadable.TheVariants as packet
@@ -33,7 +34,8 @@ ignored_name receiver.SourcesFull = codes "SourcesFull"
 -- the reply to a datagram: the number of the packet that was taken, or why the datagram is ignored
 abbrev pub reply_text : Result Taken Ignored → List ℕ
 reply_text (Ok taken) =
-    codes "taken " ++ decimal taken.sequence ++ (if taken.terminated then codes " terminated" else [])
+    codes "taken " ++ decimal taken.sequence ++
+    (if taken.terminated then codes " terminated" else [])
 reply_text (Err reason) = codes "ignored " ++ ignored_name reason
 
 -- a slot, by its number and its value: nothing where the value is 0

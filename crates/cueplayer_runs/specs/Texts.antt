@@ -11,18 +11,20 @@ use Rattle.sacn_packet.specs.Wire.{Fields, IsData}
 -- the line of `check`, from its six numbers
 abbrev pub counts_line : ℕ → ℕ → ℕ → ℕ → ℕ → ℕ → List ℕ
 counts_line lines cues subs groups dimmers skipped =
-    codes "lines " ++ decimal lines ++ codes " cues " ++ decimal cues ++ codes " subs " ++ decimal subs
+    codes "lines " ++ decimal lines ++ codes " cues " ++ decimal cues ++ codes " subs "
+    ++ decimal subs
     ++ codes " groups " ++ decimal groups ++ codes " dimmers " ++ decimal dimmers
     ++ codes " skipped " ++ decimal skipped ++ codes "\n"
 
--- the line of `check` for a show, of whose text so many lines were read and skipped; the dimmers are those
--- that are patched
+-- the line of `check` for a show, of whose text so many lines were read and skipped; the dimmers
+-- are those that are patched
 abbrev pub check_text : ℕ → ℕ → Tables → List ℕ
 check_text lines skipped show =
     counts_line lines (maps.len show.cues) (maps.len show.subs) (maps.len show.groups)
     (maps.len show.patch) skipped
 
--- what a packet of `look` says beside its slots: with base 1 the universe of ordinal 0 is universe 1
+-- what a packet of `look` says beside its slots: with base 1 the universe of ordinal 0 is universe
+-- 1
 abbrev pub look_fields : List ℕ → ℕ → Fields
 look_fields cid ordinal = record {
   cid = cid;
@@ -45,7 +47,8 @@ abbrev pub hex_line : List ℕ → List ℕ
 hex_line packet = encode_lower packet ++ codes "\n"
 
 -- the text is the lines of the packets of the universes with these ordinals, in their order
-pub record IsLinesOf (levels : LevelMap) (patch : PatchMap) (cid ordinals text : List ℕ) : Type 0 where
+pub record IsLinesOf (levels : LevelMap) (patch : PatchMap) (cid ordinals text : List ℕ)
+    : Type 0 where
   pub packets : List (List ℕ)
   pub each : AllZip (IsLookPacket levels patch cid) ordinals packets
   pub lines : text ≡ flat_map hex_line packets

@@ -8,7 +8,8 @@ use cueplayer_faults::RunFault;
 use devices::{Datagrams, Output};
 use sacn_receiver::Receiver;
 
-/// Receives so many datagrams as a receiver of the universe, and prints the reply to each and, after
+/// Receives so many datagrams as a receiver of the universe, and prints the reply to each and,
+/// after
 /// the last one, the slots.
 ///
 /// The universe is 1 to 63,999. Every datagram is taken at moment 0, so that no source is lost by
@@ -52,7 +53,8 @@ fn reply_to_next<D: Datagrams, W: Output>(
     ensures told_source { D.tells source.new → D.tells source.old }
     ensures told_output { W.tells out.new → W.tells out.old }
     ensures universe { receiver.new.universe ≡ receiver.old.universe }
-    ensures ok { OnOk result ((universe : ℕ) (older : List (List ℕ)) → receiver.old.universe ≡ universe
+    ensures ok { OnOk result ((universe : ℕ) (older : List (List ℕ)) → receiver.old.universe
+        ≡ universe
         → number ≡ length older + 1 → StandsFor receiver.old (history universe older)
         → (datagram : List ℕ) × StandsFor receiver.new (history universe (datagram ∷ older))
         × (D.tells source.new → D.tape source.new ≡ with_more (D.tape source.old) (datagram ∷ []))

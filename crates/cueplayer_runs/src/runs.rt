@@ -24,10 +24,12 @@ use std::alloc::Global;
 /// The text's fault; `Memory` where a growth was refused; `Device` where the write failed.
 pub fn check<W: Output>(alloc: Global, show: &[u8], out: &mut W) -> Result<(), RunFault>
     ensures told { W.tells out.new → W.tells out.old }
-    ensures text { W.tells out.new → Prints result (IsCheckOf show.now) (W.tape out.old) (W.tape out.new) }
+    ensures text { W.tells out.new → Prints result (IsCheckOf show.now) (W.tape out.old)
+        (W.tape out.new) }
     ensures faultless { OnOk result (fault_of desk show.now ≡ None) }
     ensures fault { IfErr result (CheckFails show.now) }
-    ensures too_long { longest_text < length show.now → result ≡ Err (RunFault.Show show_fault.TooLong) }
+    ensures too_long { longest_text < length show.now → result ≡ Err
+        (RunFault.Show show_fault.TooLong) }
 {
     let loaded = read_show(alloc, show)?;
     let text = check_text(alloc, &loaded)?;
@@ -54,11 +56,13 @@ pub fn look<W: Output>(
     out: &mut W,
 ) -> Result<(), RunFault>
     ensures told { W.tells out.new → W.tells out.old }
-    ensures text { W.tells out.new → Prints result (IsLookOf show.now cue cid) (W.tape out.old) (W.tape out.new) }
+    ensures text { W.tells out.new → Prints result (IsLookOf show.now cue cid) (W.tape out.old)
+        (W.tape out.new) }
     ensures faultless { OnOk result (fault_of desk show.now ≡ None) }
     ensures there { OnOk result (is_there (Cue cue) (statements_of desk show.now) ≡ true) }
     ensures fault { IfErr result (LookFails show.now cue) }
-    ensures too_long { longest_text < length show.now → result ≡ Err (RunFault.Show show_fault.TooLong) }
+    ensures too_long { longest_text < length show.now → result ≡ Err
+        (RunFault.Show show_fault.TooLong) }
 {
     let loaded = read_show(alloc, show)?;
     if loaded.show.cue(cue).is_none() {

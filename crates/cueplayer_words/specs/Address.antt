@@ -1,5 +1,6 @@
 -- An address of UDP over IPv4, as a text.
-use Rattle.std.specs.Prelude.{ℕ, List, [], ◌∷◌, Option, Some, None, option_map, option_and_then, if◌then◌else◌}
+use Rattle.std.specs.Prelude.{ℕ, List, [], ◌∷◌, Option, Some, None, option_map, option_and_then}
+use Rattle.std.specs.Prelude.{if◌then◌else◌}
 use Rattle.std.specs.List.{list_any, before_first, after_first}
 use Rattle.ascii_text.specs.Forms.{is_colon, is_point, whole_of}
 
@@ -7,7 +8,8 @@ use Rattle.ascii_text.specs.Forms.{is_colon, is_point, whole_of}
 abbrev pub octet_before : (List ℕ → Option (List ℕ)) → List ℕ → Option (List ℕ)
 octet_before form text =
     if list_any is_point text
-    then option_and_then (λ octet. option_map (λ octets. octet ∷ octets) (form (after_first is_point text)))
+    then option_and_then (λ octet. option_map (λ octets. octet ∷ octets)
+    (form (after_first is_point text)))
     (whole_of 255 (before_first is_point text))
     else None
 
@@ -32,5 +34,6 @@ with_port _ _ = None
 abbrev pub address_of : List ℕ → Option (List ℕ × ℕ)
 address_of text =
     if list_any is_colon text
-    then with_port (host_of (before_first is_colon text)) (whole_of 65535 (after_first is_colon text))
+    then with_port (host_of (before_first is_colon text))
+    (whole_of 65535 (after_first is_colon text))
     else with_port (host_of text) (Some default_port)

@@ -39,15 +39,19 @@ look_of rows = look_with (first_of (codes "SHOW") rows) (value_by cue_number_of 
     (value_by parsed (codes "cid") rows)
 
 -- a play, where each of its values is there
-abbrev pub play_with : Option Text → Option (List ℕ × ℕ) → Option (List ℕ) → Option ℕ → Option ℕ → Option Job
-play_with (Some show) (Some to) (Some cid) (Some priority) (Some base) = Some (Play show to cid priority base)
+abbrev pub play_with : Option Text → Option (List ℕ × ℕ) → Option (List ℕ) → Option ℕ → Option ℕ
+    → Option Job
+play_with (Some show) (Some to) (Some cid) (Some priority) (Some base) =
+    Some (Play show to cid priority base)
 play_with _ _ _ _ _ = None
 
--- the job of `play SHOW --to ADDR --cid UUID [--priority P] [--base U]`: a priority is 0 to 200 and 100 where it
--- is absent (E1.31-2018, priority), the base a universe number, 1 where it is absent
+-- the job of `play SHOW --to ADDR --cid UUID [--priority P] [--base U]`: a priority is 0 to 200
+-- and 100 where it is absent (E1.31-2018, priority), the base a universe number, 1 where it is
+-- absent
 abbrev pub play_of : List Row → Option Job
 play_of rows = play_with (first_of (codes "SHOW") rows) (value_by address_of (codes "to") rows)
-    (value_by parsed (codes "cid") rows) (value_or 100 (number_between 0 200) (codes "priority") rows)
+    (value_by parsed (codes "cid") rows)
+    (value_or 100 (number_between 0 200) (codes "priority") rows)
     (value_or 1 (number_between 1 63999) (codes "base") rows)
 
 -- a listen, where each of its values is there

@@ -30,7 +30,8 @@ short_play_line = with_rule (with_rule (with_rule (new_app (codes "play"))
 
 -- `play SHOW --to ADDR --cid UUID [--priority P] [--base U]`
 abbrev pub play_line : App
-play_line = with_rule (with_rule short_play_line (option (codes "priority"))) (option (codes "base"))
+play_line =
+    with_rule (with_rule short_play_line (option (codes "priority"))) (option (codes "base"))
 
 -- `listen ADDR UNIVERSE COUNT`
 abbrev pub listen_line : App

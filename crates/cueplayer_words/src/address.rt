@@ -1,4 +1,5 @@
-ghost use Rattle.std.specs.Prelude.{◌≡◌, ◌==◌, ◌<◌, ◌∷◌, ℕ, List, Option, None, option_map, true, false, MatchOption};
+ghost use Rattle.std.specs.Prelude.{◌≡◌, ◌==◌, ◌<◌, ◌∷◌, ℕ, List, Option, None, option_map, true};
+ghost use Rattle.std.specs.Prelude.{false, MatchOption};
 ghost use Rattle.std.specs.List.{list_any, before_first, after_first};
 ghost use Rattle.ascii_text.specs.Forms.{whole_of};
 ghost use Rattle.cueplayer_words.specs.Address.{address_of, host_of, octet_before};
@@ -30,7 +31,8 @@ fn host(text: &str) -> Option<[u8; 4]>
 
 // The number up to 255 before the first point, and the text behind that point.
 fn octet_before(text: &str) -> Option<(u8, &str)>
-    ensures { MatchOption result ((form : List ℕ → Option (List ℕ)) → octet_before form text.now ≡ None)
+    ensures { MatchOption result ((form : List ℕ → Option (List ℕ)) → octet_before form text.now
+        ≡ None)
         (λ parts. (form : List ℕ → Option (List ℕ)) →
         octet_before form text.now ≡ option_map (λ octets. parts.0 ∷ octets) (form parts.1.now)) }
 {

@@ -1,8 +1,10 @@
 ghost use Rattle.std.specs.Prelude.{◌≡◌, IfOk, false};
 ghost use Rattle.clap.specs.Words.{app_of, rule_of};
 ghost use Rattle.clap.specs.declared.builder.Command.TheViews.{out-Command as fields_of};
-ghost use Rattle.cueplayer_words.specs.Program.{required, required_option, option, check_line, look_line};
-ghost use Rattle.cueplayer_words.specs.Program.{short_play_line, play_line, listen_line, without_lines, printing_lines, program};
+ghost use Rattle.cueplayer_words.specs.Program.{required, required_option, option, check_line};
+ghost use Rattle.cueplayer_words.specs.Program.{look_line};
+ghost use Rattle.cueplayer_words.specs.Program.{short_play_line, play_line, listen_line};
+ghost use Rattle.cueplayer_words.specs.Program.{without_lines, printing_lines, program};
 
 use clap::{Arg, Command};
 use std::alloc::{AllocError, Global};

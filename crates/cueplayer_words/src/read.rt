@@ -1,4 +1,5 @@
-ghost use Rattle.std.specs.Prelude.{◌≡◌, ◌≤◌, map, option_map, option_and_then, IfOk, IfErr, IfSome};
+ghost use Rattle.std.specs.Prelude.{◌≡◌, ◌≤◌, map, option_map, option_and_then, IfOk, IfErr};
+ghost use Rattle.std.specs.Prelude.{IfSome};
 ghost use Rattle.clap.specs.Words.{found_of, rows_of, subcommand_rows_of};
 ghost use Rattle.cueplayer_words.specs.Job.{line_of, check_of, look_of, look_with};
 ghost use Rattle.cueplayer_words.specs.Job.{play_of, play_with, listen_of, listen_with, IsInRange};
@@ -48,7 +49,8 @@ fn refusal(error: Error) -> WordsFault
 
 // The job of the line that the words name, where each of its texts has its form.
 fn read_line(alloc: Global, matches: &ArgMatches<'_>) -> Result<Option<Job>, AllocError>
-    ensures job { IfOk result (λ job. job ≡ option_and_then line_of (subcommand_rows_of matches.now)) }
+    ensures job { IfOk result (λ job. job ≡ option_and_then line_of
+        (subcommand_rows_of matches.now)) }
     ensures ranges { IfOk result (λ job. IfSome job IsInRange) }
 {
     let Some((line, inner)) = matches.subcommand() else {

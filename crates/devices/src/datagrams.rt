@@ -22,5 +22,6 @@ pub trait Datagrams {
         ensures within { IfOk result (λ count. count ≤ 1500) }
         ensures ok { IfOk result (λ count. tells self.new
             → tape self.new ≡ with_more (tape self.old) (take count buf.new ∷ [])) }
-        ensures err { OnErr result (tells self.new → tape self.new ≡ with_failure (tape self.old)) };
+        ensures err { OnErr result (tells self.new → tape self.new ≡ with_failure
+            (tape self.old)) };
 }

@@ -25,5 +25,6 @@ pub trait Feed {
         ensures ok { IfOk result (λ count. tells self.new
             → tape self.new ≡ with_more (tape self.old) (take count buf.new)) }
         ensures end { IfOk result (λ count. count ≡ 0 → tells self.new → ended self.new) }
-        ensures err { OnErr result (tells self.new → tape self.new ≡ with_failure (tape self.old)) };
+        ensures err { OnErr result (tells self.new → tape self.new ≡ with_failure
+            (tape self.old)) };
 }

@@ -1,4 +1,5 @@
-//! Devices over memory: they tell what they did, and some of their calls fail. Tests run the program
+//! Devices over memory: they tell what they did, and some of their calls fail. Tests run the
+//! program
 //! over them.
 
 mod datagrams;

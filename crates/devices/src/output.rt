@@ -28,5 +28,6 @@ pub trait Output {
         ensures told { tells self.new → tells self.old }
         ensures ok { OnOk result (tells self.new
             → tape self.new ≡ with_more (tape self.old) bytes.now) }
-        ensures err { OnErr result (tells self.new → tape self.new ≡ with_failure (tape self.old)) };
+        ensures err { OnErr result (tells self.new → tape self.new ≡ with_failure
+            (tape self.old)) };
 }
