@@ -1,0 +1,4 @@
+pub mod Hex
+pub mod Sizes
+pub mod Strays
+pub mod Reading
