@@ -1,4 +1,5 @@
-ghost use Rattle.std.specs.Prelude.{◌≡◌, ◌+◌, ◌≤◌, ◌<◌, ◌^◌, All, IfErr, IfOk, OnOk, length, false};
+ghost use Rattle.std.specs.Prelude.{◌≡◌, ◌+◌, ◌≤◌, ◌<◌, ◌^◌, All, IfErr, IfOk, OnOk, length};
+ghost use Rattle.std.specs.Prelude.{false};
 ghost use Rattle.script_text.specs.Script.{parts, no_parts, with_said, said_below, script_of};
 ghost use Rattle.script_text.specs.Script.{with_event, Explains, ExplainsLine, IsWithin};
 ghost use Rattle.script_text.specs.Said.{is_malformed, is_nothing, stray_size};

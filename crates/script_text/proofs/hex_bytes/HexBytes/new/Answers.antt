@@ -4,7 +4,8 @@ use Rattle.std.proofs.lemmas.Bool.{true≢false}
 use Rattle.script_text.specs.Forms.{bytes_of}
 use Rattle.script_text.proofs.Hex.{spelled, not_spelled}
 use Rattle.script_text.proofs.hex_bytes.HexBytes.new.Goals as goal
-use Rattle.script_text.proofs.hex_bytes.HexBytes.new.Goals.{else-digits-eq0-via-then-digits-eq0+else-is_hex, else-digits-eq0-via-else-digits-eq0}
+use Rattle.script_text.proofs.hex_bytes.HexBytes.new.Goals.{else-digits-eq0-via-then-digits-eq0+else-is_hex}
+use Rattle.script_text.proofs.hex_bytes.HexBytes.new.Goals.{else-digits-eq0-via-else-digits-eq0}
 
 pub invariant_of-result : goal.invariant_of-result
 invariant_of-result c =
