@@ -119,8 +119,8 @@ abbrev pub Begun : List (List ℕ) → Parts → List (ℕ × List ℕ) → Type
 Begun first p lines =
     ((p ≡ no_parts) × (first ≡ first_words lines)) ⊎ SaysSomething false first
 
-begun_words : (first words : List (List ℕ)) (p : Parts) (n : ℕ) (rest : List (List ℕ)) → p ≡ no_parts
-    → first ≡ (if has_some words then words else rest)
+begun_words : (first words : List (List ℕ)) (p : Parts) (n : ℕ) (rest : List (List ℕ))
+    → p ≡ no_parts → first ≡ (if has_some words then words else rest)
     → is_malformed (said false words) ≡ false
     → ((with_said p n (said false words) ≡ no_parts) × (first ≡ rest))
     ⊎ SaysSomething false first

@@ -65,5 +65,6 @@ numbered-size : (n : ℕ) (lines : List (List ℕ)) → line_sizes (numbered_fro
 numbered-size n [] = refl
 numbered-size n (line ∷ lines) = let ih = numbered-size (n + 1) lines in omega (arith, ih)
 
-pub text-size : (n : ℕ) (text : List ℕ) → line_sizes (numbered_from n (lines_of text)) ≤ length text
+pub text-size : (n : ℕ) (text : List ℕ)
+    → line_sizes (numbered_from n (lines_of text)) ≤ length text
 text-size n text = omega (arith, numbered-size n (lines_of text), lines-size text)

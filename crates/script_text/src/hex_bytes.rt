@@ -30,7 +30,7 @@ fn is_hex(digits: &[u8]) -> bool
 }
 
 impl<'a> HexBytes<'a> {
-    // The bytes of this word, or `None` where it has a byte that is no hex digit, or an odd number.
+    // The bytes of this word; `None` where a byte of it is no hex digit, or their number is odd.
     pub fn new(digits: &'a [u8]) -> Option<HexBytes<'a>>
         ensures { result ≡ bytes_of digits.now }
     {

@@ -113,8 +113,9 @@ impl Script {
 ///
 /// # Errors
 ///
-/// `Line` with the number of the first malformed line. `Memory` is answered only where a growth was
-/// refused; a text of which no line above its first malformed one has words is never answered so.
+/// `Line` with the number of the first malformed line. `Memory` is answered only where a growth
+/// was refused; a text whose first line with words is malformed, or that has no words, is never
+/// answered so.
 pub fn read_script(alloc: Global, text: &[u8]) -> Result<Script, ScriptFault>
     requires { length text.now < 4294967296 }
     ensures script { IfOk result (λ script. script_of text.now ≡ Ok (parts script)) }

@@ -12,8 +12,12 @@ const HEADER: &str = "console 1 100 c0ffee00-0000-4000-8000-00000000e131\nreceiv
 const CID: [u8; 16] = [192, 255, 238, 0, 0, 0, 64, 0, 128, 0, 0, 0, 0, 0, 225, 49];
 
 // What is read of a text. `rt try --test --fail-alloc N` refuses the Nth growth alone: where a
-// reading meets it, the answer is Memory, and the next reading gives what the text says.
+// reading meets it, the answer is Memory, and the next reading gives what the text says. No text of a
+// test is longer than a script may be.
 fn read(alloc: Global, text: &[u8]) -> Result<Script, ScriptFault> {
+    if text.len() > 16_777_216 {
+        return Err(ScriptFault::Memory);
+    }
     match read_script(alloc, text) {
         Err(ScriptFault::Memory) => read_script(alloc, text),
         answer => answer,
@@ -43,29 +47,27 @@ fn deliver(moment: u64, k: u64) -> Event {
 }
 
 fn at(moment: u64, what: What) -> Event {
-    Event {
-        moment,
-        what,
-    }
+    Event { moment, what }
 }
 
-fn setup(base: u16, priority: u8) -> Setup {
+fn setup() -> Setup {
     let name = SourceName::new("cueplayer").unwrap();
-    let identity = Identity::new(CID, name, priority);
     Setup {
         show: 0,
-        base,
-        identity: identity.unwrap(),
+        base: 1,
+        identity: Identity::new(CID, name, 100).unwrap(),
     }
 }
 
 #[test]
 fn rehearse_basic(rt: HostRuntime) -> Result<(), Fail> {
-    let text = format!(in rt.alloc(); "{HEADER}0 do 0 go\n1000 tick 0\n1000 deliver 0 0 1 0\n\
+    let text = format!(in rt.alloc();
+        "{HEADER}0 do 0 go\n1000 tick 0\n1000 deliver 0 0 1 0\n\
         2000 tick 0\n2000 slots 0\n2010 deliver 0 0 1 1\n2010 slots 0\n2011 deliver 0 0 1 1\n\
-        2022 tick 0\n2030 do 0 go\n2030 do 0 go\n2031 deliver 0 0 1 2\n")?;
+        2022 tick 0\n2030 do 0 go\n2030 do 0 go\n2031 deliver 0 0 1 2\n"
+    )?;
     let script = read(rt.alloc(), text.as_bytes())?;
-    assert_eq!(rt; script.consoles.as_slice(), [setup(1, 100)].as_slice());
+    assert_eq!(rt; script.consoles.as_slice(), [setup()].as_slice());
     assert_eq!(rt; script.receivers.as_slice(), [1].as_slice());
     let go = What::Order(0, Command::Go);
     let events = [
@@ -93,8 +95,10 @@ fn rehearse_basic(rt: HostRuntime) -> Result<(), Fail> {
 
 #[test]
 fn rehearse_termination(rt: HostRuntime) -> Result<(), Fail> {
-    let text = format!(in rt.alloc(); "{HEADER}0 do 0 go\n5000 tick 0\n5025 do 0 end\n\
-        5025 tick 0\n5025 deliver 0 0 1 1\n5030 deliver 0 0 1 0\n5030 slots 0\n")?;
+    let text = format!(in rt.alloc();
+        "{HEADER}0 do 0 go\n5000 tick 0\n5025 do 0 end\n\
+        5025 tick 0\n5025 deliver 0 0 1 1\n5030 deliver 0 0 1 0\n5030 slots 0\n"
+    )?;
     let script = read(rt.alloc(), text.as_bytes())?;
     let events = [
         at(0, What::Order(0, Command::Go)),
@@ -113,7 +117,10 @@ fn rehearse_termination(rt: HostRuntime) -> Result<(), Fail> {
 #[test]
 fn setup_faults(rt: HostRuntime) -> Result<(), Fail> {
     let text = format!(in rt.alloc(); "{HEADER}0 do 0 jump\n")?;
-    assert_eq!(rt; sizes(rt.alloc(), text.as_bytes()), Err(ScriptFault::Line(3)));
+    assert_eq!(rt;
+        sizes(rt.alloc(), text.as_bytes()),
+        Err(ScriptFault::Line(3))
+    );
     let text = format!(in rt.alloc(); "{HEADER}receiver 1\n")?;
     assert_eq!(rt; sizes(rt.alloc(), text.as_bytes()), Ok((1, 2, 0)));
     assert_eq!(rt; sizes(rt.alloc(), b""), Ok((0, 0, 0)));
@@ -125,11 +132,7 @@ fn strays(rt: HostRuntime) -> Result<(), Fail> {
     let text = b"! two strays\n\n7 STRAY 3 00ffAB09\r\n000 stray 65535\n8,Stray/0 c0 ! one byte";
     let script = read(rt.alloc(), text)?;
     assert_eq!(rt; script.strays.as_slice(), [0, 255, 171, 9, 192].as_slice());
-    let stray = |receiver: u16, from: u32, to: u32| What::Stray {
-        receiver,
-        from,
-        to,
-    };
+    let stray = |receiver: u16, from: u32, to: u32| What::Stray { receiver, from, to };
     let events = [
         at(7, stray(3, 0, 4)),
         at(0, stray(65535, 4, 4)),
@@ -191,7 +194,11 @@ fn malformed_lines(rt: HostRuntime) {
         b"0 slots",
         b"0 slots 0 0",
     ] {
-        assert_eq!(rt; sizes(rt.alloc(), line), Err(ScriptFault::Line(1)), "{line:?}");
+        assert_eq!(rt;
+            sizes(rt.alloc(), line),
+            Err(ScriptFault::Line(1)),
+            "{line:?}"
+        );
     }
 }
 
@@ -200,7 +207,10 @@ fn malformed_lines(rt: HostRuntime) {
 fn first_malformed_line(rt: HostRuntime) {
     for (text, line) in [
         (b"0 tick 0\nreceiver 1".as_slice(), 2),
-        (b"\n0 stray 0\n\nconsole 1 1 c0ffee0000004000800000000000e131\n0", 4),
+        (
+            b"\n0 stray 0\n\nconsole 1 1 c0ffee0000004000800000000000e131\n0",
+            4,
+        ),
         (b"receiver 1\n0 go\n0 go\n", 2),
     ] {
         let answer = Err(ScriptFault::Line(line));

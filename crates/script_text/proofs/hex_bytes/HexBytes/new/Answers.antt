@@ -9,14 +9,16 @@ use Rattle.script_text.proofs.hex_bytes.HexBytes.new.Goals.{else-digits-eq0-via-
 
 pub invariant_of-result : goal.invariant_of-result
 invariant_of-result c =
-    ap is_some (spelled c.args.digits.now c.if-digits-eq0.true (c.is_hex.ensures.0 c.if-is_hex.true)).1
+    ap is_some (spelled c.args.digits.now c.if-digits-eq0.true
+    (c.is_hex.ensures.0 c.if-is_hex.true)).1
 
 there : (o : Option (List ℕ)) (bytes : List ℕ) → o ≡ Some bytes → Some (unwrap_or o []) ≡ o
 there o bytes is = ap (λ (p : Option (List ℕ)). Some (unwrap_or p [])) is ∙ sym is
 
 pub returns-then-is_hex : goal.returns-then-is_hex
 returns-then-is_hex c =
-    let r = spelled c.args.digits.now c.if-digits-eq0.true (c.is_hex.ensures.0 c.if-is_hex.true) in
+    let r = spelled c.args.digits.now c.if-digits-eq0.true
+    (c.is_hex.ensures.0 c.if-is_hex.true) in
     there (bytes_of c.args.digits.now) r.0 r.1
 
 pub returns-else-digits-eq0 : goal.returns-else-digits-eq0
