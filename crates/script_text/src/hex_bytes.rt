@@ -1,4 +1,4 @@
-ghost use Rattle.std.specs.Prelude.{◌≡◌, ◌↔◌, ◌++◌, IsTrue, OnOk};
+ghost use Rattle.std.specs.Prelude.{◌≡◌, ◌↔◌, ◌%◌, ◌++◌, IsTrue, OnOk, length};
 ghost use Rattle.std.specs.List.{AllPass};
 ghost use Rattle.hex.specs.Hex.{is_hex_digit};
 ghost use Rattle.script_text.specs.Forms.{bytes_of};
@@ -24,9 +24,10 @@ impl<'a> Model for HexBytes<'a> {
 }
 
 fn is_hex(digits: &[u8]) -> bool
-    ensures { IsTrue result ↔ AllPass is_hex_digit digits.now }
+    ensures { IsTrue result
+        ↔ ((length digits.now % 2 ≡ 0) × AllPass is_hex_digit digits.now) }
 {
-    digits.iter().all(|digit| digit.is_ascii_hexdigit())
+    digits.len() % 2 == 0 && digits.iter().all(|digit| digit.is_ascii_hexdigit())
 }
 
 impl<'a> HexBytes<'a> {
@@ -34,7 +35,7 @@ impl<'a> HexBytes<'a> {
     pub fn new(digits: &'a [u8]) -> Option<HexBytes<'a>>
         ensures { result ≡ bytes_of digits.now }
     {
-        if digits.len() % 2 == 0 && is_hex(digits) {
+        if is_hex(digits) {
             Some(HexBytes { digits })
         } else {
             None

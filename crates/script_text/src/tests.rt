@@ -12,8 +12,8 @@ const HEADER: &str = "console 1 100 c0ffee00-0000-4000-8000-00000000e131\nreceiv
 const CID: [u8; 16] = [192, 255, 238, 0, 0, 0, 64, 0, 128, 0, 0, 0, 0, 0, 225, 49];
 
 // What is read of a text. `rt try --test --fail-alloc N` refuses the Nth growth alone: where a
-// reading meets it, the answer is Memory, and the next reading gives what the text says. No text of a
-// test is longer than a script may be.
+// reading meets it, the answer is Memory, and the next reading gives what the text says. No text
+// of a test is longer than a script may be.
 fn read(alloc: Global, text: &[u8]) -> Result<Script, ScriptFault> {
     if text.len() > 16_777_216 {
         return Err(ScriptFault::Memory);
