@@ -1,0 +1,351 @@
+-- What a link keeps of a universe is its stream, packet by packet.
+use Rattle.std.proofs.Common.{◌≡◌, ℕ, zero, suc, ◌+◌, ◌-◌, ◌*◌, ◌%◌, ◌<◌, ◌≤◌, Bool, true, false, refl, ap, sym}
+use Rattle.std.proofs.Common.{subst, ◌∙◌, List, [], ◌∷◌, ◌++◌, length, map, take, drop, Option, Some, None}
+use Rattle.std.proofs.Common.{arith, append_assoc, append-nil, add-one, cond}
+use Rattle.std.specs.Prelude.{slice_get, filter, if◌then◌else◌, nat_eq, unwrap_or, is_some, slice_index_or, get_or, ◌≢◌, ◌||◌, Result, Ok, Err, MatchResult}
+use Rattle.std.specs.List.{list_any, range_with_len}
+use Rattle.std.specs.List.{AllPairs}
+use Rattle.std.specs.Option.{option_map, option_map_or}
+use Rattle.std.proofs.lemmas.Bool.{eqb-true, eq-eqb}
+use Rattle.std.proofs.lemmas.Bool.Decides.{nat_tests}
+use Rattle.std.proofs.lemmas.List.{length-map, length-take, length-drop}
+use Rattle.std.proofs.lemmas.List.FromFn.{length-range_with_len}
+use Rattle.std.proofs.lemmas.List.Kept.{AllPairs-from_increasing}
+use Rattle.show_core.specs.Tables.{Tables}
+use Rattle.devices.specs.Send.{Send}
+use Rattle.patch_core.specs.Frame.{dimmer_slot}
+use Rattle.master_core.specs.Settings.{grand_after}
+use Rattle.desk_core.specs.declared.command.Command.{Command}
+use Rattle.desk_core.specs.declared.command.Command.TheVariants.{Go, Back, Goto, Sub, Group, Master, End}
+use Rattle.desk_core.specs.Played.{Act, order, tick, ended, ended_by, settings}
+use Rattle.desk_core.specs.Meaning.{dark, frame, channel_level, universe_numbers}
+use Rattle.desk_core.proofs.Universes.{numbers_rise}
+use Rattle.sacn_packet.specs.Wire.{IsData}
+use Rattle.sacn_source.specs.declared.offered.Offered.{Offered}
+use Rattle.sacn_source.specs.declared.offered.Offered.TheVariants.{Sent, Quiet}
+use Rattle.sacn_source.specs.Identify.{IsStreamPacket}
+use Rattle.sacn_source.specs.Identity.{Identity}
+use Rattle.sacn_source.specs.Offering.{answer_of}
+use Rattle.sacn_source.specs.Stream.{Offer, Packet, due, sends, frames_sent, packets, live_packet, last_packet}
+use Rattle.console.specs.Offering.{AreOffered, Carries, Offers, none, quiet, sent}
+use Rattle.console.specs.Streams.{Production, Due, due_at, dues_at, offer_at, offered_by, offers_of}
+use Rattle.console.specs.Streams.{order_at, packet_due, terminations_of, tick_at, universes_of}
+use Rattle.wire_laws.specs.World.{IsIdentity}
+use Rattle.wire_laws.specs.Datagrams.{packet_bytes}
+use Rattle.wire_laws.specs.Happened.{bytes_of, packets_of, plays, stream}
+use Rattle.wire_laws.specs.Replies.{due_answer}
+use Rattle.wire_laws.proofs.Wire.{bytes_are}
+use Rattle.wire_world.specs.declared.row.Row.{Row}
+use Rattle.wire_world.specs.Sends.{send_of, sent_to, numbered}
+
+-- ---- bytes
+
+-- a packet of a stream says all of its source
+who_is : (source : Identity) (u k : ℕ) (p : Packet) (bytes : List ℕ) → length p.slots ≡ 512
+    → IsStreamPacket source u k p bytes → IsIdentity source
+who_is source u k p bytes full h = record {
+  cid_size = ap length (sym h.cid)
+      ∙ (let e : length (take 16 (drop 22 bytes)) ≡ 16
+      = omega (arith, length-take 16 (drop 22 bytes), length-drop 22 bytes, h.size, full) in e);
+  name_size = ap length (sym h.name)
+      ∙ (let e : length (take 64 (drop 44 bytes)) ≡ 64
+      = omega (arith, length-take 64 (drop 44 bytes), length-drop 44 bytes, h.size, full) in e);
+  priority_range = h.priority_range;
+}
+
+-- and has no other bytes
+pub carried : (source : Identity) (u k : ℕ) (p : Packet) (bytes : List ℕ) → length p.slots ≡ 512
+    → IsStreamPacket source u k p bytes → bytes ≡ packet_bytes source u k p
+carried source u k p bytes full h = bytes_are source u k p bytes (who_is source u k p bytes full h) full
+    h.universe_from_1 h.universe_to_63999 h
+
+-- packet k of a numbered stream
+pub numbered_at : (source : Identity) (u j : ℕ) (ps : List Packet) (k : ℕ)
+    → slice_get (numbered source u j ps) k
+    ≡ option_map (packet_bytes source u (j + k)) (slice_get ps k)
+numbered_at source u j [] k = refl
+numbered_at source u j (p ∷ ps) zero =
+    let e : j ≡ j + 0 = omega arith in ap (λ n. Some (packet_bytes source u n p)) e
+numbered_at source u j (p ∷ ps) (suc k) = numbered_at source u (j + 1) ps k
+    ∙ (let e : j + 1 + k ≡ j + suc k = omega arith in
+    ap (λ n. option_map (packet_bytes source u n) (slice_get ps k)) e)
+
+numbered_more : (source : Identity) (u j : ℕ) (ps qs : List Packet)
+    → numbered source u j (ps ++ qs)
+    ≡ numbered source u j ps ++ numbered source u (j + length ps) qs
+numbered_more source u j [] qs =
+    let e : j ≡ j + 0 = omega arith in ap (λ n. numbered source u n qs) e
+numbered_more source u j (p ∷ ps) qs = ap (λ l. packet_bytes source u j p ∷ l)
+    (numbered_more source u (j + 1) ps qs
+    ∙ (let e : j + 1 + length ps ≡ j + suc (length ps) = omega arith in
+    ap (λ n. numbered source u (j + 1) ps ++ numbered source u n qs) e))
+
+-- ---- what is due
+
+-- the packet that is due, as a list of at most one
+abbrev pub due_list : Option Packet → List Packet
+due_list None = []
+due_list (Some p) = p ∷ []
+
+frame_full : (s : Tables) (h : List Act) (t k : ℕ) → length (frame s h t k) ≡ 512
+unfolding frame
+frame_full s h t k = go (is_some (ended h))
+  where
+    go : (b : Bool)
+        → length (if b then dark else map
+        (dimmer_slot s.patch (channel_level s h t) (grand_after (settings h)))
+        (range_with_len (512 * k + 1) 512)) ≡ 512
+    go true = refl
+    go false = length-map (range_with_len (512 * k + 1) 512)
+        (dimmer_slot s.patch (channel_level s h t) (grand_after (settings h)))
+        ∙ length-range_with_len (512 * k + 1) 512
+
+-- a due packet has 512 slots
+abbrev pub IsFull : Option Packet → Type 0
+IsFull None = Unit {0}
+IsFull (Some p) = length p.slots ≡ 512
+
+due_full : (p : Production) (h : List Act) (m u : ℕ) → IsFull (due_at p h m u).packet
+due_full p h m u = go (ended h)
+  where
+    live : (b : Bool) → IsFull (if b then Some (live_packet (offer_at p u h m).frame) else None)
+    live true = frame_full p.show h m (u - p.base)
+    live false = tt
+    go : (n : Option ℕ) → IsFull (packet_due n (offer_at p u h m ∷ offers_of p u h))
+    go None = live (sends (offer_at p u h m ∷ offers_of p u h))
+    go (Some n) = refl
+
+-- a tick more leaves the stream, and adds what is due
+map_more : {A B : Type 0} (f : A → B) (xs ys : List A) → map f (xs ++ ys) ≡ map f xs ++ map f ys
+map_more f [] ys = refl
+map_more f (x ∷ xs) ys = ap (λ l. f x ∷ l) (map_more f xs ys)
+
+ticked_more : (p : Production) (h : List Act) (m u : ℕ)
+    → stream p u (tick_at m ∷ h) ≡ stream p u h ++ due_list (due_at p h m u).packet
+ticked_more p h m u = go (ended h)
+  where
+    live : (b : Bool)
+        → map live_packet (if b then frames_sent (offers_of p u h) ++ (offer_at p u h m).frame ∷ []
+        else frames_sent (offers_of p u h))
+        ≡ map live_packet (frames_sent (offers_of p u h))
+        ++ due_list (if b then Some (live_packet (offer_at p u h m).frame) else None)
+    live true = map_more live_packet (frames_sent (offers_of p u h)) ((offer_at p u h m).frame ∷ [])
+    live false = sym (append-nil _)
+    go : (n : Option ℕ)
+        → packets (offered_by tick n (offer_at p u h m) (offers_of p u h))
+        (unwrap_or (ended_by tick n) 0)
+        ≡ packets (offers_of p u h) (unwrap_or n 0)
+        ++ due_list (packet_due n (offer_at p u h m ∷ offers_of p u h))
+    go None = live (sends (offer_at p u h m ∷ offers_of p u h))
+    go (Some n) = ap (packets (offers_of p u h)) (add-one n)
+
+-- what is added to the packets of a universe
+abbrev pub added : Production → List Act → ℕ → ℕ → List Packet
+added p h m u = if plays p u then due_list (due_at p h m u).packet else []
+
+pub sent_added : (p : Production) (h : List Act) (m u : ℕ)
+    → packets_of p (tick_at m ∷ h) u ≡ packets_of p h u ++ added p h m u
+sent_added p h m u = go (plays p u)
+  where
+    go : (b : Bool)
+        → (if b then stream p u (tick_at m ∷ h) else [])
+        ≡ (if b then stream p u h else []) ++ (if b then due_list (due_at p h m u).packet else [])
+    go true = ticked_more p h m u
+    go false = refl
+
+-- a command leaves the streams
+ended_same : (c : Command) (n : Option ℕ) → unwrap_or (ended_by (order c) n) 0 ≡ unwrap_or n 0
+ended_same Go None = refl
+ended_same Back None = refl
+ended_same (Goto m) None = refl
+ended_same (Sub m b) None = refl
+ended_same (Group m b) None = refl
+ended_same (Master b) None = refl
+ended_same End None = refl
+ended_same Go (Some n) = refl
+ended_same Back (Some n) = refl
+ended_same (Goto m) (Some n) = refl
+ended_same (Sub m b) (Some n) = refl
+ended_same (Group m b) (Some n) = refl
+ended_same (Master b) (Some n) = refl
+ended_same End (Some n) = refl
+
+pub sent_ordered : (p : Production) (h : List Act) (m : ℕ) (c : Command) (u : ℕ)
+    → packets_of p (order_at m c ∷ h) u ≡ packets_of p h u
+sent_ordered p h m c u =
+    ap (λ n. if plays p u then packets (offers_of p u h) n else []) (ended_same c (ended h))
+
+-- ---- the sends of a tick
+
+sent_more : (u : ℕ) (xs ys : List Send) → sent_to u (xs ++ ys) ≡ sent_to u xs ++ sent_to u ys
+sent_more u [] ys = refl
+sent_more u (x ∷ xs) ys = go (nat_eq x.universe u) refl (sent_more u xs ys)
+  where
+    go : (b : Bool) → nat_eq x.universe u ≡ b → sent_to u (xs ++ ys) ≡ sent_to u xs ++ sent_to u ys
+        → sent_to u (x ∷ (xs ++ ys)) ≡ sent_to u (x ∷ xs) ++ sent_to u ys
+    go true q ih = simp q (ap (λ l. x.bytes ∷ l) ih)
+    go false q ih = simp q ih
+
+-- the bytes of what is due on a universe
+abbrev pub due_bytes : Identity → List Due → ℕ → List (List ℕ)
+due_bytes source [] u = []
+due_bytes source (d ∷ ds) u = if nat_eq d.universe u
+    then numbered source u d.place (due_list d.packet) ++ due_bytes source ds u
+    else due_bytes source ds u
+
+abbrev pub AreFull : List Due → Type 0
+AreFull [] = Unit {0}
+AreFull (d ∷ ds) = IsFull d.packet × AreFull ds
+
+one_sent : (source : Identity) (u : ℕ) (d : Due) (p : Packet) (x : Send) (xs : List Send) (ds : List Due)
+    → d.packet ≡ Some p → x.universe ≡ d.universe → x.bytes ≡ packet_bytes source d.universe d.place p
+    → sent_to u xs ≡ due_bytes source ds u → sent_to u (x ∷ xs) ≡ due_bytes source (d ∷ ds) u
+one_sent source u d p x xs ds e f g ih = go (nat_eq d.universe u) refl
+  where
+    go : (b : Bool) → nat_eq d.universe u ≡ b → sent_to u (x ∷ xs)
+        ≡ (if b then numbered source u d.place (due_list d.packet) ++ due_bytes source ds u
+        else due_bytes source ds u)
+    go true q =
+        let t : nat_eq x.universe u ≡ true = ap (λ n. nat_eq n u) f ∙ q in
+        let k : x.bytes ≡ packet_bytes source u d.place p =
+        g ∙ ap (λ n. packet_bytes source n d.place p) (eqb-true d.universe u q) in
+        simp t (ap (λ l. l ∷ sent_to u xs) k ∙ ap (λ l. packet_bytes source u d.place p ∷ l) ih
+        ∙ sym (ap (λ o. numbered source u d.place (due_list o) ++ due_bytes source ds u) e))
+    go false q = let t : nat_eq x.universe u ≡ false = ap (λ n. nat_eq n u) f ∙ q in simp t ih
+
+none_sent : (source : Identity) (u : ℕ) (d : Due) (ds : List Due) → d.packet ≡ None
+    → due_bytes source ds u ≡ due_bytes source (d ∷ ds) u
+none_sent source u d ds e = go (nat_eq d.universe u)
+  where
+    go : (b : Bool) → due_bytes source ds u
+        ≡ (if b then numbered source u d.place (due_list d.packet) ++ due_bytes source ds u
+        else due_bytes source ds u)
+    go true = sym (ap (λ o. numbered source u d.place (due_list o) ++ due_bytes source ds u) e)
+    go false = refl
+
+-- the sends of a tick to a universe are what is due on it
+pub sent_due : (source : Identity) (u : ℕ) (ds : List Due) (xs : List Send) (pairs : List (ℕ × Offered))
+    → AreFull ds → AreOffered source ds xs pairs → sent_to u xs ≡ due_bytes source ds u
+sent_due source u [] xs pairs full none = refl
+sent_due source u (d ∷ ds) xs pairs full (quiet d ds xs rest e h) =
+    sent_due source u ds xs rest full.1 h ∙ none_sent source u d ds e
+sent_due source u (d ∷ ds) (x ∷ xs) pairs full (sent d p x ds xs rest c h) =
+    one_sent source u d p x xs ds c.packet_is c.universe_is
+    (carried source d.universe d.place p x.bytes (subst IsFull c.packet_is full.0) c.bytes_are)
+    (sent_due source u ds xs rest full.1 h)
+
+-- no send fails, so the answers are the numbers
+abbrev pub AreUnfailed : List Send → Type 0
+AreUnfailed [] = Unit {0}
+AreUnfailed (x ∷ xs) = (x.failed ≡ false) × AreUnfailed xs
+
+pub answers_due : (source : Identity) (ds : List Due) (xs : List Send) (pairs : List (ℕ × Offered))
+    → AreUnfailed xs → AreOffered source ds xs pairs → pairs ≡ map due_answer ds
+answers_due source [] xs pairs ok none = refl
+answers_due source (d ∷ ds) xs pairs ok (quiet d ds xs rest e h) =
+    ap (λ o. (d.universe, option_map_or (λ _. Sent (d.place % 256)) o Quiet) ∷ rest) (sym e)
+    ∙ ap (λ l. due_answer d ∷ l) (answers_due source ds xs rest ok h)
+answers_due source (d ∷ ds) (x ∷ xs) pairs ok (sent d p x ds xs rest c h) =
+    ap (λ b. (d.universe, answer_of b d.place) ∷ rest) ok.0
+    ∙ ap (λ o. (d.universe, option_map_or (λ _. Sent (d.place % 256)) o Quiet) ∷ rest) (sym c.packet_is)
+    ∙ ap (λ l. due_answer d ∷ l) (answers_due source ds xs rest ok.1 h)
+
+pub unfailed_end : (rows : List Row) (before xs : List Send) → map send_of rows ≡ before ++ xs
+    → AreUnfailed xs
+unfailed_end rows before xs e = back before xs (subst AreUnfailed e (all rows))
+  where
+    all : (rows : List Row) → AreUnfailed (map send_of rows)
+    all [] = tt
+    all (r ∷ rows) = (refl, all rows)
+    back : (before xs : List Send) → AreUnfailed (before ++ xs) → AreUnfailed xs
+    back [] xs h = h
+    back (b ∷ before) xs h = back before xs h.1
+
+-- ---- universes differ, so what is due on one is its own
+
+dues_full : (p : Production) (h : List Act) (m : ℕ) (ns : List ℕ) → AreFull (map (due_at p h m) ns)
+dues_full p h m [] = tt
+dues_full p h m (n ∷ ns) = (due_full p h m n, dues_full p h m ns)
+
+neq_false : (a b : ℕ) → a ≢ b → nat_eq a b ≡ false
+neq_false a b h = grind (arith, nat_tests)
+
+none_due : (source : Identity) (p : Production) (h : List Act) (m u : ℕ) (ns : List ℕ)
+    → ((k : ℕ) → k < length ns → get_or ns k 0 ≢ u) → due_bytes source (map (due_at p h m) ns) u ≡ []
+none_due source p h m u [] apart = refl
+none_due source p h m u (n ∷ ns) apart =
+    let q : nat_eq n u ≡ false = neq_false n u (apart 0 (omega arith)) in
+    simp q (none_due source p h m u ns (λ k l. apart (suc k) (omega (arith, l))))
+
+own_due : (source : Identity) (p : Production) (h : List Act) (m u : ℕ) (ns : List ℕ)
+    → AllPairs (λ x y. x < y) ns
+    → due_bytes source (map (due_at p h m) ns) u
+    ≡ (if list_any (λ n. nat_eq n u) ns
+    then numbered source u (due_at p h m u).place (due_list (due_at p h m u).packet) else [])
+own_due source p h m u [] rises = refl
+own_due source p h m u (n ∷ ns) rises = go (nat_eq n u) refl
+    (own_due source p h m u ns (λ i j d a b. rises (suc i) (suc j) d (omega (arith, a)) (omega (arith, b))))
+  where
+    go : (b : Bool) → nat_eq n u ≡ b
+        → due_bytes source (map (due_at p h m) ns) u
+        ≡ (if list_any (λ n. nat_eq n u) ns
+        then numbered source u (due_at p h m u).place (due_list (due_at p h m u).packet) else [])
+        → (if b then numbered source u (due_at p h m n).place (due_list (due_at p h m n).packet)
+        ++ due_bytes source (map (due_at p h m) ns) u else due_bytes source (map (due_at p h m) ns) u)
+        ≡ (if b || list_any (λ n. nat_eq n u) ns
+        then numbered source u (due_at p h m u).place (due_list (due_at p h m u).packet) else [])
+    go true q ih =
+        let same : n ≡ u = eqb-true n u q in
+        let rest : due_bytes source (map (due_at p h m) ns) u ≡ [] =
+        none_due source p h m u ns (λ k l e.
+        let lt : n < get_or ns k 0 = rises 0 (suc k) 0 (omega arith) (omega (arith, l)) in
+        omega (arith, lt, same, e)) in
+        ap (λ l. numbered source u (due_at p h m n).place (due_list (due_at p h m n).packet) ++ l) rest
+        ∙ append-nil _
+        ∙ ap (λ k. numbered source u (due_at p h m k).place (due_list (due_at p h m k).packet)) same
+    go false q ih = ih
+
+due_added : (p : Production) (h : List Act) (m u : ℕ)
+    → (if list_any (λ n. nat_eq n u) (universes_of p)
+    then numbered p.source u (due_at p h m u).place (due_list (due_at p h m u).packet) else [])
+    ≡ numbered p.source u (0 + length (packets_of p h u)) (added p h m u)
+due_added p h m u = go (plays p u)
+  where
+    z : (n : ℕ) → n ≡ 0 + n
+    z n = omega arith
+    go : (b : Bool)
+        → (if b then numbered p.source u (due_at p h m u).place (due_list (due_at p h m u).packet) else [])
+        ≡ numbered p.source u (0 + length (if b then stream p u h else []))
+        (if b then due_list (due_at p h m u).packet else [])
+    go true = ap (λ n. numbered p.source u n (due_list (due_at p h m u).packet)) (z _)
+    go false = refl
+
+-- so one tick more leaves, of each universe, the bytes of its longer stream
+pub kept_ticked : (p : Production) (h : List Act) (m : ℕ) (before after : List Send)
+    (pairs : List (ℕ × Offered)) → Offers p.source (dues_at p h m) pairs before after
+    → ((u : ℕ) → sent_to u before ≡ numbered p.source u 0 (packets_of p h u))
+    → (u : ℕ) → sent_to u after ≡ numbered p.source u 0 (packets_of p (tick_at m ∷ h) u)
+kept_ticked p h m before after pairs o old u = ap (sent_to u) o.after_is ∙ sent_more u before o.sends
+    ∙ ap (λ l. l ++ sent_to u o.sends) (old u)
+    ∙ ap (λ l. numbered p.source u 0 (packets_of p h u) ++ l)
+    (sent_due p.source u (dues_at p h m) o.sends pairs (dues_full p h m (universes_of p)) o.are_offered
+    ∙ own_due p.source p h m u (universes_of p)
+    (AllPairs-from_increasing (universes_of p) (numbers_rise p.show.patch p.base))
+    ∙ due_added p h m u)
+    ∙ sym (numbered_more p.source u 0 (packets_of p h u) (added p h m u))
+    ∙ ap (numbered p.source u 0) (sym (sent_added p h m u))
+
+-- and its answers are the numbers of what is due
+pub answers_ticked : (p : Production) (h : List Act) (m : ℕ) (rows : List Row) (before : List Send)
+    (pairs : List (ℕ × Offered)) → Offers p.source (dues_at p h m) pairs before (map send_of rows)
+    → pairs ≡ map due_answer (dues_at p h m)
+answers_ticked p h m rows before pairs o = answers_due p.source (dues_at p h m) o.sends pairs
+    (unfailed_end rows before o.sends o.after_is) o.are_offered
+
+-- the packets that are kept are those of the streams
+pub datagram_is : (p : Production) (h : List Act) (u k : ℕ) (xs : List Send)
+    → sent_to u xs ≡ numbered p.source u 0 (packets_of p h u)
+    → slice_get (sent_to u xs) k ≡ bytes_of p h u k
+datagram_is p h u k xs e = ap (λ l. slice_get l k) e ∙ numbered_at p.source u 0 (packets_of p h u) k
+    ∙ (let z : 0 + k ≡ k = omega arith in
+    ap (λ n. option_map (packet_bytes p.source u n) (slice_get (packets_of p h u) k)) z)
