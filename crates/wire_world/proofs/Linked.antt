@@ -224,31 +224,31 @@ none_sent source u d ds e = go (nat_eq d.universe u)
     go false = refl
 
 -- the sends of a tick to a universe are what is due on it
-pub sent_due : (source : Identity) (u : ℕ) (ds : List Due) (xs : List Send) (pairs : List (ℕ × Offered))
+pub sent_due : {source : Identity} (u : ℕ) {ds : List Due} {xs : List Send} {pairs : List (ℕ × Offered)}
     → AreFull ds → AreOffered source ds xs pairs → sent_to u xs ≡ due_bytes source ds u
-sent_due source u [] xs pairs full none = refl
-sent_due source u (d ∷ ds) xs pairs full (quiet d ds xs rest e h) =
-    sent_due source u ds xs rest full.1 h ∙ none_sent source u d ds e
-sent_due source u (d ∷ ds) (x ∷ xs) pairs full (sent d p x ds xs rest c h) =
+sent_due u full none = refl
+sent_due {source} u full (quiet d ds xs rest e h) =
+    sent_due u full.1 h ∙ none_sent source u d ds e
+sent_due {source} u full (sent d p x ds xs rest c h) =
     one_sent source u d p x xs ds c.packet_is c.universe_is
     (carried source d.universe d.place p x.bytes (subst IsFull c.packet_is full.0) c.bytes_are)
-    (sent_due source u ds xs rest full.1 h)
+    (sent_due u full.1 h)
 
 -- no send fails, so the answers are the numbers
 abbrev pub AreUnfailed : List Send → Type 0
 AreUnfailed [] = Unit {0}
 AreUnfailed (x ∷ xs) = (x.failed ≡ false) × AreUnfailed xs
 
-pub answers_due : (source : Identity) (ds : List Due) (xs : List Send) (pairs : List (ℕ × Offered))
+pub answers_due : {source : Identity} {ds : List Due} {xs : List Send} {pairs : List (ℕ × Offered)}
     → AreUnfailed xs → AreOffered source ds xs pairs → pairs ≡ map due_answer ds
-answers_due source [] xs pairs ok none = refl
-answers_due source (d ∷ ds) xs pairs ok (quiet d ds xs rest e h) =
+answers_due ok none = refl
+answers_due ok (quiet d ds xs rest e h) =
     ap (λ o. (d.universe, option_map_or (λ _. Sent (d.place % 256)) o Quiet) ∷ rest) (sym e)
-    ∙ ap (λ l. due_answer d ∷ l) (answers_due source ds xs rest ok h)
-answers_due source (d ∷ ds) (x ∷ xs) pairs ok (sent d p x ds xs rest c h) =
+    ∙ ap (λ l. due_answer d ∷ l) (answers_due ok h)
+answers_due ok (sent d p x ds xs rest c h) =
     ap (λ b. (d.universe, answer_of b d.place) ∷ rest) ok.0
     ∙ ap (λ o. (d.universe, option_map_or (λ _. Sent (d.place % 256)) o Quiet) ∷ rest) (sym c.packet_is)
-    ∙ ap (λ l. due_answer d ∷ l) (answers_due source ds xs rest ok.1 h)
+    ∙ ap (λ l. due_answer d ∷ l) (answers_due ok.1 h)
 
 pub unfailed_end : (rows : List Row) (before xs : List Send) → map send_of rows ≡ before ++ xs
     → AreUnfailed xs
@@ -328,7 +328,7 @@ pub kept_ticked : (p : Production) (h : List Act) (m : ℕ) (before after : List
 kept_ticked p h m before after pairs o old u = ap (sent_to u) o.after_is ∙ sent_more u before o.sends
     ∙ ap (λ l. l ++ sent_to u o.sends) (old u)
     ∙ ap (λ l. numbered p.source u 0 (packets_of p h u) ++ l)
-    (sent_due p.source u (dues_at p h m) o.sends pairs (dues_full p h m (universes_of p)) o.are_offered
+    (sent_due u (dues_full p h m (universes_of p)) o.are_offered
     ∙ own_due p.source p h m u (universes_of p)
     (AllPairs-from_increasing (universes_of p) (numbers_rise p.show.patch p.base))
     ∙ due_added p h m u)
@@ -339,7 +339,7 @@ kept_ticked p h m before after pairs o old u = ap (sent_to u) o.after_is ∙ sen
 pub answers_ticked : (p : Production) (h : List Act) (m : ℕ) (rows : List Row) (before : List Send)
     (pairs : List (ℕ × Offered)) → Offers p.source (dues_at p h m) pairs before (map send_of rows)
     → pairs ≡ map due_answer (dues_at p h m)
-answers_ticked p h m rows before pairs o = answers_due p.source (dues_at p h m) o.sends pairs
+answers_ticked p h m rows before pairs o = answers_due
     (unfailed_end rows before o.sends o.after_is) o.are_offered
 
 -- the packets that are kept are those of the streams
