@@ -1,3 +1,9 @@
 pub mod Index
 pub mod Linked
 pub mod Ticks
+pub mod Stages
+pub mod Receivers
+pub mod Happened
+pub mod Replays
+pub mod Openings
+pub mod Refusals

@@ -1,3 +1,6 @@
 pub mod Sends
 pub mod Indexed
 pub mod StageStands
+pub mod Stands
+pub mod Reported
+pub mod Refusing

@@ -1,0 +1,133 @@
+-- The checks of a setup.
+use Rattle.std.proofs.Common.{◌≡◌, ℕ, zero, suc, ◌+◌, ◌<◌, ◌≤◌, Bool, true, false, not, ◌&&◌, refl, ap, sym, subst, ◌∙◌, List, [], ◌∷◌, length, map, drop, get_or, arith, Option, Some, None, Result, Ok, Err}
+use Rattle.std.specs.Prelude.{nat_le, nat_lt, ◌==◌, All, if◌then◌else◌, slice_get, slice_index_or, IsTrue, IfErr}
+use Rattle.std.specs.List.{list_all, list_any}
+use Rattle.std.specs.Option.{option_map_or}
+use Rattle.std.specs.Result.{result_err}
+use Rattle.std.proofs.lemmas.Bool.Decides.{nat_tests}
+use Rattle.std.proofs.lemmas.List.{length-map, get_or-map}
+use Rattle.std.proofs.lemmas.Option.{get_or_from_slice_get}
+use Rattle.show_core.specs.Tables.{Tables}
+use Rattle.patch_core.specs.Frame.{is_base}
+use Rattle.wire_laws.specs.declared.fault.Fault.{Fault}
+use Rattle.wire_laws.specs.declared.fault.Fault.TheVariants.{Consoles, Receivers, NoShow, Universe, Memory}
+use Rattle.wire_laws.specs.declared.setup.Setup.{Setup}
+use Rattle.wire_laws.specs.World.{World, IsConsole, IsIdentity, IsWorld, console_at, no_console}
+use Rattle.wire_world.specs.Refusing.{are_consoles, are_receivers, are_universes, is_new_at, has_base, has_show, setup_fault, Answers}
+use Rattle.wire_world.specs.Stands.{cast, world_of}
+
+drop_at : (xs : List ℕ) (i d : ℕ) → i < length xs → drop i xs ≡ get_or xs i d ∷ drop (i + 1) xs
+drop_at [] i d h = absurd (omega arith)
+drop_at (x ∷ xs) zero d h = refl
+drop_at (x ∷ xs) (suc i) d h = drop_at xs i d (omega arith)
+    ∙ (let z : suc (i + 1) ≡ suc i + 1 = omega arith in
+    ap (λ n. get_or xs i d ∷ drop n (x ∷ xs)) z)
+
+pub universes_at : (xs : List ℕ) (i d : ℕ) → i < length xs
+    → are_universes (drop i xs) ≡ (is_new_at (get_or xs i d) (drop (i + 1) xs)
+    && are_universes (drop (i + 1) xs))
+universes_at xs i d h = ap are_universes (drop_at xs i d h)
+
+pub drop_end : (xs : List ℕ) (i : ℕ) → length xs ≤ i → drop i xs ≡ []
+drop_end [] zero h = refl
+drop_end [] (suc i) h = refl
+drop_end (x ∷ xs) zero h = absurd (omega (arith, h))
+drop_end (x ∷ xs) (suc i) h = drop_end xs i (omega (arith, h))
+
+-- ---- what holds where no reason applies
+
+both : (a b : Bool) → (a && b) ≡ true → (a ≡ true) × (b ≡ true)
+both true true h = (refl, refl)
+both true false h = cc
+both false b h = cc
+
+all_at : {X : Type 0} (p : X → Bool) (xs : List X) → list_all p xs ≡ true → (k : ℕ) (d : X) → k < length xs
+    → p (get_or xs k d) ≡ true
+all_at p [] a k d h = absurd (omega arith)
+all_at p (x ∷ xs) a zero d h = (both (p x) (list_all p xs) a).0
+all_at p (x ∷ xs) a (suc k) d h = all_at p xs (both (p x) (list_all p xs) a).1 k d (omega arith)
+
+le : (m n : ℕ) → nat_le m n ≡ true → m ≤ n
+le m n h = grind (arith, nat_tests)
+
+lt : (m n : ℕ) → nat_lt m n ≡ true → m < n
+lt m n h = grind (arith, nat_tests)
+
+universe_at_place : (xs : List ℕ) → are_universes xs ≡ true → (k d : ℕ) → k < length xs
+    → (1 ≤ get_or xs k d) × (get_or xs k d ≤ 63999)
+universe_at_place [] a k d h = absurd (omega arith)
+universe_at_place (x ∷ xs) a zero d h =
+    let b = both (is_new_at x xs) (are_universes xs) a in
+    let r = both (nat_le 1 x && nat_le x 63999) _ b.0 in
+    let s = both (nat_le 1 x) (nat_le x 63999) r.0 in
+    (le 1 x s.0, le x 63999 s.1)
+universe_at_place (x ∷ xs) a (suc k) d h =
+    universe_at_place xs (both (is_new_at x xs) (are_universes xs) a).1 k d (omega arith)
+
+-- none of the reasons applies
+pub record IsFine (shows : List Tables) (setups : List Setup) (universes : List ℕ) : Type 0 where
+  pub receivers : are_receivers universes ≡ true
+  pub shown : list_all (has_show shows) setups ≡ true
+  pub based : list_all (has_base shows) setups ≡ true
+
+pub fine : (shows : List Tables) (setups : List Setup) (universes : List ℕ)
+    → setup_fault shows setups universes ≡ None → IsFine shows setups universes
+fine shows setups universes = go (are_consoles (length setups)) (are_receivers universes)
+    (list_all (has_show shows) setups) (list_all (has_base shows) setups) refl refl refl
+  where
+    go : (a b c d : Bool) → are_receivers universes ≡ b → list_all (has_show shows) setups ≡ c
+        → list_all (has_base shows) setups ≡ d
+        → (if not a then Some Consoles else (if not b then Some Receivers
+        else (if not c then Some NoShow else (if not d then Some Universe else None)))) ≡ None
+        → IsFine shows setups universes
+    go true true true true p q r h = record { receivers = p; shown = q; based = r }
+    go true true true false p q r h = cc
+    go true true false d p q r h = cc
+    go true false c d p q r h = cc
+    go false b c d p q r h = cc
+
+pub shows_there : (shows : List Tables) (setups : List Setup) (universes : List ℕ)
+    → IsFine shows setups universes → All (λ s. s.show < length shows) setups
+shows_there shows setups universes f = λ k d h. lt _ (length shows) (all_at (has_show shows) setups f.shown k d h)
+
+pub universes_there : (shows : List Tables) (setups : List Setup) (universes : List ℕ)
+    → IsFine shows setups universes → All (λ u. (1 ≤ u) × (u ≤ 63999)) universes
+universes_there shows setups universes f = λ k d h.
+    universe_at_place universes (both (nat_le (length universes) 8) (are_universes universes) f.receivers).1 k d h
+
+based_at : (shows : List Tables) (s : Setup) → has_base shows s ≡ true
+    → is_base (cast shows s).show.patch s.base ≡ true
+based_at shows s = go (slice_get shows s.show) refl
+  where
+    go : (o : Option Tables) → slice_get shows s.show ≡ o
+        → option_map_or (λ (t : Tables). is_base t.patch s.base) o false ≡ true
+        → is_base (cast shows s).show.patch s.base ≡ true
+    go None e h = cc
+    go (Some t) e h = ap (λ (x : Tables). is_base x.patch s.base)
+        (get_or_from_slice_get shows s.show t no_console.show e) ∙ h
+
+-- so its world is one
+pub is_world : (shows : List Tables) (setups : List Setup) (universes strays : List ℕ)
+    → IsFine shows setups universes → All (λ s. IsIdentity s.identity) setups
+    → IsWorld (world_of shows setups universes strays)
+is_world shows setups universes strays f who = λ i h.
+    let l : i < length setups = omega (arith, h, length-map setups (cast shows)) in
+    subst IsConsole (sym (get_or-map (cast shows) setups i blank no_console l))
+    (record {
+      source_in = who i blank l;
+      base_in = based_at shows (get_or setups i blank) (all_at (has_base shows) setups f.based i blank l);
+    })
+  where
+    blank : Setup
+    blank = record { show = 0; base = 0; identity = no_console.source }
+
+-- what is answered
+pub refused : {X Y : Type 0} (r : Result Y Fault) (e : Fault) (o : Option Fault) → r ≡ Err e
+    → result_err r ≡ o → Answers {X} o (Err e)
+refused r e None h f = absurd (let z : Some e ≡ None = sym (ap result_err h) ∙ f in cc)
+refused r e (Some x) h f = let z : Some e ≡ Some x = sym (ap result_err h) ∙ f in
+    (let k : e ≡ x = cc in ap Err k)
+
+pub passed : {X Y : Type 0} (r : Result Y Fault) (y : Y) (o : Option Fault) → r ≡ Ok y
+    → result_err r ≡ o → o ≡ None
+passed r y o h f = sym f ∙ ap result_err h

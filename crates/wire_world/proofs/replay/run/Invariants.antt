@@ -1,0 +1,12 @@
+use Rattle.std.proofs.Common.{◌≡◌, ℕ, ◌<◌, Some, length, take, []}
+use Rattle.std.specs.Prelude.{slice_get}
+use Rattle.wire_laws.specs.declared.event.Event.{Event}
+use Rattle.wire_laws.specs.World.{World}
+use Rattle.wire_laws.specs.Replies.{last_moment, reply_to, done}
+use Rattle.wire_world.specs.Stands.{AllAre, Replayed}
+use Rattle.wire_world.specs.StageStands.{StageStands, Tells}
+use Rattle.wire_world.proofs.replay.run.Given as goal
+
+abbrev pub invariant-loop-i : goal.invariant-loop-i
+invariant-loop-i g l = (w : World) → w.strays ≡ l.strays → AllAre (StageStands g.F.Fader.stands_for) Tells l.fn.stages l.fn.receivers w []
+    → Replayed (StageStands g.F.Fader.stands_for) Tells l.stages l.receivers l.last l.replies.items w l.events l.i

@@ -1,0 +1,12 @@
+use Rattle.std.proofs.Common.{◌≡◌, ℕ, List, map}
+use Rattle.std.specs.List.{range_with_len}
+use Rattle.sacn_receiver.specs.Shown.{shown_slots}
+use Rattle.wire_laws.specs.declared.event.Event.{Event}
+use Rattle.wire_laws.specs.World.{World}
+use Rattle.wire_laws.specs.Happened.{accepted_by}
+use Rattle.wire_world.specs.Stands.{AllHear}
+use Rattle.wire_world.proofs.showing.show_all.Given as goal
+
+abbrev pub invariant-loop-i : goal.invariant-loop-i
+invariant-loop-i l = (w : World) (past : List Event) → AllHear l.receivers w past
+    → l.shown.items ≡ map (λ r. shown_slots (accepted_by w r past) l.moment) (range_with_len 0 l.i)

@@ -1,0 +1,57 @@
+ghost use Rattle.wire_world.specs.StageStands.{StageStands, Tells};
+ghost use Rattle.std.specs.Prelude.{◌≡◌, ℕ, List, length, IfOk, OnOk};
+ghost use Rattle.std.specs.Option.{option_map_or};
+ghost use Rattle.wire_laws.specs.declared.event.Event.{Event as EventData};
+ghost use Rattle.wire_laws.specs.declared.reply.Reply.TheVariants as reply;
+ghost use Rattle.wire_laws.specs.World.{World};
+ghost use Rattle.wire_laws.specs.Replies.{missing, replied};
+ghost use Rattle.wire_world.specs.Stands.{AllStand, AllHear, AllTell, AllBy, IsWithin, unless_skipped};
+
+use crate::stage::Stage;
+use fade_core::Fader;
+use crate::steps::{deliver_at, hear_at, order_at, show_at, tick_at};
+use sacn_receiver::Receiver;
+use std::alloc::AllocError;
+use wire_laws::{Reply, What};
+
+// What happens at a moment that is not before the last.
+pub(crate) fn happen<F: Fader>(
+    stages: &mut [Stage<F>],
+    receivers: &mut [Receiver],
+    strays: &[u8],
+    moment: u64,
+    what: What,
+) -> Result<Reply, AllocError>
+    requires real { (w : World) × (past : List EventData)
+        × AllStand (StageStands F.stands_for) stages.old w past }
+    requires early { AllBy receivers.old moment }
+    requires within { IsWithin (length strays.now) what }
+    ensures tell { OnOk result (AllTell Tells stages.old → AllTell Tells stages.new) }
+    ensures reply { IfOk result (λ r. (w : World) (past : List EventData) → w.strays ≡ strays.now → AllStand (StageStands F.stands_for) stages.old w past → AllTell Tells stages.old → AllHear receivers.old w past
+        → r ≡ option_map_or reply.Skipped (missing w past what) (replied w past moment what)) }
+    ensures stands { OnOk result ((w : World) (past : List EventData) → AllStand (StageStands F.stands_for) stages.old w past
+        → AllStand (StageStands F.stands_for) stages.new w (unless_skipped (missing w past what) (record { moment = moment; what = what }) past)) }
+    ensures hear { OnOk result ((w : World) (past : List EventData) → w.strays ≡ strays.now → AllStand (StageStands F.stands_for) stages.old w past → AllTell Tells stages.old → AllHear receivers.old w past
+        → AllHear receivers.new w (unless_skipped (missing w past what) (record { moment = moment; what = what }) past)) }
+{
+    match what {
+        What::Order(console, command) => Ok(order_at(stages, console, moment, command)),
+        What::Tick(console) => {
+            let reply = tick_at(stages, console, moment)?;
+            Ok(reply)
+        }
+        What::Deliver {
+            receiver,
+            console,
+            universe,
+            k,
+        } => Ok(deliver_at(
+            stages, receivers, receiver, console, universe, k, moment,
+        )),
+        What::Stray { receiver, from, to } => {
+            let bytes = &strays[from as usize..to as usize];
+            Ok(hear_at(receivers, receiver, moment, bytes))
+        }
+        What::Show(receiver) => Ok(show_at(receivers, receiver, moment)),
+    }
+}

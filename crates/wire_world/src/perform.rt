@@ -1,0 +1,42 @@
+ghost use Rattle.std.specs.Prelude.{◌≡◌, ◌<◌, ◌≤◌, length, IfOk, All};
+ghost use Rattle.wire_laws.specs.Replies.{AreReplies, done, last_slots};
+ghost use Rattle.wire_world.specs.Stands.{IsWithin, world_of};
+
+use crate::listening::listen_all;
+use crate::opening::open_all;
+use crate::replay::run;
+use crate::report::Report;
+use crate::stage::Stage;
+use fade_core::Fader;
+use show_core::Show;
+use std::alloc::{AllocError, Global};
+use wire_laws::{Event, Setup};
+
+// A rehearsal whose setup was checked.
+pub(crate) fn perform<F: Fader>(
+    alloc: Global,
+    shows: &[Show],
+    consoles: &[Setup],
+    receivers: &[u16],
+    events: &[Event],
+    strays: &[u8],
+) -> Result<Report, AllocError>
+    requires shows { All (λ s. s.show < length shows.now) consoles.now }
+    requires universes { All (λ u. (1 ≤ u) × (u ≤ 63999)) receivers.now }
+    requires within { All (λ e. IsWithin (length strays.now) e.what) events.now }
+    ensures replies { IfOk result (λ report.
+        AreReplies (world_of shows.now consoles.now receivers.now strays.now) events.now report.replies) }
+    ensures last { IfOk result (λ report. report.last
+        ≡ last_slots (world_of shows.now consoles.now receivers.now strays.now)
+        (done (world_of shows.now consoles.now receivers.now strays.now) events.now)) }
+{
+    let mut stages: Vec<Stage<F>> = open_all(alloc, shows, consoles)?;
+    let mut listeners = listen_all(alloc, receivers)?;
+    run(
+        alloc,
+        stages.as_mut_slice(),
+        listeners.as_mut_slice(),
+        strays,
+        events,
+    )
+}

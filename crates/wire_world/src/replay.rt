@@ -1,0 +1,43 @@
+ghost use Rattle.std.specs.Prelude.{◌≡◌, ℕ, List, [], ◌∷◌, length, IfOk, All};
+ghost use Rattle.wire_laws.specs.World.{World};
+ghost use Rattle.wire_laws.specs.Replies.{AreReplies, done, last_slots};
+ghost use Rattle.wire_world.specs.StageStands.{StageStands, Tells};
+ghost use Rattle.wire_world.specs.Stands.{AllAre, IsWithin};
+
+use crate::report::Report;
+use crate::showing::show_all;
+use crate::stage::Stage;
+use crate::step::step;
+use fade_core::Fader;
+use sacn_receiver::Receiver;
+use std::alloc::{AllocError, Global};
+use wire_laws::Event;
+
+// The replies to all events, and the slots after them.
+pub(crate) fn run<F: Fader>(
+    alloc: Global,
+    stages: &mut [Stage<F>],
+    receivers: &mut [Receiver],
+    strays: &[u8],
+    events: &[Event],
+) -> Result<Report, AllocError>
+    requires within { All (λ e. IsWithin (length strays.now) e.what) events.now }
+    requires begun { (w : World) × (w.strays ≡ strays.now)
+        × AllAre (StageStands F.stands_for) Tells stages.old receivers.old w [] }
+    ensures replies { IfOk result (λ report. (w : World) → w.strays ≡ strays.now
+        → AllAre (StageStands F.stands_for) Tells stages.old receivers.old w []
+        → AreReplies w events.now report.replies) }
+    ensures last { IfOk result (λ report. (w : World) → w.strays ≡ strays.now
+        → AllAre (StageStands F.stands_for) Tells stages.old receivers.old w []
+        → report.last ≡ last_slots w (done w events.now)) }
+{
+    let mut replies = Vec::new(alloc);
+    let mut last = 0;
+    for i in 0..events.len() {
+        let event = events[i];
+        let reply = step(stages, receivers, strays, &mut last, &event)?;
+        replies.push(reply)?;
+    }
+    let last = show_all(alloc, receivers, last)?;
+    Ok(Report { replies, last })
+}

@@ -1,0 +1,20 @@
+use std::marker::Model;
+use wire_laws::Reply;
+
+/// What came of a rehearsal.
+#[derive(Debug, Drop)]
+pub struct Report {
+    /// One reply for each event.
+    pub replies: Vec<Reply>,
+    /// The slots of each receiver at the moment of the last event that was not skipped, or at 0
+    /// where there is none; each is 0 to 255.
+    pub last: Vec<[u8; 512]>,
+}
+
+impl Model for Report {
+    ghost use Rattle.wire_world.specs.Reported.{Reported};
+
+    ghost Value = { Reported };
+
+    ghost view = { λ a. record { replies = a.replies.items; last = a.last.items } };
+}

@@ -1,0 +1,28 @@
+ghost use Rattle.std.specs.Prelude.{◌≡◌, ℕ, List, IfOk};
+ghost use Rattle.wire_laws.specs.declared.event.Event.{Event as EventData};
+ghost use Rattle.wire_laws.specs.World.{World};
+ghost use Rattle.wire_laws.specs.Replies.{last_moment, last_slots};
+ghost use Rattle.wire_world.specs.Stands.{AllBy, AllHear};
+
+use sacn_receiver::Receiver;
+use std::alloc::{AllocError, Global};
+
+// The slots of all receivers at a moment.
+pub(crate) fn show_all(
+    alloc: Global,
+    receivers: &[Receiver],
+    moment: u64,
+) -> Result<Vec<[u8; 512]>, AllocError>
+    requires { AllBy receivers.now moment }
+    ensures { IfOk result (λ shown. (w : World) (past : List EventData)
+        → AllHear receivers.now w past → moment ≡ last_moment past
+        → shown.items ≡ last_slots w past) }
+{
+    let mut shown = Vec::new(alloc);
+    for i in 0..receivers.len() {
+        let mut slots = [0; 512];
+        receivers[i].slots(moment, &mut slots);
+        shown.push(slots)?;
+    }
+    Ok(shown)
+}

@@ -1,0 +1,50 @@
+ghost use Rattle.wire_world.specs.StageStands.{StageStands, Tells};
+ghost use Rattle.std.specs.Prelude.{◌≡◌, ℕ, List, length, IfOk, if◌then◌else◌};
+ghost use Rattle.wire_laws.specs.declared.event.Event.{Event as EventData};
+ghost use Rattle.wire_laws.specs.World.{World};
+ghost use Rattle.wire_laws.specs.Replies.{last_moment};
+ghost use Rattle.wire_world.specs.Stands.{AllAre, AllStand, AllBy, IsStep, IsWithin, is_skip};
+
+use crate::happen::happen;
+use crate::stage::Stage;
+use fade_core::Fader;
+use sacn_receiver::Receiver;
+use std::alloc::AllocError;
+use wire_laws::{Event, Reply, Skip};
+
+const MOMENTS: u64 = 0x1_0000_0000_0000;
+
+fn later(last: u64, moment: u64, reply: &Reply) -> u64
+    ensures { result ≡ (if is_skip reply.now then last else moment) }
+{
+    match reply {
+        Reply::Skipped(_) => last,
+        _ => moment,
+    }
+}
+
+// One event.
+pub(crate) fn step<F: Fader>(
+    stages: &mut [Stage<F>],
+    receivers: &mut [Receiver],
+    strays: &[u8],
+    last: &mut u64,
+    event: &Event,
+) -> Result<Reply, AllocError>
+    requires real { (w : World) × (past : List EventData)
+        × AllStand (StageStands F.stands_for) stages.old w past }
+    requires early { AllBy receivers.old last.old }
+    requires within { IsWithin (length strays.now) event.now.what }
+    ensures { IfOk result (λ r. (w : World) (past : List EventData) → w.strays ≡ strays.now → last.old ≡ last_moment past
+        → AllAre (StageStands F.stands_for) Tells stages.old receivers.old w past → IsStep (StageStands F.stands_for) Tells stages.new receivers.new last.new r w past event.now) }
+{
+    if event.moment < *last {
+        return Ok(Reply::Skipped(Skip::Backwards));
+    }
+    if event.moment >= MOMENTS {
+        return Ok(Reply::Skipped(Skip::TooLarge));
+    }
+    let reply = happen(stages, receivers, strays, event.moment, event.what)?;
+    *last = later(*last, event.moment, &reply);
+    Ok(reply)
+}

@@ -1,0 +1,125 @@
+ghost use Rattle.wire_world.specs.StageStands.{StageStands, Tells};
+ghost use Rattle.std.specs.Prelude.{◌≡◌, ◌≤◌, ◌==◌, ℕ, List, ◌∷◌, length, IfOk, OnOk, if◌then◌else◌, Option, Some, None};
+ghost use Rattle.std.specs.Option.{option_map_or};
+ghost use Rattle.wire_laws.specs.declared.event.Event.{Event as EventData};
+ghost use Rattle.wire_laws.specs.declared.event.What.TheVariants.{Order, Tick, Deliver, Show};
+ghost use Rattle.wire_laws.specs.declared.reply.Reply.TheVariants as reply;
+ghost use Rattle.wire_laws.specs.World.{World};
+ghost use Rattle.wire_laws.specs.Happened.{handed};
+ghost use Rattle.wire_laws.specs.Replies.{missing, no_receiver_at, replied, taken_by};
+ghost use Rattle.wire_world.specs.Stands.{AllStand, AllHear, AllTell, AllBy, unless_skipped};
+
+use crate::answers::{ordered, taken, ticked};
+use crate::stage::Stage;
+use fade_core::Fader;
+use desk_core::Command;
+use sacn_receiver::Receiver;
+use std::alloc::AllocError;
+use wire_laws::{Reply, Skip};
+
+pub(crate) fn order_at<F: Fader>(
+    stages: &mut [Stage<F>],
+    console: u16,
+    moment: u64,
+    command: Command,
+) -> Reply
+    ensures tell { AllTell Tells stages.old → AllTell Tells stages.new }
+    ensures reply { (w : World) (past : List EventData) → AllStand (StageStands F.stands_for) stages.old w past
+        → result ≡ option_map_or reply.Skipped (missing w past (Order console command)) (replied w past moment (Order console command)) }
+    ensures stands { (w : World) (past : List EventData) → AllStand (StageStands F.stands_for) stages.old w past
+        → AllStand (StageStands F.stands_for) stages.new w (unless_skipped (missing w past (Order console command)) (record { moment = moment; what = Order console command }) past) }
+{
+    let i = usize::from(console);
+    if i >= stages.len() {
+        return Reply::Skipped(Skip::NoConsole);
+    }
+    ordered(stages[i].order(moment, command))
+}
+
+pub(crate) fn tick_at<F: Fader>(
+    stages: &mut [Stage<F>],
+    console: u16,
+    moment: u64,
+) -> Result<Reply, AllocError>
+    requires real { (w : World) × (past : List EventData)
+        × AllStand (StageStands F.stands_for) stages.old w past }
+    ensures tell { OnOk result (AllTell Tells stages.old → AllTell Tells stages.new) }
+    ensures reply { IfOk result (λ r. (w : World) (past : List EventData) → AllStand (StageStands F.stands_for) stages.old w past
+        → r ≡ option_map_or reply.Skipped (missing w past (Tick console)) (replied w past moment (Tick console))) }
+    ensures stands { OnOk result ((w : World) (past : List EventData) → AllStand (StageStands F.stands_for) stages.old w past
+        → AllStand (StageStands F.stands_for) stages.new w (unless_skipped (missing w past (Tick console)) (record { moment = moment; what = Tick console }) past)) }
+{
+    let i = usize::from(console);
+    if i >= stages.len() {
+        return Ok(Reply::Skipped(Skip::NoConsole));
+    }
+    let stage = &mut stages[i];
+    let answer = stage.tick(moment);
+    if stage.is_full() {
+        return Err(AllocError);
+    }
+    Ok(ticked(answer))
+}
+
+// A datagram reaches a receiver.
+pub(crate) fn hear_at(
+    receivers: &mut [Receiver],
+    receiver: u16,
+    moment: u64,
+    bytes: &[u8],
+) -> Reply
+    ensures reply { (w : World) (past : List EventData) → AllHear receivers.old w past
+        → result ≡ option_map_or reply.Skipped (no_receiver_at w receiver) (taken_by w receiver past moment bytes.now) }
+    ensures hear { (w : World) (past : List EventData) (e : EventData) → AllHear receivers.old w past → e.moment ≡ moment
+        → ((r : ℕ) → handed w r past e.what ≡ (if receiver == r then Some bytes.now else None))
+        → AllHear receivers.new w (unless_skipped (no_receiver_at w receiver) e past) }
+{
+    let r = usize::from(receiver);
+    if r >= receivers.len() {
+        return Reply::Skipped(Skip::NoReceiver);
+    }
+    taken(receivers[r].take(moment, bytes))
+}
+
+// The slots of a receiver.
+pub(crate) fn show_at(receivers: &[Receiver], receiver: u16, moment: u64) -> Reply
+    requires { AllBy receivers.now moment }
+    ensures { (w : World) (past : List EventData) → AllHear receivers.now w past
+        → result ≡ option_map_or reply.Skipped (missing w past (Show receiver)) (replied w past moment (Show receiver)) }
+{
+    let r = usize::from(receiver);
+    if r >= receivers.len() {
+        return Reply::Skipped(Skip::NoReceiver);
+    }
+    let mut slots = [0; 512];
+    receivers[r].slots(moment, &mut slots);
+    Reply::Shown(slots)
+}
+
+// A packet of a console reaches a receiver.
+pub(crate) fn deliver_at<F: Fader>(
+    stages: &[Stage<F>],
+    receivers: &mut [Receiver],
+    receiver: u16,
+    console: u16,
+    universe: u16,
+    k: u64,
+    moment: u64,
+) -> Reply
+    ensures reply { (w : World) (past : List EventData) → AllStand (StageStands F.stands_for) stages.now w past → AllTell Tells stages.now → AllHear receivers.old w past
+        → result ≡ option_map_or reply.Skipped (missing w past (Deliver receiver console universe k)) (replied w past moment (Deliver receiver console universe k)) }
+    ensures hear { (w : World) (past : List EventData) → AllStand (StageStands F.stands_for) stages.now w past → AllTell Tells stages.now → AllHear receivers.old w past
+        → AllHear receivers.new w (unless_skipped (missing w past (Deliver receiver console universe k)) (record { moment = moment; what = Deliver receiver console universe k }) past) }
+{
+    let i = usize::from(console);
+    if i >= stages.len() {
+        return Reply::Skipped(Skip::NoConsole);
+    }
+    if usize::from(receiver) >= receivers.len() {
+        return Reply::Skipped(Skip::NoReceiver);
+    }
+    match stages[i].datagram(universe, k) {
+        None => Reply::Skipped(Skip::NotSent),
+        Some(bytes) => hear_at(receivers, receiver, moment, bytes),
+    }
+}
