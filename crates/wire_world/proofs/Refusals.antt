@@ -120,14 +120,3 @@ is_world shows setups universes strays f who = λ i h.
   where
     blank : Setup
     blank = record { show = 0; base = 0; identity = no_console.source }
-
--- what is answered
-pub refused : {X Y : Type 0} (r : Result Y Fault) (e : Fault) (o : Option Fault) → r ≡ Err e
-    → result_err r ≡ o → Answers {X} o (Err e)
-refused r e None h f = absurd (let z : Some e ≡ None = sym (ap result_err h) ∙ f in cc)
-refused r e (Some x) h f = let z : Some e ≡ Some x = sym (ap result_err h) ∙ f in
-    (let k : e ≡ x = cc in ap Err k)
-
-pub passed : {X Y : Type 0} (r : Result Y Fault) (y : Y) (o : Option Fault) → r ≡ Ok y
-    → result_err r ≡ o → o ≡ None
-passed r y o h f = sym f ∙ ap result_err h
