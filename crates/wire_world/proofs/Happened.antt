@@ -1,6 +1,6 @@
 -- One event, in plain variables.
 use Rattle.console.specs.Streams.{Production}
-use Rattle.std.proofs.Common.{◌≡◌, ℕ, ◌<◌, ◌≤◌, ◌^◌, Bool, true, false, refl, ap, sym, subst, ◌∙◌, List, [], ◌∷◌, Option, Some, None, Result, Ok, Err, arith}
+use Rattle.std.proofs.Common.{◌≡◌, ℕ, ◌<◌, ◌≤◌, ◌^◌, true, false, refl, ap, sym, subst, ◌∙◌, List, Option, Some, None, Result, Ok, Err, arith}
 use Rattle.std.specs.Prelude.{if◌then◌else◌, nat_lt, nat_le, is_some}
 use Rattle.std.specs.Option.{option_map_or}
 use Rattle.std.proofs.lemmas.Bool.Decides.{nat_tests}
@@ -17,7 +17,7 @@ use Rattle.wire_laws.specs.declared.reply.Skip.TheVariants.{Backwards, TooLarge}
 use Rattle.wire_laws.specs.declared.reply.Reply.{Reply}
 use Rattle.wire_laws.specs.declared.reply.Reply.TheVariants as reply
 use Rattle.wire_laws.specs.World.{World}
-use Rattle.wire_laws.specs.Replies.{last_moment, missing, skipped, done_one, taken_reply, replied, reply_to}
+use Rattle.wire_laws.specs.Replies.{last_moment, missing, skipped, done_one, taken_reply, replied}
 use Rattle.wire_world.specs.Stands.{AllStand, AllHear, AllTell, AllAre, IsStep, is_skip, unless_skipped}
 
 not_before : (m n : ℕ) → n ≤ m → nat_lt m n ≡ false
@@ -60,10 +60,10 @@ module _ {S : Type 0} (st : S → Production → List Act → Type 0) (tells : S
   -- an event that is skipped
   pub step_skipped : (s : Skip) (last : ℕ) → skipped w past e ≡ Some s → last ≡ last_moment past → AllAre st tells stages receivers w past → IsStep st tells stages receivers last (reply.Skipped s) w past e
   step_skipped s last k l are = record {
-      replied = sym (ap (λ o. option_map_or reply.Skipped o (replied w past e.moment e.what)) k);
-      last_is = l ∙ ap last_moment (sym same);
-      are = subst (AllAre st tells stages receivers w) (sym same) are;
-    }
+    replied = sym (ap (λ o. option_map_or reply.Skipped o (replied w past e.moment e.what)) k);
+    last_is = l ∙ ap last_moment (sym same);
+    are = subst (AllAre st tells stages receivers w) (sym same) are;
+  }
     where
       same : done_one w past e ≡ past
       same = ap (λ o. unless_skipped o e past) k
@@ -82,13 +82,14 @@ module _ {S : Type 0} (st : S → Production → List Act → Type 0) (tells : S
       → AllStand st stages w (unless_skipped (missing w past e.what) e past) → AllTell tells stages → AllHear receivers w (unless_skipped (missing w past e.what) e past)
       → IsStep st tells stages receivers last r w past e
   step_done r was last k l is n stand tell hear = record {
-      replied = is ∙ ap (λ o. option_map_or reply.Skipped o (replied w past e.moment e.what)) (sym k);
-      last_is = n ∙ ap (λ b. if b then was else e.moment) (ap is_skip is ∙ skip_is (missing w past e.what) (replied w past e.moment e.what) (no_skip w past e.moment e.what)) ∙ ap (λ x. if is_some (missing w past e.what) then x else e.moment) l ∙ go (missing w past e.what) ∙ ap last_moment (sym same);
-      are = subst (AllAre st tells stages receivers w) (sym same) (record { stand = stand; tell = tell; hear = hear });
-    }
+    replied = is ∙ ap (λ o. option_map_or reply.Skipped o (replied w past e.moment e.what)) (sym k);
+    last_is = n ∙ ap (λ b. if b then was else e.moment) (ap is_skip is ∙ skip_is (missing w past e.what) (replied w past e.moment e.what) (no_skip w past e.moment e.what)) ∙ ap (λ x. if is_some (missing w past e.what) then x else e.moment) l ∙ go (missing w past e.what) ∙ ap last_moment (sym same);
+    are = subst (AllAre st tells stages receivers w) (sym same) (record { stand = stand; tell = tell; hear = hear });
+  }
     where
       same : done_one w past e ≡ unless_skipped (missing w past e.what) e past
       same = ap (λ o. unless_skipped o e past) k
+
       go : (o : Option Skip) → (if is_some o then last_moment past else e.moment) ≡ last_moment (unless_skipped o e past)
       go None = refl
       go (Some s) = refl

@@ -1,7 +1,7 @@
 -- Where the packets of a universe stand among all.
-use Rattle.std.proofs.Common.{◌≡◌, ◌⊎◌, ℕ, zero, suc, ◌+◌, ◌<◌, ◌≤◌, Bool, true, false, refl, ap, sym, subst, ◌∙◌}
+use Rattle.std.proofs.Common.{◌≡◌, ℕ, zero, suc, ◌+◌, ◌<◌, ◌≤◌, Bool, true, false, refl, ap, sym, subst, ◌∙◌}
 use Rattle.std.proofs.Common.{List, [], ◌∷◌, ◌++◌, length, map, Option, Some, None, arith}
-use Rattle.std.specs.Prelude.{slice_get, filter, find, if◌then◌else◌, nat_eq}
+use Rattle.std.specs.Prelude.{slice_get, find, if◌then◌else◌, nat_eq}
 use Rattle.std.proofs.Common.{get_or, cond}
 use Rattle.std.specs.Prelude.{nat_lt, ◌==◌, slice_set, is_some, IfSome}
 use Rattle.std.specs.List.{position, position_or_len}
@@ -25,6 +25,7 @@ places_more u n [] row = go (nat_eq row.universe u)
   where
     z : n ≡ n + 0
     z = omega arith
+
     go : (b : Bool) → (if b then n ∷ [] else []) ≡ (if b then (n + 0) ∷ [] else [])
     go true = ap (λ k. k ∷ []) z
     go false = refl
@@ -33,6 +34,7 @@ places_more u n (r ∷ rows) row =
   where
     z : suc n + length rows ≡ n + suc (length rows)
     z = omega arith
+
     go : (a b : Bool)
         → places_in u (suc n) (rows ++ row ∷ [])
         ≡ (if b then places_in u (suc n) rows ++ (suc n + length rows) ∷ []
@@ -69,6 +71,7 @@ at_place u n k p (r ∷ rows) e =
       here = a.here;
       sent = simp b a.sent;
     }
+
     next : (k : ℕ) → nat_eq r.universe u ≡ true → IsAt u (suc n) k p rows → IsAt u n (suc k) p (r ∷ rows)
     next k b a = record {
       q = suc a.q;
@@ -77,8 +80,10 @@ at_place u n k p (r ∷ rows) e =
       here = a.here;
       sent = simp b a.sent;
     }
+
     first : nat_eq r.universe u ≡ true → n ≡ p → IsAt u n zero p (r ∷ rows)
     first b f = record { q = zero; place = omega (arith, f); row = r; here = refl; sent = simp b refl }
+
     go : (b : Bool) → nat_eq r.universe u ≡ b → (k : ℕ)
         → slice_get (if b then n ∷ places_in u (suc n) rows else places_in u (suc n) rows) k ≡ Some p
         → ((j : ℕ) → slice_get (places_in u (suc n) rows) j ≡ Some p → IsAt u (suc n) j p rows)
@@ -134,14 +139,18 @@ noted index u i place v was d new found is name rows = go (nat_eq u v) refl
   where
     at : (i ≡ position_or_len (λ (p : Places). p.universe == u) index) × (i < length index)
     at = found_by _ _ i (length index) refl found
+
     named : nat_eq (get_or index i d).universe u ≡ true
     named = ap (λ k. nat_eq (get_or index k d).universe u) at.0
         ∙ passes_at_first (λ (p : Places). p.universe == u) index d (omega (arith, at.0, at.1))
+
     here : find (λ (p : Places). p.universe == u) index ≡ Some was
     here = find_at (λ (p : Places). p.universe == u) index ∙ ap (slice_get index) (sym at.0)
         ∙ slice_get-get_or index i d at.1 ∙ ap Some (sym is)
+
     new_named : nat_eq new.universe u ≡ true
     new_named = ap (λ n. nat_eq n u) (name ∙ ap (λ (p : Places). p.universe) is) ∙ named
+
     go : (b : Bool) → nat_eq u v ≡ b → places_of (slice_set index i new) v
         ≡ (if b then places_of index v ++ place ∷ [] else places_of index v)
     go true q =
@@ -166,13 +175,16 @@ noted_new index u place v new missed name rows = go (nat_eq u v) refl
     none : find (λ (p : Places). p.universe == u) index ≡ None
     none = find_at (λ (p : Places). p.universe == u) index
         ∙ past_end index _ (missed_by _ _ (length index) refl missed)
+
     both : find (λ (p : Places). p.universe == v) (index ++ new ∷ [])
         ≡ option_or (find (λ (p : Places). p.universe == v) index)
         (find (λ (p : Places). p.universe == v) (new ∷ []))
     both = find-append (λ (p : Places). p.universe == v) index (new ∷ [])
+
     or_none : (o : Option Places) → option_or o None ≡ o
     or_none None = refl
     or_none (Some p) = refl
+
     go : (b : Bool) → nat_eq u v ≡ b → places_of (index ++ new ∷ []) v
         ≡ (if b then places_of index v ++ place ∷ [] else places_of index v)
     go true q =

@@ -1,12 +1,12 @@
 -- What a link keeps of a universe is its stream, packet by packet.
-use Rattle.std.proofs.Common.{◌≡◌, ℕ, zero, suc, ◌+◌, ◌-◌, ◌*◌, ◌%◌, ◌<◌, ◌≤◌, Bool, true, false, refl, ap, sym}
+use Rattle.std.proofs.Common.{◌≡◌, ℕ, zero, suc, ◌+◌, ◌-◌, ◌*◌, ◌%◌, ◌<◌, Bool, true, false, refl, ap, sym}
 use Rattle.std.proofs.Common.{subst, ◌∙◌, List, [], ◌∷◌, ◌++◌, length, map, take, drop, Option, Some, None}
-use Rattle.std.proofs.Common.{arith, append_assoc, append-nil, add-one, cond}
-use Rattle.std.specs.Prelude.{slice_get, filter, if◌then◌else◌, nat_eq, unwrap_or, is_some, slice_index_or, get_or, ◌≢◌, ◌||◌, Result, Ok, Err, MatchResult}
+use Rattle.std.proofs.Common.{arith, append-nil, add-one}
+use Rattle.std.specs.Prelude.{slice_get, if◌then◌else◌, nat_eq, unwrap_or, is_some, get_or, ◌≢◌, ◌||◌}
 use Rattle.std.specs.List.{list_any, range_with_len}
 use Rattle.std.specs.List.{AllPairs}
 use Rattle.std.specs.Option.{option_map, option_map_or}
-use Rattle.std.proofs.lemmas.Bool.{eqb-true, eq-eqb}
+use Rattle.std.proofs.lemmas.Bool.{eqb-true}
 use Rattle.std.proofs.lemmas.Bool.Decides.{nat_tests}
 use Rattle.std.proofs.lemmas.List.{length-map, length-take, length-drop}
 use Rattle.std.proofs.lemmas.List.FromFn.{length-range_with_len}
@@ -18,18 +18,17 @@ use Rattle.master_core.specs.Settings.{grand_after}
 use Rattle.desk_core.specs.declared.command.Command.{Command}
 use Rattle.desk_core.specs.declared.command.Command.TheVariants.{Go, Back, Goto, Sub, Group, Master, End}
 use Rattle.desk_core.specs.Played.{Act, order, tick, ended, ended_by, settings}
-use Rattle.desk_core.specs.Meaning.{dark, frame, channel_level, universe_numbers}
+use Rattle.desk_core.specs.Meaning.{dark, frame, channel_level}
 use Rattle.desk_core.proofs.Universes.{numbers_rise}
-use Rattle.sacn_packet.specs.Wire.{IsData}
 use Rattle.sacn_source.specs.declared.offered.Offered.{Offered}
 use Rattle.sacn_source.specs.declared.offered.Offered.TheVariants.{Sent, Quiet}
 use Rattle.sacn_source.specs.Identify.{IsStreamPacket}
 use Rattle.sacn_source.specs.Identity.{Identity}
 use Rattle.sacn_source.specs.Offering.{answer_of}
-use Rattle.sacn_source.specs.Stream.{Offer, Packet, due, sends, frames_sent, packets, live_packet, last_packet}
-use Rattle.console.specs.Offering.{AreOffered, Carries, Offers, none, quiet, sent}
+use Rattle.sacn_source.specs.Stream.{Packet, sends, frames_sent, packets, live_packet}
+use Rattle.console.specs.Offering.{AreOffered, Offers, none, quiet, sent}
 use Rattle.console.specs.Streams.{Production, Due, due_at, dues_at, offer_at, offered_by, offers_of}
-use Rattle.console.specs.Streams.{order_at, packet_due, terminations_of, tick_at, universes_of}
+use Rattle.console.specs.Streams.{order_at, packet_due, tick_at, universes_of}
 use Rattle.wire_laws.specs.World.{IsIdentity}
 use Rattle.wire_laws.specs.Datagrams.{packet_bytes}
 use Rattle.wire_laws.specs.Happened.{bytes_of, packets_of, plays, stream}
@@ -111,6 +110,7 @@ due_full p h m u = go (ended h)
     live : (b : Bool) → IsFull (if b then Some (live_packet (offer_at p u h m).frame) else None)
     live true = frame_full p.show h m (u - p.base)
     live false = tt
+
     go : (n : Option ℕ) → IsFull (packet_due n (offer_at p u h m ∷ offers_of p u h))
     go None = live (sends (offer_at p u h m ∷ offers_of p u h))
     go (Some n) = refl
@@ -131,6 +131,7 @@ ticked_more p h m u = go (ended h)
         ++ due_list (if b then Some (live_packet (offer_at p u h m).frame) else None)
     live true = map_more live_packet (frames_sent (offers_of p u h)) ((offer_at p u h m).frame ∷ [])
     live false = sym (append-nil _)
+
     go : (n : Option ℕ)
         → packets (offered_by tick n (offer_at p u h m) (offers_of p u h))
         (unwrap_or (ended_by tick n) 0)
@@ -257,6 +258,7 @@ unfailed_end rows before xs e = back before xs (subst AreUnfailed e (all rows))
     all : (rows : List Row) → AreUnfailed (map send_of rows)
     all [] = tt
     all (r ∷ rows) = (refl, all rows)
+
     back : (before xs : List Send) → AreUnfailed (before ++ xs) → AreUnfailed xs
     back [] xs h = h
     back (b ∷ before) xs h = back before xs h.1
@@ -313,6 +315,7 @@ due_added p h m u = go (plays p u)
   where
     z : (n : ℕ) → n ≡ 0 + n
     z n = omega arith
+
     go : (b : Bool)
         → (if b then numbered p.source u (due_at p h m u).place (due_list (due_at p h m u).packet) else [])
         ≡ numbered p.source u (0 + length (if b then stream p u h else []))

@@ -1,6 +1,6 @@
 -- One console more is open.
 use Rattle.console.specs.Streams.{Production}
-use Rattle.std.proofs.Common.{◌≡◌, ◌⊎◌, ℕ, zero, suc, ◌+◌, ◌<◌, ◌≤◌, refl, ap, sym, subst, ◌∙◌, List, [], ◌∷◌, ◌++◌, length, get_or, Option, Some, None, inl, inr, arith, length-append}
+use Rattle.std.proofs.Common.{◌≡◌, ◌⊎◌, ℕ, zero, suc, ◌+◌, ◌<◌, refl, ap, sym, subst, ◌∙◌, List, [], ◌∷◌, ◌++◌, length, get_or, Some, inl, inr, arith, length-append}
 use Rattle.std.specs.Prelude.{slice_get, slice_index, map}
 use Rattle.std.proofs.lemmas.Option.{get_or_from_slice_get, slice_get_within, slice_get-get_or}
 use Rattle.show_core.specs.Tables.{Tables}
@@ -21,12 +21,13 @@ pub opened_more : {S : Type 0} (st : S → Production → List Act → Type 0) (
     → Opened st tells stages shows setups i → slice_get setups i ≡ Some setup → slice_get shows setup.show ≡ Some t
     → st s (record { show = t; base = setup.base; source = setup.identity }) [] × tells s → Opened st tells (stages ++ s ∷ []) shows setups (i + 1)
 opened_more {S} st tells stages shows setups i s setup t all here show new = record {
-    long = omega (arith, length-append stages (s ∷ []), all.long);
-    each = λ j y d e f. go j y d f (get_push stages s y j e);
-  }
+  long = omega (arith, length-append stages (s ∷ []), all.long);
+  each = λ j y d e f. go j y d f (get_push stages s y j e);
+}
   where
     is : get_or shows setup.show no_console.show ≡ t
     is = get_or_from_slice_get shows setup.show t no_console.show show
+
     go : (j : ℕ) (y : S) (d : Setup) → slice_get setups j ≡ Some d → (slice_get stages j ≡ Some y) ⊎ ((j ≡ length stages) × (y ≡ s)) → st y (cast shows d) [] × tells y
     go j y d f (inl h) = all.each j y d h f
     go j y d f (inr h) =
@@ -39,9 +40,9 @@ opened_more {S} st tells stages shows setups i s setup t all here show new = rec
 
 pub listening_more : (receivers : List Kept) (universes : List ℕ) (i u : ℕ) (k : Kept) → Listening receivers universes i → u ≡ slice_index universes i → (k.universe ≡ u) → StandsFor k [] → Listening (receivers ++ k ∷ []) universes (i + 1)
 listening_more receivers universes i u k all is named new = record {
-    long = omega (arith, length-append receivers (k ∷ []), all.long);
-    each = λ r y e. go r y (get_push receivers k y r e);
-  }
+  long = omega (arith, length-append receivers (k ∷ []), all.long);
+  each = λ r y e. go r y (get_push receivers k y r e);
+}
   where
     go : (r : ℕ) (y : Kept) → (slice_get receivers r ≡ Some y) ⊎ ((r ≡ length receivers) × (y ≡ k)) → (y.universe ≡ slice_index universes r) × StandsFor y []
     go r y (inl h) = all.each r y h
@@ -54,13 +55,14 @@ listening_more receivers universes i u k all is named new = record {
 pub begun : {S : Type 0} (st : S → Production → List Act → Type 0) (tells : S → Type 0) (stages : List S) (receivers : List Kept) (shows : List Tables) (setups : List Setup) (universes strays : List ℕ)
     → Opened st tells stages shows setups (length setups) → Listening receivers universes (length universes) → AllAre st tells stages receivers (world_of shows setups universes strays) []
 begun {S} st tells stages receivers shows setups universes strays opened hear = record {
-    stand = record { each = opened.long ∙ sym (length-map setups (cast shows)); stand = λ i s e. (each i s e).0 };
-    tell = λ i s e. (each i s e).1;
-    hear = record { each = hear.long; universes = λ r k e. (hear.each r k e).0; stand = λ r k e. (hear.each r k e).1 };
-  }
+  stand = record { each = opened.long ∙ sym (length-map setups (cast shows)); stand = λ i s e. (each i s e).0 };
+  tell = λ i s e. (each i s e).1;
+  hear = record { each = hear.long; universes = λ r k e. (hear.each r k e).0; stand = λ r k e. (hear.each r k e).1 };
+}
   where
     blank : Setup
     blank = record { show = 0; base = 0; identity = no_console.source }
+
     each : (i : ℕ) (s : S) → slice_get stages i ≡ Some s → st s (get_or (map (cast shows) setups) i no_console) [] × tells s
     each i s e =
         let l : i < length setups = omega (arith, slice_get_within stages i s e, opened.long) in

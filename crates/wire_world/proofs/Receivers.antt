@@ -1,8 +1,8 @@
 -- One datagram at one of the receivers.
-use Rattle.std.proofs.Common.{◌≡◌, ◌⊎◌, ℕ, ◌+◌, ◌<◌, ◌≤◌, Bool, true, false, refl, ap, sym, subst, ◌∙◌, List, [], ◌∷◌, length, set, Option, Some, None, Result, Ok, Err, inl, inr, arith}
+use Rattle.std.proofs.Common.{◌≡◌, ◌⊎◌, ℕ, ◌<◌, ◌≤◌, true, false, refl, ap, sym, subst, ◌∙◌, List, ◌∷◌, length, set, Option, Some, None, Result, Ok, Err, inl, inr, arith}
 use Rattle.std.specs.Prelude.{if◌then◌else◌, slice_get, nat_eq, nat_lt, OnOk, OnErr}
 use Rattle.std.specs.Option.{option_map_or}
-use Rattle.std.proofs.lemmas.Bool.{eqb-true, eq-eqb}
+use Rattle.std.proofs.lemmas.Bool.{eq-eqb}
 use Rattle.std.proofs.lemmas.Bool.Decides.{nat_tests}
 use Rattle.std.proofs.lemmas.Option.{slice_get_within}
 use Rattle.std.proofs.Math.ListN.{length-set}
@@ -14,10 +14,9 @@ use Rattle.sacn_receiver.specs.Taking.{entry_of, ignored, taken_of, answer, hear
 use Rattle.sacn_receiver.specs.Kept.{Kept, StandsFor}
 use Rattle.wire_laws.specs.declared.event.Event.{Event}
 use Rattle.wire_laws.specs.declared.reply.Skip.{Skip}
-use Rattle.wire_laws.specs.declared.reply.Reply.{Reply}
 use Rattle.wire_laws.specs.declared.reply.Reply.TheVariants as reply
 use Rattle.wire_laws.specs.World.{World, universe_at}
-use Rattle.wire_laws.specs.Happened.{handed, hears, accepted_by}
+use Rattle.wire_laws.specs.Happened.{handed, accepted_by}
 use Rattle.wire_laws.specs.Replies.{last_moment, no_receiver_at, taken_reply, taken_by}
 use Rattle.wire_laws.proofs.Runs.{IsRun, last_accepted}
 use Rattle.wire_world.specs.Stands.{AllHear, AllBy, unless_skipped}
@@ -62,7 +61,7 @@ module _ (receivers : List Kept) (w : World) (past : List Event) (all : AllHear 
       subst P same (rw no_skip (ap taken_reply (e (accepted_by w k past) stood ∙ ap (λ u. answer 4 u (accepted_by w k past) t d) (all.universes k was at))))
 
   module _ (is : Kept) (t : ℕ) (d : List ℕ) (res : Result Taken Ignored) (e : (h : List source.Entry) → StandsFor was h → res ≡ answer 4 was.universe h t d)
-    (ok : OnOk res ((h : List source.Entry) → StandsFor was h → StandsFor is (entry_of t (front_packet d) ∷ h))) (un : OnErr res (is ≡ was)) (same : is.universe ≡ was.universe) where
+      (ok : OnOk res ((h : List source.Entry) → StandsFor was h → StandsFor is (entry_of t (front_packet d) ∷ h))) (un : OnErr res (is ≡ was)) (same : is.universe ≡ was.universe) where
     stands : StandsFor is (heard 4 (universe_at w k) (accepted_by w k past) t d)
     stands =
         subst (λ (u : ℕ). StandsFor is (heard 4 u (accepted_by w k past) t d)) (all.universes k was at)
@@ -80,6 +79,7 @@ module _ (receivers : List Kept) (w : World) (past : List Event) (all : AllHear 
         one : (r : ℕ) (y : Kept) → ((k ≡ r) × (y ≡ is)) ⊎ ((k ≡ r → ⊥) × (slice_get receivers r ≡ Some y)) → y.universe ≡ universe_at w r
         one r y (inl h) = ap (λ (z : Kept). z.universe) h.1 ∙ same ∙ all.universes k was at ∙ ap (universe_at w) h.0
         one r y (inr h) = all.universes r y h.1
+
         other : (r : ℕ) (y : Kept) → ((k ≡ r) × (y ≡ is)) ⊎ ((k ≡ r → ⊥) × (slice_get receivers r ≡ Some y)) → StandsFor y (accepted_by w r (x ∷ past))
         other r y (inl h) =
             let P : ℕ → Type 0 = λ r. StandsFor is (accepted_by w r (x ∷ past)) in

@@ -1,20 +1,22 @@
 -- The checks of a setup.
-use Rattle.std.proofs.Common.{◌≡◌, ℕ, zero, suc, ◌+◌, ◌<◌, ◌≤◌, Bool, true, false, not, ◌&&◌, refl, ap, sym, subst, ◌∙◌, List, [], ◌∷◌, length, map, drop, get_or, arith, Option, Some, None, Result, Ok, Err}
-use Rattle.std.specs.Prelude.{nat_le, nat_lt, ◌==◌, All, if◌then◌else◌, slice_get, slice_index_or, IsTrue, IfErr}
-use Rattle.std.specs.List.{list_all, list_any}
+use Rattle.std.proofs.Common.{◌≡◌, ℕ, zero, suc, ◌+◌, ◌<◌, ◌≤◌, Bool, true, false, not, ◌&&◌, refl, ap, sym, subst, ◌∙◌, List, [], ◌∷◌, length, drop, get_or, arith, Option, Some, None}
+use Rattle.std.specs.Prelude.{nat_le, nat_lt, All, if◌then◌else◌, slice_get}
+use Rattle.std.specs.List.{list_all}
 use Rattle.std.specs.Option.{option_map_or}
-use Rattle.std.specs.Result.{result_err}
 use Rattle.std.proofs.lemmas.Bool.Decides.{nat_tests}
 use Rattle.std.proofs.lemmas.List.{length-map, get_or-map}
 use Rattle.std.proofs.lemmas.Option.{get_or_from_slice_get}
 use Rattle.show_core.specs.Tables.{Tables}
 use Rattle.patch_core.specs.Frame.{is_base}
-use Rattle.wire_laws.specs.declared.fault.Fault.{Fault}
-use Rattle.wire_laws.specs.declared.fault.Fault.TheVariants.{Consoles, Receivers, NoShow, Universe, Memory}
+use Rattle.wire_laws.specs.declared.fault.Fault.TheVariants.{Consoles, Receivers, NoShow, Universe}
 use Rattle.wire_laws.specs.declared.setup.Setup.{Setup}
-use Rattle.wire_laws.specs.World.{World, IsConsole, IsIdentity, IsWorld, console_at, no_console}
-use Rattle.wire_world.specs.Refusing.{are_consoles, are_receivers, are_universes, is_new_at, has_base, has_show, setup_fault, Answers}
-use Rattle.wire_world.specs.Stands.{cast, world_of}
+use Rattle.wire_laws.specs.World.{IsConsole, IsIdentity, IsWorld, no_console}
+use Rattle.wire_world.specs.Refusing.{are_consoles, are_receivers, are_universes, is_new_at, has_base, has_show, setup_fault}
+use Rattle.wire_laws.specs.declared.event.Event.{Event}
+use Rattle.wire_laws.specs.declared.event.What.{What}
+use Rattle.wire_laws.specs.declared.event.What.TheVariants.{Order, Tick, Deliver, Stray, Show}
+use Rattle.wire_world.specs.Refusing.{are_within, is_within}
+use Rattle.wire_world.specs.Stands.{IsWithin, cast, world_of}
 
 drop_at : (xs : List ℕ) (i d : ℕ) → i < length xs → drop i xs ≡ get_or xs i d ∷ drop (i + 1) xs
 drop_at [] i d h = absurd (omega arith)
@@ -120,3 +122,18 @@ is_world shows setups universes strays f who = λ i h.
   where
     blank : Setup
     blank = record { show = 0; base = 0; identity = no_console.source }
+
+-- what a stray is within
+within_one : (size : ℕ) (x : What) → is_within size x ≡ true → IsWithin size x
+within_one size (Stray receiver from to) h =
+    let b = both (nat_le from to) (nat_le to size) h in
+    (le from to b.0, le to size b.1)
+within_one size (Order i c) h = tt
+within_one size (Tick i) h = tt
+within_one size (Deliver r i u k) h = tt
+within_one size (Show r) h = tt
+
+pub all_within : (size : ℕ) (events : List Event) → are_within size events ≡ true
+    → All (λ e. IsWithin size e.what) events
+all_within size events h = λ k d l. within_one size (get_or events k d).what
+    (all_at (λ (e : Event). is_within size e.what) events h k d l)

@@ -1,10 +1,10 @@
 -- One event at one of the consoles.
 use Rattle.console.specs.Streams.{Production}
-use Rattle.std.proofs.Common.{◌≡◌, ◌⊎◌, ℕ, zero, suc, ◌+◌, ◌<◌, ◌≤◌, Bool, true, false, refl, ap, sym, subst, ◌∙◌, List, [], ◌∷◌, length, set, take, get_or, ◌++◌, Option, Some, None, Result, Ok, Err, inl, inr, arith}
+use Rattle.std.proofs.Common.{◌≡◌, ◌⊎◌, ℕ, zero, suc, ◌<◌, ◌≤◌, Bool, true, false, refl, ap, sym, subst, ◌∙◌, List, [], ◌∷◌, length, set, get_or, Option, Some, None, Result, Ok, Err, inl, inr, arith}
 use Rattle.std.specs.Prelude.{if◌then◌else◌, slice_get, unwrap_or, nat_eq, nat_lt, OnOk, OnErr}
 use Rattle.std.specs.Option.{option_map, option_map_or}
 use Rattle.std.specs.Result.{result_err}
-use Rattle.std.proofs.lemmas.Bool.{eqb-true, eq-eqb}
+use Rattle.std.proofs.lemmas.Bool.{eq-eqb}
 use Rattle.std.proofs.lemmas.Bool.Decides.{nat_tests}
 use Rattle.std.proofs.lemmas.Option.{slice_get_within, slice_get-get_or}
 use Rattle.std.proofs.Math.ListN.{length-set}
@@ -12,11 +12,9 @@ use Rattle.desk_core.specs.declared.answer.Refused.{Refused}
 use Rattle.desk_core.specs.Played.{Call, Act, refusal, outcome}
 use Rattle.wire_laws.specs.declared.event.Event.{Event}
 use Rattle.wire_laws.specs.declared.reply.Skip.{Skip}
-use Rattle.wire_laws.specs.declared.reply.Skip.TheVariants.{NoConsole}
-use Rattle.wire_laws.specs.declared.reply.Reply.{Reply}
 use Rattle.wire_laws.specs.declared.reply.Reply.TheVariants as reply
 use Rattle.wire_laws.specs.World.{World, console_at}
-use Rattle.wire_laws.specs.Happened.{call_of, unless_refused, acted, acts}
+use Rattle.wire_laws.specs.Happened.{call_of, unless_refused, acts}
 use Rattle.sacn_source.specs.Stream.{Packet}
 use Rattle.sacn_receiver.specs.Kept.{Kept}
 use Rattle.wire_laws.specs.declared.event.What.TheVariants.{Deliver}
@@ -160,6 +158,7 @@ none_sent f ps k e = go (nat_lt k (length ps)) refl
   where
     is_lt : (m n : ℕ) → nat_lt m n ≡ true → m < n
     is_lt m n h = grind (arith, nat_tests)
+
     go : (b : Bool) → nat_lt k (length ps) ≡ b → b ≡ false
     go false q = refl
     go true q = absurd (let a : slice_get ps k ≡ Some (get_or ps k _) = slice_get-get_or ps k (record { ends = true; slots = [] }) (is_lt k (length ps) q) in let z : None ≡ Some (f (get_or ps k (record { ends = true; slots = [] }))) = e ∙ ap (option_map f) a in cc)

@@ -1,20 +1,18 @@
 -- A tick of a console with its link.
-use Rattle.std.proofs.Common.{◌≡◌, ℕ, refl, ap, sym, subst, ◌∙◌, List, ◌∷◌, Option, Some, None, Result, Ok, Err, map, false}
+use Rattle.std.proofs.Common.{◌≡◌, ℕ, refl, ap, List, ◌∷◌, Option, Some, None, Result, Ok, Err}
 use Rattle.std.specs.Prelude.{IfOk, OnOk, MatchResult}
-use Rattle.devices.specs.Send.{Send}
 use Rattle.fade_core.specs.Level.{Start}
 use Rattle.desk_core.specs.declared.answer.Refused.{Refused}
 use Rattle.desk_core.specs.declared.answer.Ticked.{Ticked}
-use Rattle.desk_core.specs.Played.{Act, ended, outcome, refusal, ticked}
+use Rattle.desk_core.specs.Played.{Act, outcome}
 use Rattle.sacn_source.specs.declared.offered.Offered.{Offered}
 use Rattle.console.specs.Offering.{Offers}
 use Rattle.console.specs.Stands.{StandsFor}
-use Rattle.console.specs.Streams.{Production, dues_at, order_at, tick_at}
-use Rattle.wire_laws.specs.Replies.{due_answer}
+use Rattle.console.specs.Streams.{Production, dues_at, tick_at}
 use Rattle.wire_world.specs.declared.stage.Stage.{Stage}
-use Rattle.wire_world.specs.Sends.{sends_of, send_of}
+use Rattle.wire_world.specs.Sends.{sends_of}
 use Rattle.wire_world.specs.StageStands.{StageStands, Tells}
-use Rattle.wire_world.proofs.Linked.{kept_ticked, answers_ticked}
+use Rattle.wire_world.proofs.Linked.{kept_ticked}
 
 -- the answer, from its parts
 pub answer_is : (r : Result (Ticked × List (ℕ × Offered)) Refused) (o : Option Refused) (t : Ticked)

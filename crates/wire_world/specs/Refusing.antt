@@ -1,10 +1,13 @@
 -- Why nothing is rehearsed: the first reason that applies.
-use Rattle.std.specs.Prelude.{◌≡◌, ℕ, ◌<◌, ◌≤◌, ◌==◌, Bool, not, ◌&&◌, List, [], ◌∷◌, length, nat_lt, nat_le}
+use Rattle.std.specs.Prelude.{◌≡◌, ℕ, ◌==◌, Bool, not, ◌&&◌, List, [], ◌∷◌, length, nat_lt, nat_le}
 use Rattle.std.specs.Prelude.{if◌then◌else◌, slice_get, Option, Some, None, Result, Err, IfErr, true, false}
 use Rattle.std.specs.List.{list_all, list_any}
 use Rattle.std.specs.Option.{option_map_or}
 use Rattle.show_core.specs.Tables.{Tables}
 use Rattle.patch_core.specs.Frame.{is_base}
+use Rattle.wire_laws.specs.declared.event.Event.{Event}
+use Rattle.wire_laws.specs.declared.event.What.{What}
+use Rattle.wire_laws.specs.declared.event.What.TheVariants.{Stray}
 use Rattle.wire_laws.specs.declared.fault.Fault.{Fault}
 use Rattle.wire_laws.specs.declared.fault.Fault.TheVariants.{Consoles, Receivers, NoShow, Universe, Memory}
 use Rattle.wire_laws.specs.declared.setup.Setup.{Setup}
@@ -49,3 +52,12 @@ setup_fault shows setups universes =
 abbrev pub Answers : {X : Type 0} → Option Fault → Result X Fault → Type 0
 Answers (Some fault) result = result ≡ Err fault
 Answers None result = IfErr result (λ fault. fault ≡ Memory)
+
+-- the bytes of a stray lie within all strays
+abbrev pub is_within : ℕ → What → Bool
+is_within size (Stray receiver from to) = nat_le from to && nat_le to size
+is_within size _ = true
+
+-- so for each of the events
+abbrev pub are_within : ℕ → List Event → Bool
+are_within size events = list_all (λ event. is_within size event.what) events

@@ -2,7 +2,7 @@
 use Rattle.console.specs.Streams.{Production}
 use Rattle.show_core.specs.Tables.{Tables}
 use Rattle.wire_laws.specs.declared.setup.Setup.{Setup}
-use Rattle.std.specs.Prelude.{map, slice_index, slice_index_or, [], take, ◌<◌, Bool, true, false, ◌≡◌, ◌≤◌, ℕ, List, ◌∷◌, length, if◌then◌else◌, is_some, Option, Some, None, Result, Ok, Err, slice_get}
+use Rattle.std.specs.Prelude.{map, slice_index, slice_index_or, [], take, ◌<◌, Bool, true, false, ◌≡◌, ◌≤◌, ℕ, List, ◌∷◌, length, if◌then◌else◌, is_some, Option, Some, Result, Ok, Err, slice_get}
 use Rattle.desk_core.specs.declared.answer.Refused.{Refused}
 use Rattle.desk_core.specs.declared.answer.Ticked.{Ticked}
 use Rattle.desk_core.specs.Played.{Act}
@@ -10,7 +10,7 @@ use Rattle.sacn_source.specs.declared.offered.Offered.{Offered}
 use Rattle.sacn_receiver.specs.Kept.{Kept, StandsFor}
 use Rattle.wire_laws.specs.declared.event.Event.{Event}
 use Rattle.wire_laws.specs.declared.event.What.{What}
-use Rattle.wire_laws.specs.declared.event.What.TheVariants.{Order, Tick, Deliver, Stray, Show}
+use Rattle.wire_laws.specs.declared.event.What.TheVariants.{Stray}
 use Rattle.wire_laws.specs.declared.reply.Skip.{Skip}
 use Rattle.wire_laws.specs.declared.reply.Reply.{Reply}
 use Rattle.wire_laws.specs.declared.reply.Reply.TheVariants as reply

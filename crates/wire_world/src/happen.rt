@@ -8,8 +8,8 @@ ghost use Rattle.wire_laws.specs.Replies.{missing, replied};
 ghost use Rattle.wire_world.specs.Stands.{AllStand, AllHear, AllTell, AllBy, IsWithin, unless_skipped};
 
 use crate::stage::Stage;
-use fade_core::Fader;
 use crate::steps::{deliver_at, hear_at, order_at, show_at, tick_at};
+use fade_core::Fader;
 use sacn_receiver::Receiver;
 use std::alloc::AllocError;
 use wire_laws::{Reply, What};
@@ -45,9 +45,7 @@ pub(crate) fn happen<F: Fader>(
             console,
             universe,
             k,
-        } => Ok(deliver_at(
-            stages, receivers, receiver, console, universe, k, moment,
-        )),
+        } => Ok(deliver_at(stages, receivers, receiver, console, universe, k, moment)),
         What::Stray { receiver, from, to } => {
             let bytes = &strays[from as usize..to as usize];
             Ok(hear_at(receivers, receiver, moment, bytes))

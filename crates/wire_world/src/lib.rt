@@ -19,3 +19,6 @@ mod steps;
 
 pub use rehearsal::rehearse;
 pub use report::Report;
+
+#[cfg(test)]
+mod tests;

@@ -1,9 +1,9 @@
-ghost use Rattle.std.specs.Prelude.{◌≡◌, length, IfOk, All};
+ghost use Rattle.std.specs.Prelude.{◌≡◌, length, IfOk, All, IsTrue};
 ghost use Rattle.wire_laws.specs.World.{IsIdentity};
 ghost use Rattle.wire_laws.specs.Replies.{AreReplies, done, last_slots};
 ghost use Rattle.wire_laws.specs.Shows.{AnswersAlone, LastAreLawful, ShownAreLawful};
-ghost use Rattle.wire_world.specs.Refusing.{Answers, setup_fault};
-ghost use Rattle.wire_world.specs.Stands.{IsWithin, world_of};
+ghost use Rattle.wire_world.specs.Refusing.{Answers, are_within, setup_fault};
+ghost use Rattle.wire_world.specs.Stands.{world_of};
 
 use crate::perform::perform;
 use crate::report::Report;
@@ -29,7 +29,7 @@ pub fn rehearse<F: Fader>(
     events: &[Event],
     strays: &[u8],
 ) -> Result<Report, Fault>
-    requires within { All (λ e. IsWithin (length strays.now) e.what) events.now }
+    requires within { IsTrue (are_within (length strays.now) events.now) }
     ensures faults { Answers (setup_fault shows.now consoles.now receivers.now) result }
     ensures replies { IfOk result (λ report.
         AreReplies (world_of shows.now consoles.now receivers.now strays.now) events.now report.replies) }

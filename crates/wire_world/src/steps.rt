@@ -11,8 +11,8 @@ ghost use Rattle.wire_world.specs.Stands.{AllStand, AllHear, AllTell, AllBy, unl
 
 use crate::answers::{ordered, taken, ticked};
 use crate::stage::Stage;
-use fade_core::Fader;
 use desk_core::Command;
+use fade_core::Fader;
 use sacn_receiver::Receiver;
 use std::alloc::AllocError;
 use wire_laws::{Reply, Skip};
@@ -62,12 +62,7 @@ pub(crate) fn tick_at<F: Fader>(
 }
 
 // A datagram reaches a receiver.
-pub(crate) fn hear_at(
-    receivers: &mut [Receiver],
-    receiver: u16,
-    moment: u64,
-    bytes: &[u8],
-) -> Reply
+pub(crate) fn hear_at(receivers: &mut [Receiver], receiver: u16, moment: u64, bytes: &[u8]) -> Reply
     ensures reply { (w : World) (past : List EventData) → AllHear receivers.old w past
         → result ≡ option_map_or reply.Skipped (no_receiver_at w receiver) (taken_by w receiver past moment bytes.now) }
     ensures hear { (w : World) (past : List EventData) (e : EventData) → AllHear receivers.old w past → e.moment ≡ moment

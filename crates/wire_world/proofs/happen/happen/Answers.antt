@@ -1,4 +1,4 @@
-use Rattle.std.proofs.Common.{◌≡◌, ℕ, List, length, sym, ap, subst, ◌∙◌, refl, Some, None}
+use Rattle.std.proofs.Common.{◌≡◌, ℕ, List, sym, ap, subst, ◌∙◌, refl, Some, None}
 use Rattle.std.specs.Prelude.{if◌then◌else◌, nat_eq, slice_range}
 use Rattle.std.specs.Option.{option_map_or}
 use Rattle.wire_laws.specs.declared.event.What.{What}
@@ -7,8 +7,8 @@ use Rattle.wire_laws.specs.declared.event.What.TheVariants.{Order, Tick, Deliver
 use Rattle.wire_world.proofs.Receivers.{hear_same}
 use Rattle.wire_world.proofs.Stages.{stand_same}
 use Rattle.wire_laws.specs.Replies.{missing, replied, no_receiver_at, taken_by}
-use Rattle.wire_world.specs.Stands.{AllStand, AllHear, AllTell, AllBy, IsWithin, unless_skipped}
-use Rattle.wire_world.specs.StageStands.{StageStands, Tells}
+use Rattle.wire_world.specs.Stands.{AllStand, AllHear, unless_skipped}
+use Rattle.wire_world.specs.StageStands.{StageStands}
 use Rattle.wire_world.proofs.happen.happen.Goals as goal
 
 pub returns-in-Order-clause-stands : goal.returns-in-Order-clause-stands

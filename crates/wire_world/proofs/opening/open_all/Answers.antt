@@ -1,4 +1,4 @@
-use Rattle.std.proofs.Common.{◌≡◌, ℕ, ◌<◌, length, Some, sym, subst, refl}
+use Rattle.std.proofs.Common.{◌≡◌, ◌<◌, length, Some, sym, subst, refl}
 use Rattle.std.specs.Prelude.{slice_get}
 use Rattle.std.proofs.lemmas.Option.{slice_get_read}
 use Rattle.wire_laws.specs.declared.setup.Setup.{Setup}

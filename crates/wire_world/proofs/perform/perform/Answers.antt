@@ -1,16 +1,17 @@
-use Rattle.std.proofs.Common.{◌≡◌, ℕ, List, [], length, sym, subst, refl}
-use Rattle.wire_laws.specs.World.{World}
-use Rattle.wire_world.specs.Stands.{AllAre, world_of}
+use Rattle.std.proofs.Common.{refl}
+use Rattle.wire_world.specs.Stands.{world_of}
 use Rattle.wire_world.proofs.Openings.{begun}
 use Rattle.wire_world.proofs.Ticks.{if_ok}
 use Rattle.wire_world.specs.StageStands.{StageStands, Tells}
 use Rattle.wire_world.proofs.perform.perform.Goals as goal
 
 pub run-requires-clause-begun : goal.run-requires-clause-begun
-run-requires-clause-begun g c =
-    (world_of c.args.shows.now c.args.consoles.now c.args.receivers.now c.args.strays.now, refl,
-    rw (c.as_mut_slice.ensures.value, c.as_mut_slice-2.ensures.value)
-    (begun (StageStands g.F.Fader.stands_for) Tells c.in_ok-stages.stages.items c.in_ok-listeners.listeners.items c.args.shows.now c.args.consoles.now c.args.receivers.now c.args.strays.now c.in_ok-stages.ensures c.in_ok-listeners.ensures))
+run-requires-clause-begun g c = (
+  world_of c.args.shows.now c.args.consoles.now c.args.receivers.now c.args.strays.now,
+  refl,
+  rw (c.as_mut_slice.ensures.value, c.as_mut_slice-2.ensures.value)
+      (begun (StageStands g.F.Fader.stands_for) Tells c.in_ok-stages.stages.items c.in_ok-listeners.listeners.items c.args.shows.now c.args.consoles.now c.args.receivers.now c.args.strays.now c.in_ok-stages.ensures c.in_ok-listeners.ensures),
+)
 
 pub returns-clause-replies : goal.returns-clause-replies
 returns-clause-replies g c = if_ok c.run.result _ _

@@ -1,10 +1,11 @@
-use Rattle.std.proofs.Common.{◌≡◌, ℕ, List, ap, sym, subst, ◌∙◌}
+use Rattle.std.proofs.Common.{ap, sym, subst, ◌∙◌}
+use Rattle.std.proofs.Common.{length}
 use Rattle.std.specs.Result.{result_err}
 use Rattle.wire_laws.specs.World.{World}
 use Rattle.wire_laws.specs.Shows.{LastAreLawful}
 use Rattle.wire_laws.proofs.Lawful.{answers_alone, last_lawful, replies_lawful}
 use Rattle.wire_world.specs.Stands.{world_of}
-use Rattle.wire_world.proofs.Refusals.{fine, is_world, universes_there}
+use Rattle.wire_world.proofs.Refusals.{all_within, fine, is_world, universes_there}
 use Rattle.wire_world.proofs.rehearsal.rehearse.Goals as goal
 
 pub perform-requires-clause-universes : goal.perform-requires-clause-universes
@@ -39,3 +40,6 @@ returns-in-Ok-clause-independent g c = λ who.
     (fine c.args.shows.now c.args.consoles.now c.args.receivers.now
     (sym c.check.ensures ∙ ap result_err c.in_ok-check.was)) who)
     c.in-Ok.ensures.replies
+
+pub perform-requires-clause-within : goal.perform-requires-clause-within
+perform-requires-clause-within g c = all_within (length c.args.strays.now) c.args.events.now c.requires.within

@@ -1,9 +1,8 @@
-use Rattle.std.proofs.Common.{◌≡◌, ℕ, ◌<◌, ◌≤◌, ◌∙◌, length, take, sym, ap, subst, arith, List}
+use Rattle.std.proofs.Common.{◌≡◌, ◌<◌, ◌≤◌, ◌∙◌, length, take, ap, arith, List}
 use Rattle.std.proofs.lemmas.Option.{slice_get_within}
 use Rattle.wire_laws.specs.Replies.{done, last_slots}
 use Rattle.wire_laws.specs.declared.event.Event.{Event}
 use Rattle.std.proofs.lemmas.List.{take_all}
-use Rattle.wire_world.specs.Stands.{AllAre, Replayed}
 use Rattle.wire_world.proofs.Replays.{early, replayed_more}
 use Rattle.wire_world.specs.StageStands.{StageStands, Tells}
 use Rattle.wire_world.proofs.replay.run.Goals as goal

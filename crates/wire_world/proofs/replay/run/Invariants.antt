@@ -1,8 +1,5 @@
-use Rattle.std.proofs.Common.{◌≡◌, ℕ, ◌<◌, Some, length, take, []}
-use Rattle.std.specs.Prelude.{slice_get}
-use Rattle.wire_laws.specs.declared.event.Event.{Event}
+use Rattle.std.proofs.Common.{◌≡◌, []}
 use Rattle.wire_laws.specs.World.{World}
-use Rattle.wire_laws.specs.Replies.{last_moment, reply_to, done}
 use Rattle.wire_world.specs.Stands.{AllAre, Replayed}
 use Rattle.wire_world.specs.StageStands.{StageStands, Tells}
 use Rattle.wire_world.proofs.replay.run.Given as goal

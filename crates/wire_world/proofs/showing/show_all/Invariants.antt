@@ -1,4 +1,4 @@
-use Rattle.std.proofs.Common.{◌≡◌, ℕ, List, map}
+use Rattle.std.proofs.Common.{◌≡◌, List, map}
 use Rattle.std.specs.List.{range_with_len}
 use Rattle.sacn_receiver.specs.Shown.{shown_slots}
 use Rattle.wire_laws.specs.declared.event.Event.{Event}

@@ -1,4 +1,4 @@
-use Rattle.std.proofs.Common.{◌≡◌, ℕ, ap, sym, subst, ◌∙◌, refl, List, [], None, Some, Option}
+use Rattle.std.proofs.Common.{◌≡◌, ap, sym, subst, ◌∙◌, refl, None, Some, Option}
 use Rattle.std.specs.Prelude.{slice_get}
 use Rattle.std.specs.Option.{option_map, option_map_or}
 use Rattle.std.proofs.lemmas.Option.{slice_get-get_or}
@@ -6,12 +6,12 @@ use Rattle.wire_laws.specs.declared.event.Event.{Event}
 use Rattle.wire_laws.specs.declared.event.What.TheVariants.{Deliver}
 use Rattle.wire_laws.specs.declared.reply.Skip.{Skip}
 use Rattle.wire_laws.specs.declared.reply.Reply.TheVariants as reply
-use Rattle.wire_laws.specs.World.{World, console_at}
+use Rattle.wire_laws.specs.World.{console_at}
 use Rattle.wire_laws.specs.Happened.{acts, datagram}
 use Rattle.wire_laws.specs.Replies.{replied}
-use Rattle.wire_world.specs.Stands.{AllStand, AllHear, AllTell, unless_skipped}
-use Rattle.wire_world.proofs.Stages.{stood_at, not_sent, was_sent, delivered_replied, delivered_handed, delivered_skip, few_receivers}
-use Rattle.wire_world.specs.StageStands.{StageStands, Tells}
+use Rattle.wire_world.specs.Stands.{AllHear, unless_skipped}
+use Rattle.wire_world.proofs.Stages.{stood_at, not_sent, delivered_replied, delivered_handed, delivered_skip, few_receivers}
+use Rattle.wire_world.specs.StageStands.{StageStands}
 use Rattle.wire_world.proofs.steps.deliver_at.Goals as goal
 
 pub returns-in-None-clause-reply : goal.returns-in-None-clause-reply

@@ -1,10 +1,10 @@
-use Rattle.std.proofs.Common.{◌≡◌, ℕ, Some, None, List, map, false, refl, ap, sym, ◌∙◌}
+use Rattle.std.proofs.Common.{◌≡◌, ℕ, Some, None, List, map, ap, sym, ◌∙◌}
 use Rattle.std.specs.Prelude.{◌==◌, slice_get, find}
 use Rattle.std.specs.Option.{option_map}
 use Rattle.wire_world.specs.declared.row.Row.{Row}
 use Rattle.wire_world.specs.declared.row.Places.{Places}
 use Rattle.wire_world.specs.Sends.{Kept, send_of, sent_to}
-use Rattle.wire_world.specs.Indexed.{IsIndex, places_of}
+use Rattle.wire_world.specs.Indexed.{IsIndex}
 use Rattle.wire_world.proofs.Index.{rows_of, not_there, is_there, looked_up}
 use Rattle.wire_world.proofs.packets.Packets.packet.Goals as goal
 
@@ -26,7 +26,7 @@ returns-in_err-place c = λ told.
     let index : IsIndex c.self.inside.index.items c.self.inside.rows.items =
     c.self.invariant (ap (λ (k : Kept). k.full) c.self.view_is ∙ told) in
     let some : find (λ (p : Places). p.universe == c.args.universe) c.self.inside.index.items
-        ≡ Some c.in_ok-places.places.now =
+    ≡ Some c.in_ok-places.places.now =
     ap (find (λ (p : Places). p.universe == c.args.universe)) (sym c.as_slice.ensures.value)
     ∙ sym c.places_at.ensures ∙ ap (option_map (λ p. p.now)) c.in_ok-places.was in
     let got : slice_get c.in_ok-places.places.now.rows.items c.args.k ≡ None =
@@ -44,7 +44,7 @@ returns-in_err-row c = λ told.
     let index : IsIndex c.self.inside.index.items c.self.inside.rows.items =
     c.self.invariant (ap (λ (k : Kept). k.full) c.self.view_is ∙ told) in
     let some : find (λ (p : Places). p.universe == c.args.universe) c.self.inside.index.items
-        ≡ Some c.in_ok-places.places.now =
+    ≡ Some c.in_ok-places.places.now =
     ap (find (λ (p : Places). p.universe == c.args.universe)) (sym c.as_slice.ensures.value)
     ∙ sym c.places_at.ensures ∙ ap (option_map (λ p. p.now)) c.in_ok-places.was in
     let got : slice_get c.in_ok-places.places.now.rows.items c.args.k ≡ Some c.in_ok-place.place.now =
@@ -67,7 +67,7 @@ returns c = λ told.
     let index : IsIndex c.self.inside.index.items c.self.inside.rows.items =
     c.self.invariant (ap (λ (k : Kept). k.full) c.self.view_is ∙ told) in
     let some : find (λ (p : Places). p.universe == c.args.universe) c.self.inside.index.items
-        ≡ Some c.in_ok-places.places.now =
+    ≡ Some c.in_ok-places.places.now =
     ap (find (λ (p : Places). p.universe == c.args.universe)) (sym c.as_slice.ensures.value)
     ∙ sym c.places_at.ensures ∙ ap (option_map (λ p. p.now)) c.in_ok-places.was in
     let got : slice_get c.in_ok-places.places.now.rows.items c.args.k ≡ Some c.in_ok-place.place.now =

@@ -1,7 +1,3 @@
-use Rattle.std.proofs.Common.{◌≡◌, List}
-use Rattle.desk_core.specs.Played.{ended, refusal, ticked}
-use Rattle.console.specs.Streams.{dues_at, tick_at}
-use Rattle.wire_laws.specs.Replies.{due_answer}
 use Rattle.wire_world.specs.Sends.{sends_of}
 use Rattle.wire_world.proofs.Linked.{answers_ticked}
 use Rattle.wire_world.proofs.Ticks.{answer_is, if_ok, stands_ticked}
