@@ -1,6 +1,7 @@
 -- One event, in plain variables.
 use Rattle.console.specs.Streams.{Production}
-use Rattle.std.proofs.Common.{◌≡◌, ℕ, ◌<◌, ◌≤◌, ◌^◌, true, false, refl, ap, sym, subst, ◌∙◌, List, Option, Some, None, Result, Ok, Err, arith}
+use Rattle.std.proofs.Common.{◌≡◌, ℕ, ◌<◌, ◌≤◌, ◌^◌, true, false, refl, ap, sym, subst, ◌∙◌, List}
+use Rattle.std.proofs.Common.{Option, Some, None, Result, Ok, Err, arith}
 use Rattle.std.specs.Prelude.{if◌then◌else◌, nat_lt, nat_le, is_some}
 use Rattle.std.specs.Option.{option_map_or}
 use Rattle.std.proofs.lemmas.Bool.Decides.{nat_tests}
@@ -18,7 +19,8 @@ use Rattle.wire_laws.specs.declared.reply.Reply.{Reply}
 use Rattle.wire_laws.specs.declared.reply.Reply.TheVariants as reply
 use Rattle.wire_laws.specs.World.{World}
 use Rattle.wire_laws.specs.Replies.{last_moment, missing, skipped, done_one, taken_reply, replied}
-use Rattle.wire_world.specs.Stands.{AllStand, AllHear, AllTell, AllAre, IsStep, is_skip, unless_skipped}
+use Rattle.wire_world.specs.Stands.{AllStand, AllHear, AllTell, AllAre, IsStep, is_skip}
+use Rattle.wire_world.specs.Stands.{unless_skipped}
 
 not_before : (m n : ℕ) → n ≤ m → nat_lt m n ≡ false
 not_before m n h = grind (arith, nat_tests)
@@ -36,29 +38,39 @@ taken_no_skip : (r : Result Taken Ignored) → is_skip (taken_reply r) ≡ false
 taken_no_skip (Ok x) = refl
 taken_no_skip (Err x) = refl
 
-refused_no_skip : (o : Option Refused) (r : Reply) → is_skip r ≡ false → is_skip (option_map_or reply.Refused o r) ≡ false
+refused_no_skip : (o : Option Refused) (r : Reply) → is_skip r ≡ false
+    → is_skip (option_map_or reply.Refused o r) ≡ false
 refused_no_skip None r h = h
 refused_no_skip (Some x) r h = refl
 
-no_skip : (w : World) (past : List Event) (t : ℕ) (x : What) → is_skip (replied w past t x) ≡ false
+no_skip : (w : World) (past : List Event) (t : ℕ) (x : What)
+    → is_skip (replied w past t x) ≡ false
 no_skip w past t (Order i c) = refused_no_skip _ reply.Done refl
 no_skip w past t (Tick i) = refused_no_skip _ (reply.Ticked _ _) refl
 no_skip w past t (Deliver r i u k) = taken_no_skip _
 no_skip w past t (Stray r from to) = taken_no_skip _
 no_skip w past t (Show r) = refl
 
-skip_is : (o : Option Skip) (r : Reply) → is_skip r ≡ false → is_skip (option_map_or reply.Skipped o r) ≡ is_some o
+skip_is : (o : Option Skip) (r : Reply) → is_skip r ≡ false → is_skip
+    (option_map_or reply.Skipped o r) ≡ is_some o
 skip_is None r h = h
 skip_is (Some s) r h = refl
 
-module _ {S : Type 0} (st : S → Production → List Act → Type 0) (tells : S → Type 0) (stages : List S) (receivers : List Kept) (w : World) (past : List Event) (e : Event) where
-  pub timely : last_moment past ≤ e.moment → e.moment < 2 ^ 48 → skipped w past e ≡ missing w past e.what
+module _ {S : Type 0} (st : S → Production → List Act → Type 0) (tells : S
+    → Type 0) (stages : List S) (receivers : List Kept) (w : World) (past : List Event)
+    (e : Event) where
+  pub timely : last_moment past ≤ e.moment → e.moment < 2 ^ 48
+      → skipped w past e ≡ missing w past e.what
   timely a b =
-      ap (λ x. if x then Some Backwards else (if nat_le (2 ^ 48) e.moment then Some TooLarge else missing w past e.what)) (not_before e.moment (last_moment past) a)
-      ∙ ap (λ x. if x then Some TooLarge else missing w past e.what) (not_large (2 ^ 48) e.moment b)
+      ap (λ x. if x then Some Backwards else (if nat_le (2 ^ 48) e.moment then Some TooLarge
+      else missing w past e.what)) (not_before e.moment (last_moment past) a)
+      ∙ ap (λ x. if x then Some TooLarge else missing w past e.what) (not_large
+      (2 ^ 48) e.moment b)
 
   -- an event that is skipped
-  pub step_skipped : (s : Skip) (last : ℕ) → skipped w past e ≡ Some s → last ≡ last_moment past → AllAre st tells stages receivers w past → IsStep st tells stages receivers last (reply.Skipped s) w past e
+  pub step_skipped : (s : Skip) (last : ℕ) → skipped w past e ≡ Some s
+      → last ≡ last_moment past → AllAre st tells stages receivers w past
+      → IsStep st tells stages receivers last (reply.Skipped s) w past e
   step_skipped s last k l are = record {
     replied = sym (ap (λ o. option_map_or reply.Skipped o (replied w past e.moment e.what)) k);
     last_is = l ∙ ap last_moment (sym same);
@@ -69,27 +81,40 @@ module _ {S : Type 0} (st : S → Production → List Act → Type 0) (tells : S
       same = ap (λ o. unless_skipped o e past) k
 
   pub backwards : e.moment < last_moment past → skipped w past e ≡ Some Backwards
-  backwards h = ap (λ x. if x then Some Backwards else (if nat_le (2 ^ 48) e.moment then Some TooLarge else missing w past e.what)) (is_before e.moment (last_moment past) h)
+  backwards h = ap (λ x. if x then Some Backwards else (if nat_le (2 ^ 48) e.moment
+      then Some TooLarge else missing w past e.what)) (is_before e.moment (last_moment past) h)
 
-  pub too_large : last_moment past ≤ e.moment → 2 ^ 48 ≤ e.moment → skipped w past e ≡ Some TooLarge
+  pub too_large : last_moment past ≤ e.moment → 2 ^ 48 ≤ e.moment
+      → skipped w past e ≡ Some TooLarge
   too_large a b =
-      ap (λ x. if x then Some Backwards else (if nat_le (2 ^ 48) e.moment then Some TooLarge else missing w past e.what)) (not_before e.moment (last_moment past) a)
-      ∙ ap (λ x. if x then Some TooLarge else missing w past e.what) (is_large (2 ^ 48) e.moment b)
+      ap (λ x. if x then Some Backwards else (if nat_le (2 ^ 48) e.moment then Some TooLarge
+      else missing w past e.what)) (not_before e.moment (last_moment past) a)
+      ∙ ap (λ x. if x then Some TooLarge else missing w past e.what) (is_large
+      (2 ^ 48) e.moment b)
 
   -- one that happens
-  pub step_done : (r : Reply) (was last : ℕ) → skipped w past e ≡ missing w past e.what → was ≡ last_moment past → r ≡ option_map_or reply.Skipped (missing w past e.what) (replied w past e.moment e.what)
+  pub step_done : (r : Reply) (was last : ℕ) → skipped w past e ≡ missing w past e.what
+      → was ≡ last_moment past → r ≡ option_map_or reply.Skipped (missing w past e.what)
+      (replied w past e.moment e.what)
       → last ≡ (if is_skip r then was else e.moment)
-      → AllStand st stages w (unless_skipped (missing w past e.what) e past) → AllTell tells stages → AllHear receivers w (unless_skipped (missing w past e.what) e past)
+      → AllStand st stages w (unless_skipped (missing w past e.what) e past)
+      → AllTell tells stages → AllHear receivers w (unless_skipped (missing w past e.what) e past)
       → IsStep st tells stages receivers last r w past e
   step_done r was last k l is n stand tell hear = record {
-    replied = is ∙ ap (λ o. option_map_or reply.Skipped o (replied w past e.moment e.what)) (sym k);
-    last_is = n ∙ ap (λ b. if b then was else e.moment) (ap is_skip is ∙ skip_is (missing w past e.what) (replied w past e.moment e.what) (no_skip w past e.moment e.what)) ∙ ap (λ x. if is_some (missing w past e.what) then x else e.moment) l ∙ go (missing w past e.what) ∙ ap last_moment (sym same);
-    are = subst (AllAre st tells stages receivers w) (sym same) (record { stand = stand; tell = tell; hear = hear });
+    replied = is ∙ ap (λ o. option_map_or reply.Skipped o (replied w past e.moment e.what))
+        (sym k);
+    last_is = n ∙ ap (λ b. if b then was else e.moment) (ap is_skip is
+        ∙ skip_is (missing w past e.what) (replied w past e.moment e.what)
+        (no_skip w past e.moment e.what)) ∙ ap (λ x. if is_some (missing w past e.what)
+        then x else e.moment) l ∙ go (missing w past e.what) ∙ ap last_moment (sym same);
+    are = subst (AllAre st tells stages receivers w) (sym same)
+        (record { stand = stand; tell = tell; hear = hear });
   }
     where
       same : done_one w past e ≡ unless_skipped (missing w past e.what) e past
       same = ap (λ o. unless_skipped o e past) k
 
-      go : (o : Option Skip) → (if is_some o then last_moment past else e.moment) ≡ last_moment (unless_skipped o e past)
+      go : (o : Option Skip) → (if is_some o then last_moment past
+          else e.moment) ≡ last_moment (unless_skipped o e past)
       go None = refl
       go (Some s) = refl

@@ -1,5 +1,6 @@
 -- Where the packets of a universe stand among all.
-use Rattle.std.proofs.Common.{◌≡◌, ℕ, zero, suc, ◌+◌, ◌<◌, ◌≤◌, Bool, true, false, refl, ap, sym, subst, ◌∙◌}
+use Rattle.std.proofs.Common.{◌≡◌, ℕ, zero, suc, ◌+◌, ◌<◌, ◌≤◌, Bool, true, false, refl, ap, sym}
+use Rattle.std.proofs.Common.{subst, ◌∙◌}
 use Rattle.std.proofs.Common.{List, [], ◌∷◌, ◌++◌, length, map, Option, Some, None, arith}
 use Rattle.std.specs.Prelude.{slice_get, find, if◌then◌else◌, nat_eq}
 use Rattle.std.proofs.Common.{get_or, cond}
@@ -63,7 +64,8 @@ at_place u n k p [] e = cc
 at_place u n k p (r ∷ rows) e =
     go (nat_eq r.universe u) refl k e (λ j f. at_place u (suc n) j p rows f)
   where
-    later : (k : ℕ) → nat_eq r.universe u ≡ false → IsAt u (suc n) k p rows → IsAt u n k p (r ∷ rows)
+    later : (k : ℕ) → nat_eq r.universe u ≡ false → IsAt u (suc n) k p rows
+        → IsAt u n k p (r ∷ rows)
     later k b a = record {
       q = suc a.q;
       place = omega (arith, a.place);
@@ -72,7 +74,8 @@ at_place u n k p (r ∷ rows) e =
       sent = simp b a.sent;
     }
 
-    next : (k : ℕ) → nat_eq r.universe u ≡ true → IsAt u (suc n) k p rows → IsAt u n (suc k) p (r ∷ rows)
+    next : (k : ℕ) → nat_eq r.universe u ≡ true → IsAt u (suc n) k p rows
+        → IsAt u n (suc k) p (r ∷ rows)
     next k b a = record {
       q = suc a.q;
       place = omega (arith, a.place);
@@ -82,10 +85,18 @@ at_place u n k p (r ∷ rows) e =
     }
 
     first : nat_eq r.universe u ≡ true → n ≡ p → IsAt u n zero p (r ∷ rows)
-    first b f = record { q = zero; place = omega (arith, f); row = r; here = refl; sent = simp b refl }
+    first b f = record {
+      q = zero;
+      place = omega
+          (arith, f);
+      row = r;
+      here = refl;
+      sent = simp b refl;
+    }
 
     go : (b : Bool) → nat_eq r.universe u ≡ b → (k : ℕ)
-        → slice_get (if b then n ∷ places_in u (suc n) rows else places_in u (suc n) rows) k ≡ Some p
+        → slice_get (if b then n ∷ places_in u (suc n) rows else places_in u
+        (suc n) rows) k ≡ Some p
         → ((j : ℕ) → slice_get (places_in u (suc n) rows) j ≡ Some p → IsAt u (suc n) j p rows)
         → IsAt u n k p (r ∷ rows)
     go true b zero e ih = first b (let f : n ≡ p = cc in f)
@@ -100,7 +111,8 @@ no_place u n k (r ∷ rows) e =
     go (nat_eq r.universe u) refl k e (λ j f. no_place u (suc n) j rows f)
   where
     go : (b : Bool) → nat_eq r.universe u ≡ b → (k : ℕ)
-        → slice_get (if b then n ∷ places_in u (suc n) rows else places_in u (suc n) rows) k ≡ None
+        → slice_get (if b then n ∷ places_in u (suc n) rows else places_in u
+        (suc n) rows) k ≡ None
         → ((j : ℕ) → slice_get (places_in u (suc n) rows) j ≡ None
         → slice_get (sent_to u (map send_of rows)) j ≡ None)
         → slice_get (sent_to u (map send_of (r ∷ rows))) k ≡ None
@@ -192,7 +204,8 @@ noted_new index u place v new missed name rows = go (nat_eq u v) refl
         simp (ap (λ n. nat_eq n v) name ∙ q) refl in
         let was : find (λ (p : Places). p.universe == v) index ≡ None =
         subst (λ n. find (λ (p : Places). p.universe == n) index ≡ None) (eqb-true u v q) none in
-        ap rows_of (both ∙ ap (λ o. option_or o (find (λ (p : Places). p.universe == v) (new ∷ []))) was
+        ap rows_of (both ∙ ap (λ o. option_or o (find (λ (p : Places). p.universe == v)
+        (new ∷ []))) was
         ∙ one) ∙ rows ∙ sym (ap (λ o. rows_of o ++ place ∷ []) was)
     go false q =
         let one : find (λ (p : Places). p.universe == v) (new ∷ []) ≡ None =
@@ -208,7 +221,8 @@ pub index_more : (index new : List Places) (rows : List Row) (row : Row)
 index_more index new rows row more is u =
     let z : length rows ≡ 0 + length rows = omega arith in
     more u ∙ ap (λ l. if nat_eq row.universe u then l ++ length rows ∷ [] else l) (is u)
-    ∙ ap (λ n. if nat_eq row.universe u then places_in u 0 rows ++ n ∷ [] else places_in u 0 rows) z
+    ∙ ap (λ n. if nat_eq row.universe u then places_in u 0 rows ++ n ∷ []
+    else places_in u 0 rows) z
     ∙ sym (places_more u 0 rows row)
 
 -- ---- packet k of a universe

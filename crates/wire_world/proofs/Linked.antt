@@ -1,8 +1,11 @@
 -- What a link keeps of a universe is its stream, packet by packet.
-use Rattle.std.proofs.Common.{◌≡◌, ℕ, zero, suc, ◌+◌, ◌-◌, ◌*◌, ◌%◌, ◌<◌, Bool, true, false, refl, ap, sym}
-use Rattle.std.proofs.Common.{subst, ◌∙◌, List, [], ◌∷◌, ◌++◌, length, map, take, drop, Option, Some, None}
+use Rattle.std.proofs.Common.{◌≡◌, ℕ, zero, suc, ◌+◌, ◌-◌, ◌*◌, ◌%◌, ◌<◌, Bool, true, false, refl}
+use Rattle.std.proofs.Common.{ap, sym}
+use Rattle.std.proofs.Common.{subst, ◌∙◌, List, [], ◌∷◌, ◌++◌, length, map, take, drop, Option}
+use Rattle.std.proofs.Common.{Some, None}
 use Rattle.std.proofs.Common.{arith, append-nil, add-one}
-use Rattle.std.specs.Prelude.{slice_get, if◌then◌else◌, nat_eq, unwrap_or, is_some, get_or, ◌≢◌, ◌||◌}
+use Rattle.std.specs.Prelude.{slice_get, if◌then◌else◌, nat_eq, unwrap_or, is_some, get_or, ◌≢◌}
+use Rattle.std.specs.Prelude.{◌||◌}
 use Rattle.std.specs.List.{list_any, range_with_len}
 use Rattle.std.specs.List.{AllPairs}
 use Rattle.std.specs.Option.{option_map, option_map_or}
@@ -16,7 +19,8 @@ use Rattle.devices.specs.Send.{Send}
 use Rattle.patch_core.specs.Frame.{dimmer_slot}
 use Rattle.master_core.specs.Settings.{grand_after}
 use Rattle.desk_core.specs.declared.command.Command.{Command}
-use Rattle.desk_core.specs.declared.command.Command.TheVariants.{Go, Back, Goto, Sub, Group, Master, End}
+use Rattle.desk_core.specs.declared.command.Command.TheVariants.{Go, Back, Goto, Sub, Group}
+use Rattle.desk_core.specs.declared.command.Command.TheVariants.{Master, End}
 use Rattle.desk_core.specs.Played.{Act, order, tick, ended, ended_by, settings}
 use Rattle.desk_core.specs.Meaning.{dark, frame, channel_level}
 use Rattle.desk_core.proofs.Universes.{numbers_rise}
@@ -27,7 +31,8 @@ use Rattle.sacn_source.specs.Identity.{Identity}
 use Rattle.sacn_source.specs.Offering.{answer_of}
 use Rattle.sacn_source.specs.Stream.{Packet, sends, frames_sent, packets, live_packet}
 use Rattle.console.specs.Offering.{AreOffered, Offers, none, quiet, sent}
-use Rattle.console.specs.Streams.{Production, Due, due_at, dues_at, offer_at, offered_by, offers_of}
+use Rattle.console.specs.Streams.{Production, Due, due_at, dues_at, offer_at, offered_by}
+use Rattle.console.specs.Streams.{offers_of}
 use Rattle.console.specs.Streams.{order_at, packet_due, tick_at, universes_of}
 use Rattle.wire_laws.specs.World.{IsIdentity}
 use Rattle.wire_laws.specs.Datagrams.{packet_bytes}
@@ -55,7 +60,8 @@ who_is source u k p bytes full h = record {
 -- and has no other bytes
 pub carried : (source : Identity) (u k : ℕ) (p : Packet) (bytes : List ℕ) → length p.slots ≡ 512
     → IsStreamPacket source u k p bytes → bytes ≡ packet_bytes source u k p
-carried source u k p bytes full h = bytes_are source u k p bytes (who_is source u k p bytes full h) full
+carried source u k p bytes full h = bytes_are source u k p bytes
+    (who_is source u k p bytes full h) full
     h.universe_from_1 h.universe_to_63999 h
 
 -- packet k of a numbered stream
@@ -125,11 +131,13 @@ ticked_more : (p : Production) (h : List Act) (m u : ℕ)
 ticked_more p h m u = go (ended h)
   where
     live : (b : Bool)
-        → map live_packet (if b then frames_sent (offers_of p u h) ++ (offer_at p u h m).frame ∷ []
+        → map live_packet (if b then frames_sent (offers_of p u h) ++
+        (offer_at p u h m).frame ∷ []
         else frames_sent (offers_of p u h))
         ≡ map live_packet (frames_sent (offers_of p u h))
         ++ due_list (if b then Some (live_packet (offer_at p u h m).frame) else None)
-    live true = map_more live_packet (frames_sent (offers_of p u h)) ((offer_at p u h m).frame ∷ [])
+    live true = map_more live_packet (frames_sent (offers_of p u h))
+        ((offer_at p u h m).frame ∷ [])
     live false = sym (append-nil _)
 
     go : (n : Option ℕ)
@@ -182,7 +190,8 @@ sent_more : (u : ℕ) (xs ys : List Send) → sent_to u (xs ++ ys) ≡ sent_to u
 sent_more u [] ys = refl
 sent_more u (x ∷ xs) ys = go (nat_eq x.universe u) refl (sent_more u xs ys)
   where
-    go : (b : Bool) → nat_eq x.universe u ≡ b → sent_to u (xs ++ ys) ≡ sent_to u xs ++ sent_to u ys
+    go : (b : Bool) → nat_eq x.universe u ≡ b → sent_to u
+        (xs ++ ys) ≡ sent_to u xs ++ sent_to u ys
         → sent_to u (x ∷ (xs ++ ys)) ≡ sent_to u (x ∷ xs) ++ sent_to u ys
     go true q ih = simp q (ap (λ l. x.bytes ∷ l) ih)
     go false q ih = simp q ih
@@ -198,8 +207,10 @@ abbrev pub AreFull : List Due → Type 0
 AreFull [] = Unit {0}
 AreFull (d ∷ ds) = IsFull d.packet × AreFull ds
 
-one_sent : (source : Identity) (u : ℕ) (d : Due) (p : Packet) (x : Send) (xs : List Send) (ds : List Due)
-    → d.packet ≡ Some p → x.universe ≡ d.universe → x.bytes ≡ packet_bytes source d.universe d.place p
+one_sent : (source : Identity) (u : ℕ) (d : Due) (p : Packet) (x : Send) (xs : List Send)
+    (ds : List Due)
+    → d.packet ≡ Some p → x.universe ≡ d.universe
+    → x.bytes ≡ packet_bytes source d.universe d.place p
     → sent_to u xs ≡ due_bytes source ds u → sent_to u (x ∷ xs) ≡ due_bytes source (d ∷ ds) u
 one_sent source u d p x xs ds e f g ih = go (nat_eq d.universe u) refl
   where
@@ -225,7 +236,8 @@ none_sent source u d ds e = go (nat_eq d.universe u)
     go false = refl
 
 -- the sends of a tick to a universe are what is due on it
-pub sent_due : {source : Identity} (u : ℕ) {ds : List Due} {xs : List Send} {pairs : List (ℕ × Offered)}
+pub sent_due : {source : Identity} (u : ℕ) {ds : List Due} {xs : List Send} {pairs : List (ℕ
+    × Offered)}
     → AreFull ds → AreOffered source ds xs pairs → sent_to u xs ≡ due_bytes source ds u
 sent_due u full none = refl
 sent_due {source} u full (quiet d ds xs rest e h) =
@@ -240,7 +252,8 @@ abbrev pub AreUnfailed : List Send → Type 0
 AreUnfailed [] = Unit {0}
 AreUnfailed (x ∷ xs) = (x.failed ≡ false) × AreUnfailed xs
 
-pub answers_due : {source : Identity} {ds : List Due} {xs : List Send} {pairs : List (ℕ × Offered)}
+pub answers_due : {source : Identity} {ds : List Due} {xs : List Send} {pairs : List (ℕ
+    × Offered)}
     → AreUnfailed xs → AreOffered source ds xs pairs → pairs ≡ map due_answer ds
 answers_due ok none = refl
 answers_due ok (quiet d ds xs rest e h) =
@@ -248,7 +261,8 @@ answers_due ok (quiet d ds xs rest e h) =
     ∙ ap (λ l. due_answer d ∷ l) (answers_due ok h)
 answers_due ok (sent d p x ds xs rest c h) =
     ap (λ b. (d.universe, answer_of b d.place) ∷ rest) ok.0
-    ∙ ap (λ o. (d.universe, option_map_or (λ _. Sent (d.place % 256)) o Quiet) ∷ rest) (sym c.packet_is)
+    ∙ ap (λ o. (d.universe, option_map_or (λ _. Sent (d.place % 256)) o Quiet) ∷ rest)
+    (sym c.packet_is)
     ∙ ap (λ l. due_answer d ∷ l) (answers_due ok.1 h)
 
 pub unfailed_end : (rows : List Row) (before xs : List Send) → map send_of rows ≡ before ++ xs
@@ -265,7 +279,8 @@ unfailed_end rows before xs e = back before xs (subst AreUnfailed e (all rows))
 
 -- ---- universes differ, so what is due on one is its own
 
-dues_full : (p : Production) (h : List Act) (m : ℕ) (ns : List ℕ) → AreFull (map (due_at p h m) ns)
+dues_full : (p : Production) (h : List Act) (m : ℕ) (ns : List ℕ)
+    → AreFull (map (due_at p h m) ns)
 dues_full p h m [] = tt
 dues_full p h m (n ∷ ns) = (due_full p h m n, dues_full p h m ns)
 
@@ -273,7 +288,8 @@ neq_false : (a b : ℕ) → a ≢ b → nat_eq a b ≡ false
 neq_false a b h = grind (arith, nat_tests)
 
 none_due : (source : Identity) (p : Production) (h : List Act) (m u : ℕ) (ns : List ℕ)
-    → ((k : ℕ) → k < length ns → get_or ns k 0 ≢ u) → due_bytes source (map (due_at p h m) ns) u ≡ []
+    → ((k : ℕ) → k < length ns → get_or ns k 0 ≢ u) → due_bytes source (map
+    (due_at p h m) ns) u ≡ []
 none_due source p h m u [] apart = refl
 none_due source p h m u (n ∷ ns) apart =
     let q : nat_eq n u ≡ false = neq_false n u (apart 0 (omega arith)) in
@@ -286,14 +302,16 @@ own_due : (source : Identity) (p : Production) (h : List Act) (m u : ℕ) (ns : 
     then numbered source u (due_at p h m u).place (due_list (due_at p h m u).packet) else [])
 own_due source p h m u [] rises = refl
 own_due source p h m u (n ∷ ns) rises = go (nat_eq n u) refl
-    (own_due source p h m u ns (λ i j d a b. rises (suc i) (suc j) d (omega (arith, a)) (omega (arith, b))))
+    (own_due source p h m u ns (λ i j d a b. rises (suc i) (suc j) d (omega (arith, a)) (omega
+    (arith, b))))
   where
     go : (b : Bool) → nat_eq n u ≡ b
         → due_bytes source (map (due_at p h m) ns) u
         ≡ (if list_any (λ n. nat_eq n u) ns
         then numbered source u (due_at p h m u).place (due_list (due_at p h m u).packet) else [])
         → (if b then numbered source u (due_at p h m n).place (due_list (due_at p h m n).packet)
-        ++ due_bytes source (map (due_at p h m) ns) u else due_bytes source (map (due_at p h m) ns) u)
+        ++ due_bytes source (map (due_at p h m) ns) u else due_bytes source (map
+        (due_at p h m) ns) u)
         ≡ (if b || list_any (λ n. nat_eq n u) ns
         then numbered source u (due_at p h m u).place (due_list (due_at p h m u).packet) else [])
     go true q ih =
@@ -302,9 +320,11 @@ own_due source p h m u (n ∷ ns) rises = go (nat_eq n u) refl
         none_due source p h m u ns (λ k l e.
         let lt : n < get_or ns k 0 = rises 0 (suc k) 0 (omega arith) (omega (arith, l)) in
         omega (arith, lt, same, e)) in
-        ap (λ l. numbered source u (due_at p h m n).place (due_list (due_at p h m n).packet) ++ l) rest
+        ap (λ l. numbered source u (due_at p h m n).place (due_list
+        (due_at p h m n).packet) ++ l) rest
         ∙ append-nil _
-        ∙ ap (λ k. numbered source u (due_at p h m k).place (due_list (due_at p h m k).packet)) same
+        ∙ ap (λ k. numbered source u (due_at p h m k).place (due_list
+        (due_at p h m k).packet)) same
     go false q ih = ih
 
 due_added : (p : Production) (h : List Act) (m u : ℕ)
@@ -317,7 +337,8 @@ due_added p h m u = go (plays p u)
     z n = omega arith
 
     go : (b : Bool)
-        → (if b then numbered p.source u (due_at p h m u).place (due_list (due_at p h m u).packet) else [])
+        → (if b then numbered p.source u (due_at p h m u).place (due_list
+        (due_at p h m u).packet) else [])
         ≡ numbered p.source u (0 + length (if b then stream p u h else []))
         (if b then due_list (due_at p h m u).packet else [])
     go true = ap (λ n. numbered p.source u n (due_list (due_at p h m u).packet)) (z _)
@@ -328,7 +349,8 @@ pub kept_ticked : (p : Production) (h : List Act) (m : ℕ) (before after : List
     (pairs : List (ℕ × Offered)) → Offers p.source (dues_at p h m) pairs before after
     → ((u : ℕ) → sent_to u before ≡ numbered p.source u 0 (packets_of p h u))
     → (u : ℕ) → sent_to u after ≡ numbered p.source u 0 (packets_of p (tick_at m ∷ h) u)
-kept_ticked p h m before after pairs o old u = ap (sent_to u) o.after_is ∙ sent_more u before o.sends
+kept_ticked p h m before after pairs o old u = ap (sent_to u) o.after_is
+    ∙ sent_more u before o.sends
     ∙ ap (λ l. l ++ sent_to u o.sends) (old u)
     ∙ ap (λ l. numbered p.source u 0 (packets_of p h u) ++ l)
     (sent_due u (dues_full p h m (universes_of p)) o.are_offered
@@ -339,7 +361,8 @@ kept_ticked p h m before after pairs o old u = ap (sent_to u) o.after_is ∙ sen
     ∙ ap (numbered p.source u 0) (sym (sent_added p h m u))
 
 -- and its answers are the numbers of what is due
-pub answers_ticked : (p : Production) (h : List Act) (m : ℕ) (rows : List Row) (before : List Send)
+pub answers_ticked : (p : Production) (h : List Act) (m : ℕ) (rows : List Row)
+    (before : List Send)
     (pairs : List (ℕ × Offered)) → Offers p.source (dues_at p h m) pairs before (map send_of rows)
     → pairs ≡ map due_answer (dues_at p h m)
 answers_ticked p h m rows before pairs o = answers_due
@@ -349,6 +372,7 @@ answers_ticked p h m rows before pairs o = answers_due
 pub datagram_is : (p : Production) (h : List Act) (u k : ℕ) (xs : List Send)
     → sent_to u xs ≡ numbered p.source u 0 (packets_of p h u)
     → slice_get (sent_to u xs) k ≡ bytes_of p h u k
-datagram_is p h u k xs e = ap (λ l. slice_get l k) e ∙ numbered_at p.source u 0 (packets_of p h u) k
+datagram_is p h u k xs e = ap (λ l. slice_get l k) e ∙ numbered_at p.source u 0
+    (packets_of p h u) k
     ∙ (let z : 0 + k ≡ k = omega arith in
     ap (λ n. option_map (packet_bytes p.source u n) (slice_get (packets_of p h u) k)) z)

@@ -1,5 +1,7 @@
 -- The checks of a setup.
-use Rattle.std.proofs.Common.{◌≡◌, ℕ, zero, suc, ◌+◌, ◌<◌, ◌≤◌, Bool, true, false, not, ◌&&◌, refl, ap, sym, subst, ◌∙◌, List, [], ◌∷◌, length, drop, get_or, arith, Option, Some, None}
+use Rattle.std.proofs.Common.{◌≡◌, ℕ, zero, suc, ◌+◌, ◌<◌, ◌≤◌, Bool, true, false, not, ◌&&◌}
+use Rattle.std.proofs.Common.{refl, ap, sym, subst, ◌∙◌, List, [], ◌∷◌, length, drop, get_or}
+use Rattle.std.proofs.Common.{arith, Option, Some, None}
 use Rattle.std.specs.Prelude.{nat_le, nat_lt, All, if◌then◌else◌, slice_get}
 use Rattle.std.specs.List.{list_all}
 use Rattle.std.specs.Option.{option_map_or}
@@ -8,10 +10,12 @@ use Rattle.std.proofs.lemmas.List.{length-map, get_or-map}
 use Rattle.std.proofs.lemmas.Option.{get_or_from_slice_get}
 use Rattle.show_core.specs.Tables.{Tables}
 use Rattle.patch_core.specs.Frame.{is_base}
-use Rattle.wire_laws.specs.declared.fault.Fault.TheVariants.{Consoles, Receivers, NoShow, Universe}
+use Rattle.wire_laws.specs.declared.fault.Fault.TheVariants.{Consoles, Receivers, NoShow}
+use Rattle.wire_laws.specs.declared.fault.Fault.TheVariants.{Universe}
 use Rattle.wire_laws.specs.declared.setup.Setup.{Setup}
 use Rattle.wire_laws.specs.World.{IsConsole, IsIdentity, IsWorld, no_console}
-use Rattle.wire_world.specs.Refusing.{are_consoles, are_receivers, are_universes, is_new_at, has_base, has_show, setup_fault}
+use Rattle.wire_world.specs.Refusing.{are_consoles, are_receivers, are_universes, is_new_at}
+use Rattle.wire_world.specs.Refusing.{has_base, has_show, setup_fault}
 use Rattle.wire_laws.specs.declared.event.Event.{Event}
 use Rattle.wire_laws.specs.declared.event.What.{What}
 use Rattle.wire_laws.specs.declared.event.What.TheVariants.{Order, Tick, Deliver, Stray, Show}
@@ -43,7 +47,8 @@ both true true h = (refl, refl)
 both true false h = cc
 both false b h = cc
 
-all_at : {X : Type 0} (p : X → Bool) (xs : List X) → list_all p xs ≡ true → (k : ℕ) (d : X) → k < length xs
+all_at : {X : Type 0} (p : X → Bool) (xs : List X) → list_all p xs ≡ true → (k : ℕ) (d : X)
+    → k < length xs
     → p (get_or xs k d) ≡ true
 all_at p [] a k d h = absurd (omega arith)
 all_at p (x ∷ xs) a zero d h = (both (p x) (list_all p xs) a).0
@@ -90,12 +95,14 @@ fine shows setups universes = go (are_consoles (length setups)) (are_receivers u
 
 pub shows_there : (shows : List Tables) (setups : List Setup) (universes : List ℕ)
     → IsFine shows setups universes → All (λ s. s.show < length shows) setups
-shows_there shows setups universes f = λ k d h. lt _ (length shows) (all_at (has_show shows) setups f.shown k d h)
+shows_there shows setups universes f = λ k d h. lt _ (length shows) (all_at
+    (has_show shows) setups f.shown k d h)
 
 pub universes_there : (shows : List Tables) (setups : List Setup) (universes : List ℕ)
     → IsFine shows setups universes → All (λ u. (1 ≤ u) × (u ≤ 63999)) universes
 universes_there shows setups universes f = λ k d h.
-    universe_at_place universes (both (nat_le (length universes) 8) (are_universes universes) f.receivers).1 k d h
+    universe_at_place universes (both (nat_le (length universes) 8)
+    (are_universes universes) f.receivers).1 k d h
 
 based_at : (shows : List Tables) (s : Setup) → has_base shows s ≡ true
     → is_base (cast shows s).show.patch s.base ≡ true
@@ -117,7 +124,8 @@ is_world shows setups universes strays f who = λ i h.
     subst IsConsole (sym (get_or-map (cast shows) setups i blank no_console l))
     (record {
       source_in = who i blank l;
-      base_in = based_at shows (get_or setups i blank) (all_at (has_base shows) setups f.based i blank l);
+      base_in = based_at shows (get_or setups i blank) (all_at
+          (has_base shows) setups f.based i blank l);
     })
   where
     blank : Setup

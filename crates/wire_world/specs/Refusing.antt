@@ -1,6 +1,8 @@
 -- Why nothing is rehearsed: the first reason that applies.
-use Rattle.std.specs.Prelude.{◌≡◌, ℕ, ◌==◌, Bool, not, ◌&&◌, List, [], ◌∷◌, length, nat_lt, nat_le}
-use Rattle.std.specs.Prelude.{if◌then◌else◌, slice_get, Option, Some, None, Result, Err, IfErr, true, false}
+use Rattle.std.specs.Prelude.{◌≡◌, ℕ, ◌==◌, Bool, not, ◌&&◌, List, [], ◌∷◌, length, nat_lt}
+use Rattle.std.specs.Prelude.{nat_le}
+use Rattle.std.specs.Prelude.{if◌then◌else◌, slice_get, Option, Some, None, Result, Err, IfErr}
+use Rattle.std.specs.Prelude.{true, false}
 use Rattle.std.specs.List.{list_all, list_any}
 use Rattle.std.specs.Option.{option_map_or}
 use Rattle.show_core.specs.Tables.{Tables}
@@ -9,7 +11,8 @@ use Rattle.wire_laws.specs.declared.event.Event.{Event}
 use Rattle.wire_laws.specs.declared.event.What.{What}
 use Rattle.wire_laws.specs.declared.event.What.TheVariants.{Stray}
 use Rattle.wire_laws.specs.declared.fault.Fault.{Fault}
-use Rattle.wire_laws.specs.declared.fault.Fault.TheVariants.{Consoles, Receivers, NoShow, Universe, Memory}
+use Rattle.wire_laws.specs.declared.fault.Fault.TheVariants.{Consoles, Receivers, NoShow}
+use Rattle.wire_laws.specs.declared.fault.Fault.TheVariants.{Universe, Memory}
 use Rattle.wire_laws.specs.declared.setup.Setup.{Setup}
 
 -- one to four consoles

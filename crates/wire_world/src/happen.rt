@@ -5,7 +5,8 @@ ghost use Rattle.wire_laws.specs.declared.event.Event.{Event as EventData};
 ghost use Rattle.wire_laws.specs.declared.reply.Reply.TheVariants as reply;
 ghost use Rattle.wire_laws.specs.World.{World};
 ghost use Rattle.wire_laws.specs.Replies.{missing, replied};
-ghost use Rattle.wire_world.specs.Stands.{AllStand, AllHear, AllTell, AllBy, IsWithin, unless_skipped};
+ghost use Rattle.wire_world.specs.Stands.{AllStand, AllHear, AllTell, AllBy, IsWithin};
+ghost use Rattle.wire_world.specs.Stands.{unless_skipped};
 
 use crate::stage::Stage;
 use crate::steps::{deliver_at, hear_at, order_at, show_at, tick_at};
@@ -27,12 +28,19 @@ pub(crate) fn happen<F: Fader>(
     requires early { AllBy receivers.old moment }
     requires within { IsWithin (length strays.now) what }
     ensures tell { OnOk result (AllTell Tells stages.old → AllTell Tells stages.new) }
-    ensures reply { IfOk result (λ r. (w : World) (past : List EventData) → w.strays ≡ strays.now → AllStand (StageStands F.stands_for) stages.old w past → AllTell Tells stages.old → AllHear receivers.old w past
+    ensures reply { IfOk result (λ r. (w : World) (past : List EventData)
+        → w.strays ≡ strays.now → AllStand (StageStands F.stands_for) stages.old w past
+        → AllTell Tells stages.old → AllHear receivers.old w past
         → r ≡ option_map_or reply.Skipped (missing w past what) (replied w past moment what)) }
-    ensures stands { OnOk result ((w : World) (past : List EventData) → AllStand (StageStands F.stands_for) stages.old w past
-        → AllStand (StageStands F.stands_for) stages.new w (unless_skipped (missing w past what) (record { moment = moment; what = what }) past)) }
-    ensures hear { OnOk result ((w : World) (past : List EventData) → w.strays ≡ strays.now → AllStand (StageStands F.stands_for) stages.old w past → AllTell Tells stages.old → AllHear receivers.old w past
-        → AllHear receivers.new w (unless_skipped (missing w past what) (record { moment = moment; what = what }) past)) }
+    ensures stands { OnOk result ((w : World) (past : List EventData)
+        → AllStand (StageStands F.stands_for) stages.old w past
+        → AllStand (StageStands F.stands_for) stages.new w (unless_skipped (missing w past what)
+        (record { moment = moment; what = what }) past)) }
+    ensures hear { OnOk result ((w : World) (past : List EventData) → w.strays ≡ strays.now
+        → AllStand (StageStands F.stands_for) stages.old w past → AllTell Tells stages.old
+        → AllHear receivers.old w past
+        → AllHear receivers.new w (unless_skipped (missing w past what)
+        (record { moment = moment; what = what }) past)) }
 {
     match what {
         What::Order(console, command) => Ok(order_at(stages, console, moment, command)),

@@ -15,7 +15,8 @@ pub(crate) fn open_all<F: Fader>(
     setups: &[Setup],
 ) -> Result<Vec<Stage<F>>, AllocError>
     requires { All (λ s. s.show < length shows.now) setups.now }
-    ensures { IfOk result (λ stages. Opened (StageStands F.stands_for) Tells stages.items shows.now setups.now (length setups.now)) }
+    ensures { IfOk result (λ stages. Opened
+        (StageStands F.stands_for) Tells stages.items shows.now setups.now (length setups.now)) }
 {
     let mut stages = Vec::new(alloc);
     for i in 0..setups.len() {
@@ -29,7 +30,8 @@ pub(crate) fn open_all<F: Fader>(
 // A console, where the universes of its show have numbers.
 fn open<F: Fader>(alloc: Global, show: &Show, setup: Setup) -> Result<Stage<F>, AllocError>
     ensures { IfOk result (λ stage. (StageStands F.stands_for) stage
-        (record { show = show.now; base = setup.base; source = setup.identity }) [] × Tells stage) }
+        (record { show = show.now; base = setup.base; source = setup.identity }) []
+        × Tells stage) }
 {
     match Stage::open(alloc, show, setup.base, setup.identity) {
         Ok(stage) => Ok(stage),

@@ -25,7 +25,8 @@ pub(crate) fn perform<F: Fader>(
     requires universes { All (λ u. (1 ≤ u) × (u ≤ 63999)) receivers.now }
     requires within { All (λ e. IsWithin (length strays.now) e.what) events.now }
     ensures replies { IfOk result (λ report.
-        AreReplies (world_of shows.now consoles.now receivers.now strays.now) events.now report.replies) }
+        AreReplies (world_of shows.now consoles.now receivers.now strays.now) events.now
+        report.replies) }
     ensures last { IfOk result (λ report. report.last
         ≡ last_slots (world_of shows.now consoles.now receivers.now strays.now)
         (done (world_of shows.now consoles.now receivers.now strays.now) events.now)) }

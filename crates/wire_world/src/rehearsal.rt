@@ -14,7 +14,8 @@ use std::alloc::{AllocError, Global};
 use wire_laws::{Event, Fault, Setup};
 
 /// Carries out the events, one after another, among one to four consoles, each with one of the
-/// shows, and at most eight receivers, each of a universe of its own, 1 to 63999. Loss is a packet
+/// shows, and at most eight receivers, each of a universe of its own, 1 to 63999. Loss is a
+// packet
 /// that no event delivers. Each Stray has `from <= to`, and `to` at most the length of `strays`.
 ///
 /// # Errors
@@ -32,17 +33,20 @@ pub fn rehearse<F: Fader>(
     requires within { IsTrue (are_within (length strays.now) events.now) }
     ensures faults { Answers (setup_fault shows.now consoles.now receivers.now) result }
     ensures replies { IfOk result (λ report.
-        AreReplies (world_of shows.now consoles.now receivers.now strays.now) events.now report.replies) }
+        AreReplies (world_of shows.now consoles.now receivers.now strays.now) events.now
+        report.replies) }
     ensures last { IfOk result (λ report. report.last
         ≡ last_slots (world_of shows.now consoles.now receivers.now strays.now)
         (done (world_of shows.now consoles.now receivers.now strays.now) events.now)) }
     ensures lawful { IfOk result (λ report. All (λ setup. IsIdentity setup.identity) consoles.now
         → ShownAreLawful (world_of shows.now consoles.now receivers.now strays.now) events.now
         report.replies) }
-    ensures lawful_last { IfOk result (λ report. All (λ setup. IsIdentity setup.identity) consoles.now
+    ensures lawful_last { IfOk result (λ report. All
+        (λ setup. IsIdentity setup.identity) consoles.now
         → LastAreLawful (world_of shows.now consoles.now receivers.now strays.now) events.now
         report.last) }
-    ensures independent { IfOk result (λ report. All (λ setup. IsIdentity setup.identity) consoles.now
+    ensures independent { IfOk result (λ report. All
+        (λ setup. IsIdentity setup.identity) consoles.now
         → AnswersAlone (world_of shows.now consoles.now receivers.now strays.now) events.now
         report.replies) }
 {

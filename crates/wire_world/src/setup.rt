@@ -1,6 +1,7 @@
 ghost use Rattle.std.specs.Prelude.{◌≡◌, ◌==◌};
 ghost use Rattle.std.specs.List.{list_all, list_any};
-ghost use Rattle.wire_world.specs.Refusing.{are_receivers, are_universes, is_new_at, has_base, has_show};
+ghost use Rattle.wire_world.specs.Refusing.{are_receivers, are_universes, is_new_at, has_base};
+ghost use Rattle.wire_world.specs.Refusing.{has_show};
 ghost use Rattle.wire_world.specs.Refusing.{setup_fault};
 ghost use Rattle.std.specs.Result.{result_err};
 

@@ -35,8 +35,11 @@ pub(crate) fn step<F: Fader>(
         × AllStand (StageStands F.stands_for) stages.old w past }
     requires early { AllBy receivers.old last.old }
     requires within { IsWithin (length strays.now) event.now.what }
-    ensures { IfOk result (λ r. (w : World) (past : List EventData) → w.strays ≡ strays.now → last.old ≡ last_moment past
-        → AllAre (StageStands F.stands_for) Tells stages.old receivers.old w past → IsStep (StageStands F.stands_for) Tells stages.new receivers.new last.new r w past event.now) }
+    ensures { IfOk result (λ r. (w : World) (past : List EventData) → w.strays ≡ strays.now
+        → last.old ≡ last_moment past
+        → AllAre (StageStands F.stands_for) Tells stages.old receivers.old w past
+        → IsStep (StageStands F.stands_for) Tells stages.new receivers.new last.new r w past
+        event.now) }
 {
     if event.moment < *last {
         return Ok(Reply::Skipped(Skip::Backwards));

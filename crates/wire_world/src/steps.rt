@@ -1,5 +1,6 @@
 ghost use Rattle.wire_world.specs.StageStands.{StageStands, Tells};
-ghost use Rattle.std.specs.Prelude.{◌≡◌, ◌≤◌, ◌==◌, ℕ, List, ◌∷◌, length, IfOk, OnOk, if◌then◌else◌, Option, Some, None};
+ghost use Rattle.std.specs.Prelude.{◌≡◌, ◌≤◌, ◌==◌, ℕ, List, ◌∷◌, length, IfOk, OnOk};
+ghost use Rattle.std.specs.Prelude.{if◌then◌else◌, Option, Some, None};
 ghost use Rattle.std.specs.Option.{option_map_or};
 ghost use Rattle.wire_laws.specs.declared.event.Event.{Event as EventData};
 ghost use Rattle.wire_laws.specs.declared.event.What.TheVariants.{Order, Tick, Deliver, Show};
@@ -24,10 +25,14 @@ pub(crate) fn order_at<F: Fader>(
     command: Command,
 ) -> Reply
     ensures tell { AllTell Tells stages.old → AllTell Tells stages.new }
-    ensures reply { (w : World) (past : List EventData) → AllStand (StageStands F.stands_for) stages.old w past
-        → result ≡ option_map_or reply.Skipped (missing w past (Order console command)) (replied w past moment (Order console command)) }
-    ensures stands { (w : World) (past : List EventData) → AllStand (StageStands F.stands_for) stages.old w past
-        → AllStand (StageStands F.stands_for) stages.new w (unless_skipped (missing w past (Order console command)) (record { moment = moment; what = Order console command }) past) }
+    ensures reply { (w : World) (past : List EventData) → AllStand
+        (StageStands F.stands_for) stages.old w past
+        → result ≡ option_map_or reply.Skipped (missing w past (Order console command))
+        (replied w past moment (Order console command)) }
+    ensures stands { (w : World) (past : List EventData) → AllStand
+        (StageStands F.stands_for) stages.old w past
+        → AllStand (StageStands F.stands_for) stages.new w (unless_skipped (missing w past
+        (Order console command)) (record { moment = moment; what = Order console command }) past) }
 {
     let i = usize::from(console);
     if i >= stages.len() {
@@ -44,10 +49,14 @@ pub(crate) fn tick_at<F: Fader>(
     requires real { (w : World) × (past : List EventData)
         × AllStand (StageStands F.stands_for) stages.old w past }
     ensures tell { OnOk result (AllTell Tells stages.old → AllTell Tells stages.new) }
-    ensures reply { IfOk result (λ r. (w : World) (past : List EventData) → AllStand (StageStands F.stands_for) stages.old w past
-        → r ≡ option_map_or reply.Skipped (missing w past (Tick console)) (replied w past moment (Tick console))) }
-    ensures stands { OnOk result ((w : World) (past : List EventData) → AllStand (StageStands F.stands_for) stages.old w past
-        → AllStand (StageStands F.stands_for) stages.new w (unless_skipped (missing w past (Tick console)) (record { moment = moment; what = Tick console }) past)) }
+    ensures reply { IfOk result (λ r. (w : World) (past : List EventData)
+        → AllStand (StageStands F.stands_for) stages.old w past
+        → r ≡ option_map_or reply.Skipped (missing w past (Tick console)) (replied w past moment
+        (Tick console))) }
+    ensures stands { OnOk result ((w : World) (past : List EventData)
+        → AllStand (StageStands F.stands_for) stages.old w past
+        → AllStand (StageStands F.stands_for) stages.new w (unless_skipped (missing w past
+        (Tick console)) (record { moment = moment; what = Tick console }) past)) }
 {
     let i = usize::from(console);
     if i >= stages.len() {
@@ -64,8 +73,10 @@ pub(crate) fn tick_at<F: Fader>(
 // A datagram reaches a receiver.
 pub(crate) fn hear_at(receivers: &mut [Receiver], receiver: u16, moment: u64, bytes: &[u8]) -> Reply
     ensures reply { (w : World) (past : List EventData) → AllHear receivers.old w past
-        → result ≡ option_map_or reply.Skipped (no_receiver_at w receiver) (taken_by w receiver past moment bytes.now) }
-    ensures hear { (w : World) (past : List EventData) (e : EventData) → AllHear receivers.old w past → e.moment ≡ moment
+        → result ≡ option_map_or reply.Skipped (no_receiver_at w receiver)
+        (taken_by w receiver past moment bytes.now) }
+    ensures hear { (w : World) (past : List EventData) (e : EventData)
+        → AllHear receivers.old w past → e.moment ≡ moment
         → ((r : ℕ) → handed w r past e.what ≡ (if receiver == r then Some bytes.now else None))
         → AllHear receivers.new w (unless_skipped (no_receiver_at w receiver) e past) }
 {
@@ -80,7 +91,8 @@ pub(crate) fn hear_at(receivers: &mut [Receiver], receiver: u16, moment: u64, by
 pub(crate) fn show_at(receivers: &[Receiver], receiver: u16, moment: u64) -> Reply
     requires { AllBy receivers.now moment }
     ensures { (w : World) (past : List EventData) → AllHear receivers.now w past
-        → result ≡ option_map_or reply.Skipped (missing w past (Show receiver)) (replied w past moment (Show receiver)) }
+        → result ≡ option_map_or reply.Skipped (missing w past (Show receiver))
+        (replied w past moment (Show receiver)) }
 {
     let r = usize::from(receiver);
     if r >= receivers.len() {
@@ -101,10 +113,18 @@ pub(crate) fn deliver_at<F: Fader>(
     k: u64,
     moment: u64,
 ) -> Reply
-    ensures reply { (w : World) (past : List EventData) → AllStand (StageStands F.stands_for) stages.now w past → AllTell Tells stages.now → AllHear receivers.old w past
-        → result ≡ option_map_or reply.Skipped (missing w past (Deliver receiver console universe k)) (replied w past moment (Deliver receiver console universe k)) }
-    ensures hear { (w : World) (past : List EventData) → AllStand (StageStands F.stands_for) stages.now w past → AllTell Tells stages.now → AllHear receivers.old w past
-        → AllHear receivers.new w (unless_skipped (missing w past (Deliver receiver console universe k)) (record { moment = moment; what = Deliver receiver console universe k }) past) }
+    ensures reply { (w : World) (past : List EventData) → AllStand
+        (StageStands F.stands_for) stages.now w past → AllTell Tells stages.now
+        → AllHear receivers.old w past
+        → result ≡ option_map_or reply.Skipped (missing w past
+        (Deliver receiver console universe k)) (replied w past moment
+        (Deliver receiver console universe k)) }
+    ensures hear { (w : World) (past : List EventData) → AllStand
+        (StageStands F.stands_for) stages.now w past → AllTell Tells stages.now
+        → AllHear receivers.old w past
+        → AllHear receivers.new w (unless_skipped (missing w past
+        (Deliver receiver console universe k))
+        (record { moment = moment; what = Deliver receiver console universe k }) past) }
 {
     let i = usize::from(console);
     if i >= stages.len() {

@@ -1,5 +1,6 @@
 ghost use Rattle.std.specs.Prelude.{◌≡◌, length};
-ghost use Rattle.wire_world.specs.Refusing.{are_within as are_within_size, is_within as is_within_size};
+ghost use Rattle.wire_world.specs.Refusing.{are_within as are_within_size};
+ghost use Rattle.wire_world.specs.Refusing.{is_within as is_within_size};
 
 use crate::{Report, rehearse};
 use desk_core::{Command, Refused, Ticked};
@@ -208,11 +209,19 @@ fn rehearse_termination(rt: HostRuntime) -> Result<(), Fail> {
 fn skips(rt: HostRuntime) -> Result<(), Fail> {
     let consoles = [console(&rt, 0x31, 100)];
     let steps = [
-        (0, What::Order(1, Command::Go), Told::Skipped(Skip::NoConsole)),
+        (
+            0,
+            What::Order(1, Command::Go),
+            Told::Skipped(Skip::NoConsole),
+        ),
         (0, What::Show(1), Told::Skipped(Skip::NoReceiver)),
         (5, What::Tick(0), Told::Live(0)),
         (4, What::Tick(0), Told::Skipped(Skip::Backwards)),
-        (281_474_976_710_656, What::Tick(0), Told::Skipped(Skip::TooLarge)),
+        (
+            281_474_976_710_656,
+            What::Tick(0),
+            Told::Skipped(Skip::TooLarge),
+        ),
     ];
     assert!(rt; plays(&rt, rt.alloc(), &consoles, &steps, 0)?);
     Ok(())
@@ -285,7 +294,10 @@ fn fault(
 #[test]
 fn setup_faults(rt: HostRuntime) -> Result<(), Fail> {
     let one = console(&rt, 0x31, 100);
-    let high = Setup { base: 63_999, ..one };
+    let high = Setup {
+        base: 63_999,
+        ..one
+    };
     let absent = Setup { show: 1, ..one };
     let alloc = rt.alloc();
     assert!(rt; fault(&rt, alloc, &[], &[1, 1])? == Some(Fault::Consoles));

@@ -9,8 +9,16 @@ use Rattle.wire_world.proofs.opening.open_all.Goals as goal
 pub loop-i-preserved : goal.loop-i-preserved
 loop-i-preserved g c =
     let setup : Setup = c.index-setups-i.result in
-    let here : slice_get c.args.setups.now c.loop-i.i ≡ Some setup = slice_get_read c.args.setups.now (length c.args.setups.now) c.loop-i.i setup refl c.loop-i-test.true c.index-setups-i.is in
-    let within : setup.show < length c.args.shows.now = subst (λ (x : Setup). x.show < length c.args.shows.now) (sym c.index-setups-i.is) (c.requires c.loop-i.i setup c.loop-i-test.true) in
-    let show : slice_get c.args.shows.now setup.show ≡ Some c.index-shows-setup.result = slice_get_read c.args.shows.now (length c.args.shows.now) setup.show c.index-shows-setup.result refl within c.index-shows-setup.is in
+    let here : slice_get c.args.setups.now c.loop-i.i ≡ Some setup = slice_get_read
+    c.args.setups.now (length c.args.setups.now) c.loop-i.i setup refl c.loop-i-test.true
+    c.index-setups-i.is in
+    let within : setup.show < length c.args.shows.now = subst (λ
+    (x : Setup). x.show < length c.args.shows.now) (sym c.index-setups-i.is)
+    (c.requires c.loop-i.i setup c.loop-i-test.true) in
+    let show : slice_get c.args.shows.now setup.show ≡ Some c.index-shows-setup.result =
+    slice_get_read c.args.shows.now (length c.args.shows.now) setup.show
+    c.index-shows-setup.result refl within c.index-shows-setup.is in
     rw c.in_ok-push.ensures.items
-    (opened_more (StageStands g.F.Fader.stands_for) Tells c.loop-i.stages.items c.args.shows.now c.args.setups.now c.loop-i.i c.in_ok-stage.stage setup c.index-shows-setup.result c.loop-i.invariant here show c.in_ok-stage.ensures)
+    (opened_more (StageStands g.F.Fader.stands_for) Tells c.loop-i.stages.items c.args.shows.now
+    c.args.setups.now c.loop-i.i c.in_ok-stage.stage setup c.index-shows-setup.result
+    c.loop-i.invariant here show c.in_ok-stage.ensures)

@@ -3,4 +3,5 @@ use Rattle.wire_world.specs.StageStands.{StageStands, Tells}
 use Rattle.wire_world.proofs.opening.open_all.Given as goal
 
 abbrev pub invariant-loop-i : goal.invariant-loop-i
-invariant-loop-i g l = Opened (StageStands g.F.Fader.stands_for) Tells l.stages.items l.shows l.setups l.i
+invariant-loop-i g l = Opened (StageStands g.F.Fader.stands_for) Tells l.stages.items l.shows
+    l.setups l.i

@@ -12,7 +12,8 @@ returns-in_ok-push-in-Some c = λ v.
     ap (position (λ (p : Places). p.universe == c.args.universe)) (sym c.as_slice.ensures.value)
     ∙ sym c.place_of.ensures ∙ c.in-Some.is in
     noted c.args.index.now.items c.args.universe c.in-Some.i c.args.place v
-    c.index_mut.result.now _ _ found c.index_mut.ensures.value refl c.in_ok-push-in-Some.ensures.items
+    c.index_mut.result.now _ _ found c.index_mut.ensures.value refl
+    c.in_ok-push-in-Some.ensures.items
 
 pub returns-in_ok-push-in-None-2 : goal.returns-in_ok-push-in-None-2
 returns-in_ok-push-in-None-2 c = λ v.

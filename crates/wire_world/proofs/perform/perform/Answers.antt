@@ -10,19 +10,27 @@ run-requires-clause-begun g c = (
   world_of c.args.shows.now c.args.consoles.now c.args.receivers.now c.args.strays.now,
   refl,
   rw (c.as_mut_slice.ensures.value, c.as_mut_slice-2.ensures.value)
-      (begun (StageStands g.F.Fader.stands_for) Tells c.in_ok-stages.stages.items c.in_ok-listeners.listeners.items c.args.shows.now c.args.consoles.now c.args.receivers.now c.args.strays.now c.in_ok-stages.ensures c.in_ok-listeners.ensures),
+      (begun (StageStands g.F.Fader.stands_for) Tells c.in_ok-stages.stages.items
+      c.in_ok-listeners.listeners.items c.args.shows.now c.args.consoles.now c.args.receivers.now
+      c.args.strays.now c.in_ok-stages.ensures c.in_ok-listeners.ensures),
 )
 
 pub returns-clause-replies : goal.returns-clause-replies
 returns-clause-replies g c = if_ok c.run.result _ _
-    (λ report h. h (world_of c.args.shows.now c.args.consoles.now c.args.receivers.now c.args.strays.now) refl
+    (λ report h. h (world_of c.args.shows.now c.args.consoles.now c.args.receivers.now
+    c.args.strays.now) refl
     (rw (c.as_mut_slice.ensures.value, c.as_mut_slice-2.ensures.value)
-    (begun (StageStands g.F.Fader.stands_for) Tells c.in_ok-stages.stages.items c.in_ok-listeners.listeners.items c.args.shows.now c.args.consoles.now c.args.receivers.now c.args.strays.now c.in_ok-stages.ensures c.in_ok-listeners.ensures)))
+    (begun (StageStands g.F.Fader.stands_for) Tells c.in_ok-stages.stages.items
+    c.in_ok-listeners.listeners.items c.args.shows.now c.args.consoles.now c.args.receivers.now
+    c.args.strays.now c.in_ok-stages.ensures c.in_ok-listeners.ensures)))
     c.run.ensures.replies
 
 pub returns-clause-last : goal.returns-clause-last
 returns-clause-last g c = if_ok c.run.result _ _
-    (λ report h. h (world_of c.args.shows.now c.args.consoles.now c.args.receivers.now c.args.strays.now) refl
+    (λ report h. h (world_of c.args.shows.now c.args.consoles.now c.args.receivers.now
+    c.args.strays.now) refl
     (rw (c.as_mut_slice.ensures.value, c.as_mut_slice-2.ensures.value)
-    (begun (StageStands g.F.Fader.stands_for) Tells c.in_ok-stages.stages.items c.in_ok-listeners.listeners.items c.args.shows.now c.args.consoles.now c.args.receivers.now c.args.strays.now c.in_ok-stages.ensures c.in_ok-listeners.ensures)))
+    (begun (StageStands g.F.Fader.stands_for) Tells c.in_ok-stages.stages.items
+    c.in_ok-listeners.listeners.items c.args.shows.now c.args.consoles.now c.args.receivers.now
+    c.args.strays.now c.in_ok-stages.ensures c.in_ok-listeners.ensures)))
     c.run.ensures.last

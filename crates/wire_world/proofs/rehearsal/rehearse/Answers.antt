@@ -16,7 +16,8 @@ perform-requires-clause-universes g c =
 
 pub returns-in-Ok-clause-lawful : goal.returns-in-Ok-clause-lawful
 returns-in-Ok-clause-lawful g c = λ who.
-    replies_lawful (world_of c.args.shows.now c.args.consoles.now c.args.receivers.now c.args.strays.now)
+    replies_lawful (world_of c.args.shows.now c.args.consoles.now c.args.receivers.now
+    c.args.strays.now)
     c.args.events.now _
     (is_world c.args.shows.now c.args.consoles.now c.args.receivers.now c.args.strays.now
     (fine c.args.shows.now c.args.consoles.now c.args.receivers.now
@@ -25,7 +26,8 @@ returns-in-Ok-clause-lawful g c = λ who.
 
 pub returns-in-Ok-clause-lawful_last : goal.returns-in-Ok-clause-lawful_last
 returns-in-Ok-clause-lawful_last g c = λ who.
-    let w : World = world_of c.args.shows.now c.args.consoles.now c.args.receivers.now c.args.strays.now in
+    let w : World = world_of c.args.shows.now c.args.consoles.now c.args.receivers.now
+    c.args.strays.now in
     subst (LastAreLawful w c.args.events.now) (sym c.in-Ok.ensures.last)
     (last_lawful w c.args.events.now
     (is_world c.args.shows.now c.args.consoles.now c.args.receivers.now c.args.strays.now
@@ -34,7 +36,8 @@ returns-in-Ok-clause-lawful_last g c = λ who.
 
 pub returns-in-Ok-clause-independent : goal.returns-in-Ok-clause-independent
 returns-in-Ok-clause-independent g c = λ who.
-    answers_alone (world_of c.args.shows.now c.args.consoles.now c.args.receivers.now c.args.strays.now)
+    answers_alone (world_of c.args.shows.now c.args.consoles.now c.args.receivers.now
+    c.args.strays.now)
     c.args.events.now _
     (is_world c.args.shows.now c.args.consoles.now c.args.receivers.now c.args.strays.now
     (fine c.args.shows.now c.args.consoles.now c.args.receivers.now
@@ -42,4 +45,5 @@ returns-in-Ok-clause-independent g c = λ who.
     c.in-Ok.ensures.replies
 
 pub perform-requires-clause-within : goal.perform-requires-clause-within
-perform-requires-clause-within g c = all_within (length c.args.strays.now) c.args.events.now c.requires.within
+perform-requires-clause-within g c = all_within
+    (length c.args.strays.now) c.args.events.now c.requires.within

@@ -11,20 +11,29 @@ returns g c = λ w past same l are.
     let e : Event = c.args.event.now in
     let after : last_moment past ≤ e.moment = omega (arith, l, c.if-event-last.false) in
     let below : e.moment < 2 ^ 48 = omega (arith, c.if-event-ge-MOMENTS.false) in
-    step_done (StageStands g.F.Fader.stands_for) Tells c.happen.new.stages c.happen.new.receivers w past e c.in_ok-reply.reply c.args.last.now c.later.result
-    (timely (StageStands g.F.Fader.stands_for) Tells c.happen.new.stages c.happen.new.receivers w past e after below) l
+    step_done (StageStands g.F.Fader.stands_for) Tells c.happen.new.stages c.happen.new.receivers
+    w past e c.in_ok-reply.reply c.args.last.now c.later.result
+    (timely (StageStands g.F.Fader.stands_for) Tells c.happen.new.stages c.happen.new.receivers w
+    past e after below) l
     (c.in_ok-reply.ensures.reply w past same are.stand are.tell are.hear) c.later.ensures
-    (c.in_ok-reply.ensures.stands w past are.stand) (c.in_ok-reply.ensures.tell are.tell) (c.in_ok-reply.ensures.hear w past same are.stand are.tell are.hear)
+    (c.in_ok-reply.ensures.stands w past are.stand) (c.in_ok-reply.ensures.tell are.tell)
+    (c.in_ok-reply.ensures.hear w past same are.stand are.tell are.hear)
 
 pub returns-then-event-last : goal.returns-then-event-last
 returns-then-event-last g c = λ w past same l are.
-    step_skipped (StageStands g.F.Fader.stands_for) Tells c.args.stages.now c.args.receivers.now w past c.args.event.now Backwards c.args.last.now
-    (backwards (StageStands g.F.Fader.stands_for) Tells c.args.stages.now c.args.receivers.now w past c.args.event.now (omega (arith, l, c.if-event-last.true))) l are
+    step_skipped (StageStands g.F.Fader.stands_for) Tells c.args.stages.now c.args.receivers.now
+    w past c.args.event.now Backwards c.args.last.now
+    (backwards (StageStands g.F.Fader.stands_for) Tells c.args.stages.now c.args.receivers.now w
+    past c.args.event.now (omega (arith, l, c.if-event-last.true))) l are
 
 pub returns-then-event-ge-MOMENTS : goal.returns-then-event-ge-MOMENTS
 returns-then-event-ge-MOMENTS g c = λ w past same l are.
-    step_skipped (StageStands g.F.Fader.stands_for) Tells c.args.stages.now c.args.receivers.now w past c.args.event.now TooLarge c.args.last.now
-    (too_large (StageStands g.F.Fader.stands_for) Tells c.args.stages.now c.args.receivers.now w past c.args.event.now (omega (arith, l, c.if-event-last.false)) (omega (arith, c.if-event-ge-MOMENTS.true))) l are
+    step_skipped (StageStands g.F.Fader.stands_for) Tells c.args.stages.now c.args.receivers.now
+    w past c.args.event.now TooLarge c.args.last.now
+    (too_large (StageStands g.F.Fader.stands_for) Tells c.args.stages.now c.args.receivers.now w
+    past c.args.event.now (omega (arith, l, c.if-event-last.false)) (omega
+    (arith, c.if-event-ge-MOMENTS.true))) l are
 
 pub happen-requires-clause-early : goal.happen-requires-clause-early
-happen-requires-clause-early g c = λ r k e. omega (arith, c.requires.early r k e, c.if-event-last.false)
+happen-requires-clause-early g c = λ r k e. omega
+    (arith, c.requires.early r k e, c.if-event-last.false)

@@ -10,45 +10,94 @@ use Rattle.wire_laws.specs.World.{console_at}
 use Rattle.wire_laws.specs.Happened.{acts, datagram}
 use Rattle.wire_laws.specs.Replies.{replied}
 use Rattle.wire_world.specs.Stands.{AllHear, unless_skipped}
-use Rattle.wire_world.proofs.Stages.{stood_at, not_sent, delivered_replied, delivered_handed, delivered_skip, few_receivers}
+use Rattle.wire_world.proofs.Stages.{stood_at, not_sent, delivered_replied, delivered_handed}
+use Rattle.wire_world.proofs.Stages.{delivered_skip, few_receivers}
 use Rattle.wire_world.specs.StageStands.{StageStands}
 use Rattle.wire_world.proofs.steps.deliver_at.Goals as goal
 
 pub returns-in-None-clause-reply : goal.returns-in-None-clause-reply
 returns-in-None-clause-reply g c = λ w past all tell hear.
-    let at : slice_get c.args.stages.now c.from-i.result ≡ Some c.index-stages-i.result = slice_get-get_or c.args.stages.now c.from-i.result c.index-stages-i.result c.if-i-stages.false ∙ ap Some (sym c.index-stages-i.is) in
-    let few = few_receivers c.args.receivers.now w c.from.result c.args.receiver hear.each c.if-from-receivers.false c.from.ensures in
+    let at : slice_get c.args.stages.now c.from-i.result ≡ Some c.index-stages-i.result =
+    slice_get-get_or c.args.stages.now c.from-i.result c.index-stages-i.result
+    c.if-i-stages.false ∙ ap Some (sym c.index-stages-i.is) in
+    let few = few_receivers c.args.receivers.now w c.from.result c.args.receiver hear.each
+    c.if-from-receivers.false c.from.ensures in
     let got : None ≡ datagram w c.args.console c.args.universe c.args.k past =
-    ap (option_map (λ b. b.now)) (sym c.in-None.is) ∙ c.datagram.ensures (console_at w c.args.console) (acts w c.args.console past) (stood_at (StageStands g.F.Fader.stands_for) c.args.stages.now w past all c.from-i.result c.index-stages-i.result at c.args.console c.from-i.ensures) (tell c.from-i.result c.index-stages-i.result at) in
-    sym (ap (λ (o : Option Skip). option_map_or reply.Skipped o (replied w past c.args.moment (Deliver c.args.receiver c.args.console c.args.universe c.args.k)))
-    (not_sent (StageStands g.F.Fader.stands_for) c.args.stages.now w past all c.from-i.result c.index-stages-i.result at c.args.console c.from-i.ensures c.args.receiver c.args.universe c.args.k c.args.moment few got))
+    ap (option_map (λ b. b.now)) (sym c.in-None.is) ∙ c.datagram.ensures
+    (console_at w c.args.console) (acts w c.args.console past) (stood_at
+    (StageStands g.F.Fader.stands_for) c.args.stages.now w past all c.from-i.result
+    c.index-stages-i.result at c.args.console c.from-i.ensures)
+    (tell c.from-i.result c.index-stages-i.result at) in
+    sym (ap (λ (o : Option Skip). option_map_or reply.Skipped o (replied w past c.args.moment
+    (Deliver c.args.receiver c.args.console c.args.universe c.args.k)))
+    (not_sent (StageStands g.F.Fader.stands_for) c.args.stages.now w past all c.from-i.result
+    c.index-stages-i.result at c.args.console c.from-i.ensures c.args.receiver c.args.universe
+    c.args.k c.args.moment few got))
 
 pub returns-in-None-clause-hear : goal.returns-in-None-clause-hear
 returns-in-None-clause-hear g c = λ w past all tell hear.
-    let at : slice_get c.args.stages.now c.from-i.result ≡ Some c.index-stages-i.result = slice_get-get_or c.args.stages.now c.from-i.result c.index-stages-i.result c.if-i-stages.false ∙ ap Some (sym c.index-stages-i.is) in
-    let few = few_receivers c.args.receivers.now w c.from.result c.args.receiver hear.each c.if-from-receivers.false c.from.ensures in
+    let at : slice_get c.args.stages.now c.from-i.result ≡ Some c.index-stages-i.result =
+    slice_get-get_or c.args.stages.now c.from-i.result c.index-stages-i.result
+    c.if-i-stages.false ∙ ap Some (sym c.index-stages-i.is) in
+    let few = few_receivers c.args.receivers.now w c.from.result c.args.receiver hear.each
+    c.if-from-receivers.false c.from.ensures in
     let got : None ≡ datagram w c.args.console c.args.universe c.args.k past =
-    ap (option_map (λ b. b.now)) (sym c.in-None.is) ∙ c.datagram.ensures (console_at w c.args.console) (acts w c.args.console past) (stood_at (StageStands g.F.Fader.stands_for) c.args.stages.now w past all c.from-i.result c.index-stages-i.result at c.args.console c.from-i.ensures) (tell c.from-i.result c.index-stages-i.result at) in
-    subst (λ (o : Option Skip). AllHear c.args.receivers.now w (unless_skipped o (record { moment = c.args.moment; what = Deliver c.args.receiver c.args.console c.args.universe c.args.k }) past))
-    (sym (not_sent (StageStands g.F.Fader.stands_for) c.args.stages.now w past all c.from-i.result c.index-stages-i.result at c.args.console c.from-i.ensures c.args.receiver c.args.universe c.args.k c.args.moment few got)) hear
+    ap (option_map (λ b. b.now)) (sym c.in-None.is) ∙ c.datagram.ensures
+    (console_at w c.args.console) (acts w c.args.console past) (stood_at
+    (StageStands g.F.Fader.stands_for) c.args.stages.now w past all c.from-i.result
+    c.index-stages-i.result at c.args.console c.from-i.ensures)
+    (tell c.from-i.result c.index-stages-i.result at) in
+    subst (λ (o : Option Skip). AllHear c.args.receivers.now w (unless_skipped o
+    (record {
+      moment = c.args.moment;
+      what = Deliver c.args.receiver c.args.console
+          c.args.universe c.args.k;
+    }) past))
+    (sym (not_sent (StageStands g.F.Fader.stands_for) c.args.stages.now w past all
+    c.from-i.result c.index-stages-i.result at c.args.console c.from-i.ensures c.args.receiver
+    c.args.universe c.args.k c.args.moment few got)) hear
 
 pub returns-in-Some-clause-reply : goal.returns-in-Some-clause-reply
 returns-in-Some-clause-reply g c = λ w past all tell hear.
-    let at : slice_get c.args.stages.now c.from-i.result ≡ Some c.index-stages-i.result = slice_get-get_or c.args.stages.now c.from-i.result c.index-stages-i.result c.if-i-stages.false ∙ ap Some (sym c.index-stages-i.is) in
-    let few = few_receivers c.args.receivers.now w c.from.result c.args.receiver hear.each c.if-from-receivers.false c.from.ensures in
+    let at : slice_get c.args.stages.now c.from-i.result ≡ Some c.index-stages-i.result =
+    slice_get-get_or c.args.stages.now c.from-i.result c.index-stages-i.result
+    c.if-i-stages.false ∙ ap Some (sym c.index-stages-i.is) in
+    let few = few_receivers c.args.receivers.now w c.from.result c.args.receiver hear.each
+    c.if-from-receivers.false c.from.ensures in
     let got : Some c.in-Some.bytes.now ≡ datagram w c.args.console c.args.universe c.args.k past =
-    ap (option_map (λ b. b.now)) (sym c.in-Some.is) ∙ c.datagram.ensures (console_at w c.args.console) (acts w c.args.console past) (stood_at (StageStands g.F.Fader.stands_for) c.args.stages.now w past all c.from-i.result c.index-stages-i.result at c.args.console c.from-i.ensures) (tell c.from-i.result c.index-stages-i.result at) in
+    ap (option_map (λ b. b.now)) (sym c.in-Some.is) ∙ c.datagram.ensures
+    (console_at w c.args.console) (acts w c.args.console past) (stood_at
+    (StageStands g.F.Fader.stands_for) c.args.stages.now w past all c.from-i.result
+    c.index-stages-i.result at c.args.console c.from-i.ensures)
+    (tell c.from-i.result c.index-stages-i.result at) in
     c.hear_at.ensures.reply w past hear
-    ∙ delivered_replied (StageStands g.F.Fader.stands_for) c.args.stages.now w past all c.from-i.result c.index-stages-i.result at c.args.console c.from-i.ensures c.args.receiver c.args.universe c.args.k c.args.moment few c.in-Some.bytes.now got
+    ∙ delivered_replied (StageStands g.F.Fader.stands_for) c.args.stages.now w past all
+    c.from-i.result c.index-stages-i.result at c.args.console c.from-i.ensures c.args.receiver
+    c.args.universe c.args.k c.args.moment few c.in-Some.bytes.now got
 
 pub returns-in-Some-clause-hear : goal.returns-in-Some-clause-hear
 returns-in-Some-clause-hear g c = λ w past all tell hear.
-    let at : slice_get c.args.stages.now c.from-i.result ≡ Some c.index-stages-i.result = slice_get-get_or c.args.stages.now c.from-i.result c.index-stages-i.result c.if-i-stages.false ∙ ap Some (sym c.index-stages-i.is) in
-    let few = few_receivers c.args.receivers.now w c.from.result c.args.receiver hear.each c.if-from-receivers.false c.from.ensures in
+    let at : slice_get c.args.stages.now c.from-i.result ≡ Some c.index-stages-i.result =
+    slice_get-get_or c.args.stages.now c.from-i.result c.index-stages-i.result
+    c.if-i-stages.false ∙ ap Some (sym c.index-stages-i.is) in
+    let few = few_receivers c.args.receivers.now w c.from.result c.args.receiver hear.each
+    c.if-from-receivers.false c.from.ensures in
     let got : Some c.in-Some.bytes.now ≡ datagram w c.args.console c.args.universe c.args.k past =
-    ap (option_map (λ b. b.now)) (sym c.in-Some.is) ∙ c.datagram.ensures (console_at w c.args.console) (acts w c.args.console past) (stood_at (StageStands g.F.Fader.stands_for) c.args.stages.now w past all c.from-i.result c.index-stages-i.result at c.args.console c.from-i.ensures) (tell c.from-i.result c.index-stages-i.result at) in
-    let e : Event = record { moment = c.args.moment; what = Deliver c.args.receiver c.args.console c.args.universe c.args.k } in
+    ap (option_map (λ b. b.now)) (sym c.in-Some.is) ∙ c.datagram.ensures
+    (console_at w c.args.console) (acts w c.args.console past) (stood_at
+    (StageStands g.F.Fader.stands_for) c.args.stages.now w past all c.from-i.result
+    c.index-stages-i.result at c.args.console c.from-i.ensures)
+    (tell c.from-i.result c.index-stages-i.result at) in
+    let e : Event = record {
+      moment = c.args.moment;
+      what = Deliver c.args.receiver
+          c.args.console c.args.universe c.args.k;
+    } in
     subst (λ (o : Option Skip). AllHear c.hear_at.new.receivers w (unless_skipped o e past))
-    (delivered_skip (StageStands g.F.Fader.stands_for) c.args.stages.now w past all c.from-i.result c.index-stages-i.result at c.args.console c.from-i.ensures c.args.receiver c.args.universe c.args.k c.args.moment few c.in-Some.bytes.now got)
+    (delivered_skip (StageStands g.F.Fader.stands_for) c.args.stages.now w past all
+    c.from-i.result c.index-stages-i.result at c.args.console c.from-i.ensures c.args.receiver
+    c.args.universe c.args.k c.args.moment few c.in-Some.bytes.now got)
     (c.hear_at.ensures.hear w past e hear refl
-    (delivered_handed (StageStands g.F.Fader.stands_for) c.args.stages.now w past all c.from-i.result c.index-stages-i.result at c.args.console c.from-i.ensures c.args.receiver c.args.universe c.args.k c.args.moment few c.in-Some.bytes.now got))
+    (delivered_handed (StageStands g.F.Fader.stands_for) c.args.stages.now w past all
+    c.from-i.result c.index-stages-i.result at c.args.console c.from-i.ensures c.args.receiver
+    c.args.universe c.args.k c.args.moment few c.in-Some.bytes.now got))

@@ -7,7 +7,8 @@ pub returns-clause-answer : goal.returns-clause-answer
 returns-clause-answer g c = λ p h s tells. answer_is c.tick.result _ _ _
     (c.tick.ensures.answer p h s.console_stands)
     (if_ok c.tick.result _ _ (λ a offered. answers_ticked p h c.args.moment c.tick.new.link.rows
-    (sends_of c.args.self.now.link) a.1 (offered p h s.console_stands tells)) c.tick.ensures.offered)
+    (sends_of c.args.self.now.link) a.1 (offered p h s.console_stands tells))
+    c.tick.ensures.offered)
 
 pub returns-clause-stands : goal.returns-clause-stands
 returns-clause-stands g c = stands_ticked g.F.Fader.stands_for c.args.self.now
