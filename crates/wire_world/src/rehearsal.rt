@@ -1,8 +1,7 @@
-ghost use Rattle.std.specs.Prelude.{◌≡◌, length, IfOk, All, IsTrue};
-ghost use Rattle.wire_laws.specs.World.{IsIdentity};
+ghost use Rattle.std.specs.Prelude.{◌≡◌, length, IfOk, IsTrue};
 ghost use Rattle.wire_laws.specs.Replies.{AreReplies, done, last_slots};
 ghost use Rattle.wire_laws.specs.Shows.{AnswersAlone, LastAreLawful, ShownAreLawful};
-ghost use Rattle.wire_world.specs.Refusing.{Answers, are_within, setup_fault};
+ghost use Rattle.wire_world.specs.Refusing.{Answers, AreIdentities, are_within, setup_fault};
 ghost use Rattle.wire_world.specs.Stands.{world_of};
 
 use crate::perform::perform;
@@ -14,9 +13,11 @@ use std::alloc::{AllocError, Global};
 use wire_laws::{Event, Fault, Setup};
 
 /// Carries out the events, one after another, among one to four consoles, each with one of the
-/// shows, and at most eight receivers, each of a universe of its own, 1 to 63999. Loss is a
-// packet
-/// that no event delivers. Each Stray has `from <= to`, and `to` at most the length of `strays`.
+/// shows, and at most eight receivers, each of a universe of its own, 1 to 63999. Loss is a packet
+/// that no event delivers.
+///
+/// Each Stray has `from <= to`, and `to` at most the length of `strays`. A console's source is an
+/// identity as [`Identity::new`](sacn_source::Identity::new) gives it: of that the laws speak.
 ///
 /// # Errors
 ///
@@ -38,15 +39,13 @@ pub fn rehearse<F: Fader>(
     ensures last { IfOk result (λ report. report.last
         ≡ last_slots (world_of shows.now consoles.now receivers.now strays.now)
         (done (world_of shows.now consoles.now receivers.now strays.now) events.now)) }
-    ensures lawful { IfOk result (λ report. All (λ setup. IsIdentity setup.identity) consoles.now
+    ensures lawful { IfOk result (λ report. AreIdentities consoles.now
         → ShownAreLawful (world_of shows.now consoles.now receivers.now strays.now) events.now
         report.replies) }
-    ensures lawful_last { IfOk result (λ report. All
-        (λ setup. IsIdentity setup.identity) consoles.now
+    ensures lawful_last { IfOk result (λ report. AreIdentities consoles.now
         → LastAreLawful (world_of shows.now consoles.now receivers.now strays.now) events.now
         report.last) }
-    ensures independent { IfOk result (λ report. All
-        (λ setup. IsIdentity setup.identity) consoles.now
+    ensures independent { IfOk result (λ report. AreIdentities consoles.now
         → AnswersAlone (world_of shows.now consoles.now receivers.now strays.now) events.now
         report.replies) }
 {
