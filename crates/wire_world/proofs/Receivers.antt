@@ -72,7 +72,7 @@ module _ (receivers : List Kept) (w : World) (past : List Event)
       ∙ ap (λ u. answer 4 u (accepted_by w k past) t d) (all.universes k was at))))
 
   module _ (is : Kept) (t : ℕ) (d : List ℕ) (res : Result Taken Ignored) (e :
-    (h : List source.Entry) → StandsFor was h → res ≡ answer 4 was.universe h t d)
+      (h : List source.Entry) → StandsFor was h → res ≡ answer 4 was.universe h t d)
       (ok : OnOk res ((h : List source.Entry) → StandsFor was h
       → StandsFor is (entry_of t (front_packet d) ∷ h))) (un : OnErr res (is ≡ was))
       (same : is.universe ≡ was.universe) where
@@ -130,11 +130,19 @@ pub hear_same : (receivers : List Kept) (w : World) (past : List Event) (o : Opt
     (e : Event) → ((r : ℕ) → handed w r past e.what ≡ None) → AllHear receivers w past
     → AllHear receivers w (unless_skipped o e past)
 hear_same receivers w past (Some x) e quiet all = all
-hear_same receivers w past None e quiet all = record { each = all.each; universes =
-    all.universes; stand = λ r k g. rw (quiet r) (all.stand r k g) }
+hear_same receivers w past None e quiet all = record {
+  each = all.each;
+  universes =
+      all.universes;
+  stand = λ r k g. rw (quiet r) (all.stand r k g);
+}
 
 -- the receivers are not ahead of the last event
 pub all_by : (receivers : List Kept) (w : World) (past : List Event) (t : ℕ) → IsRun w past
     → last_moment past ≤ t → AllHear receivers w past → AllBy receivers t
-all_by receivers w past t run time all r k g = omega (arith,
-    (all.stand r k g).latest_is, last_accepted w r past run, time)
+all_by receivers w past t run time all r k g = omega (
+  arith,
+  (all.stand r k g).latest_is,
+  last_accepted w r past run,
+  time,
+)
