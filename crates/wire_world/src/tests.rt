@@ -329,3 +329,32 @@ fn strays(rt: HostRuntime) -> Result<(), Fail> {
     assert_eq!(rt; told.as_str(), "[Ignored(Unreadable(Short))]");
     Ok(())
 }
+
+// 420 frames, a packet for each; then three groups of twenty, each with its newest first.
+fn wrap_steps(rt: &impl Abort, alloc: Global) -> Result<Vec<(u64, What, Told)>, Fail> {
+    let mut steps = Vec::new(alloc);
+    for i in 0..420u64 {
+        let level = u8::try_from((i % 90 * 255 + 50) / 100).expect(rt, "a level");
+        let number = u8::try_from(i % 256).expect(rt, "a number");
+        steps.push((25 * i, What::Order(0, Command::Sub(1, level)), Told::Done))?;
+        steps.push((25 * i, What::Tick(0), Told::Live(number)))?;
+    }
+    for (first, number, slot) in [(0u16, 19, 24), (200, 219, 50), (400, 163, 75)] {
+        let newest = u64::from(first) + 19;
+        steps.push((10475, deliver(0, newest), Told::Taken(number, false)))?;
+        for behind in 1..20 {
+            let late = deliver(0, newest - behind);
+            steps.push((10475, late, Told::Ignored(Ignored::OutOfSequence)))?;
+        }
+        steps.push((10475, SHOW, Told::Shown(slot)))?;
+    }
+    Ok(steps)
+}
+
+#[test]
+fn window_wrap(rt: HostRuntime) -> Result<(), Fail> {
+    let consoles = [console(&rt, 0x31, 100)];
+    let steps = wrap_steps(&rt, rt.alloc())?;
+    assert!(rt; plays(&rt, rt.alloc(), &consoles, steps.as_slice(), 75)?);
+    Ok(())
+}
