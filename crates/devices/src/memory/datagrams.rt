@@ -7,8 +7,10 @@ use crate::{Datagrams, LinkFault};
 /// one, and fails there too.
 #[derive(Debug, Drop)]
 pub struct MemoryDatagrams<'a> {
-    datagrams: &'a [&'a [u8]],
-    next: usize,
+    /// What it gives, in this order.
+    pub datagrams: &'a [&'a [u8]],
+    /// How many it has given.
+    pub next: usize,
     /// A datagram was asked for after the last one.
     pub exhausted: bool,
     pub faults: Faults,
@@ -18,6 +20,8 @@ pub struct MemoryDatagrams<'a> {
 impl<'a> MemoryDatagrams<'a> {
     /// A source of which the first `passing` calls pass, and the next `failing` ones fail.
     pub fn new(datagrams: &'a [&'a [u8]], passing: u64, failing: u64) -> Self
+        ensures given { result.datagrams.now ≡ datagrams.now }
+        ensures unread { result.next ≡ 0 }
         ensures tells { result.exhausted ≡ false }
         ensures passing { result.faults.passing ≡ passing }
         ensures failing { result.faults.failing ≡ failing }

@@ -6,9 +6,12 @@ use crate::{Feed, LinkFault};
 /// A feed over memory.
 #[derive(Debug, Drop)]
 pub struct MemoryFeed<'a> {
-    bytes: &'a [u8],
-    next: usize,
-    step: usize,
+    /// What it gives.
+    pub bytes: &'a [u8],
+    /// How many bytes it has given.
+    pub next: usize,
+    /// The most bytes of one call.
+    pub step: usize,
     pub faults: Faults,
     ghost within: { next ≤ length bytes.now },
     ghost some: { 1 ≤ step },
@@ -19,6 +22,9 @@ impl<'a> MemoryFeed<'a> {
     /// pass, and the next `failing` ones fail.
     pub fn new(bytes: &'a [u8], step: usize, passing: u64, failing: u64) -> Self
         requires { 1 ≤ step }
+        ensures given { result.bytes.now ≡ bytes.now }
+        ensures unread { result.next ≡ 0 }
+        ensures step { result.step ≡ step }
         ensures passing { result.faults.passing ≡ passing }
         ensures failing { result.faults.failing ≡ failing }
         ensures unfailed { result.faults.failed ≡ 0 }
