@@ -2,6 +2,7 @@
 use Rattle.std.specs.Prelude.{◌≡◌, refl, codes}
 use Rattle.std.specs.Fmt.{digits}
 use Rattle.show_reader.specs.declared.fault.ShowFault.TheVariants.{TooLong, MissingNumber, BadLevel, Memory}
+use Rattle.wire_faults.specs.declared.fault.Fault.TheVariants as setup_fault
 use Rattle.cueplayer_faults.specs.declared.fault.RunFault.TheVariants as run
 use Rattle.cueplayer_faults.specs.Status.{fault_text, fault_status}
 
@@ -28,3 +29,11 @@ play_lost = (refl, refl)
 
 want_of_memory : (fault_text (run.Show Memory) ≡ codes "memory") × (fault_status (run.Show Memory) ≡ 6)
 want_of_memory = (refl, refl)
+
+setup_faults : (fault_text (run.Setup setup_fault.Consoles) ≡ codes "setup: Consoles")
+    × (fault_status (run.Setup setup_fault.Consoles) ≡ 4)
+    × (fault_text (run.Setup setup_fault.Receivers) ≡ codes "setup: Receivers")
+    × (fault_text (run.Setup setup_fault.Universe) ≡ codes "setup: Universe")
+    × (fault_text run.Script ≡ codes "script: TooLong") × (fault_status run.Script ≡ 4)
+    × (fault_status (run.Setup setup_fault.Memory) ≡ 6)
+setup_faults = (refl, refl, refl, refl, refl, refl, refl)

@@ -3,17 +3,22 @@ use Rattle.std.specs.Prelude.{◌≡◌, ◌⊎◌, ℕ, List, ◌++◌, Result,
 use Rattle.devices.specs.Tape.{Tape, with_more, with_failure}
 use Rattle.show_reader.specs.declared.fault.ShowFault.{ShowFault}
 use Rattle.show_reader.specs.declared.fault.ShowFault.TheVariants as show_fault
+use Rattle.wire_faults.specs.declared.fault.Fault.{Fault}
+use Rattle.wire_faults.specs.declared.fault.Fault.TheVariants as setup_fault
 use Rattle.cueplayer_faults.specs.declared.fault.RunFault.{RunFault}
 use Rattle.cueplayer_faults.specs.declared.fault.RunFault.TheVariants as run
 
--- a fault's status: 2 where a word is refused, 3 where the show is, 4 where an input line is, 5
--- where a device failed or packets were lost, 6 at want of memory
+-- a fault's status: 2 where a word is refused, 3 where the show is, 4 where an input line or a
+-- script is, 5 where a device failed or packets were lost, 6 at want of memory
 abbrev pub fault_status : RunFault → ℕ
 fault_status (run.Show show_fault.Memory) = 6
 fault_status (run.Show fault) = 3
 fault_status run.NoCue = 3
 fault_status run.Base = 2
 fault_status (run.Line line) = 4
+fault_status run.Script = 4
+fault_status (run.Setup setup_fault.Memory) = 6
+fault_status (run.Setup fault) = 4
 fault_status run.Device = 5
 fault_status (run.Lost count) = 5
 fault_status run.Memory = 6
@@ -40,12 +45,22 @@ show_fault_text (show_fault.HalfTriple line) = line_fault_text line (codes "Half
 show_fault_text (show_fault.Limit line) = line_fault_text line (codes "Limit")
 show_fault_text show_fault.Memory = codes "memory"
 
+-- why no rehearsal begins, by its name
+abbrev pub setup_fault_text : Fault → List ℕ
+setup_fault_text setup_fault.Consoles = codes "setup: Consoles"
+setup_fault_text setup_fault.Receivers = codes "setup: Receivers"
+setup_fault_text setup_fault.NoShow = codes "setup: NoShow"
+setup_fault_text setup_fault.Universe = codes "setup: Universe"
+setup_fault_text setup_fault.Memory = codes "memory"
+
 -- the text of a fault
 abbrev pub fault_text : RunFault → List ℕ
 fault_text (run.Show fault) = show_fault_text fault
 fault_text run.NoCue = codes "show: NoCue"
 fault_text run.Base = codes "base: Universe"
 fault_text (run.Line line) = codes "line " ++ decimal line ++ codes " refused"
+fault_text run.Script = codes "script: TooLong"
+fault_text (run.Setup fault) = setup_fault_text fault
 fault_text run.Device = codes "device fault"
 fault_text (run.Lost count) = codes "lost " ++ decimal count
 fault_text run.Memory = codes "memory"

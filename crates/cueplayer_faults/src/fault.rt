@@ -1,11 +1,12 @@
 ghost use Rattle.std.specs.Prelude.{◌≡◌};
 ghost use Rattle.cueplayer_faults.specs.declared.fault.RunFault.TheVariants.{Device, Memory};
-ghost use Rattle.cueplayer_faults.specs.Shows.{of_show};
+ghost use Rattle.cueplayer_faults.specs.Runs.{of_setup, of_show};
 
 use devices::LinkFault;
 use show_reader::ShowFault;
 use std::alloc::AllocError;
 use thiserror::Error;
+use wire_faults::Fault;
 
 /// Why a run does not end well.
 #[derive(Clone, Copy, Debug, PartialEq, Eq, Error)]
@@ -22,6 +23,13 @@ pub enum RunFault {
     /// The input line of this number, from 1, is malformed or too long, or is one line too many.
     #[error("line {0} is refused")]
     Line(u32),
+    /// The script has more than 16,777,216 bytes.
+    #[error("the script is too long")]
+    Script,
+    /// A script's consoles and receivers make no rehearsal. Want of memory while it is rehearsed is
+    /// `Memory`.
+    #[error("no rehearsal begins: {0}")]
+    Setup(Fault),
     /// A file, a socket, an input or an output failed.
     #[error("a device failed")]
     Device,
@@ -40,6 +48,17 @@ impl From<ShowFault> for RunFault {
         match fault {
             ShowFault::Memory => RunFault::Memory,
             _ => RunFault::Show(fault),
+        }
+    }
+}
+
+impl From<Fault> for RunFault {
+    ghost from_gives = { λ fault e. e ≡ of_setup fault };
+
+    fn from(fault: Fault) -> RunFault {
+        match fault {
+            Fault::Memory => RunFault::Memory,
+            _ => RunFault::Setup(fault),
         }
     }
 }

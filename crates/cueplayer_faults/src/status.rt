@@ -7,13 +7,14 @@ use arrayvec::ArrayString;
 use devices::Output;
 use itoa::Buffer;
 use show_reader::ShowFault;
+use wire_faults::Fault;
 
 // A report is one line. There is room for a name of 13 bytes beside the most digits that `itoa`
 // writes of any number.
 type Report = ArrayString<66>;
 
 /// Reports how a run ended, and answers the program's exit status: 0 done, 2 base refused, 3 show
-/// refused, 4 input line refused, 5 device fault or lost packets, 6 want of memory. It takes no
+/// refused, 4 input line or script refused, 5 device fault or lost packets, 6 want of memory. It takes no
 /// memory.
 ///
 /// The report of a fault is one line on the output, and there is none for a run that ended well.
@@ -36,10 +37,10 @@ fn status_of(fault: RunFault) -> u8
     ensures { result ≡ fault_status fault }
 {
     match fault {
-        RunFault::Memory | RunFault::Show(ShowFault::Memory) => 6,
+        RunFault::Memory | RunFault::Show(ShowFault::Memory) | RunFault::Setup(Fault::Memory) => 6,
         RunFault::Base => 2,
         RunFault::Show(_) | RunFault::NoCue => 3,
-        RunFault::Line(_) => 4,
+        RunFault::Line(_) | RunFault::Script | RunFault::Setup(_) => 4,
         RunFault::Device | RunFault::Lost(_) => 5,
     }
 }
@@ -52,6 +53,8 @@ fn report_of(fault: RunFault) -> Report
         RunFault::NoCue => plain("show: NoCue"),
         RunFault::Base => plain("base: Universe"),
         RunFault::Line(line) => numbered("line ", u64::from(line), " refused"),
+        RunFault::Script => plain("script: TooLong"),
+        RunFault::Setup(fault) => plain(setup_text(fault)),
         RunFault::Device => plain("device fault"),
         RunFault::Lost(count) => numbered("lost ", count, ""),
         RunFault::Memory => plain("memory"),
@@ -72,6 +75,19 @@ fn show_report(fault: ShowFault) -> Report
         ShowFault::HalfTriple(line) => at_line(line, "HalfTriple"),
         ShowFault::Limit(line) => at_line(line, "Limit"),
         ShowFault::Memory => plain("memory"),
+    }
+}
+
+fn setup_text(fault: Fault) -> &'static str
+    ensures text { result.now ≡ fault_text (RunFault.Setup fault) }
+    ensures room { length result.now ≤ 63 }
+{
+    match fault {
+        Fault::Consoles => "setup: Consoles",
+        Fault::Receivers => "setup: Receivers",
+        Fault::NoShow => "setup: NoShow",
+        Fault::Universe => "setup: Universe",
+        Fault::Memory => "memory",
     }
 }
 

@@ -2,6 +2,7 @@ use crate::{RunFault, exit_status};
 use devices::memory::MemoryOutput;
 use show_reader::ShowFault;
 use std::alloc::Global;
+use wire_faults::Fault;
 
 // A report's status and text, told by an output that kept all of it.
 fn report(alloc: Global, answer: &Result<(), RunFault>) -> (u8, MemoryOutput) {
@@ -73,6 +74,24 @@ fn statuses(rt: HostRuntime) {
             4,
             b"line 4294967295 refused\n",
         ),
+        (Err(RunFault::Script), 4, b"script: TooLong\n"),
+        (
+            Err(RunFault::Setup(Fault::Consoles)),
+            4,
+            b"setup: Consoles\n",
+        ),
+        (
+            Err(RunFault::Setup(Fault::Receivers)),
+            4,
+            b"setup: Receivers\n",
+        ),
+        (Err(RunFault::Setup(Fault::NoShow)), 4, b"setup: NoShow\n"),
+        (
+            Err(RunFault::Setup(Fault::Universe)),
+            4,
+            b"setup: Universe\n",
+        ),
+        (Err(RunFault::Setup(Fault::Memory)), 6, b"memory\n"),
         (Err(RunFault::Device), 5, b"device fault\n"),
         (Err(RunFault::Lost(1)), 5, b"lost 1\n"),
         (Err(RunFault::Memory), 6, b"memory\n"),

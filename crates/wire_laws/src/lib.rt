@@ -3,16 +3,15 @@
 #![tactic(auto)]
 
 mod event;
-mod fault;
 pub mod laws;
 mod reply;
 mod setup;
 
 pub use console::Offers;
 pub use event::{Event, What};
-pub use fault::Fault;
 pub use reply::{Reply, Skip};
 pub use setup::Setup;
+pub use wire_faults::Fault;
 
 #[cfg(test)]
 mod tests;

@@ -10,8 +10,8 @@ use Rattle.std.proofs.lemmas.List.{length-map, get_or-map}
 use Rattle.std.proofs.lemmas.Option.{get_or_from_slice_get}
 use Rattle.show_core.specs.Tables.{Tables}
 use Rattle.patch_core.specs.Frame.{is_base}
-use Rattle.wire_laws.specs.declared.fault.Fault.TheVariants.{Consoles, Receivers, NoShow}
-use Rattle.wire_laws.specs.declared.fault.Fault.TheVariants.{Universe}
+use Rattle.wire_faults.specs.declared.fault.Fault.TheVariants.{Consoles, Receivers, NoShow}
+use Rattle.wire_faults.specs.declared.fault.Fault.TheVariants.{Universe}
 use Rattle.wire_laws.specs.declared.setup.Setup.{Setup}
 use Rattle.wire_laws.specs.World.{IsConsole, IsIdentity, IsWorld, no_console}
 use Rattle.wire_world.specs.Refusing.{are_consoles, are_receivers, are_universes, is_new_at}

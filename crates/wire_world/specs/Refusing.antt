@@ -10,9 +10,9 @@ use Rattle.patch_core.specs.Frame.{is_base}
 use Rattle.wire_laws.specs.declared.event.Event.{Event}
 use Rattle.wire_laws.specs.declared.event.What.{What}
 use Rattle.wire_laws.specs.declared.event.What.TheVariants.{Stray}
-use Rattle.wire_laws.specs.declared.fault.Fault.{Fault}
-use Rattle.wire_laws.specs.declared.fault.Fault.TheVariants.{Consoles, Receivers, NoShow}
-use Rattle.wire_laws.specs.declared.fault.Fault.TheVariants.{Universe, Memory}
+use Rattle.wire_faults.specs.declared.fault.Fault.{Fault}
+use Rattle.wire_faults.specs.declared.fault.Fault.TheVariants.{Consoles, Receivers, NoShow}
+use Rattle.wire_faults.specs.declared.fault.Fault.TheVariants.{Universe, Memory}
 use Rattle.wire_laws.specs.declared.setup.Setup.{Setup}
 use Rattle.wire_laws.specs.World.{IsIdentity}
 use Rattle.std.specs.Prelude.{All}

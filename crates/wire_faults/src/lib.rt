@@ -1,0 +1,6 @@
+//! Why a rehearsal cannot begin.
+#![tactic(auto)]
+
+mod fault;
+
+pub use fault::Fault;
