@@ -8,7 +8,8 @@ use Rattle.cueplayer_words.specs.Program.{program}
 use Rattle.cueplayer_words.specs.Address.{address_of}
 use Rattle.cueplayer_words.specs.Job.{job_of, number_between}
 use Rattle.cueplayer_words.specs.Asked.{Passes}
-use Rattle.cueplayer_words.specs.declared.job.Job.TheVariants.{Check, Look, Play, Listen}
+use Rattle.cueplayer_words.specs.declared.job.Job.TheVariants.{Check, Look, Play, Rehearse}
+use Rattle.cueplayer_words.specs.declared.job.Job.TheVariants.{Listen}
 
 -- `check a.asc`
 abbrev check_words : List Text
@@ -105,6 +106,19 @@ play_options = refl
 play_unfit_job : job_of (play_words (codes "127.0.0.1") (codes "--priority" ∷ codes "201" ∷ [])) ≡ None
 unfolding clap_on_literals uuid_on_literals
 play_unfit_job = refl
+
+-- `rehearse a.asc b.script`
+abbrev rehearse_words : List Text
+rehearse_words =
+    codes "cueplayer" ∷ codes "rehearse" ∷ codes "a.asc" ∷ codes "b.script" ∷ []
+
+rehearse_passes : Passes rehearse_words
+unfolding clap_on_literals
+rehearse_passes = refl
+
+rehearse_job : job_of rehearse_words ≡ Some (Rehearse (codes "a.asc") (codes "b.script"))
+unfolding clap_on_literals
+rehearse_job = refl
 
 -- the forms of an address
 addresses : (address_of (codes "127.000.000.001:0") ≡ Some (127 ∷ 0 ∷ 0 ∷ 1 ∷ [], 0))

@@ -9,7 +9,8 @@ use Rattle.ascii_text.specs.Forms.{cue_number_of, whole_of}
 use Rattle.cueplayer_words.specs.Address.{address_of}
 use Rattle.cueplayer_words.specs.Program.{program}
 use Rattle.cueplayer_words.specs.declared.job.Job.{Job}
-use Rattle.cueplayer_words.specs.declared.job.Job.TheVariants.{Check, Look, Play, Listen}
+use Rattle.cueplayer_words.specs.declared.job.Job.TheVariants.{Check, Look, Play, Rehearse}
+use Rattle.cueplayer_words.specs.declared.job.Job.TheVariants.{Listen}
 
 -- the value of an argument that has to be there: its text, read by a form
 abbrev pub value_by : {X : Type 0} → (Text → Option X) → Text → List Row → Option X
@@ -54,6 +55,16 @@ play_of rows = play_with (first_of (codes "SHOW") rows) (value_by address_of (co
     (value_or 100 (number_between 0 200) (codes "priority") rows)
     (value_or 1 (number_between 1 63999) (codes "base") rows)
 
+-- a rehearsal, where both of its values are there
+abbrev pub rehearse_with : Option Text → Option Text → Option Job
+rehearse_with (Some show) (Some script) = Some (Rehearse show script)
+rehearse_with _ _ = None
+
+-- the job of `rehearse SHOW SCRIPT`
+abbrev pub rehearse_of : List Row → Option Job
+rehearse_of rows =
+    rehearse_with (first_of (codes "SHOW") rows) (first_of (codes "SCRIPT") rows)
+
 -- a listen, where each of its values is there
 abbrev pub listen_with : Option (List ℕ × ℕ) → Option ℕ → Option ℕ → Option Job
 listen_with (Some at) (Some universe) (Some count) = Some (Listen at universe count)
@@ -76,7 +87,8 @@ abbrev pub line_of : Text × List Row → Option Job
 line_of line = if bytes_eq line.0 (codes "check") then check_of line.1
     else (if bytes_eq line.0 (codes "look") then look_of line.1
     else (if bytes_eq line.0 (codes "play") then play_of line.1
-    else (if bytes_eq line.0 (codes "listen") then listen_of line.1 else None)))
+    else (if bytes_eq line.0 (codes "rehearse") then rehearse_of line.1
+    else (if bytes_eq line.0 (codes "listen") then listen_of line.1 else None))))
 
 -- the job of the line that clap's meaning of the program gives for the words, where each of the
 -- texts that this meaning gives has its form

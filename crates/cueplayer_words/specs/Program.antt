@@ -33,6 +33,11 @@ abbrev pub play_line : App
 play_line =
     with_rule (with_rule short_play_line (option (codes "priority"))) (option (codes "base"))
 
+-- `rehearse SHOW SCRIPT`
+abbrev pub rehearse_line : App
+rehearse_line = with_rule (with_rule (new_app (codes "rehearse"))
+    (required (codes "SHOW"))) (required (codes "SCRIPT"))
+
 -- `listen ADDR UNIVERSE COUNT`
 abbrev pub listen_line : App
 listen_line = with_rule (with_rule (with_rule (new_app (codes "listen"))
@@ -48,6 +53,10 @@ without_lines = record (new_app (codes "cueplayer")) {
 abbrev pub printing_lines : App
 printing_lines = with_subcommand (with_subcommand without_lines check_line.top) look_line.top
 
+-- and with the lines that play
+abbrev pub playing_lines : App
+playing_lines = with_subcommand (with_subcommand printing_lines play_line.top) rehearse_line.top
+
 -- the program with all its lines
 abbrev pub program : App
-program = with_subcommand (with_subcommand printing_lines play_line.top) listen_line.top
+program = with_subcommand playing_lines listen_line.top

@@ -62,6 +62,12 @@ pub enum Job {
         base: u16,
     },
 
+    /// `rehearse SHOW SCRIPT`: run a script in memory.
+    Rehearse {
+        show: Name,
+        script: Name,
+    },
+
     /// `listen ADDR UNIVERSE COUNT`: receive datagrams and print the replies to them. `at` is the
     /// IPv4 address and the UDP port to receive at, the universe is 1 to 63,999, and the count of
     /// datagrams 1 to 1,000,000.

@@ -2,9 +2,10 @@ ghost use Rattle.std.specs.Prelude.{◌≡◌, IfOk, false};
 ghost use Rattle.clap.specs.Words.{app_of, rule_of};
 ghost use Rattle.clap.specs.declared.builder.Command.TheViews.{out-Command as fields_of};
 ghost use Rattle.cueplayer_words.specs.Program.{required, required_option, option, check_line};
-ghost use Rattle.cueplayer_words.specs.Program.{look_line};
+ghost use Rattle.cueplayer_words.specs.Program.{look_line, rehearse_line};
 ghost use Rattle.cueplayer_words.specs.Program.{short_play_line, play_line, listen_line};
-ghost use Rattle.cueplayer_words.specs.Program.{without_lines, printing_lines, program};
+ghost use Rattle.cueplayer_words.specs.Program.{without_lines, printing_lines, playing_lines};
+ghost use Rattle.cueplayer_words.specs.Program.{program};
 
 use clap::{Arg, Command};
 use std::alloc::{AllocError, Global};
@@ -13,9 +14,15 @@ use std::alloc::{AllocError, Global};
 pub(crate) fn program<'a>(alloc: Global) -> Result<Command<'a>, AllocError>
     ensures { IfOk result (λ command. app_of command ≡ program) }
 {
+    playing_lines(alloc)?.subcommand(listen_line(alloc)?)
+}
+
+fn playing_lines<'a>(alloc: Global) -> Result<Command<'a>, AllocError>
+    ensures { IfOk result (λ command. app_of command ≡ playing_lines) }
+{
     printing_lines(alloc)?
         .subcommand(play_line(alloc)?)?
-        .subcommand(listen_line(alloc)?)
+        .subcommand(rehearse_line(alloc)?)
 }
 
 fn printing_lines<'a>(alloc: Global) -> Result<Command<'a>, AllocError>
@@ -89,6 +96,16 @@ fn short_play_line<'a>(alloc: Global) -> Result<Command<'a>, AllocError>
             "The address to send to, or 239.255.0.0 for the universes' multicast groups",
         ))?
         .arg(required_option(alloc, "cid", "UUID", "The sender's CID"))
+}
+
+fn rehearse_line<'a>(alloc: Global) -> Result<Command<'a>, AllocError>
+    ensures app { IfOk result (λ command. app_of command ≡ rehearse_line) }
+    ensures local { IfOk result (λ command. (fields_of command).has_globals ≡ false) }
+{
+    Command::new(alloc, "rehearse")
+        .about("Rehearses a script of consoles, receivers and a network in memory")
+        .arg(required(alloc, "SHOW", "The show's file"))?
+        .arg(required(alloc, "SCRIPT", "The script's file"))
 }
 
 fn listen_line<'a>(alloc: Global) -> Result<Command<'a>, AllocError>

@@ -2,7 +2,8 @@ ghost use Rattle.std.specs.Prelude.{◌≡◌, ◌≤◌, map, option_map, optio
 ghost use Rattle.std.specs.Prelude.{IfSome};
 ghost use Rattle.clap.specs.Words.{found_of, rows_of, subcommand_rows_of};
 ghost use Rattle.cueplayer_words.specs.Job.{line_of, check_of, look_of, look_with};
-ghost use Rattle.cueplayer_words.specs.Job.{play_of, play_with, listen_of, listen_with, IsInRange};
+ghost use Rattle.cueplayer_words.specs.Job.{play_of, play_with, rehearse_of, rehearse_with};
+ghost use Rattle.cueplayer_words.specs.Job.{listen_of, listen_with, IsInRange};
 ghost use Rattle.cueplayer_words.specs.Asked.{Explains, IsAsked, RefusedBy};
 
 use crate::arguments::{address_at, cid_at, cue_at, number_at, number_or, text_at};
@@ -62,6 +63,8 @@ fn read_line(alloc: Global, matches: &ArgMatches<'_>) -> Result<Option<Job>, All
         read_look(alloc, inner)
     } else if line == "play" {
         read_play(alloc, inner)
+    } else if line == "rehearse" {
+        read_rehearse(alloc, inner)
     } else if line == "listen" {
         Ok(read_listen(inner))
     } else {
@@ -156,6 +159,33 @@ fn play_job(
         priority,
         base,
     }))
+}
+
+fn read_rehearse(alloc: Global, matches: &ArgMatches<'_>) -> Result<Option<Job>, AllocError>
+    ensures job { IfOk result (λ job. job ≡ rehearse_of (rows_of (found_of matches.now))) }
+    ensures ranges { IfOk result (λ job. IfSome job IsInRange) }
+{
+    let show = text_at(matches, "SHOW");
+    let script = text_at(matches, "SCRIPT");
+    rehearse_job(alloc, show, script)
+}
+
+fn rehearse_job(
+    alloc: Global,
+    show: Option<&str>,
+    script: Option<&str>,
+) -> Result<Option<Job>, AllocError>
+    ensures job { IfOk result (λ job.
+        job ≡ rehearse_with (option_map (λ text. text.now) show.entry)
+        (option_map (λ text. text.now) script.entry)) }
+    ensures ranges { IfOk result (λ job. IfSome job IsInRange) }
+{
+    let (Some(show), Some(script)) = (show, script) else {
+        return Ok(None);
+    };
+    let show = Name::new(alloc, show)?;
+    let script = Name::new(alloc, script)?;
+    Ok(Some(Job::Rehearse { show, script }))
 }
 
 fn read_listen(matches: &ArgMatches<'_>) -> Option<Job>

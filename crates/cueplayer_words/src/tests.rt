@@ -253,6 +253,23 @@ fn words_of_play(rt: HostRuntime) -> Result<(), Fail> {
 }
 
 #[test]
+fn words_of_rehearse(rt: HostRuntime) -> Result<(), Fail> {
+    let words = ["cueplayer", "rehearse", "a.asc", "-"];
+    let Ok(Job::Rehearse { show, script }) = read(rt.alloc(), words.as_slice()) else {
+        return Err(Fail::from("no rehearse"));
+    };
+    assert!(rt; show.as_str() == "a.asc" && script.as_str() == "-");
+    let words = ["cueplayer", "rehearse", "a.asc"];
+    assert!(rt;
+        matches!(
+            read(rt.alloc(), words.as_slice()),
+            Err(WordsFault::Refused(_))
+        )
+    );
+    Ok(())
+}
+
+#[test]
 fn refusal_text(rt: HostRuntime) -> Result<(), Fail> {
     let words = ["bin/other", "look", "-", "1"];
     let Err(WordsFault::Refused(error)) = read(rt.alloc(), words.as_slice()) else {
