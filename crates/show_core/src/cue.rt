@@ -62,7 +62,7 @@ impl<'a> Cue<'a> {
     pub fn level(&self, channel: u16) -> u8
         ensures { result ≡ level_in self.now.levels channel }
     {
-        self.data.levels.get(channel).unwrap_or(0)
+        self.data.levels.level(channel)
     }
 
     /// The channels that are listed and their level bytes. The entries of a map are sorted, so the

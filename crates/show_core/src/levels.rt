@@ -1,12 +1,13 @@
-ghost use Rattle.std.specs.Prelude.{◌≡◌, IfOk, OnOk, OnErr, IsOk, IsTrue, All};
+ghost use Rattle.std.specs.Prelude.{◌≡◌, IfOk, OnOk, OnErr, IsOk, IsTrue};
 ghost use Rattle.std.specs.FinMap as map;
 ghost use Rattle.show_core.specs.Numbers.{is_channel};
+ghost use Rattle.show_core.specs.Readers.{HasChannels, level_in};
 
 use crate::place::{place, put};
 use std::alloc::{AllocError, Global};
 use std::marker::Model;
 
-/// The level byte of each channel that is listed.
+/// The levels of a record: the level byte of each channel that is listed.
 #[derive(Debug, Drop)]
 pub struct Levels {
     pairs: Vec<(u16, u8)>,
@@ -30,7 +31,7 @@ impl Model for Levels {
 }
 
 impl Levels {
-    pub fn new(alloc: Global) -> Self
+    pub(crate) fn new(alloc: Global) -> Self
         ensures { result ≡ map.empty }
     {
         Levels {
@@ -38,8 +39,8 @@ impl Levels {
         }
     }
 
-    /// A copy.
-    pub fn clone_in(&self, alloc: Global) -> Result<Levels, AllocError>
+    // A copy.
+    pub(crate) fn clone_in(&self, alloc: Global) -> Result<Levels, AllocError>
         ensures { IfOk result (λ copy. copy ≡ self.now) }
     {
         Ok(Levels {
@@ -47,24 +48,26 @@ impl Levels {
         })
     }
 
-    /// The channels that have a level, ascending.
+    /// The channels that are listed and their level bytes. The entries of a map are sorted, so the
+    /// channels strictly ascend.
     pub fn pairs(&self) -> &[(u16, u8)]
         ensures entries { result.now ≡ map.entries self.now }
-        ensures range { All (λ c. IsTrue (is_channel c)) (map.keys self.now) }
+        ensures range { HasChannels self.now }
     {
         &self.pairs
     }
 
-    pub fn get(&self, channel: u16) -> Option<u8>
-        ensures { result ≡ map.get self.now channel }
+    /// The level byte of a channel: 0 where none is listed.
+    pub fn level(&self, channel: u16) -> u8
+        ensures { result ≡ level_in self.now channel }
     {
         match place(&self.pairs, channel) {
-            Ok(at) => Some(self.pairs[at].1),
-            Err(_) => None,
+            Ok(at) => self.pairs[at].1,
+            Err(_) => 0,
         }
     }
 
-    pub fn set(&mut self, channel: u16, byte: u8) -> Result<(), AllocError>
+    pub(crate) fn set(&mut self, channel: u16, byte: u8) -> Result<(), AllocError>
         requires { IsTrue (is_channel channel) }
         ensures ok { OnOk result (self.new ≡ map.insert self.old channel byte) }
         ensures err { OnErr result (self.new ≡ self.old) }

@@ -16,6 +16,7 @@ mod slots;
 
 pub use cue::Cue;
 pub use fault::BuildFault;
+pub use levels::Levels;
 pub use limits::{
     CHANNELS, CUES, DIMMERS, GROUPS, LONGEST_TIME, SLOTS, SUBMASTERS, TOP_CUE, UNIVERSES,
 };

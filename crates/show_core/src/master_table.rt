@@ -96,6 +96,13 @@ impl MasterTable {
         }
     }
 
+    // The records, ascending by their numbers.
+    pub fn records(&self) -> &[(u16, Levels)]
+        ensures { result.now ≡ map.entries self.now }
+    {
+        &self.entries
+    }
+
     pub fn clone_in(&self, alloc: Global) -> Result<MasterTable, AllocError>
         ensures { IfOk result (λ copy. copy ≡ self.now) }
     {

@@ -83,6 +83,13 @@ impl PatchTable {
         }
     }
 
+    // The dimmers that are patched, ascending.
+    pub fn dimmers(&self) -> &[(u16, (u16, u8))]
+        ensures { result.now ≡ map.entries self.now }
+    {
+        &self.entries
+    }
+
     // Whether a dimmer of the universe is patched.
     pub fn has_dimmer_in(&self, ordinal: u16) -> bool
         ensures { result ≡ has_dimmer_in self.now ordinal }

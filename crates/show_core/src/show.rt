@@ -12,6 +12,7 @@ ghost use Rattle.show_core.specs.declared.fault.BuildFault.TheVariants.{Limit, M
 use crate::cue::Cue;
 use crate::cue_table::CueTable;
 use crate::fault::BuildFault;
+use crate::levels::Levels;
 use crate::limits::{
     CHANNELS, CUES, SLOTS, UNIVERSES, is_channel, is_cue_number, is_dimmer, is_group, is_sub,
 };
@@ -298,6 +299,24 @@ impl Show {
         self.cues.before(n)
     }
 
+    /// The submasters that are there, each with its number, 1 to 100, and its levels. The entries of
+    /// a map are sorted, so the numbers strictly ascend.
+    pub fn subs(&self) -> &[(u16, Levels)]
+        ensures entries { result.now ≡ map.entries self.now.subs }
+        ensures range { All (λ e. IsTrue (is_sub e.0)) result.now }
+    {
+        self.subs.records()
+    }
+
+    /// The groups that are there, each with its number, 1 to 500, and its levels. The entries of a
+    /// map are sorted, so the numbers strictly ascend.
+    pub fn groups(&self) -> &[(u16, Levels)]
+        ensures entries { result.now ≡ map.entries self.now.groups }
+        ensures range { All (λ e. IsTrue (is_group e.0)) result.now }
+    {
+        self.groups.records()
+    }
+
     /// The channels of submaster `n` and their level bytes. The entries of a map are sorted, so the
     /// channels strictly ascend.
     pub fn sub(&self, n: u16) -> Option<&[(u16, u8)]>
@@ -326,6 +345,15 @@ impl Show {
         ensures range { IfSome result (λ p. IsTrue (is_dimmer dimmer) × IsTrue (is_channel p.0)) }
     {
         self.patch.get(dimmer)
+    }
+
+    /// The dimmers that are patched, 1 to 8192, each with its channel, 1 to 4096, and its level
+    /// byte. The entries of a map are sorted, so the dimmers strictly ascend.
+    pub fn patch(&self) -> &[(u16, (u16, u8))]
+        ensures entries { result.now ≡ map.entries self.now.patch }
+        ensures range { All (λ e. IsTrue (is_dimmer e.0) × IsTrue (is_channel e.1.0)) result.now }
+    {
+        self.patch.dimmers()
     }
 
     /// The ordinals of the universes that have a patched dimmer, ascending.

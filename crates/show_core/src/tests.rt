@@ -149,6 +149,28 @@ fn is_small(show: &Show) -> bool {
 }
 
 #[test]
+fn records_of_a_show(rt: HostRuntime) -> Result<(), Fail> {
+    let mut show = Show::new(rt.alloc());
+    for n in [100, 2] {
+        show.open_sub(n)?;
+        show.open_group(n + 400)?;
+        show.set_patch(8192 - n, 4096, 7)?;
+    }
+    light_sub(&rt, &mut show, 2, 1, 128)?;
+    light_group(&rt, &mut show, 500, 5, 255)?;
+    assert!(rt;
+        show.subs()
+            .iter()
+            .map(|sub| (sub.0, sub.1.level(1)))
+            .eq([(2, 128), (100, 0)])
+    );
+    let levels = show.groups().last().map(|group| group.1.pairs());
+    assert!(rt; show.groups().len() == 2 && levels == Some([(5, 255)].as_slice()));
+    assert!(rt; show.patch() == [(8092, (4096, 7)), (8190, (4096, 7))].as_slice());
+    Ok(())
+}
+
+#[test]
 fn copies_stand_alone(rt: HostRuntime) -> Result<(), Fail> {
     let mut show = Show::new(rt.alloc());
     small_show(&rt, &mut show)?;
