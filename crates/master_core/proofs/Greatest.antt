@@ -1,52 +1,56 @@
 -- The greatest of the records of a table, record by record.
-use Rattle.std.proofs.Common.{◌≡◌, ℕ, ◌+◌, ◌*◌, T, List, [], ◌∷◌, ◌++◌, Option, Some, None, refl, ap, ◌∙◌, arith, length}
-use Rattle.std.specs.Prelude.{All, filter, map, max, nat_lt}
-use Rattle.std.specs.Option.{option_map_or}
-use Rattle.std.specs.Ordering.{nat_cmp}
-use Rattle.std.specs.FinMap.{find, is_sorted}
-use Rattle.std.proofs.lemmas.List.{map-append}
-use Rattle.std.proofs.lemmas.List.Elements.{All-head, All-tail}
-use Rattle.master_core.specs.Merged.{greatest}
-use Rattle.master_core.proofs.Entries.{below_more, entry_of}
+use Rattle.std.proofs.Common.{◌≡◌, ℕ, ◌+◌, ◌*◌, ◌<◌, List, [], ◌∷◌, ◌++◌, length, get_or}
+use Rattle.std.proofs.Common.{take, refl, sym, ap, ◌∙◌, arith}
+use Rattle.std.specs.Prelude.{All, map, max}
+use Rattle.std.specs.FinMap.{entries}
+use Rattle.std.proofs.lemmas.List.{map-append, take_more}
+use Rattle.std.proofs.lemmas.List.Elements.{All-head, All-tail, All-weaker}
+use Rattle.show_core.specs.Readers.{level_in}
+use Rattle.show_core.specs.Tables.{LevelMap, MasterMap}
+use Rattle.master_core.specs.Merged.{greatest, greatest_in}
 
-greatest-append : (xs ys : List ℕ) → greatest (xs ++ ys) ≡ max (greatest xs) (greatest ys)
-greatest-append [] ys = omega arith
-greatest-append (x ∷ xs) ys = let rest : greatest (xs ++ ys) ≡ max (greatest xs) (greatest ys) = greatest-append xs ys in omega arith
+-- one number more
+greatest_more : (xs : List ℕ) (y : ℕ) → greatest (xs ++ y ∷ []) ≡ max (greatest xs) y
+greatest_more [] y = omega arith
+greatest_more (x ∷ xs) y =
+    let rest : greatest (xs ++ y ∷ []) ≡ max (greatest xs) y = greatest_more xs y in omega arith
 
-module _ {V : Type 0} (byte : V → ℕ) (master : ℕ → ℕ) where
-  -- what one number adds
-  one : (n : ℕ) (found : Option V) → greatest (map (λ e. byte e.1 * master e.0) (entry_of n found)) ≡ option_map_or byte found 0 * master n
-  one n None = omega arith
-  one n (Some v) = omega arith
+module _ {A : Type 0} (level : A → ℕ) (xs : List A) (i : ℕ) (x : A) (lt : i < length xs)
+    (is : x ≡ get_or xs i x) where
+  -- one record more
+  pub greatest_next : greatest (map level (take (i + 1) xs))
+      ≡ max (greatest (map level (take i xs))) (level x)
+  greatest_next =
+      ap (λ l. greatest (map level l)) (take_more xs i x lt)
+      ∙ ap greatest (map-append level (take i xs) (get_or xs i x ∷ []))
+      ∙ greatest_more (map level (take i xs)) (level (get_or xs i x))
+      ∙ ap (λ y. max (greatest (map level (take i xs))) (level y)) (sym is)
 
-  -- the records below the next number: those below this one, and its own
-  pub greatest_more : (es : List (ℕ × V)) → T (is_sorted nat_cmp es) → (n : ℕ)
-      → greatest (map (λ e. byte e.1 * master e.0) (filter (λ e. nat_lt e.0 (n + 1)) es))
-      ≡ max (greatest (map (λ e. byte e.1 * master e.0) (filter (λ e. nat_lt e.0 n) es))) (option_map_or byte (find nat_cmp n es) 0 * master n)
-  greatest_more es sorted n =
-      let f : ℕ × V → ℕ = λ (e : ℕ × V). byte e.1 * master e.0 in
-      let before : List (ℕ × V) = filter (λ (e : ℕ × V). nat_lt e.0 n) es in
-      ap (λ l. greatest (map f l)) (below_more es sorted n)
-      ∙ ap greatest (map-append f before (entry_of n (find nat_cmp n es)))
-      ∙ greatest-append (map f before) (map f (entry_of n (find nat_cmp n es)))
-      ∙ ap (max (greatest (map f before))) (one n (find nat_cmp n es))
+  -- a record that makes 0 adds nothing
+  pub greatest_dark : level x ≡ 0
+      → greatest (map level (take (i + 1) xs)) ≡ greatest (map level (take i xs))
+  greatest_dark dark = omega (arith, greatest_next, dark)
 
-  -- a record whose master is 0 adds nothing
-  pub greatest_dark : (es : List (ℕ × V)) → T (is_sorted nat_cmp es) → (n : ℕ) → master n ≡ 0
-      → greatest (map (λ e. byte e.1 * master e.0) (filter (λ e. nat_lt e.0 (n + 1)) es)) ≡ greatest (map (λ e. byte e.1 * master e.0) (filter (λ e. nat_lt e.0 n) es))
-  greatest_dark es sorted n dark =
-      let before : ℕ = greatest (map (λ (e : ℕ × V). byte e.1 * master e.0) (filter (λ (e : ℕ × V). nat_lt e.0 n) es)) in
-      let kept : max before (option_map_or byte (find nat_cmp n es) 0 * 0) ≡ before = omega arith in
-      greatest_more es sorted n ∙ ap (λ m. max before (option_map_or byte (find nat_cmp n es) 0 * m)) dark ∙ kept
+-- masters that agree at the records make the same
+greatest_same : {V : Type 0} (byte : V → ℕ) (master other : ℕ → ℕ) (es : List (ℕ × V))
+    → All (λ e. master e.0 ≡ other e.0) es
+    → greatest (map (λ e. byte e.1 * master e.0) es) ≡ greatest (map (λ e. byte e.1 * other e.0) es)
+greatest_same byte master other [] h = refl
+greatest_same byte master other (e ∷ es) h =
+    ap (λ m. max (byte e.1 * m) (greatest (map (λ e. byte e.1 * master e.0) es)))
+    (All-head (λ e. master e.0 ≡ other e.0) e es h)
+    ∙ ap (max (byte e.1 * other e.0))
+    (greatest_same byte master other es (All-tail (λ e. master e.0 ≡ other e.0) e es h))
 
-  pub greatest_none : (es : List (ℕ × V)) → length es ≡ 0 → greatest (map (λ e. byte e.1 * master e.0) es) ≡ 0
-  greatest_none [] h = refl
-  greatest_none (e ∷ es) h = absurd (omega arith)
-
-  -- masters that agree at the records make the same
-  pub greatest_same : (es : List (ℕ × V)) (other : ℕ → ℕ) → All (λ e. master e.0 ≡ other e.0) es
-      → greatest (map (λ e. byte e.1 * master e.0) es) ≡ greatest (map (λ e. byte e.1 * other e.0) es)
-  greatest_same [] other h = refl
-  greatest_same (e ∷ es) other h =
-      ap (λ m. max (byte e.1 * m) (greatest (map (λ e. byte e.1 * master e.0) es))) (All-head (λ e. master e.0 ≡ other e.0) e es h)
-      ∙ ap (max (byte e.1 * other e.0)) (greatest_same es other (All-tail (λ e. master e.0 ≡ other e.0) e es h))
+-- the records of a table, whose numbers are of a kind, with bytes that are the masters of that kind
+module _ (P : ℕ → Type 0) (records : MasterMap) (es : List (ℕ × LevelMap))
+    (are : es ≡ entries records) (numbers : All (λ e. P e.0) es) where
+  pub highest_is : (bytes : List ℕ) (master : ℕ → ℕ) (channel : ℕ)
+      → ((n : ℕ) → P n → get_or bytes n 0 ≡ master n)
+      → greatest (map (λ e. level_in e.1 channel * get_or bytes e.0 0) es)
+      ≡ greatest_in records master channel
+  highest_is bytes master channel agrees =
+      greatest_same (λ levels. level_in levels channel) (λ n. get_or bytes n 0) master es
+      (All-weaker (λ e. P e.0) (λ e. get_or bytes e.0 0 ≡ master e.0) (λ e h. agrees e.0 h) es
+      numbers)
+      ∙ ap (λ l. greatest (map (λ e. level_in e.1 channel * master e.0) l)) are

@@ -1,5 +1,3 @@
-pub mod Entries
 pub mod Greatest
-pub mod Tables
 pub mod Setting
 mod Rows

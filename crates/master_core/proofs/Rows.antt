@@ -8,7 +8,8 @@ use Rattle.show_core.specs.Readers.{level_in}
 use Rattle.show_core.specs.Tables.{LevelMap, MasterMap}
 use Rattle.show_core.proofs.Sorted.{get_is}
 use Rattle.master_core.specs.Merged.{greatest, greatest_in}
-use Rattle.master_core.specs.Settings.{Setting, sub_setting, group_setting, grand_setting, sub_after, group_after, grand_after}
+use Rattle.master_core.specs.Settings.{Setting, sub_setting, group_setting, grand_setting}
+use Rattle.master_core.specs.Settings.{sub_after, group_after, grand_after}
 
 -- one record that lists one channel
 one_pair : ℕ → ℕ → LevelMap
@@ -27,9 +28,12 @@ half = group_setting 3 128 ∷ grand_setting 9 ∷ group_setting 3 255 ∷ []
 group_highest : greatest_in (one_record 3 5 255) (group_after half) 5 ≡ 32640
 unfolding half one_record
 group_highest =
-    ap (λ l. greatest (map (λ e. level_in e.1 5 * group_after half e.0) l)) (entries-from_sorted nat_cmp ((3, one_pair 5 255) ∷ []) tt)
+    ap (λ l. greatest (map (λ e. level_in e.1 5 * group_after half e.0) l))
+    (entries-from_sorted nat_cmp ((3, one_pair 5 255) ∷ []) tt)
     ∙ ap (λ x. max (x * 128) 0) level_in-one_pair
 
-settings_of_each : (sub_after half 3 ≡ 0) × (group_after half 3 ≡ 128) × (group_after half 4 ≡ 0) × (grand_after half ≡ 9) × (grand_after [] ≡ 255) × (sub_after (sub_setting 1 128 ∷ half) 1 ≡ 128)
+settings_of_each : (sub_after half 3 ≡ 0) × (group_after half 3 ≡ 128) × (group_after half 4 ≡ 0)
+    × (grand_after half ≡ 9) × (grand_after [] ≡ 255)
+    × (sub_after (sub_setting 1 128 ∷ half) 1 ≡ 128)
 unfolding half
 settings_of_each = (refl, refl, refl, refl, refl, refl)

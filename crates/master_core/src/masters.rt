@@ -9,7 +9,7 @@ ghost use Rattle.master_core.specs.Settings.{Setting, sub_setting, group_setting
 ghost use Rattle.master_core.specs.Settings.{grand_after, StandsFor};
 
 use crate::fault::NoMaster;
-use crate::highest::{highest_group, highest_sub};
+use crate::highest::highest;
 use show_core::Show;
 use std::marker::Model;
 
@@ -121,8 +121,8 @@ impl Masters {
         ensures full { playback ≤ 65025 → result ≤ 65025 }
     {
         playback
-            .max(highest_sub(show, &self.subs, channel))
-            .max(highest_group(show, &self.groups, channel))
+            .max(highest(show.subs(), &self.subs, channel))
+            .max(highest(show.groups(), &self.groups, channel))
     }
 }
 

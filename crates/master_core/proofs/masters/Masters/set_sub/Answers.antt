@@ -6,5 +6,7 @@ use Rattle.master_core.proofs.masters.Masters.set_sub.Goals as goal
 
 pub returns-clause-stands : goal.returns-clause-stands
 returns-clause-stands c = λ settings stands.
-    rw c.from.ensures (StandsFor-sub (masters_view c.self.inside) c.args.n c.args.byte settings c.self.invariant.subs_to_100 c.if-not-has_sub.ensures.range
+    rw c.from.ensures
+    (StandsFor-sub (masters_view c.self.inside) c.args.n c.args.byte settings
+    c.self.invariant.subs_to_100 c.if-not-has_sub.ensures.range
     (subst (λ m. StandsFor m settings) (sym c.self.view_is) stands))
