@@ -4,13 +4,12 @@ ghost use Rattle.std.specs.List.{AllWithin, list_all};
 ghost use Rattle.std.specs.Ordering.{nat_cmp};
 ghost use Rattle.std.specs.FinMap as map;
 ghost use Rattle.show_core.specs.Numbers.{is_channel};
-ghost use Rattle.show_core.specs.Readers.{IsInRange};
 ghost use Rattle.patch_core.specs.Frame.{is_universe, is_base, level_in, frame_of};
 ghost use Rattle.patch_core.specs.declared.fault.RigFault.TheVariants.{Universe, Memory};
 
 use crate::fault::RigFault;
-use show_core::{DIMMERS, SLOTS, Show, slot};
-use std::alloc::{AllocError, Global};
+use show_core::{SLOTS, Show, slot};
+use std::alloc::Global;
 use std::marker::Model;
 
 /// Universes are numbered from 1 to this (E1.31, Universe).
@@ -58,7 +57,7 @@ impl Rig {
         if !has_numbers(show, base) {
             return Err(RigFault::Universe);
         }
-        let dimmers = patched_dimmers(alloc, show)?;
+        let dimmers = Vec::from_slice(alloc, show.patch())?;
         Ok(Rig { base, dimmers })
     }
 
@@ -114,20 +113,6 @@ fn are_universes(base: u16, ordinals: &[u16]) -> bool
     ensures { result ≡ list_all (λ ordinal. is_universe (base + ordinal)) ordinals.now }
 {
     ordinals.iter().all(|ordinal| is_universe(u32::from(base) + u32::from(*ordinal)))
-}
-
-// The patched dimmers, ascending, each with its channel and its byte.
-fn patched_dimmers(alloc: Global, show: &Show) -> Result<Vec<(u16, (u16, u8))>, AllocError>
-    ensures entries { IfOk result (λ dimmers. dimmers.items ≡ map.entries show.now.patch) }
-    ensures range { IsInRange show.now }
-{
-    let mut dimmers = Vec::with_capacity(alloc, show.counts().dimmers as usize)?;
-    for dimmer in 1..=DIMMERS {
-        if let Some(patch) = show.patched(dimmer) {
-            dimmers.push((dimmer, patch))?;
-        }
-    }
-    Ok(dimmers)
 }
 
 // The place where the dimmers from this one on begin.
