@@ -1,7 +1,6 @@
 pub mod Shows
 pub mod Packets
 pub mod Rows
-pub mod SlotsLines
 pub mod Histories
 pub mod Listened
 mod ListenRows

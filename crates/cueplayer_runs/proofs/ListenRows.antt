@@ -3,7 +3,6 @@ use Rattle.std.specs.Prelude.{◌≡◌, List, [], ◌∷◌, ◌++◌, replicat
 use Rattle.std.specs.Fmt.{digits}
 use Rattle.sacn_packet.specs.Layers.{dmp_layer, framing_layer, root_layer}
 use Rattle.cueplayer_runs.specs.Texts.{look_fields}
-use Rattle.cueplayer_runs.specs.Replies.{slots_line}
 use Rattle.cueplayer_runs.specs.Listening.{listen_text}
 
 abbrev cid : List ℕ
@@ -18,7 +17,3 @@ listen_three : listen_text 1 ((replicate 5 0) ∷ look_one ∷ look_one ∷ [])
     ≡ codes "1 taken 0\n2 ignored OutOfSequence\n3 ignored Unreadable Short\nslots 1:64\n"
 unfolding digits
 listen_three = refl
-
-some_slots : slots_line (0 ∷ 255 ∷ 0 ∷ 7 ∷ []) ≡ codes "slots 2:255 4:7\n"
-unfolding digits
-some_slots = refl

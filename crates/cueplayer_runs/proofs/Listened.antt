@@ -8,7 +8,7 @@ use Rattle.sacn_receiver.specs.Kept.{Kept, StandsFor}
 use Rattle.sacn_receiver.specs.Shown.{shown_slots}
 use Rattle.cueplayer_faults.specs.declared.fault.RunFault.{RunFault}
 use Rattle.cueplayer_faults.specs.declared.fault.RunFault.TheVariants as run
-use Rattle.cueplayer_runs.specs.Replies.{slots_line}
+use Rattle.receiver_text.specs.Replies.{slots_line}
 use Rattle.cueplayer_runs.specs.Listening.{GaveAll, Listens, DeviceFailed, SlotsFailed}
 use Rattle.cueplayer_runs.specs.Listening.{history, listen_text, replies, reply_line}
 

@@ -1,5 +1,4 @@
 pub mod Texts
 pub mod Prints
 pub mod Faults
-pub mod Replies
 pub mod Listening

@@ -8,7 +8,7 @@ use Rattle.sacn_receiver.specs.Shown.{shown_slots}
 use Rattle.devices.specs.Tape.{Tape, with_more, with_failure}
 use Rattle.cueplayer_faults.specs.declared.fault.RunFault.{RunFault}
 use Rattle.cueplayer_faults.specs.declared.fault.RunFault.TheVariants as run
-use Rattle.cueplayer_runs.specs.Replies.{reply_text, slots_line}
+use Rattle.receiver_text.specs.Replies.{reply_text, slots_line}
 
 -- the history of a receiver of a universe, with room for four sources, to which these datagrams
 -- came, all of them at moment 0

@@ -2,7 +2,6 @@
 #![tactic(auto)]
 
 mod listening;
-mod replies;
 mod runs;
 mod texts;
 

@@ -3,9 +3,9 @@ ghost use Rattle.devices.specs.Tape.{with_more};
 ghost use Rattle.sacn_receiver.specs.Kept.{StandsFor};
 ghost use Rattle.cueplayer_runs.specs.Listening.{history, reply_line, Listens, NextFails};
 
-use crate::replies::{reply_line, slots_line};
 use cueplayer_faults::RunFault;
 use devices::{Datagrams, Output};
+use receiver_text::{reply_line, slots_line};
 use sacn_receiver::Receiver;
 
 /// Receives so many datagrams as a receiver of the universe, and prints the reply to each and,
@@ -67,6 +67,6 @@ fn reply_to_next<D: Datagrams, W: Output>(
     let mut datagram = [0; 1500];
     let length = source.receive(&mut datagram)?;
     let reply = receiver.take(0, &datagram[..length]);
-    out.write(reply_line(number, reply).as_str().as_bytes())?;
+    out.write(reply_line(u64::from(number), reply).as_str().as_bytes())?;
     Ok(())
 }

@@ -1,5 +1,5 @@
 use Rattle.std.proofs.Common.{◌+◌, ◌≡◌, ◌∷◌, length, sym, ap, ◌∙◌, inr, arith}
-use Rattle.cueplayer_runs.specs.Replies.{slots_line}
+use Rattle.receiver_text.specs.Replies.{slots_line}
 use Rattle.cueplayer_runs.specs.Listening.{history}
 use Rattle.cueplayer_runs.proofs.Histories.{last_moment-history}
 use Rattle.cueplayer_runs.proofs.Listened.{ends, gave_more, slots_failed, took_all, took_more}

@@ -6,7 +6,7 @@ use Rattle.sacn_receiver.specs.declared.answer.Ignored.{Ignored}
 use Rattle.sacn_receiver.specs.Source.{Entry}
 use Rattle.sacn_receiver.specs.Taking.{answer, heard}
 use Rattle.sacn_receiver.specs.Kept.{StandsFor}
-use Rattle.cueplayer_runs.specs.Replies.{reply_text}
+use Rattle.receiver_text.specs.Replies.{reply_text}
 use Rattle.cueplayer_runs.specs.Listening.{history, reply_line, NextFails}
 use Rattle.cueplayer_runs.proofs.listening.reply_to_next.Goals as goal
 
@@ -50,5 +50,6 @@ returns-clause-ok g c = λ universe older universe_is numbered stands.
       λ tells.
           let line = c.as_bytes.ensures.value ∙ c.as_str.ensures.value ∙ c.reply_line.ensures in
           c.in_ok-write.ensures.ok tells ∙ ap (with_more (g.W.Output.tape c.args.out.now))
-          (line_is universe datagram older c.args.number c.take-reply.result _ numbered answered line),
+          (line_is universe datagram older c.from.result c.take-reply.result _
+          (c.from.ensures ∙ numbered) answered line),
     )

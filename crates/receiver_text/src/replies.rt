@@ -1,21 +1,19 @@
 ghost use Rattle.std.specs.Prelude.{◌≡◌, ◌≤◌, ◌+◌, ◌++◌, [], length, codes, decimal, if◌then◌else◌};
 ghost use Rattle.sacn_receiver.specs.declared.answer.Ignored.TheVariants as receiver;
-ghost use Rattle.cueplayer_runs.specs.Replies.{ignored_name, reply_text, slot_text, slots_line};
+ghost use Rattle.receiver_text.specs.Replies.{ignored_name, reply_text};
 
 use arrayvec::ArrayString;
 use itoa::Buffer;
 use sacn_packet::Unreadable;
 use sacn_receiver::{Ignored, Taken};
 
-// There is room for the longest line: ten digits, ` ignored Unreadable FramingVector` and LF.
-pub(crate) type ReplyLine = ArrayString<44>;
+/// A printed line of a reply.
+///
+/// There is room for a number of 20 digits, ` ignored Unreadable FramingVector` and LF.
+pub type ReplyLine = ArrayString<54>;
 
-// There is room for `slots`, a space, up to five digits, a colon and up to three digits for each of
-// the slots, and LF.
-pub(crate) type SlotsLine = ArrayString<5126>;
-
-/// The line of the reply to the datagram of a number.
-pub(crate) fn reply_line(number: u32, reply: Result<Taken, Ignored>) -> ReplyLine
+/// The line of the reply to a datagram, behind a number.
+pub fn reply_line(number: u64, reply: Result<Taken, Ignored>) -> ReplyLine
     ensures { result.bytes ≡ decimal number ++ codes " " ++ reply_text reply ++ codes "\n" }
 {
     let mut line = ReplyLine::new();
@@ -27,7 +25,7 @@ pub(crate) fn reply_line(number: u32, reply: Result<Taken, Ignored>) -> ReplyLin
 }
 
 fn push_reply(line: &mut ReplyLine, reply: Result<Taken, Ignored>)
-    requires { length line.old.bytes ≤ 11 }
+    requires { length line.old.bytes ≤ 21 }
     ensures text { line.new.bytes ≡ line.old.bytes ++ reply_text reply }
     ensures room { length line.new.bytes ≤ length line.old.bytes + 32 }
 {
@@ -41,7 +39,7 @@ fn push_reply(line: &mut ReplyLine, reply: Result<Taken, Ignored>)
 }
 
 fn push_taken(line: &mut ReplyLine, taken: Taken)
-    requires { length line.old.bytes ≤ 11 }
+    requires { length line.old.bytes ≤ 21 }
     ensures text { line.new.bytes ≡ line.old.bytes ++ reply_text (Ok taken) }
     ensures room { length line.new.bytes ≤ length line.old.bytes + 32 }
 {
@@ -87,31 +85,5 @@ fn unreadable_name(fault: Unreadable) -> &'static str
         Unreadable::Universe => "Unreadable Universe",
         Unreadable::Dmp => "Unreadable Dmp",
         Unreadable::Count => "Unreadable Count",
-    }
-}
-
-/// The line of the slots that are not 0.
-pub(crate) fn slots_line(slots: &[u8; 512]) -> SlotsLine
-    ensures { result.bytes ≡ slots_line slots.now }
-{
-    let mut line = SlotsLine::new();
-    line.push_str("slots");
-    for (slot, value) in slots.iter().enumerate() {
-        push_slot(&mut line, slot as u16 + 1, *value);
-    }
-    line.push_str("\n");
-    line
-}
-
-fn push_slot(line: &mut SlotsLine, number: u16, value: u8)
-    requires { length line.old.bytes + 10 ≤ 5126 }
-    ensures text { line.new.bytes ≡ line.old.bytes ++ slot_text (number, value) }
-    ensures room { length line.new.bytes ≤ length line.old.bytes + 10 }
-{
-    if value != 0 {
-        line.push_str(" ");
-        line.push_str(Buffer::new().format(number));
-        line.push_str(":");
-        line.push_str(Buffer::new().format(value));
     }
 }

@@ -43,6 +43,14 @@ abbrev pub slot_text : ℕ × ℕ → List ℕ
 slot_text (number, value) =
     if value == 0 then [] else codes " " ++ decimal number ++ codes ":" ++ decimal value
 
--- a slots line: the slots that are not 0, numbered from 1
+-- the slots that are not 0, numbered from 1
+abbrev pub slots_text : List ℕ → List ℕ
+slots_text slots = codes "slots" ++ flat_map slot_text (enumerate_from 1 slots)
+
+-- a slots line
 abbrev pub slots_line : List ℕ → List ℕ
-slots_line slots = codes "slots" ++ flat_map slot_text (enumerate_from 1 slots) ++ codes "\n"
+slots_line slots = slots_text slots ++ codes "\n"
+
+-- the slots of a receiver, counted from 0, at the end of a run
+abbrev pub end_line : ℕ → List ℕ → List ℕ
+end_line receiver slots = codes "end " ++ decimal receiver ++ codes " " ++ slots_line slots

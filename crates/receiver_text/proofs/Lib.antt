@@ -1,0 +1,2 @@
+pub mod SlotsLines
+mod Rows

@@ -1,0 +1,14 @@
+//! A receiver in words: its replies to datagrams, and its slots.
+//!
+//! [`reply_line`] and [`numbered_slots`] write behind a number, which is a datagram's own, or that
+//! of a script's line; [`slots_line`] and [`end_line`] show the slots at the end of a run.
+#![tactic(auto)]
+
+mod replies;
+mod slots;
+
+pub use replies::{ReplyLine, reply_line};
+pub use slots::{SlotsLine, end_line, numbered_slots, slots_line};
+
+#[cfg(test)]
+mod tests;

@@ -1,0 +1,67 @@
+ghost use Rattle.std.specs.Prelude.{◌≡◌, ◌≤◌, ◌+◌, ◌++◌, length, codes, decimal};
+ghost use Rattle.receiver_text.specs.Replies.{end_line, slot_text, slots_line};
+
+use arrayvec::ArrayString;
+use itoa::Buffer;
+
+/// A printed line of slots.
+///
+/// There is room for a number of 20 digits and a space, `slots`, a space, up to five digits, a
+/// colon and up to three digits for each of the slots, and LF.
+pub type SlotsLine = ArrayString<5147>;
+
+/// The line of the slots that are not 0, each 0 to 255.
+pub fn slots_line(slots: &[u8; 512]) -> SlotsLine
+    ensures { result.bytes ≡ slots_line slots.now }
+{
+    let mut line = SlotsLine::new();
+    push_slots(&mut line, slots);
+    line
+}
+
+/// That line behind a number.
+pub fn numbered_slots(number: u64, slots: &[u8; 512]) -> SlotsLine
+    ensures { result.bytes ≡ decimal number ++ codes " " ++ slots_line slots.now }
+{
+    let mut line = SlotsLine::new();
+    line.push_str(Buffer::new().format(number));
+    line.push_str(" ");
+    push_slots(&mut line, slots);
+    line
+}
+
+/// The line of the slots of a receiver, counted from 0, at the end of a run.
+pub fn end_line(receiver: u16, slots: &[u8; 512]) -> SlotsLine
+    ensures { result.bytes ≡ end_line receiver slots.now }
+{
+    let mut line = SlotsLine::new();
+    line.push_str("end ");
+    line.push_str(Buffer::new().format(receiver));
+    line.push_str(" ");
+    push_slots(&mut line, slots);
+    line
+}
+
+fn push_slots(line: &mut SlotsLine, slots: &[u8; 512])
+    requires { length line.old.bytes ≤ 21 }
+    ensures { line.new.bytes ≡ line.old.bytes ++ slots_line slots.now }
+{
+    line.push_str("slots");
+    for (slot, value) in slots.iter().enumerate() {
+        push_slot(line, slot as u16 + 1, *value);
+    }
+    line.push_str("\n");
+}
+
+fn push_slot(line: &mut SlotsLine, slot: u16, value: u8)
+    requires { length line.old.bytes + 10 ≤ 5147 }
+    ensures text { line.new.bytes ≡ line.old.bytes ++ slot_text (slot, value) }
+    ensures room { length line.new.bytes ≤ length line.old.bytes + 10 }
+{
+    if value != 0 {
+        line.push_str(" ");
+        line.push_str(Buffer::new().format(slot));
+        line.push_str(":");
+        line.push_str(Buffer::new().format(value));
+    }
+}
