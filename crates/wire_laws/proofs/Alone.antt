@@ -31,9 +31,9 @@ use Rattle.sacn_receiver.specs.Laws.{accepted}
 use Rattle.sacn_receiver.specs.Shown.{Light, light_of, merged, shown, shown_slots}
 use Rattle.sacn_receiver.proofs.Members.{In, In_mapped}
 use Rattle.wire_laws.specs.declared.event.Event.{Event}
-use Rattle.wire_laws.specs.World.{World, console_at, universe_at, IsWorld}
+use Rattle.wire_laws.specs.World.{World, console_at, universe_at, plays, IsWorld}
 use Rattle.console.specs.Streams.{offers_of}
-use Rattle.wire_laws.specs.Happened.{acts, stream, plays, sent, accepted_by}
+use Rattle.wire_laws.specs.Happened.{acts, stream, sent, accepted_by}
 use Rattle.wire_laws.specs.Replies.{last_moment, done}
 use Rattle.wire_laws.specs.Delivery.{Delivery, delivered, newest_of, IsInWindow}
 use Rattle.wire_laws.specs.Laws.{IsAlone, NoStray, IsFreshIn, IsFresh, is_live, meant, slots_at}

@@ -23,7 +23,7 @@ use Rattle.wire_laws.specs.Laws.{CidsDiffer, IsAlone, IsUnheard, NoStray}
 use Rattle.wire_laws.proofs.Grows.{Begins, sent_more}
 use Rattle.wire_laws.proofs.Bytes.{entry, heard_is, heard_elsewhere, stray_left}
 use Rattle.wire_laws.proofs.Runs.{IsRun, timely, deliverer, last_accepted}
-use Rattle.wire_laws.proofs.Full.{sent_full, sent_universe}
+use Rattle.wire_laws.proofs.Full.{sent_full, sent_source, sent_universe}
 
 -- the consoles' packets of its universe that came to receiver r, as a receiver sees them
 abbrev pub came_more : Identity → ℕ → ℕ → Option Packet → List Entry → List Entry
@@ -51,7 +51,7 @@ module _ (w : World) (r : ℕ) (past : List Event) (t : ℕ) (h : List Entry) (i
   elsewhere i u k c n None e = is
   elsewhere i u k c n (Some p) e =
       let range = sent_universe w i u k past p c e in
-      heard_elsewhere (console_at w i).source u k p c.source_in
+      heard_elsewhere (console_at w i).source u k p (sent_source w i u k past p c e)
       (sent_full w i u k past p e) range.0 range.1 h t time (universe_at w r) n ∙ is
 
   -- a packet of its own
@@ -63,7 +63,8 @@ module _ (w : World) (r : ℕ) (past : List Event) (t : ℕ) (h : List Entry) (i
   here i k c None e = is
   here i k c (Some p) e =
       let range = sent_universe w i (universe_at w r) k past p c e in
-      heard_is (console_at w i).source (universe_at w r) k p c.source_in
+      heard_is (console_at w i).source (universe_at w r) k p
+      (sent_source w i (universe_at w r) k past p c e)
       (sent_full w i (universe_at w r) k past p e) range.0 range.1 h t time
       ∙ ap (λ g. if is_accepted 4 g t (console_at w i).source.cid (k % 256) then entry
       (console_at w i).source (record { k = k; moment = t; packet = p }) ∷ g else g) is

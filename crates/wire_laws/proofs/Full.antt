@@ -17,9 +17,9 @@ use Rattle.desk_core.specs.Meaning.{dark, frame, latest_frame, channel_level, un
 use Rattle.sacn_source.specs.Stream.{Offer, Packet, sends, frames_sent, packets, live_packet}
 use Rattle.sacn_source.specs.Stream.{last_packet}
 use Rattle.wire_laws.specs.declared.event.Event.{Event}
-use Rattle.wire_laws.specs.World.{World, console_at, IsConsole}
+use Rattle.wire_laws.specs.World.{World, console_at, plays, IsIdentity, IsConsole}
 use Rattle.console.specs.Streams.{Production, offer_at, offered_by, offers_of, terminations_of}
-use Rattle.wire_laws.specs.Happened.{acts, stream, plays, sent}
+use Rattle.wire_laws.specs.Happened.{acts, stream, sent}
 
 -- P holds of each element
 abbrev pub Each : {A : Type 0} → (A → Type 0) → List A → Type 0
@@ -128,16 +128,26 @@ le_one u h = let b = both (nat_le 1 u) (nat_le u 63999) h in (le 1 u b.0, le u 6
     le : (m n : ℕ) → nat_le m n ≡ true → m ≤ n
     le m n h = grind (arith, nat_tests)
 
+-- who sends a packet plays its universe
+sent_plays : (w : World) (i u k : ℕ) (past : List Event) (p : Packet)
+    → slice_get (sent w i u past) k ≡ Some p → plays (console_at w i) u ≡ true
+sent_plays w i u k past p e = go (plays (console_at w i) u) e
+  where
+    go : (b : Bool) → slice_get (if b then stream (console_at w i) u (acts w i past) else []) k
+        ≡ Some p → b ≡ true
+    go true e = refl
+    go false e = cc
+
 pub sent_universe : (w : World) (i u k : ℕ) (past : List Event) (p : Packet)
     → IsConsole (console_at w i) → slice_get (sent w i u past) k ≡ Some p → (1 ≤ u) × (u ≤ 63999)
-sent_universe w i u k past p c e = go (plays (console_at w i) u) refl e
-  where
-    go : (b : Bool) → plays (console_at w i) u ≡ b
-        → slice_get (if b then stream (console_at w i) u (acts w i past) else []) k ≡ Some p
-        → (1 ≤ u) × (u ≤ 63999)
-    go true q e = le_one u (universe_in (console_at w i).show.patch
-        (console_at w i).base u c.base_in q)
-    go false q e = cc
+sent_universe w i u k past p c e =
+    le_one u (universe_in (console_at w i).show.patch (console_at w i).base u c.base_in
+    (sent_plays w i u k past p e))
+
+pub sent_source : (w : World) (i u k : ℕ) (past : List Event) (p : Packet)
+    → IsConsole (console_at w i) → slice_get (sent w i u past) k ≡ Some p
+    → IsIdentity (console_at w i).source
+sent_source w i u k past p c e = c.source_in u (sent_plays w i u k past p e)
 
 pub latest_full : (s : Tables) (h : List Act) (k : ℕ) → length (latest_frame s h k) ≡ 512
 latest_full s [] k = refl

@@ -14,8 +14,8 @@ use Rattle.sacn_source.specs.Stream.{last_packet, newest_frame}
 use Rattle.sacn_source.proofs.KeepAlive.{newest_packet as newest_front}
 use Rattle.console.specs.Streams.{Production, offer_at, offered_by, offers_of, terminations_of}
 use Rattle.wire_laws.specs.declared.event.Event.{Event}
-use Rattle.wire_laws.specs.World.{World, console_at}
-use Rattle.wire_laws.specs.Happened.{call_of, unless_refused, acted, acts, stream, plays}
+use Rattle.wire_laws.specs.World.{World, console_at, plays}
+use Rattle.wire_laws.specs.Happened.{call_of, unless_refused, acted, acts, stream}
 use Rattle.wire_laws.specs.Happened.{sent}
 use Rattle.wire_laws.specs.Laws.{is_live}
 

@@ -20,7 +20,8 @@ use Rattle.sacn_receiver.proofs.Independent.{accepted_in, one_of}
 use Rattle.wire_laws.specs.declared.event.Event.{Event}
 use Rattle.wire_laws.specs.declared.event.What.{What}
 use Rattle.wire_laws.specs.declared.event.What.TheVariants.{Order, Tick, Deliver, Stray, Show}
-use Rattle.wire_laws.specs.World.{World, console_at, universe_at, IsConsole, IsWorld}
+use Rattle.wire_laws.specs.World.{World, console_at, universe_at, IsIdentity, IsConsole}
+use Rattle.wire_laws.specs.World.{IsWorld}
 use Rattle.wire_laws.specs.Happened.{sent, datagram, hears, accepted_by}
 use Rattle.wire_laws.specs.Replies.{last_moment, done}
 use Rattle.wire_laws.specs.Delivery.{Delivery, delivered_more, delivered_by, delivered}
@@ -29,7 +30,7 @@ use Rattle.wire_laws.specs.Laws.{ConsolesAreIndependent}
 use Rattle.wire_laws.proofs.Kept.{takes, kept}
 use Rattle.wire_laws.proofs.Bytes.{entry, heard_is, heard_elsewhere, ignored_here, ignored_there}
 use Rattle.wire_laws.proofs.Runs.{IsRun, timely, done_runs, hears_last, last_accepted}
-use Rattle.wire_laws.proofs.Full.{sent_full, sent_universe}
+use Rattle.wire_laws.proofs.Full.{sent_full, sent_source, sent_universe}
 use Rattle.wire_laws.proofs.Came.{came, accepted_is}
 use Rattle.wire_laws.proofs.One.{agrees, all_one, one_source}
 use Rattle.wire_laws.proofs.Several.{cid_of, all_cids, In_range, came_from, few_cids, follows}
@@ -48,8 +49,8 @@ module _ (w : World) (r i : ℕ) (past : List Event) (t : ℕ) (h : List Entry)
   elsewhere u k n None e = is
   elsewhere u k n (Some p) e =
       let range = sent_universe w i u k past p c e in
-      heard_elsewhere me u k p c.source_in (sent_full w i u k past p e) range.0 range.1 h t time
-      (universe_at w r) n ∙ is
+      heard_elsewhere me u k p (sent_source w i u k past p c e) (sent_full w i u k past p e)
+      range.0 range.1 h t time (universe_at w r) n ∙ is
 
   here : (k : ℕ) → (o : Option Packet) → slice_get (sent w i (universe_at w r) past) k ≡ o
       → hears (universe_at w r) t (option_map (packet_bytes me (universe_at w r) k) o) h
@@ -57,8 +58,8 @@ module _ (w : World) (r i : ℕ) (past : List Event) (t : ℕ) (h : List Entry)
   here k None e = is
   here k (Some p) e =
       let range = sent_universe w i (universe_at w r) k past p c e in
-      heard_is me (universe_at w r) k p c.source_in (sent_full w i (universe_at w r) k past p e)
-      range.0 range.1 h t time
+      heard_is me (universe_at w r) k p (sent_source w i (universe_at w r) k past p c e)
+      (sent_full w i (universe_at w r) k past p e) range.0 range.1 h t time
       ∙ ap (λ g. if is_accepted 4 g t me.cid (k % 256) then entry me
       (record { k = k; moment = t; packet = p }) ∷ g else g) is
 
@@ -191,21 +192,23 @@ module _ (w : World) (v : IsWorld w) (apart : CidsDiffer w) (few : length w.cons
   same_ignored u k p e false q =
       let range = sent_universe w i u k past p (v i l) e in
       let size : length p.slots ≡ 512 = sent_full w i u k past p e in
-      ignored_there id u k p (v i l).source_in size range.0 range.1 (accepted_by w r past) t
+      let who : IsIdentity id = sent_source w i u k past p (v i l) e in
+      ignored_there id u k p who size range.0 range.1 (accepted_by w r past) t
       (omega (arith, last_accepted w r past run, time)) (universe_at w r) q
-      ∙ sym (ignored_there id u k p (v i l).source_in size range.0 range.1
+      ∙ sym (ignored_there id u k p who size range.0 range.1
       (accepted_from w r i past) t (omega (arith, last_from w r i past run, time))
       (universe_at w r) q)
   same_ignored u k p e true q =
       let range = sent_universe w i u k past p (v i l) e in
       let size : length p.slots ≡ 512 = sent_full w i u k past p e in
+      let who : IsIdentity id = sent_source w i u k past p (v i l) e in
       let P : ℕ → Type 0 = λ x. ignored 4 x (accepted_by w r past) t (packet_bytes id u k p)
       ≡ ignored 4 x (accepted_from w r i past) t (packet_bytes id u k p) in
       subst P (eqb-true u (universe_at w r) q)
-      (ignored_here id u k p (v i l).source_in size range.0 range.1 (accepted_by w r past) t
+      (ignored_here id u k p who size range.0 range.1 (accepted_by w r past) t
       (omega (arith, last_accepted w r past run, time))
       ∙ same_refused k p
-      ∙ sym (ignored_here id u k p (v i l).source_in size range.0 range.1
+      ∙ sym (ignored_here id u k p who size range.0 range.1
       (accepted_from w r i past) t (omega (arith, last_from w r i past run, time))))
 
   same_answer : (u k : ℕ) (bytes : List ℕ) (p : Option Packet) → slice_get (sent w i u past) k ≡ p

@@ -47,7 +47,8 @@ console_of s byte priority = record {
 console_is : (s : Tables) (byte priority : ℕ) → priority ≤ 200 → is_base s.patch 1 ≡ true
     → IsConsole (console_of s byte priority)
 console_is s byte priority low based = record {
-  source_in = record { cid_size = refl; name_size = refl; priority_range = low };
+  source_in = λ universe is.
+      record { cid_size = refl; name_size = refl; priority_range = low };
   base_in = based;
 }
 

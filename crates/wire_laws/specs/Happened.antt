@@ -1,8 +1,7 @@
 -- What events leave: the calls of each console, its packets, and what each receiver has accepted.
 -- Lists of events have the newest first, and none that was skipped.
-use Rattle.std.specs.Prelude.{ℕ, ◌==◌, Bool, List, [], ◌∷◌, if◌then◌else◌, Option, Some, None}
+use Rattle.std.specs.Prelude.{ℕ, ◌==◌, List, [], ◌∷◌, if◌then◌else◌, Option, Some, None}
 use Rattle.std.specs.Prelude.{slice_get, slice_range}
-use Rattle.std.specs.List.{list_any}
 use Rattle.std.specs.Option.{option_map}
 use Rattle.show_core.specs.Tables.{Tables}
 use Rattle.desk_core.specs.declared.answer.Refused.{Refused}
@@ -10,11 +9,11 @@ use Rattle.desk_core.specs.Played.{Call, order, tick, Act, refusal}
 use Rattle.sacn_source.specs.Stream.{Packet, packets}
 use Rattle.sacn_receiver.specs.Source.{Entry}
 use Rattle.sacn_receiver.specs.Taking.{heard}
-use Rattle.console.specs.Streams.{Production, offers_of, terminations_of, universes_of}
+use Rattle.console.specs.Streams.{Production, offers_of, terminations_of}
 use Rattle.wire_laws.specs.declared.event.Event.{Event}
 use Rattle.wire_laws.specs.declared.event.What.{What}
 use Rattle.wire_laws.specs.declared.event.What.TheVariants.{Order, Tick, Deliver, Stray}
-use Rattle.wire_laws.specs.World.{World, console_at, universe_at}
+use Rattle.wire_laws.specs.World.{World, console_at, universe_at, plays}
 use Rattle.wire_laws.specs.Datagrams.{packet_bytes}
 
 -- ---- consoles
@@ -46,10 +45,6 @@ acts w i (e ∷ past) = acted (console_at w i).show e.moment (call_of i e.what) 
 abbrev pub stream : Production → ℕ → List Act → List Packet
 stream console universe history =
     packets (offers_of console universe history) (terminations_of history)
-
--- a console plays a universe: the show patches a dimmer of it
-abbrev pub plays : Production → ℕ → Bool
-plays console universe = list_any (λ n. n == universe) (universes_of console)
 
 -- the packets that a console has sent for a universe after a history
 abbrev pub packets_of : Production → List Act → ℕ → List Packet

@@ -1,11 +1,12 @@
 -- What does not change in a rehearsal: its consoles, its receivers, and the bytes of its strays.
-use Rattle.std.specs.Prelude.{◌≡◌, ℕ, ◌≤◌, ◌<◌, IsTrue, List, [], length, replicate}
+use Rattle.std.specs.Prelude.{◌≡◌, ℕ, ◌≤◌, ◌<◌, ◌==◌, Bool, IsTrue, List, [], length, replicate}
 use Rattle.std.specs.Prelude.{slice_index, slice_index_or}
+use Rattle.std.specs.List.{list_any}
 use Rattle.std.specs.FinMap as map
 use Rattle.patch_core.specs.Frame.{is_base}
 use Rattle.sacn_packet.specs.Name.{padded}
 use Rattle.sacn_source.specs.Identity.{Identity}
-use Rattle.console.specs.Streams.{Production}
+use Rattle.console.specs.Streams.{Production, universes_of}
 
 -- the consoles, each a production (a show, the number of its universe of ordinal 0, and who
 -- sends), and the universes of the receivers, each by its number, from 0; and the bytes of all
@@ -38,9 +39,14 @@ pub record IsIdentity (source : Identity) : Type 0 where
   pub name_size : length (padded source.name) ≡ 64
   pub priority_range : source.priority ≤ 200
 
--- what holds of every console: its source is one, and its universes have numbers, from 1 to 63999
+-- a console plays a universe: the show patches a dimmer of it
+abbrev pub plays : Production → ℕ → Bool
+plays console universe = list_any (λ n. n == universe) (universes_of console)
+
+-- what holds of every console: whoever sends for a universe that it plays is a source, and its
+-- universes have numbers, from 1 to 63999
 pub record IsConsole (console : Production) : Type 0 where
-  pub source_in : IsIdentity console.source
+  pub source_in : (universe : ℕ) → IsTrue (plays console universe) → IsIdentity console.source
   pub base_in : IsTrue (is_base console.show.patch console.base)
 
 -- each console of a world is one

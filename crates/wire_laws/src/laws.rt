@@ -3,8 +3,6 @@
 
 ghost use Rattle.wire_laws.specs.Laws.{Headline, UnpatchedSlotsAreZero, WindowLaw, SilenceIsDark};
 ghost use Rattle.wire_laws.specs.Laws.{MergeLaw, ConsolesAreIndependent, DatagramsArePackets};
-ghost use Rattle.wire_laws.specs.Shows.{RepliesAreLawful, LastSlotsAreLawful};
-ghost use Rattle.wire_laws.specs.Shows.{RepliesAreIndependent};
 
 /// While losses, repeats and reorderings stay in the window, whenever the newest packet sent first
 /// arrived less than 2,500 ms ago, a receiver of one console shows what that console's show means
@@ -38,11 +36,4 @@ pub fn consoles_are_independent()
 /// the bytes that E1.31 asks for.
 pub fn datagrams_are_packets()
     ensures { DatagramsArePackets }
-{}
-
-/// The replies of every rehearsal keep these laws, and so do the slots after it.
-pub fn replies_are_lawful()
-    ensures shown { RepliesAreLawful }
-    ensures last { LastSlotsAreLawful }
-    ensures independent { RepliesAreIndependent }
 {}

@@ -53,5 +53,4 @@ fn every_law() {
     laws::merge_law();
     laws::consoles_are_independent();
     laws::datagrams_are_packets();
-    laws::replies_are_lawful();
 }

@@ -6,4 +6,5 @@ pub mod Receivers
 pub mod Happened
 pub mod Replays
 pub mod Openings
+pub mod Sources
 pub mod Refusals

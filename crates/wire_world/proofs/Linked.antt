@@ -1,7 +1,7 @@
 -- What a link keeps of a universe is its stream, packet by packet.
 use Rattle.std.proofs.Common.{◌≡◌, ℕ, zero, suc, ◌+◌, ◌-◌, ◌*◌, ◌%◌, ◌<◌, Bool, true, false, refl}
 use Rattle.std.proofs.Common.{ap, sym}
-use Rattle.std.proofs.Common.{subst, ◌∙◌, List, [], ◌∷◌, ◌++◌, length, map, take, drop, Option}
+use Rattle.std.proofs.Common.{subst, ◌∙◌, List, [], ◌∷◌, ◌++◌, length, map, Option}
 use Rattle.std.proofs.Common.{Some, None}
 use Rattle.std.proofs.Common.{arith, append-nil, add-one}
 use Rattle.std.specs.Prelude.{slice_get, if◌then◌else◌, nat_eq, unwrap_or, is_some, get_or, ◌≢◌}
@@ -11,7 +11,7 @@ use Rattle.std.specs.List.{AllPairs}
 use Rattle.std.specs.Option.{option_map, option_map_or}
 use Rattle.std.proofs.lemmas.Bool.{eqb-true}
 use Rattle.std.proofs.lemmas.Bool.Decides.{nat_tests}
-use Rattle.std.proofs.lemmas.List.{length-map, length-take, length-drop}
+use Rattle.std.proofs.lemmas.List.{length-map}
 use Rattle.std.proofs.lemmas.List.FromFn.{length-range_with_len}
 use Rattle.std.proofs.lemmas.List.Kept.{AllPairs-from_increasing}
 use Rattle.show_core.specs.Tables.{Tables}
@@ -26,7 +26,7 @@ use Rattle.desk_core.specs.Meaning.{dark, frame, channel_level}
 use Rattle.desk_core.proofs.Universes.{numbers_rise}
 use Rattle.sacn_source.specs.declared.offered.Offered.{Offered}
 use Rattle.sacn_source.specs.declared.offered.Offered.TheVariants.{Sent, Quiet}
-use Rattle.sacn_source.specs.Identify.{IsStreamPacket}
+use Rattle.sacn_source.specs.Identify.{IsStreamPacket, options_of}
 use Rattle.sacn_source.specs.Identity.{Identity}
 use Rattle.sacn_source.specs.Offering.{answer_of}
 use Rattle.sacn_source.specs.Stream.{Packet, sends, frames_sent, packets, live_packet}
@@ -34,35 +34,24 @@ use Rattle.console.specs.Offering.{AreOffered, Offers, none, quiet, sent}
 use Rattle.console.specs.Streams.{Production, Due, due_at, dues_at, offer_at, offered_by}
 use Rattle.console.specs.Streams.{offers_of}
 use Rattle.console.specs.Streams.{order_at, packet_due, tick_at, universes_of}
-use Rattle.wire_laws.specs.World.{IsIdentity}
 use Rattle.wire_laws.specs.Datagrams.{packet_bytes}
-use Rattle.wire_laws.specs.Happened.{bytes_of, packets_of, plays, stream}
+use Rattle.wire_laws.specs.Happened.{bytes_of, packets_of, stream}
+use Rattle.wire_laws.specs.World.{plays}
 use Rattle.wire_laws.specs.Replies.{due_answer}
 use Rattle.wire_laws.proofs.Wire.{bytes_are}
 use Rattle.wire_world.specs.declared.row.Row.{Row}
 use Rattle.wire_world.specs.Sends.{send_of, sent_to, numbered}
+use Rattle.wire_world.proofs.Sources.{source_of}
 
 -- ---- bytes
 
--- a packet of a stream says all of its source
-who_is : (source : Identity) (u k : ℕ) (p : Packet) (bytes : List ℕ) → length p.slots ≡ 512
-    → IsStreamPacket source u k p bytes → IsIdentity source
-who_is source u k p bytes full h = record {
-  cid_size = ap length (sym h.cid)
-      ∙ (let e : length (take 16 (drop 22 bytes)) ≡ 16
-      = omega (arith, length-take 16 (drop 22 bytes), length-drop 22 bytes, h.size, full) in e);
-  name_size = ap length (sym h.name)
-      ∙ (let e : length (take 64 (drop 44 bytes)) ≡ 64
-      = omega (arith, length-take 64 (drop 44 bytes), length-drop 44 bytes, h.size, full) in e);
-  priority_range = h.priority_range;
-}
-
--- and has no other bytes
+-- a packet of a stream has no other bytes
 pub carried : (source : Identity) (u k : ℕ) (p : Packet) (bytes : List ℕ) → length p.slots ≡ 512
     → IsStreamPacket source u k p bytes → bytes ≡ packet_bytes source u k p
-carried source u k p bytes full h = bytes_are source u k p bytes
-    (who_is source u k p bytes full h) full
-    h.universe_from_1 h.universe_to_63999 h
+carried source u k p bytes full h =
+    bytes_are source u k p bytes
+    (source_of source u (k % 256) (options_of p.ends) bytes p.slots h) full h.universe_from_1
+    h.universe_to_63999 h
 
 -- packet k of a numbered stream
 pub numbered_at : (source : Identity) (u j : ℕ) (ps : List Packet) (k : ℕ)

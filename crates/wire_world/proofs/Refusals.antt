@@ -13,14 +13,14 @@ use Rattle.patch_core.specs.Frame.{is_base}
 use Rattle.wire_faults.specs.declared.fault.Fault.TheVariants.{Consoles, Receivers, NoShow}
 use Rattle.wire_faults.specs.declared.fault.Fault.TheVariants.{Universe}
 use Rattle.wire_laws.specs.declared.setup.Setup.{Setup}
-use Rattle.wire_laws.specs.World.{IsConsole, IsIdentity, IsWorld, no_console}
+use Rattle.wire_laws.specs.World.{IsConsole, IsWorld, no_console}
 use Rattle.wire_world.specs.Refusing.{are_consoles, are_receivers, are_universes, is_new_at}
 use Rattle.wire_world.specs.Refusing.{has_base, has_show, setup_fault}
 use Rattle.wire_laws.specs.declared.event.Event.{Event}
 use Rattle.wire_laws.specs.declared.event.What.{What}
 use Rattle.wire_laws.specs.declared.event.What.TheVariants.{Order, Tick, Deliver, Stray, Show}
 use Rattle.wire_world.specs.Refusing.{are_within, is_within}
-use Rattle.wire_world.specs.Stands.{IsWithin, cast, world_of}
+use Rattle.wire_world.specs.Stands.{AreSources, IsWithin, cast, world_of}
 
 drop_at : (xs : List ℕ) (i d : ℕ) → i < length xs → drop i xs ≡ get_or xs i d ∷ drop (i + 1) xs
 drop_at [] i d h = absurd (omega arith)
@@ -73,6 +73,7 @@ universe_at_place (x ∷ xs) a (suc k) d h =
 
 -- none of the reasons applies
 pub record IsFine (shows : List Tables) (setups : List Setup) (universes : List ℕ) : Type 0 where
+  pub consoles : are_consoles (length setups) ≡ true
   pub receivers : are_receivers universes ≡ true
   pub shown : list_all (has_show shows) setups ≡ true
   pub based : list_all (has_base shows) setups ≡ true
@@ -80,18 +81,24 @@ pub record IsFine (shows : List Tables) (setups : List Setup) (universes : List 
 pub fine : (shows : List Tables) (setups : List Setup) (universes : List ℕ)
     → setup_fault shows setups universes ≡ None → IsFine shows setups universes
 fine shows setups universes = go (are_consoles (length setups)) (are_receivers universes)
-    (list_all (has_show shows) setups) (list_all (has_base shows) setups) refl refl refl
+    (list_all (has_show shows) setups) (list_all (has_base shows) setups) refl refl refl refl
   where
-    go : (a b c d : Bool) → are_receivers universes ≡ b → list_all (has_show shows) setups ≡ c
-        → list_all (has_base shows) setups ≡ d
+    go : (a b c d : Bool) → are_consoles (length setups) ≡ a → are_receivers universes ≡ b
+        → list_all (has_show shows) setups ≡ c → list_all (has_base shows) setups ≡ d
         → (if not a then Some Consoles else (if not b then Some Receivers
         else (if not c then Some NoShow else (if not d then Some Universe else None)))) ≡ None
         → IsFine shows setups universes
-    go true true true true p q r h = record { receivers = p; shown = q; based = r }
-    go true true true false p q r h = cc
-    go true true false d p q r h = cc
-    go true false c d p q r h = cc
-    go false b c d p q r h = cc
+    go true true true true o p q r h =
+        record { consoles = o; receivers = p; shown = q; based = r }
+    go true true true false o p q r h = cc
+    go true true false d o p q r h = cc
+    go true false c d o p q r h = cc
+    go false b c d o p q r h = cc
+
+few_consoles : (shows : List Tables) (setups : List Setup) (universes : List ℕ)
+    → IsFine shows setups universes → length setups ≤ 4
+few_consoles shows setups universes f =
+    le (length setups) 4 (both (nat_le 1 (length setups)) (nat_le (length setups) 4) f.consoles).1
 
 pub shows_there : (shows : List Tables) (setups : List Setup) (universes : List ℕ)
     → IsFine shows setups universes → All (λ s. s.show < length shows) setups
@@ -116,8 +123,8 @@ based_at shows s = go (slice_get shows s.show) refl
         (get_or_from_slice_get shows s.show t no_console.show e) ∙ h
 
 -- so its world is one
-pub is_world : (shows : List Tables) (setups : List Setup) (universes strays : List ℕ)
-    → IsFine shows setups universes → All (λ s. IsIdentity s.identity) setups
+is_world : (shows : List Tables) (setups : List Setup) (universes strays : List ℕ)
+    → IsFine shows setups universes → AreSources shows setups
     → IsWorld (world_of shows setups universes strays)
 is_world shows setups universes strays f who = λ i h.
     let l : i < length setups = omega (arith, h, length-map setups (cast shows)) in
@@ -130,6 +137,17 @@ is_world shows setups universes strays f who = λ i h.
   where
     blank : Setup
     blank = record { show = 0; base = 0; identity = no_console.source }
+
+-- one to four consoles, and each is one
+pub fine_world : (shows : List Tables) (setups : List Setup) (universes strays : List ℕ)
+    → setup_fault shows setups universes ≡ None → AreSources shows setups
+    → IsWorld (world_of shows setups universes strays)
+    × (length (world_of shows setups universes strays).consoles ≤ 4)
+fine_world shows setups universes strays none who =
+    let f = fine shows setups universes none in (
+      is_world shows setups universes strays f who,
+      omega (arith, few_consoles shows setups universes f, length-map setups (cast shows)),
+    )
 
 -- what a stray is within
 within_one : (size : ℕ) (x : What) → is_within size x ≡ true → IsWithin size x

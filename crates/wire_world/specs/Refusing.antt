@@ -14,8 +14,6 @@ use Rattle.wire_faults.specs.declared.fault.Fault.{Fault}
 use Rattle.wire_faults.specs.declared.fault.Fault.TheVariants.{Consoles, Receivers, NoShow}
 use Rattle.wire_faults.specs.declared.fault.Fault.TheVariants.{Universe, Memory}
 use Rattle.wire_laws.specs.declared.setup.Setup.{Setup}
-use Rattle.wire_laws.specs.World.{IsIdentity}
-use Rattle.std.specs.Prelude.{All}
 
 -- one to four consoles
 abbrev pub are_consoles : ℕ → Bool
@@ -66,7 +64,3 @@ is_within size _ = true
 -- so for each of the events
 abbrev pub are_within : ℕ → List Event → Bool
 are_within size events = list_all (λ event. is_within size event.what) events
-
--- each console's source is one: so is every identity that `Identity::new` gives
-abbrev pub AreIdentities : List Setup → Type 0
-AreIdentities setups = All (λ setup. IsIdentity setup.identity) setups

@@ -4,7 +4,7 @@ use Rattle.show_core.specs.Tables.{Tables}
 use Rattle.wire_laws.specs.declared.setup.Setup.{Setup}
 use Rattle.std.specs.Prelude.{map, slice_index, slice_index_or, [], take, ◌<◌, Bool, true, false}
 use Rattle.std.specs.Prelude.{◌≡◌, ◌≤◌, ℕ, List, ◌∷◌, length, if◌then◌else◌, is_some, Option}
-use Rattle.std.specs.Prelude.{Some, Result, Ok, Err, slice_get}
+use Rattle.std.specs.Prelude.{Some, Result, Ok, Err, slice_get, All, IsTrue}
 use Rattle.desk_core.specs.declared.answer.Refused.{Refused}
 use Rattle.desk_core.specs.declared.answer.Ticked.{Ticked}
 use Rattle.desk_core.specs.Played.{Act}
@@ -16,7 +16,8 @@ use Rattle.wire_laws.specs.declared.event.What.TheVariants.{Stray}
 use Rattle.wire_laws.specs.declared.reply.Skip.{Skip}
 use Rattle.wire_laws.specs.declared.reply.Reply.{Reply}
 use Rattle.wire_laws.specs.declared.reply.Reply.TheVariants as reply
-use Rattle.wire_laws.specs.World.{World, no_console, console_at, universe_at}
+use Rattle.wire_laws.specs.World.{World, no_console, console_at, universe_at, plays}
+use Rattle.wire_laws.specs.World.{IsIdentity}
 use Rattle.wire_laws.specs.Happened.{acts, accepted_by}
 use Rattle.wire_laws.specs.Replies.{last_moment, done_one, done, reply_to}
 
@@ -99,6 +100,11 @@ cast shows setup = record {
       setup.base;
   source = setup.identity;
 }
+
+-- whoever sends for a console that plays a universe is a source
+abbrev pub AreSources : List Tables → List Setup → Type 0
+AreSources shows setups = All (λ setup. (universe : ℕ)
+    → IsTrue (plays (cast shows setup) universe) → IsIdentity setup.identity) setups
 
 -- the first n consoles are open
 pub record Opened {S : Type 0} (stands_for : S → Production → List Act → Type 0) (tells : S

@@ -1,6 +1,6 @@
 ghost use Rattle.std.specs.Prelude.{◌≡◌, ◌<◌, ◌≤◌, length, IfOk, All};
 ghost use Rattle.wire_laws.specs.Replies.{AreReplies, done, last_slots};
-ghost use Rattle.wire_world.specs.Stands.{IsWithin, world_of};
+ghost use Rattle.wire_world.specs.Stands.{AreSources, IsWithin, world_of};
 
 use crate::listening::listen_all;
 use crate::opening::open_all;
@@ -30,6 +30,7 @@ pub(crate) fn perform<F: Fader>(
     ensures last { IfOk result (λ report. report.last
         ≡ last_slots (world_of shows.now consoles.now receivers.now strays.now)
         (done (world_of shows.now consoles.now receivers.now strays.now) events.now)) }
+    ensures sources { IfOk result (λ _. AreSources shows.now consoles.now) }
 {
     let mut stages: Vec<Stage<F>> = open_all(alloc, shows, consoles)?;
     let mut listeners = listen_all(alloc, receivers)?;

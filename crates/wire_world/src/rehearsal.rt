@@ -1,7 +1,17 @@
-ghost use Rattle.std.specs.Prelude.{◌≡◌, length, IfOk, IsTrue};
-ghost use Rattle.wire_laws.specs.Replies.{AreReplies, done, last_slots};
-ghost use Rattle.wire_laws.specs.Shows.{AnswersAlone, LastAreLawful, ShownAreLawful};
-ghost use Rattle.wire_world.specs.Refusing.{Answers, AreIdentities, are_within, setup_fault};
+ghost use Rattle.std.specs.Prelude.{◌≡◌, ◌<◌, ◌⊎◌, ℕ, List, length, slice_get, slice_index, take};
+ghost use Rattle.std.specs.Prelude.{IfOk, IsTrue};
+ghost use Rattle.desk_core.specs.Meaning.{dark};
+ghost use Rattle.sacn_receiver.specs.Shown.{merged};
+ghost use Rattle.wire_laws.specs.declared.event.Event.{Event as EventData};
+ghost use Rattle.wire_laws.specs.declared.event.What.TheVariants.{Deliver};
+ghost use Rattle.wire_laws.specs.Delivery.{delivered, IsInWindow};
+ghost use Rattle.wire_laws.specs.Happened.{sent};
+ghost use Rattle.wire_laws.specs.Laws.{AreSettled, CidsDiffer, IsAlone, IsFresh, IsOneOf};
+ghost use Rattle.wire_laws.specs.Laws.{IsUnpatched, NoStray, is_silent, lights, meant};
+ghost use Rattle.wire_laws.specs.Replies.{AreReplies, done, last_slots, skipped};
+ghost use Rattle.wire_laws.specs.Shows.{IsShown, reply_alone};
+ghost use Rattle.wire_laws.specs.World.{universe_at};
+ghost use Rattle.wire_world.specs.Refusing.{Answers, are_within, setup_fault};
 ghost use Rattle.wire_world.specs.Stands.{world_of};
 
 use crate::perform::perform;
@@ -14,10 +24,12 @@ use wire_laws::{Event, Fault, Setup};
 
 /// Carries out the events, one after another, among one to four consoles, each with one of the
 /// shows, and at most eight receivers, each of a universe of its own, 1 to 63999. Loss is a packet
-/// that no event delivers.
+/// that no event delivers. Each Stray has `from <= to`, and `to` at most the length of `strays`.
 ///
-/// Each Stray has `from <= to`, and `to` at most the length of `strays`. A console's source is an
-/// identity as [`Identity::new`](sacn_source::Identity::new) gives it: of that the laws speak.
+/// A receiver shows, in a reply and at the end, what one console's show means at its latest tick,
+/// where no one else was heard on its universe, losses, repeats and reorderings stayed in the
+/// window, and the newest packet sent first arrived less than 2,500 ms ago. Of several consoles
+/// with CIDs of their own it shows the merge, and none changes what it answers to another.
 ///
 /// # Errors
 ///
@@ -39,15 +51,51 @@ pub fn rehearse<F: Fader>(
     ensures last { IfOk result (λ report. report.last
         ≡ last_slots (world_of shows.now consoles.now receivers.now strays.now)
         (done (world_of shows.now consoles.now receivers.now strays.now) events.now)) }
-    ensures lawful { IfOk result (λ report. AreIdentities consoles.now
-        → ShownAreLawful (world_of shows.now consoles.now receivers.now strays.now) events.now
-        report.replies) }
-    ensures lawful_last { IfOk result (λ report. AreIdentities consoles.now
-        → LastAreLawful (world_of shows.now consoles.now receivers.now strays.now) events.now
-        report.last) }
-    ensures independent { IfOk result (λ report. AreIdentities consoles.now
-        → AnswersAlone (world_of shows.now consoles.now receivers.now strays.now) events.now
-        report.replies) }
+    ensures headline { let w = world_of shows.now consoles.now receivers.now strays.now in
+        IfOk result (λ report.
+        (receiver console moment : ℕ) (past : List EventData) (slots : List ℕ)
+        → IsShown w events.now report.replies report.last receiver moment past slots
+        → console < length w.consoles → IsAlone w receiver console past → NoStray w receiver past
+        → IsInWindow (delivered w receiver console past)
+        → IsFresh w receiver console past moment
+        → slots ≡ meant w receiver console past) }
+    ensures unpatched { let w = world_of shows.now consoles.now receivers.now strays.now in
+        IfOk result (λ report.
+        (receiver console moment slot : ℕ) (past : List EventData) (slots : List ℕ)
+        → IsShown w events.now report.replies report.last receiver moment past slots
+        → console < length w.consoles → IsAlone w receiver console past → NoStray w receiver past
+        → IsInWindow (delivered w receiver console past)
+        → IsFresh w receiver console past moment
+        → slot < 512 → IsUnpatched w receiver console slot → slice_index slots slot ≡ 0) }
+    ensures window_law { let w = world_of shows.now consoles.now receivers.now strays.now in
+        IfOk result (λ report.
+        (receiver console moment : ℕ) (past : List EventData) (slots : List ℕ)
+        → IsShown w events.now report.replies report.last receiver moment past slots
+        → console < length w.consoles → IsAlone w receiver console past → NoStray w receiver past
+        → IsInWindow (delivered w receiver console past)
+        → (IsOneOf moment slots (sent w console (universe_at w receiver) past)
+        (delivered w receiver console past) ⊎ (slots ≡ dark))
+        × (IsTrue (is_silent w receiver console past moment) → slots ≡ dark)) }
+    ensures merge_law { let w = world_of shows.now consoles.now receivers.now strays.now in
+        IfOk result (λ report.
+        (receiver moment slot : ℕ) (past : List EventData) (slots : List ℕ)
+        → IsShown w events.now report.replies report.last receiver moment past slots
+        → CidsDiffer w → NoStray w receiver past
+        → ((console : ℕ) → console < length w.consoles
+        → IsInWindow (delivered w receiver console past))
+        → AreSettled w receiver past moment
+        → slot < 512 → slice_index slots slot ≡ merged (lights w receiver past moment) slot) }
+    ensures independent { let w = world_of shows.now consoles.now receivers.now strays.now in
+        IfOk result (λ report.
+        (place receiver console universe k moment : ℕ) (past : List EventData)
+        → slice_get events.now place
+        ≡ Some (record { moment = moment; what = Deliver receiver console universe k })
+        → past ≡ done w (take place events.now)
+        → skipped w past
+        (record { moment = moment; what = Deliver receiver console universe k }) ≡ None
+        → CidsDiffer w → NoStray w receiver past
+        → slice_get report.replies place
+        ≡ Some (reply_alone w past moment receiver console universe k)) }
 {
     check(shows, consoles, receivers)?;
     match perform::<F>(alloc, shows, consoles, receivers, events, strays) {

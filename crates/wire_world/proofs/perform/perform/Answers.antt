@@ -1,6 +1,7 @@
 use Rattle.std.proofs.Common.{refl}
 use Rattle.wire_world.specs.Stands.{world_of}
 use Rattle.wire_world.proofs.Openings.{begun}
+use Rattle.wire_world.proofs.Sources.{sources}
 use Rattle.wire_world.proofs.Ticks.{if_ok}
 use Rattle.wire_world.specs.StageStands.{StageStands, Tells}
 use Rattle.wire_world.proofs.perform.perform.Goals as goal
@@ -33,4 +34,11 @@ returns-clause-last g c = if_ok c.run.result _ _
     (begun (StageStands g.F.Fader.stands_for) Tells c.in_ok-stages.stages.items
     c.in_ok-listeners.listeners.items c.args.shows.now c.args.consoles.now c.args.receivers.now
     c.args.strays.now c.in_ok-stages.ensures c.in_ok-listeners.ensures)))
+    c.run.ensures.last
+
+pub returns-clause-sources : goal.returns-clause-sources
+returns-clause-sources g c =
+    if_ok c.run.result _ _
+    (λ report h. sources g.F.Fader.stands_for c.in_ok-stages.stages.items c.args.shows.now
+    c.args.consoles.now c.in_ok-stages.ensures)
     c.run.ensures.last
