@@ -13,4 +13,5 @@ pub mod Several
 pub mod Independent
 pub mod Lawful
 pub mod Wire
+mod Small
 mod Rows

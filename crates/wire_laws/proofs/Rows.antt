@@ -1,16 +1,11 @@
--- Rows of the rehearsal, evaluated, over a show of which this much is known, and that the laws'
--- premises are met there.
-use Rattle.std.proofs.Common.{◌≡◌, ℕ, zero, suc, ◌<◌, ◌≤◌, true, List, [], ◌∷◌}
-use Rattle.std.proofs.Common.{take, replicate, length, refl, arith, inl, ap, ◌∙◌}
+-- Rows of the rehearsal, evaluated over a small show, and that the laws' premises are met there.
+use Rattle.std.proofs.Common.{◌≡◌, ℕ, zero, suc, ◌<◌, ◌≤◌, List, [], ◌∷◌}
+use Rattle.std.proofs.Common.{take, replicate, length, refl, arith, inl, ap, ◌∙◌, ◌⊎◌}
 use Rattle.std.specs.Prelude.{IsFalse, ◌==◌, slice_index}
-use Rattle.std.specs.FinMap as map
-use Rattle.show_core.specs.Tables.{Tables}
-use Rattle.patch_core.specs.Frame.{is_base}
 use Rattle.desk_core.specs.declared.command.Command.TheVariants.{Go, Sub, End}
 use Rattle.desk_core.specs.declared.answer.Ticked.TheVariants.{Live, Ending}
 use Rattle.desk_core.specs.declared.answer.Refused.TheVariants as refused
-use Rattle.desk_core.specs.Played.{order, tick}
-use Rattle.desk_core.specs.Meaning.{dark, frame, universe_numbers}
+use Rattle.desk_core.specs.Meaning.{dark}
 use Rattle.sacn_source.specs.declared.offered.Offered.TheVariants.{Sent}
 use Rattle.sacn_receiver.specs.Laws.{accepted}
 use Rattle.sacn_receiver.specs.Shown.{merged, shown}
@@ -21,164 +16,160 @@ use Rattle.wire_laws.specs.declared.event.What.TheVariants.{Order, Tick, Deliver
 use Rattle.wire_laws.specs.declared.reply.Skip.TheVariants as skip
 use Rattle.wire_laws.specs.declared.reply.Reply.TheVariants.{Done, Refused, Ticked, Skipped}
 use Rattle.wire_laws.specs.World.{World, IsConsole, IsWorld}
+use Rattle.wire_laws.specs.Happened.{sent}
 use Rattle.wire_laws.specs.Replies.{last_moment, done, reply_to}
 use Rattle.wire_laws.specs.Delivery.{delivered, IsInWindow}
 use Rattle.wire_laws.specs.Laws.{CidsDiffer, HearsOne, HearsAll, IsFresh, AreSettled, slots_at}
-use Rattle.wire_laws.specs.Laws.{lights}
-use Rattle.wire_laws.proofs.Alone.{headline, silence_dark}
+use Rattle.wire_laws.specs.Laws.{lights, IsOneOf}
+use Rattle.wire_laws.proofs.Alone.{headline, silence_dark, window_law}
 use Rattle.wire_laws.proofs.Several.{merge_law}
 use Rattle.wire_laws.proofs.Came.{came}
+use Rattle.wire_laws.proofs.Small.{small, cues, subs, numbers, based, first_at, frame_1000}
+use Rattle.wire_laws.proofs.Small.{frame_2000, frame_full, frame_half}
 
 abbrev at : ℕ → What → Event
 at t x = record { moment = t; what = x }
 
--- a frame with this first slot, and the others at 0
-abbrev first_at : ℕ → List ℕ
-first_at byte = byte ∷ replicate 511 0
-
 -- a console with this byte in each place of its CID
-abbrev console_of : Tables → ℕ → ℕ → Production
-console_of s byte priority = record {
-  show = s;
+abbrev console_of : ℕ → ℕ → Production
+console_of byte priority = record {
+  show = small;
   base = 1;
   source = record { cid = replicate 16 byte; name = []; priority = priority };
 }
 
-console_is : (s : Tables) (byte priority : ℕ) → priority ≤ 200 → is_base s.patch 1 ≡ true
-    → IsConsole (console_of s byte priority)
-console_is s byte priority low based = record {
+console_is : (byte priority : ℕ) → priority ≤ 200 → IsConsole (console_of byte priority)
+console_is byte priority low = record {
   source_in = λ universe is.
       record { cid_size = refl; name_size = refl; priority_range = low };
   base_in = based;
 }
 
-module _ (s : Tables) (numbers : universe_numbers s.patch 1 ≡ 1 ∷ [])
-    (based : is_base s.patch 1 ≡ true) (cues : map.keys s.cues ≡ 1000 ∷ 2000 ∷ [])
-    (at_1000 : frame s (record { moment = 0; call = order Go } ∷ []) 1000 0 ≡ first_at 51)
-    (at_2000 : frame s
-    (record { moment = 1000; call = tick } ∷ record { moment = 0; call = order Go } ∷ []) 2000 0
-    ≡ first_at 102) where
-  abbrev w : World
-  w = record { consoles = console_of s 7 100 ∷ []; receivers = 1 ∷ []; strays = [] }
+abbrev w : World
+w = record { consoles = console_of 7 100 ∷ []; receivers = 1 ∷ []; strays = [] }
 
-  -- rehearse_basic, without its deliveries
-  abbrev script : List Event
-  script =
-      at 0 (Order 0 Go) ∷ at 1000 (Tick 0) ∷ at 2000 (Tick 0) ∷ at 2022 (Tick 0)
-      ∷ at 2030 (Order 0 Go) ∷ at 2030 (Order 0 Go) ∷ at 2031 (Deliver 0 0 1 2) ∷ []
+-- rehearse_basic, without its deliveries
+abbrev script : List Event
+script =
+    at 0 (Order 0 Go) ∷ at 1000 (Tick 0) ∷ at 2000 (Tick 0) ∷ at 2022 (Tick 0)
+    ∷ at 2030 (Order 0 Go) ∷ at 2030 (Order 0 Go) ∷ at 2031 (Deliver 0 0 1 2) ∷ []
 
-  line_3 : reply_to w (done w (take 0 script)) (at 0 (Order 0 Go)) ≡ Done
-  line_3 = simp cues refl
+line_3 : reply_to w (done w (take 0 script)) (at 0 (Order 0 Go)) ≡ Done
+line_3 = simp cues refl
 
-  line_4 : reply_to w (done w (take 1 script)) (at 1000 (Tick 0)) ≡ Ticked Live ((1, Sent 0) ∷ [])
-  line_4 = simp (cues, numbers) refl
+line_4 : reply_to w (done w (take 1 script)) (at 1000 (Tick 0)) ≡ Ticked Live ((1, Sent 0) ∷ [])
+line_4 = simp (cues, numbers) refl
 
-  line_6 : reply_to w (done w (take 2 script)) (at 2000 (Tick 0)) ≡ Ticked Live ((1, Sent 1) ∷ [])
-  line_6 = simp (cues, numbers, at_1000, at_2000) refl
+line_6 : reply_to w (done w (take 2 script)) (at 2000 (Tick 0)) ≡ Ticked Live ((1, Sent 1) ∷ [])
+line_6 = simp (cues, numbers, frame_1000, frame_2000) refl
 
-  line_11 : reply_to w (done w (take 3 script)) (at 2022 (Tick 0)) ≡ Refused refused.TooSoon
-  line_11 = simp cues refl
+line_11 : reply_to w (done w (take 3 script)) (at 2022 (Tick 0)) ≡ Refused refused.TooSoon
+line_11 = simp cues refl
 
-  line_12 : reply_to w (done w (take 4 script)) (at 2030 (Order 0 Go)) ≡ Done
-  line_12 = simp cues refl
+line_12 : reply_to w (done w (take 4 script)) (at 2030 (Order 0 Go)) ≡ Done
+line_12 = simp cues refl
 
-  line_13 : reply_to w (done w (take 5 script)) (at 2030 (Order 0 Go)) ≡ Refused refused.AtEnd
-  line_13 = simp cues refl
+line_13 : reply_to w (done w (take 5 script)) (at 2030 (Order 0 Go)) ≡ Refused refused.AtEnd
+line_13 = simp cues refl
 
-  line_14 : reply_to w (done w (take 6 script)) (at 2031 (Deliver 0 0 1 2)) ≡ Skipped skip.NotSent
-  line_14 = simp (cues, numbers, at_1000, at_2000) refl
+line_14 : reply_to w (done w (take 6 script)) (at 2031 (Deliver 0 0 1 2)) ≡ Skipped skip.NotSent
+line_14 = simp (cues, numbers, frame_1000, frame_2000) refl
 
-  skips : (reply_to w [] (at 0 (Order 1 Go)) ≡ Skipped skip.NoConsole)
-      × (reply_to w [] (at 0 (Show 1)) ≡ Skipped skip.NoReceiver)
-      × (reply_to w (done w (at 5 (Tick 0) ∷ [])) (at 4 (Tick 0)) ≡ Skipped skip.Backwards)
-      × (reply_to w (done w (at 5 (Tick 0) ∷ [])) (at 281474976710656 (Tick 0))
-      ≡ Skipped skip.TooLarge)
-  skips = (refl, refl, refl, refl)
+skips : (reply_to w [] (at 0 (Order 1 Go)) ≡ Skipped skip.NoConsole)
+    × (reply_to w [] (at 0 (Show 1)) ≡ Skipped skip.NoReceiver)
+    × (reply_to w (done w (at 5 (Tick 0) ∷ [])) (at 4 (Tick 0)) ≡ Skipped skip.Backwards)
+    × (reply_to w (done w (at 5 (Tick 0) ∷ [])) (at 281474976710656 (Tick 0))
+    ≡ Skipped skip.TooLarge)
+skips = (refl, refl, refl, refl)
 
-  -- End, and the numbers of its terminations
-  ending : reply_to w (done w (at 0 (Order 0 Go) ∷ at 1000 (Tick 0) ∷ at 1000 (Order 0 End) ∷ []))
-      (at 1023 (Tick 0)) ≡ Ticked (Ending 1) ((1, Sent 1) ∷ [])
-  ending = simp (cues, numbers) refl
+-- End, and the numbers of its terminations
+ending : reply_to w (done w (at 0 (Order 0 Go) ∷ at 1000 (Tick 0) ∷ at 1000 (Order 0 End) ∷ []))
+    (at 1023 (Tick 0)) ≡ Ticked (Ending 1) ((1, Sent 1) ∷ [])
+ending = simp (cues, numbers) refl
 
-  -- with the deliveries: what the receiver shows, by what came (`accepted_is` joins it to the
-  -- bytes)
-  abbrev with_deliveries : List Event
-  with_deliveries =
-      at 0 (Order 0 Go) ∷ at 1000 (Tick 0) ∷ at 1000 (Deliver 0 0 1 0) ∷ at 2000 (Tick 0)
-      ∷ at 2010 (Deliver 0 0 1 1) ∷ at 2011 (Deliver 0 0 1 1) ∷ []
+-- with the deliveries: what the receiver shows, by what came (`accepted_is` joins it to the
+-- bytes)
+abbrev with_deliveries : List Event
+with_deliveries =
+    at 0 (Order 0 Go) ∷ at 1000 (Tick 0) ∷ at 1000 (Deliver 0 0 1 0) ∷ at 2000 (Tick 0)
+    ∷ at 2010 (Deliver 0 0 1 1) ∷ at 2011 (Deliver 0 0 1 1) ∷ []
 
-  line_7 : shown (accepted 4 (came w 0 (done w (take 4 with_deliveries)))) 2000 0 ≡ 51
-  line_7 = simp (cues, numbers, at_1000) refl
+line_7 : shown (accepted 4 (came w 0 (done w (take 4 with_deliveries)))) 2000 0 ≡ 51
+line_7 = simp (cues, numbers, frame_1000) refl
 
-  line_9 : shown (accepted 4 (came w 0 (done w (take 5 with_deliveries)))) 2010 0 ≡ 102
-  line_9 = simp (cues, numbers, at_1000, at_2000) refl
+line_9 : shown (accepted 4 (came w 0 (done w (take 5 with_deliveries)))) 2010 0 ≡ 102
+line_9 = simp (cues, numbers, frame_1000, frame_2000) refl
 
-  line_10 : length (accepted 4 (came w 0 (done w (take 6 with_deliveries)))) ≡ 2
-  line_10 = simp (cues, numbers, at_1000, at_2000) refl
+line_10 : length (accepted 4 (came w 0 (done w (take 6 with_deliveries)))) ≡ 2
+line_10 = simp (cues, numbers, frame_1000, frame_2000) refl
 
-  silence : (shown (accepted 4 (came w 0 (done w with_deliveries))) 4509 0 ≡ 102)
-      × (shown (accepted 4 (came w 0 (done w with_deliveries))) 4510 0 ≡ 0)
-  silence = (
-    simp (cues, numbers, at_1000, at_2000) refl,
-    simp (cues, numbers, at_1000, at_2000) refl,
-  )
+silence : (shown (accepted 4 (came w 0 (done w with_deliveries))) 4509 0 ≡ 102)
+    × (shown (accepted 4 (came w 0 (done w with_deliveries))) 4510 0 ≡ 0)
+silence = (
+  simp (cues, numbers, frame_1000, frame_2000) refl,
+  simp (cues, numbers, frame_1000, frame_2000) refl,
+)
 
-  -- ---- the premises of the headline and of the window law are met
+-- ---- the premises of the headline and of the window law are met
 
-  world : IsWorld w
-  world zero l = console_is s 7 100 (omega arith) based
-  world (suc i) l = absurd (omega (arith, l))
+world : IsWorld w
+world zero l = console_is 7 100 (omega arith)
+world (suc i) l = absurd (omega (arith, l))
 
-  alone : (j : ℕ) → j < 1 → IsFalse (j == 0) → ⊥
-  alone zero l f = cc
-  alone (suc j) l f = omega (arith, l)
+alone : (j : ℕ) → j < 1 → IsFalse (j == 0) → ⊥
+alone zero l f = cc
+alone (suc j) l f = omega (arith, l)
 
-  -- after all deliveries, until 4509, whatever is shown is what the show means: slots 1:102
-  hears : HearsOne w 0 0 (done w with_deliveries)
-  hears = record {
-    console = omega arith;
-    alone = λ j l f. absurd (alone j l f);
-    no_stray = simp (cues, numbers, at_1000, at_2000) (tt, (tt, (tt, (tt, (tt, (tt, tt))))));
-    window = simp (cues, numbers, at_1000, at_2000)
-        (omega arith, omega arith, (omega arith, omega arith, tt));
-  }
+-- after all deliveries, until 4509, whatever is shown is what the show means: slots 1:102
+hears : HearsOne w 0 0 (done w with_deliveries)
+hears = record {
+  console = omega arith;
+  alone = λ j l f. absurd (alone j l f);
+  no_stray = simp (cues, numbers, frame_1000, frame_2000) (tt, (tt, (tt, (tt, (tt, (tt, tt))))));
+  window = simp (cues, numbers, frame_1000, frame_2000)
+      (omega arith, omega arith, (omega arith, omega arith, tt));
+}
 
-  fresh : IsFresh w 0 0 (done w with_deliveries) 4509
-  fresh = simp (cues, numbers, at_1000, at_2000) (refl, omega arith)
+fresh : IsFresh w 0 0 (done w with_deliveries) 4509
+fresh = simp (cues, numbers, frame_1000, frame_2000) (refl, omega arith)
 
-  by_then : (t : ℕ) → 2011 ≤ t → last_moment (done w with_deliveries) ≤ t
-  by_then t l = simp (cues, numbers, at_1000, at_2000) l
+by_then : (t : ℕ) → 2011 ≤ t → last_moment (done w with_deliveries) ≤ t
+by_then t l = simp (cues, numbers, frame_1000, frame_2000) l
 
-  headline_met : slots_at w 0 (done w with_deliveries) 4509 ≡ first_at 102
-  headline_met =
-      headline w with_deliveries 0 0 4509 world (by_then 4509 (omega arith)) hears fresh
-      ∙ simp (cues, numbers, at_1000, at_2000) refl
+headline_met : slots_at w 0 (done w with_deliveries) 4509 ≡ first_at 102
+headline_met =
+    headline w with_deliveries 0 0 4509 world (by_then 4509 (omega arith)) hears fresh
+    ∙ simp (cues, numbers, frame_1000, frame_2000) refl
 
-  -- from 4511 on nothing is recent, not even the repeat, and all slots are 0
-  window_met : slots_at w 0 (done w with_deliveries) 4511 ≡ dark
-  window_met =
-      silence_dark w with_deliveries 0 0 4511 world (by_then 4511 (omega arith)) hears
-      (simp (cues, numbers, at_1000, at_2000) refl)
+-- from 4511 on nothing is recent, not even the repeat, and all slots are 0
+silence_met : slots_at w 0 (done w with_deliveries) 4511 ≡ dark
+silence_met =
+    silence_dark w with_deliveries 0 0 4511 world (by_then 4511 (omega arith)) hears
+    (simp (cues, numbers, frame_1000, frame_2000) refl)
 
-  -- before the second packet comes the window law speaks, and the headline does not: the packet
-  -- that came is not the newest that was sent
-  hears_first : HearsOne w 0 0 (done w (take 4 with_deliveries))
-  hears_first = record {
-    console = omega arith;
-    alone = λ j l f. absurd (alone j l f);
-    no_stray = simp (cues, numbers) (tt, (tt, (tt, (tt, tt))));
-    window = simp (cues, numbers) tt;
-  }
+-- before the second packet comes the window law speaks, and the headline does not: the packet
+-- that came is not the newest that was sent
+hears_first : HearsOne w 0 0 (done w (take 4 with_deliveries))
+hears_first = record {
+  console = omega arith;
+  alone = λ j l f. absurd (alone j l f);
+  no_stray = simp (cues, numbers) (tt, (tt, (tt, (tt, tt))));
+  window = simp (cues, numbers) tt;
+}
+
+window_met : IsOneOf 2009 (slots_at w 0 (done w (take 4 with_deliveries)) 2009)
+    (sent w 0 1 (done w (take 4 with_deliveries)))
+    (delivered w 0 0 (done w (take 4 with_deliveries)))
+    ⊎ (slots_at w 0 (done w (take 4 with_deliveries)) 2009 ≡ dark)
+window_met =
+    window_law w (take 4 with_deliveries) 0 0 2009 world
+    (simp (cues, numbers) (omega arith)) hears_first
 
 -- two consoles on one universe, with CIDs and priorities of their own
-module _ (s : Tables) (numbers : universe_numbers s.patch 1 ≡ 1 ∷ [])
-    (based : is_base s.patch 1 ≡ true) (subs : map.contains_key s.subs 1 ≡ true)
-    (at_full : frame s (record { moment = 0; call = order (Sub 1 255) } ∷ []) 0 0 ≡ first_at 128)
-    (at_half : frame s (record { moment = 0; call = order (Sub 1 128) } ∷ []) 0 0 ≡ first_at 64)
-    (priority : ℕ) (low : priority ≤ 200) where
+module _ (priority : ℕ) (low : priority ≤ 200) where
   abbrev two : World
   two = record {
-    consoles = console_of s 7 100 ∷ console_of s 8 priority ∷ [];
+    consoles = console_of 7 100 ∷ console_of 8 priority ∷ [];
     receivers = 1 ∷ [];
     strays = [];
   }
@@ -190,8 +181,8 @@ module _ (s : Tables) (numbers : universe_numbers s.patch 1 ≡ 1 ∷ [])
       ∷ at 0 (Deliver 0 0 1 0) ∷ at 0 (Deliver 0 1 1 0) ∷ []
 
   two_world : IsWorld two
-  two_world zero l = console_is s 7 100 (omega arith) based
-  two_world (suc zero) l = console_is s 8 priority low based
+  two_world zero l = console_is 7 100 (omega arith)
+  two_world (suc zero) l = console_is 8 priority low
   two_world (suc (suc i)) l = absurd (omega (arith, l))
 
   apart : CidsDiffer two
@@ -225,7 +216,7 @@ module _ (s : Tables) (numbers : universe_numbers s.patch 1 ≡ 1 ∷ [])
   both_lit : lights two 0 (done two both_sent) 2499
       ≡ record { priority = 100; slots = first_at 128 }
       ∷ record { priority = priority; slots = first_at 64 } ∷ []
-  both_lit = simp (subs, numbers, at_full, at_half) refl
+  both_lit = simp (subs, numbers, frame_full, frame_half) refl
 
   merge_met : slice_index (slots_at two 0 (done two both_sent) 2499) 0
       ≡ merged (record { priority = 100; slots = first_at 128 }

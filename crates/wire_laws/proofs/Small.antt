@@ -1,0 +1,219 @@
+-- A small show, and what it means, evaluated: cue 1 brings channel 1 to full over five seconds;
+-- cue 2 brings channel 2 to full over two, and channel 1 out over four; submaster 1 has channel 1
+-- at half; dimmers 1 and 2 are patched to channels 1 and 2 at full.
+use Rattle.std.proofs.Common.{◌≡◌, ℕ, true, List, [], ◌∷◌, map, replicate, Option, Some}
+use Rattle.std.proofs.Common.{None, refl, ap, ◌∙◌}
+use Rattle.std.specs.List.{range_with_len}
+use Rattle.std.specs.Option.{option_map_or}
+use Rattle.std.specs.Ordering.{nat_cmp}
+use Rattle.std.specs.FinMap as map
+use Rattle.show_core.specs.declared.cue.CueData.{CueData}
+use Rattle.show_core.specs.Readers.{slot_of}
+use Rattle.show_core.specs.Tables.{LevelMap, Tables}
+use Rattle.fade_core.specs.Level.{split_fade}
+use Rattle.master_core.specs.Settings.{grand_after}
+use Rattle.patch_core.specs.Frame.{frame_of, is_base}
+use Rattle.desk_core.specs.declared.command.Command.TheVariants.{Go, Sub}
+use Rattle.desk_core.specs.Played.{Act, ended, order, settings, tick}
+use Rattle.desk_core.specs.Meaning.{channel_level, frame, universe_numbers}
+
+abbrev listed : ℕ → ℕ → List (ℕ × ℕ)
+listed channel byte = (channel, byte) ∷ []
+
+first : CueData
+first = record {
+  levels = map.from_sorted (listed 1 255);
+  up = Some (record { time = 5000; delay = 0 });
+  down = None;
+}
+
+second : CueData
+second = record {
+  levels = map.from_sorted (listed 2 255);
+  up = Some (record { time = 2000; delay = 0 });
+  down = Some (record { time = 4000; delay = 0 });
+}
+
+half : LevelMap
+half = map.from_sorted (listed 1 128)
+
+first_is : map.entries first.levels ≡ listed 1 255
+unfolding first
+first_is = map.entries-from_sorted nat_cmp (listed 1 255) tt
+
+first_up : first.up ≡ Some (record { time = 5000; delay = 0 })
+unfolding first
+first_up = refl
+
+first_down : first.down ≡ None
+unfolding first
+first_down = refl
+
+half_is : map.entries half ≡ listed 1 128
+unfolding half
+half_is = map.entries-from_sorted nat_cmp (listed 1 128) tt
+
+abbrev patched : List (ℕ × (ℕ × ℕ))
+patched = (1, (1, 255)) ∷ (2, (2, 255)) ∷ []
+
+pub small : Tables
+small = record {
+  cues = map.from_sorted ((1000, first) ∷ (2000, second) ∷ []);
+  subs = map.from_sorted ((1, half) ∷ []);
+  groups = map.from_sorted [];
+  patch = map.from_sorted patched;
+}
+
+cues_are : map.entries small.cues ≡ (1000, first) ∷ (2000, second) ∷ []
+unfolding small
+cues_are = map.entries-from_sorted nat_cmp ((1000, first) ∷ (2000, second) ∷ []) tt
+
+subs_are : map.entries small.subs ≡ (1, half) ∷ []
+unfolding small
+subs_are = map.entries-from_sorted nat_cmp ((1, half) ∷ []) tt
+
+groups_are : map.entries small.groups ≡ []
+unfolding small
+groups_are = map.entries-from_sorted nat_cmp [] tt
+
+patch_is : map.entries small.patch ≡ patched
+unfolding small
+patch_is = map.entries-from_sorted nat_cmp patched tt
+
+pub cues : map.keys small.cues ≡ 1000 ∷ 2000 ∷ []
+cues = rw cues_are refl
+
+pub subs : map.contains_key small.subs 1 ≡ true
+subs = rw (map.contains_key-keys small.subs 1, subs_are) refl
+
+pub numbers : universe_numbers small.patch 1 ≡ 1 ∷ []
+unfolding universe_numbers
+numbers = rw patch_is refl
+
+pub based : is_base small.patch 1 ≡ true
+unfolding is_base
+based = rw patch_is refl
+
+-- ---- its frames
+
+-- a frame with this first slot, and the others at 0
+abbrev pub first_at : ℕ → List ℕ
+first_at byte = byte ∷ replicate 511 0
+
+patch_at : (dimmer : ℕ) → map.get small.patch dimmer ≡ map.find nat_cmp dimmer patched
+patch_at dimmer = map.get-entries small.patch dimmer ∙ ap (map.find nat_cmp dimmer) patch_is
+
+patched_slot : (ℕ → ℕ) → ℕ → Option (ℕ × ℕ) → ℕ
+patched_slot level grand o = option_map_or (λ (p : ℕ × ℕ). slot_of (level p.0) grand p.1) o 0
+
+-- of a frame, the slots of dimmers 1 and 2 follow the channels, and the others are 0
+frame_at : (level : ℕ → ℕ) (grand : ℕ)
+    → frame_of small.patch level grand 0
+    ≡ slot_of (level 1) grand 255 ∷ slot_of (level 2) grand 255 ∷ replicate 510 0
+unfolding patched_slot
+frame_at level grand =
+    ap (λ (at : ℕ → Option (ℕ × ℕ)). map (λ d. patched_slot level grand (at d))
+    (range_with_len 1 512)) (λ i d. patch_at d i) ∙ refl
+
+frame_first : (h : List Act) (t level : ℕ) → ended h ≡ None → grand_after (settings h) ≡ 255
+    → channel_level small h t 1 ≡ level → channel_level small h t 2 ≡ 0
+    → frame small h t 0 ≡ first_at (slot_of level 255 255)
+unfolding frame
+frame_first h t level live grand one two =
+    rw live (frame_at (channel_level small h t) (grand_after (settings h))
+    ∙ rw (grand, one, two) refl)
+
+abbrev at_go : List Act
+at_go = record { moment = 0; call = order Go } ∷ []
+
+abbrev at_sub : ℕ → List Act
+at_sub byte = record { moment = 0; call = order (Sub 1 byte) } ∷ []
+
+abbrev at_1000 : List Act
+at_1000 = record { moment = 1000; call = tick } ∷ at_go
+
+-- what a history makes of its channels, evaluated
+level_1000 : (channel_level small at_go 1000 1 ≡ 13005) × (channel_level small at_go 1000 2 ≡ 0)
+unfolding split_fade
+level_1000 = (
+  simp (
+    map.get-entries small.cues 1000,
+    cues_are,
+    subs_are,
+    groups_are,
+    map.get-entries first.levels 1,
+    first_is,
+    first_up,
+    first_down,
+    map.get-entries half 1,
+    half_is,
+  ) refl,
+  simp (
+    map.get-entries small.cues 1000,
+    cues_are,
+    subs_are,
+    groups_are,
+    map.get-entries first.levels 2,
+    first_is,
+    first_up,
+    first_down,
+    map.get-entries half 2,
+    half_is,
+  ) refl,
+)
+
+level_2000 : (channel_level small at_1000 2000 1 ≡ 26010)
+    × (channel_level small at_1000 2000 2 ≡ 0)
+unfolding split_fade
+level_2000 = (
+  simp (
+    map.get-entries small.cues 1000,
+    cues_are,
+    subs_are,
+    groups_are,
+    map.get-entries first.levels 1,
+    first_is,
+    first_up,
+    first_down,
+    map.get-entries half 1,
+    half_is,
+  ) refl,
+  simp (
+    map.get-entries small.cues 1000,
+    cues_are,
+    subs_are,
+    groups_are,
+    map.get-entries first.levels 2,
+    first_is,
+    first_up,
+    first_down,
+    map.get-entries half 2,
+    half_is,
+  ) refl,
+)
+
+level_full : (channel_level small (at_sub 255) 0 1 ≡ 32640)
+    × (channel_level small (at_sub 255) 0 2 ≡ 0)
+level_full = (
+  simp (subs_are, groups_are, map.get-entries half 1, half_is) refl,
+  simp (subs_are, groups_are, map.get-entries half 2, half_is) refl,
+)
+
+level_half : (channel_level small (at_sub 128) 0 1 ≡ 16384)
+    × (channel_level small (at_sub 128) 0 2 ≡ 0)
+level_half = (
+  simp (subs_are, groups_are, map.get-entries half 1, half_is) refl,
+  simp (subs_are, groups_are, map.get-entries half 2, half_is) refl,
+)
+
+pub frame_1000 : frame small at_go 1000 0 ≡ first_at 51
+frame_1000 = frame_first at_go 1000 13005 refl refl level_1000.0 level_1000.1
+
+pub frame_2000 : frame small at_1000 2000 0 ≡ first_at 102
+frame_2000 = frame_first at_1000 2000 26010 refl refl level_2000.0 level_2000.1
+
+pub frame_full : frame small (at_sub 255) 0 0 ≡ first_at 128
+frame_full = frame_first (at_sub 255) 0 32640 refl refl level_full.0 level_full.1
+
+pub frame_half : frame small (at_sub 128) 0 0 ≡ first_at 64
+frame_half = frame_first (at_sub 128) 0 16384 refl refl level_half.0 level_half.1
