@@ -308,7 +308,8 @@ fn setup_faults(rt: HostRuntime) -> Result<(), Fail> {
     assert!(rt; fault(&rt, alloc, &[high, absent], &[1])? == Some(Fault::NoShow));
     assert!(rt; fault(&rt, alloc, &[one, high], &[1])? == Some(Fault::Universe));
     assert!(rt; fault(&rt, alloc, &[one; 4], &[1, 2, 3, 4, 5, 6, 7, 63_999])?.is_none());
-    assert!(rt; fault(&rt, alloc, &[one], &[1, 2, 3, 4, 5, 6, 7, 8, 9])? == Some(Fault::Receivers));
+    let nine = [1, 2, 3, 4, 5, 6, 7, 8, 9];
+    assert!(rt; fault(&rt, alloc, &[one], &nine)? == Some(Fault::Receivers));
     Ok(())
 }
 
@@ -330,15 +331,23 @@ fn strays(rt: HostRuntime) -> Result<(), Fail> {
     Ok(())
 }
 
-// 420 frames, a packet for each; then three groups of twenty, each with its newest first.
-fn wrap_steps(rt: &impl Abort, alloc: Global) -> Result<Vec<(u64, What, Told)>, Fail> {
+// Frames, a packet for each, every 25 ms.
+fn frame_steps(rt: &impl Abort, alloc: Global, count: u16) -> Result<Vec<(u64, What, Told)>, Fail> {
     let mut steps = Vec::new(alloc);
-    for i in 0..420u64 {
+    for i in 0..u64::from(count) {
         let level = u8::try_from((i % 90 * 255 + 50) / 100).expect(rt, "a level");
         let number = u8::try_from(i % 256).expect(rt, "a number");
         steps.push((25 * i, What::Order(0, Command::Sub(1, level)), Told::Done))?;
         steps.push((25 * i, What::Tick(0), Told::Live(number)))?;
     }
+    Ok(steps)
+}
+
+// Three groups of twenty, each with its newest first.
+#[test]
+fn window_wrap(rt: HostRuntime) -> Result<(), Fail> {
+    let consoles = [console(&rt, 0x31, 100)];
+    let mut steps = frame_steps(&rt, rt.alloc(), 420)?;
     for (first, number, slot) in [(0u16, 19, 24), (200, 219, 50), (400, 163, 75)] {
         let newest = u64::from(first) + 19;
         steps.push((10475, deliver(0, newest), Told::Taken(number, false)))?;
@@ -348,13 +357,77 @@ fn wrap_steps(rt: &impl Abort, alloc: Global) -> Result<Vec<(u64, What, Told)>, 
         }
         steps.push((10475, SHOW, Told::Shown(slot)))?;
     }
-    Ok(steps)
+    assert!(rt; plays(&rt, rt.alloc(), &consoles, steps.as_slice(), 75)?);
+    Ok(())
 }
 
+// A packet from 19 behind is taken where the record is gone; then 217 ahead of the newest that
+// came is 236 ahead of it, and 218 is outside the window.
 #[test]
-fn window_wrap(rt: HostRuntime) -> Result<(), Fail> {
+fn window_edge(rt: HostRuntime) -> Result<(), Fail> {
     let consoles = [console(&rt, 0x31, 100)];
-    let steps = wrap_steps(&rt, rt.alloc())?;
-    assert!(rt; plays(&rt, rt.alloc(), &consoles, steps.as_slice(), 75)?);
+    for (k, told, slot) in [
+        (236, Told::Taken(236, false), 72),
+        (237, Told::Ignored(Ignored::OutOfSequence), 0),
+    ] {
+        let mut steps = frame_steps(&rt, rt.alloc(), 238)?;
+        steps.push((5925, deliver(0, 19), Told::Taken(19, false)))?;
+        steps.push((8425, deliver(0, 0), Told::Taken(0, false)))?;
+        steps.push((8425, deliver(0, k), told))?;
+        steps.push((8425, SHOW, Told::Shown(slot)))?;
+        assert!(rt; plays(&rt, rt.alloc(), &consoles, steps.as_slice(), slot)?);
+    }
+    Ok(())
+}
+
+// The receiver's half: the third packet never comes.
+#[test]
+fn lost_third_send(rt: HostRuntime) -> Result<(), Fail> {
+    let consoles = [console(&rt, 0x31, 100)];
+    let steps = [
+        (0, GO, Told::Done),
+        (0, What::Order(0, Command::Master(200)), Told::Done),
+        (5000, What::Tick(0), Told::Live(0)),
+        (5025, What::Tick(0), Told::Live(1)),
+        (5050, What::Tick(0), Told::Live(2)),
+        (5075, What::Tick(0), Told::Live(3)),
+        (5075, deliver(0, 0), Told::Taken(0, false)),
+        (5075, deliver(0, 1), Told::Taken(1, false)),
+        (5075, deliver(0, 3), Told::Taken(3, false)),
+        (5075, SHOW, Told::Shown(200)),
+    ];
+    assert!(rt; plays(&rt, rt.alloc(), &consoles, &steps, 200)?);
+    Ok(())
+}
+
+// `rt try --test --fail-alloc N` refuses the Nth growth: each growth of this test in turn, and it
+// passes each time. The other tests then answer their error. With no growth refused a rehearsal
+// is carried out, as all rows have it.
+#[test]
+fn each_growth_refused(rt: HostRuntime) -> Result<(), Fail> {
+    let alloc = rt.alloc();
+    let shows = match small_show(&rt, alloc) {
+        Ok(show) => [show],
+        Err(_) => [small_show(&rt, alloc)?],
+    };
+    let consoles = [console(&rt, 0x31, 100)];
+    let events = [
+        Event {
+            moment: 0,
+            what: What::Tick(0),
+        },
+        Event {
+            moment: 0,
+            what: SHOW,
+        },
+    ];
+    assert!(rt; are_within(&events, 0));
+    let mut answer = rehearse::<PlainFader>(alloc, &shows, &consoles, &[1], &events, &[]);
+    if let Err(fault) = &answer {
+        assert!(rt; *fault == Fault::Memory);
+        answer = rehearse::<PlainFader>(alloc, &shows, &consoles, &[1], &events, &[]);
+    }
+    let report = answer?;
+    assert!(rt; report.replies.len() == 2 && report.last.len() == 1);
     Ok(())
 }
