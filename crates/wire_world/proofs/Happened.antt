@@ -51,21 +51,20 @@ no_skip w past t (Deliver r i u k) = taken_no_skip _
 no_skip w past t (Stray r from to) = taken_no_skip _
 no_skip w past t (Show r) = refl
 
-skip_is : (o : Option Skip) (r : Reply) → is_skip r ≡ false → is_skip
-    (option_map_or reply.Skipped o r) ≡ is_some o
+skip_is : (o : Option Skip) (r : Reply) → is_skip r ≡ false
+    → is_skip (option_map_or reply.Skipped o r) ≡ is_some o
 skip_is None r h = h
 skip_is (Some s) r h = refl
 
-module _ {S : Type 0} (st : S → Production → List Act → Type 0) (tells : S
-    → Type 0) (stages : List S) (receivers : List Kept) (w : World) (past : List Event)
-    (e : Event) where
+module _ {S : Type 0} (st : S → Production → List Act → Type 0) (tells : S → Type 0)
+    (stages : List S) (receivers : List Kept) (w : World) (past : List Event) (e : Event) where
   pub timely : last_moment past ≤ e.moment → e.moment < 2 ^ 48
       → skipped w past e ≡ missing w past e.what
   timely a b =
       ap (λ x. if x then Some Backwards else (if nat_le (2 ^ 48) e.moment then Some TooLarge
       else missing w past e.what)) (not_before e.moment (last_moment past) a)
-      ∙ ap (λ x. if x then Some TooLarge else missing w past e.what) (not_large
-      (2 ^ 48) e.moment b)
+      ∙ ap (λ x. if x then Some TooLarge else missing w past e.what)
+      (not_large (2 ^ 48) e.moment b)
 
   -- an event that is skipped
   pub step_skipped : (s : Skip) (last : ℕ) → skipped w past e ≡ Some s
@@ -81,21 +80,22 @@ module _ {S : Type 0} (st : S → Production → List Act → Type 0) (tells : S
       same = ap (λ o. unless_skipped o e past) k
 
   pub backwards : e.moment < last_moment past → skipped w past e ≡ Some Backwards
-  backwards h = ap (λ x. if x then Some Backwards else (if nat_le (2 ^ 48) e.moment
-      then Some TooLarge else missing w past e.what)) (is_before e.moment (last_moment past) h)
+  backwards h =
+      ap (λ x. if x then Some Backwards else (if nat_le (2 ^ 48) e.moment then Some TooLarge
+      else missing w past e.what)) (is_before e.moment (last_moment past) h)
 
   pub too_large : last_moment past ≤ e.moment → 2 ^ 48 ≤ e.moment
       → skipped w past e ≡ Some TooLarge
   too_large a b =
       ap (λ x. if x then Some Backwards else (if nat_le (2 ^ 48) e.moment then Some TooLarge
       else missing w past e.what)) (not_before e.moment (last_moment past) a)
-      ∙ ap (λ x. if x then Some TooLarge else missing w past e.what) (is_large
-      (2 ^ 48) e.moment b)
+      ∙ ap (λ x. if x then Some TooLarge else missing w past e.what)
+      (is_large (2 ^ 48) e.moment b)
 
   -- one that happens
   pub step_done : (r : Reply) (was last : ℕ) → skipped w past e ≡ missing w past e.what
-      → was ≡ last_moment past → r ≡ option_map_or reply.Skipped (missing w past e.what)
-      (replied w past e.moment e.what)
+      → was ≡ last_moment past
+      → r ≡ option_map_or reply.Skipped (missing w past e.what) (replied w past e.moment e.what)
       → last ≡ (if is_skip r then was else e.moment)
       → AllStand st stages w (unless_skipped (missing w past e.what) e past)
       → AllTell tells stages → AllHear receivers w (unless_skipped (missing w past e.what) e past)
@@ -103,10 +103,12 @@ module _ {S : Type 0} (st : S → Production → List Act → Type 0) (tells : S
   step_done r was last k l is n stand tell hear = record {
     replied = is ∙ ap (λ o. option_map_or reply.Skipped o (replied w past e.moment e.what))
         (sym k);
-    last_is = n ∙ ap (λ b. if b then was else e.moment) (ap is_skip is
+    last_is = n
+        ∙ ap (λ b. if b then was else e.moment) (ap is_skip is
         ∙ skip_is (missing w past e.what) (replied w past e.moment e.what)
-        (no_skip w past e.moment e.what)) ∙ ap (λ x. if is_some (missing w past e.what)
-        then x else e.moment) l ∙ go (missing w past e.what) ∙ ap last_moment (sym same);
+        (no_skip w past e.moment e.what))
+        ∙ ap (λ x. if is_some (missing w past e.what) then x else e.moment) l
+        ∙ go (missing w past e.what) ∙ ap last_moment (sym same);
     are = subst (AllAre st tells stages receivers w) (sym same)
         (record { stand = stand; tell = tell; hear = hear });
   }
@@ -114,7 +116,8 @@ module _ {S : Type 0} (st : S → Production → List Act → Type 0) (tells : S
       same : done_one w past e ≡ unless_skipped (missing w past e.what) e past
       same = ap (λ o. unless_skipped o e past) k
 
-      go : (o : Option Skip) → (if is_some o then last_moment past
-          else e.moment) ≡ last_moment (unless_skipped o e past)
+      go : (o : Option Skip)
+          → (if is_some o then last_moment past else e.moment)
+          ≡ last_moment (unless_skipped o e past)
       go None = refl
       go (Some s) = refl

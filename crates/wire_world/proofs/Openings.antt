@@ -19,13 +19,12 @@ get_push [] x y (suc j) e = cc
 get_push (z ∷ xs) x y zero e = inl e
 get_push (z ∷ xs) x y (suc j) e = elim (get_push xs x y j e) [
   | inl h ↦ inl h
-  | inr h ↦ inr
-      (ap suc h.0, h.1)
+  | inr h ↦ inr (ap suc h.0, h.1)
 ]
 
-pub opened_more : {S : Type 0} (st : S → Production → List Act → Type 0) (tells : S
-    → Type 0) (stages : List S) (shows : List Tables) (setups : List Setup) (i : ℕ) (s : S)
-    (setup : Setup) (t : Tables)
+pub opened_more : {S : Type 0} (st : S → Production → List Act → Type 0) (tells : S → Type 0)
+    (stages : List S) (shows : List Tables) (setups : List Setup) (i : ℕ) (s : S) (setup : Setup)
+    (t : Tables)
     → Opened st tells stages shows setups i → slice_get setups i ≡ Some setup
     → slice_get shows setup.show ≡ Some t
     → st s (record { show = t; base = setup.base; source = setup.identity }) [] × tells s
@@ -46,11 +45,11 @@ opened_more {S} st tells stages shows setups i s setup t all here show new = rec
         let k : j ≡ i = h.0 ∙ all.long in
         let g : Some d ≡ Some setup = sym f ∙ ap (slice_get setups) k ∙ here in
         let same : d ≡ setup = cc in
-        let P : Tables → Type 0 = λ x. st s
-        (record { show = x; base = setup.base; source = setup.identity }) [] × tells s in
+        let P : Tables → Type 0 = λ x.
+        st s (record { show = x; base = setup.base; source = setup.identity }) [] × tells s in
         let Q : Setup → Type 0 = λ x. st y (cast shows x) [] × tells y in
-        subst Q (sym same) (subst (λ (z : S). st z (cast shows setup) []
-        × tells z) (sym h.1) (subst P (sym is) new))
+        let R : S → Type 0 = λ z. st z (cast shows setup) [] × tells z in
+        subst Q (sym same) (subst R (sym h.1) (subst P (sym is) new))
 
 pub listening_more : (receivers : List Kept) (universes : List ℕ) (i u : ℕ) (k : Kept)
     → Listening receivers universes i → u ≡ slice_index universes i → (k.universe ≡ u)
@@ -60,47 +59,46 @@ listening_more receivers universes i u k all is named new = record {
   each = λ r y e. go r y (get_push receivers k y r e);
 }
   where
-    go : (r : ℕ) (y : Kept) → (slice_get receivers r ≡ Some y) ⊎ ((r ≡ length receivers)
-        × (y ≡ k)) → (y.universe ≡ slice_index universes r) × StandsFor y []
+    go : (r : ℕ) (y : Kept)
+        → (slice_get receivers r ≡ Some y) ⊎ ((r ≡ length receivers) × (y ≡ k))
+        → (y.universe ≡ slice_index universes r) × StandsFor y []
     go r y (inl h) = all.each r y h
     go r y (inr h) =
         let e : r ≡ i = h.0 ∙ all.long in
         let P : Kept → Type 0 = λ z. StandsFor z [] in (
-          ap (λ (z : Kept). z.universe) h.1 ∙ named ∙ is ∙ ap (slice_index universes)
-              (sym e),
+          ap (λ (z : Kept). z.universe) h.1 ∙ named ∙ is ∙ ap (slice_index universes) (sym e),
           subst P (sym h.1) new,
         )
 
 -- what was opened stands for a world in which nothing happened yet
-pub begun : {S : Type 0} (st : S → Production → List Act → Type 0) (tells : S
-    → Type 0) (stages : List S) (receivers : List Kept) (shows : List Tables)
-    (setups : List Setup) (universes strays : List ℕ)
-    → Opened st tells stages shows setups (length setups) → Listening receivers universes
-    (length universes) → AllAre st tells stages receivers
-    (world_of shows setups universes strays) []
+pub begun : {S : Type 0} (st : S → Production → List Act → Type 0) (tells : S → Type 0)
+    (stages : List S) (receivers : List Kept) (shows : List Tables) (setups : List Setup)
+    (universes strays : List ℕ)
+    → Opened st tells stages shows setups (length setups)
+    → Listening receivers universes (length universes)
+    → AllAre st tells stages receivers (world_of shows setups universes strays) []
 begun {S} st tells stages receivers shows setups universes strays opened hear = record {
   stand = record {
     each = opened.long ∙ sym (length-map setups (cast shows));
-    stand = λ i s e.
-        (each i s e).0;
+    stand = λ i s e. (each i s e).0;
   };
   tell = λ i s e. (each i s e).1;
   hear = record {
     each = hear.long;
     universes = λ r k e. (hear.each r k e).0;
-    stand = λ r k e.
-        (hear.each r k e).1;
+    stand = λ r k e. (hear.each r k e).1;
   };
 }
   where
     blank : Setup
     blank = record { show = 0; base = 0; identity = no_console.source }
 
-    each : (i : ℕ) (s : S) → slice_get stages i ≡ Some s → st s (get_or (map
-        (cast shows) setups) i no_console) [] × tells s
+    each : (i : ℕ) (s : S) → slice_get stages i ≡ Some s
+        → st s (get_or (map (cast shows) setups) i no_console) [] × tells s
     each i s e =
         let l : i < length setups = omega (arith, slice_get_within stages i s e, opened.long) in
-        let is : get_or (map (cast shows) setups) i no_console ≡ cast shows
-        (get_or setups i blank) = get_or-map (cast shows) setups i blank no_console l in
-        subst (λ (c : Production). st s c [] × tells s) (sym is) (opened.each i s
-        (get_or setups i blank) e (slice_get-get_or setups i blank l))
+        let is : get_or (map (cast shows) setups) i no_console
+        ≡ cast shows (get_or setups i blank) =
+        get_or-map (cast shows) setups i blank no_console l in
+        subst (λ (c : Production). st s c [] × tells s) (sym is)
+        (opened.each i s (get_or setups i blank) e (slice_get-get_or setups i blank l))

@@ -66,13 +66,13 @@ module _ (receivers : List Kept) (w : World) (past : List Event)
       → ((h : List source.Entry) → StandsFor was h → res ≡ answer 4 was.universe h t d)
       → taken_reply res ≡ option_map_or reply.Skipped (no_receiver_at w n) (taken_by w n past t d)
   replied_is n t d res same e =
-      let P : ℕ → Type 0 = λ m. taken_reply res ≡ option_map_or reply.Skipped
-      (no_receiver_at w m) (taken_by w m past t d) in
+      let P : ℕ → Type 0 = λ m. taken_reply res
+      ≡ option_map_or reply.Skipped (no_receiver_at w m) (taken_by w m past t d) in
       subst P same (rw no_skip (ap taken_reply (e (accepted_by w k past) stood
       ∙ ap (λ u. answer 4 u (accepted_by w k past) t d) (all.universes k was at))))
 
-  module _ (is : Kept) (t : ℕ) (d : List ℕ) (res : Result Taken Ignored) (e :
-      (h : List source.Entry) → StandsFor was h → res ≡ answer 4 was.universe h t d)
+  module _ (is : Kept) (t : ℕ) (d : List ℕ) (res : Result Taken Ignored)
+      (e : (h : List source.Entry) → StandsFor was h → res ≡ answer 4 was.universe h t d)
       (ok : OnOk res ((h : List source.Entry) → StandsFor was h
       → StandsFor is (entry_of t (front_packet d) ∷ h))) (un : OnErr res (is ≡ was))
       (same : is.universe ≡ was.universe) where
@@ -81,38 +81,41 @@ module _ (receivers : List Kept) (w : World) (past : List Event)
         subst (λ (u : ℕ). StandsFor is (heard 4 u (accepted_by w k past) t d))
         (all.universes k was at)
         (took was is (accepted_by w k past) t d res (e (accepted_by w k past) stood)
-        (ok_at res _ (StandsFor is (entry_of t (front_packet d) ∷ accepted_by w k past)) (λ f. f
-        (accepted_by w k past) stood) ok) un stood)
+        (ok_at res _ (StandsFor is (entry_of t (front_packet d) ∷ accepted_by w k past))
+        (λ f. f (accepted_by w k past) stood) ok) un stood)
 
-    pub hear_set : (n : ℕ) (x : Event) → k ≡ n → x.moment ≡ t → ((r : ℕ)
-        → handed w r past x.what ≡ (if nat_eq n r then Some d else None))
+    pub hear_set : (n : ℕ) (x : Event) → k ≡ n → x.moment ≡ t
+        → ((r : ℕ) → handed w r past x.what ≡ (if nat_eq n r then Some d else None))
         → AllHear (set receivers k is) w (unless_skipped (no_receiver_at w n) x past)
     hear_set n x here time hands =
-        let there : no_receiver_at w n ≡ None = subst (λ
-        (m : ℕ). no_receiver_at w m ≡ None) here no_skip in
+        let there : no_receiver_at w n ≡ None =
+        subst (λ (m : ℕ). no_receiver_at w m ≡ None) here no_skip in
         rw there (record {
           each = omega (arith, length-set receivers k is, all.each);
           universes = λ r y g. one r y (get_set receivers k r is y g);
           stand = λ r y g. other r y (get_set receivers k r is y g);
         })
       where
-        one : (r : ℕ) (y : Kept) → ((k ≡ r) × (y ≡ is)) ⊎ ((k ≡ r → ⊥)
-            × (slice_get receivers r ≡ Some y)) → y.universe ≡ universe_at w r
+        one : (r : ℕ) (y : Kept)
+            → ((k ≡ r) × (y ≡ is)) ⊎ ((k ≡ r → ⊥) × (slice_get receivers r ≡ Some y))
+            → y.universe ≡ universe_at w r
         one r y (inl h) = ap (λ (z : Kept). z.universe) h.1 ∙ same ∙ all.universes k was at
             ∙ ap (universe_at w) h.0
         one r y (inr h) = all.universes r y h.1
 
-        other : (r : ℕ) (y : Kept) → ((k ≡ r) × (y ≡ is)) ⊎ ((k ≡ r → ⊥)
-            × (slice_get receivers r ≡ Some y)) → StandsFor y (accepted_by w r (x ∷ past))
+        other : (r : ℕ) (y : Kept)
+            → ((k ≡ r) × (y ≡ is)) ⊎ ((k ≡ r → ⊥) × (slice_get receivers r ≡ Some y))
+            → StandsFor y (accepted_by w r (x ∷ past))
         other r y (inl h) =
             let P : ℕ → Type 0 = λ r. StandsFor is (accepted_by w r (x ∷ past)) in
             let Q : Kept → Type 0 = λ z. StandsFor z (accepted_by w r (x ∷ past)) in
-            let c : handed w k past x.what ≡ Some d = hands k ∙ ap (λ b. if b then Some d
-            else None) (eq-eqb n k (sym here)) in
+            let c : handed w k past x.what ≡ Some d =
+            hands k ∙ ap (λ b. if b then Some d else None) (eq-eqb n k (sym here)) in
             subst Q (sym h.1) (subst P h.0 (rw (c, time) stands))
         other r y (inr h) =
-            let c : handed w r past x.what ≡ None = hands r ∙ ap (λ b. if b then Some d
-            else None) (neq_false n r (λ q. h.0 (here ∙ q))) in
+            let c : handed w r past x.what ≡ None =
+            hands r
+            ∙ ap (λ b. if b then Some d else None) (neq_false n r (λ q. h.0 (here ∙ q))) in
             rw c (all.stand r y h.1)
 
 -- a receiver is not ahead of the last datagram that it took
@@ -120,8 +123,8 @@ pub by_set : (receivers : List Kept) (k : ℕ) (is : Kept) (last t : ℕ) → la
     → (is.latest ≤ t) → AllBy receivers last → AllBy (set receivers k is) t
 by_set receivers k is last t l n all = λ r y g. go r y (get_set receivers k r is y g)
   where
-    go : (r : ℕ) (y : Kept) → ((k ≡ r) × (y ≡ is)) ⊎ ((k ≡ r → ⊥)
-        × (slice_get receivers r ≡ Some y)) → y.latest ≤ t
+    go : (r : ℕ) (y : Kept)
+        → ((k ≡ r) × (y ≡ is)) ⊎ ((k ≡ r → ⊥) × (slice_get receivers r ≡ Some y)) → y.latest ≤ t
     go r y (inl h) = subst (λ (z : Kept). z.latest ≤ t) (sym h.1) n
     go r y (inr h) = omega (arith, all r y h.1)
 
@@ -132,17 +135,12 @@ pub hear_same : (receivers : List Kept) (w : World) (past : List Event) (o : Opt
 hear_same receivers w past (Some x) e quiet all = all
 hear_same receivers w past None e quiet all = record {
   each = all.each;
-  universes =
-      all.universes;
+  universes = all.universes;
   stand = λ r k g. rw (quiet r) (all.stand r k g);
 }
 
 -- the receivers are not ahead of the last event
 pub all_by : (receivers : List Kept) (w : World) (past : List Event) (t : ℕ) → IsRun w past
     → last_moment past ≤ t → AllHear receivers w past → AllBy receivers t
-all_by receivers w past t run time all r k g = omega (
-  arith,
-  (all.stand r k g).latest_is,
-  last_accepted w r past run,
-  time,
-)
+all_by receivers w past t run time all r k g =
+    omega (arith, (all.stand r k g).latest_is, last_accepted w r past run, time)

@@ -30,8 +30,8 @@ drop_at (x ∷ xs) (suc i) d h = drop_at xs i d (omega arith)
     ap (λ n. get_or xs i d ∷ drop n (x ∷ xs)) z)
 
 pub universes_at : (xs : List ℕ) (i d : ℕ) → i < length xs
-    → are_universes (drop i xs) ≡ (is_new_at (get_or xs i d) (drop (i + 1) xs)
-    && are_universes (drop (i + 1) xs))
+    → are_universes (drop i xs)
+    ≡ (is_new_at (get_or xs i d) (drop (i + 1) xs) && are_universes (drop (i + 1) xs))
 universes_at xs i d h = ap are_universes (drop_at xs i d h)
 
 pub drop_end : (xs : List ℕ) (i : ℕ) → length xs ≤ i → drop i xs ≡ []
@@ -48,8 +48,7 @@ both true false h = cc
 both false b h = cc
 
 all_at : {X : Type 0} (p : X → Bool) (xs : List X) → list_all p xs ≡ true → (k : ℕ) (d : X)
-    → k < length xs
-    → p (get_or xs k d) ≡ true
+    → k < length xs → p (get_or xs k d) ≡ true
 all_at p [] a k d h = absurd (omega arith)
 all_at p (x ∷ xs) a zero d h = (both (p x) (list_all p xs) a).0
 all_at p (x ∷ xs) a (suc k) d h = all_at p xs (both (p x) (list_all p xs) a).1 k d (omega arith)
@@ -102,14 +101,14 @@ few_consoles shows setups universes f =
 
 pub shows_there : (shows : List Tables) (setups : List Setup) (universes : List ℕ)
     → IsFine shows setups universes → All (λ s. s.show < length shows) setups
-shows_there shows setups universes f = λ k d h. lt _ (length shows) (all_at
-    (has_show shows) setups f.shown k d h)
+shows_there shows setups universes f =
+    λ k d h. lt _ (length shows) (all_at (has_show shows) setups f.shown k d h)
 
 pub universes_there : (shows : List Tables) (setups : List Setup) (universes : List ℕ)
     → IsFine shows setups universes → All (λ u. (1 ≤ u) × (u ≤ 63999)) universes
-universes_there shows setups universes f = λ k d h.
-    universe_at_place universes (both (nat_le (length universes) 8)
-    (are_universes universes) f.receivers).1 k d h
+universes_there shows setups universes f =
+    let b = both (nat_le (length universes) 8) (are_universes universes) f.receivers in
+    λ k d h. universe_at_place universes b.1 k d h
 
 based_at : (shows : List Tables) (s : Setup) → has_base shows s ≡ true
     → is_base (cast shows s).show.patch s.base ≡ true
@@ -131,8 +130,8 @@ is_world shows setups universes strays f who = λ i h.
     subst IsConsole (sym (get_or-map (cast shows) setups i blank no_console l))
     (record {
       source_in = who i blank l;
-      base_in = based_at shows (get_or setups i blank) (all_at
-          (has_base shows) setups f.based i blank l);
+      base_in = based_at shows (get_or setups i blank)
+          (all_at (has_base shows) setups f.based i blank l);
     })
   where
     blank : Setup
@@ -161,5 +160,6 @@ within_one size (Show r) h = tt
 
 pub all_within : (size : ℕ) (events : List Event) → are_within size events ≡ true
     → All (λ e. IsWithin size e.what) events
-all_within size events h = λ k d l. within_one size (get_or events k d).what
+all_within size events h = λ k d l.
+    within_one size (get_or events k d).what
     (all_at (λ (e : Event). is_within size e.what) events h k d l)

@@ -32,16 +32,16 @@ done_more : (w : World) (es : List Event) (i : ℕ) (d : Event) → i < length e
     → done w (take (i + 1) es) ≡ done_one w (done w (take i es)) (get_or es i d)
 done_more w es i d h = grind (arith, common_steps)
 
-module _ {S : Type 0} (st : S → Production → List Act → Type 0) (tells : S
-    → Type 0) (w : World) (es : List Event) (i : ℕ) (d : Event) (within : i < length es) where
+module _ {S : Type 0} (st : S → Production → List Act → Type 0) (tells : S → Type 0) (w : World)
+    (es : List Event) (i : ℕ) (d : Event) (within : i < length es) where
   more : done w (take (i + 1) es) ≡ done_one w (done w (take i es)) (get_or es i d)
   more = done_more w es i d within
 
   pub replayed_more : (stages : List S) (receivers : List Kept) (was last : ℕ) (rs : List Reply)
       (r : Reply) (old : List S) (heard : List Kept)
-      → Replayed st tells old heard was rs w es i → IsStep st tells stages receivers last r w
-      (done w (take i es)) (get_or es i d) → Replayed st tells stages receivers last
-      (rs ++ r ∷ []) w es (i + 1)
+      → Replayed st tells old heard was rs w es i
+      → IsStep st tells stages receivers last r w (done w (take i es)) (get_or es i d)
+      → Replayed st tells stages receivers last (rs ++ r ∷ []) w es (i + 1)
   replayed_more stages receivers was last rs r old heard all step = record {
     long = omega (arith, length-append rs (r ∷ []), all.long);
     last_is = step.last_is ∙ ap last_moment (sym more);
@@ -54,15 +54,16 @@ module _ {S : Type 0} (st : S → Production → List Act → Type 0) (tells : S
       go j f g (inl b) l = get_front rs (r ∷ []) j _ (all.below j f b g)
       go j f g (inr b) l =
           let k : i ≡ j = omega arith in
-          let P : ℕ → Type 0 = λ m. slice_get es m ≡ Some f → slice_get (rs ++ r ∷ []) m ≡ Some
-          (reply_to w (done w (take m es)) f) in
+          let P : ℕ → Type 0 = λ m. slice_get es m ≡ Some f
+          → slice_get (rs ++ r ∷ []) m ≡ Some (reply_to w (done w (take m es)) f) in
           subst P k (λ q. let s : get_or es i d ≡ f = get_or_from_slice_get es i f d q in
           ap (λ m. slice_get (rs ++ r ∷ []) m) (sym all.long) ∙ get_end rs r
           ∙ ap Some (step.replied ∙ ap (reply_to w (done w (take i es))) s)) g
 
-pub early : {S : Type 0} (st : S → Production → List Act → Type 0) (tells : S
-    → Type 0) (stages : List S) (receivers : List Kept) (last : ℕ) (rs : List Reply) (w : World)
+pub early : {S : Type 0} (st : S → Production → List Act → Type 0) (tells : S → Type 0)
+    (stages : List S) (receivers : List Kept) (last : ℕ) (rs : List Reply) (w : World)
     (es : List Event) (i : ℕ) → Replayed st tells stages receivers last rs w es i
     → AllBy receivers last
-early st tells stages receivers last rs w es i all = all_by receivers w (done w
-    (take i es)) last (done_runs w (take i es)) (omega (arith, all.last_is)) all.are.hear
+early st tells stages receivers last rs w es i all =
+    all_by receivers w (done w (take i es)) last (done_runs w (take i es))
+    (omega (arith, all.last_is)) all.are.hear

@@ -16,8 +16,7 @@ use Rattle.wire_world.proofs.Linked.{kept_ticked}
 
 -- the answer, from its parts
 pub answer_is : (r : Result (Ticked × List (ℕ × Offered)) Refused) (o : Option Refused)
-    (t : Ticked)
-    (ps : List (ℕ × Offered))
+    (t : Ticked) (ps : List (ℕ × Offered))
     → MatchResult r (λ a. (o ≡ None) × (a.0 ≡ t)) (λ x. o ≡ Some x) → IfOk r (λ a. a.1 ≡ ps)
     → r ≡ outcome o (t, ps)
 answer_is (Ok a) o t ps m f =

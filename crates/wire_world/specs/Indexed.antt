@@ -7,8 +7,8 @@ use Rattle.wire_world.specs.declared.row.Places.{Places}
 -- the places of a universe in an index
 abbrev pub places_of : List Places → ℕ → List ℕ
 places_of index universe =
-    option_map_or (λ places. places.rows.items) (find
-    (λ places. places.universe == universe) index) []
+    option_map_or (λ places. places.rows.items)
+    (find (λ places. places.universe == universe) index) []
 
 -- the places of a universe's packets, the first row at this place
 abbrev pub places_in : ℕ → ℕ → List Row → List ℕ

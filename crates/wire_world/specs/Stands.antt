@@ -30,11 +30,11 @@ tick_reply (Ok p) = reply.Ticked p.0 p.1
 tick_reply (Err refused) = reply.Refused refused
 
 -- each console stands for its history
-pub record AllStand {S : Type 0} (stands_for : S → Production → List Act
-    → Type 0) (stages : List S) (w : World) (past : List Event) : Type 0 where
+pub record AllStand {S : Type 0} (stands_for : S → Production → List Act → Type 0)
+    (stages : List S) (w : World) (past : List Event) : Type 0 where
   pub each : length stages ≡ length w.consoles
-  pub stand : (i : ℕ) (s : S) → slice_get stages i ≡ Some s → stands_for s (console_at w i)
-      (acts w i past)
+  pub stand : (i : ℕ) (s : S) → slice_get stages i ≡ Some s
+      → stands_for s (console_at w i) (acts w i past)
 
 -- each receiver stands for what it has accepted
 pub record AllHear (receivers : List Kept) (w : World) (past : List Event) : Type 0 where
@@ -62,17 +62,17 @@ IsWithin size (Stray receiver from to) = (from ≤ to) × (to ≤ size)
 IsWithin size _ = Unit {0}
 
 -- all that is kept stands for the events so far
-pub record AllAre {S : Type 0} (stands_for : S → Production → List Act → Type 0) (tells : S
-    → Type 0) (stages : List S) (receivers : List Kept) (w : World)
-    (past : List Event) : Type 0 where
+pub record AllAre {S : Type 0} (stands_for : S → Production → List Act → Type 0)
+    (tells : S → Type 0) (stages : List S) (receivers : List Kept) (w : World) (past : List Event)
+    : Type 0 where
   pub stand : AllStand stands_for stages w past
   pub tell : AllTell tells stages
   pub hear : AllHear receivers w past
 
 -- one event was carried out
-pub record IsStep {S : Type 0} (stands_for : S → Production → List Act → Type 0) (tells : S
-    → Type 0) (stages : List S) (receivers : List Kept) (last : ℕ) (reply : Reply) (w : World)
-    (past : List Event) (e : Event) : Type 0 where
+pub record IsStep {S : Type 0} (stands_for : S → Production → List Act → Type 0)
+    (tells : S → Type 0) (stages : List S) (receivers : List Kept) (last : ℕ) (reply : Reply)
+    (w : World) (past : List Event) (e : Event) : Type 0 where
   pub replied : reply ≡ reply_to w past e
   pub last_is : last ≡ last_moment (done_one w past e)
   pub are : AllAre stands_for tells stages receivers w (done_one w past e)
@@ -83,9 +83,9 @@ is_skip (reply.Skipped s) = true
 is_skip _ = false
 
 -- the first n events were carried out, and these are the replies to them
-pub record Replayed {S : Type 0} (stands_for : S → Production → List Act → Type 0) (tells : S
-    → Type 0) (stages : List S) (receivers : List Kept) (last : ℕ) (replies : List Reply)
-    (w : World) (events : List Event) (n : ℕ) : Type 0 where
+pub record Replayed {S : Type 0} (stands_for : S → Production → List Act → Type 0)
+    (tells : S → Type 0) (stages : List S) (receivers : List Kept) (last : ℕ)
+    (replies : List Reply) (w : World) (events : List Event) (n : ℕ) : Type 0 where
   pub long : length replies ≡ n
   pub last_is : last ≡ last_moment (done w (take n events))
   pub are : AllAre stands_for tells stages receivers w (done w (take n events))
@@ -96,8 +96,7 @@ pub record Replayed {S : Type 0} (stands_for : S → Production → List Act →
 abbrev pub cast : List Tables → Setup → Production
 cast shows setup = record {
   show = slice_index_or shows setup.show no_console.show;
-  base =
-      setup.base;
+  base = setup.base;
   source = setup.identity;
 }
 
@@ -107,8 +106,9 @@ AreSources shows setups = All (λ setup. (universe : ℕ)
     → IsTrue (plays (cast shows setup) universe) → IsIdentity setup.identity) setups
 
 -- the first n consoles are open
-pub record Opened {S : Type 0} (stands_for : S → Production → List Act → Type 0) (tells : S
-    → Type 0) (stages : List S) (shows : List Tables) (setups : List Setup) (n : ℕ) : Type 0 where
+pub record Opened {S : Type 0} (stands_for : S → Production → List Act → Type 0)
+    (tells : S → Type 0) (stages : List S) (shows : List Tables) (setups : List Setup) (n : ℕ)
+    : Type 0 where
   pub long : length stages ≡ n
   pub each : (i : ℕ) (s : S) (d : Setup) → slice_get stages i ≡ Some s
       → slice_get setups i ≡ Some d → stands_for s (cast shows d) [] × tells s
@@ -122,8 +122,7 @@ pub record Listening (receivers : List Kept) (universes : List ℕ) (n : ℕ) : 
 -- the world of a rehearsal
 abbrev pub world_of : List Tables → List Setup → List ℕ → List ℕ → World
 world_of shows setups receivers strays = record {
-  consoles = map
-      (cast shows) setups;
+  consoles = map (cast shows) setups;
   receivers = receivers;
   strays = strays;
 }
