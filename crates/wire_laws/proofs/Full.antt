@@ -40,7 +40,7 @@ each_get P (y ∷ xs) (suc k) x a e = each_get P xs k x a.1 e
 abbrev IsFull : List ℕ → Type 0
 IsFull f = length f ≡ 512
 
-frame_full : (s : Tables) (h : List Act) (t k : ℕ) → IsFull (frame s h t k)
+pub frame_full : (s : Tables) (h : List Act) (t k : ℕ) → IsFull (frame s h t k)
 unfolding frame
 frame_full s h t k = go (is_some (ended h))
   where

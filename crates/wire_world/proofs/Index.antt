@@ -87,16 +87,15 @@ at_place u n k p (r ∷ rows) e =
     first : nat_eq r.universe u ≡ true → n ≡ p → IsAt u n zero p (r ∷ rows)
     first b f = record {
       q = zero;
-      place = omega
-          (arith, f);
+      place = omega (arith, f);
       row = r;
       here = refl;
       sent = simp b refl;
     }
 
     go : (b : Bool) → nat_eq r.universe u ≡ b → (k : ℕ)
-        → slice_get (if b then n ∷ places_in u (suc n) rows else places_in u
-        (suc n) rows) k ≡ Some p
+        → slice_get (if b then n ∷ places_in u (suc n) rows else places_in u (suc n) rows) k
+        ≡ Some p
         → ((j : ℕ) → slice_get (places_in u (suc n) rows) j ≡ Some p → IsAt u (suc n) j p rows)
         → IsAt u n k p (r ∷ rows)
     go true b zero e ih = first b (let f : n ≡ p = cc in f)
@@ -111,8 +110,8 @@ no_place u n k (r ∷ rows) e =
     go (nat_eq r.universe u) refl k e (λ j f. no_place u (suc n) j rows f)
   where
     go : (b : Bool) → nat_eq r.universe u ≡ b → (k : ℕ)
-        → slice_get (if b then n ∷ places_in u (suc n) rows else places_in u
-        (suc n) rows) k ≡ None
+        → slice_get (if b then n ∷ places_in u (suc n) rows else places_in u (suc n) rows) k
+        ≡ None
         → ((j : ℕ) → slice_get (places_in u (suc n) rows) j ≡ None
         → slice_get (sent_to u (map send_of rows)) j ≡ None)
         → slice_get (sent_to u (map send_of (r ∷ rows))) k ≡ None
@@ -157,13 +156,15 @@ noted index u i place v was d new found is name rows = go (nat_eq u v) refl
         ∙ passes_at_first (λ (p : Places). p.universe == u) index d (omega (arith, at.0, at.1))
 
     here : find (λ (p : Places). p.universe == u) index ≡ Some was
-    here = find_at (λ (p : Places). p.universe == u) index ∙ ap (slice_get index) (sym at.0)
+    here =
+        find_at (λ (p : Places). p.universe == u) index ∙ ap (slice_get index) (sym at.0)
         ∙ slice_get-get_or index i d at.1 ∙ ap Some (sym is)
 
     new_named : nat_eq new.universe u ≡ true
     new_named = ap (λ n. nat_eq n u) (name ∙ ap (λ (p : Places). p.universe) is) ∙ named
 
-    go : (b : Bool) → nat_eq u v ≡ b → places_of (slice_set index i new) v
+    go : (b : Bool) → nat_eq u v ≡ b
+        → places_of (slice_set index i new) v
         ≡ (if b then places_of index v ++ place ∷ [] else places_of index v)
     go true q =
         let P : ℕ → Type 0 = λ n. places_of (slice_set index i new) n
@@ -204,9 +205,10 @@ noted_new index u place v new missed name rows = go (nat_eq u v) refl
         simp (ap (λ n. nat_eq n v) name ∙ q) refl in
         let was : find (λ (p : Places). p.universe == v) index ≡ None =
         subst (λ n. find (λ (p : Places). p.universe == n) index ≡ None) (eqb-true u v q) none in
-        ap rows_of (both ∙ ap (λ o. option_or o (find (λ (p : Places). p.universe == v)
-        (new ∷ []))) was
-        ∙ one) ∙ rows ∙ sym (ap (λ o. rows_of o ++ place ∷ []) was)
+        ap rows_of
+        (both
+        ∙ ap (λ o. option_or o (find (λ (p : Places). p.universe == v) (new ∷ []))) was ∙ one)
+        ∙ rows ∙ sym (ap (λ o. rows_of o ++ place ∷ []) was)
     go false q =
         let one : find (λ (p : Places). p.universe == v) (new ∷ []) ≡ None =
         simp (ap (λ n. nat_eq n v) name ∙ q) refl in
@@ -215,8 +217,9 @@ noted_new index u place v new missed name rows = go (nat_eq u v) refl
 
 -- an index of one row more
 pub index_more : (index new : List Places) (rows : List Row) (row : Row)
-    → ((u : ℕ) → places_of new u ≡ (if nat_eq row.universe u
-    then places_of index u ++ length rows ∷ [] else places_of index u))
+    → ((u : ℕ) → places_of new u
+    ≡ (if nat_eq row.universe u then places_of index u ++ length rows ∷ []
+    else places_of index u))
     → IsIndex index rows → IsIndex new (rows ++ row ∷ [])
 index_more index new rows row more is u =
     let z : length rows ≡ 0 + length rows = omega arith in

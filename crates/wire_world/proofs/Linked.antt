@@ -1,28 +1,21 @@
 -- What a link keeps of a universe is its stream, packet by packet.
-use Rattle.std.proofs.Common.{◌≡◌, ℕ, zero, suc, ◌+◌, ◌-◌, ◌*◌, ◌%◌, ◌<◌, Bool, true, false, refl}
+use Rattle.std.proofs.Common.{◌≡◌, ℕ, zero, suc, ◌+◌, ◌-◌, ◌%◌, ◌<◌, Bool, true, false, refl}
 use Rattle.std.proofs.Common.{ap, sym}
 use Rattle.std.proofs.Common.{subst, ◌∙◌, List, [], ◌∷◌, ◌++◌, length, map, Option}
 use Rattle.std.proofs.Common.{Some, None}
 use Rattle.std.proofs.Common.{arith, append-nil, add-one}
-use Rattle.std.specs.Prelude.{slice_get, if◌then◌else◌, nat_eq, unwrap_or, is_some, get_or, ◌≢◌}
+use Rattle.std.specs.Prelude.{slice_get, if◌then◌else◌, nat_eq, unwrap_or, get_or, ◌≢◌}
 use Rattle.std.specs.Prelude.{◌||◌}
-use Rattle.std.specs.List.{list_any, range_with_len}
+use Rattle.std.specs.List.{list_any}
 use Rattle.std.specs.List.{AllPairs}
 use Rattle.std.specs.Option.{option_map, option_map_or}
 use Rattle.std.proofs.lemmas.Bool.{eqb-true}
-use Rattle.std.proofs.lemmas.Bool.Decides.{nat_tests}
-use Rattle.std.proofs.lemmas.List.{length-map}
-use Rattle.std.proofs.lemmas.List.FromFn.{length-range_with_len}
 use Rattle.std.proofs.lemmas.List.Kept.{AllPairs-from_increasing}
-use Rattle.show_core.specs.Tables.{Tables}
 use Rattle.devices.specs.Send.{Send}
-use Rattle.patch_core.specs.Frame.{dimmer_slot}
-use Rattle.master_core.specs.Settings.{grand_after}
 use Rattle.desk_core.specs.declared.command.Command.{Command}
 use Rattle.desk_core.specs.declared.command.Command.TheVariants.{Go, Back, Goto, Sub, Group}
 use Rattle.desk_core.specs.declared.command.Command.TheVariants.{Master, End}
-use Rattle.desk_core.specs.Played.{Act, order, tick, ended, ended_by, settings}
-use Rattle.desk_core.specs.Meaning.{dark, frame, channel_level}
+use Rattle.desk_core.specs.Played.{Act, order, tick, ended, ended_by}
 use Rattle.desk_core.proofs.Universes.{numbers_rise}
 use Rattle.sacn_source.specs.declared.offered.Offered.{Offered}
 use Rattle.sacn_source.specs.declared.offered.Offered.TheVariants.{Sent, Quiet}
@@ -38,10 +31,12 @@ use Rattle.wire_laws.specs.Datagrams.{packet_bytes}
 use Rattle.wire_laws.specs.Happened.{bytes_of, packets_of, stream}
 use Rattle.wire_laws.specs.World.{plays}
 use Rattle.wire_laws.specs.Replies.{due_answer}
+use Rattle.wire_laws.proofs.Full.{frame_full}
 use Rattle.wire_laws.proofs.Wire.{bytes_are}
 use Rattle.wire_world.specs.declared.row.Row.{Row}
 use Rattle.wire_world.specs.Sends.{send_of, sent_to, numbered}
 use Rattle.wire_world.proofs.Sources.{source_of}
+use Rattle.wire_world.proofs.Stages.{neq_false}
 
 -- ---- bytes
 
@@ -60,7 +55,8 @@ pub numbered_at : (source : Identity) (u j : ℕ) (ps : List Packet) (k : ℕ)
 numbered_at source u j [] k = refl
 numbered_at source u j (p ∷ ps) zero =
     let e : j ≡ j + 0 = omega arith in ap (λ n. Some (packet_bytes source u n p)) e
-numbered_at source u j (p ∷ ps) (suc k) = numbered_at source u (j + 1) ps k
+numbered_at source u j (p ∷ ps) (suc k) =
+    numbered_at source u (j + 1) ps k
     ∙ (let e : j + 1 + k ≡ j + suc k = omega arith in
     ap (λ n. option_map (packet_bytes source u n) (slice_get ps k)) e)
 
@@ -69,7 +65,8 @@ numbered_more : (source : Identity) (u j : ℕ) (ps qs : List Packet)
     ≡ numbered source u j ps ++ numbered source u (j + length ps) qs
 numbered_more source u j [] qs =
     let e : j ≡ j + 0 = omega arith in ap (λ n. numbered source u n qs) e
-numbered_more source u j (p ∷ ps) qs = ap (λ l. packet_bytes source u j p ∷ l)
+numbered_more source u j (p ∷ ps) qs =
+    ap (λ l. packet_bytes source u j p ∷ l)
     (numbered_more source u (j + 1) ps qs
     ∙ (let e : j + 1 + length ps ≡ j + suc (length ps) = omega arith in
     ap (λ n. numbered source u (j + 1) ps ++ numbered source u n qs) e))
@@ -80,19 +77,6 @@ numbered_more source u j (p ∷ ps) qs = ap (λ l. packet_bytes source u j p ∷
 abbrev pub due_list : Option Packet → List Packet
 due_list None = []
 due_list (Some p) = p ∷ []
-
-frame_full : (s : Tables) (h : List Act) (t k : ℕ) → length (frame s h t k) ≡ 512
-unfolding frame
-frame_full s h t k = go (is_some (ended h))
-  where
-    go : (b : Bool)
-        → length (if b then dark else map
-        (dimmer_slot s.patch (channel_level s h t) (grand_after (settings h)))
-        (range_with_len (512 * k + 1) 512)) ≡ 512
-    go true = refl
-    go false = length-map (range_with_len (512 * k + 1) 512)
-        (dimmer_slot s.patch (channel_level s h t) (grand_after (settings h)))
-        ∙ length-range_with_len (512 * k + 1) 512
 
 -- a due packet has 512 slots
 abbrev pub IsFull : Option Packet → Type 0
@@ -120,13 +104,13 @@ ticked_more : (p : Production) (h : List Act) (m u : ℕ)
 ticked_more p h m u = go (ended h)
   where
     live : (b : Bool)
-        → map live_packet (if b then frames_sent (offers_of p u h) ++
-        (offer_at p u h m).frame ∷ []
+        → map live_packet
+        (if b then frames_sent (offers_of p u h) ++ (offer_at p u h m).frame ∷ []
         else frames_sent (offers_of p u h))
         ≡ map live_packet (frames_sent (offers_of p u h))
         ++ due_list (if b then Some (live_packet (offer_at p u h m).frame) else None)
-    live true = map_more live_packet (frames_sent (offers_of p u h))
-        ((offer_at p u h m).frame ∷ [])
+    live true =
+        map_more live_packet (frames_sent (offers_of p u h)) ((offer_at p u h m).frame ∷ [])
     live false = sym (append-nil _)
 
     go : (n : Option ℕ)
@@ -179,8 +163,8 @@ sent_more : (u : ℕ) (xs ys : List Send) → sent_to u (xs ++ ys) ≡ sent_to u
 sent_more u [] ys = refl
 sent_more u (x ∷ xs) ys = go (nat_eq x.universe u) refl (sent_more u xs ys)
   where
-    go : (b : Bool) → nat_eq x.universe u ≡ b → sent_to u
-        (xs ++ ys) ≡ sent_to u xs ++ sent_to u ys
+    go : (b : Bool) → nat_eq x.universe u ≡ b
+        → sent_to u (xs ++ ys) ≡ sent_to u xs ++ sent_to u ys
         → sent_to u (x ∷ (xs ++ ys)) ≡ sent_to u (x ∷ xs) ++ sent_to u ys
     go true q ih = simp q (ap (λ l. x.bytes ∷ l) ih)
     go false q ih = simp q ih
@@ -188,7 +172,8 @@ sent_more u (x ∷ xs) ys = go (nat_eq x.universe u) refl (sent_more u xs ys)
 -- the bytes of what is due on a universe
 abbrev pub due_bytes : Identity → List Due → ℕ → List (List ℕ)
 due_bytes source [] u = []
-due_bytes source (d ∷ ds) u = if nat_eq d.universe u
+due_bytes source (d ∷ ds) u =
+    if nat_eq d.universe u
     then numbered source u d.place (due_list d.packet) ++ due_bytes source ds u
     else due_bytes source ds u
 
@@ -197,13 +182,13 @@ AreFull [] = Unit {0}
 AreFull (d ∷ ds) = IsFull d.packet × AreFull ds
 
 one_sent : (source : Identity) (u : ℕ) (d : Due) (p : Packet) (x : Send) (xs : List Send)
-    (ds : List Due)
-    → d.packet ≡ Some p → x.universe ≡ d.universe
+    (ds : List Due) → d.packet ≡ Some p → x.universe ≡ d.universe
     → x.bytes ≡ packet_bytes source d.universe d.place p
     → sent_to u xs ≡ due_bytes source ds u → sent_to u (x ∷ xs) ≡ due_bytes source (d ∷ ds) u
 one_sent source u d p x xs ds e f g ih = go (nat_eq d.universe u) refl
   where
-    go : (b : Bool) → nat_eq d.universe u ≡ b → sent_to u (x ∷ xs)
+    go : (b : Bool) → nat_eq d.universe u ≡ b
+        → sent_to u (x ∷ xs)
         ≡ (if b then numbered source u d.place (due_list d.packet) ++ due_bytes source ds u
         else due_bytes source ds u)
     go true q =
@@ -218,15 +203,16 @@ none_sent : (source : Identity) (u : ℕ) (d : Due) (ds : List Due) → d.packet
     → due_bytes source ds u ≡ due_bytes source (d ∷ ds) u
 none_sent source u d ds e = go (nat_eq d.universe u)
   where
-    go : (b : Bool) → due_bytes source ds u
+    go : (b : Bool)
+        → due_bytes source ds u
         ≡ (if b then numbered source u d.place (due_list d.packet) ++ due_bytes source ds u
         else due_bytes source ds u)
     go true = sym (ap (λ o. numbered source u d.place (due_list o) ++ due_bytes source ds u) e)
     go false = refl
 
 -- the sends of a tick to a universe are what is due on it
-pub sent_due : {source : Identity} (u : ℕ) {ds : List Due} {xs : List Send} {pairs : List (ℕ
-    × Offered)}
+pub sent_due : {source : Identity} (u : ℕ) {ds : List Due} {xs : List Send}
+    {pairs : List (ℕ × Offered)}
     → AreFull ds → AreOffered source ds xs pairs → sent_to u xs ≡ due_bytes source ds u
 sent_due u full none = refl
 sent_due {source} u full (quiet d ds xs rest e h) =
@@ -241,8 +227,8 @@ abbrev pub AreUnfailed : List Send → Type 0
 AreUnfailed [] = Unit {0}
 AreUnfailed (x ∷ xs) = (x.failed ≡ false) × AreUnfailed xs
 
-pub answers_due : {source : Identity} {ds : List Due} {xs : List Send} {pairs : List (ℕ
-    × Offered)}
+pub answers_due : {source : Identity} {ds : List Due} {xs : List Send}
+    {pairs : List (ℕ × Offered)}
     → AreUnfailed xs → AreOffered source ds xs pairs → pairs ≡ map due_answer ds
 answers_due ok none = refl
 answers_due ok (quiet d ds xs rest e h) =
@@ -273,12 +259,9 @@ dues_full : (p : Production) (h : List Act) (m : ℕ) (ns : List ℕ)
 dues_full p h m [] = tt
 dues_full p h m (n ∷ ns) = (due_full p h m n, dues_full p h m ns)
 
-neq_false : (a b : ℕ) → a ≢ b → nat_eq a b ≡ false
-neq_false a b h = grind (arith, nat_tests)
-
 none_due : (source : Identity) (p : Production) (h : List Act) (m u : ℕ) (ns : List ℕ)
-    → ((k : ℕ) → k < length ns → get_or ns k 0 ≢ u) → due_bytes source (map
-    (due_at p h m) ns) u ≡ []
+    → ((k : ℕ) → k < length ns → get_or ns k 0 ≢ u)
+    → due_bytes source (map (due_at p h m) ns) u ≡ []
 none_due source p h m u [] apart = refl
 none_due source p h m u (n ∷ ns) apart =
     let q : nat_eq n u ≡ false = neq_false n u (apart 0 (omega arith)) in
@@ -290,17 +273,18 @@ own_due : (source : Identity) (p : Production) (h : List Act) (m u : ℕ) (ns : 
     ≡ (if list_any (λ n. nat_eq n u) ns
     then numbered source u (due_at p h m u).place (due_list (due_at p h m u).packet) else [])
 own_due source p h m u [] rises = refl
-own_due source p h m u (n ∷ ns) rises = go (nat_eq n u) refl
-    (own_due source p h m u ns (λ i j d a b. rises (suc i) (suc j) d (omega (arith, a)) (omega
-    (arith, b))))
+own_due source p h m u (n ∷ ns) rises =
+    go (nat_eq n u) refl
+    (own_due source p h m u ns
+    (λ i j d a b. rises (suc i) (suc j) d (omega (arith, a)) (omega (arith, b))))
   where
     go : (b : Bool) → nat_eq n u ≡ b
         → due_bytes source (map (due_at p h m) ns) u
         ≡ (if list_any (λ n. nat_eq n u) ns
         then numbered source u (due_at p h m u).place (due_list (due_at p h m u).packet) else [])
         → (if b then numbered source u (due_at p h m n).place (due_list (due_at p h m n).packet)
-        ++ due_bytes source (map (due_at p h m) ns) u else due_bytes source (map
-        (due_at p h m) ns) u)
+        ++ due_bytes source (map (due_at p h m) ns) u
+        else due_bytes source (map (due_at p h m) ns) u)
         ≡ (if b || list_any (λ n. nat_eq n u) ns
         then numbered source u (due_at p h m u).place (due_list (due_at p h m u).packet) else [])
     go true q ih =
@@ -309,11 +293,11 @@ own_due source p h m u (n ∷ ns) rises = go (nat_eq n u) refl
         none_due source p h m u ns (λ k l e.
         let lt : n < get_or ns k 0 = rises 0 (suc k) 0 (omega arith) (omega (arith, l)) in
         omega (arith, lt, same, e)) in
-        ap (λ l. numbered source u (due_at p h m n).place (due_list
-        (due_at p h m n).packet) ++ l) rest
+        ap (λ l. numbered source u (due_at p h m n).place (due_list (due_at p h m n).packet) ++ l)
+        rest
         ∙ append-nil _
-        ∙ ap (λ k. numbered source u (due_at p h m k).place (due_list
-        (due_at p h m k).packet)) same
+        ∙ ap (λ k. numbered source u (due_at p h m k).place (due_list (due_at p h m k).packet))
+        same
     go false q ih = ih
 
 due_added : (p : Production) (h : List Act) (m u : ℕ)
@@ -326,8 +310,8 @@ due_added p h m u = go (plays p u)
     z n = omega arith
 
     go : (b : Bool)
-        → (if b then numbered p.source u (due_at p h m u).place (due_list
-        (due_at p h m u).packet) else [])
+        → (if b then numbered p.source u (due_at p h m u).place (due_list (due_at p h m u).packet)
+        else [])
         ≡ numbered p.source u (0 + length (if b then stream p u h else []))
         (if b then due_list (due_at p h m u).packet else [])
     go true = ap (λ n. numbered p.source u n (due_list (due_at p h m u).packet)) (z _)
@@ -338,7 +322,8 @@ pub kept_ticked : (p : Production) (h : List Act) (m : ℕ) (before after : List
     (pairs : List (ℕ × Offered)) → Offers p.source (dues_at p h m) pairs before after
     → ((u : ℕ) → sent_to u before ≡ numbered p.source u 0 (packets_of p h u))
     → (u : ℕ) → sent_to u after ≡ numbered p.source u 0 (packets_of p (tick_at m ∷ h) u)
-kept_ticked p h m before after pairs o old u = ap (sent_to u) o.after_is
+kept_ticked p h m before after pairs o old u =
+    ap (sent_to u) o.after_is
     ∙ sent_more u before o.sends
     ∙ ap (λ l. l ++ sent_to u o.sends) (old u)
     ∙ ap (λ l. numbered p.source u 0 (packets_of p h u) ++ l)
@@ -351,17 +336,17 @@ kept_ticked p h m before after pairs o old u = ap (sent_to u) o.after_is
 
 -- and its answers are the numbers of what is due
 pub answers_ticked : (p : Production) (h : List Act) (m : ℕ) (rows : List Row)
-    (before : List Send)
-    (pairs : List (ℕ × Offered)) → Offers p.source (dues_at p h m) pairs before (map send_of rows)
+    (before : List Send) (pairs : List (ℕ × Offered))
+    → Offers p.source (dues_at p h m) pairs before (map send_of rows)
     → pairs ≡ map due_answer (dues_at p h m)
-answers_ticked p h m rows before pairs o = answers_due
-    (unfailed_end rows before o.sends o.after_is) o.are_offered
+answers_ticked p h m rows before pairs o =
+    answers_due (unfailed_end rows before o.sends o.after_is) o.are_offered
 
 -- the packets that are kept are those of the streams
 pub datagram_is : (p : Production) (h : List Act) (u k : ℕ) (xs : List Send)
     → sent_to u xs ≡ numbered p.source u 0 (packets_of p h u)
     → slice_get (sent_to u xs) k ≡ bytes_of p h u k
-datagram_is p h u k xs e = ap (λ l. slice_get l k) e ∙ numbered_at p.source u 0
-    (packets_of p h u) k
+datagram_is p h u k xs e =
+    ap (λ l. slice_get l k) e ∙ numbered_at p.source u 0 (packets_of p h u) k
     ∙ (let z : 0 + k ≡ k = omega arith in
     ap (λ n. option_map (packet_bytes p.source u n) (slice_get (packets_of p h u) k)) z)

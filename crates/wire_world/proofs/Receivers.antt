@@ -1,11 +1,10 @@
 -- One datagram at one of the receivers.
-use Rattle.std.proofs.Common.{◌≡◌, ◌⊎◌, ℕ, ◌<◌, ◌≤◌, true, false, refl, ap, sym, subst, ◌∙◌, List}
+use Rattle.std.proofs.Common.{◌≡◌, ◌⊎◌, ℕ, ◌<◌, ◌≤◌, refl, ap, sym, subst, ◌∙◌, List}
 use Rattle.std.proofs.Common.{◌∷◌, length, set, Option, Some, None, Result, Ok, Err, inl, inr}
 use Rattle.std.proofs.Common.{arith}
-use Rattle.std.specs.Prelude.{if◌then◌else◌, slice_get, nat_eq, nat_lt, OnOk, OnErr}
+use Rattle.std.specs.Prelude.{if◌then◌else◌, slice_get, nat_eq, OnOk, OnErr}
 use Rattle.std.specs.Option.{option_map_or}
 use Rattle.std.proofs.lemmas.Bool.{eq-eqb}
-use Rattle.std.proofs.lemmas.Bool.Decides.{nat_tests}
 use Rattle.std.proofs.lemmas.Option.{slice_get_within}
 use Rattle.std.proofs.Math.ListN.{length-set}
 use Rattle.sacn_packet.specs.Reading.{front_packet}
@@ -22,13 +21,7 @@ use Rattle.wire_laws.specs.Happened.{handed, accepted_by}
 use Rattle.wire_laws.specs.Replies.{last_moment, no_receiver_at, taken_reply, taken_by}
 use Rattle.wire_laws.proofs.Runs.{IsRun, last_accepted}
 use Rattle.wire_world.specs.Stands.{AllHear, AllBy, unless_skipped}
-use Rattle.wire_world.proofs.Stages.{get_set}
-
-neq_false : (a b : ℕ) → (a ≡ b → ⊥) → nat_eq a b ≡ false
-neq_false a b h = grind (arith, nat_tests)
-
-lt_true : (m n : ℕ) → m < n → nat_lt m n ≡ true
-lt_true m n h = grind (arith, nat_tests)
+use Rattle.wire_world.proofs.Stages.{get_set, lt_true, neq_false, ok_at}
 
 -- what a datagram leaves of a receiver
 pub took : (was is : Kept) (h : List source.Entry) (t : ℕ) (d : List ℕ)
@@ -45,10 +38,6 @@ took was is h t d res e ok un s = go (ignored 4 was.universe h t d) refl res e o
     go None q (Err x) e ok un = cc
     go (Some i) q (Ok x) e ok un = cc
     go (Some i) q (Err x) e ok un = subst (λ (k : Kept). StandsFor k h) (sym un) s
-
-ok_at : {A E : Type 0} (res : Result A E) (Q R : Type 0) → (Q → R) → OnOk res Q → OnOk res R
-ok_at (Ok x) Q R f q = f q
-ok_at (Err e) Q R f q = tt
 
 module _ (receivers : List Kept) (w : World) (past : List Event)
     (all : AllHear receivers w past) (k : ℕ) (was : Kept)

@@ -54,13 +54,13 @@ set_there (x ∷ xs) zero (suc j) v h = refl
 set_there (x ∷ xs) (suc k) zero v h = refl
 set_there (x ∷ xs) (suc k) (suc j) v h = set_there xs k j v (λ q. h (ap suc q))
 
-neq_false : (a b : ℕ) → (a ≡ b → ⊥) → nat_eq a b ≡ false
+pub neq_false : (a b : ℕ) → (a ≡ b → ⊥) → nat_eq a b ≡ false
 neq_false a b h = grind (arith, nat_tests)
 
 neq : (a b : ℕ) → nat_eq a b ≡ false → a ≡ b → ⊥
 neq a b h e = let q : true ≡ false = sym (eq-eqb a b e) ∙ h in cc
 
-lt_true : (m n : ℕ) → m < n → nat_lt m n ≡ true
+pub lt_true : (m n : ℕ) → m < n → nat_lt m n ≡ true
 lt_true m n h = grind (arith, nat_tests)
 
 module _ {S : Type 0} (tells : S → Type 0) (stages : List S) (k : ℕ) (is : S) where
@@ -88,6 +88,14 @@ pub left_by : {S A : Type 0} (st : S → Production → List Act → Type 0) (wa
     → OnErr res (is ≡ was) → OnErr res ((c : Production) (h : List Act) → st was c h → st is c h)
 left_by st was is (Ok x) un = tt
 left_by st was is (Err e) un = λ c h s. subst (λ (y : _). st y c h) (sym un) s
+
+pub ok_at : {A E : Type 0} (res : Result A E) (Q R : Type 0) → (Q → R) → OnOk res Q → OnOk res R
+ok_at (Ok x) Q R f q = f q
+ok_at (Err e) Q R f q = tt
+
+err_at : {A E : Type 0} (res : Result A E) (Q R : Type 0) → (Q → R) → OnErr res Q → OnErr res R
+err_at (Ok x) Q R f q = tt
+err_at (Err e) Q R f q = f q
 
 pub err_of : {A : Type 0} (o : Option Refused) (x : A) → result_err (outcome o x) ≡ o
 err_of None x = refl
@@ -130,14 +138,6 @@ module _ {S : Type 0} (st : S → Production → List Act → Type 0) (stages : 
           let c : call_of j e.what ≡ None =
           calls j ∙ ap (λ b. if b then Some call else None) (neq_false k j h.0) in
           rw c (all.stand j s h.1)
-
-  ok_at : {A E : Type 0} (res : Result A E) (Q R : Type 0) → (Q → R) → OnOk res Q → OnOk res R
-  ok_at (Ok x) Q R f q = f q
-  ok_at (Err e) Q R f q = tt
-
-  err_at : {A E : Type 0} (res : Result A E) (Q R : Type 0) → (Q → R) → OnErr res Q → OnErr res R
-  err_at (Ok x) Q R f q = tt
-  err_at (Err e) Q R f q = f q
 
   -- the same, from the clauses of the call
   pub stand_call : {A : Type 0} (n : ℕ) (e : Event) (call : Call) (res : Result A Refused)

@@ -71,20 +71,25 @@ pub(crate) fn tick_at<F: Fader>(
 }
 
 // A datagram reaches a receiver.
-pub(crate) fn hear_at(receivers: &mut [Receiver], receiver: u16, moment: u64, bytes: &[u8]) -> Reply
+pub(crate) fn hear_at(
+    receivers: &mut [Receiver],
+    receiver: u16,
+    moment: u64,
+    datagram: &[u8],
+) -> Reply
     ensures reply { (w : World) (past : List EventData) → AllHear receivers.old w past
         → result ≡ option_map_or reply.Skipped (no_receiver_at w receiver)
-        (taken_by w receiver past moment bytes.now) }
+        (taken_by w receiver past moment datagram.now) }
     ensures hear { (w : World) (past : List EventData) (e : EventData)
         → AllHear receivers.old w past → e.moment ≡ moment
-        → ((r : ℕ) → handed w r past e.what ≡ (if receiver == r then Some bytes.now else None))
+        → ((r : ℕ) → handed w r past e.what ≡ (if receiver == r then Some datagram.now else None))
         → AllHear receivers.new w (unless_skipped (no_receiver_at w receiver) e past) }
 {
     let r = usize::from(receiver);
     if r >= receivers.len() {
         return Reply::Skipped(Skip::NoReceiver);
     }
-    taken(receivers[r].take(moment, bytes))
+    taken(receivers[r].take(moment, datagram))
 }
 
 // The slots of a receiver.

@@ -332,7 +332,7 @@ fn strays(rt: HostRuntime) -> Result<(), Fail> {
 }
 
 // Frames, a packet for each, every 25 ms.
-fn frame_steps(rt: &impl Abort, alloc: Global, count: u16) -> Result<Vec<(u64, What, Told)>, Fail> {
+fn tick_steps(rt: &impl Abort, alloc: Global, count: u16) -> Result<Vec<(u64, What, Told)>, Fail> {
     let mut steps = Vec::new(alloc);
     for i in 0..u64::from(count) {
         let level = u8::try_from((i % 90 * 255 + 50) / 100).expect(rt, "a level");
@@ -347,7 +347,7 @@ fn frame_steps(rt: &impl Abort, alloc: Global, count: u16) -> Result<Vec<(u64, W
 #[test]
 fn window_wrap(rt: HostRuntime) -> Result<(), Fail> {
     let consoles = [console(&rt, 0x31, 100)];
-    let mut steps = frame_steps(&rt, rt.alloc(), 420)?;
+    let mut steps = tick_steps(&rt, rt.alloc(), 420)?;
     for (first, number, slot) in [(0u16, 19, 24), (200, 219, 50), (400, 163, 75)] {
         let newest = u64::from(first) + 19;
         steps.push((10475, deliver(0, newest), Told::Taken(number, false)))?;
@@ -370,7 +370,7 @@ fn window_edge(rt: HostRuntime) -> Result<(), Fail> {
         (236, Told::Taken(236, false), 72),
         (237, Told::Ignored(Ignored::OutOfSequence), 0),
     ] {
-        let mut steps = frame_steps(&rt, rt.alloc(), 238)?;
+        let mut steps = tick_steps(&rt, rt.alloc(), 238)?;
         steps.push((5925, deliver(0, 19), Told::Taken(19, false)))?;
         steps.push((8425, deliver(0, 0), Told::Taken(0, false)))?;
         steps.push((8425, deliver(0, k), told))?;

@@ -25,14 +25,16 @@ returns-in_ok-reply-in-Tick-clause-stands g c = λ w past all.
 
 pub returns-in-Deliver-clause-hear : goal.returns-in-Deliver-clause-hear
 returns-in-Deliver-clause-hear g c = λ w past same all tell hear.
-    subst (λ (x : What). AllHear c.deliver_at.new.receivers w (unless_skipped (missing w past x)
-    (record { moment = c.args.moment; what = x }) past)) (sym c.in-Deliver.is)
+    subst (λ (x : What). AllHear c.deliver_at.new.receivers w
+    (unless_skipped (missing w past x) (record { moment = c.args.moment; what = x }) past))
+    (sym c.in-Deliver.is)
     (c.deliver_at.ensures.hear w past all tell hear)
 
 pub returns-in-Stray-clause-reply : goal.returns-in-Stray-clause-reply
 returns-in-Stray-clause-reply g c = λ w past same all tell hear.
-    subst (λ (x : What). c.hear_at.result ≡ option_map_or reply.Skipped (missing w past x)
-    (replied w past c.args.moment x)) (sym c.in-Stray.is)
+    subst (λ (x : What). c.hear_at.result
+    ≡ option_map_or reply.Skipped (missing w past x) (replied w past c.args.moment x))
+    (sym c.in-Stray.is)
     (c.hear_at.ensures.reply w past hear
     ∙ ap (λ (s : List ℕ). option_map_or reply.Skipped (no_receiver_at w c.in-Stray.receiver)
     (taken_by w c.in-Stray.receiver past c.args.moment
@@ -40,89 +42,84 @@ returns-in-Stray-clause-reply g c = λ w past same all tell hear.
 
 pub returns-in-Stray-clause-hear : goal.returns-in-Stray-clause-hear
 returns-in-Stray-clause-hear g c = λ w past same all tell hear.
-    subst (λ (x : What). AllHear c.hear_at.new.receivers w (unless_skipped (missing w past x)
-    (record { moment = c.args.moment; what = x }) past)) (sym c.in-Stray.is)
-    (c.hear_at.ensures.hear w past (record {
-      moment = c.args.moment;
-      what = Stray
-          c.in-Stray.receiver c.in-Stray.from c.in-Stray.to;
-    }) hear refl
+    let stray : What = Stray c.in-Stray.receiver c.in-Stray.from c.in-Stray.to in
+    subst (λ (x : What). AllHear c.hear_at.new.receivers w
+    (unless_skipped (missing w past x) (record { moment = c.args.moment; what = x }) past))
+    (sym c.in-Stray.is)
+    (c.hear_at.ensures.hear w past (record { moment = c.args.moment; what = stray }) hear refl
     (λ r. ap (λ (s : List ℕ). if nat_eq c.in-Stray.receiver r
     then Some (slice_range s c.in-Stray.from c.in-Stray.to) else None) same))
 
 pub returns-in-Order-clause-hear : goal.returns-in-Order-clause-hear
 returns-in-Order-clause-hear g c = λ w past same all tell hear.
-    subst (λ (x : What). AllHear c.args.receivers.now w (unless_skipped (missing w past x)
-    (record { moment = c.args.moment; what = x }) past)) (sym c.in-Order.is)
-    (hear_same c.args.receivers.now w past (missing w past
-    (Order c.in-Order.console c.in-Order.command))
+    subst (λ (x : What). AllHear c.args.receivers.now w
+    (unless_skipped (missing w past x) (record { moment = c.args.moment; what = x }) past))
+    (sym c.in-Order.is)
+    (hear_same c.args.receivers.now w past
+    (missing w past (Order c.in-Order.console c.in-Order.command))
     (record { moment = c.args.moment; what = Order c.in-Order.console c.in-Order.command })
     (λ r. refl) hear)
 
 pub returns-in_ok-reply-in-Tick-clause-hear : goal.returns-in_ok-reply-in-Tick-clause-hear
 returns-in_ok-reply-in-Tick-clause-hear g c = λ w past same all tell hear.
-    subst (λ (x : What). AllHear c.args.receivers.now w (unless_skipped (missing w past x)
-    (record { moment = c.args.moment; what = x }) past)) (sym c.in-Tick.is)
+    subst (λ (x : What). AllHear c.args.receivers.now w
+    (unless_skipped (missing w past x) (record { moment = c.args.moment; what = x }) past))
+    (sym c.in-Tick.is)
     (hear_same c.args.receivers.now w past (missing w past (Tick c.in-Tick.console))
     (record { moment = c.args.moment; what = Tick c.in-Tick.console }) (λ r. refl) hear)
 
 pub returns-in-Show-clause-hear : goal.returns-in-Show-clause-hear
 returns-in-Show-clause-hear g c = λ w past same all tell hear.
-    subst (λ (x : What). AllHear c.args.receivers.now w (unless_skipped (missing w past x)
-    (record { moment = c.args.moment; what = x }) past)) (sym c.in-Show.is)
+    subst (λ (x : What). AllHear c.args.receivers.now w
+    (unless_skipped (missing w past x) (record { moment = c.args.moment; what = x }) past))
+    (sym c.in-Show.is)
     (hear_same c.args.receivers.now w past (missing w past (Show c.in-Show.receiver))
     (record { moment = c.args.moment; what = Show c.in-Show.receiver }) (λ r. refl) hear)
 
 pub returns-in_ok-reply-in-Tick-clause-reply : goal.returns-in_ok-reply-in-Tick-clause-reply
 returns-in_ok-reply-in-Tick-clause-reply g c = λ w past same all tell hear.
-    subst (λ (x : What). c.in_ok-reply-in-Tick.reply ≡ option_map_or reply.Skipped
-    (missing w past x) (replied w past c.args.moment x)) (sym c.in-Tick.is)
+    subst (λ (x : What). c.in_ok-reply-in-Tick.reply
+    ≡ option_map_or reply.Skipped (missing w past x) (replied w past c.args.moment x))
+    (sym c.in-Tick.is)
     (c.in_ok-reply-in-Tick.ensures.reply w past all)
 
 pub returns-in-Deliver-clause-reply : goal.returns-in-Deliver-clause-reply
 returns-in-Deliver-clause-reply g c = λ w past same all tell hear.
-    subst (λ (x : What). c.deliver_at.result ≡ option_map_or reply.Skipped (missing w past x)
-    (replied w past c.args.moment x)) (sym c.in-Deliver.is)
+    subst (λ (x : What). c.deliver_at.result
+    ≡ option_map_or reply.Skipped (missing w past x) (replied w past c.args.moment x))
+    (sym c.in-Deliver.is)
     (c.deliver_at.ensures.reply w past all tell hear)
 
 pub returns-in-Show-clause-reply : goal.returns-in-Show-clause-reply
 returns-in-Show-clause-reply g c = λ w past same all tell hear.
-    subst (λ (x : What). c.show_at.result ≡ option_map_or reply.Skipped (missing w past x)
-    (replied w past c.args.moment x)) (sym c.in-Show.is) (c.show_at.ensures w past hear)
+    subst (λ (x : What). c.show_at.result
+    ≡ option_map_or reply.Skipped (missing w past x) (replied w past c.args.moment x))
+    (sym c.in-Show.is) (c.show_at.ensures w past hear)
 
 pub returns-in-Deliver-clause-stands : goal.returns-in-Deliver-clause-stands
 returns-in-Deliver-clause-stands g c = λ w past all.
+    let deliver : What =
+    Deliver c.in-Deliver.receiver c.in-Deliver.console c.in-Deliver.universe c.in-Deliver.k in
     subst (λ (x : What). AllStand (StageStands g.F.Fader.stands_for) c.args.stages.now w
     (unless_skipped (missing w past x) (record { moment = c.args.moment; what = x }) past))
     (sym c.in-Deliver.is)
-    (stand_same (StageStands g.F.Fader.stands_for) c.args.stages.now w past (missing w past
-    (Deliver c.in-Deliver.receiver c.in-Deliver.console c.in-Deliver.universe c.in-Deliver.k))
-    (record {
-      moment = c.args.moment;
-      what = Deliver c.in-Deliver.receiver c.in-Deliver.console
-          c.in-Deliver.universe c.in-Deliver.k;
-    }) (λ j. refl) all)
+    (stand_same (StageStands g.F.Fader.stands_for) c.args.stages.now w past
+    (missing w past deliver) (record { moment = c.args.moment; what = deliver }) (λ j. refl) all)
 
 pub returns-in-Stray-clause-stands : goal.returns-in-Stray-clause-stands
 returns-in-Stray-clause-stands g c = λ w past all.
+    let stray : What = Stray c.in-Stray.receiver c.in-Stray.from c.in-Stray.to in
     subst (λ (x : What). AllStand (StageStands g.F.Fader.stands_for) c.args.stages.now w
     (unless_skipped (missing w past x) (record { moment = c.args.moment; what = x }) past))
     (sym c.in-Stray.is)
-    (stand_same (StageStands g.F.Fader.stands_for) c.args.stages.now w past (missing w past
-    (Stray c.in-Stray.receiver c.in-Stray.from c.in-Stray.to))
-    (record {
-      moment = c.args.moment;
-      what = Stray c.in-Stray.receiver c.in-Stray.from
-          c.in-Stray.to;
-    }) (λ j. refl) all)
+    (stand_same (StageStands g.F.Fader.stands_for) c.args.stages.now w past
+    (missing w past stray) (record { moment = c.args.moment; what = stray }) (λ j. refl) all)
 
 pub returns-in-Show-clause-stands : goal.returns-in-Show-clause-stands
 returns-in-Show-clause-stands g c = λ w past all.
     subst (λ (x : What). AllStand (StageStands g.F.Fader.stands_for) c.args.stages.now w
     (unless_skipped (missing w past x) (record { moment = c.args.moment; what = x }) past))
     (sym c.in-Show.is)
-    (stand_same (StageStands g.F.Fader.stands_for) c.args.stages.now w past (missing w past
-    (Show c.in-Show.receiver)) (record {
-      moment = c.args.moment;
-      what = Show c.in-Show.receiver;
-    }) (λ j. refl) all)
+    (stand_same (StageStands g.F.Fader.stands_for) c.args.stages.now w past
+    (missing w past (Show c.in-Show.receiver))
+    (record { moment = c.args.moment; what = Show c.in-Show.receiver }) (λ j. refl) all)

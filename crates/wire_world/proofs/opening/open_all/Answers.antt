@@ -9,11 +9,11 @@ use Rattle.wire_world.proofs.opening.open_all.Goals as goal
 pub loop-i-preserved : goal.loop-i-preserved
 loop-i-preserved g c =
     let setup : Setup = c.index-setups-i.result in
-    let here : slice_get c.args.setups.now c.loop-i.i ≡ Some setup = slice_get_read
-    c.args.setups.now (length c.args.setups.now) c.loop-i.i setup refl c.loop-i-test.true
-    c.index-setups-i.is in
-    let within : setup.show < length c.args.shows.now = subst (λ
-    (x : Setup). x.show < length c.args.shows.now) (sym c.index-setups-i.is)
+    let here : slice_get c.args.setups.now c.loop-i.i ≡ Some setup =
+    slice_get_read c.args.setups.now (length c.args.setups.now) c.loop-i.i setup refl
+    c.loop-i-test.true c.index-setups-i.is in
+    let within : setup.show < length c.args.shows.now =
+    subst (λ (x : Setup). x.show < length c.args.shows.now) (sym c.index-setups-i.is)
     (c.requires c.loop-i.i setup c.loop-i-test.true) in
     let show : slice_get c.args.shows.now setup.show ≡ Some c.index-shows-setup.result =
     slice_get_read c.args.shows.now (length c.args.shows.now) setup.show

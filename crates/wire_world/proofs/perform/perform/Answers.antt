@@ -17,7 +17,8 @@ run-requires-clause-begun g c = (
 )
 
 pub returns-clause-replies : goal.returns-clause-replies
-returns-clause-replies g c = if_ok c.run.result _ _
+returns-clause-replies g c =
+    if_ok c.run.result _ _
     (λ report h. h (world_of c.args.shows.now c.args.consoles.now c.args.receivers.now
     c.args.strays.now) refl
     (rw (c.as_mut_slice.ensures.value, c.as_mut_slice-2.ensures.value)
@@ -27,7 +28,8 @@ returns-clause-replies g c = if_ok c.run.result _ _
     c.run.ensures.replies
 
 pub returns-clause-last : goal.returns-clause-last
-returns-clause-last g c = if_ok c.run.result _ _
+returns-clause-last g c =
+    if_ok c.run.result _ _
     (λ report h. h (world_of c.args.shows.now c.args.consoles.now c.args.receivers.now
     c.args.strays.now) refl
     (rw (c.as_mut_slice.ensures.value, c.as_mut_slice-2.ensures.value)

@@ -17,8 +17,8 @@ step-requires-clause-early g c =
 pub loop-i-preserved : goal.loop-i-preserved
 loop-i-preserved g c = λ w same are.
     let all = c.loop-i.invariant w same are in
-    let s = c.in_ok-reply.ensures w (done w
-    (take c.loop-i.i c.args.events.now)) same all.last_is all.are in
+    let s = c.in_ok-reply.ensures w (done w (take c.loop-i.i c.args.events.now)) same all.last_is
+    all.are in
     rw c.in_ok-push.ensures.items
     (replayed_more (StageStands g.F.Fader.stands_for) Tells w c.args.events.now c.loop-i.i _
     c.loop-i-test.true c.step.new.stages c.step.new.receivers c.loop-i.last c.step.new.last
@@ -27,11 +27,12 @@ loop-i-preserved g c = λ w same are.
 pub returns-clause-replies : goal.returns-clause-replies
 returns-clause-replies g c = λ w same are.
     let all = c.loop-i.invariant w same are in
-    let end : c.loop-i.i ≡ length c.args.events.now = omega
-    (arith, c.loop-i-test.false, c.loop-i.auto.i-end) in (
+    let end : c.loop-i.i ≡ length c.args.events.now =
+    omega (arith, c.loop-i-test.false, c.loop-i.auto.i-end) in (
       omega (arith, all.long, end),
-      λ j e h. let l : j < length c.args.events.now =
-          slice_get_within c.args.events.now j e h in all.below j e (omega arith) h,
+      λ j e h.
+          let l : j < length c.args.events.now = slice_get_within c.args.events.now j e h in
+          all.below j e (omega arith) h,
     )
 
 pub step-requires-clause-real : goal.step-requires-clause-real

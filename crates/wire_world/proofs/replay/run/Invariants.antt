@@ -5,7 +5,7 @@ use Rattle.wire_world.specs.StageStands.{StageStands, Tells}
 use Rattle.wire_world.proofs.replay.run.Given as goal
 
 abbrev pub invariant-loop-i : goal.invariant-loop-i
-invariant-loop-i g l = (w : World) → w.strays ≡ l.strays → AllAre
-    (StageStands g.F.Fader.stands_for) Tells l.fn.stages l.fn.receivers w []
+invariant-loop-i g l = (w : World) → w.strays ≡ l.strays
+    → AllAre (StageStands g.F.Fader.stands_for) Tells l.fn.stages l.fn.receivers w []
     → Replayed (StageStands g.F.Fader.stands_for) Tells l.stages l.receivers l.last
     l.replies.items w l.events l.i

@@ -18,17 +18,17 @@ loop-i-preserved c = λ w past hear.
     let k : c.slots.new.out ≡ f c.loop-i.i =
     c.slots.ensures (accepted_by w c.loop-i.i past)
     (hear.stand c.loop-i.i c.index-receivers-i.result at) in
-    c.in_ok-push.ensures.items ∙ ap (λ l. l ++ c.slots.new.out ∷ [])
-    (c.loop-i.invariant w past hear)
+    c.in_ok-push.ensures.items
+    ∙ ap (λ l. l ++ c.slots.new.out ∷ []) (c.loop-i.invariant w past hear)
     ∙ ap (λ s. map f (range_with_len 0 c.loop-i.i) ++ s ∷ []) k
     ∙ sym (map-range_with_len_more f 0 c.loop-i.i c.loop-i.i z)
 
 pub returns : goal.returns
 returns c = λ w past hear time.
-    let end : c.loop-i.i ≡ length w.receivers = omega
-    (arith, c.loop-i-test.false, c.loop-i.auto.i-end, hear.each) in
+    let end : c.loop-i.i ≡ length w.receivers =
+    omega (arith, c.loop-i-test.false, c.loop-i.auto.i-end, hear.each) in
     c.loop-i.invariant w past hear
     ∙ ap (λ n. map (λ r. shown_slots (accepted_by w r past) c.args.moment)
     (range_with_len 0 n)) end
-    ∙ ap (λ t. map (λ r. shown_slots (accepted_by w r past) t) (range_with_len 0
-    (length w.receivers))) time
+    ∙ ap (λ t. map (λ r. shown_slots (accepted_by w r past) t)
+    (range_with_len 0 (length w.receivers))) time

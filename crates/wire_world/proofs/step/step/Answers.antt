@@ -31,9 +31,9 @@ returns-then-event-ge-MOMENTS g c = λ w past same l are.
     step_skipped (StageStands g.F.Fader.stands_for) Tells c.args.stages.now c.args.receivers.now
     w past c.args.event.now TooLarge c.args.last.now
     (too_large (StageStands g.F.Fader.stands_for) Tells c.args.stages.now c.args.receivers.now w
-    past c.args.event.now (omega (arith, l, c.if-event-last.false)) (omega
-    (arith, c.if-event-ge-MOMENTS.true))) l are
+    past c.args.event.now (omega (arith, l, c.if-event-last.false))
+    (omega (arith, c.if-event-ge-MOMENTS.true))) l are
 
 pub happen-requires-clause-early : goal.happen-requires-clause-early
-happen-requires-clause-early g c = λ r k e. omega
-    (arith, c.requires.early r k e, c.if-event-last.false)
+happen-requires-clause-early g c =
+    λ r k e. omega (arith, c.requires.early r k e, c.if-event-last.false)

@@ -23,12 +23,14 @@ returns-in-None-clause-reply g c = λ w past all tell hear.
     let few = few_receivers c.args.receivers.now w c.from.result c.args.receiver hear.each
     c.if-from-receivers.false c.from.ensures in
     let got : None ≡ datagram w c.args.console c.args.universe c.args.k past =
-    ap (option_map (λ b. b.now)) (sym c.in-None.is) ∙ c.datagram.ensures
-    (console_at w c.args.console) (acts w c.args.console past) (stood_at
-    (StageStands g.F.Fader.stands_for) c.args.stages.now w past all c.from-i.result
+    ap (option_map (λ b. b.now)) (sym c.in-None.is)
+    ∙ c.datagram.ensures (console_at w c.args.console) (acts w c.args.console past)
+    (stood_at (StageStands g.F.Fader.stands_for) c.args.stages.now w past all c.from-i.result
     c.index-stages-i.result at c.args.console c.from-i.ensures)
     (tell c.from-i.result c.index-stages-i.result at) in
-    sym (ap (λ (o : Option Skip). option_map_or reply.Skipped o (replied w past c.args.moment
+    sym
+    (ap (λ (o : Option Skip). option_map_or reply.Skipped o
+    (replied w past c.args.moment
     (Deliver c.args.receiver c.args.console c.args.universe c.args.k)))
     (not_sent (StageStands g.F.Fader.stands_for) c.args.stages.now w past all c.from-i.result
     c.index-stages-i.result at c.args.console c.from-i.ensures c.args.receiver c.args.universe
@@ -42,17 +44,16 @@ returns-in-None-clause-hear g c = λ w past all tell hear.
     let few = few_receivers c.args.receivers.now w c.from.result c.args.receiver hear.each
     c.if-from-receivers.false c.from.ensures in
     let got : None ≡ datagram w c.args.console c.args.universe c.args.k past =
-    ap (option_map (λ b. b.now)) (sym c.in-None.is) ∙ c.datagram.ensures
-    (console_at w c.args.console) (acts w c.args.console past) (stood_at
-    (StageStands g.F.Fader.stands_for) c.args.stages.now w past all c.from-i.result
+    ap (option_map (λ b. b.now)) (sym c.in-None.is)
+    ∙ c.datagram.ensures (console_at w c.args.console) (acts w c.args.console past)
+    (stood_at (StageStands g.F.Fader.stands_for) c.args.stages.now w past all c.from-i.result
     c.index-stages-i.result at c.args.console c.from-i.ensures)
     (tell c.from-i.result c.index-stages-i.result at) in
-    subst (λ (o : Option Skip). AllHear c.args.receivers.now w (unless_skipped o
-    (record {
+    let e : Event = record {
       moment = c.args.moment;
-      what = Deliver c.args.receiver c.args.console
-          c.args.universe c.args.k;
-    }) past))
+      what = Deliver c.args.receiver c.args.console c.args.universe c.args.k;
+    } in
+    subst (λ (o : Option Skip). AllHear c.args.receivers.now w (unless_skipped o e past))
     (sym (not_sent (StageStands g.F.Fader.stands_for) c.args.stages.now w past all
     c.from-i.result c.index-stages-i.result at c.args.console c.from-i.ensures c.args.receiver
     c.args.universe c.args.k c.args.moment few got)) hear
@@ -65,9 +66,9 @@ returns-in-Some-clause-reply g c = λ w past all tell hear.
     let few = few_receivers c.args.receivers.now w c.from.result c.args.receiver hear.each
     c.if-from-receivers.false c.from.ensures in
     let got : Some c.in-Some.bytes.now ≡ datagram w c.args.console c.args.universe c.args.k past =
-    ap (option_map (λ b. b.now)) (sym c.in-Some.is) ∙ c.datagram.ensures
-    (console_at w c.args.console) (acts w c.args.console past) (stood_at
-    (StageStands g.F.Fader.stands_for) c.args.stages.now w past all c.from-i.result
+    ap (option_map (λ b. b.now)) (sym c.in-Some.is)
+    ∙ c.datagram.ensures (console_at w c.args.console) (acts w c.args.console past)
+    (stood_at (StageStands g.F.Fader.stands_for) c.args.stages.now w past all c.from-i.result
     c.index-stages-i.result at c.args.console c.from-i.ensures)
     (tell c.from-i.result c.index-stages-i.result at) in
     c.hear_at.ensures.reply w past hear
@@ -83,15 +84,14 @@ returns-in-Some-clause-hear g c = λ w past all tell hear.
     let few = few_receivers c.args.receivers.now w c.from.result c.args.receiver hear.each
     c.if-from-receivers.false c.from.ensures in
     let got : Some c.in-Some.bytes.now ≡ datagram w c.args.console c.args.universe c.args.k past =
-    ap (option_map (λ b. b.now)) (sym c.in-Some.is) ∙ c.datagram.ensures
-    (console_at w c.args.console) (acts w c.args.console past) (stood_at
-    (StageStands g.F.Fader.stands_for) c.args.stages.now w past all c.from-i.result
+    ap (option_map (λ b. b.now)) (sym c.in-Some.is)
+    ∙ c.datagram.ensures (console_at w c.args.console) (acts w c.args.console past)
+    (stood_at (StageStands g.F.Fader.stands_for) c.args.stages.now w past all c.from-i.result
     c.index-stages-i.result at c.args.console c.from-i.ensures)
     (tell c.from-i.result c.index-stages-i.result at) in
     let e : Event = record {
       moment = c.args.moment;
-      what = Deliver c.args.receiver
-          c.args.console c.args.universe c.args.k;
+      what = Deliver c.args.receiver c.args.console c.args.universe c.args.k;
     } in
     subst (λ (o : Option Skip). AllHear c.hear_at.new.receivers w (unless_skipped o e past))
     (delivered_skip (StageStands g.F.Fader.stands_for) c.args.stages.now w past all

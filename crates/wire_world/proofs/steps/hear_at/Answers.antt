@@ -8,7 +8,7 @@ returns-clause-reply c = λ w past all.
     let at = slice_get-get_or c.args.receivers.now c.from-r.result c.index-receivers-r.result
     c.if-r-receivers.false in
     c.taken.ensures ∙ replied_is c.args.receivers.now w past all c.from-r.result _ at
-    c.args.receiver c.args.moment c.args.bytes.now c.take.result c.from-r.ensures
+    c.args.receiver c.args.moment c.args.datagram.now c.take.result c.from-r.ensures
     c.take.ensures.answer
 
 pub returns-clause-hear : goal.returns-clause-hear
@@ -16,5 +16,5 @@ returns-clause-hear c = λ w past e all time hands.
     let at = slice_get-get_or c.args.receivers.now c.from-r.result c.index-receivers-r.result
     c.if-r-receivers.false in
     hear_set c.args.receivers.now w past all c.from-r.result _ at c.take.new.self c.args.moment
-    c.args.bytes.now c.take.result c.take.ensures.answer c.take.ensures.accepted
+    c.args.datagram.now c.take.result c.take.ensures.answer c.take.ensures.accepted
     c.take.ensures.ignored c.take.ensures.universe c.args.receiver e c.from-r.ensures time hands

@@ -23,16 +23,17 @@ pub returns-clause-reply : goal.returns-clause-reply
 returns-clause-reply g c = λ w past all.
     let at = slice_get-get_or c.args.stages.now c.from-i.result c.index-stages-i.result
     c.if-i-stages.false in
-    let P : ℕ → Type 0 = λ k. c.ordered.result ≡ option_map_or reply.Skipped (no_console_at w k)
+    let P : ℕ → Type 0 = λ k. c.ordered.result
+    ≡ option_map_or reply.Skipped (no_console_at w k)
     (option_map_or reply.Refused (refusal (console_at w k).show (acts w k past)
     (record { moment = c.args.moment; call = order c.args.command })) reply.Done) in
     subst P c.from-i.ensures
     (c.ordered.ensures
-    ∙ order_replied c.order.result _ w c.from-i.result (no_skip
-    (StageStands g.F.Fader.stands_for) c.args.stages.now w past all c.from-i.result _
+    ∙ order_replied c.order.result _ w c.from-i.result
+    (no_skip (StageStands g.F.Fader.stands_for) c.args.stages.now w past all c.from-i.result _
     c.order.new.self at)
-    (c.order.ensures.answer (console_at w c.from-i.result) (acts w c.from-i.result past) (stood
-    (StageStands g.F.Fader.stands_for) c.args.stages.now w past all c.from-i.result _
+    (c.order.ensures.answer (console_at w c.from-i.result) (acts w c.from-i.result past)
+    (stood (StageStands g.F.Fader.stands_for) c.args.stages.now w past all c.from-i.result _
     c.order.new.self at)))
 
 pub returns-clause-stands : goal.returns-clause-stands

@@ -22,8 +22,7 @@ tick-answer-requires g c =
       real = (
         console_at r.0 c.from-i.result,
         acts r.0 c.from-i.result r.1,
-        r.2.stand
-            c.from-i.result _ at,
+        r.2.stand c.from-i.result _ at,
       );
     }
 
@@ -36,15 +35,16 @@ pub returns-clause-reply : goal.returns-clause-reply
 returns-clause-reply g c = λ w past all.
     let at = slice_get-get_or c.args.stages.now c.from-i.result c.index-stages-i.result
     c.if-i-stages.false in
-    let P : ℕ → Type 0 = λ k. c.ticked.result ≡ option_map_or reply.Skipped (no_console_at w k)
-    (option_map_or reply.Refused (refusal (console_at w k).show (acts w k past)
-    (tick_at c.args.moment))
-    (reply.Ticked (ticked (ended (acts w k past))) (map due_answer (dues_at (console_at w k)
-    (acts w k past) c.args.moment)))) in
+    let P : ℕ → Type 0 = λ k. c.ticked.result
+    ≡ option_map_or reply.Skipped (no_console_at w k)
+    (option_map_or reply.Refused
+    (refusal (console_at w k).show (acts w k past) (tick_at c.args.moment))
+    (reply.Ticked (ticked (ended (acts w k past)))
+    (map due_answer (dues_at (console_at w k) (acts w k past) c.args.moment)))) in
     subst P c.from-i.ensures
     (c.ticked.ensures
-    ∙ tick_replied c.tick-answer.result _ _ _ w c.from-i.result (no_skip
-    (StageStands g.F.Fader.stands_for) c.args.stages.now w past all c.from-i.result _
+    ∙ tick_replied c.tick-answer.result _ _ _ w c.from-i.result
+    (no_skip (StageStands g.F.Fader.stands_for) c.args.stages.now w past all c.from-i.result _
     c.tick-answer.new.self at)
     (c.tick-answer.ensures.answer (console_at w c.from-i.result) (acts w c.from-i.result past)
     (stood (StageStands g.F.Fader.stands_for) c.args.stages.now w past all c.from-i.result _

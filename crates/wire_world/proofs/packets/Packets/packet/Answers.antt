@@ -12,8 +12,8 @@ pub returns-in_err-places : goal.returns-in_err-places
 returns-in_err-places c = λ told.
     let index : IsIndex c.self.inside.index.items c.self.inside.rows.items =
     c.self.invariant (ap (λ (k : Kept). k.full) c.self.view_is ∙ told) in
-    let none : find (λ (p : Places). p.universe == c.args.universe) c.self.inside.index.items ≡
-    None =
+    let none : find (λ (p : Places). p.universe == c.args.universe) c.self.inside.index.items
+    ≡ None =
     ap (find (λ (p : Places). p.universe == c.args.universe)) (sym c.as_slice.ensures.value)
     ∙ sym c.places_at.ensures ∙ ap (option_map (λ p. p.now)) c.in_err-places.was in
     ap (option_map (λ b. b.now)) c.from_residual.ensures
@@ -48,8 +48,8 @@ returns-in_err-row c = λ told.
     ≡ Some c.in_ok-places.places.now =
     ap (find (λ (p : Places). p.universe == c.args.universe)) (sym c.as_slice.ensures.value)
     ∙ sym c.places_at.ensures ∙ ap (option_map (λ p. p.now)) c.in_ok-places.was in
-    let got : slice_get c.in_ok-places.places.now.rows.items c.args.k ≡ Some
-    c.in_ok-place.place.now =
+    let got : slice_get c.in_ok-places.places.now.rows.items c.args.k
+    ≡ Some c.in_ok-place.place.now =
     ap (λ (l : List ℕ). slice_get l c.args.k) (sym c.deref.ensures.value)
     ∙ looked_up (λ b. b.now) c.deref.result.now c.args.k c.get.result c.get.ensures.lookup.0
     c.get.ensures.lookup.1 ∙ ap (option_map (λ b. b.now)) c.in_ok-place.was in
@@ -72,13 +72,13 @@ returns c = λ told.
     ≡ Some c.in_ok-places.places.now =
     ap (find (λ (p : Places). p.universe == c.args.universe)) (sym c.as_slice.ensures.value)
     ∙ sym c.places_at.ensures ∙ ap (option_map (λ p. p.now)) c.in_ok-places.was in
-    let got : slice_get c.in_ok-places.places.now.rows.items c.args.k ≡ Some
-    c.in_ok-place.place.now =
+    let got : slice_get c.in_ok-places.places.now.rows.items c.args.k
+    ≡ Some c.in_ok-place.place.now =
     ap (λ (l : List ℕ). slice_get l c.args.k) (sym c.deref.ensures.value)
     ∙ looked_up (λ b. b.now) c.deref.result.now c.args.k c.get.result c.get.ensures.lookup.0
     c.get.ensures.lookup.1 ∙ ap (option_map (λ b. b.now)) c.in_ok-place.was in
-    let row : slice_get c.self.inside.rows.items c.in_ok-place.place.now ≡ Some
-    c.in_ok-row.row.now =
+    let row : slice_get c.self.inside.rows.items c.in_ok-place.place.now
+    ≡ Some c.in_ok-row.row.now =
     ap (λ (l : List Row). slice_get l c.in_ok-place.place.now) (sym c.deref-2.ensures.value)
     ∙ looked_up (λ b. b.now) c.deref-2.result.now c.in_ok-place.place.now c.get-2.result
     c.get-2.ensures.lookup.0 c.get-2.ensures.lookup.1
