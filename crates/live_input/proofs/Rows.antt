@@ -1,0 +1,45 @@
+-- Nights, evaluated.
+use Rattle.std.specs.Prelude.{◌≡◌, ◌++◌, refl, codes, [], ◌∷◌}
+use Rattle.std.specs.Fmt.{digits}
+use Rattle.live_input.specs.Night.{came, closed, asked, order, close, tick, refusal, wait, over, answers, due_after, shown, lines_given}
+
+-- ticks on the grid, one that is late, and those after it
+grid : (due_after 0 ≡ 25) × (due_after 25 ≡ 50) × (due_after 27 ≡ 50) × (due_after 28 ≡ 51)
+    × (due_after 49 ≡ 72) × (due_after 1000 ≡ 1025)
+grid = (refl, refl, refl, refl, refl, refl)
+
+-- a command between two ticks; the clock stands still, and falls
+commands : answers (asked 20 ∷ asked 30 ∷ asked 9 ∷ came (codes "Go ! now\n") ∷ asked 8 ∷ asked 3 ∷ [])
+    ≡ wait 53 ∷ tick 30 ∷ order 9 (codes "Go ! now") ∷ wait 26 ∷ tick 3 ∷ []
+unfolding digits
+commands = refl
+
+-- half a line is none; the line goes before the tick that is due; what says nothing gives nothing
+half : answers (asked 40 ∷ asked 40 ∷ came (codes "ck\n\n! \n") ∷ asked 0 ∷ asked 0 ∷ came (codes "ba") ∷ [])
+    ≡ tick 40 ∷ order 40 (codes "back") ∷ wait 25 ∷ tick 0 ∷ []
+unfolding digits
+half = refl
+
+-- no command ends nothing
+refused : answers (asked 1 ∷ asked 1 ∷ asked 1 ∷ came (codes "tick\njump 3\ngo\n") ∷ [])
+    ≡ order 1 (codes "go") ∷ refusal (codes "jump 3") ∷ refusal (codes "tick") ∷ []
+unfolding digits
+refused = refl
+
+-- the end of the input: the last line without LF, an `end`, three ticks, and nothing more
+ending : answers (asked 80 ∷ asked 75 ∷ asked 60 ∷ asked 50 ∷ asked 25 ∷ asked 1 ∷ asked 1 ∷ closed ∷ came (codes "go") ∷ asked 0 ∷ [])
+    ≡ over ∷ tick 75 ∷ wait 75 ∷ tick 50 ∷ tick 25 ∷ close 1 ∷ order 1 (codes "go") ∷ tick 0 ∷ []
+unfolding digits
+ending = refl
+
+-- an `end` that was typed, a command behind it, and the end of the input
+ended_already : answers (asked 50 ∷ asked 25 ∷ asked 2 ∷ asked 1 ∷ closed ∷ asked 1 ∷ came (codes "END\ngo\n") ∷ asked 0 ∷ [])
+    ≡ tick 50 ∷ tick 25 ∷ wait 25 ∷ order 1 (codes "go") ∷ order 1 (codes "END") ∷ tick 0 ∷ []
+unfolding digits
+ended_already = refl
+
+texts : (lines_given (tick 250 ∷ order 249 (codes "go") ∷ refusal (codes "x") ∷ close 0 ∷ [])
+    ≡ codes "250 tick" ∷ codes "249 go" ∷ codes "0 end" ∷ [])
+    × (shown (codes "go\t" ++ 0 ∷ 255 ∷ 126 ∷ []) ≡ codes "go???~")
+unfolding digits
+texts = (refl, refl)

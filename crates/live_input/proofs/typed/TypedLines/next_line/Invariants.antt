@@ -1,0 +1,12 @@
+use Rattle.std.proofs.Common.{◌-◌, ℕ, List, length}
+use Rattle.live_input.specs.Stands.{TypedStands}
+use Rattle.live_input.specs.TypedView.{typed_kept}
+use Rattle.live_input.proofs.typed.TypedLines.next_line.Given as goal
+
+-- what was taken so far ended no line that says something
+abbrev pub invariant-loop-self : goal.invariant-loop-self
+invariant-loop-self l = (bytes : List ℕ) (count : ℕ)
+    → TypedStands (typed_kept l.fn.self) bytes count → TypedStands (typed_kept l.self) bytes count
+
+abbrev pub decreases-loop-self : goal.decreases-loop-self
+decreases-loop-self l = length l.self.came.items - l.self.taken

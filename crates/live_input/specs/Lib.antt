@@ -1,0 +1,5 @@
+pub mod Typed
+pub mod Night
+pub mod Kept
+pub mod Stands
+pub mod TypedView

@@ -1,0 +1,164 @@
+-- What a live input answers, by what happened to it. Happenings and answers have the newest first.
+use Rattle.std.specs.Prelude.{ℕ, ◌+◌, ◌*◌, ◌/◌, max, min, nat_le, nat_lt, Bool, true, false}
+use Rattle.std.specs.Prelude.{◌&&◌, ◌||◌, not, if◌then◌else◌, List, [], ◌∷◌, ◌++◌, length, drop}
+use Rattle.std.specs.Prelude.{Option, Some, None, is_some, is_none, codes, decimal, map, take}
+use Rattle.std.specs.Option.{option_map_or}
+use Rattle.ascii_text.specs.Text.{words_of}
+use Rattle.desk_core.specs.declared.command.Command.{Command}
+use Rattle.desk_core.specs.declared.command.Command.TheVariants.{End}
+use Rattle.console_text.specs.Spelling.{command_of}
+use Rattle.live_input.specs.Typed.{typed_of}
+
+-- what happens to it: bytes came; the input ended; it was asked at a moment of the clock what is
+-- next
+pub data Happening : Type 0 where
+  came : List ℕ → Happening
+  closed : Happening
+  asked : ℕ → Happening
+
+-- what it answers: the line of a command, at a moment; an `end` that nobody typed; a tick; a line
+-- that is refused; that nothing is due before a moment; that nothing comes any more
+pub data Answer : Type 0 where
+  order : ℕ → List ℕ → Answer
+  close : ℕ → Answer
+  tick : ℕ → Answer
+  refusal : List ℕ → Answer
+  wait : ℕ → Answer
+  over : Answer
+
+-- ---- what the answers so far leave
+
+-- words behind a moment
+abbrev pub at_moment : ℕ → List ℕ → List ℕ
+at_moment moment words = decimal moment ++ codes " " ++ words
+
+-- the lines that were given, without their LF
+abbrev pub with_given : Answer → List (List ℕ) → List (List ℕ)
+with_given (order moment line) lines = at_moment moment line ∷ lines
+with_given (close moment) lines = at_moment moment (codes "end") ∷ lines
+with_given (tick moment) lines = at_moment moment (codes "tick") ∷ lines
+with_given _ lines = lines
+
+abbrev pub lines_given : List Answer → List (List ℕ)
+lines_given [] = []
+lines_given (answer ∷ older) = with_given answer (lines_given older)
+
+-- the typed lines that were answered, the oldest first
+abbrev pub with_answered : List (List ℕ) → Answer → List (List ℕ)
+with_answered lines (order moment line) = lines ++ line ∷ []
+with_answered lines (refusal line) = lines ++ line ∷ []
+with_answered lines _ = lines
+
+abbrev pub lines_answered : List Answer → List (List ℕ)
+lines_answered [] = []
+lines_answered (answer ∷ older) = with_answered (lines_answered older) answer
+
+abbrev pub is_end : Option Command → Bool
+is_end (Some End) = true
+is_end _ = false
+
+-- the ticks since the first `end`; none where there was none
+abbrev pub ended_by : Answer → Option ℕ → Option ℕ
+ended_by (order moment line) None = if is_end (command_of (words_of line)) then Some 0 else None
+ended_by (close moment) None = Some 0
+ended_by (tick moment) (Some ticks) = Some (ticks + 1)
+ended_by _ ended = ended
+
+abbrev pub ended : List Answer → Option ℕ
+ended [] = None
+ended (answer ∷ older) = ended_by answer (ended older)
+
+-- when the tick after a tick of this moment is due: at the next multiple of 25, and not before 23 ms
+-- have passed. So a late one is made at once, and those that were missed are not made up for
+abbrev pub due_after : ℕ → ℕ
+due_after moment = max (25 * (moment / 25 + 1)) (moment + 23)
+
+abbrev pub due_by : Answer → ℕ → ℕ
+due_by (tick moment) due = due_after moment
+due_by _ due = due
+
+-- when the next tick is due: the first at once
+abbrev pub due : List Answer → ℕ
+due [] = 0
+due (answer ∷ older) = due_by answer (due older)
+
+-- `play` takes 10,000,000 lines: the last four are kept for an `end` and three ticks
+abbrev pub has_room : List Answer → Bool
+has_room answers = nat_lt (length (lines_given answers)) 9999996
+
+-- ---- the next answer
+
+-- a typed line is given where it spells a command and has at most 200 bytes with its moment; where
+-- there is no room for one line more it is refused too
+abbrev pub is_taken : List Answer → ℕ → List ℕ → Bool
+is_taken answers moment line =
+    (nat_le (length (at_moment moment line)) 200 && is_some (command_of (words_of line)))
+    && has_room answers
+
+abbrev pub to_line : List Answer → ℕ → List ℕ → Answer
+to_line answers moment line =
+    if is_taken answers moment line then order moment line else refusal line
+
+-- the input ended without an `end`, or all room was used
+abbrev pub owes_end : List Answer → Bool → Bool
+owes_end answers is_closed = is_none (ended answers) && (is_closed || not (has_room answers))
+
+-- where each typed line was answered
+abbrev pub by_itself : List Answer → Bool → ℕ → Answer
+by_itself answers is_closed moment =
+    if owes_end answers is_closed then close moment
+    else (if nat_le (due answers) moment then tick moment else wait (due answers))
+
+-- the first typed line that was not answered, before anything else
+abbrev pub to_lines : List (List ℕ) → List Answer → Bool → ℕ → Answer
+to_lines [] answers is_closed moment = by_itself answers is_closed moment
+to_lines (line ∷ lines) answers is_closed moment = to_line answers moment line
+
+-- three ticks after `end` nothing comes any more
+abbrev pub is_over : List Answer → Bool
+is_over answers = option_map_or (nat_le 3) (ended answers) false
+
+-- ---- what happened
+
+-- the bytes that came: the end of the input ends a line as LF does
+abbrev pub bytes_come : List Happening → List ℕ
+bytes_come [] = []
+bytes_come (came bytes ∷ older) = bytes_come older ++ bytes
+bytes_come (closed ∷ older) = bytes_come older ++ 10 ∷ []
+bytes_come (asked moment ∷ older) = bytes_come older
+
+abbrev pub is_closed : List Happening → Bool
+is_closed [] = false
+is_closed (closed ∷ older) = true
+is_closed (came bytes ∷ older) = is_closed older
+is_closed (asked moment ∷ older) = is_closed older
+
+-- the clock, which never falls; 0 at first, and below 2^48 as a console's moments are
+abbrev pub now : List Happening → ℕ
+now [] = 0
+now (asked moment ∷ older) = max (now older) (min moment 281474976710655)
+now (came bytes ∷ older) = now older
+now (closed ∷ older) = now older
+
+-- the answer to what is asked at a moment, after these answers and happenings
+abbrev pub answer_after : List Answer → List Happening → ℕ → Answer
+answer_after answers older moment =
+    if is_over answers then over
+    else to_lines (drop (length (lines_answered answers)) (typed_of (bytes_come older)).lines)
+    answers (is_closed older) (now (asked moment ∷ older))
+
+-- all answers
+abbrev pub answers : List Happening → List Answer
+answers [] = []
+answers (asked moment ∷ older) = answer_after (answers older) older moment ∷ answers older
+answers (came bytes ∷ older) = answers older
+answers (closed ∷ older) = answers older
+
+-- ---- texts
+
+-- what is shown of a refused line: its first 200 bytes, each that is no printable ASCII as `?`
+abbrev pub printable : ℕ → ℕ
+printable byte = if nat_le 32 byte && nat_le byte 126 then byte else 63
+
+abbrev pub shown : List ℕ → List ℕ
+shown line = map printable (take 200 line)

@@ -1,0 +1,30 @@
+-- What a live input keeps, against what happened to it.
+use Rattle.std.specs.Prelude.{◌≡◌, ◌-◌, ◌++◌, ◌∷◌, ℕ, List, length, take, drop}
+use Rattle.live_input.specs.Kept.{Kept, TypedKept}
+use Rattle.live_input.specs.Night.{Happening, answers, bytes_come, due, ended, is_closed}
+use Rattle.live_input.specs.Night.{lines_answered, lines_given, now}
+use Rattle.live_input.specs.Typed.{typed_of}
+
+-- these bytes came, and so many of their lines were taken
+pub record TypedStands (kept : TypedKept) (bytes : List ℕ) (count : ℕ) : Type 0 where
+  pub front : List ℕ
+  pub bytes_are : bytes ≡ front ++ kept.unread
+  pub line_is : kept.line ≡ take 201 (typed_of front).rest
+  pub count_is : count ≡ length (typed_of front).lines
+
+-- the line after so many of these bytes' lines, by its first 201 bytes
+pub record IsNext (line bytes : List ℕ) (count : ℕ) : Type 0 where
+  pub whole : List ℕ
+  pub later : List (List ℕ)
+  pub lines_are : drop count (typed_of bytes).lines ≡ whole ∷ later
+  pub line_is : line ≡ take 201 whole
+
+-- each part that it keeps is what the happenings leave
+pub record StandsFor (kept : Kept) (happenings : List Happening) : Type 0 where
+  pub typed_stands : TypedStands kept.typed (bytes_come happenings)
+      (length (lines_answered (answers happenings)))
+  pub closed_is : kept.closed ≡ is_closed happenings
+  pub now_is : kept.now ≡ now happenings
+  pub due_is : kept.due ≡ due (answers happenings)
+  pub room_is : kept.room ≡ 9999996 - length (lines_given (answers happenings))
+  pub ended_is : kept.ended ≡ ended (answers happenings)

@@ -1,0 +1,6 @@
+//! The input of a live night.
+#![tactic(auto)]
+
+mod typed;
+
+pub use typed::{Line, TypedLines};

@@ -1,0 +1,111 @@
+ghost use Rattle.std.specs.Prelude.{◌≡◌, ◌≤◌, ℕ, List, [], ◌∷◌, ◌++◌, length, take};
+ghost use Rattle.live_input.specs.Typed as typed;
+
+use arrayvec::ArrayVec;
+use ascii_text::Words;
+
+/// The first bytes of a line: one more than it may have, so that a longer one is seen.
+pub type Line = ArrayVec<u8, 201>;
+
+// The bytes that came, and what was taken of them for the next line.
+#[derive(Debug, Drop)]
+pub struct TypedLines {
+    pub came: ArrayVec<u8, 4096>,
+    // How many of them were taken.
+    pub taken: usize,
+    pub line: Line,
+    ghost in_range: { taken ≤ length came.items },
+}
+
+impl TypedLines {
+    ghost use Rattle.std.specs.Prelude.{◌≡◌, ◌≤◌, ◌<◌, ◌-◌, ◌+◌, ℕ, [], List, IfNone, IfSome, length};
+    ghost use Rattle.live_input.specs.Stands.{IsNext, TypedStands};
+    ghost use Rattle.live_input.specs.TypedView.{typed_kept};
+
+    pub fn new() -> Self
+        ensures { typed_kept result ≡ record { unread = []; line = [] } }
+    {
+        TypedLines {
+            came: ArrayVec::new(),
+            taken: 0,
+            line: ArrayVec::new(),
+        }
+    }
+
+    // More bytes came.
+    pub fn extend(&mut self, bytes: &[u8])
+        requires taken { (typed_kept self.old).unread ≡ [] }
+        requires short { length bytes.now ≤ 4096 }
+        ensures { typed_kept self.new ≡ record (typed_kept self.old) { unread = bytes.now } }
+    {
+        self.came.clear();
+        self.taken = 0;
+        self.came.try_extend_from_slice(bytes).unwrap();
+    }
+
+    // Takes bytes up to the end of the next line that says something. Where there is none, all
+    // bytes that came were taken.
+    pub fn next_line(&mut self) -> Option<Line>
+        ensures none { IfNone result ((typed_kept self.new).unread ≡ []) }
+        ensures stands { IfNone result ((bytes : List ℕ) (count : ℕ)
+            → TypedStands (typed_kept self.old) bytes count
+            → TypedStands (typed_kept self.new) bytes count) }
+        ensures next { IfSome result (λ line. (bytes : List ℕ) (count : ℕ)
+            → TypedStands (typed_kept self.old) bytes count → IsNext line.items bytes count) }
+        ensures taken { IfSome result (λ line. (bytes : List ℕ) (count : ℕ)
+            → TypedStands (typed_kept self.old) bytes count
+            → TypedStands (typed_kept self.new) bytes (count + 1)) }
+    {
+        while self.taken < self.came.len() {
+            if let Some(line) = self.take_byte() {
+                return Some(line);
+            }
+        }
+        None
+    }
+
+    // Takes a byte, and answers the line that it ends, where that says something.
+    fn take_byte(&mut self) -> Option<Line>
+        requires { self.old.taken < length self.old.came.items }
+        ensures stands { IfNone result ((bytes : List ℕ) (count : ℕ)
+            → TypedStands (typed_kept self.old) bytes count
+            → TypedStands (typed_kept self.new) bytes count) }
+        ensures next { IfSome result (λ line. (bytes : List ℕ) (count : ℕ)
+            → TypedStands (typed_kept self.old) bytes count → IsNext line.items bytes count) }
+        ensures taken { IfSome result (λ line. (bytes : List ℕ) (count : ℕ)
+            → TypedStands (typed_kept self.old) bytes count
+            → TypedStands (typed_kept self.new) bytes (count + 1)) }
+        ensures same { self.new.came ≡ self.old.came }
+        ensures one_more { self.new.taken ≡ self.old.taken + 1 }
+    {
+        let byte = self.came.as_slice()[self.taken];
+        self.taken += 1;
+        if byte != b'\n' {
+            look_at(&mut self.line, byte);
+            return None;
+        }
+        let line = self.line.take();
+        if says_nothing(line.as_slice()) {
+            None
+        } else {
+            Some(line)
+        }
+    }
+}
+
+// A byte more of a line, as far as it is looked at.
+fn look_at(line: &mut Line, byte: u8)
+    ensures { (whole : List ℕ) → line.old.items ≡ take 201 whole
+        → line.new.items ≡ take 201 (whole ++ byte ∷ []) }
+{
+    if !line.is_full() {
+        line.push(byte);
+    }
+}
+
+// Whether a line of at most 200 bytes has no words.
+fn says_nothing(line: &[u8]) -> bool
+    ensures { result ≡ typed.says_nothing line.now }
+{
+    line.len() <= 200 && Words::new(line).next().is_none()
+}
