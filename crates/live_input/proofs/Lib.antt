@@ -1,2 +1,3 @@
 mod Rows
 pub mod TypedLemmas
+pub mod Answering

@@ -19,7 +19,7 @@ looked_short line whole is short =
     let len : length line ≡ length (take 201 whole) = ap length is in
     is ∙ take_all 201 whole (omega (arith, length-take 201 whole))
 
-looked_long : (line whole : List ℕ) → line ≡ take 201 whole → 201 ≤ length line → 201 ≤ length whole
+pub looked_long : (line whole : List ℕ) → line ≡ take 201 whole → 201 ≤ length line → 201 ≤ length whole
 looked_long line whole is long =
     let len : length line ≡ length (take 201 whole) = ap length is in
     omega (arith, length-take 201 whole)

@@ -3,3 +3,5 @@ pub mod Night
 pub mod Kept
 pub mod Stands
 pub mod TypedView
+pub mod Told
+pub mod Inside

@@ -115,8 +115,11 @@ to_lines [] answers is_closed moment = by_itself answers is_closed moment
 to_lines (line ∷ lines) answers is_closed moment = to_line answers moment line
 
 -- three ticks after `end` nothing comes any more
+abbrev pub were_three : Option ℕ → Bool
+were_three ended = option_map_or (nat_le 3) ended false
+
 abbrev pub is_over : List Answer → Bool
-is_over answers = option_map_or (nat_le 3) (ended answers) false
+is_over answers = were_three (ended answers)
 
 -- ---- what happened
 
@@ -153,6 +156,10 @@ answers [] = []
 answers (asked moment ∷ older) = answer_after (answers older) older moment ∷ answers older
 answers (came bytes ∷ older) = answers older
 answers (closed ∷ older) = answers older
+
+-- the answer to what is asked now
+abbrev pub answer_to : List Happening → ℕ → Answer
+answer_to happenings moment = answer_after (answers happenings) happenings moment
 
 -- ---- texts
 

@@ -1,6 +1,11 @@
-//! The input of a live night.
+//! The input of a live night: it hands `play` the commands that an operator types, each at its
+//! moment, and makes the ticks by itself.
 #![tactic(auto)]
 
+mod given;
+mod live;
+mod progress;
 mod typed;
 
-pub use typed::{Line, TypedLines};
+pub use given::{Given, InputLine, RefusedText};
+pub use live::LiveInput;

@@ -1,0 +1,13 @@
+use Rattle.std.proofs.Common.{◌≡◌, ◌∙◌, ℕ, List, length, map, take, min, ap, arith}
+use Rattle.std.proofs.lemmas.List.{take_all, take_min}
+use Rattle.std.proofs.Math.Nat.{min_comm}
+use Rattle.live_input.specs.Night.{printable}
+use Rattle.live_input.proofs.given.shown.Goals as goal
+
+pub returns : goal.returns
+returns c =
+    let line : List ℕ = c.args.line.now in
+    c.loop-byte.invariant
+    ∙ ap (map printable) (take_all c.loop-byte.byte-index (take c.min.result line) c.loop-byte-test.false)
+    ∙ ap (λ n. map printable (take n line)) (c.min.ensures ∙ min_comm (length line) 200)
+    ∙ ap (map printable) (take_min 200 line)

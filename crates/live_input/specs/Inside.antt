@@ -1,0 +1,14 @@
+-- What a live input keeps, as contracts see it.
+use Rattle.live_input.specs.declared.live.LiveInput.TheInside.{Inside}
+use Rattle.live_input.specs.Kept.{Kept}
+use Rattle.live_input.specs.TypedView.{typed_kept}
+
+abbrev pub live_view : Inside → Kept
+live_view live = record {
+  typed = typed_kept live.typed;
+  closed = live.closed;
+  now = live.now;
+  due = live.progress.due;
+  room = live.progress.room;
+  ended = live.progress.ended;
+}

@@ -1,0 +1,23 @@
+-- What is given of an answer, and what is kept of the answers so far.
+use Rattle.std.specs.Prelude.{◌≡◌, ◌-◌, ℕ, List, [], ◌∷◌, ◌++◌, codes, length}
+use Rattle.live_input.specs.declared.given.Given.{Given}
+use Rattle.live_input.specs.declared.given.Given.TheVariants.{Line, Refused, Until, Over}
+use Rattle.live_input.specs.declared.progress.Progress.{Progress}
+use Rattle.live_input.specs.Night.{Answer, order, close, tick, refusal, wait, over}
+use Rattle.live_input.specs.Night.{at_moment, due, ended, lines_given, shown}
+
+-- a line with its LF, the text of a refused line, or a moment
+abbrev pub Tells : Given → Answer → Type 0
+Tells (Line line) (order moment words) = line.items ≡ at_moment moment words ++ 10 ∷ []
+Tells (Line line) (close moment) = line.items ≡ at_moment moment (codes "end") ++ 10 ∷ []
+Tells (Line line) (tick moment) = line.items ≡ at_moment moment (codes "tick") ++ 10 ∷ []
+Tells (Refused text) (refusal line) = text.items ≡ shown line
+Tells (Until moment) (wait due) = moment ≡ due
+Tells Over over = Unit {0}
+Tells _ _ = ⊥
+
+-- what the answers so far leave
+pub record Leaves (progress : Progress) (answers : List Answer) : Type 0 where
+  pub due_is : progress.due ≡ due answers
+  pub room_is : progress.room ≡ 9999996 - length (lines_given answers)
+  pub ended_is : progress.ended ≡ ended answers

@@ -1,0 +1,68 @@
+ghost use Rattle.std.specs.Prelude.{◌≡◌, ◌≤◌, [], ◌∷◌, ◌++◌, nat_le, length};
+ghost use Rattle.live_input.specs.Night.{at_moment};
+ghost use Rattle.live_input.specs.Night as night;
+
+use arrayvec::ArrayVec;
+use itoa::Buffer;
+
+/// A line for `play`, with its LF.
+pub type InputLine = ArrayVec<u8, 201>;
+
+/// What is shown of a line that was refused: its first 200 bytes, each that is no printable ASCII
+/// as `?`.
+pub type RefusedText = ArrayVec<u8, 200>;
+
+/// What a live input gives when it is asked.
+#[derive(Debug, Drop)]
+pub enum Given {
+    /// A line for `play`.
+    Line(InputLine),
+    /// What to show of a line that was refused.
+    Refused(RefusedText),
+    /// Nothing is due before this moment, in milliseconds, unless bytes come.
+    Until(u64),
+    /// Nothing comes any more.
+    Over,
+}
+
+// Whether a line of `play` has room for these words behind a moment.
+pub fn fits(moment: u64, words: &[u8]) -> bool
+    ensures { result ≡ nat_le (length (at_moment moment words.now)) 200 }
+{
+    Buffer::new().format(moment).len() + 1 + words.len() <= 200
+}
+
+// The line of these words at a moment.
+pub fn input_line(moment: u64, words: &[u8]) -> InputLine
+    requires { length (at_moment moment words.now) ≤ 200 }
+    ensures { result.items ≡ at_moment moment words.now ++ 10 ∷ [] }
+{
+    let mut line = InputLine::new();
+    line.try_extend_from_slice(Buffer::new().format(moment).as_bytes())
+        .unwrap();
+    line.push(b' ');
+    line.try_extend_from_slice(words).unwrap();
+    line.push(b'\n');
+    line
+}
+
+pub fn shown(line: &[u8]) -> RefusedText
+    ensures { result.items ≡ night.shown line.now }
+{
+    let mut text = RefusedText::new();
+    let looked = &line[..line.len().min(200)];
+    for byte in looked {
+        text.push(printable(*byte));
+    }
+    text
+}
+
+fn printable(byte: u8) -> u8
+    ensures { result ≡ night.printable byte }
+{
+    if (b' '..=b'~').contains(&byte) {
+        byte
+    } else {
+        b'?'
+    }
+}

@@ -1,0 +1,94 @@
+ghost use Rattle.std.specs.Prelude.{◌≡◌, ◌≤◌, ℕ, List, [], ◌∷◌, length};
+ghost use Rattle.live_input.specs.Night.{Happening, came, closed, asked, answer_to};
+ghost use Rattle.live_input.specs.Stands.{StandsFor};
+ghost use Rattle.live_input.specs.Told.{Tells};
+ghost use Rattle.live_input.specs.declared.given.Given.TheVariants.{Until};
+
+use crate::given::Given;
+use crate::progress::Progress;
+use crate::typed::TypedLines;
+use std::marker::Model;
+
+// A console's moments are below 2^48.
+const LATEST: u64 = 0xffff_ffff_ffff;
+
+/// The input of a live night: it is told which bytes came, and asked what is next.
+///
+/// A line that is typed is a command of `play` without its moment; it is given with the moment at
+/// which it is asked for. Moments are in milliseconds from the start of the night; they never fall,
+/// whatever the clock says.
+///
+/// Nothing takes memory.
+#[derive(Debug, Drop)]
+pub struct LiveInput {
+    typed: TypedLines,
+    closed: bool,
+    now: u64,
+    progress: Progress,
+}
+
+impl Model for LiveInput {
+    ghost use Rattle.live_input.specs.Kept.{Kept};
+
+    ghost Value = { Kept };
+
+    ghost use Rattle.std.specs.Prelude.{◌<◌, ◌^◌};
+    ghost use Rattle.live_input.specs.Inside.{live_view};
+
+    ghost view = { live_view };
+
+    ghost invariant = { λ live. live.now < 2 ^ 48 };
+}
+
+impl LiveInput {
+    /// The input at the start of a night.
+    pub fn new() -> Self
+        ensures stands { StandsFor result [] }
+        ensures empty { result.typed.unread ≡ [] }
+    {
+        LiveInput {
+            typed: TypedLines::new(),
+            closed: false,
+            now: 0,
+            progress: Progress::new(),
+        }
+    }
+
+    /// Bytes came: at most 4,096, and all that came before were taken.
+    pub fn came(&mut self, bytes: &[u8])
+        requires taken { self.old.typed.unread ≡ [] }
+        requires short { length bytes.now ≤ 4096 }
+        ensures { (happenings : List Happening) → StandsFor self.old happenings
+            → StandsFor self.new (came bytes.now ∷ happenings) }
+    {
+        self.typed.extend(bytes);
+    }
+
+    /// The input ended: a last line without LF is a line too.
+    pub fn ended(&mut self)
+        requires taken { self.old.typed.unread ≡ [] }
+        ensures { (happenings : List Happening) → StandsFor self.old happenings
+            → StandsFor self.new (closed ∷ happenings) }
+    {
+        self.typed.extend(b"\n");
+        self.closed = true;
+    }
+
+    /// What is next, at a moment of the clock.
+    pub fn next(&mut self, moment: u64) -> Given
+        ensures tells { (happenings : List Happening) → StandsFor self.old happenings
+            → Tells result (answer_to happenings moment) }
+        ensures stands { (happenings : List Happening) → StandsFor self.old happenings
+            → StandsFor self.new (asked moment ∷ happenings) }
+        ensures taken { (until : ℕ) → result ≡ Until until → self.new.typed.unread ≡ [] }
+    {
+        self.now = self.now.max(moment.min(LATEST));
+        if self.progress.is_over() {
+            return Given::Over;
+        }
+        match self.typed.next_line() {
+            Some(line) => self.progress.answer(self.now, line.as_slice()),
+            None => self.progress.by_itself(self.now, self.closed),
+        }
+    }
+}
