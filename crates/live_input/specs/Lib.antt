@@ -5,3 +5,4 @@ pub mod Stands
 pub mod TypedView
 pub mod Told
 pub mod Inside
+pub mod Laws

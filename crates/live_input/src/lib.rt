@@ -3,6 +3,7 @@
 #![tactic(auto)]
 
 mod given;
+pub mod laws;
 mod live;
 mod progress;
 mod typed;

@@ -1,0 +1,100 @@
+-- Laws over all nights: whatever bytes came, and whatever the clock said.
+use Rattle.std.specs.Prelude.{◌≡◌, ◌↔◌, ◌≤◌, ◌+◌, ◌++◌, ℕ, false, List, [], ◌∷◌, Option, Some, None, All, length, codes}
+use Rattle.ascii_text.specs.Text.{lines_of, words_of}
+use Rattle.desk_core.specs.declared.command.Command.{Command}
+use Rattle.desk_core.specs.declared.command.Command.TheVariants.{End}
+use Rattle.console_text.specs.declared.call.Call.TheVariants.{Order, Tick}
+use Rattle.console_text.specs.declared.reading.Reading.TheVariants.{At}
+use Rattle.console_text.specs.Spelling.{command_of, is_malformed, reading_of}
+use Rattle.live_input.specs.Night.{Answer, Happening, answer_to, answers, at_moment, bytes_come, ended, lines_answered, lines_given}
+use Rattle.live_input.specs.Night.{order, close, tick, refusal, wait, over}
+use Rattle.live_input.specs.Typed.{typed_of}
+
+-- ---- lines
+
+-- the bytes that were given, in their order: each line with its LF
+abbrev pub text_of : List (List ℕ) → List ℕ
+text_of [] = []
+text_of (line ∷ older) = text_of older ++ (line ++ 10 ∷ [])
+
+-- `play` takes these lines: none is malformed or has more than 200 bytes, and there are at most
+-- 10,000,000
+pub record AreFine (lines : List (List ℕ)) : Type 0 where
+  pub none_malformed : All (λ line. is_malformed (reading_of line) ≡ false) lines
+  pub none_long : All (λ line. length line ≤ 200) lines
+  pub few : length lines ≤ 10000000
+
+abbrev pub LinesAreFine : Type 0
+LinesAreFine = (h : List Happening) → AreFine (lines_of (text_of (lines_given (answers h))))
+
+-- a line of this command at this moment
+abbrev pub Spells : Option Command → ℕ → List ℕ → Type 0
+Spells (Some command) moment line = reading_of (at_moment moment line) ≡ At moment (Order command)
+Spells None moment line = ⊥
+
+-- a line that is given spells the very command that was typed, an `end`, or a tick, at its moment
+abbrev pub IsSpelled : Answer → Type 0
+IsSpelled (order moment line) = Spells (command_of (words_of line)) moment line
+IsSpelled (close moment) = reading_of (at_moment moment (codes "end")) ≡ At moment (Order End)
+IsSpelled (tick moment) = reading_of (at_moment moment (codes "tick")) ≡ At moment Tick
+IsSpelled _ = Unit {0}
+
+abbrev pub AnswersAreSpelled : Type 0
+AnswersAreSpelled = (h : List Happening) (moment : ℕ) → IsSpelled (answer_to h moment)
+
+-- ---- moments
+
+-- each is at least so much later than the one before it
+abbrev pub Rise : ℕ → List ℕ → Type 0
+Rise gap [] = Unit {0}
+Rise gap (newest ∷ []) = Unit {0}
+Rise gap (newest ∷ newer ∷ older) = (newer + gap ≤ newest) × Rise gap (newer ∷ older)
+
+abbrev pub with_moment : Answer → List ℕ → List ℕ
+with_moment (order moment line) moments = moment ∷ moments
+with_moment (close moment) moments = moment ∷ moments
+with_moment (tick moment) moments = moment ∷ moments
+with_moment _ moments = moments
+
+-- the moments of the lines that were given
+abbrev pub moments : List Answer → List ℕ
+moments [] = []
+moments (answer ∷ older) = with_moment answer (moments older)
+
+abbrev pub MomentsNeverFall : Type 0
+MomentsNeverFall = (h : List Happening) → Rise 0 (moments (answers h))
+
+abbrev pub with_tick : Answer → List ℕ → List ℕ
+with_tick (tick moment) ticks = moment ∷ ticks
+with_tick _ ticks = ticks
+
+-- the moments of the ticks
+abbrev pub ticks : List Answer → List ℕ
+ticks [] = []
+ticks (answer ∷ older) = with_tick answer (ticks older)
+
+abbrev pub TicksAreApart : Type 0
+TicksAreApart = (h : List Happening) → Rise 23 (ticks (answers h))
+
+-- ---- the order of things
+
+-- the lines that were answered are the first that were typed: each once, whole, in order
+abbrev pub LinesComeInOrder : Type 0
+LinesComeInOrder =
+    (h : List Happening) → (later : List (List ℕ))
+    × ((typed_of (bytes_come h)).lines ≡ lines_answered (answers h) ++ later)
+
+-- it waits, ticks or ends the night by itself only where each line that was typed was answered
+abbrev pub IsAfterLines : Answer → List Happening → Type 0
+IsAfterLines (close moment) h = (typed_of (bytes_come h)).lines ≡ lines_answered (answers h)
+IsAfterLines (tick moment) h = (typed_of (bytes_come h)).lines ≡ lines_answered (answers h)
+IsAfterLines (wait due) h = (typed_of (bytes_come h)).lines ≡ lines_answered (answers h)
+IsAfterLines _ h = Unit {0}
+
+abbrev pub LinesGoFirst : Type 0
+LinesGoFirst = (h : List Happening) (moment : ℕ) → IsAfterLines (answer_to h moment) h
+
+-- nothing comes any more exactly where there were three ticks after the first `end`, and there are
+-- never more
+abbrev pub NightsEnd : Type 0
+NightsEnd = (h : List Happening) (moment : ℕ) → (answer_to h moment ≡ over) ↔ (ended (answers h) ≡ Some 3)

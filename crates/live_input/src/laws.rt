@@ -1,0 +1,41 @@
+//! What holds of every night, whatever bytes came and whatever the clock said. Each law is the
+//! contract of a function that does nothing: call it where its fact is wanted.
+
+ghost use Rattle.live_input.specs.Laws.{AnswersAreSpelled, LinesAreFine, LinesComeInOrder};
+ghost use Rattle.live_input.specs.Laws.{LinesGoFirst, MomentsNeverFall, NightsEnd, TicksAreApart};
+
+/// `play` takes all lines that are given: none is malformed or too long, and there are never more
+/// than 10,000,000.
+pub fn lines_are_fine()
+    ensures { LinesAreFine }
+{}
+
+/// A line that is given spells the command that was typed, an `end` or a tick, at its moment.
+pub fn answers_are_spelled()
+    ensures { AnswersAreSpelled }
+{}
+
+/// The moments of the lines that are given never fall.
+pub fn moments_never_fall()
+    ensures { MomentsNeverFall }
+{}
+
+/// Ticks are at least 23 ms apart.
+pub fn ticks_are_apart()
+    ensures { TicksAreApart }
+{}
+
+/// The lines that were typed are answered each once, whole and in order.
+pub fn lines_come_in_order()
+    ensures { LinesComeInOrder }
+{}
+
+/// A tick, or an `end` that nobody typed, comes only where each line that was typed was answered.
+pub fn lines_go_first()
+    ensures { LinesGoFirst }
+{}
+
+/// Nothing comes any more exactly where three ticks came after the first `end`.
+pub fn nights_end()
+    ensures { NightsEnd }
+{}
