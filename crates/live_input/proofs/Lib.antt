@@ -7,3 +7,4 @@ pub mod Counting
 pub mod Timely
 pub mod InOrder
 pub mod Fine
+pub mod Replies

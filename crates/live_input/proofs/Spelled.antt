@@ -30,7 +30,7 @@ both false b h = cc
 one_more : (n : ℕ) → 1 + n ≡ suc n
 one_more n = omega arith
 
-digit_range : (b : ℕ) → is_ascii_digit b ≡ true → (48 ≤ b) × (b ≤ 57)
+pub digit_range : (b : ℕ) → is_ascii_digit b ≡ true → (48 ≤ b) × (b ≤ 57)
 digit_range b h = grind (arith, nat_tests)
 
 no_bang : (b : ℕ) → is_ascii_digit b ≡ true → is_bang b ≡ false

@@ -6,3 +6,4 @@ pub mod TypedView
 pub mod Told
 pub mod Inside
 pub mod Laws
+pub mod Shown

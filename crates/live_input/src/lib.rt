@@ -6,7 +6,9 @@ mod given;
 pub mod laws;
 mod live;
 mod progress;
+mod reply;
 mod typed;
 
 pub use given::{Given, InputLine, RefusedText};
 pub use live::LiveInput;
+pub use reply::is_shown;
