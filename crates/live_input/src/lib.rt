@@ -12,3 +12,6 @@ mod typed;
 pub use given::{Given, InputLine, RefusedText};
 pub use live::LiveInput;
 pub use reply::is_shown;
+
+#[cfg(test)]
+mod tests;

@@ -54,8 +54,9 @@ impl LiveInput {
         }
     }
 
-    /// Bytes came: at most 4,096, and all that came before were taken.
-    pub fn came(&mut self, bytes: &[u8])
+    /// Takes bytes that came, at most 4,096. The condition holds at first, and wherever the last
+    /// answer was `Until`.
+    pub fn take_bytes(&mut self, bytes: &[u8])
         requires taken { self.old.typed.unread ≡ [] }
         requires short { length bytes.now ≤ 4096 }
         ensures { (happenings : List Happening) → StandsFor self.old happenings
@@ -64,8 +65,8 @@ impl LiveInput {
         self.typed.extend(bytes);
     }
 
-    /// The input ended: a last line without LF is a line too.
-    pub fn ended(&mut self)
+    /// Takes the end of the input: a last line without LF is a line too.
+    pub fn close(&mut self)
         requires taken { self.old.typed.unread ≡ [] }
         ensures { (happenings : List Happening) → StandsFor self.old happenings
             → StandsFor self.new (closed ∷ happenings) }
@@ -74,7 +75,8 @@ impl LiveInput {
         self.closed = true;
     }
 
-    /// What is next, at a moment of the clock.
+    /// What is next, at a moment of the clock: the answer to the next line that was typed, before
+    /// anything else; an `end` where the input ended without one; a tick where one is due.
     pub fn next(&mut self, moment: u64) -> Given
         ensures tells { (happenings : List Happening) → StandsFor self.old happenings
             → Tells result (answer_to happenings moment) }
