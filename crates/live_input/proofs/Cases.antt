@@ -1,8 +1,8 @@
 -- The answers that there are.
-use Rattle.std.proofs.Common.{◌≡◌, ◌≤◌, ◌<◌, ℕ, Bool, true, false, cond, List, [], ◌∷◌, length, drop, refl, arith}
+use Rattle.std.proofs.Common.{◌≡◌, ◌≤◌, ℕ, Bool, true, false, cond, List, [], ◌∷◌, length, drop, refl, arith}
 use Rattle.std.proofs.lemmas.Bool.Decides.{nat_tests}
 use Rattle.std.specs.Prelude.{nat_le}
-use Rattle.live_input.specs.Night.{Answer, Happening, answer_to, answers, asked, by_itself, bytes_come, due, is_closed, is_over, is_taken, lines_answered, now, owes_end, to_line, to_lines}
+use Rattle.live_input.specs.Night.{Answer, Happening, answer_to, answers, asked, bytes_come, due, is_closed, is_over, is_taken, lines_answered, now, owes_end, to_lines}
 use Rattle.live_input.specs.Night.{order, close, tick, refusal, wait, over}
 use Rattle.live_input.specs.Typed.{typed_of}
 

@@ -1,11 +1,11 @@
 -- How many lines there are, and the ticks after `end`.
-use Rattle.std.proofs.Common.{◌≡◌, ◌≤◌, ◌<◌, ℕ, suc, ◌+◌, Bool, true, false, cond, List, [], ◌∷◌, length, refl, sym, ap, arith, Option, Some, None}
-use Rattle.std.specs.Prelude.{◌&&◌, ◌||◌, not, nat_le, nat_lt, is_some, is_none}
+use Rattle.std.proofs.Common.{◌≡◌, ◌≤◌, ◌<◌, ℕ, suc, ◌+◌, Bool, true, false, cond, List, [], ◌∷◌, length, refl, arith, Option, Some, None}
+use Rattle.std.specs.Prelude.{◌&&◌, ◌||◌, not, nat_lt, is_none}
 use Rattle.std.proofs.lemmas.Bool.Decides.{nat_tests}
 use Rattle.ascii_text.specs.Text.{words_of}
 use Rattle.console_text.specs.Spelling.{command_of}
-use Rattle.live_input.specs.Night.{Answer, Happening, answer_to, answers, asked, came, closed, at_moment, ended, has_room, is_end, is_over, is_taken, lines_given, owes_end, were_three, ended_by}
-use Rattle.live_input.specs.Night.{order, close, tick, refusal, wait, over}
+use Rattle.live_input.specs.Night.{Answer, Happening, answer_to, answers, asked, came, closed, ended, has_room, is_end, lines_given, were_three, ended_by}
+use Rattle.live_input.specs.Night.{order, close, tick}
 use Rattle.live_input.proofs.Cases.{Next, answer_is_next, nothing, takes, refuses, closes, ticks, waits}
 
 -- the lines that an `end` and its ticks took of the last four

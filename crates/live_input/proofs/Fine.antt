@@ -1,23 +1,19 @@
 -- The lines that are given, as `play` reads them.
-use Rattle.std.proofs.Common.{◌≡◌, ◌≤◌, ◌<◌, ◌^◌, ℕ, ◌+◌, Bool, true, false, cond, List, [], ◌∷◌, ◌++◌, length, drop, fold, refl, sym, ap, subst, ◌∙◌, arith, append_assoc, append-nil, length-append, Option, Some, None}
+use Rattle.std.proofs.Common.{◌≡◌, ◌≤◌, ◌<◌, ◌^◌, ℕ, Bool, true, false, cond, List, [], ◌∷◌, ◌++◌, length, fold, refl, sym, ap, subst, ◌∙◌, arith, append_assoc, append-nil, length-append, Option, Some, None}
 use Rattle.std.specs.Prelude.{◌&&◌, ◌==◌, not, nat_le, is_some, codes, decimal, All}
 use Rattle.std.specs.List.{list_all, onto_first}
 use Rattle.std.specs.Char.{is_ascii_digit}
 use Rattle.std.proofs.lemmas.Bool.Decides.{nat_tests}
 use Rattle.std.proofs.lemmas.Fmt.{digits_decimal, length-decimal-le}
-use Rattle.std.proofs.lemmas.List.Elements.{All-append, All-cons, All-drop, All-head, All-nil, All-push, All-tail, All-weaker}
+use Rattle.std.proofs.lemmas.List.Elements.{All-cons, All-drop, All-head, All-nil, All-push, All-tail, All-weaker}
 use Rattle.std.proofs.lemmas.List.Folds.{list_all-append}
-use Rattle.ascii_text.specs.Text.{is_newline, lines_of, words_of}
+use Rattle.ascii_text.specs.Text.{lines_of, words_of}
 use Rattle.desk_core.specs.declared.command.Command.{Command}
-use Rattle.desk_core.specs.declared.command.Command.TheVariants.{End}
-use Rattle.console_text.specs.declared.call.Call.TheVariants.{Order, Tick}
-use Rattle.console_text.specs.declared.reading.Reading.{Reading}
-use Rattle.console_text.specs.declared.reading.Reading.TheVariants.{At}
 use Rattle.console_text.specs.Spelling as spelling
 use Rattle.console_text.specs.Spelling.{call_of, command_of, is_malformed, reading_of}
 use Rattle.live_input.specs.Laws.{AreFine, IsSpelled, Spells, text_of}
-use Rattle.live_input.specs.Night.{Answer, Happening, answer_to, answers, asked, at_moment, came, closed, bytes_come, has_room, is_taken, lines_given, now}
-use Rattle.live_input.specs.Night.{order, close, tick, refusal, wait, over}
+use Rattle.live_input.specs.Night.{Answer, Happening, answer_to, answers, asked, at_moment, came, closed, bytes_come, has_room, lines_given}
+use Rattle.live_input.specs.Night.{order, close, tick}
 use Rattle.live_input.specs.Typed.{Typed, no_bytes, says_nothing, typed_of, with_byte, with_line}
 use Rattle.live_input.proofs.Cases.{Next, answer_is_next, left_of, nothing, takes, refuses, closes, ticks, waits}
 use Rattle.live_input.proofs.Counting.{few_lines}

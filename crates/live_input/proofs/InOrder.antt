@@ -1,12 +1,11 @@
 -- Lines are answered in their order, and a night ends.
-use Rattle.std.proofs.Common.{◌≡◌, ◌≤◌, ◌<◌, ◌↔◌, ℕ, ◌+◌, Bool, true, false, cond, List, [], ◌∷◌, ◌++◌, length, drop, fold, refl, sym, ap, ◌∙◌, arith, append_assoc, append-nil, Option, Some, None}
-use Rattle.std.specs.Prelude.{nat_le}
+use Rattle.std.proofs.Common.{◌≡◌, ◌≤◌, ◌↔◌, ℕ, Bool, true, cond, List, [], ◌∷◌, ◌++◌, length, drop, refl, sym, ap, ◌∙◌, arith, append_assoc, append-nil, Option, Some, None}
 use Rattle.std.proofs.Math.Seq.{drop-append_seam}
 use Rattle.std.proofs.lemmas.Bool.Decides.{nat_tests}
 use Rattle.std.proofs.lemmas.List.Sums.{fold-append}
 use Rattle.live_input.specs.Laws.{IsAfterLines}
 use Rattle.live_input.specs.Night.{Answer, Happening, answer_to, answers, asked, came, closed, bytes_come, ended, is_closed, is_over, lines_answered, now, to_lines, were_three}
-use Rattle.live_input.specs.Night.{order, close, tick, refusal, wait, over}
+use Rattle.live_input.specs.Night.{over}
 use Rattle.live_input.specs.Typed.{no_bytes, typed_of, with_byte}
 use Rattle.live_input.proofs.Cases.{Next, answer_is_next, left_of, nothing, takes, refuses, closes, ticks, waits}
 use Rattle.live_input.proofs.Counting.{AtMostThree, three_ticks}

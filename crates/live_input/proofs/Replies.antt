@@ -1,18 +1,16 @@
 -- What stands in replies.
-use Rattle.std.proofs.Common.{◌≡◌, ◌≤◌, ◌<◌, ℕ, zero, suc, ◌+◌, ◌/◌, ◌%◌, Bool, true, false, cond, not, List, [], ◌∷◌, ◌++◌, length, drop, refl, sym, ap, ◌∙◌, arith, append_assoc}
-use Rattle.std.specs.Prelude.{◌&&◌, ◌||◌, ◌==◌, nat_eq, nat_lt, codes, decimal, flat_map}
+use Rattle.std.proofs.Common.{◌≡◌, ◌<◌, ℕ, zero, suc, ◌+◌, ◌/◌, ◌%◌, Bool, true, false, cond, not, List, [], ◌∷◌, ◌++◌, refl, ap, ◌∙◌, arith, append_assoc}
+use Rattle.std.specs.Prelude.{◌||◌, ◌==◌, nat_eq, codes, decimal, flat_map}
 use Rattle.std.specs.Char.{is_ascii_digit}
 use Rattle.std.specs.Fmt.{digit_glyph, digits, digits_onto}
 use Rattle.std.specs.List.{after_first, list_all, list_any, position_or_len, starts_with}
 use Rattle.std.proofs.lemmas.Bool.Decides.{nat_tests}
 use Rattle.std.proofs.lemmas.List.Folds.{list_any-append}
-use Rattle.desk_core.specs.declared.answer.Refused.{Refused}
-use Rattle.desk_core.specs.declared.answer.Refused.TheVariants.{Backwards, MomentTooLarge, Ended, TooSoon, AtEnd, AtStart, NoCue, NoSub, NoGroup}
 use Rattle.desk_core.specs.declared.answer.Ticked.{Ticked}
 use Rattle.desk_core.specs.declared.answer.Ticked.TheVariants.{Live, Ending}
 use Rattle.sacn_source.specs.declared.offered.Offered.{Offered}
 use Rattle.sacn_source.specs.declared.offered.Offered.TheVariants.{Sent, Lost, Quiet}
-use Rattle.console_text.specs.Texts.{done_text, numbered, outcome_text, pair_text, refused_name, refused_text, ticked_name, ticked_text}
+use Rattle.console_text.specs.Texts.{done_text, numbered, outcome_text, pair_text, refused_text, ticked_text}
 use Rattle.live_input.specs.Shown.{IsShown, is_lost}
 use Rattle.live_input.proofs.Spelled.{both, digit_range}
 

@@ -1,8 +1,8 @@
 -- Words behind a moment.
-use Rattle.std.proofs.Common.{◌≡◌, ◌≤◌, ◌<◌, ◌^◌, ℕ, suc, ◌+◌, Bool, true, false, cond, not, List, [], ◌∷◌, ◌++◌, length, take, refl, sym, ap, ◌∙◌, arith, rules, append_assoc, Option, Some, None}
-use Rattle.std.specs.Prelude.{◌&&◌, ◌==◌, codes, decimal, nat_le, map, bytes_eq, option_map, filter, All}
+use Rattle.std.proofs.Common.{◌≡◌, ◌≤◌, ◌<◌, ◌^◌, ℕ, suc, ◌+◌, Bool, true, false, cond, List, [], ◌∷◌, ◌++◌, length, refl, ap, ◌∙◌, arith, rules, append_assoc, Some, None}
+use Rattle.std.specs.Prelude.{◌&&◌, codes, decimal, nat_le, map, option_map, filter, All}
 use Rattle.std.specs.Char.{is_ascii_digit, to_ascii_lowercase}
-use Rattle.std.specs.List.{before_first, list_all, position_or_len, slice_split}
+use Rattle.std.specs.List.{before_first, list_all, position_or_len}
 use Rattle.std.specs.Str.Parse.{digits_value}
 use Rattle.std.proofs.lemmas.Bool.Decides.{nat_tests}
 use Rattle.std.proofs.lemmas.Fmt.{decimal_nonempty, digits_decimal, digits_value-decimal, length-decimal-le}
@@ -10,12 +10,10 @@ use Rattle.std.proofs.lemmas.List.Elements.{All-cons, All-nil}
 use Rattle.std.proofs.lemmas.List.Splits.{slice_split_at}
 use Rattle.std.proofs.lemmas.Slice.Eq.{bytes_eq-Decides}
 use Rattle.std.proofs.lemmas.Str.Parse.{IsNumeralModel, numerals_by_value}
-use Rattle.ascii_text.specs.Forms.{is_run, moment_of, same_word}
+use Rattle.ascii_text.specs.Forms.{moment_of, same_word}
 use Rattle.ascii_text.specs.Text.{is_bang, is_separator, is_word, parts_of, words_of}
 use Rattle.desk_core.specs.declared.command.Command.{Command}
-use Rattle.console_text.specs.declared.call.Call.{Call}
-use Rattle.console_text.specs.declared.call.Call.TheVariants.{Order, Tick}
-use Rattle.console_text.specs.declared.reading.Reading.TheVariants.{At}
+use Rattle.console_text.specs.declared.call.Call.TheVariants.{Order}
 use Rattle.console_text.specs.Spelling as spelling
 use Rattle.console_text.specs.Spelling.{call_of, command_of, command_with, reading_of, tick_of, with_none, with_one, with_two}
 use Rattle.live_input.specs.Night.{at_moment}

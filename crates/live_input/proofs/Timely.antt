@@ -1,5 +1,5 @@
 -- The moments of lines and of ticks.
-use Rattle.std.proofs.Common.{◌≡◌, ◌≤◌, ◌<◌, ◌^◌, ℕ, ◌+◌, ◌*◌, ◌/◌, Bool, List, [], ◌∷◌, max, min, arith}
+use Rattle.std.proofs.Common.{◌≤◌, ◌<◌, ◌^◌, ℕ, ◌+◌, Bool, List, [], ◌∷◌, arith}
 use Rattle.live_input.specs.Laws.{Rise, moments, with_moment}
 use Rattle.live_input.specs.Laws as laws
 use Rattle.live_input.specs.Night.{Answer, Happening, answer_to, answers, asked, came, closed, due, due_after, now}

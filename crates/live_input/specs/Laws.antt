@@ -7,7 +7,7 @@ use Rattle.console_text.specs.declared.call.Call.TheVariants.{Order, Tick}
 use Rattle.console_text.specs.declared.reading.Reading.TheVariants.{At}
 use Rattle.console_text.specs.Spelling.{command_of, is_malformed, reading_of}
 use Rattle.live_input.specs.Night.{Answer, Happening, answer_to, answers, at_moment, bytes_come, ended, lines_answered, lines_given}
-use Rattle.live_input.specs.Night.{order, close, tick, refusal, wait, over}
+use Rattle.live_input.specs.Night.{order, close, tick, wait, over}
 use Rattle.live_input.specs.Typed.{typed_of}
 
 -- ---- lines

@@ -1,5 +1,5 @@
 -- What is given of an answer, and what is kept of the answers so far.
-use Rattle.std.specs.Prelude.{◌≡◌, ◌-◌, ℕ, List, [], ◌∷◌, ◌++◌, codes, length}
+use Rattle.std.specs.Prelude.{◌≡◌, ◌-◌, List, [], ◌∷◌, ◌++◌, codes, length}
 use Rattle.live_input.specs.declared.given.Given.{Given}
 use Rattle.live_input.specs.declared.given.Given.TheVariants.{Line, Refused, Until, Over}
 use Rattle.live_input.specs.declared.progress.Progress.{Progress}

@@ -1,4 +1,4 @@
-use Rattle.std.proofs.Common.{◌≡◌, ◌∙◌, ℕ, List, length, map, take, min, ap, arith}
+use Rattle.std.proofs.Common.{◌∙◌, ℕ, List, length, map, take, ap}
 use Rattle.std.proofs.lemmas.List.{take_all, take_min}
 use Rattle.std.proofs.Math.Nat.{min_comm}
 use Rattle.live_input.specs.Night.{printable}

@@ -1,9 +1,8 @@
-use Rattle.std.proofs.Common.{◌∙◌, ◌≡◌, ◌∷◌, ℕ, List, ap, sym, subst, max, min, false, Bool, length}
-use Rattle.live_input.specs.declared.progress.Progress.{Progress}
+use Rattle.std.proofs.Common.{◌∙◌, ◌≡◌, ◌∷◌, ℕ, List, ap, sym, subst, false, length}
 use Rattle.live_input.specs.Inside.{live_view}
-use Rattle.live_input.specs.Night.{Happening, asked, answers, by_itself, bytes_come, is_closed, is_over, lines_answered, now, to_line, were_three}
+use Rattle.live_input.specs.Night.{Happening, asked, answers, bytes_come, is_over, lines_answered, now, were_three}
 use Rattle.live_input.specs.Stands.{StandsFor}
-use Rattle.live_input.specs.Told.{Leaves, Tells}
+use Rattle.live_input.specs.Told.{Leaves}
 use Rattle.live_input.specs.TypedView.{typed_kept}
 use Rattle.live_input.proofs.Answering.{stands_answered, stands_itself, tells_itself, tells_line}
 use Rattle.live_input.proofs.TypedLemmas.{none_left}

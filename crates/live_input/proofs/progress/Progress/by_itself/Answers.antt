@@ -1,4 +1,4 @@
-use Rattle.std.proofs.Common.{arith, codes, length, length-append}
+use Rattle.std.proofs.Common.{arith, length-append}
 use Rattle.std.proofs.lemmas.Fmt.{length-decimal-le}
 use Rattle.live_input.proofs.progress.Progress.by_itself.Goals as goal
 

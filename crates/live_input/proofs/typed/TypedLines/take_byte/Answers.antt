@@ -1,6 +1,4 @@
-use Rattle.std.proofs.Common.{◌+◌, ℕ, List, drop}
-use Rattle.live_input.specs.Kept.{TypedKept}
-use Rattle.live_input.specs.Typed.{says_nothing}
+use Rattle.std.proofs.Common.{◌+◌, drop}
 use Rattle.live_input.specs.TypedView.{typed_kept}
 use Rattle.live_input.proofs.TypedLemmas.{is_next, next_byte, stands_byte, stands_line, stands_silent}
 use Rattle.live_input.proofs.typed.TypedLines.take_byte.Goals as goal
