@@ -122,39 +122,39 @@ module _ (w : World) (events : List Event) (replies : List Reply) (last : List (
 
   pub shows_meaning : (r i t : ℕ) (past : List Event) (slots : List ℕ)
       → IsShown w events replies last r t past slots
-      → i < length w.consoles → IsAlone w r i past → NoStray w r past
+      → IsAlone w r i past → NoStray w r past
       → IsInWindow (delivered w r i past) → IsFresh w r i past t
       → slots ≡ meant w r i past
-  shows_meaning r i t past slots shown here alone no_stray window =
+  shows_meaning r i t past slots shown alone no_stray window =
       at_shown (λ p s. HearsOne w r i p → IsFresh w r i p t → s ≡ meant w r i p) r t past slots
       shown (λ es after. headline w es r i t v after)
-      (record { console = here; alone = alone; no_stray = no_stray; window = window })
+      (record { alone = alone; no_stray = no_stray; window = window })
 
   pub shows_zero : (r i t slot : ℕ) (past : List Event) (slots : List ℕ)
       → IsShown w events replies last r t past slots
-      → i < length w.consoles → IsAlone w r i past → NoStray w r past
+      → IsAlone w r i past → NoStray w r past
       → IsInWindow (delivered w r i past) → IsFresh w r i past t
       → slot < 512 → IsUnpatched w r i slot → slice_index slots slot ≡ 0
-  shows_zero r i t slot past slots shown here alone no_stray window fresh below none =
+  shows_zero r i t slot past slots shown alone no_stray window fresh below none =
       at_shown (λ p s. HearsOne w r i p → IsFresh w r i p t → slice_index s slot ≡ 0) r t past
       slots shown
       (λ es after hears fresh. unpatched_zero w es r i t slot v after hears fresh below none)
-      (record { console = here; alone = alone; no_stray = no_stray; window = window }) fresh
+      (record { alone = alone; no_stray = no_stray; window = window }) fresh
 
   pub shows_near : (r i t : ℕ) (past : List Event) (slots : List ℕ)
       → IsShown w events replies last r t past slots
-      → i < length w.consoles → IsAlone w r i past → NoStray w r past
+      → IsAlone w r i past → NoStray w r past
       → IsInWindow (delivered w r i past)
       → (IsOneOf t slots (sent w i (universe_at w r) past) (delivered w r i past)
       ⊎ (slots ≡ dark)) × (IsTrue (is_silent w r i past t) → slots ≡ dark)
-  shows_near r i t past slots shown here alone no_stray window =
+  shows_near r i t past slots shown alone no_stray window =
       at_shown (λ p s. HearsOne w r i p
       → (IsOneOf t s (sent w i (universe_at w r) p) (delivered w r i p) ⊎ (s ≡ dark))
       × (IsTrue (is_silent w r i p t) → s ≡ dark)) r t past slots shown
       (λ es after hears. (
         window_law w es r i t v after hears,
         silence_dark w es r i t v after hears,
-      )) (record { console = here; alone = alone; no_stray = no_stray; window = window })
+      )) (record { alone = alone; no_stray = no_stray; window = window })
 
   pub shows_merged : length w.consoles ≤ 4 → (r t slot : ℕ) (past : List Event) (slots : List ℕ)
       → IsShown w events replies last r t past slots

@@ -123,7 +123,6 @@ alone (suc j) l f = omega (arith, l)
 -- after all deliveries, until 4509, whatever is shown is what the show means: slots 1:102
 hears : HearsOne w 0 0 (done w with_deliveries)
 hears = record {
-  console = omega arith;
   alone = λ j l f. absurd (alone j l f);
   no_stray = simp (cues, numbers, frame_1000, frame_2000) (tt, (tt, (tt, (tt, (tt, (tt, tt))))));
   window = simp (cues, numbers, frame_1000, frame_2000)
@@ -151,7 +150,6 @@ silence_met =
 -- that came is not the newest that was sent
 hears_first : HearsOne w 0 0 (done w (take 4 with_deliveries))
 hears_first = record {
-  console = omega arith;
   alone = λ j l f. absurd (alone j l f);
   no_stray = simp (cues, numbers) (tt, (tt, (tt, (tt, tt))));
   window = simp (cues, numbers) tt;

@@ -45,7 +45,6 @@ IsAlone w r i past =
 -- receiver r hears console i alone: no other console has sent for its universe, no stray was heard
 -- on it, and the packets that came to it from console i stayed in the window
 pub record HearsOne (w : World) (r i : ℕ) (past : List Event) : Type 0 where
-  pub console : i < length w.consoles
   pub alone : IsAlone w r i past
   pub no_stray : NoStray w r past
   pub window : IsInWindow (delivered w r i past)

@@ -55,7 +55,7 @@ pub fn rehearse<F: Fader>(
         IfOk result (λ report.
         (receiver console moment : ℕ) (past : List EventData) (slots : List ℕ)
         → IsShown w events.now report.replies report.last receiver moment past slots
-        → console < length w.consoles → IsAlone w receiver console past → NoStray w receiver past
+        → IsAlone w receiver console past → NoStray w receiver past
         → IsInWindow (delivered w receiver console past)
         → IsFresh w receiver console past moment
         → slots ≡ meant w receiver console past) }
@@ -63,7 +63,7 @@ pub fn rehearse<F: Fader>(
         IfOk result (λ report.
         (receiver console moment slot : ℕ) (past : List EventData) (slots : List ℕ)
         → IsShown w events.now report.replies report.last receiver moment past slots
-        → console < length w.consoles → IsAlone w receiver console past → NoStray w receiver past
+        → IsAlone w receiver console past → NoStray w receiver past
         → IsInWindow (delivered w receiver console past)
         → IsFresh w receiver console past moment
         → slot < 512 → IsUnpatched w receiver console slot → slice_index slots slot ≡ 0) }
@@ -71,7 +71,7 @@ pub fn rehearse<F: Fader>(
         IfOk result (λ report.
         (receiver console moment : ℕ) (past : List EventData) (slots : List ℕ)
         → IsShown w events.now report.replies report.last receiver moment past slots
-        → console < length w.consoles → IsAlone w receiver console past → NoStray w receiver past
+        → IsAlone w receiver console past → NoStray w receiver past
         → IsInWindow (delivered w receiver console past)
         → (IsOneOf moment slots (sent w console (universe_at w receiver) past)
         (delivered w receiver console past) ⊎ (slots ≡ dark))
