@@ -1,5 +1,5 @@
 -- The lines that are given, as `play` reads them.
-use Rattle.std.proofs.Common.{◌≡◌, ◌≤◌, ◌<◌, ◌^◌, ℕ, Bool, true, false, cond, List, [], ◌∷◌, ◌++◌, length, fold, refl, sym, ap, subst, ◌∙◌, arith, append_assoc, append-nil, length-append, Option, Some, None}
+use Rattle.std.proofs.Common.{◌≡◌, ◌≤◌, ◌<◌, ◌^◌, ℕ, zero, suc, take, Bool, true, false, cond, List, [], ◌∷◌, ◌++◌, length, fold, refl, sym, ap, subst, ◌∙◌, arith, append_assoc, append-nil, length-append, Option, Some, None}
 use Rattle.std.specs.Prelude.{◌&&◌, ◌==◌, not, nat_le, is_some, codes, decimal, All}
 use Rattle.std.specs.List.{list_all, onto_first}
 use Rattle.std.specs.Char.{is_ascii_digit}
@@ -49,6 +49,14 @@ no_lf-append : (a b : List ℕ) → HasNoLf a → HasNoLf b → HasNoLf (a ++ b)
 unfolding HasNoLf
 no_lf-append a b h k = rw (list_all-append (λ x. not (x == 10)) a b, h) k
 
+no_lf-take : (n : ℕ) (line : List ℕ) → HasNoLf line → HasNoLf (take n line)
+unfolding HasNoLf
+no_lf-take zero line h = refl
+no_lf-take (suc n) [] h = refl
+no_lf-take (suc n) (b ∷ line) h =
+    let each = both (not (b == 10)) (list_all (λ x. not (x == 10)) line) h in
+    rw each.0 (no_lf-take n line each.1)
+
 no_lf_digits : (ds : List ℕ) → list_all is_ascii_digit ds ≡ true → HasNoLf ds
 unfolding HasNoLf
 no_lf_digits [] h = refl
@@ -77,9 +85,9 @@ byte_no_lf : (typed : Typed) (b : ℕ) → TypedNoLf typed → TypedNoLf (with_b
 unfolding HasNoLf
 byte_no_lf typed b h = go (b == 10) refl
   where
-    go : (t : Bool) → (b == 10) ≡ t → TypedNoLf (cond t (record { lines = with_line typed.lines typed.rest; rest = [] }) (record { lines = typed.lines; rest = typed.rest ++ b ∷ [] }))
+    go : (t : Bool) → (b == 10) ≡ t → TypedNoLf (cond t (record { lines = with_line typed.lines typed.rest; rest = [] }) (record { lines = typed.lines; rest = take 201 (typed.rest ++ b ∷ []) }))
     go true e = record { lines = lines_no_lf typed.lines typed.rest h.lines h.rest; rest = refl }
-    go false e = record { lines = h.lines; rest = no_lf-append typed.rest (b ∷ []) h.rest (rw e refl) }
+    go false e = record { lines = h.lines; rest = no_lf-take 201 (typed.rest ++ b ∷ []) (no_lf-append typed.rest (b ∷ []) h.rest (rw e refl)) }
 
 typed_no_lf : (typed : Typed) (bytes : List ℕ) → TypedNoLf typed → TypedNoLf (fold with_byte typed bytes)
 typed_no_lf typed [] h = h

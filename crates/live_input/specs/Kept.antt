@@ -1,8 +1,7 @@
 -- What a live input keeps.
 use Rattle.std.specs.Prelude.{ℕ, Bool, List, Option}
 
--- the bytes that came and were not taken yet, and what was taken of the next line: its first 201
--- bytes, one more than a line may have
+-- the bytes that came and were not taken yet, and those of the next line that were taken
 pub record TypedKept : Type 0 where
   pub unread : List ℕ
   pub line : List ℕ

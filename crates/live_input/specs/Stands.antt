@@ -1,5 +1,5 @@
 -- What a live input keeps, against what happened to it.
-use Rattle.std.specs.Prelude.{◌≡◌, ◌-◌, ◌++◌, ◌∷◌, ℕ, List, length, take, drop}
+use Rattle.std.specs.Prelude.{◌≡◌, ◌-◌, ◌++◌, ◌∷◌, ℕ, List, length, drop}
 use Rattle.live_input.specs.Kept.{Kept, TypedKept}
 use Rattle.live_input.specs.Night.{Happening, answers, bytes_come, due, ended, is_closed}
 use Rattle.live_input.specs.Night.{lines_answered, lines_given, now}
@@ -9,15 +9,12 @@ use Rattle.live_input.specs.Typed.{typed_of}
 pub record TypedStands (kept : TypedKept) (bytes : List ℕ) (count : ℕ) : Type 0 where
   pub front : List ℕ
   pub bytes_are : bytes ≡ front ++ kept.unread
-  pub line_is : kept.line ≡ take 201 (typed_of front).rest
+  pub line_is : kept.line ≡ (typed_of front).rest
   pub count_is : count ≡ length (typed_of front).lines
 
--- the line after so many of these bytes' lines, by its first 201 bytes
-pub record IsNext (line bytes : List ℕ) (count : ℕ) : Type 0 where
-  pub whole : List ℕ
-  pub later : List (List ℕ)
-  pub lines_are : drop count (typed_of bytes).lines ≡ whole ∷ later
-  pub line_is : line ≡ take 201 whole
+-- the line after so many of these bytes' lines
+abbrev pub IsNext : List ℕ → List ℕ → ℕ → Type 0
+IsNext line bytes count = (later : List (List ℕ)) × (drop count (typed_of bytes).lines ≡ line ∷ later)
 
 -- each part that it keeps is what the happenings leave
 pub record StandsFor (kept : Kept) (happenings : List Happening) : Type 0 where

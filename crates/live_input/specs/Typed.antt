@@ -1,9 +1,10 @@
 -- What was typed, as lines. Bytes and lines have the oldest first.
 use Rattle.std.specs.Prelude.{ℕ, Bool, ◌&&◌, List, [], ◌∷◌, ◌++◌, ◌==◌, nat_le, if◌then◌else◌}
-use Rattle.std.specs.Prelude.{fold, length}
+use Rattle.std.specs.Prelude.{fold, length, take}
 use Rattle.ascii_text.specs.Text.{words_of}
 
--- the lines that LF ended, without those that say nothing, and the bytes behind the last LF
+-- the lines that LF ended, without those that say nothing, and the bytes behind the last LF. A line
+-- may have 200 bytes: of a longer one 201 are looked at, so that it is seen to be too long
 pub record Typed : Type 0 where
   pub lines : List (List ℕ)
   pub rest : List ℕ
@@ -20,7 +21,7 @@ with_line lines line = if says_nothing line then lines else lines ++ line ∷ []
 abbrev pub with_byte : Typed → ℕ → Typed
 with_byte typed byte =
     if byte == 10 then record { lines = with_line typed.lines typed.rest; rest = [] }
-    else record { lines = typed.lines; rest = typed.rest ++ byte ∷ [] }
+    else record { lines = typed.lines; rest = take 201 (typed.rest ++ byte ∷ []) }
 
 abbrev pub no_bytes : Typed
 no_bytes = record { lines = []; rest = [] }

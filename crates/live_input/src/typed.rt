@@ -4,7 +4,7 @@ ghost use Rattle.live_input.specs.Typed as typed;
 use arrayvec::ArrayVec;
 use ascii_text::Words;
 
-/// The first bytes of a line: one more than it may have, so that a longer one is seen.
+/// A line: one byte more than it may have, so that a longer one is seen.
 pub type Line = ArrayVec<u8, 201>;
 
 // The bytes that came, and what was taken of them for the next line.
@@ -95,8 +95,7 @@ impl TypedLines {
 
 // A byte more of a line, as far as it is looked at.
 fn look_at(line: &mut Line, byte: u8)
-    ensures { (whole : List ℕ) → line.old.items ≡ take 201 whole
-        → line.new.items ≡ take 201 (whole ++ byte ∷ []) }
+    ensures { line.new.items ≡ take 201 (line.old.items ++ byte ∷ []) }
 {
     if !line.is_full() {
         line.push(byte);

@@ -1,12 +1,16 @@
-use Rattle.std.proofs.Common.{◌∙◌, arith}
+use Rattle.std.proofs.Common.{◌∙◌, ◌≤◌, sym, length, arith}
 use Rattle.std.proofs.lemmas.Bool.Decides.{nat_tests}
-use Rattle.live_input.proofs.TypedLemmas.{looked_more, looked_same}
+use Rattle.std.proofs.lemmas.Grind.{common_steps}
+use Rattle.std.proofs.lemmas.List.{take-append-le, take_all}
 use Rattle.live_input.proofs.typed.look_at.Goals as goal
 
 pub returns-then-not-is_full : goal.returns-then-not-is_full
-returns-then-not-is_full c = λ whole is.
-    c.push.ensures.items ∙ looked_more c.args.line.now.items whole c.args.byte is (grind (arith, nat_tests, c.is_full.ensures.value, c.is_full.ensures.fits))
+returns-then-not-is_full c =
+    c.push.ensures.items
+    ∙ sym (take_all 201 _ (grind (arith, common_steps, nat_tests, c.is_full.ensures.value, c.is_full.ensures.fits)))
 
 pub returns-else-not-is_full : goal.returns-else-not-is_full
-returns-else-not-is_full c = λ whole is.
-    looked_same c.args.line.now.items whole c.args.byte is (grind (arith, nat_tests, c.is_full.ensures.value, c.is_full.ensures.fits))
+returns-else-not-is_full c =
+    let line = c.args.line.now.items in
+    let full : 201 ≤ length line = grind (arith, nat_tests, c.is_full.ensures.value) in
+    sym (take-append-le 201 line _ full ∙ take_all 201 line c.is_full.ensures.fits)
