@@ -13,8 +13,8 @@ use Rattle.show_reader.specs.declared.fault.ShowFault.TheVariants.{BadLevel}
 use Rattle.show_reader.specs.declared.fault.ShowFault.TheVariants.{BadTime, HalfPair, HalfTriple}
 use Rattle.show_reader.specs.declared.fault.ShowFault.TheVariants.{Limit}
 use Rattle.show_reader.specs.Text.{statements_of}
-use Rattle.show_reader.specs.Meaning.{is_there, level_at, up_of, down_of, triple_at, patched_by}
-use Rattle.show_reader.specs.Meaning.{cue_count}
+use Rattle.show_reader.specs.Keys.{Level, Up, Down, Dimmer}
+use Rattle.show_reader.specs.Meaning.{is_there, meaning, cue_count}
 use Rattle.show_reader.specs.Reading.{fault_below, fault_of, lines_read, lines_skipped}
 use Rattle.show_reader.specs.Reading.{grows, faultless_front}
 
@@ -113,9 +113,9 @@ cue_again : (above : List Statement) (n : ℕ) → cue_count above ≡ 2000
     → fault_below above (Opens (Cue n)) ≡ None
 cue_again above n count there = rw (count, there) refl
 
--- which of the lines above the first faulty one grow the show
+-- which of the lines above the first faulty one grow the show, the last one first
 abbrev growing : List (List ℕ) → List Bool
-growing lines = map grows (faultless_front [] (statements_of desk (text_of lines)))
+growing lines = map grows (faultless_front (statements_of desk (text_of lines)))
 
 what_grows : (growing [] ≡ [])
     × (growing (codes "! c" ∷ codes "UP 5" ∷ codes "CHAN 1@FL" ∷ []) ≡ false ∷ false ∷ false ∷ [])
@@ -123,7 +123,7 @@ what_grows : (growing [] ≡ [])
     × (growing (codes "IDENT 3:0" ∷ codes "CLEAR ALL" ∷ codes "EFFECT 1" ∷ codes "IDENT" ∷ [])
     ≡ false ∷ false ∷ false ∷ [])
     × (growing (codes "PATCH 1" ∷ codes "PATCH 1 0<1@FL" ∷ codes "PATCH 1 0<1@FL 1<2@FL" ∷ [])
-    ≡ false ∷ false ∷ true ∷ [])
+    ≡ true ∷ false ∷ false ∷ [])
     × (growing (codes "GROUP 1" ∷ codes "CHAN" ∷ codes "UP 5" ∷ codes "CHAN 1@0" ∷ [])
     ≡ true ∷ false ∷ false ∷ true ∷ [])
 what_grows = (refl, refl, refl, refl, refl, refl)
@@ -169,9 +169,9 @@ skipped_lines : (fault_of desk skipping ≡ None)
     × (cue_count (statements_of desk skipping) ≡ 1)
     × (is_there (Cue 1000) (statements_of desk skipping) ≡ true)
     × (is_there (Cue 2000) (statements_of desk skipping) ≡ false)
-    × (level_at (Cue 1000) 1 (statements_of desk skipping) ≡ Some 255)
-    × (level_at (Cue 1000) 2 (statements_of desk skipping) ≡ Some 128)
-    × (level_at (Cue 1000) 3 (statements_of desk skipping) ≡ None)
+    × (meaning (statements_of desk skipping) (Level (Cue 1000) 1) ≡ Some 255)
+    × (meaning (statements_of desk skipping) (Level (Cue 1000) 2) ≡ Some 128)
+    × (meaning (statements_of desk skipping) (Level (Cue 1000) 3) ≡ None)
 skipped_lines = (refl, refl, refl, refl, refl, refl, refl, refl, refl)
 
 abbrev clearing : List ℕ
@@ -207,26 +207,25 @@ console_style_file : (fault_of desk console_text ≡ None)
     × (lines_skipped desk console_text ≡ 1)
     × (is_there (Cue 1000) console_statements ≡ true)
     × (is_there (Cue 9000) console_statements ≡ false)
-    × (level_at (Cue 1000) 1 console_statements ≡ Some 255)
-    × (level_at (Cue 1000) 2 console_statements ≡ Some 128)
-    × (up_of 1000 console_statements ≡ Some (record { time = 3000; delay = 0 }))
-    × (down_of 1000 console_statements ≡ None)
-    × (patched_by (triple_at 2 console_statements) ≡ Some (2, 255))
-    × (patched_by (triple_at 3 console_statements) ≡ None)
+    × (meaning console_statements (Level (Cue 1000) 1) ≡ Some 255)
+    × (meaning console_statements (Level (Cue 1000) 2) ≡ Some 128)
+    × (meaning console_statements (Up 1000) ≡ Some (record { time = 3000; delay = 0 }))
+    × (meaning console_statements (Down 1000) ≡ None)
+    × (meaning console_statements (Dimmer 2) ≡ Some (2, 255))
+    × (meaning console_statements (Dimmer 3) ≡ None)
 console_style_file = (refl, refl, refl, refl, refl, refl, refl, refl, refl, refl, refl)
 
 abbrev top_statements : List Statement
 top_statements = statements_of desk
     (text_of (codes "CUE 1" ∷ codes "CHAN 4096@FL" ∷ codes "PATCH 1 4096<8192@FL" ∷ []))
 
-top_channel : (level_at (Cue 1000) 4096 top_statements ≡ Some 255)
-    × (patched_by (triple_at 8192 top_statements) ≡ Some (4096, 255))
+top_channel : (meaning top_statements (Level (Cue 1000) 4096) ≡ Some 255)
+    × (meaning top_statements (Dimmer 8192) ≡ Some (4096, 255))
 top_channel = (refl, refl)
 
 -- channel 0 leaves a dimmer unpatched
 unpatched :
-    patched_by (triple_at 1 (statements_of desk (text_of (codes "PATCH 1 1<1@FL 0<1@FL" ∷ []))))
-    ≡ None
+    meaning (statements_of desk (text_of (codes "PATCH 1 1<1@FL 0<1@FL" ∷ []))) (Dimmer 1) ≡ None
 unpatched = refl
 
 -- the last UP line wins whole; the lines of a cue that is opened twice count together
@@ -237,10 +236,10 @@ twice_opened = statements_of desk (text_of (
     ∷ codes "DOWN 4 1" ∷ codes "CHAN 7@HF" ∷ []
     ))
 
-last_rates : (up_of 1000 twice_opened ≡ Some (record { time = 5000; delay = 0 }))
-    × (down_of 1000 twice_opened ≡ Some (record { time = 4000; delay = 1000 }))
-    × (level_at (Cue 1000) 1 twice_opened ≡ Some 255)
-    × (level_at (Cue 1000) 7 twice_opened ≡ Some 15)
-    × (level_at (Group 1) 1 twice_opened ≡ None)
+last_rates : (meaning twice_opened (Up 1000) ≡ Some (record { time = 5000; delay = 0 }))
+    × (meaning twice_opened (Down 1000) ≡ Some (record { time = 4000; delay = 1000 }))
+    × (meaning twice_opened (Level (Cue 1000) 1) ≡ Some 255)
+    × (meaning twice_opened (Level (Cue 1000) 7) ≡ Some 15)
+    × (meaning twice_opened (Level (Group 1) 1) ≡ None)
     × (cue_count twice_opened ≡ 1)
 last_rates = (refl, refl, refl, refl, refl, refl)

@@ -1,6 +1,6 @@
 -- What a statement does to a show, by the effects of the builders.
 use Rattle.std.specs.Prelude.{◌≡◌, ℕ, true, if◌then◌else◌, IsTrue, List, [], ◌∷◌, Option, Some}
-use Rattle.std.specs.Prelude.{None, is_some}
+use Rattle.std.specs.Prelude.{None}
 use Rattle.std.specs.FinMap as maps
 use Rattle.show_core.specs.Tables.{PatchMap, Tables}
 use Rattle.show_core.specs.Builders.{opened, opened_in, with_level, with_listed, with_up, with_down}
@@ -19,7 +19,7 @@ use Rattle.show_line.specs.declared.statement.Statement.TheVariants.{Clears, Fau
 use Rattle.show_line.specs.declared.triples.Triple.{Triple}
 use Rattle.show_reader.specs.declared.apply.Refusal.{Refusal}
 use Rattle.show_reader.specs.declared.apply.Refusal.TheVariants as refusal
-use Rattle.show_reader.specs.Shows.{levels_of}
+use Rattle.show_reader.specs.Keys.{has_record}
 use Rattle.show_reader.specs.Reading.{grows}
 
 -- with the record opened
@@ -73,9 +73,9 @@ refused_by show _ = None
 
 -- what a statement needs of a show: its record is there
 abbrev pub HasOwner : Tables → Statement → Type 0
-HasOwner show (Levels r pairs) = IsTrue (is_some (levels_of show r))
-HasOwner show (Rises n rate) = IsTrue (maps.contains_key show.cues n)
-HasOwner show (Falls n rate) = IsTrue (maps.contains_key show.cues n)
+HasOwner show (Levels r pairs) = IsTrue (has_record show r)
+HasOwner show (Rises n rate) = IsTrue (has_record show (Cue n))
+HasOwner show (Falls n rate) = IsTrue (has_record show (Cue n))
 HasOwner show _ = Unit {0}
 
 -- why a statement was not carried out: the fault that the show has with it; or want of memory,

@@ -1,4 +1,5 @@
 pub mod Text
+pub mod Keys
 pub mod Meaning
 pub mod Shows
 pub mod Reading

@@ -1,23 +1,45 @@
--- What statements mean: at each key the last that counts.
-use Rattle.std.specs.Prelude.{ℕ, ◌+◌, Bool, true, false, ◌==◌, if◌then◌else◌, List, [], ◌∷◌, filter}
-use Rattle.std.specs.Prelude.{flat_map}
-use Rattle.std.specs.Prelude.{filter_map, Option, Some, None}
-use Rattle.std.specs.List.{list_any, after_last, last_or}
-use Rattle.show_core.specs.declared.rate.Rate.{Rate}
+-- What statements mean: at each key what the newest of them says that speaks of it. Statements have
+-- the newest first.
+use Rattle.std.specs.Prelude.{ℕ, ◌+◌, Bool, true, false, ◌==◌, ◌&&◌, if◌then◌else◌, List, [], ◌∷◌}
+use Rattle.std.specs.Prelude.{Option, Some, None, is_some}
 use Rattle.show_line.specs.declared.statement.Record.{Record}
 use Rattle.show_line.specs.declared.statement.Record.TheVariants.{Cue, Group, Sub}
 use Rattle.show_line.specs.declared.statement.Table.{Table}
 use Rattle.show_line.specs.declared.statement.Table.TheVariants.{Cues, Groups, Subs, Patch}
+use Rattle.show_line.specs.declared.statement.Cleared.{Cleared}
 use Rattle.show_line.specs.declared.statement.Cleared.TheVariants.{All, Only}
 use Rattle.show_line.specs.declared.statement.Statement.{Statement}
 use Rattle.show_line.specs.declared.statement.Statement.TheVariants.{Opens, Levels, Rises, Falls}
-use Rattle.show_line.specs.declared.statement.Statement.TheVariants.{Patches}
-use Rattle.show_line.specs.declared.statement.Statement.TheVariants.{Clears, Skipped}
+use Rattle.show_line.specs.declared.statement.Statement.TheVariants.{Patches, Clears, Skipped}
 use Rattle.show_line.specs.declared.triples.Triple.{Triple}
+use Rattle.show_reader.specs.Keys.{Key, There, Level, Up, Down, Dimmer, Answer, table_at}
 
--- the last of a list
-abbrev pub last : {X : Type 0} → List X → Option X
-last xs = last_or None xs
+-- ---- what is said of a key
+
+-- a value, that it is gone, or nothing
+pub data News (X : Type 0) : Type 0 where
+  Is : X → News X
+  Gone : News X
+  Silent : News X
+
+-- what holds after the news, where this held before
+abbrev pub after : {X : Type 0} → News X → Option X → Option X
+after (Is x) before = Some x
+after Gone before = None
+after Silent before = before
+
+-- newer news, or else older
+abbrev pub newer : {X : Type 0} → News X → News X → News X
+newer (Is x) older = Is x
+newer Gone older = Gone
+newer Silent older = older
+
+-- the news of the last in a list that has any
+abbrev pub last_news : {X Y : Type 0} → (X → News Y) → List X → News Y
+last_news news [] = Silent
+last_news news (x ∷ xs) = newer (last_news news xs) (news x)
+
+-- ---- what a statement says of a key
 
 -- two records are one
 abbrev pub same_record : Record → Record → Bool
@@ -34,101 +56,52 @@ same_table Subs Subs = true
 same_table Patch Patch = true
 same_table _ _ = false
 
--- the table that a record is in
-abbrev pub table_of : Record → Table
-table_of (Cue n) = Cues
-table_of (Group n) = Groups
-table_of (Sub n) = Subs
+-- CLEAR empties a table
+abbrev pub empties : Cleared → Table → Bool
+empties All table = true
+empties (Only cleared) table = same_table table cleared
 
--- a CLEAR that counts empties the table
-abbrev pub empties : Table → Statement → Bool
-empties t (Clears All) = true
-empties t (Clears (Only u)) = same_table t u
-empties t _ = false
+-- a pair of a CHAN line: the level of a channel of its record
+abbrev pub pair_says : Record → ℕ × ℕ → (k : Key) → News (Answer k)
+pair_says r pair (Level q channel) =
+    if same_record q r && (channel == pair.0) then Is pair.1 else Silent
+pair_says r pair _ = Silent
 
--- the statements that count for a table: those below the last that empties it
-abbrev pub counting : Table → List Statement → List Statement
-counting t ss = after_last (empties t) ss
+-- a triple of a PATCH line: its dimmer's channel and level; channel 0 leaves the dimmer unpatched
+abbrev pub triple_says : Triple → (k : Key) → News (Answer k)
+triple_says t (Dimmer dimmer) =
+    if dimmer == t.dimmer then (if t.channel == 0 then Gone else Is (t.channel, t.level)) else Silent
+triple_says t _ = Silent
 
--- what they have of one kind, in their order
-abbrev pub gathered : {X : Type 0} → Table → (Statement → List X) → List Statement → List X
-gathered t kind ss = flat_map kind (counting t ss)
+-- CUE, GROUP and SUB: the record is there. CHAN, PATCH: what the last pair or triple says that
+-- speaks of the key. UP, DOWN: the whole rate of the cue. CLEAR: what is in its tables is gone
+abbrev pub says : Statement → (k : Key) → News (Answer k)
+says (Opens r) (There q) = if same_record q r then Is tt else Silent
+says (Levels r pairs) k = last_news (λ pair. pair_says r pair k) pairs
+says (Rises n rate) (Up m) = if m == n then Is rate else Silent
+says (Falls n rate) (Down m) = if m == n then Is rate else Silent
+says (Patches triples) k = last_news (λ triple. triple_says triple k) triples
+says (Clears what) k = if empties what (table_at k) then Gone else Silent
+says _ _ = Silent
 
--- ---- records
+-- ---- what statements mean
 
--- the record that a statement opens
-abbrev pub opened_by : Statement → List Record
-opened_by (Opens r) = r ∷ []
-opened_by _ = []
+-- at a key: what the newest statement says that speaks of it; nothing where none does
+abbrev pub meaning : List Statement → (k : Key) → Option (Answer k)
+meaning [] k = None
+meaning (newest ∷ older) k = after (says newest k) (meaning older k)
 
--- a record is there: a statement that counts opens it
+-- a record is there
 abbrev pub is_there : Record → List Statement → Bool
-is_there r ss = list_any (same_record r) (gathered (table_of r) opened_by ss)
+is_there r ss = is_some (meaning ss (There r))
 
--- the pairs that a statement has for a record
-abbrev pub pairs_for : Record → Statement → List (ℕ × ℕ)
-pairs_for r (Levels q pairs) = if same_record r q then pairs else []
-pairs_for r _ = []
-
--- the level that a pair gives to a channel
-abbrev pub level_for : ℕ → ℕ × ℕ → Option ℕ
-level_for channel pair = if pair.0 == channel then Some pair.1 else None
-
--- the level of a record's channel: that of its last pair; none where it has no pair
-abbrev pub level_at : Record → ℕ → List Statement → Option ℕ
-level_at r channel ss =
-    last (filter_map (level_for channel) (gathered (table_of r) (pairs_for r) ss))
-
--- the rate of an UP line of cue n
-abbrev pub rises_for : ℕ → Statement → List Rate
-rises_for n (Rises m rate) = if n == m then rate ∷ [] else []
-rises_for n _ = []
-
--- the rate of a DOWN line of cue n
-abbrev pub falls_for : ℕ → Statement → List Rate
-falls_for n (Falls m rate) = if n == m then rate ∷ [] else []
-falls_for n _ = []
-
--- the last UP line of cue n
-abbrev pub up_of : ℕ → List Statement → Option Rate
-up_of n ss = last (gathered Cues (rises_for n) ss)
-
--- the last DOWN line of cue n
-abbrev pub down_of : ℕ → List Statement → Option Rate
-down_of n ss = last (gathered Cues (falls_for n) ss)
-
--- ---- the patch
-
--- the triples of a statement
-abbrev pub triples_of : Statement → List Triple
-triples_of (Patches triples) = triples
-triples_of _ = []
-
--- the last triple of a dimmer
-abbrev pub triple_at : ℕ → List Statement → Option Triple
-triple_at dimmer ss = last (filter (λ t. t.dimmer == dimmer) (gathered Patch triples_of ss))
-
--- its channel and level; channel 0 leaves the dimmer unpatched
-abbrev pub patched_by : Option Triple → Option (ℕ × ℕ)
-patched_by None = None
-patched_by (Some t) = if t.channel == 0 then None else Some (t.channel, t.level)
-
--- ---- counts
-
--- the number of the cue that a statement opens
-abbrev pub cue_opened : Statement → List ℕ
-cue_opened (Opens (Cue n)) = n ∷ []
-cue_opened _ = []
-
--- how many different numbers there are
-abbrev pub distinct_count : List ℕ → ℕ
-distinct_count [] = 0
-distinct_count (x ∷ xs) =
-    if list_any (λ y. y == x) xs then distinct_count xs else distinct_count xs + 1
-
--- how many cues are there
+-- how many cues are there: a statement adds one that opens a cue which is not there, and none are
+-- left where it empties the table of cues
 abbrev pub cue_count : List Statement → ℕ
-cue_count ss = distinct_count (gathered Cues cue_opened ss)
+cue_count [] = 0
+cue_count (Opens (Cue n) ∷ older) = cue_count older + (if is_there (Cue n) older then 0 else 1)
+cue_count (Clears what ∷ older) = if empties what Cues then 0 else cue_count older
+cue_count (_ ∷ older) = cue_count older
 
 -- it counts as skipped
 abbrev pub is_skipped : Statement → Bool

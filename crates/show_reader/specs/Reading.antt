@@ -1,14 +1,12 @@
 -- What reading a show text answers.
-use Rattle.std.specs.Prelude.{◌≡◌, ℕ, ◌+◌, ◌≤◌, ◌<◌, ◌==◌, Bool, true, false, not, ◌&&◌}
+use Rattle.std.specs.Prelude.{◌≡◌, ℕ, ◌+◌, ◌≤◌, ◌==◌, Bool, true, false, not, ◌&&◌}
 use Rattle.std.specs.Prelude.{if◌then◌else◌, nat_le, nat_lt, List, [], ◌∷◌, ◌++◌, All, count_by}
 use Rattle.std.specs.Prelude.{length, Option, Some, None, IfSome, is_some, option_map}
 use Rattle.std.specs.List.{list_any}
-use Rattle.std.specs.FinMap as maps
 use Rattle.std.specs.Option.{option_or}
 use Rattle.show_core.specs.Tables.{Tables}
 use Rattle.show_line.specs.declared.fault.LineFault.{LineFault}
 use Rattle.show_line.specs.declared.fault.LineFault.TheVariants as fault
-use Rattle.show_line.specs.declared.statement.Record.{Record}
 use Rattle.show_line.specs.declared.statement.Record.TheVariants.{Cue}
 use Rattle.show_line.specs.declared.statement.Statement.{Statement}
 use Rattle.show_line.specs.declared.statement.Statement.TheVariants.{Opens, Levels, Patches, Faulty}
@@ -16,8 +14,9 @@ use Rattle.show_line.specs.Pairs.{Limits}
 use Rattle.show_reader.specs.declared.fault.ShowFault.{ShowFault}
 use Rattle.show_reader.specs.declared.fault.ShowFault.TheVariants as show_fault
 use Rattle.show_reader.specs.Text.{statements_of}
+use Rattle.show_reader.specs.Keys.{Key, Level, Dimmer, Answer, found}
 use Rattle.show_reader.specs.Meaning.{is_there, cue_count, is_skipped}
-use Rattle.show_reader.specs.Shows.{level_in, IsShowOf}
+use Rattle.show_reader.specs.Shows.{IsShowOf}
 
 -- a line's fault below the statements above it; a line that opens the 2,001st cue has one too
 abbrev pub fault_below : List Statement → Statement → Option LineFault
@@ -37,12 +36,12 @@ fault_at line fault.HalfPair = show_fault.HalfPair line
 fault_at line fault.HalfTriple = show_fault.HalfTriple line
 fault_at line fault.Limit = show_fault.Limit line
 
--- the fault of the first line that has one, below the statements above
-abbrev pub first_fault : List Statement → List Statement → Option ShowFault
-first_fault above [] = None
-first_fault above (s ∷ ss) =
-    option_or (option_map (fault_at (length above + 1)) (fault_below above s))
-    (first_fault (above ++ s ∷ []) ss)
+-- the fault of the first line that has one: it stands above, or the newest line has it
+abbrev pub first_fault : List Statement → Option ShowFault
+first_fault [] = None
+first_fault (newest ∷ above) =
+    option_or (first_fault above)
+    (option_map (fault_at (length above + 1)) (fault_below above newest))
 
 -- the most bytes that a show text has
 abbrev pub longest_text : ℕ
@@ -52,7 +51,7 @@ longest_text = 1048576
 abbrev pub fault_of : Limits → List ℕ → Option ShowFault
 fault_of lim text =
     if nat_lt longest_text (length text) then Some show_fault.TooLong
-    else first_fault [] (statements_of lim text)
+    else first_fault (statements_of lim text)
 
 -- how many lines were read, that of ENDDATA included
 abbrev pub lines_read : Limits → List ℕ → ℕ
@@ -72,25 +71,28 @@ grows (Levels r (pair ∷ pairs)) = true
 grows (Patches triples) = list_any (λ t. not (t.channel == 0)) triples
 grows _ = false
 
--- of statements that stand below those above: the ones before the first that has a fault, or all
--- where none has
-abbrev pub faultless_front : List Statement → List Statement → List Statement
-faultless_front above [] = []
-faultless_front above (s ∷ ss) =
-    if is_some (fault_below above s) then [] else s ∷ faultless_front (above ++ s ∷ []) ss
+-- the statements above the first that has a fault: those that have none, nor has one above them
+abbrev pub faultless_front : List Statement → List Statement
+faultless_front [] = []
+faultless_front (newest ∷ above) =
+    (if is_some (first_fault (newest ∷ above)) then [] else newest ∷ []) ++ faultless_front above
 
 -- no line above the first faulty one, or of the whole text, grows the show
 abbrev pub NothingGrows : Limits → List ℕ → Type 0
-NothingGrows lim text = All (λ s. grows s ≡ false) (faultless_front [] (statements_of lim text))
+NothingGrows lim text = All (λ s. grows s ≡ false) (faultless_front (statements_of lim text))
 
 -- ---- wider limits
 
--- no dimmer beyond the limits is patched, and no channel beyond them is listed or patched to
-pub record FitsIn (lim : Limits) (show : Tables) : Type 0 where
-  pub dimmers : (dimmer : ℕ) → lim.dimmers < dimmer → maps.get show.patch dimmer ≡ None
-  pub channels : (r : Record) (channel : ℕ) → lim.channels < channel
-      → level_in show r channel ≡ None
-  pub patched : (dimmer : ℕ) → IfSome (maps.get show.patch dimmer) (λ p. p.0 ≤ lim.channels)
+-- an answer within limits: the level of one of their channels, or the patch of one of their dimmers
+-- to one of their channels
+abbrev pub IsAnswerWithin : Limits → (k : Key) → Answer k → Type 0
+IsAnswerWithin lim (Level r channel) byte = channel ≤ lim.channels
+IsAnswerWithin lim (Dimmer dimmer) patch = (dimmer ≤ lim.dimmers) × (patch.0 ≤ lim.channels)
+IsAnswerWithin lim _ answer = Unit {0}
+
+-- no channel beyond the limits is listed or patched to, and no dimmer beyond them is patched
+abbrev pub FitsIn : Limits → Tables → Type 0
+FitsIn lim show = (k : Key) → IfSome (found show k) (IsAnswerWithin lim k)
 
 -- what wider limits leave of a text without a fault under narrower ones: it has none and says the
 -- same, and the show that it means has no dimmer and no channel beyond the narrower limits

@@ -1,6 +1,6 @@
 -- What a reader has made of the lines so far.
-use Rattle.std.specs.Prelude.{◌≡◌, ◌⊎◌, ℕ, ◌+◌, true, List, [], length, count_by, Option, Some}
-use Rattle.std.specs.Prelude.{None, IfSome, option_map}
+use Rattle.std.specs.Prelude.{◌≡◌, ◌⊎◌, ℕ, true, IsTrue, List, ◌∷◌, length, count_by, Some, None}
+use Rattle.std.specs.Prelude.{IfSome}
 use Rattle.std.specs.FinMap as maps
 use Rattle.show_line.specs.declared.statement.Statement.{Statement}
 use Rattle.show_line.specs.Said.{desk}
@@ -9,40 +9,36 @@ use Rattle.show_reader.specs.declared.fault.ShowFault.{ShowFault}
 use Rattle.show_reader.specs.declared.fault.ShowFault.TheVariants as show_fault
 use Rattle.show_reader.specs.declared.apply.Refusal.{Refusal}
 use Rattle.show_reader.specs.declared.apply.Refusal.TheVariants as refusal
-use Rattle.show_reader.specs.Text.{Words, owner_below, statement_below, statements_below}
-use Rattle.show_reader.specs.Meaning.{is_there, cue_count, is_skipped}
+use Rattle.show_reader.specs.Text.{Words, owner_below, statement_below, statements}
+use Rattle.show_reader.specs.Keys.{has_record}
+use Rattle.show_reader.specs.Meaning.{cue_count, is_skipped}
 use Rattle.show_reader.specs.Shows.{IsShowOf}
-use Rattle.show_reader.specs.Reading.{fault_at, fault_below, first_fault, grows}
+use Rattle.show_reader.specs.Reading.{fault_at, first_fault, grows}
 
--- what lines say to this desk
+-- what lines say to this desk, the last line first
 abbrev pub said_by : List Words → List Statement
-said_by lines = statements_below desk [] lines
+said_by lines = statements desk lines
 
 -- the reader stands behind these lines, of which none has a fault
 pub record Reads (lines : List Words) (r : Reader) : Type 0 where
   pub shows : IsShowOf (said_by lines) r.show
-  pub faultless : first_fault [] (said_by lines) ≡ None
+  pub faultless : first_fault (said_by lines) ≡ None
   pub owner : r.owner ≡ owner_below desk lines
-  pub present : IfSome r.owner (λ q. is_there q (said_by lines) ≡ true)
+  pub present : IfSome r.owner (λ q. IsTrue (has_record r.show q))
   pub count : cue_count (said_by lines) ≡ maps.len r.show.cues
-  pub number : r.lines ≡ length lines
+  pub number : r.lines ≡ length (said_by lines)
   pub skipped : r.skipped ≡ count_by is_skipped (said_by lines)
 
--- the fault of the line below these, if it has one
-abbrev pub line_fault : List Words → Words → Option ShowFault
-line_fault lines l =
-    option_map (fault_at (length lines + 1))
-    (fault_below (said_by lines) (statement_below desk lines l))
-
--- memory may run out at the line below these: it has no fault and grows the show
+-- memory may run out at a line below these: none has a fault, and it grows the show
 pub record MayLackMemory (lines : List Words) (l : Words) : Type 0 where
-  pub faultless : fault_below (said_by lines) (statement_below desk lines l) ≡ None
+  pub faultless : first_fault (said_by (l ∷ lines)) ≡ None
   pub grows : grows (statement_below desk lines l) ≡ true
 
 -- why reading ended at the line below these: its fault, or want of memory
 abbrev pub EndsAt : List Words → Words → ShowFault → Type 0
 EndsAt lines l fault =
-    ((fault ≡ show_fault.Memory) × MayLackMemory lines l) ⊎ (line_fault lines l ≡ Some fault)
+    ((fault ≡ show_fault.Memory) × MayLackMemory lines l)
+    ⊎ (first_fault (said_by (l ∷ lines)) ≡ Some fault)
 
 -- what the refusal of a statement is to a line of this number
 abbrev pub refusal_at : ℕ → Refusal → ShowFault

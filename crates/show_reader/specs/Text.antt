@@ -1,8 +1,7 @@
--- The lines of a show text, and what they say.
-use Rattle.std.specs.Prelude.{ℕ, Bool, false, if◌then◌else◌, List, [], ◌∷◌, ◌++◌, filter, map}
-use Rattle.std.specs.Prelude.{Option, None}
-use Rattle.std.specs.Prelude.{option_and_then}
-use Rattle.std.specs.List.{last_or}
+-- The lines of a show text, and what they say. Lists of lines and of statements have the last line
+-- first: what stands above a line is the rest of the list.
+use Rattle.std.specs.Prelude.{ℕ, Bool, false, if◌then◌else◌, List, [], ◌∷◌, map, reverse, Option}
+use Rattle.std.specs.Prelude.{None}
 use Rattle.ascii_text.specs.Text.{lines_of, words_of}
 use Rattle.show_line.specs.declared.statement.Record.{Record}
 use Rattle.show_line.specs.declared.statement.Statement.{Statement}
@@ -25,36 +24,40 @@ abbrev pub up_to_end : List Words → List Words
 up_to_end [] = []
 up_to_end (l ∷ ls) = if ends l then l ∷ [] else l ∷ up_to_end ls
 
--- the lines of a show text that are read
+-- the lines of a show text that are read, the last one first
 abbrev pub lines_in : List ℕ → List Words
-lines_in text = up_to_end (map words_of (lines_of text))
+lines_in text = reverse (up_to_end (map words_of (lines_of text)))
 
 -- it is primary, or opens a maker's record
 abbrev pub owns : Words → Bool
 owns [] = false
 owns (word ∷ words) = may_own (keyword_of word)
 
--- the record that such a line opens: none where it is foreign, a maker's, or of another kind
-abbrev pub record_opened : Limits → Words → Option Record
-record_opened lim [] = None
-record_opened lim (word ∷ words) = opened (said lim None (keyword_of word) words)
+-- what a line says that this record owns; without words it has no effect
+abbrev pub said_under : Limits → Option Record → Words → Statement
+said_under lim owner [] = Quiet
+said_under lim owner (word ∷ words) = said lim owner (keyword_of word) words
 
--- the owner of a secondary line below these lines: the record of the nearest line that is primary
--- or opens a maker's record
+-- the owner below a line: what the line opens, if it is primary or opens a maker's record; else the
+-- owner above it
+abbrev pub owner_after : Limits → Words → Option Record → Option Record
+owner_after lim l owner = if owns l then opened (said_under lim owner l) else owner
+
+-- the owner of a secondary line below these lines: the record that the nearest line opens that is
+-- primary or opens a maker's record; none where that line is foreign, a maker's, or of another kind
 abbrev pub owner_below : Limits → List Words → Option Record
-owner_below lim above = option_and_then (record_opened lim) (last_or None (filter owns above))
+owner_below lim [] = None
+owner_below lim (l ∷ above) = owner_after lim l (owner_below lim above)
 
--- what a line says below these lines; without words it has no effect
+-- what a line says below these lines
 abbrev pub statement_below : Limits → List Words → Words → Statement
-statement_below lim above [] = Quiet
-statement_below lim above (word ∷ words) = said lim (owner_below lim above) (keyword_of word) words
+statement_below lim above l = said_under lim (owner_below lim above) l
 
--- what lines say below others, in their order
-abbrev pub statements_below : Limits → List Words → List Words → List Statement
-statements_below lim above [] = []
-statements_below lim above (l ∷ ls) =
-    statement_below lim above l ∷ statements_below lim (above ++ l ∷ []) ls
+-- what lines say
+abbrev pub statements : Limits → List Words → List Statement
+statements lim [] = []
+statements lim (l ∷ above) = statement_below lim above l ∷ statements lim above
 
 -- what the lines of a show text say
 abbrev pub statements_of : Limits → List ℕ → List Statement
-statements_of lim text = statements_below lim [] (lines_in text)
+statements_of lim text = statements lim (lines_in text)

@@ -1,10 +1,10 @@
-ghost use Rattle.std.specs.Prelude.{◌≡◌, true, IsTrue, All, OnOk, OnErr, IfErr, is_some, None};
+ghost use Rattle.std.specs.Prelude.{◌≡◌, true, IsTrue, All, OnOk, OnErr, IfErr, None};
 ghost use Rattle.show_core.specs.Numbers.{is_channel};
 ghost use Rattle.show_core.specs.Builders.{can_patch};
 ghost use Rattle.show_core.specs.declared.fault.BuildFault.TheVariants as build_fault;
 ghost use Rattle.show_line.specs.declared.fault.LineFault.TheVariants as line_fault;
 ghost use Rattle.show_line.specs.Sound.{IsSound};
-ghost use Rattle.show_reader.specs.Shows.{levels_of};
+ghost use Rattle.show_reader.specs.Keys.{has_record};
 ghost use Rattle.show_reader.specs.Reading.{grows};
 ghost use Rattle.show_reader.specs.Applied.{applied, refused_by, with_record, with_channel};
 ghost use Rattle.show_reader.specs.Applied.{with_pairs, with_triples, without, HasOwner};
@@ -77,7 +77,7 @@ fn open(show: &mut Show, which: Record) -> Result<(), Refusal>
 // Sets the levels of the pairs of a CHAN line. Their channels are in range, so that only want of
 // memory is left to refuse one.
 fn list(show: &mut Show, which: Record, pairs: Pairs<'_>) -> Result<(), Refusal>
-    requires owned { IsTrue (is_some (levels_of show.old which)) }
+    requires owned { IsTrue (has_record show.old which) }
     requires sound { All (λ pair. IsTrue (is_channel pair.0)) pairs }
     ensures ok { OnOk result (show.new ≡ with_pairs show.old which pairs.entry) }
     ensures err { IfErr result (λ e. e ≡ Refusal.Memory) }
@@ -92,7 +92,7 @@ fn list(show: &mut Show, which: Record, pairs: Pairs<'_>) -> Result<(), Refusal>
 }
 
 fn set_level(show: &mut Show, which: Record, channel: u16, byte: u8) -> Result<(), BuildFault>
-    requires owned { IsTrue (is_some (levels_of show.old which)) }
+    requires owned { IsTrue (has_record show.old which) }
     requires sound { IsTrue (is_channel channel) }
     ensures { OnOk result (show.new ≡ with_channel show.old which channel byte) }
 {

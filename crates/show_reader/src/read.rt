@@ -78,7 +78,7 @@ impl Reader {
         requires reads { (lines : List Words) × Reads lines self.old }
         requires next { line.number ≡ self.old.lines + 1 }
         ensures more { OnOk result ((lines : List Words) → Reads lines self.old
-            → Reads (lines ++ words_of line.entry.bytes.now ∷ []) self.new) }
+            → Reads (words_of line.entry.bytes.now ∷ lines) self.new) }
         ensures last { IfOk result (λ last. last ≡ ends (words_of line.entry.bytes.now)) }
         ensures fault { IfErr result (λ fault. (lines : List Words) → Reads lines self.old
             → EndsAt lines (words_of line.entry.bytes.now) fault) }

@@ -1,0 +1,60 @@
+-- What can be asked of a show, and what a show answers.
+use Rattle.std.specs.Prelude.{ℕ, Bool, if◌then◌else◌, Option, Some, None, option_and_then}
+use Rattle.std.specs.FinMap as maps
+use Rattle.show_core.specs.declared.rate.Rate.{Rate}
+use Rattle.show_core.specs.Tables.{Tables}
+use Rattle.show_line.specs.declared.statement.Record.{Record}
+use Rattle.show_line.specs.declared.statement.Record.TheVariants.{Cue, Group, Sub}
+use Rattle.show_line.specs.declared.statement.Table.{Table}
+use Rattle.show_line.specs.declared.statement.Table.TheVariants.{Cues, Groups, Subs, Patch}
+
+-- what can be asked of a show: whether a record is there, the level of a record's channel, the UP
+-- and the DOWN of a cue by its number in thousandths, and a dimmer
+pub data Key : Type 0 where
+  There : Record → Key
+  Level : Record → ℕ → Key
+  Up : ℕ → Key
+  Down : ℕ → Key
+  Dimmer : ℕ → Key
+
+-- what the answer is, where there is one: that the record is there; a level byte; a time and a
+-- delay; the dimmer's channel and its level byte
+abbrev pub Answer : Key → Type 0
+Answer (There r) = Unit {0}
+Answer (Level r channel) = ℕ
+Answer (Up n) = Rate
+Answer (Down n) = Rate
+Answer (Dimmer dimmer) = ℕ × ℕ
+
+-- the table that a record is in
+abbrev pub table_of : Record → Table
+table_of (Cue n) = Cues
+table_of (Group n) = Groups
+table_of (Sub n) = Subs
+
+-- the table that an answer is from
+abbrev pub table_at : Key → Table
+table_at (There r) = table_of r
+table_at (Level r channel) = table_of r
+table_at (Up n) = Cues
+table_at (Down n) = Cues
+table_at (Dimmer dimmer) = Patch
+
+-- a show has a record
+abbrev pub has_record : Tables → Record → Bool
+has_record show (Cue n) = maps.contains_key show.cues n
+has_record show (Group n) = maps.contains_key show.groups n
+has_record show (Sub n) = maps.contains_key show.subs n
+
+-- what a show answers
+abbrev pub found : Tables → (k : Key) → Option (Answer k)
+found show (There r) = if has_record show r then Some tt else None
+found show (Level (Cue n) channel) =
+    option_and_then (λ cue. maps.get cue.levels channel) (maps.get show.cues n)
+found show (Level (Group n) channel) =
+    option_and_then (λ levels. maps.get levels channel) (maps.get show.groups n)
+found show (Level (Sub n) channel) =
+    option_and_then (λ levels. maps.get levels channel) (maps.get show.subs n)
+found show (Up n) = option_and_then (λ cue. cue.up) (maps.get show.cues n)
+found show (Down n) = option_and_then (λ cue. cue.down) (maps.get show.cues n)
+found show (Dimmer dimmer) = maps.get show.patch dimmer
