@@ -1,0 +1,386 @@
+-- What a statement does to a show is what it says: at each key the show answers as it did, but for
+-- the statement's news.
+use Rattle.std.proofs.Common.{◌≡◌, ℕ, ◌+◌, Bool, true, false, cond, ◌&&◌, IsTrue, List, [], ◌∷◌}
+use Rattle.std.proofs.Common.{refl, sym, ap, ◌∙◌, eqb, Option, Some, None, is_some, inl, inr, add-zero}
+use Rattle.std.specs.Prelude.{◌==◌, option_and_then}
+use Rattle.std.specs.Option.{option_map_or}
+use Rattle.std.specs.Ordering.{nat_cmp}
+use Rattle.std.specs.Cmp.{nat_cmp_total, unsigned_tied}
+use Rattle.std.specs.FinMap as maps
+use Rattle.std.proofs.lemmas.Bool.{cases_eq, ne_eqb, eq-eqb}
+use mathlib.Core.Bool.{false≢true}
+use Rattle.show_core.specs.declared.cue.CueData.{CueData}
+use Rattle.show_core.specs.declared.rate.Rate.{Rate}
+use Rattle.show_core.specs.Tables.{CueMap, PatchMap, Tables}
+use Rattle.show_core.specs.Builders.{blank, changed, opened, patched_with}
+use Rattle.show_line.specs.declared.statement.Record.{Record}
+use Rattle.show_line.specs.declared.statement.Record.TheVariants.{Cue, Group, Sub}
+use Rattle.show_line.specs.declared.statement.Table.TheVariants.{Cues, Groups, Subs, Patch}
+use Rattle.show_line.specs.declared.statement.Cleared.{Cleared}
+use Rattle.show_line.specs.declared.statement.Cleared.TheVariants.{All, Only}
+use Rattle.show_line.specs.declared.statement.Statement.{Statement}
+use Rattle.show_line.specs.declared.statement.Statement.TheVariants.{Opens, Levels, Rises, Falls}
+use Rattle.show_line.specs.declared.statement.Statement.TheVariants.{Patches, Clears}
+use Rattle.show_line.specs.declared.triples.Triple.{Triple}
+use Rattle.show_reader.specs.Keys.{Key, There, Level, Up, Down, Dimmer, Answer, has_record, found}
+use Rattle.show_reader.specs.Meaning.{News, Is, Gone, Silent, after, newer, last_news, pair_says}
+use Rattle.show_reader.specs.Meaning.{triple_says, says, cue_count, is_there}
+use Rattle.show_reader.specs.Shows.{IsShowOf}
+use Rattle.show_reader.specs.Applied.{with_record, with_channel, with_pairs, with_triples, without}
+use Rattle.show_reader.specs.Applied.{applied, HasOwner}
+
+-- ---- news
+
+-- older news first, and then newer
+after_newer : {X : Type 0} (a b : News X) (o : Option X) → after a (after b o) ≡ after (newer a b) o
+after_newer (Is x) b o = refl
+after_newer Gone b o = refl
+after_newer Silent b o = refl
+
+-- news that there are only where a test holds
+after_if : {X : Type 0} (b : Bool) (news : News X) (o : Option X)
+    → cond b (after news o) o ≡ after (cond b news Silent) o
+after_if true news o = refl
+after_if false news o = refl
+
+-- a choice between the same
+both : {X : Type 0} (b : Bool) (x : X) → cond b x x ≡ x
+both true x = refl
+both false x = refl
+
+-- ---- one entry of a table, as far as a look-up sees it
+
+-- whether there is one
+abbrev there_at : {V : Type 0} → Option V → Option (Unit {0})
+there_at o = cond (is_some o) (Some tt) None
+
+module _ {V : Type 0} (m : maps.FinMap nat_cmp V) (n : ℕ) where
+  -- a key that was set
+  get-insert : (v : V) (q : ℕ)
+      → maps.get (maps.insert m n v) q ≡ cond (q == n) (Some v) (maps.get m q)
+  get-insert v q =
+      maps.get-insert nat_cmp_total m n v q
+      ∙ ap (λ b. cond b (Some v) (maps.get m q)) (unsigned_tied q n)
+
+  -- what is seen of it
+  insert_at : {Y : Type 0} (v : V) (q : ℕ) (seen : Option V → Y) (hit : Y)
+      → (maps.get m q ≡ maps.get m n → seen (Some v) ≡ hit)
+      → seen (maps.get (maps.insert m n v) q) ≡ cond (q == n) hit (seen (maps.get m q))
+  insert_at v q seen hit h = ap seen (get-insert v q) ∙ elim (cases_eq q n) [
+    | inl same ↦ rw (same, eq-eqb n n refl) (h (ap (maps.get m) same))
+    | inr apart ↦ rw (ne_eqb q n apart) refl
+  ]
+
+  -- a key that is opened, where a blank entry looks like none
+  opened_keeps : {Y : Type 0} (x : V) (q : ℕ) (seen : Option V → Y) → seen (Some x) ≡ seen None
+      → seen (maps.get (cond (maps.contains_key m n) m (maps.insert m n x)) q)
+      ≡ seen (maps.get m q)
+  opened_keeps x q seen blank_is = go (maps.get m n) refl
+    where
+      go : (o : Option V) → maps.get m n ≡ o
+          → seen (maps.get (cond (is_some o) m (maps.insert m n x)) q) ≡ seen (maps.get m q)
+      go (Some y) e = refl
+      go None e =
+          insert_at x q seen (seen (maps.get m q)) (λ is. blank_is ∙ ap seen (sym (is ∙ e)))
+          ∙ both (q == n) (seen (maps.get m q))
+
+  -- it is there now
+  opened_there : (x : V) (q : ℕ)
+      → there_at (maps.get (cond (maps.contains_key m n) m (maps.insert m n x)) q)
+      ≡ after (cond (q == n) (Is tt) Silent) (there_at (maps.get m q))
+  opened_there x q = go (maps.get m n) refl
+    where
+      go : (o : Option V) → maps.get m n ≡ o
+          → there_at (maps.get (cond (is_some o) m (maps.insert m n x)) q)
+          ≡ after (cond (q == n) (Is tt) Silent) (there_at (maps.get m q))
+      go (Some y) e = elim (cases_eq q n) [
+        | inl same ↦ rw (same, eq-eqb n n refl, e) refl
+        | inr apart ↦ rw (ne_eqb q n apart) refl
+      ]
+      go None e =
+          insert_at x q there_at (Some tt) (λ is. refl)
+          ∙ after_if (q == n) (Is tt) (there_at (maps.get m q))
+
+  -- an entry that is changed, where it is there
+  changed_at : {Y : Type 0} (f : V → V) (q : ℕ) (seen : Option V → Y) (news : Y → Y)
+      → IsTrue (maps.contains_key m n) → ((v : V) → seen (Some (f v)) ≡ news (seen (Some v)))
+      → seen (maps.get (option_map_or (λ v. maps.insert m n (f v)) (maps.get m n) m) q)
+      ≡ cond (q == n) (news (seen (maps.get m q))) (seen (maps.get m q))
+  changed_at {Y} f q seen news there is_news = go (maps.get m n) refl there
+    where
+      go : (o : Option V) → maps.get m n ≡ o → is_some o ≡ true
+          → seen (maps.get (option_map_or (λ v. maps.insert m n (f v)) o m) q)
+          ≡ cond (q == n) (news (seen (maps.get m q))) (seen (maps.get m q))
+      go None e t = absurd (false≢true t)
+      go (Some v) e t =
+          insert_at (f v) q seen (news (seen (maps.get m q)))
+          (λ is. is_news v ∙ ap (λ o. news (seen o)) (sym (is ∙ e)))
+
+  -- what the change leaves of it
+  changed_keeps : {Y : Type 0} (f : V → V) (q : ℕ) (seen : Option V → Y)
+      → IsTrue (maps.contains_key m n) → ((v : V) → seen (Some (f v)) ≡ seen (Some v))
+      → seen (maps.get (option_map_or (λ v. maps.insert m n (f v)) (maps.get m n) m) q)
+      ≡ seen (maps.get m q)
+  changed_keeps f q seen there keeps =
+      changed_at f q seen (λ y. y) there keeps ∙ both (q == n) (seen (maps.get m q))
+
+  -- how many entries there are
+  len-opened : (x : V)
+      → maps.len (cond (maps.contains_key m n) m (maps.insert m n x))
+      ≡ maps.len m + cond (maps.contains_key m n) 0 1
+  len-opened x = go (maps.contains_key m n) refl
+    where
+      go : (b : Bool) → maps.contains_key m n ≡ b
+          → maps.len (cond b m (maps.insert m n x)) ≡ maps.len m + cond b 0 1
+      go true e = sym (add-zero (maps.len m))
+      go false e =
+          maps.len-insert nat_cmp_total m n x
+          ∙ ap (λ b. cond b (maps.len m) (maps.len m + 1)) e
+
+  len-changed : (f : V → V)
+      → maps.len (option_map_or (λ v. maps.insert m n (f v)) (maps.get m n) m) ≡ maps.len m
+  len-changed f = go (maps.get m n) refl
+    where
+      go : (o : Option V) → maps.get m n ≡ o
+          → maps.len (option_map_or (λ v. maps.insert m n (f v)) o m) ≡ maps.len m
+      go None e = refl
+      go (Some v) e =
+          maps.len-insert nat_cmp_total m n (f v)
+          ∙ ap (λ o. cond (is_some o) (maps.len m) (maps.len m + 1)) e
+
+-- ---- CUE, GROUP and SUB
+
+opens_found : (show : Tables) (r : Record) (k : Key)
+    → found (with_record show r) k ≡ after (says (Opens r) k) (found show k)
+opens_found show (Cue n) (There (Cue m)) = opened_there show.cues n blank m
+opens_found show (Cue n) (Level (Cue m) c) =
+    opened_keeps show.cues n blank m (option_and_then (λ cue. maps.get cue.levels c))
+    (maps.get-empty nat_cmp c)
+opens_found show (Cue n) (Up m) =
+    opened_keeps show.cues n blank m (option_and_then (λ cue. cue.up)) refl
+opens_found show (Cue n) (Down m) =
+    opened_keeps show.cues n blank m (option_and_then (λ cue. cue.down)) refl
+opens_found show (Group n) (There (Group m)) = opened_there show.groups n maps.empty m
+opens_found show (Group n) (Level (Group m) c) =
+    opened_keeps show.groups n maps.empty m (option_and_then (λ levels. maps.get levels c))
+    (maps.get-empty nat_cmp c)
+opens_found show (Sub n) (There (Sub m)) = opened_there show.subs n maps.empty m
+opens_found show (Sub n) (Level (Sub m) c) =
+    opened_keeps show.subs n maps.empty m (option_and_then (λ levels. maps.get levels c))
+    (maps.get-empty nat_cmp c)
+opens_found show r k = refl
+
+-- ---- CHAN
+
+-- the level of a channel, where another was set to a byte
+level_news : (p : ℕ × ℕ) (c : ℕ) (b : Bool) (o : Option ℕ)
+    → cond b (cond (c == p.0) (Some p.1) o) o ≡ after (cond (b && (c == p.0)) (Is p.1) Silent) o
+level_news p c true o = after_if (c == p.0) (Is p.1) o
+level_news p c false o = refl
+
+pair_found : (show : Tables) (r : Record) (p : ℕ × ℕ) → IsTrue (has_record show r) → (k : Key)
+    → found (with_channel show r p.0 p.1) k ≡ after (pair_says r p k) (found show k)
+pair_found show (Cue n) p there (There (Cue m)) =
+    changed_keeps show.cues n (λ cue. record cue { levels = maps.insert cue.levels p.0 p.1 }) m
+    there_at there (λ cue. refl)
+pair_found show (Cue n) p there (Level (Cue m) c) =
+    changed_at show.cues n (λ cue. record cue { levels = maps.insert cue.levels p.0 p.1 }) m
+    (option_and_then (λ cue. maps.get cue.levels c)) (cond (c == p.0) (Some p.1)) there
+    (λ cue. get-insert cue.levels p.0 p.1 c)
+    ∙ level_news p c (m == n) (found show (Level (Cue m) c))
+pair_found show (Cue n) p there (Up m) =
+    changed_keeps show.cues n (λ cue. record cue { levels = maps.insert cue.levels p.0 p.1 }) m
+    (option_and_then (λ cue. cue.up)) there (λ cue. refl)
+pair_found show (Cue n) p there (Down m) =
+    changed_keeps show.cues n (λ cue. record cue { levels = maps.insert cue.levels p.0 p.1 }) m
+    (option_and_then (λ cue. cue.down)) there (λ cue. refl)
+pair_found show (Group n) p there (There (Group m)) =
+    changed_keeps show.groups n (λ levels. maps.insert levels p.0 p.1) m there_at there (λ x. refl)
+pair_found show (Group n) p there (Level (Group m) c) =
+    changed_at show.groups n (λ levels. maps.insert levels p.0 p.1) m
+    (option_and_then (λ levels. maps.get levels c)) (cond (c == p.0) (Some p.1)) there
+    (λ levels. get-insert levels p.0 p.1 c)
+    ∙ level_news p c (m == n) (found show (Level (Group m) c))
+pair_found show (Sub n) p there (There (Sub m)) =
+    changed_keeps show.subs n (λ levels. maps.insert levels p.0 p.1) m there_at there (λ x. refl)
+pair_found show (Sub n) p there (Level (Sub m) c) =
+    changed_at show.subs n (λ levels. maps.insert levels p.0 p.1) m
+    (option_and_then (λ levels. maps.get levels c)) (cond (c == p.0) (Some p.1)) there
+    (λ levels. get-insert levels p.0 p.1 c)
+    ∙ level_news p c (m == n) (found show (Level (Sub m) c))
+pair_found show r p there k = refl
+
+-- a show has the records that it answers to
+some_if : (b : Bool) → is_some {T = Unit {0}} (cond b (Some tt) None) ≡ b
+some_if true = refl
+some_if false = refl
+
+-- a pair leaves the records
+pub pair_there : (show : Tables) (r : Record) (p : ℕ × ℕ) → IsTrue (has_record show r) → (q : Record)
+    → has_record (with_channel show r p.0 p.1) q ≡ has_record show q
+pair_there show r p there q =
+    sym (some_if (has_record (with_channel show r p.0 p.1) q))
+    ∙ ap is_some (pair_found show r p there (There q)) ∙ some_if (has_record show q)
+
+pairs_found : (show : Tables) (r : Record) (ps : List (ℕ × ℕ)) → IsTrue (has_record show r)
+    → (k : Key) → found (with_pairs show r ps) k ≡ after (says (Levels r ps) k) (found show k)
+pairs_found show r [] there k = refl
+pairs_found show r (p ∷ ps) there k =
+    pairs_found (with_channel show r p.0 p.1) r ps (pair_there show r p there r ∙ there) k
+    ∙ ap (after (says (Levels r ps) k)) (pair_found show r p there k)
+    ∙ after_newer (says (Levels r ps) k) (pair_says r p k) (found show k)
+
+-- ---- UP and DOWN
+
+rises_found : (show : Tables) (n : ℕ) (rate : Rate) → IsTrue (has_record show (Cue n)) → (k : Key)
+    → found (applied (Rises n rate) show) k ≡ after (says (Rises n rate) k) (found show k)
+rises_found show n rate there (There (Cue m)) =
+    changed_keeps show.cues n (λ cue. record cue { up = Some rate }) m there_at there (λ cue. refl)
+rises_found show n rate there (Level (Cue m) c) =
+    changed_keeps show.cues n (λ cue. record cue { up = Some rate }) m
+    (option_and_then (λ cue. maps.get cue.levels c)) there (λ cue. refl)
+rises_found show n rate there (Up m) =
+    changed_at show.cues n (λ cue. record cue { up = Some rate }) m
+    (option_and_then (λ cue. cue.up)) (λ o. Some rate) there (λ cue. refl)
+    ∙ after_if (m == n) (Is rate) (found show (Up m))
+rises_found show n rate there (Down m) =
+    changed_keeps show.cues n (λ cue. record cue { up = Some rate }) m
+    (option_and_then (λ cue. cue.down)) there (λ cue. refl)
+rises_found show n rate there k = refl
+
+falls_found : (show : Tables) (n : ℕ) (rate : Rate) → IsTrue (has_record show (Cue n)) → (k : Key)
+    → found (applied (Falls n rate) show) k ≡ after (says (Falls n rate) k) (found show k)
+falls_found show n rate there (There (Cue m)) =
+    changed_keeps show.cues n (λ cue. record cue { down = Some rate }) m there_at there
+    (λ cue. refl)
+falls_found show n rate there (Level (Cue m) c) =
+    changed_keeps show.cues n (λ cue. record cue { down = Some rate }) m
+    (option_and_then (λ cue. maps.get cue.levels c)) there (λ cue. refl)
+falls_found show n rate there (Up m) =
+    changed_keeps show.cues n (λ cue. record cue { down = Some rate }) m
+    (option_and_then (λ cue. cue.up)) there (λ cue. refl)
+falls_found show n rate there (Down m) =
+    changed_at show.cues n (λ cue. record cue { down = Some rate }) m
+    (option_and_then (λ cue. cue.down)) (λ o. Some rate) there (λ cue. refl)
+    ∙ after_if (m == n) (Is rate) (found show (Down m))
+falls_found show n rate there k = refl
+
+-- ---- PATCH
+
+-- a show with another patch
+abbrev repatched : Tables → PatchMap → Tables
+repatched show patch = record show { patch = patch }
+
+triple_found : (show : Tables) (t : Triple) (k : Key)
+    → found (repatched show (patched_with show.patch t.dimmer t.channel t.level)) k
+    ≡ after (triple_says t k) (found show k)
+triple_found show t (Dimmer d) = go (t.channel == 0)
+  where
+    go : (b : Bool)
+        → maps.get (cond b (maps.remove show.patch t.dimmer)
+        (maps.insert show.patch t.dimmer (t.channel, t.level))) d
+        ≡ after (cond (d == t.dimmer) (cond b Gone (Is (t.channel, t.level))) Silent)
+        (maps.get show.patch d)
+    go true =
+        maps.get-remove nat_cmp_total show.patch t.dimmer d
+        ∙ ap (λ b. cond b None (maps.get show.patch d)) (unsigned_tied d t.dimmer)
+        ∙ after_if (d == t.dimmer) Gone (maps.get show.patch d)
+    go false =
+        get-insert show.patch t.dimmer (t.channel, t.level) d
+        ∙ after_if (d == t.dimmer) (Is (t.channel, t.level)) (maps.get show.patch d)
+triple_found show t k = refl
+
+triples_found : (show : Tables) (ts : List Triple) (k : Key)
+    → found (repatched show (with_triples show.patch ts)) k
+    ≡ after (says (Patches ts) k) (found show k)
+triples_found show [] k = refl
+triples_found show (t ∷ ts) k =
+    triples_found (repatched show (patched_with show.patch t.dimmer t.channel t.level)) ts k
+    ∙ ap (after (says (Patches ts) k)) (triple_found show t k)
+    ∙ after_newer (says (Patches ts) k) (triple_says t k) (found show k)
+
+-- ---- CLEAR
+
+-- a show with nothing in it
+abbrev pub nothing : Tables
+nothing = record { cues = maps.empty; subs = maps.empty; groups = maps.empty; patch = maps.empty }
+
+pub nothing_found : (k : Key) → found nothing k ≡ None
+nothing_found (There (Cue n)) = ap there_at (maps.get-empty nat_cmp n)
+nothing_found (There (Group n)) = ap there_at (maps.get-empty nat_cmp n)
+nothing_found (There (Sub n)) = ap there_at (maps.get-empty nat_cmp n)
+nothing_found (Level (Cue n) c) =
+    ap (option_and_then (λ cue. maps.get cue.levels c)) (maps.get-empty nat_cmp n)
+nothing_found (Level (Group n) c) =
+    ap (option_and_then (λ levels. maps.get levels c)) (maps.get-empty nat_cmp n)
+nothing_found (Level (Sub n) c) =
+    ap (option_and_then (λ levels. maps.get levels c)) (maps.get-empty nat_cmp n)
+nothing_found (Up n) = ap (option_and_then (λ cue. cue.up)) (maps.get-empty nat_cmp n)
+nothing_found (Down n) = ap (option_and_then (λ cue. cue.down)) (maps.get-empty nat_cmp n)
+nothing_found (Dimmer d) = maps.get-empty nat_cmp d
+
+clears_found : (what : Cleared) (show : Tables) (k : Key)
+    → found (without what show) k ≡ after (says (Clears what) k) (found show k)
+clears_found All show k = nothing_found k
+clears_found (Only Cues) show (There (Cue n)) = nothing_found (There (Cue n))
+clears_found (Only Cues) show (Level (Cue n) c) = nothing_found (Level (Cue n) c)
+clears_found (Only Cues) show (Up n) = nothing_found (Up n)
+clears_found (Only Cues) show (Down n) = nothing_found (Down n)
+clears_found (Only Groups) show (There (Group n)) = nothing_found (There (Group n))
+clears_found (Only Groups) show (Level (Group n) c) = nothing_found (Level (Group n) c)
+clears_found (Only Subs) show (There (Sub n)) = nothing_found (There (Sub n))
+clears_found (Only Subs) show (Level (Sub n) c) = nothing_found (Level (Sub n) c)
+clears_found (Only Patch) show (There (Cue n)) = refl
+clears_found (Only Patch) show (Level (Cue n) c) = refl
+clears_found (Only Patch) show (Dimmer d) = nothing_found (Dimmer d)
+clears_found what show k = refl
+
+-- ---- one statement
+
+-- a statement that has its owner does to the show what it says
+pub applied_found : (s : Statement) (show : Tables) → HasOwner show s → (k : Key)
+    → found (applied s show) k ≡ after (says s k) (found show k)
+applied_found (Opens r) show owned k = opens_found show r k
+applied_found (Levels r ps) show owned k = pairs_found show r ps owned k
+applied_found (Rises n rate) show owned k = rises_found show n rate owned k
+applied_found (Falls n rate) show owned k = falls_found show n rate owned k
+applied_found (Patches ts) show owned k = triples_found show ts k
+applied_found (Clears what) show owned k = clears_found what show k
+applied_found s show owned k = refl
+
+-- so it leads on from the show that the statements above it mean
+pub step : (ss : List Statement) (s : Statement) (show : Tables) → HasOwner show s
+    → IsShowOf ss show → IsShowOf (s ∷ ss) (applied s show)
+step ss s show owned h k = applied_found s show owned k ∙ ap (after (says s k)) (h k)
+
+-- a show has the records that the statements have
+pub record_there : (ss : List Statement) (show : Tables) (r : Record) → IsShowOf ss show
+    → has_record show r ≡ is_there r ss
+record_there ss show r h = sym (some_if (has_record show r)) ∙ ap is_some (h (There r))
+
+-- ---- how many cues there are
+
+len-with_pairs : (show : Tables) (r : Record) (ps : List (ℕ × ℕ))
+    → maps.len (with_pairs show r ps).cues ≡ maps.len show.cues
+len-with_pairs show r [] = refl
+len-with_pairs show (Cue n) (p ∷ ps) =
+    len-with_pairs (with_channel show (Cue n) p.0 p.1) (Cue n) ps
+    ∙ len-changed show.cues n (λ cue. record cue { levels = maps.insert cue.levels p.0 p.1 })
+len-with_pairs show (Group n) (p ∷ ps) =
+    len-with_pairs (with_channel show (Group n) p.0 p.1) (Group n) ps
+len-with_pairs show (Sub n) (p ∷ ps) =
+    len-with_pairs (with_channel show (Sub n) p.0 p.1) (Sub n) ps
+
+pub count_step : (ss : List Statement) (s : Statement) (show : Tables) → IsShowOf ss show
+    → cue_count ss ≡ maps.len show.cues → cue_count (s ∷ ss) ≡ maps.len (applied s show).cues
+count_step ss (Opens (Cue n)) show h e =
+    ap (λ b. cue_count ss + cond b 0 1) (sym (record_there ss show (Cue n) h))
+    ∙ ap (λ k. k + cond (maps.contains_key show.cues n) 0 1) e ∙ sym (len-opened show.cues n blank)
+count_step ss (Levels r ps) show h e = e ∙ sym (len-with_pairs show r ps)
+count_step ss (Rises n rate) show h e =
+    e ∙ sym (len-changed show.cues n (λ cue. record cue { up = Some rate }))
+count_step ss (Falls n rate) show h e =
+    e ∙ sym (len-changed show.cues n (λ cue. record cue { down = Some rate }))
+count_step ss (Clears All) show h e = sym (maps.len-empty nat_cmp CueData)
+count_step ss (Clears (Only Cues)) show h e = sym (maps.len-empty nat_cmp CueData)
+count_step ss s show h e = e
