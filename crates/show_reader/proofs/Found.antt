@@ -215,12 +215,15 @@ some_if : (b : Bool) → is_some {T = Unit {0}} (cond b (Some tt) None) ≡ b
 some_if true = refl
 some_if false = refl
 
+pub record_is : (show : Tables) (r : Record) → is_some (found show (There r)) ≡ has_record show r
+record_is show r = some_if (has_record show r)
+
 -- a pair leaves the records
 pub pair_there : (show : Tables) (r : Record) (p : ℕ × ℕ) → IsTrue (has_record show r) → (q : Record)
     → has_record (with_channel show r p.0 p.1) q ≡ has_record show q
 pair_there show r p there q =
-    sym (some_if (has_record (with_channel show r p.0 p.1) q))
-    ∙ ap is_some (pair_found show r p there (There q)) ∙ some_if (has_record show q)
+    sym (record_is (with_channel show r p.0 p.1) q)
+    ∙ ap is_some (pair_found show r p there (There q)) ∙ record_is show q
 
 pairs_found : (show : Tables) (r : Record) (ps : List (ℕ × ℕ)) → IsTrue (has_record show r)
     → (k : Key) → found (with_pairs show r ps) k ≡ after (says (Levels r ps) k) (found show k)
@@ -356,7 +359,7 @@ step ss s show owned h k = applied_found s show owned k ∙ ap (after (says s k)
 -- a show has the records that the statements have
 pub record_there : (ss : List Statement) (show : Tables) (r : Record) → IsShowOf ss show
     → has_record show r ≡ is_there r ss
-record_there ss show r h = sym (some_if (has_record show r)) ∙ ap is_some (h (There r))
+record_there ss show r h = sym (record_is show r) ∙ ap is_some (h (There r))
 
 -- ---- how many cues there are
 

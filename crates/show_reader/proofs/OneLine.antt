@@ -1,0 +1,205 @@
+-- What a reader has made of the lines so far, with one line more.
+use Rattle.std.proofs.Common.{◌≡◌, ℕ, ◌+◌, Bool, true, false, cond, not, ◌||◌, ◌&&◌, List, [], ◌∷◌}
+use Rattle.std.proofs.Common.{IsTrue, length, refl, sym, ap, subst, ◌∙◌, arith, Option, Some, None}
+use Rattle.std.proofs.Common.{inl, inr, is_some}
+use Rattle.std.specs.Prelude.{IfSome, nat_le, nat_lt, count_by, codes, ◌≤◌, option_map}
+use Rattle.std.specs.Option.{option_map_or, option_or}
+use Rattle.std.specs.FinMap as maps
+use Rattle.std.proofs.lemmas.Bool.{eq-eqb}
+use Rattle.std.proofs.lemmas.Bool.Decides.{nat_tests}
+use Rattle.std.proofs.lemmas.List.Sums.{sum_by-cons, count_by-le-length}
+use Rattle.std.proofs.lemmas.Option.{none-some}
+use mathlib.Core.Bool.{false≢true}
+use Rattle.ascii_text.specs.Forms.{same_word}
+use Rattle.show_core.specs.Numbers.{is_cue_number}
+use Rattle.show_core.specs.Tables.{Tables}
+use Rattle.show_line.specs.declared.fault.LineFault.{LineFault}
+use Rattle.show_line.specs.declared.fault.LineFault.TheVariants as fault
+use Rattle.show_line.specs.declared.keyword.Keyword.{Keyword}
+use Rattle.show_line.specs.declared.keyword.Keyword.TheVariants as word
+use Rattle.show_line.specs.declared.line.Reading.{Reading}
+use Rattle.show_line.specs.declared.statement.Record.{Record}
+use Rattle.show_line.specs.declared.statement.Record.TheVariants.{Cue, Group, Sub}
+use Rattle.show_line.specs.declared.statement.Cleared.{Cleared}
+use Rattle.show_line.specs.declared.statement.Statement.{Statement}
+use Rattle.show_line.specs.declared.statement.Statement.TheVariants.{Opens, Levels, Rises, Falls}
+use Rattle.show_line.specs.declared.statement.Statement.TheVariants.{Patches}
+use Rattle.show_line.specs.declared.statement.Statement.TheVariants.{Clears, Quiet, Skipped, Faulty}
+use Rattle.show_line.specs.declared.triples.Triple.{Triple}
+use Rattle.show_line.specs.Keywords.{keyword_of, may_own, is_end, named}
+use Rattle.show_line.specs.Faults.{lower, cue_fault, number_fault, page_fault}
+use Rattle.show_line.specs.Pairs.{pair_fault, pairs_in, triple_fault, triples_in}
+use Rattle.show_line.specs.Said.{desk, said, opened, unless_faulty, record_said, patch_said}
+use Rattle.show_line.specs.Said.{rate_fault, rate_in, ident_said, clear_said, is_page_1, cue_named}
+use Rattle.show_line.specs.Said.{group_named, sub_named, cleared_names, reading_of}
+use Rattle.show_line.specs.Sound.{IsSound}
+use Rattle.show_reader.specs.declared.apply.Refusal.{Refusal}
+use Rattle.show_reader.specs.declared.apply.Refusal.TheVariants as refusal
+use Rattle.show_reader.specs.declared.fault.ShowFault.{ShowFault}
+use Rattle.show_reader.specs.declared.read.Reader.{Reader}
+use Rattle.show_reader.specs.Text.{Words, owns, ends, said_under, owner_after, statement_below}
+use Rattle.show_reader.specs.Keys.{There, has_record, found}
+use Rattle.show_reader.specs.Meaning.{Is, Silent, after, newer, last_news, says}
+use Rattle.show_reader.specs.Meaning.{same_record, is_there, cue_count, is_skipped}
+use Rattle.show_reader.specs.Shows.{IsShowOf}
+use Rattle.show_reader.specs.Reading.{fault_at, fault_below, first_fault, grows}
+use Rattle.show_reader.specs.Applied.{applied, refused_by, HasOwner, Explains}
+use Rattle.show_reader.specs.Reads.{said_by, Reads, MayLackMemory, EndsAt, refusal_at}
+use Rattle.show_reader.proofs.Found.{applied_found, record_is, record_there, step, count_step}
+
+-- ---- a secondary line speaks of its owner, and does not clear
+
+abbrev Belongs : Option Record → Bool → Statement → Type 0
+Belongs owner own (Levels r pairs) = owner ≡ Some r
+Belongs owner own (Rises n rate) = owner ≡ Some (Cue n)
+Belongs owner own (Falls n rate) = owner ≡ Some (Cue n)
+Belongs owner own (Clears what) = own ≡ true
+Belongs owner own _ = Unit {0}
+
+module _ (owner : Option Record) (own : Bool) where
+  unless_belongs : (o : Option LineFault) (s : Statement) → Belongs owner own s
+      → Belongs owner own (unless_faulty o s)
+  unless_belongs None s h = h
+  unless_belongs (Some f) s h = tt
+
+  if_belongs : (b : Bool) (s t : Statement) → Belongs owner own s → Belongs owner own t
+      → Belongs owner own (cond b s t)
+  if_belongs true s t h g = h
+  if_belongs false s t h g = g
+
+  record_belongs : (f : List ℕ → Option LineFault) (which : List ℕ → Record) (words : Words)
+      → Belongs owner own (record_said f which words)
+  record_belongs f which [] = tt
+  record_belongs f which (n ∷ words) =
+      unless_belongs (lower (f n) (page_fault words))
+      (cond (is_page_1 words) (Opens (which n)) Skipped)
+      (if_belongs (is_page_1 words) (Opens (which n)) Skipped tt tt)
+
+  patch_belongs : (words : Words) → Belongs owner own (patch_said desk words)
+  patch_belongs [] = tt
+  patch_belongs (page ∷ words) =
+      let patches = unless_faulty (triple_fault desk words) (Patches (triples_in words)) in
+      unless_belongs (page_fault (page ∷ words))
+      (cond (is_page_1 (page ∷ words)) patches Skipped)
+      (if_belongs (is_page_1 (page ∷ words)) patches Skipped
+      (unless_belongs (triple_fault desk words) (Patches (triples_in words)) tt) tt)
+
+  ident_belongs : (words : Words) → Belongs owner own (ident_said words)
+  ident_belongs [] = tt
+  ident_belongs (v ∷ words) =
+      if_belongs (same_word v (codes "3:0")) Quiet (Faulty fault.Ident) tt tt
+
+clear_belongs : (owner : Option Record) (words : Words) → Belongs owner true (clear_said words)
+clear_belongs owner [] = tt
+clear_belongs owner (what ∷ []) = go (named cleared_names what)
+  where
+    go : (o : Option Cleared) → Belongs owner true (option_map_or Clears o Skipped)
+    go None = tt
+    go (Some c) = refl
+clear_belongs owner (what ∷ w ∷ words) = tt
+
+said_belongs : (owner : Option Record) (keyword : Keyword) (words : Words)
+    → Belongs owner (may_own keyword) (said desk owner keyword words)
+said_belongs owner word.Clear words = clear_belongs owner words
+said_belongs owner word.Ident words = ident_belongs owner true words
+said_belongs owner word.Cue words = record_belongs owner true cue_fault cue_named words
+said_belongs owner word.Group words =
+    record_belongs owner true (number_fault 1 500) group_named words
+said_belongs owner word.Sub words = record_belongs owner true (number_fault 1 100) sub_named words
+said_belongs owner word.Patch words = patch_belongs owner true words
+said_belongs (Some r) word.Chan words =
+    unless_belongs (Some r) false (pair_fault desk words) (Levels r (pairs_in words)) refl
+said_belongs (Some (Cue n)) word.Up words =
+    unless_belongs (Some (Cue n)) false (rate_fault words) (Rises n (rate_in words)) refl
+said_belongs (Some (Cue n)) word.Down words =
+    unless_belongs (Some (Cue n)) false (rate_fault words) (Falls n (rate_in words)) refl
+said_belongs None word.Remark words = tt
+said_belongs owner keyword words = tt
+
+-- ---- the owner of a line is there, above it and below
+
+-- a record is there that this owner names
+abbrev IsHere : Tables → Option Record → Type 0
+IsHere show owner = IfSome owner (λ q. IsTrue (has_record show q))
+
+-- a statement of an owner that is there has what it needs
+owned : (owner : Option Record) (own : Bool) (s : Statement) (show : Tables) → Belongs owner own s
+    → IsHere show owner → HasOwner show s
+owned owner own (Levels r ps) show of h = subst (IsHere show) of h
+owned owner own (Rises n rate) show of h = subst (IsHere show) of h
+owned owner own (Falls n rate) show of h = subst (IsHere show) of h
+owned owner own s show of h = tt
+
+-- a record is there below a statement where the statement leaves it, or opens it
+there_below : (s : Statement) (show : Tables) → HasOwner show s → (q : Record)
+    → after (says s (There q)) (found show (There q)) ≡ Some tt → IsTrue (has_record (applied s show) q)
+there_below s show owned q h =
+    sym (record_is (applied s show) q) ∙ ap is_some (applied_found s show owned (There q) ∙ h)
+
+-- a list of which none has news
+no_news : {X Y : Type 0} (xs : List X) → last_news {X = X} {Y = Y} (λ x. Silent) xs ≡ Silent
+no_news [] = refl
+no_news (x ∷ xs) = ap (λ news. newer news Silent) (no_news xs)
+
+-- a statement that does not clear leaves a record
+left_there : (owner : Option Record) (s : Statement) → Belongs owner false s → (q : Record)
+    → after (says s (There q)) (Some tt) ≡ Some tt
+left_there owner (Opens r) of q = go (same_record q r)
+  where
+    go : (b : Bool) → after {X = Unit {0}} (cond b (Is tt) Silent) (Some tt) ≡ Some tt
+    go true = refl
+    go false = refl
+left_there owner (Levels r ps) of q = ap (λ news. after news (Some tt)) (no_news ps)
+left_there owner (Patches ts) of q = ap (λ news. after news (Some tt)) (no_news ts)
+left_there owner (Clears what) of q = absurd (false≢true of)
+left_there owner s of q = refl
+
+-- one that opens a record has it there
+opened_there : (s : Statement) (show : Tables) → HasOwner show s → IsHere (applied s show) (opened s)
+opened_there (Opens r) show owned = there_below (Opens r) show tt r (same r)
+  where
+    same : (q : Record) → after (says (Opens q) (There q)) (found show (There q)) ≡ Some tt
+    same (Cue n) = rw (eq-eqb n n refl) refl
+    same (Group n) = rw (eq-eqb n n refl) refl
+    same (Sub n) = rw (eq-eqb n n refl) refl
+opened_there s show owned = tt
+
+-- the owner below a line is there
+present_below : (owner : Option Record) (l : Words) (show : Tables)
+    → HasOwner show (said_under desk owner l) → IsHere show owner
+    → IsHere (applied (said_under desk owner l) show) (owner_after desk l owner)
+present_below owner [] show owned h = h
+present_below owner (w ∷ words) show owned h =
+    go (may_own (keyword_of w)) (said_belongs owner (keyword_of w) words)
+  where
+    kept : (o : Option Record) → Belongs o false (said desk o (keyword_of w) words)
+        → HasOwner show (said desk o (keyword_of w) words) → IsHere show o
+        → IsHere (applied (said desk o (keyword_of w) words) show) o
+    kept None of owned h = tt
+    kept (Some q) of owned h =
+        let s = said desk (Some q) (keyword_of w) words in
+        there_below s show owned q
+        (ap (λ b. after (says s (There q)) (cond b (Some tt) None)) h ∙ left_there (Some q) s of q)
+
+    go : (b : Bool) → Belongs owner b (said desk owner (keyword_of w) words)
+        → IsHere (applied (said desk owner (keyword_of w) words) show)
+        (cond b (opened (said desk owner (keyword_of w) words)) owner)
+    go true of = opened_there (said desk owner (keyword_of w) words) show owned
+    go false of = kept owner of owned h
+
+-- ---- the show refuses what the text's meaning refuses
+
+-- a show that the statements mean refuses the next one where it has a fault
+refused_is : (ss : List Statement) (s : Statement) (show : Tables) → IsSound s → IsShowOf ss show
+    → cue_count ss ≡ maps.len show.cues → refused_by show s ≡ fault_below ss s
+refused_is ss (Opens (Cue n)) show numbered h count =
+    rw (numbered, sym (record_there ss show (Cue n) h), count)
+    (go (maps.contains_key show.cues n) (maps.len show.cues))
+  where
+    go : (b : Bool) (m : ℕ)
+        → cond (true && (b || nat_lt m 2000)) None (Some fault.Limit)
+        ≡ cond (not b && nat_le 2000 m) (Some fault.Limit) None
+    go true m = refl
+    go false m = grind (arith, nat_tests)
+refused_is ss (Opens (Group n)) show numbered h count = refl
+refused_is ss s show numbered h count = refl
