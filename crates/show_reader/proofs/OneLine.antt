@@ -40,7 +40,7 @@ use Rattle.show_reader.specs.declared.read.Reader.{Reader}
 use Rattle.show_reader.specs.Text.{Words, owns, ends, said_under, owner_after, statement_below}
 use Rattle.show_reader.specs.Keys.{There, has_record, found}
 use Rattle.show_reader.specs.Meaning.{Is, Silent, after, newer, last_news, says}
-use Rattle.show_reader.specs.Meaning.{same_record, is_there, cue_count, is_skipped}
+use Rattle.show_reader.specs.Meaning.{same_record, meaning, cue_count, is_skipped}
 use Rattle.show_reader.specs.Shows.{IsShowOf}
 use Rattle.show_reader.specs.Reading.{fault_at, fault_below, first_fault, grows}
 use Rattle.show_reader.specs.Applied.{applied, refused_by, HasOwner, Explains}
@@ -203,3 +203,108 @@ refused_is ss (Opens (Cue n)) show numbered h count =
     go false m = grind (arith, nat_tests)
 refused_is ss (Opens (Group n)) show numbered h count = refl
 refused_is ss s show numbered h count = refl
+
+-- ---- a line below those that were read
+
+-- what was read of a line with words, in the words of its meaning
+pub record IsReading (owner : Option Record) (l : Words) (reading : Reading) : Type 0 where
+  pub statement : reading.statement ≡ said_under desk owner l
+  pub owns : may_own reading.keyword ≡ owns l
+  pub ends : is_end reading.keyword ≡ ends l
+
+pub reading_is : (owner : Option Record) (l : Words) (reading : Reading)
+    → Some reading ≡ reading_of desk owner l → IsReading owner l reading
+reading_is owner [] reading e = absurd (none-some reading (sym e))
+reading_is owner (w ∷ words) reading e =
+    let is : reading
+    ≡ record { keyword = keyword_of w; statement = said desk owner (keyword_of w) words }
+    = cc in
+    record {
+      statement = ap (λ (r : Reading). r.statement) is;
+      owns = ap (λ (r : Reading). may_own r.keyword) is;
+      ends = ap (λ (r : Reading). is_end r.keyword) is;
+    }
+
+-- nothing is read of a line without words
+pub no_reading : (owner : Option Record) (l : Words) → None ≡ reading_of desk owner l → l ≡ []
+no_reading owner [] e = refl
+no_reading owner (w ∷ words) e = absurd (none-some _ e)
+
+-- a line has the owner that it needs
+owned_below : (owner : Option Record) (l : Words) (show : Tables) → IsHere show owner
+    → HasOwner show (said_under desk owner l)
+owned_below owner [] show h = tt
+owned_below owner (w ∷ words) show h =
+    owned owner (may_own (keyword_of w)) (said desk owner (keyword_of w) words) show
+    (said_belongs owner (keyword_of w) words) h
+
+-- a line that says s
+module _ (lines : List Words) (l : Words) (r : Reader) (h : Reads lines r) (s : Statement)
+    (is : s ≡ said_under desk r.owner l) where
+  more : said_by (l ∷ lines) ≡ s ∷ said_by lines
+  more = ap (λ t. t ∷ said_by lines) (ap (λ o. said_under desk o l) (sym h.owner) ∙ sym is)
+
+  pub owner_here : HasOwner r.show s
+  owner_here = subst (HasOwner r.show) (sym is) (owned_below r.owner l r.show h.present)
+
+  -- the fault is the line's where the show refuses what it says
+  fault_here : IsSound s
+      → first_fault (said_by (l ∷ lines)) ≡ option_map (fault_at (r.lines + 1)) (refused_by r.show s)
+  fault_here sound =
+      let ss = said_by lines in
+      ap first_fault more
+      ∙ ap (λ o. option_or o (option_map (fault_at (length ss + 1)) (fault_below ss s))) h.faultless
+      ∙ ap (λ n. option_map (fault_at (n + 1)) (fault_below ss s)) (sym h.number)
+      ∙ ap (option_map (fault_at (r.lines + 1)))
+      (sym (refused_is ss s r.show sound h.shows h.count))
+
+  -- the reader behind it
+  pub line_read : (r' : Reader) → IsSound s → refused_by r.show s ≡ None
+      → r'.show ≡ applied s r.show → r'.owner ≡ cond (owns l) (opened s) r.owner
+      → r'.lines ≡ r.lines + 1 → r'.skipped ≡ r.skipped + cond (is_skipped s) 1 0
+      → Reads (l ∷ lines) r'
+  line_read r' sound fine show owner number skipped =
+      let ss = said_by lines in
+      record {
+        shows =
+            λ k. ap (λ t. found t k) show ∙ step ss s r.show owner_here h.shows k
+            ∙ ap (λ ts. meaning ts k) (sym more);
+        faultless = fault_here sound ∙ ap (option_map (fault_at (r.lines + 1))) fine;
+        owner =
+            owner ∙ ap (λ t. cond (owns l) (opened t) r.owner) is
+            ∙ ap (owner_after desk l) h.owner;
+        present =
+            subst (λ t. IsHere t r'.owner) (sym show)
+            (subst (IsHere (applied s r.show)) (sym owner)
+            (subst (λ t. IsHere (applied t r.show) (cond (owns l) (opened t) r.owner)) (sym is)
+            (present_below r.owner l r.show (owned_below r.owner l r.show h.present) h.present)));
+        count =
+            ap cue_count more ∙ count_step ss s r.show h.shows h.count
+            ∙ ap (λ t. maps.len t.cues) (sym show);
+        number = number ∙ omega (arith, h.number);
+        skipped =
+            let counted = sum_by-cons (λ t. cond (is_skipped t) 1 0) s ss in
+            let all : r'.skipped ≡ count_by is_skipped (s ∷ ss)
+            = omega (arith, skipped, h.skipped, counted) in
+            all ∙ ap (count_by is_skipped) (sym more);
+      }
+
+  -- where it is refused, reading ends with its fault, or for want of memory
+  pub ends_at : IsSound s → (e : Refusal) → Explains r.show s e → (n : ℕ) → n ≡ r.lines + 1
+      → EndsAt lines l (refusal_at n e)
+  ends_at sound refusal.Memory explained n number =
+      let lacks : MayLackMemory lines l
+      = record {
+        faultless = fault_here sound ∙ ap (option_map (fault_at (r.lines + 1))) explained.0;
+        grows = ap (λ o. grows (said_under desk o l)) (sym h.owner) ∙ ap grows (sym is) ∙ explained.1;
+      } in
+      inl (refl, lacks)
+  ends_at sound (refusal.Fault f) explained n number =
+      inr (fault_here sound ∙ ap (option_map (fault_at (r.lines + 1))) explained
+      ∙ ap (λ k. Some (fault_at k f)) (sym number))
+
+-- no more lines were skipped than there are
+pub skipped_few : (lines : List Words) (r : Reader) → Reads lines r → r.skipped ≤ r.lines
+skipped_few lines r h =
+    let few = count_by-le-length is_skipped (said_by lines) in
+    omega (arith, few, h.skipped, h.number)

@@ -22,7 +22,7 @@ ends (word ∷ words) = is_end (keyword_of word)
 -- the lines up to and including the first whose first word is ENDDATA
 abbrev pub up_to_end : List Words → List Words
 up_to_end [] = []
-up_to_end (l ∷ ls) = if ends l then l ∷ [] else l ∷ up_to_end ls
+up_to_end (l ∷ ls) = l ∷ (if ends l then [] else up_to_end ls)
 
 -- the lines of a show text that are read, the last one first
 abbrev pub lines_in : List ℕ → List Words
