@@ -1,3 +1,7 @@
 pub mod Found
 pub mod OneLine
+pub mod WholeText
+pub mod Limits
+pub mod OneShow
+pub mod Grown
 mod Rows

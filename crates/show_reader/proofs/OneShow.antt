@@ -1,0 +1,79 @@
+-- Statements mean one show alone.
+use Rattle.std.proofs.Common.{subst, ◌≡◌, ◌∙◌, sym, ap, refl, ℕ, List}
+use Rattle.std.proofs.Common.{Option, Some, None, is_some, option_and_then}
+use Rattle.std.specs.Ordering.{nat_cmp}
+use Rattle.std.specs.FinMap as maps
+use Rattle.std.proofs.lemmas.Cmp.{nat_cmp_total}
+use Rattle.show_core.specs.declared.cue.CueData.{CueData}
+use Rattle.show_core.specs.Tables.{LevelMap, CueMap, MasterMap, PatchMap, Tables}
+use Rattle.show_core.specs.declared.rate.Rate.{Rate}
+use Rattle.show_line.specs.declared.statement.Record.{Record}
+use Rattle.show_line.specs.declared.statement.Record.TheVariants.{Cue, Group, Sub}
+use Rattle.show_line.specs.declared.statement.Statement.{Statement}
+use Rattle.show_line.specs.Said.{desk}
+use Rattle.show_reader.specs.Text.{statements_of}
+use Rattle.show_reader.specs.ItsShow.{OfItsShow}
+use Rattle.show_reader.specs.Keys.{Key, There, Level, Up, Down, Dimmer, has_record, found}
+use Rattle.show_reader.specs.Shows.{IsShowOf}
+use Rattle.show_reader.proofs.Found.{record_is}
+
+-- two maps with the same value at each key are one
+same_map : {X : Type 0} (m n : maps.FinMap nat_cmp X) → ((q : ℕ) → maps.get m q ≡ maps.get n q)
+    → m ≡ n
+same_map m n is = maps.same_map nat_cmp_total maps.nat_cmp-IsAntisymmetric m n is
+
+-- masters that are there alike and list alike are alike
+same_levels : (a b : Option LevelMap) → is_some a ≡ is_some b
+    → ((c : ℕ) → option_and_then (λ levels. maps.get levels c) a
+    ≡ option_and_then (λ levels. maps.get levels c) b)
+    → a ≡ b
+same_levels None None there each = refl
+same_levels None (Some b) there each = cc
+same_levels (Some a) None there each = cc
+same_levels (Some a) (Some b) there each = ap Some (same_map a b each)
+
+-- cues that are there alike, with alike levels and rates, are alike
+same_cues : (a b : Option CueData) → is_some a ≡ is_some b
+    → ((c : ℕ) → option_and_then (λ cue. maps.get cue.levels c) a
+    ≡ option_and_then (λ cue. maps.get cue.levels c) b)
+    → option_and_then (λ cue. cue.up) a ≡ option_and_then (λ cue. cue.up) b
+    → option_and_then (λ cue. cue.down) a ≡ option_and_then (λ cue. cue.down) b
+    → a ≡ b
+same_cues None None there levels ups downs = refl
+same_cues None (Some b) there levels ups downs = cc
+same_cues (Some a) None there levels ups downs = cc
+same_cues (Some a) (Some b) there levels ups downs =
+    let same : a.levels ≡ b.levels = same_map a.levels b.levels levels in
+    let made : LevelMap → Option Rate → Option Rate → CueData =
+    λ l u d. record { levels = l; up = u; down = d } in
+    let is : made a.levels a.up a.down ≡ made b.levels b.up b.down = cc in
+    ap Some is
+
+-- tables that are alike one by one
+same_tables : (s t : Tables) → s.cues ≡ t.cues → s.subs ≡ t.subs → s.groups ≡ t.groups
+    → s.patch ≡ t.patch → s ≡ t
+same_tables s t cues subs groups patch =
+    let made : CueMap → MasterMap → MasterMap → PatchMap → Tables =
+    λ c u g p. record { cues = c; subs = u; groups = g; patch = p } in
+    let same : made s.cues s.subs s.groups s.patch ≡ made t.cues t.subs t.groups t.patch = cc in
+    same
+
+-- statements mean one show alone
+pub same_show : (ss : List Statement) (s t : Tables) → IsShowOf ss s → IsShowOf ss t → s ≡ t
+same_show ss s t a b =
+    let same : (k : Key) → found s k ≡ found t k = λ k. a k ∙ sym (b k) in
+    let there : (r : Record) → has_record s r ≡ has_record t r = λ r.
+    sym (record_is s r) ∙ ap is_some (same (There r)) ∙ record_is t r in
+    same_tables s t
+    (same_map s.cues t.cues (λ n. same_cues (maps.get s.cues n) (maps.get t.cues n) (there (Cue n))
+    (λ c. same (Level (Cue n) c)) (same (Up n)) (same (Down n))))
+    (same_map s.subs t.subs (λ n. same_levels (maps.get s.subs n) (maps.get t.subs n)
+    (there (Sub n)) (λ c. same (Level (Sub n) c))))
+    (same_map s.groups t.groups (λ n. same_levels (maps.get s.groups n) (maps.get t.groups n)
+    (there (Group n)) (λ c. same (Level (Group n) c))))
+    (same_map s.patch t.patch (λ d. same (Dimmer d)))
+
+-- what holds of one show that a text means holds of each
+pub of_its_show : (text : List ℕ) (P : Tables → Type 0) (s : Tables)
+    → IsShowOf (statements_of desk text) s → P s → OfItsShow text P
+of_its_show text P s is p = ((s, is), λ t it. subst P (same_show (statements_of desk text) s t is it) p)

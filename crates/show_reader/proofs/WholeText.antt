@@ -1,0 +1,137 @@
+-- What a reader has made of the lines of a text, and what it answers in the end.
+use Rattle.std.proofs.Common.{◌≡◌, ℕ, ◌+◌, ◌≤◌, Bool, true, false, cond, List, [], ◌∷◌, ◌++◌, length}
+use Rattle.std.proofs.Common.{All, map, refl, sym, ap, subst, ◌∙◌, arith, Option, Some, None, is_some}
+use Rattle.std.specs.Prelude.{nat_lt, count_by, option_map}
+use Rattle.std.specs.Option.{option_or}
+use Rattle.std.specs.FinMap as maps
+use Rattle.std.specs.Ordering.{nat_cmp}
+use Rattle.std.proofs.lemmas.Bool.Decides.{nat_tests}
+use Rattle.std.proofs.lemmas.List.Elements.{All-head, All-rest}
+use mathlib.Core.Bool.{false≢true}
+use mathlib.Core.List.{reverse_aux}
+use Rattle.ascii_text.specs.Text.{words_of, numbered_from}
+use Rattle.show_core.specs.declared.cue.CueData.{CueData}
+use Rattle.show_core.specs.Tables.{Tables}
+use Rattle.show_line.specs.declared.statement.Statement.{Statement}
+use Rattle.show_line.specs.Said.{desk}
+use Rattle.show_reader.specs.declared.fault.ShowFault.{ShowFault}
+use Rattle.show_reader.specs.declared.fault.ShowFault.TheVariants as show_fault
+use Rattle.show_reader.specs.declared.read.Reader.{Reader}
+use Rattle.show_reader.specs.Text.{Words, ends, up_to_end, lines_in, statement_below, statements_of}
+use Rattle.show_reader.specs.Keys.{found}
+use Rattle.show_reader.specs.Meaning.{is_skipped}
+use Rattle.show_reader.specs.Shows.{IsShowOf}
+use Rattle.show_reader.specs.Reading.{fault_below, fault_at, first_fault, fault_of, lines_read, lines_skipped}
+use Rattle.show_reader.specs.Reading.{longest_text, grows, faultless_front, NothingGrows}
+use Rattle.show_reader.specs.Reads.{said_by, Reads, MayLackMemory}
+use Rattle.show_reader.proofs.Found.{nothing, nothing_found}
+
+-- a reader stands behind these lines of a text, and these are left, with their numbers
+pub record StandsBehind (text : List ℕ) (lines : List Words) (left : List (List ℕ))
+    (ahead : List (ℕ × List ℕ)) (r : Reader) : Type 0 where
+  pub reads : Reads lines r
+  pub numbered : ahead ≡ numbered_from (r.lines + 1) left
+  pub all : lines_in text ≡ reverse_aux (up_to_end (map words_of left)) lines
+
+-- a new reader stands behind no line
+pub nothing_read : (show : Tables) → show ≡ nothing
+    → Reads [] (record { show = show; owner = None; lines = 0; skipped = 0 })
+nothing_read show is = record {
+  shows = λ k. ap (λ s. found s k) is ∙ nothing_found k;
+  faultless = refl;
+  owner = refl;
+  present = tt;
+  count = sym (ap (λ s. maps.len s.cues) is ∙ maps.len-empty nat_cmp CueData);
+  number = refl;
+  skipped = refl;
+}
+
+-- the next line, and those behind it
+pub next_line : (n : ℕ) (left : List (List ℕ)) (p : ℕ × List ℕ) (ps : List (ℕ × List ℕ))
+    → p ∷ ps ≡ numbered_from n left
+    → (rest : List (List ℕ)) × (left ≡ p.1 ∷ rest) × (ps ≡ numbered_from (n + 1) rest) × (p.0 ≡ n)
+next_line n [] p ps e = cc
+next_line n (l ∷ rest) p ps e = (rest, cc, cc, cc)
+
+module _ (text : List ℕ) (lines : List Words) (l : Words) (ls : List Words)
+    (all : lines_in text ≡ reverse_aux (up_to_end (l ∷ ls)) lines) where
+  -- behind a line that does not end the text, the rest is left; behind one that does, nothing is
+  pub go_on : ends l ≡ false → lines_in text ≡ reverse_aux (up_to_end ls) (l ∷ lines)
+  go_on on = all ∙ ap (λ b. reverse_aux (cond b [] (up_to_end ls)) (l ∷ lines)) on
+
+  pub stop_here : ends l ≡ true → lines_in text ≡ l ∷ lines
+  stop_here end = all ∙ ap (λ b. reverse_aux (cond b [] (up_to_end ls)) (l ∷ lines)) end
+
+-- a fault stays, whatever is read below it
+fault_stays : (more lines : List Words) (f : ShowFault) → first_fault (said_by lines) ≡ Some f
+    → first_fault (said_by (reverse_aux more lines)) ≡ Some f
+fault_stays [] lines f h = h
+fault_stays (m ∷ more) lines f h =
+    let here = fault_below (said_by lines) (statement_below desk lines m) in
+    fault_stays more (m ∷ lines) f
+    (ap (λ o. option_or o (option_map (fault_at (length (said_by lines) + 1)) here)) h)
+
+-- what holds of the statements above the first fault holds of those of the first lines
+front_stays : (P : Statement → Type 0) (more lines : List Words)
+    → All P (faultless_front (said_by (reverse_aux more lines)))
+    → All P (faultless_front (said_by lines))
+front_stays P [] lines h = h
+front_stays P (m ∷ more) lines h =
+    go (is_some (first_fault (said_by (m ∷ lines)))) (front_stays P more (m ∷ lines) h)
+  where
+    go : (b : Bool)
+        → All P (cond b [] (statement_below desk lines m ∷ []) ++ faultless_front (said_by lines))
+        → All P (faultless_front (said_by lines))
+    go true all = all
+    go false all = All-rest P _ _ _ refl all
+
+-- the fault of the next line is the text's
+pub fault_found : (text : List ℕ) (lines : List Words) (l : Words) (ls : List Words) (f : ShowFault)
+    → nat_lt longest_text (length text) ≡ false
+    → lines_in text ≡ reverse_aux (up_to_end (l ∷ ls)) lines
+    → first_fault (said_by (l ∷ lines)) ≡ Some f → fault_of desk text ≡ Some f
+fault_found text lines l ls f short all fault =
+    ap (λ b. cond b (Some show_fault.TooLong) (first_fault (statements_of desk text))) short
+    ∙ ap (λ ms. first_fault (said_by ms)) all
+    ∙ fault_stays (cond (ends l) [] (up_to_end ls)) (l ∷ lines) f fault
+
+-- where memory may run out at the next line, something grows
+pub something_grows : (text : List ℕ) (lines : List Words) (l : Words) (ls : List Words)
+    → lines_in text ≡ reverse_aux (up_to_end (l ∷ ls)) lines → MayLackMemory lines l
+    → NothingGrows desk text → ⊥
+something_grows text lines l ls all lacks nothing =
+    let P : Statement → Type 0 = λ s. grows s ≡ false in
+    let front
+    = front_stays P (cond (ends l) [] (up_to_end ls)) (l ∷ lines)
+    (subst (λ ms. All P (faultless_front (said_by ms))) all nothing) in
+    let here
+    = subst (λ o. All P (cond (is_some o) [] (statement_below desk lines l ∷ [])
+    ++ faultless_front (said_by lines))) lacks.faultless front in
+    false≢true (sym (All-head P (statement_below desk lines l) (faultless_front (said_by lines)) here)
+    ∙ lacks.grows)
+
+-- ---- the last line
+
+-- the reader stands behind the whole text: what it answers
+pub record IsRead (text : List ℕ) (r : Reader) : Type 0 where
+  pub faultless : fault_of desk text ≡ None
+  pub show : IsShowOf (statements_of desk text) r.show
+  pub lines : r.lines ≡ lines_read desk text
+  pub skipped : r.skipped ≡ lines_skipped desk text
+
+-- a reader behind all lines answers for the text
+pub all_read : (text : List ℕ) (lines : List Words) (r : Reader)
+    → nat_lt longest_text (length text) ≡ false → lines_in text ≡ lines → Reads lines r
+    → IsRead text r
+all_read text lines r short all h = record {
+  faultless =
+      ap (λ b. cond b (Some show_fault.TooLong) (first_fault (statements_of desk text))) short
+      ∙ ap (λ ls. first_fault (said_by ls)) all ∙ h.faultless;
+  show = subst (λ ls. IsShowOf (said_by ls) r.show) (sym all) h.shows;
+  lines = h.number ∙ ap (λ ls. length (said_by ls)) (sym all);
+  skipped = h.skipped ∙ ap (λ ls. count_by is_skipped (said_by ls)) (sym all);
+}
+
+-- a number that is at most another is not above it
+pub not_longer : (a b : ℕ) → b ≤ a → nat_lt a b ≡ false
+not_longer a b h = grind (arith, nat_tests)
