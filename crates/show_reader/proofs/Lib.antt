@@ -3,5 +3,4 @@ pub mod OneLine
 pub mod WholeText
 pub mod Limits
 pub mod OneShow
-pub mod Grown
 mod Rows

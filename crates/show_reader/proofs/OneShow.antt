@@ -50,7 +50,7 @@ same_cues (Some a) (Some b) there levels ups downs =
     ap Some is
 
 -- tables that are alike one by one
-same_tables : (s t : Tables) → s.cues ≡ t.cues → s.subs ≡ t.subs → s.groups ≡ t.groups
+pub same_tables : (s t : Tables) → s.cues ≡ t.cues → s.subs ≡ t.subs → s.groups ≡ t.groups
     → s.patch ≡ t.patch → s ≡ t
 same_tables s t cues subs groups patch =
     let made : CueMap → MasterMap → MasterMap → PatchMap → Tables =

@@ -8,7 +8,7 @@ use Rattle.std.specs.Ordering.{nat_cmp}
 use Rattle.std.proofs.lemmas.Bool.Decides.{nat_tests}
 use Rattle.std.proofs.lemmas.List.Elements.{All-head, All-rest}
 use mathlib.Core.Bool.{false≢true}
-use mathlib.Core.List.{reverse_aux}
+use mathlib.Core.List.{reverse_aux, cons-ne-nil}
 use Rattle.ascii_text.specs.Text.{words_of, numbered_from}
 use Rattle.show_core.specs.declared.cue.CueData.{CueData}
 use Rattle.show_core.specs.Tables.{Tables}
@@ -25,6 +25,7 @@ use Rattle.show_reader.specs.Reading.{fault_below, fault_at, first_fault, fault_
 use Rattle.show_reader.specs.Reading.{longest_text, grows, faultless_front, NothingGrows}
 use Rattle.show_reader.specs.Reads.{said_by, Reads, MayLackMemory}
 use Rattle.show_reader.proofs.Found.{nothing, nothing_found}
+use Rattle.show_reader.proofs.OneShow.{same_tables}
 
 -- a reader stands behind these lines of a text, and these are left, with their numbers
 pub record StandsBehind (text : List ℕ) (lines : List Words) (left : List (List ℕ))
@@ -34,24 +35,62 @@ pub record StandsBehind (text : List ℕ) (lines : List Words) (left : List (Lis
   pub all : lines_in text ≡ reverse_aux (up_to_end (map words_of left)) lines
 
 -- a new reader stands behind no line
-pub nothing_read : (show : Tables) → show ≡ nothing
+pub nothing_read : (show : Tables) → show.cues ≡ maps.empty → show.subs ≡ maps.empty
+    → show.groups ≡ maps.empty → show.patch ≡ maps.empty
     → Reads [] (record { show = show; owner = None; lines = 0; skipped = 0 })
-nothing_read show is = record {
-  shows = λ k. ap (λ s. found s k) is ∙ nothing_found k;
+nothing_read show cues subs groups patch = record {
+  shows =
+      λ k. ap (λ s. found s k) (same_tables show nothing cues subs groups patch)
+      ∙ nothing_found k;
   faultless = refl;
   owner = refl;
   present = tt;
-  count = sym (ap (λ s. maps.len s.cues) is ∙ maps.len-empty nat_cmp CueData);
+  count = sym (ap maps.len cues ∙ maps.len-empty nat_cmp CueData);
   number = refl;
   skipped = refl;
 }
 
--- the next line, and those behind it
-pub next_line : (n : ℕ) (left : List (List ℕ)) (p : ℕ × List ℕ) (ps : List (ℕ × List ℕ))
-    → p ∷ ps ≡ numbered_from n left
-    → (rest : List (List ℕ)) × (left ≡ p.1 ∷ rest) × (ps ≡ numbered_from (n + 1) rest) × (p.0 ≡ n)
-next_line n [] p ps e = cc
-next_line n (l ∷ rest) p ps e = (rest, cc, cc, cc)
+-- the next line, and what is left behind it
+pub record Next (text : List ℕ) (lines : List Words) (r : Reader) (number : ℕ) (bytes : List ℕ)
+    (behind : List (ℕ × List ℕ)) : Type 0 where
+  pub rest : List (List ℕ)
+  pub all : lines_in text
+      ≡ reverse_aux (up_to_end (words_of bytes ∷ map words_of rest)) lines
+  pub numbers : behind ≡ numbered_from (r.lines + 1 + 1) rest
+  pub here : number ≡ r.lines + 1
+
+-- numbered lines are a line and those behind it
+next_numbered : (n : ℕ) (left : List (List ℕ)) (number : ℕ) (bytes : List ℕ)
+    (behind : List (ℕ × List ℕ)) → (number, bytes) ∷ behind ≡ numbered_from n left
+    → (rest : List (List ℕ)) × (left ≡ bytes ∷ rest) × (behind ≡ numbered_from (n + 1) rest)
+    × (number ≡ n)
+next_numbered n [] number bytes behind e = cc
+next_numbered n (l ∷ rest) number bytes behind e =
+    let first : ◌≡◌ {A = ℕ × List ℕ} (number, bytes) (n, l) = cc in
+    (rest, ap (λ b. b.1 ∷ rest) (sym first), cc, ap (λ b. b.0) first)
+
+pub next_line : (text : List ℕ) (lines : List Words) (left : List (List ℕ))
+    (ahead : List (ℕ × List ℕ)) (r : Reader) (number : ℕ) (bytes : List ℕ)
+    (behind : List (ℕ × List ℕ)) → StandsBehind text lines left ahead r
+    → ahead ≡ (number, bytes) ∷ behind → Next text lines r number bytes behind
+next_line text lines left ahead r number bytes behind h front =
+    let next
+    = next_numbered (r.lines + 1) left number bytes behind (sym front ∙ h.numbered) in
+    record {
+      rest = next.0;
+      all = h.all ∙ ap (λ ls. reverse_aux (up_to_end (map words_of ls)) lines) next.1;
+      numbers = next.2;
+      here = next.3;
+    }
+
+-- where no line is left, all are read
+pub last_line : (text : List ℕ) (lines : List Words) (left : List (List ℕ))
+    (ahead : List (ℕ × List ℕ)) (r : Reader) → StandsBehind text lines left ahead r → ahead ≡ []
+    → lines_in text ≡ lines
+last_line text lines [] ahead r h none = h.all
+last_line text lines (l ∷ left) ahead r h none =
+    let e : (r.lines + 1, l) ∷ numbered_from (r.lines + 1 + 1) left ≡ [] = sym h.numbered ∙ none in
+    absurd (cons-ne-nil _ _ e)
 
 module _ (text : List ℕ) (lines : List Words) (l : Words) (ls : List Words)
     (all : lines_in text ≡ reverse_aux (up_to_end (l ∷ ls)) lines) where
