@@ -1,8 +1,7 @@
 -- A text means one show alone.
-use Rattle.std.proofs.Common.{◌≡◌, ◌∙◌, sym, ap, refl, ℕ, List, true, true≢false}
-use Rattle.std.proofs.Common.{Option, Some, None, is_some, option_map, IfSome, IsSomeAnd}
+use Rattle.std.proofs.Common.{◌≡◌, ◌∙◌, sym, ap, ℕ, List, true, true≢false}
+use Rattle.std.proofs.Common.{Option, Some, None, is_some, IfSome, IsSomeAnd}
 use Rattle.std.specs.FinMap as maps
-use Rattle.show_core.specs.declared.cue.CueData.{CueData}
 use Rattle.show_core.specs.Tables.{Tables}
 use Rattle.show_line.specs.Said.{desk}
 use Rattle.show_line.specs.declared.statement.Record.TheVariants.{Cue}
@@ -11,6 +10,7 @@ use Rattle.show_reader.specs.Text.{statements_of}
 use Rattle.show_reader.specs.Meaning.{is_there}
 use Rattle.show_reader.specs.Reading.{lines_read, lines_skipped}
 use Rattle.show_reader.specs.Shows.{IsShowOf}
+use Rattle.show_reader.proofs.Found.{record_there}
 use Rattle.show_reader.proofs.OneShow.{of_its_show}
 use Rattle.cueplayer_runs.specs.Texts.{check_text, IsLookText}
 use Rattle.cueplayer_runs.specs.Prints.{IsCheckOf, IsLookOf}
@@ -43,12 +43,7 @@ look_of show cue cid written s is there lines =
     some_and (maps.get s.cues cue) (λ look. IsLookText look.levels s.patch cid written) there lines in
     of_its_show show P s is holds
 
--- a cue's levels are there where the cue is
-is_some-levels : (o : Option CueData) → is_some (option_map (λ cue. cue.levels) o) ≡ is_some o
-is_some-levels None = refl
-is_some-levels (Some cue) = refl
-
 -- a cue is there where the show has it
 pub cue_is_there : (ss : List Statement) (s : Tables) (cue : ℕ) → IsShowOf ss s
     → is_there (Cue cue) ss ≡ is_some (maps.get s.cues cue)
-cue_is_there ss s cue is = sym (is.records (Cue cue)) ∙ is_some-levels (maps.get s.cues cue)
+cue_is_there ss s cue is = sym (record_there ss s (Cue cue) is)

@@ -1,7 +1,7 @@
 -- What a statement does to a show is what it says: at each key the show answers as it did, but for
 -- the statement's news.
 use Rattle.std.proofs.Common.{◌≡◌, ℕ, ◌+◌, Bool, true, false, cond, ◌&&◌, IsTrue, List, [], ◌∷◌}
-use Rattle.std.proofs.Common.{refl, sym, ap, ◌∙◌, eqb, Option, Some, None, is_some, inl, inr, add-zero}
+use Rattle.std.proofs.Common.{refl, sym, ap, ◌∙◌, Option, Some, None, is_some, inl, inr, add-zero}
 use Rattle.std.specs.Prelude.{◌==◌, option_and_then}
 use Rattle.std.specs.Option.{option_map_or}
 use Rattle.std.specs.Ordering.{nat_cmp}
@@ -11,8 +11,8 @@ use Rattle.std.proofs.lemmas.Bool.{cases_eq, ne_eqb, eq-eqb}
 use mathlib.Core.Bool.{false≢true}
 use Rattle.show_core.specs.declared.cue.CueData.{CueData}
 use Rattle.show_core.specs.declared.rate.Rate.{Rate}
-use Rattle.show_core.specs.Tables.{CueMap, PatchMap, Tables}
-use Rattle.show_core.specs.Builders.{blank, changed, opened, patched_with}
+use Rattle.show_core.specs.Tables.{PatchMap, Tables}
+use Rattle.show_core.specs.Builders.{blank, patched_with}
 use Rattle.show_line.specs.declared.statement.Record.{Record}
 use Rattle.show_line.specs.declared.statement.Record.TheVariants.{Cue, Group, Sub}
 use Rattle.show_line.specs.declared.statement.Table.TheVariants.{Cues, Groups, Subs, Patch}
@@ -22,8 +22,8 @@ use Rattle.show_line.specs.declared.statement.Statement.{Statement}
 use Rattle.show_line.specs.declared.statement.Statement.TheVariants.{Opens, Levels, Rises, Falls}
 use Rattle.show_line.specs.declared.statement.Statement.TheVariants.{Patches, Clears}
 use Rattle.show_line.specs.declared.triples.Triple.{Triple}
-use Rattle.show_reader.specs.Keys.{Key, There, Level, Up, Down, Dimmer, Answer, has_record, found}
-use Rattle.show_reader.specs.Meaning.{News, Is, Gone, Silent, after, newer, last_news, pair_says}
+use Rattle.show_reader.specs.Keys.{Key, There, Level, Up, Down, Dimmer, has_record, found}
+use Rattle.show_reader.specs.Meaning.{News, Is, Gone, Silent, after, newer, pair_says}
 use Rattle.show_reader.specs.Meaning.{triple_says, says, cue_count, is_there}
 use Rattle.show_reader.specs.Shows.{IsShowOf}
 use Rattle.show_reader.specs.Applied.{with_record, with_channel, with_pairs, with_triples, without}

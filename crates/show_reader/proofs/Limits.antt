@@ -7,7 +7,6 @@ use Rattle.std.specs.Option.{option_or}
 use Rattle.std.proofs.lemmas.List.Elements.{All-head, All-rest}
 use Rattle.std.proofs.lemmas.Option.{none-some}
 use mathlib.Core.Bool.{false≢true}
-use Rattle.show_core.specs.Tables.{Tables}
 use Rattle.show_line.specs.declared.fault.LineFault.{LineFault}
 use Rattle.show_line.specs.declared.statement.Record.{Record}
 use Rattle.show_line.specs.declared.statement.Statement.{Statement}
@@ -20,14 +19,12 @@ use Rattle.show_line.specs.Said.{opened}
 use Rattle.show_line.specs.Sound.{IsFaultless}
 use Rattle.show_line.proofs.Wider.{said_wider}
 use Rattle.show_line.proofs.Room.{IsPairWithin, IsTripleWithin, IsWithin, said_within}
-use Rattle.show_reader.specs.declared.fault.ShowFault.{ShowFault}
 use Rattle.show_reader.specs.declared.fault.ShowFault.TheVariants as show_fault
 use Rattle.show_reader.specs.Text.{Words, owns, said_under, owner_below, statement_below, statements}
 use Rattle.show_reader.specs.Text.{statements_of, lines_in}
 use Rattle.show_reader.specs.Keys.{Key, There, Level, Up, Down, Dimmer, Answer, table_at}
 use Rattle.show_reader.specs.Meaning.{News, Is, Gone, Silent, after, newer, last_news, pair_says}
 use Rattle.show_reader.specs.Meaning.{triple_says, says, meaning, same_record, empties}
-use Rattle.show_reader.specs.Shows.{IsShowOf}
 use Rattle.show_reader.specs.Reading.{fault_at, fault_below, first_fault, fault_of, ReadsAlike}
 use Rattle.show_reader.specs.Reading.{longest_text, IsAnswerWithin}
 

@@ -11,7 +11,6 @@ use Rattle.std.proofs.lemmas.List.Sums.{sum_by-cons, count_by-le-length}
 use Rattle.std.proofs.lemmas.Option.{none-some}
 use mathlib.Core.Bool.{false≢true}
 use Rattle.ascii_text.specs.Forms.{same_word}
-use Rattle.show_core.specs.Numbers.{is_cue_number}
 use Rattle.show_core.specs.Tables.{Tables}
 use Rattle.show_line.specs.declared.fault.LineFault.{LineFault}
 use Rattle.show_line.specs.declared.fault.LineFault.TheVariants as fault
@@ -25,7 +24,6 @@ use Rattle.show_line.specs.declared.statement.Statement.{Statement}
 use Rattle.show_line.specs.declared.statement.Statement.TheVariants.{Opens, Levels, Rises, Falls}
 use Rattle.show_line.specs.declared.statement.Statement.TheVariants.{Patches}
 use Rattle.show_line.specs.declared.statement.Statement.TheVariants.{Clears, Quiet, Skipped, Faulty}
-use Rattle.show_line.specs.declared.triples.Triple.{Triple}
 use Rattle.show_line.specs.Keywords.{keyword_of, may_own, is_end, named}
 use Rattle.show_line.specs.Faults.{lower, cue_fault, number_fault, page_fault}
 use Rattle.show_line.specs.Pairs.{pair_fault, pairs_in, triple_fault, triples_in}
@@ -35,9 +33,8 @@ use Rattle.show_line.specs.Said.{group_named, sub_named, cleared_names, reading_
 use Rattle.show_line.specs.Sound.{IsSound}
 use Rattle.show_reader.specs.declared.apply.Refusal.{Refusal}
 use Rattle.show_reader.specs.declared.apply.Refusal.TheVariants as refusal
-use Rattle.show_reader.specs.declared.fault.ShowFault.{ShowFault}
 use Rattle.show_reader.specs.declared.read.Reader.{Reader}
-use Rattle.show_reader.specs.Text.{Words, owns, ends, said_under, owner_after, statement_below}
+use Rattle.show_reader.specs.Text.{Words, owns, ends, said_under, owner_after}
 use Rattle.show_reader.specs.Keys.{There, has_record, found}
 use Rattle.show_reader.specs.Meaning.{Is, Silent, after, newer, last_news, says}
 use Rattle.show_reader.specs.Meaning.{same_record, meaning, cue_count, is_skipped}

@@ -1,6 +1,6 @@
 -- What a reader has made of the lines of a text, and what it answers in the end.
 use Rattle.std.proofs.Common.{◌≡◌, ℕ, ◌+◌, ◌≤◌, Bool, true, false, cond, List, [], ◌∷◌, ◌++◌, length}
-use Rattle.std.proofs.Common.{All, map, refl, sym, ap, subst, ◌∙◌, arith, Option, Some, None, is_some}
+use Rattle.std.proofs.Common.{All, map, refl, sym, ap, subst, ◌∙◌, arith, Some, None, is_some}
 use Rattle.std.specs.Prelude.{nat_lt, count_by, option_map}
 use Rattle.std.specs.Option.{option_or}
 use Rattle.std.specs.FinMap as maps

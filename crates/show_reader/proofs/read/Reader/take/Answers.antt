@@ -6,7 +6,6 @@ use Rattle.show_line.specs.Said.{opened}
 use Rattle.show_line.specs.declared.statement.Statement.TheVariants.{Quiet}
 use Rattle.show_reader.specs.declared.read.Reader.{Reader}
 use Rattle.show_reader.specs.Text.{owns}
-use Rattle.show_reader.specs.Meaning.{is_skipped}
 use Rattle.show_reader.specs.Reads.{Reads, EndsAt}
 use Rattle.show_reader.proofs.OneLine.{reading_is, no_reading, owner_here, line_read, ends_at}
 use Rattle.show_reader.proofs.OneLine.{skipped_few}
