@@ -207,7 +207,6 @@ refused_is ss s show numbered h count = refl
 pub record IsReading (owner : Option Record) (l : Words) (reading : Reading) : Type 0 where
   pub statement : reading.statement ≡ said_under desk owner l
   pub owns : may_own reading.keyword ≡ owns l
-  pub ends : is_end reading.keyword ≡ ends l
 
 pub reading_is : (owner : Option Record) (l : Words) (reading : Reading)
     → Some reading ≡ reading_of desk owner l → IsReading owner l reading
@@ -219,13 +218,7 @@ reading_is owner (w ∷ words) reading e =
     record {
       statement = ap (λ (r : Reading). r.statement) is;
       owns = ap (λ (r : Reading). may_own r.keyword) is;
-      ends = ap (λ (r : Reading). is_end r.keyword) is;
     }
-
--- nothing is read of a line without words
-pub no_reading : (owner : Option Record) (l : Words) → None ≡ reading_of desk owner l → l ≡ []
-no_reading owner [] e = refl
-no_reading owner (w ∷ words) e = absurd (none-some _ e)
 
 -- a line has the owner that it needs
 owned_below : (owner : Option Record) (l : Words) (show : Tables) → IsHere show owner
@@ -285,23 +278,3 @@ module _ (lines : List Words) (l : Words) (r : Reader) (h : Reads lines r) (s : 
             = omega (arith, skipped, h.skipped, counted) in
             all ∙ ap (count_by is_skipped) (sym more);
       }
-
-  -- where it is refused, reading ends with its fault, or for want of memory
-  pub ends_at : IsSound s → (e : Refusal) → Explains r.show s e → (n : ℕ) → n ≡ r.lines + 1
-      → EndsAt lines l (refusal_at n e)
-  ends_at sound refusal.Memory explained n number =
-      let lacks : MayLackMemory lines l
-      = record {
-        faultless = fault_here sound ∙ ap (option_map (fault_at (r.lines + 1))) explained.0;
-        grows = ap (λ o. grows (said_under desk o l)) (sym h.owner) ∙ ap grows (sym is) ∙ explained.1;
-      } in
-      inl (refl, lacks)
-  ends_at sound (refusal.Fault f) explained n number =
-      inr (fault_here sound ∙ ap (option_map (fault_at (r.lines + 1))) explained
-      ∙ ap (λ k. Some (fault_at k f)) (sym number))
-
--- no more lines were skipped than there are
-pub skipped_few : (lines : List Words) (r : Reader) → Reads lines r → r.skipped ≤ r.lines
-skipped_few lines r h =
-    let few = count_by-le-length is_skipped (said_by lines) in
-    omega (arith, few, h.skipped, h.number)

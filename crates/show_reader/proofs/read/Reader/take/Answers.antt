@@ -7,21 +7,10 @@ use Rattle.show_line.specs.declared.statement.Statement.TheVariants.{Quiet}
 use Rattle.show_reader.specs.declared.read.Reader.{Reader}
 use Rattle.show_reader.specs.Text.{owns}
 use Rattle.show_reader.specs.Reads.{Reads, EndsAt}
-use Rattle.show_reader.proofs.OneLine.{reading_is, no_reading, owner_here, line_read, ends_at}
-use Rattle.show_reader.proofs.OneLine.{skipped_few}
+use Rattle.show_reader.proofs.OneLine.{reading_is, owner_here, line_read}
 use Rattle.show_reader.proofs.read.Reader.take.Goals as goal
 use Rattle.show_reader.proofs.read.Reader.take.Goals.{then-may_own, else-may_own, then-skipped}
 use Rattle.show_reader.proofs.read.Reader.take.Goals.{else-skipped}
-
-pub returns-in_default-clause-more : goal.returns-in_default-clause-more
-returns-in_default-clause-more c = λ lines h.
-    let none
-    = no_reading c.args.self.now.owner (words_of c.args.line.bytes.now)
-    c.in_default.ensures.means in
-    let r : Reader = record c.args.self.now { lines = c.args.line.number } in
-    subst (λ l. Reads (l ∷ lines) r) (sym none)
-    (line_read lines [] c.args.self.now h Quiet refl r tt refl refl refl c.requires.next
-    (omega arith))
 
 pub apply-requires-clause-owned : goal.apply-requires-clause-owned
 apply-requires-clause-owned c =
@@ -29,21 +18,6 @@ apply-requires-clause-owned c =
     let is = reading_is c.args.self.now.owner l c.in-Some.reading c.in-Some.ensures.means in
     owner_here c.requires.reads.0 l c.args.self.now c.requires.reads.1 c.in-Some.reading.statement
     is.statement
-
-pub returns-in-Err-clause-fault : goal.returns-in-Err-clause-fault
-returns-in-Err-clause-fault c = λ lines h.
-    let l = words_of c.args.line.bytes.now in
-    let is = reading_is c.args.self.now.owner l c.in-Some.reading c.in-Some.ensures.means in
-    subst (EndsAt lines l) (sym c.at.ensures)
-    (ends_at lines l c.args.self.now h c.in-Some.reading.statement is.statement
-    c.in-Some.ensures.sound c.in-Err.refusal c.in-Err.ensures.err c.args.line.number
-    c.requires.next)
-
-pub overflow_add-self : goal.overflow_add-self
-overflow_add-self c =
-    let few : c.args.self.now.skipped ≤ c.args.self.now.lines
-    = skipped_few c.requires.reads.0 c.args.self.now c.requires.reads.1 in
-    omega (arith, c.requires.next, c.ranges.line)
 
 pub returns-clause-more : goal.returns-clause-more
 returns-clause-more c = λ lines h.
