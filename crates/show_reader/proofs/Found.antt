@@ -2,7 +2,7 @@
 -- the statement's news.
 use Rattle.std.proofs.Common.{◌≡◌, ℕ, ◌+◌, Bool, true, false, cond, ◌&&◌, IsTrue, List, [], ◌∷◌}
 use Rattle.std.proofs.Common.{refl, sym, ap, ◌∙◌, Option, Some, None, is_some, inl, inr, add-zero}
-use Rattle.std.specs.Prelude.{◌==◌, option_and_then}
+use Rattle.std.specs.Prelude.{◌==◌, unwrap_or, option_and_then}
 use Rattle.std.specs.Option.{option_map_or}
 use Rattle.std.specs.Ordering.{nat_cmp}
 use Rattle.std.specs.Cmp.{nat_cmp_total, unsigned_tied}
@@ -11,7 +11,7 @@ use Rattle.std.proofs.lemmas.Bool.{cases_eq, ne_eqb, eq-eqb}
 use mathlib.Core.Bool.{false≢true}
 use Rattle.show_core.specs.declared.cue.CueData.{CueData}
 use Rattle.show_core.specs.declared.rate.Rate.{Rate}
-use Rattle.show_core.specs.Tables.{PatchMap, Tables}
+use Rattle.show_core.specs.Tables.{LevelMap, PatchMap, Tables}
 use Rattle.show_core.specs.Builders.{blank, patched_with}
 use Rattle.show_line.specs.declared.statement.Record.{Record}
 use Rattle.show_line.specs.declared.statement.Record.TheVariants.{Cue, Group, Sub}
@@ -50,9 +50,21 @@ both false x = refl
 
 -- ---- one entry of a table, as far as a look-up sees it
 
--- whether there is one
+-- whether there is one; the level of a channel in a cue, and in a master; the rates of a cue
 abbrev there_at : {V : Type 0} → Option V → Option (Unit {0})
 there_at o = cond (is_some o) (Some tt) None
+
+abbrev level_at : ℕ → Option CueData → Option ℕ
+level_at c = option_and_then (λ cue. maps.get cue.levels c)
+
+abbrev listed_at : ℕ → Option LevelMap → Option ℕ
+listed_at c = option_and_then (λ levels. maps.get levels c)
+
+abbrev up_at : Option CueData → Option Rate
+up_at = option_and_then (λ cue. cue.up)
+
+abbrev down_at : Option CueData → Option Rate
+down_at = option_and_then (λ cue. cue.down)
 
 module _ {V : Type 0} (m : maps.FinMap nat_cmp V) (n : ℕ) where
   -- a key that was set
@@ -71,35 +83,34 @@ module _ {V : Type 0} (m : maps.FinMap nat_cmp V) (n : ℕ) where
     | inr apart ↦ rw (ne_eqb q n apart) refl
   ]
 
-  -- a key that is opened, where a blank entry looks like none
-  opened_keeps : {Y : Type 0} (x : V) (q : ℕ) (seen : Option V → Y) → seen (Some x) ≡ seen None
+  -- an entry that is opened, with a blank one where there is none
+  opened_at : {Y : Type 0} (x : V) (q : ℕ) (seen : Option V → Y) (news : Y → Y)
+      → ((o : Option V) → seen (Some (unwrap_or o x)) ≡ news (seen o))
       → seen (maps.get (cond (maps.contains_key m n) m (maps.insert m n x)) q)
-      ≡ seen (maps.get m q)
-  opened_keeps x q seen blank_is = go (maps.get m n) refl
+      ≡ cond (q == n) (news (seen (maps.get m q))) (seen (maps.get m q))
+  opened_at x q seen news is_news = go (maps.get m n) refl
     where
       go : (o : Option V) → maps.get m n ≡ o
-          → seen (maps.get (cond (is_some o) m (maps.insert m n x)) q) ≡ seen (maps.get m q)
-      go (Some y) e = refl
-      go None e =
-          insert_at x q seen (seen (maps.get m q)) (λ is. blank_is ∙ ap seen (sym (is ∙ e)))
-          ∙ both (q == n) (seen (maps.get m q))
-
-  -- it is there now
-  opened_there : (x : V) (q : ℕ)
-      → there_at (maps.get (cond (maps.contains_key m n) m (maps.insert m n x)) q)
-      ≡ after (cond (q == n) (Is tt) Silent) (there_at (maps.get m q))
-  opened_there x q = go (maps.get m n) refl
-    where
-      go : (o : Option V) → maps.get m n ≡ o
-          → there_at (maps.get (cond (is_some o) m (maps.insert m n x)) q)
-          ≡ after (cond (q == n) (Is tt) Silent) (there_at (maps.get m q))
+          → seen (maps.get (cond (is_some o) m (maps.insert m n x)) q)
+          ≡ cond (q == n) (news (seen (maps.get m q))) (seen (maps.get m q))
       go (Some y) e = elim (cases_eq q n) [
-        | inl same ↦ rw (same, eq-eqb n n refl, e) refl
+        | inl same ↦ rw (same, eq-eqb n n refl, e) (is_news (Some y))
         | inr apart ↦ rw (ne_eqb q n apart) refl
       ]
       go None e =
-          insert_at x q there_at (Some tt) (λ is. refl)
-          ∙ after_if (q == n) (Is tt) (there_at (maps.get m q))
+          insert_at x q seen (news (seen (maps.get m q)))
+          (λ is. is_news None ∙ ap (λ o. news (seen o)) (sym (is ∙ e)))
+
+  -- what that leaves, where a blank entry looks like none
+  opened_keeps : {Y : Type 0} (x : V) (q : ℕ) (seen : Option V → Y) → seen (Some x) ≡ seen None
+      → seen (maps.get (cond (maps.contains_key m n) m (maps.insert m n x)) q)
+      ≡ seen (maps.get m q)
+  opened_keeps x q seen blank_is =
+      opened_at x q seen (λ y. y) (λ o. go o) ∙ both (q == n) (seen (maps.get m q))
+    where
+      go : (o : Option V) → seen (Some (unwrap_or o x)) ≡ seen o
+      go None = blank_is
+      go (Some y) = refl
 
   -- an entry that is changed, where it is there
   changed_at : {Y : Type 0} (f : V → V) (q : ℕ) (seen : Option V → Y) (news : Y → Y)
@@ -152,27 +163,27 @@ module _ {V : Type 0} (m : maps.FinMap nat_cmp V) (n : ℕ) where
 
 opens_found : (show : Tables) (r : Record) (k : Key)
     → found (with_record show r) k ≡ after (says (Opens r) k) (found show k)
-opens_found show (Cue n) (There (Cue m)) = opened_there show.cues n blank m
+opens_found show (Cue n) (There (Cue m)) =
+    opened_at show.cues n blank m there_at (λ o. Some tt) (λ o. refl) ∙ after_if (m == n) (Is tt) _
 opens_found show (Cue n) (Level (Cue m) c) =
-    opened_keeps show.cues n blank m (option_and_then (λ cue. maps.get cue.levels c))
-    (maps.get-empty nat_cmp c)
-opens_found show (Cue n) (Up m) =
-    opened_keeps show.cues n blank m (option_and_then (λ cue. cue.up)) refl
-opens_found show (Cue n) (Down m) =
-    opened_keeps show.cues n blank m (option_and_then (λ cue. cue.down)) refl
-opens_found show (Group n) (There (Group m)) = opened_there show.groups n maps.empty m
+    opened_keeps show.cues n blank m (level_at c) (maps.get-empty nat_cmp c)
+opens_found show (Cue n) (Up m) = opened_keeps show.cues n blank m up_at refl
+opens_found show (Cue n) (Down m) = opened_keeps show.cues n blank m down_at refl
+opens_found show (Group n) (There (Group m)) =
+    opened_at show.groups n maps.empty m there_at (λ o. Some tt) (λ o. refl)
+    ∙ after_if (m == n) (Is tt) _
 opens_found show (Group n) (Level (Group m) c) =
-    opened_keeps show.groups n maps.empty m (option_and_then (λ levels. maps.get levels c))
-    (maps.get-empty nat_cmp c)
-opens_found show (Sub n) (There (Sub m)) = opened_there show.subs n maps.empty m
+    opened_keeps show.groups n maps.empty m (listed_at c) (maps.get-empty nat_cmp c)
+opens_found show (Sub n) (There (Sub m)) =
+    opened_at show.subs n maps.empty m there_at (λ o. Some tt) (λ o. refl)
+    ∙ after_if (m == n) (Is tt) _
 opens_found show (Sub n) (Level (Sub m) c) =
-    opened_keeps show.subs n maps.empty m (option_and_then (λ levels. maps.get levels c))
-    (maps.get-empty nat_cmp c)
+    opened_keeps show.subs n maps.empty m (listed_at c) (maps.get-empty nat_cmp c)
 opens_found show r k = refl
 
 -- ---- CHAN
 
--- the level of a channel, where another was set to a byte
+-- the level of a channel, where that of another was set
 level_news : (p : ℕ × ℕ) (c : ℕ) (b : Bool) (o : Option ℕ)
     → cond b (cond (c == p.0) (Some p.1) o) o ≡ after (cond (b && (c == p.0)) (Is p.1) Silent) o
 level_news p c true o = after_if (c == p.0) (Is p.1) o
@@ -181,33 +192,25 @@ level_news p c false o = refl
 pair_found : (show : Tables) (r : Record) (p : ℕ × ℕ) → IsTrue (has_record show r) → (k : Key)
     → found (with_channel show r p.0 p.1) k ≡ after (pair_says r p k) (found show k)
 pair_found show (Cue n) p there (There (Cue m)) =
-    changed_keeps show.cues n (λ cue. record cue { levels = maps.insert cue.levels p.0 p.1 }) m
-    there_at there (λ cue. refl)
+    changed_keeps show.cues n _ m there_at there (λ cue. refl)
 pair_found show (Cue n) p there (Level (Cue m) c) =
-    changed_at show.cues n (λ cue. record cue { levels = maps.insert cue.levels p.0 p.1 }) m
-    (option_and_then (λ cue. maps.get cue.levels c)) (cond (c == p.0) (Some p.1)) there
+    changed_at show.cues n _ m (level_at c) (cond (c == p.0) (Some p.1)) there
     (λ cue. get-insert cue.levels p.0 p.1 c)
-    ∙ level_news p c (m == n) (found show (Level (Cue m) c))
-pair_found show (Cue n) p there (Up m) =
-    changed_keeps show.cues n (λ cue. record cue { levels = maps.insert cue.levels p.0 p.1 }) m
-    (option_and_then (λ cue. cue.up)) there (λ cue. refl)
-pair_found show (Cue n) p there (Down m) =
-    changed_keeps show.cues n (λ cue. record cue { levels = maps.insert cue.levels p.0 p.1 }) m
-    (option_and_then (λ cue. cue.down)) there (λ cue. refl)
+    ∙ level_news p c (m == n) _
+pair_found show (Cue n) p there (Up m) = changed_keeps show.cues n _ m up_at there (λ cue. refl)
+pair_found show (Cue n) p there (Down m) = changed_keeps show.cues n _ m down_at there (λ cue. refl)
 pair_found show (Group n) p there (There (Group m)) =
-    changed_keeps show.groups n (λ levels. maps.insert levels p.0 p.1) m there_at there (λ x. refl)
+    changed_keeps show.groups n _ m there_at there (λ levels. refl)
 pair_found show (Group n) p there (Level (Group m) c) =
-    changed_at show.groups n (λ levels. maps.insert levels p.0 p.1) m
-    (option_and_then (λ levels. maps.get levels c)) (cond (c == p.0) (Some p.1)) there
+    changed_at show.groups n _ m (listed_at c) (cond (c == p.0) (Some p.1)) there
     (λ levels. get-insert levels p.0 p.1 c)
-    ∙ level_news p c (m == n) (found show (Level (Group m) c))
+    ∙ level_news p c (m == n) _
 pair_found show (Sub n) p there (There (Sub m)) =
-    changed_keeps show.subs n (λ levels. maps.insert levels p.0 p.1) m there_at there (λ x. refl)
+    changed_keeps show.subs n _ m there_at there (λ levels. refl)
 pair_found show (Sub n) p there (Level (Sub m) c) =
-    changed_at show.subs n (λ levels. maps.insert levels p.0 p.1) m
-    (option_and_then (λ levels. maps.get levels c)) (cond (c == p.0) (Some p.1)) there
+    changed_at show.subs n _ m (listed_at c) (cond (c == p.0) (Some p.1)) there
     (λ levels. get-insert levels p.0 p.1 c)
-    ∙ level_news p c (m == n) (found show (Level (Sub m) c))
+    ∙ level_news p c (m == n) _
 pair_found show r p there k = refl
 
 -- a show has the records that it answers to
@@ -238,34 +241,25 @@ pairs_found show r (p ∷ ps) there k =
 rises_found : (show : Tables) (n : ℕ) (rate : Rate) → IsTrue (has_record show (Cue n)) → (k : Key)
     → found (applied (Rises n rate) show) k ≡ after (says (Rises n rate) k) (found show k)
 rises_found show n rate there (There (Cue m)) =
-    changed_keeps show.cues n (λ cue. record cue { up = Some rate }) m there_at there (λ cue. refl)
+    changed_keeps show.cues n _ m there_at there (λ cue. refl)
 rises_found show n rate there (Level (Cue m) c) =
-    changed_keeps show.cues n (λ cue. record cue { up = Some rate }) m
-    (option_and_then (λ cue. maps.get cue.levels c)) there (λ cue. refl)
+    changed_keeps show.cues n _ m (level_at c) there (λ cue. refl)
 rises_found show n rate there (Up m) =
-    changed_at show.cues n (λ cue. record cue { up = Some rate }) m
-    (option_and_then (λ cue. cue.up)) (λ o. Some rate) there (λ cue. refl)
-    ∙ after_if (m == n) (Is rate) (found show (Up m))
-rises_found show n rate there (Down m) =
-    changed_keeps show.cues n (λ cue. record cue { up = Some rate }) m
-    (option_and_then (λ cue. cue.down)) there (λ cue. refl)
+    changed_at show.cues n _ m up_at (λ o. Some rate) there (λ cue. refl)
+    ∙ after_if (m == n) (Is rate) _
+rises_found show n rate there (Down m) = changed_keeps show.cues n _ m down_at there (λ cue. refl)
 rises_found show n rate there k = refl
 
 falls_found : (show : Tables) (n : ℕ) (rate : Rate) → IsTrue (has_record show (Cue n)) → (k : Key)
     → found (applied (Falls n rate) show) k ≡ after (says (Falls n rate) k) (found show k)
 falls_found show n rate there (There (Cue m)) =
-    changed_keeps show.cues n (λ cue. record cue { down = Some rate }) m there_at there
-    (λ cue. refl)
+    changed_keeps show.cues n _ m there_at there (λ cue. refl)
 falls_found show n rate there (Level (Cue m) c) =
-    changed_keeps show.cues n (λ cue. record cue { down = Some rate }) m
-    (option_and_then (λ cue. maps.get cue.levels c)) there (λ cue. refl)
-falls_found show n rate there (Up m) =
-    changed_keeps show.cues n (λ cue. record cue { down = Some rate }) m
-    (option_and_then (λ cue. cue.up)) there (λ cue. refl)
+    changed_keeps show.cues n _ m (level_at c) there (λ cue. refl)
+falls_found show n rate there (Up m) = changed_keeps show.cues n _ m up_at there (λ cue. refl)
 falls_found show n rate there (Down m) =
-    changed_at show.cues n (λ cue. record cue { down = Some rate }) m
-    (option_and_then (λ cue. cue.down)) (λ o. Some rate) there (λ cue. refl)
-    ∙ after_if (m == n) (Is rate) (found show (Down m))
+    changed_at show.cues n _ m down_at (λ o. Some rate) there (λ cue. refl)
+    ∙ after_if (m == n) (Is rate) _
 falls_found show n rate there k = refl
 
 -- ---- PATCH
@@ -312,14 +306,11 @@ pub nothing_found : (k : Key) → found nothing k ≡ None
 nothing_found (There (Cue n)) = ap there_at (maps.get-empty nat_cmp n)
 nothing_found (There (Group n)) = ap there_at (maps.get-empty nat_cmp n)
 nothing_found (There (Sub n)) = ap there_at (maps.get-empty nat_cmp n)
-nothing_found (Level (Cue n) c) =
-    ap (option_and_then (λ cue. maps.get cue.levels c)) (maps.get-empty nat_cmp n)
-nothing_found (Level (Group n) c) =
-    ap (option_and_then (λ levels. maps.get levels c)) (maps.get-empty nat_cmp n)
-nothing_found (Level (Sub n) c) =
-    ap (option_and_then (λ levels. maps.get levels c)) (maps.get-empty nat_cmp n)
-nothing_found (Up n) = ap (option_and_then (λ cue. cue.up)) (maps.get-empty nat_cmp n)
-nothing_found (Down n) = ap (option_and_then (λ cue. cue.down)) (maps.get-empty nat_cmp n)
+nothing_found (Level (Cue n) c) = ap (level_at c) (maps.get-empty nat_cmp n)
+nothing_found (Level (Group n) c) = ap (listed_at c) (maps.get-empty nat_cmp n)
+nothing_found (Level (Sub n) c) = ap (listed_at c) (maps.get-empty nat_cmp n)
+nothing_found (Up n) = ap up_at (maps.get-empty nat_cmp n)
+nothing_found (Down n) = ap down_at (maps.get-empty nat_cmp n)
 nothing_found (Dimmer d) = maps.get-empty nat_cmp d
 
 clears_found : (what : Cleared) (show : Tables) (k : Key)
@@ -367,8 +358,7 @@ len-with_pairs : (show : Tables) (r : Record) (ps : List (ℕ × ℕ))
     → maps.len (with_pairs show r ps).cues ≡ maps.len show.cues
 len-with_pairs show r [] = refl
 len-with_pairs show (Cue n) (p ∷ ps) =
-    len-with_pairs (with_channel show (Cue n) p.0 p.1) (Cue n) ps
-    ∙ len-changed show.cues n (λ cue. record cue { levels = maps.insert cue.levels p.0 p.1 })
+    len-with_pairs (with_channel show (Cue n) p.0 p.1) (Cue n) ps ∙ len-changed show.cues n _
 len-with_pairs show (Group n) (p ∷ ps) =
     len-with_pairs (with_channel show (Group n) p.0 p.1) (Group n) ps
 len-with_pairs show (Sub n) (p ∷ ps) =
@@ -380,10 +370,8 @@ count_step ss (Opens (Cue n)) show h e =
     ap (λ b. cue_count ss + cond b 0 1) (sym (record_there ss show (Cue n) h))
     ∙ ap (λ k. k + cond (maps.contains_key show.cues n) 0 1) e ∙ sym (len-opened show.cues n blank)
 count_step ss (Levels r ps) show h e = e ∙ sym (len-with_pairs show r ps)
-count_step ss (Rises n rate) show h e =
-    e ∙ sym (len-changed show.cues n (λ cue. record cue { up = Some rate }))
-count_step ss (Falls n rate) show h e =
-    e ∙ sym (len-changed show.cues n (λ cue. record cue { down = Some rate }))
+count_step ss (Rises n rate) show h e = e ∙ sym (len-changed show.cues n _)
+count_step ss (Falls n rate) show h e = e ∙ sym (len-changed show.cues n _)
 count_step ss (Clears All) show h e = sym (maps.len-empty nat_cmp CueData)
 count_step ss (Clears (Only Cues)) show h e = sym (maps.len-empty nat_cmp CueData)
 count_step ss s show h e = e
