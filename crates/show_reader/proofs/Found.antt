@@ -23,8 +23,8 @@ use Rattle.show_line.specs.declared.statement.Statement.TheVariants.{Opens, Leve
 use Rattle.show_line.specs.declared.statement.Statement.TheVariants.{Patches, Clears}
 use Rattle.show_line.specs.declared.triples.Triple.{Triple}
 use Rattle.show_reader.specs.Keys.{Key, There, Level, Up, Down, Dimmer, has_record, found}
-use Rattle.show_reader.specs.Meaning.{News, Is, Gone, Silent, after, newer, pair_says}
-use Rattle.show_reader.specs.Meaning.{triple_says, says, cue_count, is_there}
+use Rattle.show_reader.specs.Meaning.{News, Is, Gone, Silent, after, newer, pair_says, triple_says}
+use Rattle.show_reader.specs.Meaning.{says, cue_count, is_there}
 use Rattle.show_reader.specs.Shows.{IsShowOf}
 use Rattle.show_reader.specs.Applied.{with_record, with_channel, with_pairs, with_triples, without}
 use Rattle.show_reader.specs.Applied.{applied, HasOwner}
@@ -222,8 +222,8 @@ pub record_is : (show : Tables) (r : Record) → is_some (found show (There r)) 
 record_is show r = some_if (has_record show r)
 
 -- a pair leaves the records
-pub pair_there : (show : Tables) (r : Record) (p : ℕ × ℕ) → IsTrue (has_record show r) → (q : Record)
-    → has_record (with_channel show r p.0 p.1) q ≡ has_record show q
+pub pair_there : (show : Tables) (r : Record) (p : ℕ × ℕ) → IsTrue (has_record show r)
+    → (q : Record) → has_record (with_channel show r p.0 p.1) q ≡ has_record show q
 pair_there show r p there q =
     sym (record_is (with_channel show r p.0 p.1) q)
     ∙ ap is_some (pair_found show r p there (There q)) ∙ record_is show q

@@ -1,7 +1,8 @@
 -- Wider limits leave the meaning of a text that has no fault under narrower ones, and what it means
 -- stays within those.
 use Rattle.std.proofs.Common.{◌≡◌, ℕ, ◌+◌, ◌≤◌, Bool, true, false, cond, ◌&&◌, List, [], ◌∷◌, All}
-use Rattle.std.proofs.Common.{length, refl, sym, ap, subst, ◌∙◌, Option, Some, None, IfSome, eqb-true}
+use Rattle.std.proofs.Common.{length, refl, sym, ap, subst, ◌∙◌, Option, Some, None, IfSome}
+use Rattle.std.proofs.Common.{eqb-true}
 use Rattle.std.specs.Prelude.{◌==◌, nat_lt, option_map}
 use Rattle.std.specs.Option.{option_or}
 use Rattle.std.proofs.lemmas.List.Elements.{All-head, All-rest}
@@ -20,8 +21,8 @@ use Rattle.show_line.specs.Sound.{IsFaultless}
 use Rattle.show_line.proofs.Wider.{said_wider}
 use Rattle.show_line.proofs.Room.{IsPairWithin, IsTripleWithin, IsWithin, said_within}
 use Rattle.show_reader.specs.declared.fault.ShowFault.TheVariants as show_fault
-use Rattle.show_reader.specs.Text.{Words, owns, said_under, owner_below, statement_below, statements}
-use Rattle.show_reader.specs.Text.{statements_of, lines_in}
+use Rattle.show_reader.specs.Text.{Words, owns, said_under, owner_below, statement_below}
+use Rattle.show_reader.specs.Text.{statements, statements_of, lines_in}
 use Rattle.show_reader.specs.Keys.{Key, There, Level, Up, Down, Dimmer, Answer, table_at}
 use Rattle.show_reader.specs.Meaning.{News, Is, Gone, Silent, after, newer, last_news, pair_says}
 use Rattle.show_reader.specs.Meaning.{triple_says, says, meaning, same_record, empties}
@@ -62,7 +63,8 @@ module _ (narrow wide : Limits) (more_channels : narrow.channels ≤ wide.channe
       let ss = statements narrow above in
       let s = statement_below narrow above l in
       let parts
-      = both_none (first_fault ss) (option_map (fault_at (length ss + 1)) (fault_below ss s)) none in
+      = both_none (first_fault ss) (option_map (fault_at (length ss + 1)) (fault_below ss s))
+      none in
       let same_above = alike above parts.0 in
       let fine = faultless_is ss s (none_at_all (length ss + 1) (fault_below ss s) parts.1) in
       let same : statement_below wide above l ≡ s
@@ -139,7 +141,8 @@ module _ (lim : Limits) where
   says_within (Rises n rate) h (Up m) = if_within lim (Up m) (m == n) (Is rate) (λ e. tt)
   says_within (Falls n rate) h (Down m) = if_within lim (Down m) (m == n) (Is rate) (λ e. tt)
   says_within (Patches ts) h k =
-      list_within lim k (IsTripleWithin lim) (λ t. triple_says t k) (λ t w. triple_within t w k) ts h
+      list_within lim k (IsTripleWithin lim) (λ t. triple_says t k) (λ t w. triple_within t w k)
+      ts h
   says_within (Clears what) h k = if_within lim k (empties what (table_at k)) Gone (λ e. tt)
   says_within s h k = tt
 

@@ -1,13 +1,13 @@
 -- What a reader has made of the lines so far, with one line more.
 use Rattle.std.proofs.Common.{◌≡◌, ℕ, ◌+◌, Bool, true, false, cond, not, ◌||◌, ◌&&◌, List, [], ◌∷◌}
 use Rattle.std.proofs.Common.{IsTrue, length, refl, sym, ap, subst, ◌∙◌, arith, Option, Some, None}
-use Rattle.std.proofs.Common.{inl, inr, is_some}
-use Rattle.std.specs.Prelude.{IfSome, nat_le, nat_lt, count_by, codes, ◌≤◌, option_map}
+use Rattle.std.proofs.Common.{is_some}
+use Rattle.std.specs.Prelude.{IfSome, nat_le, nat_lt, count_by, codes, option_map}
 use Rattle.std.specs.Option.{option_map_or, option_or}
 use Rattle.std.specs.FinMap as maps
 use Rattle.std.proofs.lemmas.Bool.{eq-eqb}
 use Rattle.std.proofs.lemmas.Bool.Decides.{nat_tests}
-use Rattle.std.proofs.lemmas.List.Sums.{sum_by-cons, count_by-le-length}
+use Rattle.std.proofs.lemmas.List.Sums.{sum_by-cons}
 use Rattle.std.proofs.lemmas.Option.{none-some}
 use mathlib.Core.Bool.{false≢true}
 use Rattle.ascii_text.specs.Forms.{same_word}
@@ -22,26 +22,24 @@ use Rattle.show_line.specs.declared.statement.Record.TheVariants.{Cue, Group, Su
 use Rattle.show_line.specs.declared.statement.Cleared.{Cleared}
 use Rattle.show_line.specs.declared.statement.Statement.{Statement}
 use Rattle.show_line.specs.declared.statement.Statement.TheVariants.{Opens, Levels, Rises, Falls}
-use Rattle.show_line.specs.declared.statement.Statement.TheVariants.{Patches}
-use Rattle.show_line.specs.declared.statement.Statement.TheVariants.{Clears, Quiet, Skipped, Faulty}
-use Rattle.show_line.specs.Keywords.{keyword_of, may_own, is_end, named}
+use Rattle.show_line.specs.declared.statement.Statement.TheVariants.{Patches, Clears, Quiet}
+use Rattle.show_line.specs.declared.statement.Statement.TheVariants.{Skipped, Faulty}
+use Rattle.show_line.specs.Keywords.{keyword_of, may_own, named}
 use Rattle.show_line.specs.Faults.{lower, cue_fault, number_fault, page_fault}
 use Rattle.show_line.specs.Pairs.{pair_fault, pairs_in, triple_fault, triples_in}
 use Rattle.show_line.specs.Said.{desk, said, opened, unless_faulty, record_said, patch_said}
 use Rattle.show_line.specs.Said.{rate_fault, rate_in, ident_said, clear_said, is_page_1, cue_named}
 use Rattle.show_line.specs.Said.{group_named, sub_named, cleared_names, reading_of}
 use Rattle.show_line.specs.Sound.{IsSound}
-use Rattle.show_reader.specs.declared.apply.Refusal.{Refusal}
-use Rattle.show_reader.specs.declared.apply.Refusal.TheVariants as refusal
 use Rattle.show_reader.specs.declared.read.Reader.{Reader}
-use Rattle.show_reader.specs.Text.{Words, owns, ends, said_under, owner_after}
+use Rattle.show_reader.specs.Text.{Words, owns, said_under, owner_after}
 use Rattle.show_reader.specs.Keys.{There, has_record, found}
-use Rattle.show_reader.specs.Meaning.{Is, Silent, after, newer, last_news, says}
-use Rattle.show_reader.specs.Meaning.{same_record, meaning, cue_count, is_skipped}
+use Rattle.show_reader.specs.Meaning.{Is, Silent, after, newer, last_news, says, same_record}
+use Rattle.show_reader.specs.Meaning.{meaning, cue_count, is_skipped}
 use Rattle.show_reader.specs.Shows.{IsShowOf}
-use Rattle.show_reader.specs.Reading.{fault_at, fault_below, first_fault, grows}
-use Rattle.show_reader.specs.Applied.{applied, refused_by, HasOwner, Explains}
-use Rattle.show_reader.specs.Reads.{said_by, Reads, MayLackMemory, EndsAt, refusal_at}
+use Rattle.show_reader.specs.Reading.{fault_at, fault_below, first_fault}
+use Rattle.show_reader.specs.Applied.{applied, refused_by, HasOwner}
+use Rattle.show_reader.specs.Reads.{said_by, Reads}
 use Rattle.show_reader.proofs.Found.{applied_found, record_is, record_there, step, count_step}
 
 -- ---- a secondary line speaks of its owner, and does not clear
@@ -129,7 +127,8 @@ owned owner own s show of h = tt
 
 -- a record is there below a statement where the statement leaves it, or opens it
 there_below : (s : Statement) (show : Tables) → HasOwner show s → (q : Record)
-    → after (says s (There q)) (found show (There q)) ≡ Some tt → IsTrue (has_record (applied s show) q)
+    → after (says s (There q)) (found show (There q)) ≡ Some tt
+    → IsTrue (has_record (applied s show) q)
 there_below s show owned q h =
     sym (record_is (applied s show) q) ∙ ap is_some (applied_found s show owned (There q) ∙ h)
 
@@ -152,7 +151,8 @@ left_there owner (Clears what) of q = absurd (false≢true of)
 left_there owner s of q = refl
 
 -- one that opens a record has it there
-opened_there : (s : Statement) (show : Tables) → HasOwner show s → IsHere (applied s show) (opened s)
+opened_there : (s : Statement) (show : Tables) → HasOwner show s
+    → IsHere (applied s show) (opened s)
 opened_there (Opens r) show owned = there_below (Opens r) show tt r (same r)
   where
     same : (q : Record) → after (says (Opens q) (There q)) (found show (There q)) ≡ Some tt
@@ -239,7 +239,8 @@ module _ (lines : List Words) (l : Words) (r : Reader) (h : Reads lines r) (s : 
 
   -- the fault is the line's where the show refuses what it says
   fault_here : IsSound s
-      → first_fault (said_by (l ∷ lines)) ≡ option_map (fault_at (r.lines + 1)) (refused_by r.show s)
+      → first_fault (said_by (l ∷ lines))
+      ≡ option_map (fault_at (r.lines + 1)) (refused_by r.show s)
   fault_here sound =
       let ss = said_by lines in
       ap first_fault more

@@ -1,6 +1,6 @@
 -- Statements mean one show alone.
-use Rattle.std.proofs.Common.{subst, ◌≡◌, ◌∙◌, sym, ap, refl, ℕ, List}
-use Rattle.std.proofs.Common.{Option, Some, None, is_some, option_and_then}
+use Rattle.std.proofs.Common.{subst, ◌≡◌, ◌∙◌, sym, ap, refl, ℕ, List, Option, Some, None, is_some}
+use Rattle.std.proofs.Common.{option_and_then}
 use Rattle.std.specs.Ordering.{nat_cmp}
 use Rattle.std.specs.FinMap as maps
 use Rattle.std.proofs.lemmas.Cmp.{nat_cmp_total}
@@ -76,4 +76,5 @@ same_show ss s t a b =
 -- what holds of one show that a text means holds of each
 pub of_its_show : (text : List ℕ) (P : Tables → Type 0) (s : Tables)
     → IsShowOf (statements_of desk text) s → P s → OfItsShow text P
-of_its_show text P s is p = ((s, is), λ t it. subst P (same_show (statements_of desk text) s t is it) p)
+of_its_show text P s is p =
+    ((s, is), λ t it. subst P (same_show (statements_of desk text) s t is it) p)

@@ -1,7 +1,6 @@
 -- What whole texts mean, evaluated.
 use Rattle.std.specs.Prelude.{◌≡◌, ℕ, Bool, true, false, not, ◌&&◌, if◌then◌else◌, List, [], ◌∷◌}
-use Rattle.std.specs.Prelude.{◌++◌}
-use Rattle.std.specs.Prelude.{codes, flat_map, map, Option, Some, None, refl}
+use Rattle.std.specs.Prelude.{◌++◌, codes, flat_map, map, Option, Some, None, refl}
 use Rattle.show_line.specs.declared.fault.LineFault.TheVariants as line_fault
 use Rattle.show_line.specs.declared.statement.Record.TheVariants.{Cue, Group}
 use Rattle.show_line.specs.declared.statement.Statement.{Statement}
@@ -9,14 +8,13 @@ use Rattle.show_line.specs.declared.statement.Statement.TheVariants.{Opens}
 use Rattle.show_line.specs.Said.{desk}
 use Rattle.show_reader.specs.declared.fault.ShowFault.{ShowFault}
 use Rattle.show_reader.specs.declared.fault.ShowFault.TheVariants.{Ident, MissingNumber, BadNumber}
-use Rattle.show_reader.specs.declared.fault.ShowFault.TheVariants.{BadLevel}
-use Rattle.show_reader.specs.declared.fault.ShowFault.TheVariants.{BadTime, HalfPair, HalfTriple}
-use Rattle.show_reader.specs.declared.fault.ShowFault.TheVariants.{Limit}
+use Rattle.show_reader.specs.declared.fault.ShowFault.TheVariants.{BadLevel, BadTime, HalfPair}
+use Rattle.show_reader.specs.declared.fault.ShowFault.TheVariants.{HalfTriple, Limit}
 use Rattle.show_reader.specs.Text.{statements_of}
 use Rattle.show_reader.specs.Keys.{Level, Up, Down, Dimmer}
 use Rattle.show_reader.specs.Meaning.{is_there, meaning, cue_count}
-use Rattle.show_reader.specs.Reading.{fault_below, fault_of, lines_read, lines_skipped}
-use Rattle.show_reader.specs.Reading.{grows, faultless_front}
+use Rattle.show_reader.specs.Reading.{fault_below, fault_of, lines_read, lines_skipped, grows}
+use Rattle.show_reader.specs.Reading.{faultless_front}
 
 -- lines that end in LF, and in CR LF
 abbrev text_of : List (List ℕ) → List ℕ

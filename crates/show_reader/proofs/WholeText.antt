@@ -1,6 +1,7 @@
 -- What a reader has made of the lines of a text, and what it answers in the end.
-use Rattle.std.proofs.Common.{◌≡◌, ℕ, ◌+◌, ◌≤◌, Bool, true, false, cond, List, [], ◌∷◌, ◌++◌, length}
-use Rattle.std.proofs.Common.{All, map, refl, sym, ap, subst, ◌∙◌, arith, Some, None, is_some}
+use Rattle.std.proofs.Common.{◌≡◌, ℕ, ◌+◌, ◌≤◌, Bool, true, false, cond, List, [], ◌∷◌, ◌++◌}
+use Rattle.std.proofs.Common.{length, All, map, refl, sym, ap, subst, ◌∙◌, arith, Some, None}
+use Rattle.std.proofs.Common.{is_some}
 use Rattle.std.specs.Prelude.{nat_lt, count_by, option_map}
 use Rattle.std.specs.Option.{option_or}
 use Rattle.std.specs.FinMap as maps
@@ -17,12 +18,14 @@ use Rattle.show_line.specs.Said.{desk}
 use Rattle.show_reader.specs.declared.fault.ShowFault.{ShowFault}
 use Rattle.show_reader.specs.declared.fault.ShowFault.TheVariants as show_fault
 use Rattle.show_reader.specs.declared.read.Reader.{Reader}
-use Rattle.show_reader.specs.Text.{Words, ends, up_to_end, lines_in, statement_below, statements_of}
+use Rattle.show_reader.specs.Text.{Words, ends, up_to_end, lines_in, statement_below}
+use Rattle.show_reader.specs.Text.{statements_of}
 use Rattle.show_reader.specs.Keys.{found}
 use Rattle.show_reader.specs.Meaning.{is_skipped}
 use Rattle.show_reader.specs.Shows.{IsShowOf}
-use Rattle.show_reader.specs.Reading.{fault_below, fault_at, first_fault, fault_of, lines_read, lines_skipped}
-use Rattle.show_reader.specs.Reading.{longest_text, grows, faultless_front, NothingGrows}
+use Rattle.show_reader.specs.Reading.{fault_below, fault_at, first_fault, fault_of, lines_read}
+use Rattle.show_reader.specs.Reading.{lines_skipped, longest_text, grows, faultless_front}
+use Rattle.show_reader.specs.Reading.{NothingGrows}
 use Rattle.show_reader.specs.Reads.{said_by, Reads, MayLackMemory}
 use Rattle.show_reader.proofs.Found.{nothing, nothing_found}
 use Rattle.show_reader.proofs.OneShow.{same_tables}
@@ -146,8 +149,9 @@ something_grows text lines l ls all lacks nothing =
     let here
     = subst (λ o. All P (cond (is_some o) [] (statement_below desk lines l ∷ [])
     ++ faultless_front (said_by lines))) lacks.faultless front in
-    false≢true (sym (All-head P (statement_below desk lines l) (faultless_front (said_by lines)) here)
-    ∙ lacks.grows)
+    let none_here
+    = All-head P (statement_below desk lines l) (faultless_front (said_by lines)) here in
+    false≢true (sym none_here ∙ lacks.grows)
 
 -- ---- the last line
 

@@ -3,8 +3,8 @@ use Rattle.std.specs.Prelude.{◌≡◌, ℕ, true, if◌then◌else◌, IsTrue,
 use Rattle.std.specs.Prelude.{None}
 use Rattle.std.specs.FinMap as maps
 use Rattle.show_core.specs.Tables.{PatchMap, Tables}
-use Rattle.show_core.specs.Builders.{opened, opened_in, with_level, with_listed, with_up, with_down}
-use Rattle.show_core.specs.Builders.{patched_with, can_open}
+use Rattle.show_core.specs.Builders.{opened, opened_in, with_level, with_listed, with_up}
+use Rattle.show_core.specs.Builders.{with_down, patched_with, can_open}
 use Rattle.show_line.specs.declared.fault.LineFault.{LineFault}
 use Rattle.show_line.specs.declared.fault.LineFault.TheVariants.{Limit}
 use Rattle.show_line.specs.declared.statement.Record.{Record}
@@ -14,8 +14,7 @@ use Rattle.show_line.specs.declared.statement.Cleared.{Cleared}
 use Rattle.show_line.specs.declared.statement.Cleared.TheVariants.{All, Only}
 use Rattle.show_line.specs.declared.statement.Statement.{Statement}
 use Rattle.show_line.specs.declared.statement.Statement.TheVariants.{Opens, Levels, Rises, Falls}
-use Rattle.show_line.specs.declared.statement.Statement.TheVariants.{Patches}
-use Rattle.show_line.specs.declared.statement.Statement.TheVariants.{Clears, Faulty}
+use Rattle.show_line.specs.declared.statement.Statement.TheVariants.{Patches, Clears, Faulty}
 use Rattle.show_line.specs.declared.triples.Triple.{Triple}
 use Rattle.show_reader.specs.declared.apply.Refusal.{Refusal}
 use Rattle.show_reader.specs.declared.apply.Refusal.TheVariants as refusal

@@ -61,20 +61,26 @@ abbrev pub empties : Cleared → Table → Bool
 empties All table = true
 empties (Only cleared) table = same_table table cleared
 
--- a pair of a CHAN line: the level of a channel of its record
+-- a pair of a CHAN line of record r: the level of a channel of that record
 abbrev pub pair_says : Record → ℕ × ℕ → (k : Key) → News (Answer k)
 pair_says r pair (Level q channel) =
     if same_record q r && (channel == pair.0) then Is pair.1 else Silent
 pair_says r pair _ = Silent
 
--- a triple of a PATCH line: its dimmer's channel and level; channel 0 leaves the dimmer unpatched
+-- a triple of a PATCH line: the channel and the level of a dimmer; channel 0 leaves it unpatched
 abbrev pub triple_says : Triple → (k : Key) → News (Answer k)
 triple_says t (Dimmer dimmer) =
-    if dimmer == t.dimmer then (if t.channel == 0 then Gone else Is (t.channel, t.level)) else Silent
+    if dimmer == t.dimmer
+    then (if t.channel == 0 then Gone else Is (t.channel, t.level))
+    else Silent
 triple_says t _ = Silent
 
--- CUE, GROUP and SUB: the record is there. CHAN, PATCH: what the last pair or triple says that
--- speaks of the key. UP, DOWN: the whole rate of the cue. CLEAR: what is in its tables is gone
+-- what a statement says of a key:
+--   CUE, GROUP and SUB: their record is there;
+--   CHAN: the last pair of a channel wins, a 0 too;
+--   UP and DOWN: the whole time and delay of their cue;
+--   PATCH: a dimmer has the channel of its last triple;
+--   CLEAR: what the file has said so far of its tables is gone
 abbrev pub says : Statement → (k : Key) → News (Answer k)
 says (Opens r) (There q) = if same_record q r then Is tt else Silent
 says (Levels r pairs) k = last_news (λ pair. pair_says r pair k) pairs
@@ -86,7 +92,7 @@ says _ _ = Silent
 
 -- ---- what statements mean
 
--- at a key: what the newest statement says that speaks of it; nothing where none does
+-- what they mean at a key: what the newest of them says that speaks of it; nothing where none does
 abbrev pub meaning : List Statement → (k : Key) → Option (Answer k)
 meaning [] k = None
 meaning (newest ∷ older) k = after (says newest k) (meaning older k)

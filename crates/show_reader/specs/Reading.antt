@@ -1,7 +1,7 @@
 -- What reading a show text answers.
-use Rattle.std.specs.Prelude.{◌≡◌, ℕ, ◌+◌, ◌≤◌, ◌==◌, Bool, true, false, not, ◌&&◌}
-use Rattle.std.specs.Prelude.{if◌then◌else◌, nat_le, nat_lt, List, [], ◌∷◌, ◌++◌, All, count_by}
-use Rattle.std.specs.Prelude.{length, Option, Some, None, IfSome, is_some, option_map}
+use Rattle.std.specs.Prelude.{◌≡◌, ℕ, ◌+◌, ◌≤◌, ◌==◌, Bool, true, false, not, ◌&&◌, if◌then◌else◌}
+use Rattle.std.specs.Prelude.{nat_le, nat_lt, List, [], ◌∷◌, ◌++◌, All, count_by, length, Option}
+use Rattle.std.specs.Prelude.{Some, None, IfSome, is_some, option_map}
 use Rattle.std.specs.List.{list_any}
 use Rattle.std.specs.Option.{option_or}
 use Rattle.show_core.specs.Tables.{Tables}
@@ -9,7 +9,8 @@ use Rattle.show_line.specs.declared.fault.LineFault.{LineFault}
 use Rattle.show_line.specs.declared.fault.LineFault.TheVariants as fault
 use Rattle.show_line.specs.declared.statement.Record.TheVariants.{Cue}
 use Rattle.show_line.specs.declared.statement.Statement.{Statement}
-use Rattle.show_line.specs.declared.statement.Statement.TheVariants.{Opens, Levels, Patches, Faulty}
+use Rattle.show_line.specs.declared.statement.Statement.TheVariants.{Opens, Levels, Patches}
+use Rattle.show_line.specs.declared.statement.Statement.TheVariants.{Faulty}
 use Rattle.show_line.specs.Pairs.{Limits}
 use Rattle.show_reader.specs.declared.fault.ShowFault.{ShowFault}
 use Rattle.show_reader.specs.declared.fault.ShowFault.TheVariants as show_fault

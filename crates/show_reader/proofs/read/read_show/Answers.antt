@@ -1,12 +1,13 @@
 -- The reader stands behind the lines so far, and the text's lines are those and the ones that are
 -- left.
-use Rattle.std.proofs.Common.{◌≡◌, ◌+◌, true, false, [], ◌∷◌, map}
-use Rattle.std.proofs.Common.{refl, sym, ap, subst, ◌∙◌, arith, inl, inr}
+use Rattle.std.proofs.Common.{◌≡◌, ◌+◌, true, false, [], ◌∷◌, map, refl, sym, ap, subst, ◌∙◌}
+use Rattle.std.proofs.Common.{arith, inl, inr}
 use Rattle.std.proofs.lemmas.Grind.{common_steps}
 use Rattle.ascii_text.specs.Text.{lines_of, words_of, numbered_from}
 use Rattle.show_reader.specs.Text.{ends}
 use Rattle.show_reader.proofs.WholeText.{nothing_read, next_line, last_line, go_on, stop_here}
-use Rattle.show_reader.proofs.WholeText.{fault_found, something_grows, IsRead, all_read, not_longer}
+use Rattle.show_reader.proofs.WholeText.{fault_found, something_grows, IsRead, all_read}
+use Rattle.show_reader.proofs.WholeText.{not_longer}
 use Rattle.show_reader.proofs.read.read_show.Goals as goal
 use Rattle.show_reader.proofs.read.read_show.Goals.{in-None, in-Some+in-Ok-true}
 

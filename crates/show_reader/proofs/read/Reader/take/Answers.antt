@@ -1,12 +1,10 @@
 -- One line: what was read of it is what it says, and where the show refuses that, it is the line's
 -- fault.
-use Rattle.std.proofs.Common.{◌≡◌, ◌+◌, ◌≤◌, cond, [], ◌∷◌, refl, sym, ap, subst, ◌∙◌, arith, add-zero}
+use Rattle.std.proofs.Common.{◌≡◌, ◌+◌, cond, sym, ap, ◌∙◌, add-zero}
 use Rattle.ascii_text.specs.Text.{words_of}
 use Rattle.show_line.specs.Said.{opened}
-use Rattle.show_line.specs.declared.statement.Statement.TheVariants.{Quiet}
 use Rattle.show_reader.specs.declared.read.Reader.{Reader}
 use Rattle.show_reader.specs.Text.{owns}
-use Rattle.show_reader.specs.Reads.{Reads, EndsAt}
 use Rattle.show_reader.proofs.OneLine.{reading_is, owner_here, line_read}
 use Rattle.show_reader.proofs.read.Reader.take.Goals as goal
 use Rattle.show_reader.proofs.read.Reader.take.Goals.{then-may_own, else-may_own, then-skipped}
@@ -50,5 +48,6 @@ returns-clause-more c = λ lines h.
           (ap (λ (t : Reader). t.owner) w.self-is ∙ owner)
           (ap (λ (t : Reader). t.lines) w.self-is ∙ c.requires.next)
           (ap (λ (t : Reader). t.skipped) w.self-is ∙ sym (add-zero r.skipped)
-          ∙ ap (λ b. r.skipped + cond b 1 0) (sym w.if-skipped.false ∙ c.is_skipped-skipped.ensures))
+          ∙ ap (λ b. r.skipped + cond b 1 0)
+          (sym w.if-skipped.false ∙ c.is_skipped-skipped.ensures))
     ]
