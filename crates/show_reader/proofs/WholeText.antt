@@ -72,11 +72,11 @@ next_numbered n (l ∷ rest) number bytes behind e =
     let first : ◌≡◌ {A = ℕ × List ℕ} (number, bytes) (n, l) = cc in
     (rest, ap (λ b. b.1 ∷ rest) (sym first), cc, ap (λ b. b.0) first)
 
-pub next_line : (text : List ℕ) (lines : List Words) (left : List (List ℕ))
-    (ahead : List (ℕ × List ℕ)) (r : Reader) (number : ℕ) (bytes : List ℕ)
-    (behind : List (ℕ × List ℕ)) → StandsBehind text lines left ahead r
-    → ahead ≡ (number, bytes) ∷ behind → Next text lines r number bytes behind
-next_line text lines left ahead r number bytes behind h front =
+pub next_line : {text : List ℕ} {lines : List Words} {left : List (List ℕ)}
+    {ahead behind : List (ℕ × List ℕ)} {r : Reader} {number : ℕ} {bytes : List ℕ}
+    → StandsBehind text lines left ahead r → ahead ≡ (number, bytes) ∷ behind
+    → Next text lines r number bytes behind
+next_line {lines} {left} {behind} {r} {number} {bytes} h front =
     let next
     = next_numbered (r.lines + 1) left number bytes behind (sym front ∙ h.numbered) in
     record {
@@ -87,22 +87,13 @@ next_line text lines left ahead r number bytes behind h front =
     }
 
 -- where no line is left, all are read
-pub last_line : (text : List ℕ) (lines : List Words) (left : List (List ℕ))
-    (ahead : List (ℕ × List ℕ)) (r : Reader) → StandsBehind text lines left ahead r → ahead ≡ []
+pub last_line : {text : List ℕ} {lines : List Words} {left : List (List ℕ)}
+    {ahead : List (ℕ × List ℕ)} {r : Reader} → StandsBehind text lines left ahead r → ahead ≡ []
     → lines_in text ≡ lines
-last_line text lines [] ahead r h none = h.all
-last_line text lines (l ∷ left) ahead r h none =
+last_line {left = []} h none = h.all
+last_line {left = l ∷ left} {r} h none =
     let e : (r.lines + 1, l) ∷ numbered_from (r.lines + 1 + 1) left ≡ [] = sym h.numbered ∙ none in
     absurd (cons-ne-nil _ _ e)
-
-module _ (text : List ℕ) (lines : List Words) (l : Words) (ls : List Words)
-    (all : lines_in text ≡ reverse_aux (up_to_end (l ∷ ls)) lines) where
-  -- behind a line that does not end the text, the rest is left; behind one that does, nothing is
-  pub go_on : ends l ≡ false → lines_in text ≡ reverse_aux (up_to_end ls) (l ∷ lines)
-  go_on on = all ∙ ap (λ b. reverse_aux (cond b [] (up_to_end ls)) (l ∷ lines)) on
-
-  pub stop_here : ends l ≡ true → lines_in text ≡ l ∷ lines
-  stop_here end = all ∙ ap (λ b. reverse_aux (cond b [] (up_to_end ls)) (l ∷ lines)) end
 
 -- a fault stays, whatever is read below it
 fault_stays : (more lines : List Words) (f : ShowFault) → first_fault (said_by lines) ≡ Some f
@@ -127,31 +118,41 @@ front_stays P (m ∷ more) lines h =
     go true all = all
     go false all = All-rest P _ _ _ refl all
 
--- the fault of the next line is the text's
-pub fault_found : (text : List ℕ) (lines : List Words) (l : Words) (ls : List Words) (f : ShowFault)
-    → nat_lt longest_text (length text) ≡ false
-    → lines_in text ≡ reverse_aux (up_to_end (l ∷ ls)) lines
-    → first_fault (said_by (l ∷ lines)) ≡ Some f → fault_of desk text ≡ Some f
-fault_found text lines l ls f short all fault =
-    ap (λ b. cond b (Some show_fault.TooLong) (first_fault (statements_of desk text))) short
-    ∙ ap (λ ms. first_fault (said_by ms)) all
-    ∙ fault_stays (cond (ends l) [] (up_to_end ls)) (l ∷ lines) f fault
+module _ {text : List ℕ} {lines : List Words} {r : Reader} {number : ℕ} {bytes : List ℕ}
+    {behind : List (ℕ × List ℕ)} (next : Next text lines r number bytes behind) where
+  -- behind a line that ends the text, nothing is left; behind another, the rest is
+  pub go_on : (b : Bool) → ends (words_of bytes) ≡ b
+      → lines_in text
+      ≡ reverse_aux (cond b [] (up_to_end (map words_of next.rest))) (words_of bytes ∷ lines)
+  go_on b is =
+      next.all
+      ∙ ap (λ c. reverse_aux (cond c [] (up_to_end (map words_of next.rest)))
+      (words_of bytes ∷ lines)) is
 
--- where memory may run out at the next line, something grows
-pub something_grows : (text : List ℕ) (lines : List Words) (l : Words) (ls : List Words)
-    → lines_in text ≡ reverse_aux (up_to_end (l ∷ ls)) lines → MayLackMemory lines l
-    → NothingGrows desk text → ⊥
-something_grows text lines l ls all lacks nothing =
-    let P : Statement → Type 0 = λ s. grows s ≡ false in
-    let front
-    = front_stays P (cond (ends l) [] (up_to_end ls)) (l ∷ lines)
-    (subst (λ ms. All P (faultless_front (said_by ms))) all nothing) in
-    let here
-    = subst (λ o. All P (cond (is_some o) [] (statement_below desk lines l ∷ [])
-    ++ faultless_front (said_by lines))) lacks.faultless front in
-    let none_here
-    = All-head P (statement_below desk lines l) (faultless_front (said_by lines)) here in
-    false≢true (sym none_here ∙ lacks.grows)
+  -- the lines that are read below the next one
+  abbrev below : List Words
+  below = cond (ends (words_of bytes)) [] (up_to_end (map words_of next.rest))
+
+  -- its fault is the text's
+  pub fault_found : (f : ShowFault) → nat_lt longest_text (length text) ≡ false
+      → first_fault (said_by (words_of bytes ∷ lines)) ≡ Some f → fault_of desk text ≡ Some f
+  fault_found f short fault =
+      ap (λ b. cond b (Some show_fault.TooLong) (first_fault (statements_of desk text))) short
+      ∙ ap (λ ms. first_fault (said_by ms)) next.all
+      ∙ fault_stays below (words_of bytes ∷ lines) f fault
+
+  -- where memory may run out at it, something grows
+  pub something_grows : MayLackMemory lines (words_of bytes) → NothingGrows desk text → ⊥
+  something_grows lacks nothing =
+      let P : Statement → Type 0 = λ s. grows s ≡ false in
+      let s = statement_below desk lines (words_of bytes) in
+      let front
+      = front_stays P below (words_of bytes ∷ lines)
+      (subst (λ ms. All P (faultless_front (said_by ms))) next.all nothing) in
+      let here
+      = subst (λ o. All P (cond (is_some o) [] (s ∷ []) ++ faultless_front (said_by lines)))
+      lacks.faultless front in
+      false≢true (sym (All-head P s (faultless_front (said_by lines)) here) ∙ lacks.grows)
 
 -- ---- the last line
 

@@ -5,7 +5,7 @@ use Rattle.std.proofs.Common.{arith, inl, inr}
 use Rattle.std.proofs.lemmas.Grind.{common_steps}
 use Rattle.ascii_text.specs.Text.{lines_of, words_of, numbered_from}
 use Rattle.show_reader.specs.Text.{ends}
-use Rattle.show_reader.proofs.WholeText.{nothing_read, next_line, last_line, go_on, stop_here}
+use Rattle.show_reader.proofs.WholeText.{nothing_read, next_line, last_line, go_on}
 use Rattle.show_reader.proofs.WholeText.{fault_found, something_grows, IsRead, all_read}
 use Rattle.show_reader.proofs.WholeText.{not_longer}
 use Rattle.show_reader.proofs.read.read_show.Goals as goal
@@ -28,19 +28,14 @@ loop-line-init c =
 pub take-requires-clause-next : goal.take-requires-clause-next
 take-requires-clause-next c =
     let before = c.loop-line.invariant in
-    (next_line c.args.text.now before.0 before.1 c.loop-line.line-iterator c.loop-line.reader
-    c.in-Some.line.number c.in-Some.line.bytes.now c.next.new.self before.2
-    c.in-Some.ensures.steps).here
+    (next_line before.2 c.in-Some.ensures.steps).here
 
 pub loop-line-preserved : goal.loop-line-preserved
 loop-line-preserved c =
     let before = c.loop-line.invariant in
     let lines = before.0 in
     let l = words_of c.in-Some.line.bytes.now in
-    let next
-    = next_line c.args.text.now lines before.1 c.loop-line.line-iterator c.loop-line.reader
-    c.in-Some.line.number c.in-Some.line.bytes.now c.next.new.self before.2
-    c.in-Some.ensures.steps in
+    let next = next_line before.2 c.in-Some.ensures.steps in
     let on : ends l ≡ false = sym c.in-Ok-false.ensures.last ∙ c.in-Ok-false.field-0-test in
     let more = c.in-Ok-false.ensures.more lines before.2.reads in
     let counted : c.loop-line.reader.lines + 1 ≡ c.take.new.self.lines
@@ -50,40 +45,29 @@ loop-line-preserved c =
       record {
         reads = more;
         numbered = next.numbers ∙ ap (λ k. numbered_from (k + 1) next.rest) counted;
-        all = go_on c.args.text.now lines l (map words_of next.rest) next.all on;
+        all = go_on next false on;
       },
     )
 
 pub returns-in-Err-clause-fault : goal.returns-in-Err-clause-fault
 returns-in-Err-clause-fault c =
     let before = c.loop-line.invariant in
-    let l = words_of c.in-Some.line.bytes.now in
-    let next
-    = next_line c.args.text.now before.0 before.1 c.loop-line.line-iterator c.loop-line.reader
-    c.in-Some.line.number c.in-Some.line.bytes.now c.next.new.self before.2
-    c.in-Some.ensures.steps in
+    let next = next_line before.2 c.in-Some.ensures.steps in
     elim (c.in-Err.ensures.fault before.0 before.2.reads) [
       | inl memory ↦ inl memory.0
       | inr fault ↦
-          inr (fault_found c.args.text.now before.0 l (map words_of next.rest) c.in-Err.fault
-          (not_longer _ _ c.if-text-gt-LONGEST_TEXT.false) next.all fault)
+          inr (fault_found next c.in-Err.fault (not_longer _ _ c.if-text-gt-LONGEST_TEXT.false)
+          fault)
     ]
 
 pub returns-in-Err-clause-sure : goal.returns-in-Err-clause-sure
 returns-in-Err-clause-sure c = λ none_grows.
     let before = c.loop-line.invariant in
-    let l = words_of c.in-Some.line.bytes.now in
-    let next
-    = next_line c.args.text.now before.0 before.1 c.loop-line.line-iterator c.loop-line.reader
-    c.in-Some.line.number c.in-Some.line.bytes.now c.next.new.self before.2
-    c.in-Some.ensures.steps in
-    let ls = map words_of next.rest in
+    let next = next_line before.2 c.in-Some.ensures.steps in
     elim (c.in-Err.ensures.fault before.0 before.2.reads) [
-      | inl memory ↦
-          absurd (something_grows c.args.text.now before.0 l ls next.all memory.1 none_grows)
+      | inl memory ↦ absurd (something_grows next memory.1 none_grows)
       | inr fault ↦
-          fault_found c.args.text.now before.0 l ls c.in-Err.fault
-          (not_longer _ _ c.if-text-gt-LONGEST_TEXT.false) next.all fault
+          fault_found next c.in-Err.fault (not_longer _ _ c.if-text-gt-LONGEST_TEXT.false) fault
     ]
 
 -- at the end of the lines, or behind ENDDATA, the whole text is read
@@ -95,21 +79,15 @@ finished c =
     let short = not_longer _ _ c.if-text-gt-LONGEST_TEXT.false in
     elim c.match-next.branch [
       | in-None w ↦
-          let all
-          = last_line text lines before.1 c.loop-line.line-iterator c.loop-line.reader before.2
-          w.in-None.ensures.steps.0 in
+          let all = last_line before.2 w.in-None.ensures.steps.0 in
           subst (IsRead text) (sym w.reader-is)
           (all_read text lines c.loop-line.reader short all before.2.reads)
       | in-Some+in-Ok-true w ↦
           let l = words_of w.in-Some.line.bytes.now in
-          let next
-          = next_line text lines before.1 c.loop-line.line-iterator c.loop-line.reader
-          w.in-Some.line.number w.in-Some.line.bytes.now c.next.new.self before.2
-          w.in-Some.ensures.steps in
+          let next = next_line before.2 w.in-Some.ensures.steps in
           let end : ends l ≡ true = sym w.in-Ok-true.ensures.last ∙ w.in-Ok-true.field-0-test in
-          let all = stop_here text lines l (map words_of next.rest) next.all end in
           subst (IsRead text) (sym w.reader-is)
-          (all_read text (l ∷ lines) w.take.new.self short all
+          (all_read text (l ∷ lines) w.take.new.self short (go_on next true end)
           (w.in-Ok-true.ensures.more lines before.2.reads))
     ]
 
