@@ -38,13 +38,13 @@ after_newer Gone b o = refl
 after_newer Silent b o = refl
 
 -- news that there are only where a test holds
-after_if : {X : Type 0} (b : Bool) (news : News X) (o : Option X)
+pub after_if : {X : Type 0} (b : Bool) (news : News X) (o : Option X)
     → cond b (after news o) o ≡ after (cond b news Silent) o
 after_if true news o = refl
 after_if false news o = refl
 
 -- a choice between the same
-both : {X : Type 0} (b : Bool) (x : X) → cond b x x ≡ x
+pub both : {X : Type 0} (b : Bool) (x : X) → cond b x x ≡ x
 both true x = refl
 both false x = refl
 

@@ -40,7 +40,7 @@ use Rattle.show_reader.specs.Shows.{IsShowOf}
 use Rattle.show_reader.specs.Reading.{fault_at, fault_below, first_fault}
 use Rattle.show_reader.specs.Applied.{applied, refused_by, HasOwner}
 use Rattle.show_reader.specs.Reads.{said_by, Reads}
-use Rattle.show_reader.proofs.Found.{applied_found, record_is, record_there, step, count_step}
+use Rattle.show_reader.proofs.Found.{after_if, both, applied_found, record_is, record_there, step, count_step}
 
 -- ---- a secondary line speaks of its owner, and does not clear
 
@@ -111,6 +111,11 @@ said_belongs (Some (Cue n)) word.Down words =
 said_belongs None word.Remark words = tt
 said_belongs owner keyword words = tt
 
+line_belongs : (owner : Option Record) (l : Words)
+    → Belongs owner (owns l) (said_under desk owner l)
+line_belongs owner [] = tt
+line_belongs owner (w ∷ words) = said_belongs owner (keyword_of w) words
+
 -- ---- the owner of a line is there, above it and below
 
 -- a record is there that this owner names
@@ -140,11 +145,8 @@ no_news (x ∷ xs) = ap (λ news. newer news Silent) (no_news xs)
 -- a statement that does not clear leaves a record
 left_there : (owner : Option Record) (s : Statement) → Belongs owner false s → (q : Record)
     → after (says s (There q)) (Some tt) ≡ Some tt
-left_there owner (Opens r) of q = go (same_record q r)
-  where
-    go : (b : Bool) → after {X = Unit {0}} (cond b (Is tt) Silent) (Some tt) ≡ Some tt
-    go true = refl
-    go false = refl
+left_there owner (Opens r) of q =
+    sym (after_if (same_record q r) (Is tt) (Some tt)) ∙ both (same_record q r) (Some tt)
 left_there owner (Levels r ps) of q = ap (λ news. after news (Some tt)) (no_news ps)
 left_there owner (Patches ts) of q = ap (λ news. after news (Some tt)) (no_news ts)
 left_there owner (Clears what) of q = absurd (false≢true of)
@@ -162,27 +164,14 @@ opened_there (Opens r) show owned = there_below (Opens r) show tt r (same r)
 opened_there s show owned = tt
 
 -- the owner below a line is there
-present_below : (owner : Option Record) (l : Words) (show : Tables)
-    → HasOwner show (said_under desk owner l) → IsHere show owner
-    → IsHere (applied (said_under desk owner l) show) (owner_after desk l owner)
-present_below owner [] show owned h = h
-present_below owner (w ∷ words) show owned h =
-    go (may_own (keyword_of w)) (said_belongs owner (keyword_of w) words)
-  where
-    kept : (o : Option Record) → Belongs o false (said desk o (keyword_of w) words)
-        → HasOwner show (said desk o (keyword_of w) words) → IsHere show o
-        → IsHere (applied (said desk o (keyword_of w) words) show) o
-    kept None of owned h = tt
-    kept (Some q) of owned h =
-        let s = said desk (Some q) (keyword_of w) words in
-        there_below s show owned q
-        (ap (λ b. after (says s (There q)) (cond b (Some tt) None)) h ∙ left_there (Some q) s of q)
-
-    go : (b : Bool) → Belongs owner b (said desk owner (keyword_of w) words)
-        → IsHere (applied (said desk owner (keyword_of w) words) show)
-        (cond b (opened (said desk owner (keyword_of w) words)) owner)
-    go true of = opened_there (said desk owner (keyword_of w) words) show owned
-    go false of = kept owner of owned h
+present_below : (owner : Option Record) (own : Bool) (s : Statement) (show : Tables)
+    → Belongs owner own s → HasOwner show s → IsHere show owner
+    → IsHere (applied s show) (cond own (opened s) owner)
+present_below owner true s show of owned h = opened_there s show owned
+present_below None false s show of owned h = tt
+present_below (Some q) false s show of owned h =
+    there_below s show owned q
+    (ap (λ b. after (says s (There q)) (cond b (Some tt) None)) h ∙ left_there (Some q) s of q)
 
 -- ---- the show refuses what the text's meaning refuses
 
@@ -220,22 +209,18 @@ reading_is owner (w ∷ words) reading e =
       owns = ap (λ (r : Reading). may_own r.keyword) is;
     }
 
--- a line has the owner that it needs
-owned_below : (owner : Option Record) (l : Words) (show : Tables) → IsHere show owner
-    → HasOwner show (said_under desk owner l)
-owned_below owner [] show h = tt
-owned_below owner (w ∷ words) show h =
-    owned owner (may_own (keyword_of w)) (said desk owner (keyword_of w) words) show
-    (said_belongs owner (keyword_of w) words) h
-
 -- a line that says s
 module _ (lines : List Words) (l : Words) (r : Reader) (h : Reads lines r) (s : Statement)
     (is : s ≡ said_under desk r.owner l) where
   more : said_by (l ∷ lines) ≡ s ∷ said_by lines
   more = ap (λ t. t ∷ said_by lines) (ap (λ o. said_under desk o l) (sym h.owner) ∙ sym is)
 
+  of_owner : Belongs r.owner (owns l) s
+  of_owner = subst (Belongs r.owner (owns l)) (sym is) (line_belongs r.owner l)
+
+  -- it has the owner that it needs
   pub owner_here : HasOwner r.show s
-  owner_here = subst (HasOwner r.show) (sym is) (owned_below r.owner l r.show h.present)
+  owner_here = owned r.owner (owns l) s r.show of_owner h.present
 
   -- the fault is the line's where the show refuses what it says
   fault_here : IsSound s
@@ -267,8 +252,7 @@ module _ (lines : List Words) (l : Words) (r : Reader) (h : Reads lines r) (s : 
         present =
             subst (λ t. IsHere t r'.owner) (sym show)
             (subst (IsHere (applied s r.show)) (sym owner)
-            (subst (λ t. IsHere (applied t r.show) (cond (owns l) (opened t) r.owner)) (sym is)
-            (present_below r.owner l r.show (owned_below r.owner l r.show h.present) h.present)));
+            (present_below r.owner (owns l) s r.show of_owner owner_here h.present));
         count =
             ap cue_count more ∙ count_step ss s r.show h.shows h.count
             ∙ ap (λ t. maps.len t.cues) (sym show);
