@@ -1,12 +1,13 @@
 -- What a statement does to a show is what it says: at each key the show answers as it did, but for
 -- the statement's news.
 use Rattle.std.proofs.Common.{◌≡◌, ℕ, ◌+◌, Bool, true, false, cond, ◌&&◌, IsTrue, List, [], ◌∷◌}
-use Rattle.std.proofs.Common.{refl, sym, ap, ◌∙◌, Option, Some, None, is_some, inl, inr, add-zero}
-use Rattle.std.specs.Prelude.{◌==◌, unwrap_or, option_and_then}
+use Rattle.std.proofs.Common.{refl, sym, ap, ◌∙◌, Option, Some, None, is_some, inl, inr, arith}
+use Rattle.std.specs.Prelude.{◌==◌, option_and_then}
 use Rattle.std.specs.Option.{option_map_or}
 use Rattle.std.specs.Ordering.{nat_cmp}
 use Rattle.std.specs.Cmp.{nat_cmp_total, unsigned_tied}
 use Rattle.std.specs.FinMap as maps
+use Rattle.std.proofs.lemmas.Bool.Decides.{nat_tests}
 use Rattle.std.proofs.lemmas.Bool.{cases_eq, ne_eqb, eq-eqb}
 use mathlib.Core.Bool.{false≢true}
 use Rattle.show_core.specs.declared.cue.CueData.{CueData}
@@ -70,9 +71,7 @@ module _ {V : Type 0} (m : maps.FinMap nat_cmp V) (n : ℕ) where
   -- a key that was set
   get-insert : (v : V) (q : ℕ)
       → maps.get (maps.insert m n v) q ≡ cond (q == n) (Some v) (maps.get m q)
-  get-insert v q =
-      maps.get-insert nat_cmp_total m n v q
-      ∙ ap (λ b. cond b (Some v) (maps.get m q)) (unsigned_tied q n)
+  get-insert v q = grind (arith, maps.gets, nat_tests)
 
   -- what is seen of it
   insert_at : {Y : Type 0} (v : V) (q : ℕ) (seen : Option V → Y) (hit : Y)
@@ -83,34 +82,28 @@ module _ {V : Type 0} (m : maps.FinMap nat_cmp V) (n : ℕ) where
     | inr apart ↦ rw (ne_eqb q n apart) refl
   ]
 
-  -- an entry that is opened, with a blank one where there is none
-  opened_at : {Y : Type 0} (x : V) (q : ℕ) (seen : Option V → Y) (news : Y → Y)
-      → ((o : Option V) → seen (Some (unwrap_or o x)) ≡ news (seen o))
-      → seen (maps.get (cond (maps.contains_key m n) m (maps.insert m n x)) q)
-      ≡ cond (q == n) (news (seen (maps.get m q))) (seen (maps.get m q))
-  opened_at x q seen news is_news = go (maps.get m n) refl
+  -- an entry that is opened, with a blank one where there is none: it is there
+  opened_there : (x : V) (q : ℕ)
+      → there_at (maps.get (cond (maps.contains_key m n) m (maps.insert m n x)) q)
+      ≡ after (cond (q == n) (Is tt) Silent) (there_at (maps.get m q))
+  opened_there x q = go (maps.get m n) refl
     where
       go : (o : Option V) → maps.get m n ≡ o
-          → seen (maps.get (cond (is_some o) m (maps.insert m n x)) q)
-          ≡ cond (q == n) (news (seen (maps.get m q))) (seen (maps.get m q))
+          → there_at (maps.get (cond (is_some o) m (maps.insert m n x)) q)
+          ≡ after (cond (q == n) (Is tt) Silent) (there_at (maps.get m q))
       go (Some y) e = elim (cases_eq q n) [
-        | inl same ↦ rw (same, eq-eqb n n refl, e) (is_news (Some y))
+        | inl same ↦ rw (same, eq-eqb n n refl, e) refl
         | inr apart ↦ rw (ne_eqb q n apart) refl
       ]
       go None e =
-          insert_at x q seen (news (seen (maps.get m q)))
-          (λ is. is_news None ∙ ap (λ o. news (seen o)) (sym (is ∙ e)))
+          insert_at x q there_at (Some tt) (λ is. refl)
+          ∙ after_if (q == n) (Is tt) (there_at (maps.get m q))
 
   -- what that leaves, where a blank entry looks like none
   opened_keeps : {Y : Type 0} (x : V) (q : ℕ) (seen : Option V → Y) → seen (Some x) ≡ seen None
       → seen (maps.get (cond (maps.contains_key m n) m (maps.insert m n x)) q)
       ≡ seen (maps.get m q)
-  opened_keeps x q seen blank_is =
-      opened_at x q seen (λ y. y) (λ o. go o) ∙ both (q == n) (seen (maps.get m q))
-    where
-      go : (o : Option V) → seen (Some (unwrap_or o x)) ≡ seen o
-      go None = blank_is
-      go (Some y) = refl
+  opened_keeps x q seen blank_is = grind (arith, maps.gets, nat_tests, blank_is)
 
   -- an entry that is changed, where it is there
   changed_at : {Y : Type 0} (f : V → V) (q : ℕ) (seen : Option V → Y) (news : Y → Y)
@@ -129,54 +122,34 @@ module _ {V : Type 0} (m : maps.FinMap nat_cmp V) (n : ℕ) where
 
   -- what the change leaves of it
   changed_keeps : {Y : Type 0} (f : V → V) (q : ℕ) (seen : Option V → Y)
-      → IsTrue (maps.contains_key m n) → ((v : V) → seen (Some (f v)) ≡ seen (Some v))
+      → ((v : V) → seen (Some (f v)) ≡ seen (Some v))
       → seen (maps.get (option_map_or (λ v. maps.insert m n (f v)) (maps.get m n) m) q)
       ≡ seen (maps.get m q)
-  changed_keeps f q seen there keeps =
-      changed_at f q seen (λ y. y) there keeps ∙ both (q == n) (seen (maps.get m q))
+  changed_keeps f q seen keeps = grind (arith, maps.gets, nat_tests, keeps)
 
   -- how many entries there are
   len-opened : (x : V)
       → maps.len (cond (maps.contains_key m n) m (maps.insert m n x))
       ≡ maps.len m + cond (maps.contains_key m n) 0 1
-  len-opened x = go (maps.contains_key m n) refl
-    where
-      go : (b : Bool) → maps.contains_key m n ≡ b
-          → maps.len (cond b m (maps.insert m n x)) ≡ maps.len m + cond b 0 1
-      go true e = sym (add-zero (maps.len m))
-      go false e =
-          maps.len-insert nat_cmp_total m n x
-          ∙ ap (λ b. cond b (maps.len m) (maps.len m + 1)) e
+  len-opened x = grind (arith, maps.gets)
 
   len-changed : (f : V → V)
       → maps.len (option_map_or (λ v. maps.insert m n (f v)) (maps.get m n) m) ≡ maps.len m
-  len-changed f = go (maps.get m n) refl
-    where
-      go : (o : Option V) → maps.get m n ≡ o
-          → maps.len (option_map_or (λ v. maps.insert m n (f v)) o m) ≡ maps.len m
-      go None e = refl
-      go (Some v) e =
-          maps.len-insert nat_cmp_total m n (f v)
-          ∙ ap (λ o. cond (is_some o) (maps.len m) (maps.len m + 1)) e
+  len-changed f = grind (arith, maps.gets)
 
 -- ---- CUE, GROUP and SUB
 
 opens_found : (show : Tables) (r : Record) (k : Key)
     → found (with_record show r) k ≡ after (says (Opens r) k) (found show k)
-opens_found show (Cue n) (There (Cue m)) =
-    opened_at show.cues n blank m there_at (λ o. Some tt) (λ o. refl) ∙ after_if (m == n) (Is tt) _
+opens_found show (Cue n) (There (Cue m)) = opened_there show.cues n blank m
 opens_found show (Cue n) (Level (Cue m) c) =
     opened_keeps show.cues n blank m (level_at c) (maps.get-empty nat_cmp c)
 opens_found show (Cue n) (Up m) = opened_keeps show.cues n blank m up_at refl
 opens_found show (Cue n) (Down m) = opened_keeps show.cues n blank m down_at refl
-opens_found show (Group n) (There (Group m)) =
-    opened_at show.groups n maps.empty m there_at (λ o. Some tt) (λ o. refl)
-    ∙ after_if (m == n) (Is tt) _
+opens_found show (Group n) (There (Group m)) = opened_there show.groups n maps.empty m
 opens_found show (Group n) (Level (Group m) c) =
     opened_keeps show.groups n maps.empty m (listed_at c) (maps.get-empty nat_cmp c)
-opens_found show (Sub n) (There (Sub m)) =
-    opened_at show.subs n maps.empty m there_at (λ o. Some tt) (λ o. refl)
-    ∙ after_if (m == n) (Is tt) _
+opens_found show (Sub n) (There (Sub m)) = opened_there show.subs n maps.empty m
 opens_found show (Sub n) (Level (Sub m) c) =
     opened_keeps show.subs n maps.empty m (listed_at c) (maps.get-empty nat_cmp c)
 opens_found show r k = refl
@@ -192,21 +165,21 @@ level_news p c false o = refl
 pair_found : (show : Tables) (r : Record) (p : ℕ × ℕ) → IsTrue (has_record show r) → (k : Key)
     → found (with_channel show r p.0 p.1) k ≡ after (pair_says r p k) (found show k)
 pair_found show (Cue n) p there (There (Cue m)) =
-    changed_keeps show.cues n _ m there_at there (λ cue. refl)
+    changed_keeps show.cues n _ m there_at (λ cue. refl)
 pair_found show (Cue n) p there (Level (Cue m) c) =
     changed_at show.cues n _ m (level_at c) (cond (c == p.0) (Some p.1)) there
     (λ cue. get-insert cue.levels p.0 p.1 c)
     ∙ level_news p c (m == n) _
-pair_found show (Cue n) p there (Up m) = changed_keeps show.cues n _ m up_at there (λ cue. refl)
-pair_found show (Cue n) p there (Down m) = changed_keeps show.cues n _ m down_at there (λ cue. refl)
+pair_found show (Cue n) p there (Up m) = changed_keeps show.cues n _ m up_at (λ cue. refl)
+pair_found show (Cue n) p there (Down m) = changed_keeps show.cues n _ m down_at (λ cue. refl)
 pair_found show (Group n) p there (There (Group m)) =
-    changed_keeps show.groups n _ m there_at there (λ levels. refl)
+    changed_keeps show.groups n _ m there_at (λ levels. refl)
 pair_found show (Group n) p there (Level (Group m) c) =
     changed_at show.groups n _ m (listed_at c) (cond (c == p.0) (Some p.1)) there
     (λ levels. get-insert levels p.0 p.1 c)
     ∙ level_news p c (m == n) _
 pair_found show (Sub n) p there (There (Sub m)) =
-    changed_keeps show.subs n _ m there_at there (λ levels. refl)
+    changed_keeps show.subs n _ m there_at (λ levels. refl)
 pair_found show (Sub n) p there (Level (Sub m) c) =
     changed_at show.subs n _ m (listed_at c) (cond (c == p.0) (Some p.1)) there
     (λ levels. get-insert levels p.0 p.1 c)
@@ -241,22 +214,22 @@ pairs_found show r (p ∷ ps) there k =
 rises_found : (show : Tables) (n : ℕ) (rate : Rate) → IsTrue (has_record show (Cue n)) → (k : Key)
     → found (applied (Rises n rate) show) k ≡ after (says (Rises n rate) k) (found show k)
 rises_found show n rate there (There (Cue m)) =
-    changed_keeps show.cues n _ m there_at there (λ cue. refl)
+    changed_keeps show.cues n _ m there_at (λ cue. refl)
 rises_found show n rate there (Level (Cue m) c) =
-    changed_keeps show.cues n _ m (level_at c) there (λ cue. refl)
+    changed_keeps show.cues n _ m (level_at c) (λ cue. refl)
 rises_found show n rate there (Up m) =
     changed_at show.cues n _ m up_at (λ o. Some rate) there (λ cue. refl)
     ∙ after_if (m == n) (Is rate) _
-rises_found show n rate there (Down m) = changed_keeps show.cues n _ m down_at there (λ cue. refl)
+rises_found show n rate there (Down m) = changed_keeps show.cues n _ m down_at (λ cue. refl)
 rises_found show n rate there k = refl
 
 falls_found : (show : Tables) (n : ℕ) (rate : Rate) → IsTrue (has_record show (Cue n)) → (k : Key)
     → found (applied (Falls n rate) show) k ≡ after (says (Falls n rate) k) (found show k)
 falls_found show n rate there (There (Cue m)) =
-    changed_keeps show.cues n _ m there_at there (λ cue. refl)
+    changed_keeps show.cues n _ m there_at (λ cue. refl)
 falls_found show n rate there (Level (Cue m) c) =
-    changed_keeps show.cues n _ m (level_at c) there (λ cue. refl)
-falls_found show n rate there (Up m) = changed_keeps show.cues n _ m up_at there (λ cue. refl)
+    changed_keeps show.cues n _ m (level_at c) (λ cue. refl)
+falls_found show n rate there (Up m) = changed_keeps show.cues n _ m up_at (λ cue. refl)
 falls_found show n rate there (Down m) =
     changed_at show.cues n _ m down_at (λ o. Some rate) there (λ cue. refl)
     ∙ after_if (m == n) (Is rate) _
