@@ -186,6 +186,21 @@ clear_cues : (fault_of desk clearing ≡ None)
     × (is_there (Cue 2000) (statements_of desk clearing) ≡ true)
 clear_cues = (refl, refl, refl, refl, refl, refl)
 
+-- CLEAR leaves what is in other tables
+abbrev cleared_cues : List Statement
+cleared_cues = statements_of desk (text_of (
+    codes "GROUP 1" ∷ codes "CHAN 1@FL" ∷ codes "CUE 1" ∷ codes "UP 5" ∷ codes "DOWN 4"
+    ∷ codes "CHAN 1@FL" ∷ codes "PATCH 1 1<1@FL" ∷ codes "CLEAR CUE" ∷ []
+    ))
+
+other_tables : (meaning cleared_cues (Level (Cue 1000) 1) ≡ None)
+    × (meaning cleared_cues (Up 1000) ≡ None)
+    × (meaning cleared_cues (Down 1000) ≡ None)
+    × (is_there (Group 1) cleared_cues ≡ true)
+    × (meaning cleared_cues (Level (Group 1) 1) ≡ Some 255)
+    × (meaning cleared_cues (Dimmer 1) ≡ Some (1, 255))
+other_tables = (refl, refl, refl, refl, refl, refl)
+
 -- ---- shows
 
 abbrev console_text : List ℕ

@@ -8,14 +8,13 @@ use Rattle.show_line.specs.declared.statement.Record.TheVariants.{Cue, Group, Su
 use Rattle.show_line.specs.declared.statement.Table.{Table}
 use Rattle.show_line.specs.declared.statement.Table.TheVariants.{Cues, Groups, Subs, Patch}
 
--- what can be asked of a show: whether a record is there, the level of a record's channel, the UP
--- and the DOWN of a cue by its number in thousandths, and a dimmer
+-- what can be asked of a show; cues are named by their numbers in thousandths
 pub data Key : Type 0 where
-  There : Record → Key
-  Level : Record → ℕ → Key
-  Up : ℕ → Key
-  Down : ℕ → Key
-  Dimmer : ℕ → Key
+  There : Record → Key  -- is the record there?
+  Level : Record → ℕ → Key  -- the level of a channel in a record
+  Up : ℕ → Key  -- the UP of a cue
+  Down : ℕ → Key  -- the DOWN of a cue
+  Dimmer : ℕ → Key  -- how a dimmer is patched
 
 -- what the answer is, where there is one: that the record is there; a level byte; a time and a
 -- delay; the dimmer's channel and its level byte
