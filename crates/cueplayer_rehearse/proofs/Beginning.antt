@@ -1,0 +1,211 @@
+-- Why a rehearsal begins, or not.
+use Rattle.std.proofs.Common.{◌≡◌, ◌⊎◌, inl, inr, ℕ, ◌+◌, ◌≤◌, ◌<◌, Bool, true, false, not, List}
+use Rattle.std.proofs.Common.{[], ◌∷◌, ◌++◌, length, Option, Some, None, Result, Ok, Err, IsOkAnd}
+use Rattle.std.proofs.Common.{ap, sym, subst, refl, ◌∙◌, arith}
+use Rattle.std.specs.Prelude.{◌&&◌, if◌then◌else◌, nat_le, nat_lt, option_map}
+use Rattle.std.specs.List.{list_all, range_with_len}
+use Rattle.std.specs.Option.{option_or}
+use Rattle.std.proofs.lemmas.Bool.Decides.{nat_tests}
+use Rattle.std.proofs.lemmas.List.{length-map}
+use Rattle.std.proofs.lemmas.List.FromFn.{length-range_with_len}
+use Rattle.show_core.specs.Tables.{Tables}
+use Rattle.show_line.specs.declared.fault.LineFault.{LineFault}
+use Rattle.show_line.specs.declared.fault.LineFault.TheVariants as line
+use Rattle.show_line.specs.declared.statement.Statement.{Statement}
+use Rattle.show_line.specs.Said.{desk}
+use Rattle.show_reader.specs.declared.fault.ShowFault.{ShowFault}
+use Rattle.show_reader.specs.declared.fault.ShowFault.TheVariants as show_fault
+use Rattle.show_reader.specs.Reading.{fault_at, fault_below, fault_of, first_fault, longest_text}
+use Rattle.show_reader.specs.Reading.{NothingGrows}
+use Rattle.show_reader.specs.Shows.{IsShowOf}
+use Rattle.show_reader.specs.Text.{statements_of}
+use Rattle.show_reader.proofs.OneShow.{of_its_show}
+use Rattle.script_text.specs.Script.{Parts, script_of}
+use Rattle.wire_faults.specs.declared.fault.Fault.{Fault}
+use Rattle.wire_faults.specs.declared.fault.Fault.TheVariants.{Consoles, Receivers, NoShow}
+use Rattle.wire_faults.specs.declared.fault.Fault.TheVariants.{Universe, Memory}
+use Rattle.wire_laws.specs.declared.reply.Reply.{Reply}
+use Rattle.wire_laws.specs.declared.setup.Setup.{Setup}
+use Rattle.sacn_receiver.specs.Shown.{shown_slots}
+use Rattle.wire_laws.specs.Happened.{accepted_by}
+use Rattle.wire_laws.specs.Replies.{AreReplies, done, last_moment, last_slots}
+use Rattle.wire_world.specs.Refusing.{Answers, are_consoles, are_receivers, has_base, has_show}
+use Rattle.wire_world.specs.Refusing.{setup_fault}
+use Rattle.wire_world.proofs.Refusals.{fine}
+use Rattle.cueplayer_faults.specs.Runs.{of_setup, of_show}
+use Rattle.cueplayer_rehearse.specs.Begins.{IsSetUp, Prevents, longest_script}
+use Rattle.cueplayer_rehearse.specs.Printed.{AreLines, AreLinesOf, world}
+use Rattle.cueplayer_rehearse.specs.Texts.{rehearsal_lines}
+
+-- ---- the show
+
+-- want of memory is no fault of a text
+no_line_fault : (n : ℕ) (f : LineFault) → fault_at n f ≡ show_fault.Memory → ⊥
+no_line_fault n line.Ident e = cc
+no_line_fault n line.MissingNumber e = cc
+no_line_fault n line.BadNumber e = cc
+no_line_fault n line.BadLevel e = cc
+no_line_fault n line.BadTime e = cc
+no_line_fault n line.HalfPair e = cc
+no_line_fault n line.HalfTriple e = cc
+no_line_fault n line.Limit e = cc
+
+not_at : (n : ℕ) (o : Option LineFault) (below : Option ShowFault)
+    → (below ≡ Some show_fault.Memory → ⊥)
+    → option_or (option_map (fault_at n) o) below ≡ Some show_fault.Memory → ⊥
+not_at n None below rest e = rest e
+not_at n (Some f) below rest e =
+    let same : fault_at n f ≡ show_fault.Memory = cc in no_line_fault n f same
+
+not_below : (above ss : List Statement) → first_fault above ss ≡ Some show_fault.Memory → ⊥
+not_below above [] e = cc
+not_below above (s ∷ ss) e =
+    not_at (length above + 1) (fault_below above s) (first_fault (above ++ s ∷ []) ss)
+    (not_below (above ++ s ∷ []) ss) e
+
+not_here : (b : Bool) (o : Option ShowFault) → (o ≡ Some show_fault.Memory → ⊥)
+    → (if b then Some show_fault.TooLong else o) ≡ Some show_fault.Memory → ⊥
+not_here true o rest e = cc
+not_here false o rest e = rest e
+
+no_memory_fault : (text : List ℕ) → fault_of desk text ≡ Some show_fault.Memory → ⊥
+no_memory_fault text =
+    not_here (nat_lt longest_text (length text)) (first_fault [] (statements_of desk text))
+    (not_below [] (statements_of desk text))
+
+-- the fault that was found, where it is not want of memory
+found : (text : List ℕ) (fault : ShowFault) → (fault ≡ show_fault.Memory → ⊥)
+    → (fault ≡ show_fault.Memory) ⊎ (fault_of desk text ≡ Some fault)
+    → fault_of desk text ≡ Some fault
+found text fault other (inl memory) = absurd (other memory)
+found text fault other (inr is) = is
+
+-- a show that was not read prevents the rehearsal
+pub unread : (show script : List ℕ) (fault : ShowFault)
+    → (fault ≡ show_fault.Memory) ⊎ (fault_of desk show ≡ Some fault)
+    → (NothingGrows desk show → fault_of desk show ≡ Some fault)
+    → (1048576 < length show → fault ≡ show_fault.TooLong)
+    → Prevents show script (of_show fault)
+unread show script show_fault.Memory why sure long =
+    let short : 1048576 < length show → ⊥ = λ over. let e = long over in cc in
+    inl (omega (arith, short), λ nothing. no_memory_fault show (sure nothing))
+unread show script show_fault.TooLong why sure long =
+    found show show_fault.TooLong (λ e. cc) why
+unread show script (show_fault.Ident n) why sure long =
+    found show (show_fault.Ident n) (λ e. cc) why
+unread show script (show_fault.MissingNumber n) why sure long =
+    found show (show_fault.MissingNumber n) (λ e. cc) why
+unread show script (show_fault.BadNumber n) why sure long =
+    found show (show_fault.BadNumber n) (λ e. cc) why
+unread show script (show_fault.BadLevel n) why sure long =
+    found show (show_fault.BadLevel n) (λ e. cc) why
+unread show script (show_fault.BadTime n) why sure long =
+    found show (show_fault.BadTime n) (λ e. cc) why
+unread show script (show_fault.HalfPair n) why sure long =
+    found show (show_fault.HalfPair n) (λ e. cc) why
+unread show script (show_fault.HalfTriple n) why sure long =
+    found show (show_fault.HalfTriple n) (λ e. cc) why
+unread show script (show_fault.Limit n) why sure long =
+    found show (show_fault.Limit n) (λ e. cc) why
+
+-- ---- the consoles and receivers
+
+-- want of memory is no fault of theirs
+no_setup_memory : (shows : List Tables) (setups : List Setup) (universes : List ℕ)
+    → setup_fault shows setups universes ≡ Some Memory → ⊥
+no_setup_memory shows setups universes =
+    go (are_consoles (length setups)) (are_receivers universes)
+    (list_all (has_show shows) setups) (list_all (has_base shows) setups)
+  where
+    go : (a b c d : Bool) → (if not a then Some Consoles else (if not b then Some Receivers
+        else (if not c then Some NoShow else (if not d then Some Universe else None))))
+        ≡ Some Memory → ⊥
+    go false b c d e = cc
+    go true false c d e = cc
+    go true true false d e = cc
+    go true true true false e = cc
+    go true true true true e = cc
+
+-- what was read of a show and of a script
+pub record IsRead (show script : List ℕ) (s : Tables) (p : Parts) : Type 0 where
+  pub faultless : fault_of desk show ≡ None
+  pub short : length script ≤ longest_script
+  pub show_is : IsShowOf (statements_of desk show) s
+  pub script_is : script_of script ≡ Ok p
+
+-- of the parts of a script something is known
+of_script : (script : List ℕ) (p : Parts) (P : Parts → Type 0) → script_of script ≡ Ok p → P p
+    → IsOkAnd (script_of script) P
+of_script script p P is known = subst (λ (r : Result Parts ℕ). IsOkAnd r P) (sym is) known
+
+-- their first fault, or none
+pub set_up : (show script : List ℕ) (s : Tables) (p : Parts) (fault : Option Fault)
+    → IsRead show script s p → setup_fault (s ∷ []) p.consoles p.receivers ≡ fault
+    → IsSetUp show script fault
+set_up show script s p fault read is = record {
+  faultless = read.faultless;
+  short = read.short;
+  set_up = of_its_show show
+      (λ t. IsOkAnd (script_of script) (λ q. setup_fault (t ∷ []) q.consoles q.receivers ≡ fault))
+      s read.show_is (of_script script p
+      (λ q. setup_fault (s ∷ []) q.consoles q.receivers ≡ fault) read.script_is is);
+}
+
+-- the first fault of the consoles and receivers prevents the rehearsal
+refused_for : (show script : List ℕ) (s : Tables) (p : Parts) (fault : Fault)
+    → IsRead show script s p → setup_fault (s ∷ []) p.consoles p.receivers ≡ Some fault
+    → Prevents show script (of_setup fault)
+refused_for show script s p Memory read is =
+    absurd (no_setup_memory (s ∷ []) p.consoles p.receivers is)
+refused_for show script s p Consoles read is = set_up show script s p (Some Consoles) read is
+refused_for show script s p Receivers read is = set_up show script s p (Some Receivers) read is
+refused_for show script s p NoShow read is = set_up show script s p (Some NoShow) read is
+refused_for show script s p Universe read is = set_up show script s p (Some Universe) read is
+
+-- what a rehearsal answers in place of a report prevents it
+pub refused : (X : Type 0) (show script : List ℕ) (s : Tables) (p : Parts) (o : Option Fault)
+    (fault : Fault) → IsRead show script s p → setup_fault (s ∷ []) p.consoles p.receivers ≡ o
+    → Answers {X = X} o (Err fault) → Prevents show script (of_setup fault)
+refused X show script s p None fault read is answer =
+    let P : Fault → Type 0 = λ f. Prevents show script (of_setup f) in
+    subst P (sym answer) (inr (inr (set_up show script s p None read is)))
+refused X show script s p (Some first) fault read is answer =
+    let same : first ≡ fault = cc in
+    refused_for show script s p fault read (is ∙ ap Some same)
+
+-- a report is answered where there is no fault
+pub no_fault : {X : Type 0} (o : Option Fault) (x : X) → Answers o (Ok x) → o ≡ None
+no_fault None x answer = refl
+no_fault (Some fault) x answer = cc
+
+-- ---- the rehearsal
+
+-- the lines of what was answered
+pub lines_of : (show script : List ℕ) (s : Tables) (p : Parts) (replies : List Reply)
+    (last : List (List ℕ)) → IsRead show script s p → AreReplies (world s p) p.events replies
+    → last ≡ last_slots (world s p) (done (world s p) p.events)
+    → AreLinesOf show script (rehearsal_lines p.lines replies last)
+lines_of show script s p replies last read are last_is =
+    let lines = rehearsal_lines p.lines replies last in
+    let known : AreLines s p lines = record {
+      replies = replies;
+      answered = are;
+      lines_are = ap (rehearsal_lines p.lines replies) last_is;
+    } in
+    of_its_show show (λ t. IsOkAnd (script_of script) (λ q. AreLines t q lines)) s read.show_is
+    (of_script script p (λ q. AreLines s q lines) read.script_is known)
+
+few : (n : ℕ) (b : Bool) → (nat_le n 8 && b) ≡ true → n ≤ 8
+few n b is = grind (arith, nat_tests)
+
+-- there are at most eight receivers
+pub few_receivers : (s : Tables) (p : Parts) (last : List (List ℕ))
+    → setup_fault (s ∷ []) p.consoles p.receivers ≡ None
+    → last ≡ last_slots (world s p) (done (world s p) p.events) → length last ≤ 8
+few_receivers s p last none is =
+    let past = done (world s p) p.events in
+    let within = few (length p.receivers) _
+    (fine (s ∷ []) p.consoles p.receivers none).receivers in
+    let as_many = length-map (range_with_len 0 (length p.receivers))
+    (λ r. shown_slots (accepted_by (world s p) r past) (last_moment past)) in
+    omega (arith, within, ap length is, as_many, length-range_with_len 0 (length p.receivers))

@@ -1,0 +1,72 @@
+use Rattle.std.proofs.Common.{◌≡◌, ◌∷◌, [], Result, Ok, Err, IsErrAnd, IfErr}
+use Rattle.std.proofs.Common.{refl, ap, sym, subst, ◌∙◌}
+use Rattle.script_text.specs.Script.{Parts, parts}
+use Rattle.wire_world.specs.Refusing.{setup_fault}
+use Rattle.wire_world.specs.Reported.{Reported}
+use Rattle.cueplayer_faults.specs.declared.fault.RunFault.{RunFault}
+use Rattle.cueplayer_rehearse.proofs.Beginning.{IsRead, few_receivers, lines_of, no_fault}
+use Rattle.cueplayer_rehearse.proofs.Beginning.{refused, set_up, unread}
+use Rattle.cueplayer_rehearse.proofs.rehearsal.rehearse_script.Goals as goal
+
+-- what holds of the fault holds of the answer
+of_fault : {X : Type 0} (r : Result X RunFault) (fault : RunFault) (P : RunFault → Type 0)
+    → IsErrAnd r (λ e. e ≡ fault) → P fault → IfErr r P
+of_fault (Ok x) fault P is p = tt
+of_fault (Err e) fault P is p = subst P (sym is) p
+
+pub returns-in_err-loaded-clause-fault : goal.returns-in_err-loaded-clause-fault
+returns-in_err-loaded-clause-fault g c =
+    of_fault c.from_residual.result _ _ c.from_residual.ensures.1
+    (unread c.args.show.now c.args.script.now c.in_err-loaded.field-0.0
+    c.in_err-loaded.ensures.fault c.in_err-loaded.ensures.sure
+    (λ over. let e = c.in_err-loaded.ensures.too_long over in cc))
+
+pub returns-in_err-report-clause-fault : goal.returns-in_err-report-clause-fault
+returns-in_err-report-clause-fault g c =
+    let s = c.in_ok-loaded.loaded.show in
+    let p : Parts = record {
+      consoles = c.as_slice.result.now;
+      receivers = c.as_slice-2.result.now;
+      events = c.as_slice-3.result.now;
+      strays = c.as_slice-4.result.now;
+      lines = c.in_ok-script.script.lines.items;
+    } in
+    let same : parts c.in_ok-script.script ≡ p = cc in
+    let read : IsRead c.args.show.now c.args.script.now s p = record {
+      faultless = c.in_ok-loaded.ensures.faultless;
+      short = c.in_ok-script.ensures.short;
+      show_is = c.in_ok-loaded.ensures.show;
+      script_is = c.in_ok-script.ensures.script ∙ ap Ok same;
+    } in
+    of_fault c.from_residual-in_err-report.result _ _ c.from_residual-in_err-report.ensures.1
+    (refused Reported c.args.show.now c.args.script.now s p
+    (setup_fault (s ∷ []) p.consoles p.receivers) c.in_err-report.field-0.0 read refl
+    c.in_err-report.ensures.faults)
+
+pub returns : goal.returns
+returns g c =
+    let s = c.in_ok-loaded.loaded.show in
+    let p : Parts = record {
+      consoles = c.as_slice.result.now;
+      receivers = c.as_slice-2.result.now;
+      events = c.as_slice-3.result.now;
+      strays = c.as_slice-4.result.now;
+      lines = c.in_ok-script.script.lines.items;
+    } in
+    let same : parts c.in_ok-script.script ≡ p = cc in
+    let read : IsRead c.args.show.now c.args.script.now s p = record {
+      faultless = c.in_ok-loaded.ensures.faultless;
+      short = c.in_ok-script.ensures.short;
+      show_is = c.in_ok-loaded.ensures.show;
+      script_is = c.in_ok-script.ensures.script ∙ ap Ok same;
+    } in
+    let report = c.in_ok-report.report in
+    let none = no_fault (setup_fault (s ∷ []) p.consoles p.receivers) report
+    c.in_ok-report.ensures.faults in
+    record {
+      set_up = set_up c.args.show.now c.args.script.now s p _ read none;
+      lines = lines_of c.args.show.now c.args.script.now s p report.replies report.last read
+          c.in_ok-report.ensures.replies c.in_ok-report.ensures.last;
+      few = few_receivers s p report.last none c.in_ok-report.ensures.last;
+      fault = tt;
+    }

@@ -1,0 +1,48 @@
+ghost use Rattle.std.specs.Prelude.{◌≡◌, ◌≤◌, length, None, OnOk, IfOk, IfErr};
+ghost use Rattle.cueplayer_rehearse.specs.Begins.{IsSetUp, Prevents};
+ghost use Rattle.cueplayer_rehearse.specs.Printed.{AreLinesOf};
+ghost use Rattle.cueplayer_rehearse.specs.Texts.{rehearsal_lines};
+
+use crate::script::script_in;
+use cueplayer_faults::RunFault;
+use fade_core::Fader;
+use show_reader::read_show;
+use std::alloc::Global;
+use wire_world::{Report, rehearse};
+
+// What came of a script.
+#[derive(Debug, Drop)]
+pub(crate) struct Rehearsed {
+    // Of each event the number of its line.
+    pub numbers: Vec<u32>,
+    pub report: Report,
+}
+
+// Rehearses a script over a show.
+pub(crate) fn rehearse_script<F: Fader>(
+    alloc: Global,
+    show: &[u8],
+    script: &[u8],
+) -> Result<Rehearsed, RunFault>
+    ensures set_up { OnOk result (IsSetUp show.now script.now None) }
+    ensures lines { IfOk result (λ rehearsed. AreLinesOf show.now script.now (rehearsal_lines
+        rehearsed.numbers.items rehearsed.report.replies rehearsed.report.last)) }
+    ensures few { IfOk result (λ rehearsed. length rehearsed.report.last ≤ 8) }
+    ensures fault { IfErr result (Prevents show.now script.now) }
+{
+    let loaded = read_show(alloc, show)?;
+    let script = script_in(alloc, script)?;
+    let shows = [loaded.show];
+    let report = rehearse::<F>(
+        alloc,
+        &shows,
+        script.consoles.as_slice(),
+        script.receivers.as_slice(),
+        script.events.as_slice(),
+        script.strays.as_slice(),
+    )?;
+    Ok(Rehearsed {
+        numbers: script.lines,
+        report,
+    })
+}

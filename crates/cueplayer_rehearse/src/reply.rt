@@ -1,0 +1,64 @@
+ghost use Rattle.std.specs.Prelude.{◌≡◌, ◌≤◌, length, OnOk, OnErr};
+ghost use Rattle.devices.specs.Tape.{with_failure, with_more};
+ghost use Rattle.console_text.specs.Texts.{numbered};
+ghost use Rattle.cueplayer_rehearse.specs.Texts.{event_line, skip_name, skipped_text};
+
+use arrayvec::ArrayString;
+use console_text::{done_line, refused_line, ticked_line};
+use devices::{LinkFault, Output};
+use itoa::Buffer;
+use receiver_text::{numbered_slots, reply_line};
+use wire_laws::{Reply, Skip};
+
+// There is room for a number of 20 digits, ` skipped NoReceiver` and LF.
+type SkippedLine = ArrayString<40>;
+
+// Prints the reply to an event by one write, behind the number of the event's line.
+pub(crate) fn print_reply<W: Output>(
+    number: u32,
+    reply: &Reply,
+    out: &mut W,
+) -> Result<(), LinkFault>
+    ensures told { W.tells out.new → W.tells out.old }
+    ensures ok { OnOk result (W.tells out.new
+        → W.tape out.new ≡ with_more (W.tape out.old) (event_line (number, reply.now))) }
+    ensures err { OnErr result (W.tells out.new
+        → W.tape out.new ≡ with_failure (W.tape out.old)) }
+{
+    let number = u64::from(number);
+    match reply {
+        Reply::Done => out.write(done_line(number).as_str().as_bytes()),
+        Reply::Refused(refused) => out.write(refused_line(number, *refused).as_str().as_bytes()),
+        Reply::Ticked(ticked, offers) => {
+            out.write(ticked_line(number, *ticked, offers).as_str().as_bytes())
+        }
+        Reply::Taken(taken) => out.write(reply_line(number, Ok(*taken)).as_str().as_bytes()),
+        Reply::Ignored(reason) => out.write(reply_line(number, Err(*reason)).as_str().as_bytes()),
+        Reply::Shown(slots) => out.write(numbered_slots(number, slots).as_str().as_bytes()),
+        Reply::Skipped(skip) => out.write(skipped_line(number, *skip).as_str().as_bytes()),
+    }
+}
+
+fn skipped_line(number: u64, skip: Skip) -> SkippedLine
+    ensures { result.bytes ≡ numbered number (skipped_text skip) }
+{
+    let mut line = SkippedLine::new();
+    line.push_str(Buffer::new().format(number));
+    line.push_str(" skipped ");
+    line.push_str(skip_name(skip));
+    line.push_str("\n");
+    line
+}
+
+fn skip_name(skip: Skip) -> &'static str
+    ensures name { result.now ≡ skip_name skip }
+    ensures room { length result.now ≤ 10 }
+{
+    match skip {
+        Skip::Backwards => "Backwards",
+        Skip::TooLarge => "TooLarge",
+        Skip::NoConsole => "NoConsole",
+        Skip::NoReceiver => "NoReceiver",
+        Skip::NotSent => "NotSent",
+    }
+}
