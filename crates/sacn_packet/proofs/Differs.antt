@@ -1,30 +1,20 @@
--- Bytes at an offset that are compared, one by one or as a number.
-use Rattle.std.proofs.Common.{◌≡◌, ℕ, zero, suc, Bool, List, ◌≤◌, ◌<◌, ◌+◌, length, drop, get_or, arith, refl, ap, sym, ◌∙◌, true, false, not, nat_eq}
+-- Bytes at an offset that are compared as numbers, and part by part.
+use Rattle.std.proofs.Common.{◌≡◌, ℕ, zero, suc, Bool, List, ◌++◌, ◌≤◌, ◌<◌, ◌+◌, length}
+use Rattle.std.proofs.Common.{drop, take, get_or, arith, refl, ap, sym, ◌∙◌, true, false, not, nat_eq}
+use Rattle.std.proofs.Math.Seq.{drop-append_seam}
 use Rattle.std.proofs.lemmas.Bool.Decides.{nat_tests}
-use Rattle.std.proofs.lemmas.Bool.{false_from_ne_true}
-use Rattle.std.proofs.lemmas.List.{get_or-take, get_or-drop, length-take-le, length-drop}
+use Rattle.std.proofs.lemmas.List.{length-append, length-take-le, length-drop, take_all}
 use Rattle.std.proofs.lemmas.Grind.{same_number_lists}
 use Rattle.std.proofs.lemmas.Slice.Eq.{bytes_eq-Decides}
 use Rattle.byteorder.specs.Endian.{big_bytes, big_number}
-use Rattle.sacn_packet.proofs.Parts.{AreBytes, part_bytes}
+use Rattle.sacn_packet.proofs.Parts.{AreBytes, inner, join_rows, part_bytes, two_bytes, number_two}
 use Rattle.sacn_packet.specs.Wire.{bytes_at}
 use Rattle.sacn_packet.specs.Faults.{differs_at}
 
-module _ (d wanted : List ℕ) (offset : ℕ) (fits : offset + length wanted ≤ length d) where
-  at : (k : ℕ) → k < length wanted → get_or (bytes_at d offset (length wanted)) k 0 ≡ get_or d (offset + k) 0
-  at k lt = get_or-take (length wanted) (drop offset d) k 0 lt ∙ get_or-drop offset d k 0
-
-  long : length (bytes_at d offset (length wanted)) ≡ length wanted
-  long = length-take-le (length wanted) (drop offset d) (omega (arith, length-drop offset d, fits))
-
-  pub same_bytes : ((k : ℕ) → k < length wanted → get_or d (offset + k) 0 ≡ get_or wanted k 0) → differs_at d offset wanted ≡ false
-  same_bytes same =
-      ap not ((bytes_eq-Decides (bytes_at d offset (length wanted)) wanted).1 (same_number_lists _ wanted long
-      (λ k lt. at k (rw long at lt) ∙ same k (rw long at lt))))
-
-  pub other_byte : (k : ℕ) → k < length wanted → (get_or d (offset + k) 0 ≡ get_or wanted k 0 → ⊥) → differs_at d offset wanted ≡ true
-  other_byte k lt other =
-      ap not (false_from_ne_true _ (λ equal. other (sym (at k lt) ∙ ap (λ bytes. get_or bytes k 0) ((bytes_eq-Decides (bytes_at d offset (length wanted)) wanted).0 equal))))
+same_tests : (a b : Bool) → (a ≡ true → b ≡ true) → (b ≡ true → a ≡ true) → a ≡ b
+same_tests true b there back = sym (there refl)
+same_tests false true there back = back refl
+same_tests false false there back = refl
 
 -- four bytes are the number in them
 four_bytes : (xs : List ℕ) → length xs ≡ 4 → AreBytes xs → xs ≡ big_bytes 4 (big_number 4 xs)
@@ -40,18 +30,63 @@ four_bytes xs size bytes =
 number_four : (n : ℕ) → n < 4294967296 → big_number 4 (big_bytes 4 n) ≡ n
 number_four n below = omega arith
 
-same_tests : (a b : Bool) → (a ≡ true → b ≡ true) → (b ≡ true → a ≡ true) → a ≡ b
-same_tests true b there back = sym (there refl)
-same_tests false true there back = back refl
-same_tests false false there back = refl
+-- bytes are others than those of a number where the number in them is another
+module _ (d : List ℕ) (offset n wanted : ℕ) (fits : offset + n ≤ length d) (bytes : AreBytes d) where
+  abbrev read : List ℕ
+  read = bytes_at d offset n
 
-pub other_number : (d : List ℕ) (offset wanted : ℕ) → offset + 4 ≤ length d → AreBytes d → wanted < 4294967296
+  read_size : length read ≡ n
+  read_size = length-take-le n (drop offset d) (omega (arith, length-drop offset d, fits))
+
+  other_number : read ≡ big_bytes n (big_number n read) → big_number n (big_bytes n wanted) ≡ wanted
+      → length (big_bytes n wanted) ≡ n
+      → not (nat_eq (big_number n read) wanted) ≡ differs_at d offset (big_bytes n wanted)
+  other_number is back size =
+      rw size (ap not (same_tests (nat_eq (big_number n read) wanted) _
+      (λ same. (bytes_eq-Decides read (big_bytes n wanted)).1
+      (is ∙ ap (big_bytes n) (grind (arith, nat_tests, same))))
+      (λ same. let number : big_number n read ≡ wanted =
+      ap (big_number n) ((bytes_eq-Decides read (big_bytes n wanted)).0 same) ∙ back in
+      grind (arith, nat_tests, number))))
+
+pub other_four : (d : List ℕ) (offset wanted : ℕ) → offset + 4 ≤ length d → AreBytes d
+    → wanted < 4294967296
     → not (nat_eq (big_number 4 (bytes_at d offset 4)) wanted) ≡ differs_at d offset (big_bytes 4 wanted)
-other_number d offset wanted fits bytes below =
-    let read : List ℕ = bytes_at d offset 4 in
-    let is_number : read ≡ big_bytes 4 (big_number 4 read) =
-    four_bytes read (length-take-le 4 (drop offset d) (omega (arith, length-drop offset d, fits))) (part_bytes d offset 4 bytes)
-    in
-    ap not (same_tests (nat_eq (big_number 4 read) wanted) _
-    (λ same. (bytes_eq-Decides read (big_bytes 4 wanted)).1 (is_number ∙ ap (big_bytes 4) (grind (arith, nat_tests, same))))
-    (λ same. let number : big_number 4 read ≡ wanted = ap (big_number 4) ((bytes_eq-Decides read (big_bytes 4 wanted)).0 same) ∙ number_four wanted below in grind (arith, nat_tests, number)))
+other_four d offset wanted fits bytes below = other_number d offset 4 wanted fits bytes
+    (four_bytes (bytes_at d offset 4) (read_size d offset 4 wanted fits bytes)
+    (part_bytes d offset 4 bytes)) (number_four wanted below) refl
+
+pub other_two : (d : List ℕ) (offset wanted : ℕ) → offset + 2 ≤ length d → AreBytes d
+    → wanted < 65536
+    → not (nat_eq (big_number 2 (bytes_at d offset 2)) wanted) ≡ differs_at d offset (big_bytes 2 wanted)
+other_two d offset wanted fits bytes below = other_number d offset 2 wanted fits bytes
+    (two_bytes (bytes_at d offset 2) (read_size d offset 2 wanted fits bytes)
+    (part_bytes d offset 2 bytes)) (number_two wanted below) refl
+
+-- other bytes stand at an offset where those of the first part do, or those of the second
+module _ (d : List ℕ) (offset : ℕ) (xs ys : List ℕ) where
+  abbrev both : List ℕ
+  both = bytes_at d offset (length (xs ++ ys))
+
+  second_from_both : both ≡ xs ++ ys → bytes_at d (offset + length xs) (length ys) ≡ ys
+  second_from_both h =
+      inner d offset (length (xs ++ ys)) (length xs) (length ys) (omega (arith, length-append xs ys))
+      ∙ ap (λ (zs : List ℕ). bytes_at zs (length xs) (length ys)) h
+      ∙ ap (take (length ys)) (drop-append_seam xs ys)
+      ∙ take_all (length ys) ys (omega arith)
+
+  pub after_first : differs_at d offset xs ≡ false
+      → differs_at d (offset + length xs) ys ≡ differs_at d offset (xs ++ ys)
+  after_first first =
+      let front : bytes_at d offset (length xs) ≡ xs =
+      (bytes_eq-Decides (bytes_at d offset (length xs)) xs).0 (fails _ first) in
+      ap not (same_tests _ _
+      (λ second. (bytes_eq-Decides both (xs ++ ys)).1 (ap (bytes_at d offset) (length-append xs ys)
+      ∙ join_rows d offset (length xs) (length ys) front
+      ((bytes_eq-Decides (bytes_at d (offset + length xs) (length ys)) ys).0 second)))
+      (λ all. (bytes_eq-Decides (bytes_at d (offset + length xs) (length ys)) ys).1
+      (second_from_both ((bytes_eq-Decides both (xs ++ ys)).0 all))))
+    where
+      fails : (b : Bool) → not b ≡ false → b ≡ true
+      fails true h = refl
+      fails false h = cc

@@ -36,17 +36,3 @@ pub(crate) fn differs_from(bytes: &[u8], offset: usize, wanted: u32) -> bool
 {
     BigEndian::read_u32(&bytes[offset..offset + 4]) != wanted
 }
-
-// Whether other bytes than these stand at an offset. In line, the wanted bytes are constants to the compiler.
-#[inline(always)]
-pub(crate) fn differs(bytes: &[u8], offset: usize, wanted: &[u8]) -> bool
-    requires { offset + length wanted.now ≤ length bytes.now }
-    ensures { result ≡ differs_at bytes.now offset wanted.now }
-{
-    for i in 0..wanted.len() {
-        if bytes[offset + i] != wanted[i] {
-            return true;
-        }
-    }
-    false
-}

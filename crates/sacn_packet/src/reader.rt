@@ -1,16 +1,14 @@
-ghost use Rattle.std.specs.Prelude.{◌≡◌, ◌≤◌, length, IfOk, OnErr};
+ghost use Rattle.std.specs.Prelude.{◌≡◌, ◌≤◌, [], ◌∷◌, length, IfOk, OnErr};
 ghost use Rattle.std.specs.Result.{result_err};
-ghost use Rattle.sacn_packet.specs.Faults.{fault_of, lengths_disagree, count_disagrees};
-ghost use Rattle.sacn_packet.specs.Wire.{Packet, HasPacket};
+ghost use Rattle.sacn_packet.specs.Faults.{fault_of, differs_at, lengths_disagree, count_disagrees};
+ghost use Rattle.sacn_packet.specs.Wire.{Packet, HasPacket, packet_identifier};
 
-use crate::bytes::{differs, differs_from, flags_at, length_at, number_at};
+use crate::bytes::{differs_from, flags_at, length_at, number_at};
 use crate::data_packet::DataPacket;
 use crate::unreadable::Unreadable;
 
 // Preamble size and post-amble size.
 const PREAMBLE: u32 = 0x0010_0000;
-
-const IDENTIFIER: [u8; 12] = *b"ASC-E1.17\0\0\0";
 
 // VECTOR_ROOT_E131_DATA
 const ROOT_VECTOR: u32 = 0x0000_0004;
@@ -18,8 +16,15 @@ const ROOT_VECTOR: u32 = 0x0000_0004;
 // VECTOR_E131_DATA_PACKET
 const FRAMING_VECTOR: u32 = 0x0000_0002;
 
-// Vector, address and data type, first address, increment.
-const DMP_FORM: [u8; 6] = [0x02, 0xa1, 0x00, 0x00, 0x00, 0x01];
+// Whether the ACN packet identifier, `ASC-E1.17` and three zero bytes, is another.
+fn has_other_identifier(datagram: &[u8]) -> bool
+    requires { 126 ≤ length datagram.now }
+    ensures { result ≡ differs_at datagram.now 4 packet_identifier }
+{
+    differs_from(datagram, 4, u32::from_be_bytes(*b"ASC-"))
+        || differs_from(datagram, 8, u32::from_be_bytes(*b"E1.1"))
+        || differs_from(datagram, 12, u32::from_be_bytes(*b"7\0\0\0"))
+}
 
 // Whether the flags or the lengths of the three PDUs are no packet's.
 fn has_bad_lengths(datagram: &[u8]) -> bool
@@ -34,6 +39,14 @@ fn has_bad_lengths(datagram: &[u8]) -> bool
         || datagram.len() < 16 + usize::from(root)
         || length_at(datagram, 38) + 22 != root
         || length_at(datagram, 115) + 99 != root
+}
+
+// Whether the DMP PDU is of another form: vector, address and data type, first address, increment.
+fn has_other_form(datagram: &[u8]) -> bool
+    requires { 126 ≤ length datagram.now }
+    ensures { result ≡ differs_at datagram.now 117 (0x02 ∷ 0xa1 ∷ 0 ∷ 0 ∷ 0 ∷ 1 ∷ []) }
+{
+    differs_from(datagram, 117, 0x02a1_0000) || number_at(datagram, 121) != 1
 }
 
 // Whether the property value count is out of range, or not that of the DMP length.
@@ -53,7 +66,7 @@ fn fault_in(datagram: &[u8]) -> Option<Unreadable>
         Some(Unreadable::Short)
     } else if differs_from(datagram, 0, PREAMBLE) {
         Some(Unreadable::Preamble)
-    } else if differs(datagram, 4, &IDENTIFIER) {
+    } else if has_other_identifier(datagram) {
         Some(Unreadable::Identifier)
     } else if differs_from(datagram, 18, ROOT_VECTOR) {
         Some(Unreadable::RootVector)
@@ -63,9 +76,9 @@ fn fault_in(datagram: &[u8]) -> Option<Unreadable>
         Some(Unreadable::FramingVector)
     } else if datagram[108] > 200 {
         Some(Unreadable::Priority)
-    } else if number_at(datagram, 113) == 0 || number_at(datagram, 113) > 63999 {
+    } else if !(1..=63_999).contains(&number_at(datagram, 113)) {
         Some(Unreadable::Universe)
-    } else if differs(datagram, 117, &DMP_FORM) {
+    } else if has_other_form(datagram) {
         Some(Unreadable::Dmp)
     } else if has_bad_count(datagram) {
         Some(Unreadable::Count)
