@@ -1,19 +1,16 @@
 -- The live records of a receiver, one more at a time.
 use Rattle.std.proofs.Common.{◌≡◌, ℕ, suc, ◌+◌, ◌<◌, ◌≤◌, Bool, true, false, not, ◌&&◌, max, refl}
 use Rattle.std.proofs.Common.{ap, arith, sym, ◌∙◌, List, [], ◌∷◌, ◌++◌, map, length, take, get_or}
-use Rattle.std.proofs.Common.{subst, Some, None}
 use Rattle.std.specs.Prelude.{filter, count_by, slice_index, ◌==◌, if◌then◌else◌}
 use Rattle.std.specs.List.{range_with_len}
-use Rattle.std.proofs.lemmas.List.{append-nil, map_more, map_push, ext_get_or}
-use Rattle.std.proofs.lemmas.List.Elements.{filter-append}
+use Rattle.std.proofs.lemmas.List.{map_more, ext_get_or}
 use Rattle.std.proofs.lemmas.List.Sums.{length-filter}
 use Rattle.std.proofs.lemmas.List.FromFn.{length-map-range_with_len, get_or-map-range_with_len}
-use Rattle.std.proofs.lemmas.Bool.Decides.{nat_tests}
 use Rattle.sacn_receiver.specs.declared.record.Record.{Record}
 use Rattle.sacn_receiver.specs.Source.{Entry, is_there}
-use Rattle.sacn_receiver.specs.Shown.{Light, light_of, live, greatest, merged, shown, shown_slots}
+use Rattle.sacn_receiver.specs.Shown.{light_of, live, greatest, merged, shown, shown_slots}
 use Rattle.sacn_receiver.specs.Kept.{Kept, StandsFor}
-use Rattle.sacn_receiver.specs.Records.{entries, kept_entry, is_live_at, Merges}
+use Rattle.sacn_receiver.specs.Records.{entries, kept_entry, is_live_at, lights_at, top_at, lit}
 use Rattle.sacn_receiver.specs.Places.{AreApart}
 use Rattle.sacn_receiver.proofs.Same.{AreSame, same_live, same_shown}
 use Rattle.sacn_receiver.proofs.Finding.{records_all}
@@ -22,132 +19,74 @@ greatest_push : (xs : List ℕ) (x : ℕ) → greatest (xs ++ x ∷ []) ≡ max 
 greatest_push [] x = omega arith
 greatest_push (y ∷ ys) x = omega (arith, greatest_push ys x)
 
--- one light more
-module _ (lights : List Light) (l : Light) (s : ℕ) where
-  abbrev top : ℕ
-  top = greatest (map (λ m. m.priority) lights)
+-- the greatest of at most four numbers
+pub greatest_of_four : (xs : List ℕ) → length xs ≤ 4
+    → max (max (max (get_or xs 0 0) (get_or xs 1 0)) (get_or xs 2 0)) (get_or xs 3 0) ≡ greatest xs
+greatest_of_four [] few = refl
+greatest_of_four (a ∷ []) few = omega arith
+greatest_of_four (a ∷ b ∷ []) few = omega arith
+greatest_of_four (a ∷ b ∷ c ∷ []) few = omega arith
+greatest_of_four (a ∷ b ∷ c ∷ d ∷ []) few = omega arith
+greatest_of_four (a ∷ b ∷ c ∷ d ∷ e ∷ xs) few = absurd (omega arith)
 
-  abbrev more : List Light
-  more = lights ++ l ∷ []
+-- the greatest priority, one record on
+module _ (t : ℕ) where
+  abbrev live_priority : Record → ℕ
+  live_priority r = if is_live_at t (kept_entry r) then r.priority else 0
 
-  -- of the lights of priority n
-  abbrev of_priority : ℕ → List Light → ℕ
-  of_priority n ls = greatest (map (λ m. slice_index m.slots s) (filter (λ m. m.priority == n) ls))
-
-  top_more : greatest (map (λ m. m.priority) more) ≡ max top l.priority
-  top_more = ap greatest (map_push (λ (m : Light). m.priority) lights l)
-      ∙ greatest_push (map (λ m. m.priority) lights) l.priority
-
-  split : (n : ℕ) → n ≡ max top l.priority
-      → merged more s ≡ greatest (map (λ m. slice_index m.slots s)
-      (filter (λ m. m.priority == n) lights ++ filter (λ m. m.priority == n) (l ∷ [])))
-  split n e =
-      ap (λ n. of_priority n more) (top_more ∙ sym e)
-      ∙ ap (λ ls. greatest (map (λ m. slice_index m.slots s) ls))
-      (filter-append (λ (m : Light). m.priority == n) lights (l ∷ []))
-
-  with_last : (n : ℕ) → n ≡ max top l.priority → (l.priority == n) ≡ true
-      → merged more s ≡ max (of_priority n lights) (slice_index l.slots s)
-  with_last n e q =
-      split n e
-      ∙ ap (λ b. greatest (map (λ m. slice_index m.slots s)
-      (filter (λ m. m.priority == n) lights ++ (if b then l ∷ [] else [])))) q
-      ∙ ap greatest (map_push (λ (m : Light). slice_index m.slots s)
-      (filter (λ m. m.priority == n) lights) l)
-      ∙ greatest_push (map (λ m. slice_index m.slots s) (filter (λ m. m.priority == n) lights))
-      (slice_index l.slots s)
-
-  lower : l.priority < top → merged more s ≡ merged lights s
-  lower h =
-      let q : (l.priority == top) ≡ false = grind (arith, nat_tests) in
-      split top (omega arith)
-      ∙ ap (λ b. greatest (map (λ m. slice_index m.slots s)
-      (filter (λ m. m.priority == top) lights ++ (if b then l ∷ [] else [])))) q
-      ∙ ap (λ ls. greatest (map (λ m. slice_index m.slots s) ls))
-      (append-nil (filter (λ m. m.priority == top) lights))
-
-  equal : l.priority ≡ top → merged more s ≡ max (merged lights s) (slice_index l.slots s)
-  equal h = let q : (l.priority == top) ≡ true = grind (arith, nat_tests) in
-      with_last top (omega arith) q
-
-  higher : top < l.priority → merged more s ≡ slice_index l.slots s
-  higher h =
-      let q : (l.priority == l.priority) ≡ true = grind (arith, nat_tests) in
-      let none : of_priority l.priority lights ≡ 0 = below lights h in
-      omega (arith, with_last l.priority (omega arith) q, none)
+  top_lit : (rs : List Record) → top_at t rs ≡ greatest (map live_priority rs)
+  top_lit [] = refl
+  top_lit (r ∷ rs) = go (is_live_at t (kept_entry r)) refl (top_lit rs)
     where
-      below : (ls : List Light) → greatest (map (λ m. m.priority) ls) < l.priority
-          → of_priority l.priority ls ≡ 0
-      below [] h = refl
-      below (m ∷ ls) h =
-          let q : (m.priority == l.priority) ≡ false = grind (arith, nat_tests) in
-          rw q (below ls (omega arith))
+      go : (b : Bool) → is_live_at t (kept_entry r) ≡ b
+          → top_at t rs ≡ greatest (map live_priority rs)
+          → top_at t (r ∷ rs) ≡ greatest (map live_priority (r ∷ rs))
+      go true h ih = simp h (ap (max r.priority) ih)
+      go false h ih = simp h (omega (arith, ih))
 
--- a frame with one light more
-module _ (lights : List Light) (l : Light) (top : ℕ) (out new : List ℕ) where
-  pub keeps_frame : Merges (Some top) out lights → l.priority < top
-      → Merges (Some top) out (lights ++ l ∷ [])
-  keeps_frame m h = (
-    omega (arith, m.0, top_more lights l 0),
-    λ s lt. m.1 s lt
-        ∙ sym (lower lights l s (omega (arith, m.0))),
-  )
+  module _ (rs : List Record) (i : ℕ) (d : Record) (lt : i < length rs) where
+    top_more : top_at t (take (i + 1) rs)
+        ≡ max (top_at t (take i rs)) (live_priority (get_or rs i d))
+    top_more =
+        top_lit (take (i + 1) rs) ∙ ap greatest (map_more live_priority rs i d lt)
+        ∙ greatest_push (map live_priority (take i rs)) (live_priority (get_or rs i d))
+        ∙ ap (λ n. max n (live_priority (get_or rs i d))) (sym (top_lit (take i rs)))
 
-  pub raises_frame : Merges (Some top) out lights → l.priority ≡ top
-      → ((s : ℕ) → slice_index new s ≡ max (slice_index out s) (slice_index l.slots s))
-      → Merges (Some top) new (lights ++ l ∷ [])
-  raises_frame m h each = (
-    omega (arith, m.0, top_more lights l 0),
-    λ s lt. each s
-        ∙ ap (λ n. max n (slice_index l.slots s)) (m.1 s lt)
-        ∙ sym (equal lights l s (omega (arith, m.0))),
-  )
+    pub top_live : is_live_at t (kept_entry (get_or rs i d)) ≡ true
+        → top_at t (take (i + 1) rs) ≡ max (get_or rs i d).priority (top_at t (take i rs))
+    top_live q =
+        let p : live_priority (get_or rs i d) ≡ (get_or rs i d).priority = rw q refl in
+        omega (arith, top_more, p)
 
-  pub takes_frame : Merges (Some top) out lights → top < l.priority
-      → Merges (Some l.priority) l.slots (lights ++ l ∷ [])
-  takes_frame m h = (
-    omega (arith, m.0, top_more lights l 0),
-    λ s lt. sym (higher lights l s (omega (arith, m.0))),
-  )
+    pub top_dark : is_live_at t (kept_entry (get_or rs i d)) ≡ false
+        → top_at t (take (i + 1) rs) ≡ top_at t (take i rs)
+    top_dark q =
+        let p : live_priority (get_or rs i d) ≡ 0 = rw q refl in
+        omega (arith, top_more, p)
 
-pub first_frame : (lights : List Light) (l : Light) (out : List ℕ) → Merges None out lights
-    → Merges (Some l.priority) l.slots (lights ++ l ∷ [])
-first_frame lights l out m = subst (λ ls. Merges (Some l.priority) l.slots (ls ++ l ∷ [])) (sym m)
-    (omega arith, λ s lt. sym (one s))
-  where
-    one : (s : ℕ) → merged (l ∷ []) s ≡ slice_index l.slots s
-    one s = let q : (l.priority == max l.priority 0) ≡ true = grind (arith, nat_tests) in
-        rw q (omega arith)
+-- the greatest slot of the records that lead is that of all, where the others count for 0
+module _ (t s top : ℕ) where
+  greatest_lit : (rs : List Record) → greatest (map (λ r. lit t top r s) rs)
+      ≡ greatest (map (λ l. slice_index l.slots s)
+      (filter (λ l. l.priority == top) (lights_at t rs)))
+  greatest_lit [] = refl
+  greatest_lit (r ∷ rs) =
+      go (is_live_at t (kept_entry r)) (r.priority == top) refl refl (greatest_lit rs)
+    where
+      go : (b c : Bool) → is_live_at t (kept_entry r) ≡ b → (r.priority == top) ≡ c
+          → greatest (map (λ r. lit t top r s) rs)
+          ≡ greatest (map (λ l. slice_index l.slots s)
+          (filter (λ l. l.priority == top) (lights_at t rs)))
+          → greatest (map (λ r. lit t top r s) (r ∷ rs))
+          ≡ greatest (map (λ l. slice_index l.slots s)
+          (filter (λ l. l.priority == top) (lights_at t (r ∷ rs))))
+      go true true h k ih = simp (h, k) (ap (max (slice_index r.slots s)) ih)
+      go true false h k ih = simp (h, k) (omega (arith, ih))
+      go false c h k ih = simp h (omega (arith, ih))
 
--- the lights of the live records, one record on
-module _ (t : ℕ) (rs : List Record) (i : ℕ) (d : Record) (lt : i < length rs) where
-  abbrev pub lights_of : List Record → List Light
-  lights_of rs = map light_of (filter (is_live_at t) (entries rs))
-
-  one_on : lights_of (take (i + 1) rs)
-      ≡ map light_of (filter (is_live_at t) (entries (take i rs)) ++ filter (is_live_at t)
-      (kept_entry (get_or rs i d) ∷ []))
-  one_on =
-      ap (λ es. map light_of (filter (is_live_at t) es)) (map_more kept_entry rs i d lt)
-      ∙ ap (map light_of) (filter-append (is_live_at t) (entries (take i rs))
-      (kept_entry (get_or rs i d) ∷ []))
-
-  pub one_live : is_live_at t (kept_entry (get_or rs i d)) ≡ true
-      → lights_of (take (i + 1) rs) ≡ lights_of (take i rs) ++ light_of
-      (kept_entry (get_or rs i d)) ∷ []
-  one_live q =
-      one_on
-      ∙ ap (λ b. map light_of (filter (is_live_at t)
-      (entries (take i rs)) ++ (if b then kept_entry (get_or rs i d) ∷ [] else []))) q
-      ∙ map_push light_of (filter (is_live_at t) (entries (take i rs))) (kept_entry (get_or rs i d))
-
-  pub one_dark : is_live_at t (kept_entry (get_or rs i d)) ≡ false
-      → lights_of (take (i + 1) rs) ≡ lights_of (take i rs)
-  one_dark q =
-      one_on
-      ∙ ap (λ b. map light_of (filter (is_live_at t)
-      (entries (take i rs)) ++ (if b then kept_entry (get_or rs i d) ∷ [] else []))) q
-      ∙ ap (map light_of) (append-nil (filter (is_live_at t) (entries (take i rs))))
+pub merged_lit : (t s : ℕ) (rs : List Record)
+    → greatest (map (λ r. lit t (top_at t rs) r s) rs) ≡ merged (lights_at t rs) s
+merged_lit t s rs = greatest_lit t s (top_at t rs) rs
 
 filter_both : (p q : Entry → Bool) (es : List Entry)
     → filter q (filter p es) ≡ filter (λ e. p e && q e) es

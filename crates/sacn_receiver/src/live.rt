@@ -1,10 +1,13 @@
-ghost use Rattle.std.specs.Prelude.{◌≡◌, ℕ, ◌<◌, ◌≤◌, List, [], ◌∷◌, ◌++◌, count_by, filter};
-ghost use Rattle.std.specs.Prelude.{length, map, max, slice_index};
-ghost use Rattle.sacn_receiver.specs.Records.{entries, kept_entry, is_live_at, Merges};
-ghost use Rattle.sacn_receiver.specs.Shown.{Light, light_of, merged};
+ghost use Rattle.std.specs.Prelude.{◌≡◌, ℕ, ◌<◌, ◌≤◌, count_by, filter, length, map, max};
+ghost use Rattle.std.specs.Prelude.{slice_index};
+ghost use Rattle.sacn_receiver.specs.Records.{entries, kept_entry, is_live_at, lights_at};
+ghost use Rattle.sacn_receiver.specs.Records.{top_at, lit};
+ghost use Rattle.sacn_receiver.specs.Shown.{merged};
 
 use crate::record::Record;
-use patch_core::max_into;
+
+// The frame of a place without a record that leads.
+const DARK: [u8; 512] = [0; 512];
 
 // How many records are live.
 pub(crate) fn count_live(records: &[Record], moment: u64) -> usize
@@ -19,47 +22,52 @@ pub(crate) fn count_live(records: &[Record], moment: u64) -> usize
 // Writes the frame of the live records: of those of the greatest priority, the greatest of each
 // slot.
 pub(crate) fn merge(records: &[Record], moment: u64, out: &mut [u8; 512])
+    requires { length records.now ≤ 4 }
     ensures { (s : ℕ) → s < 512 → slice_index out.new s
-        ≡ merged (map light_of (filter (is_live_at moment) (entries records.now))) s }
+        ≡ merged (lights_at moment records.now) s }
 {
-    let mut top = None;
+    let top = top_priority(records, moment);
+    write_greatest(
+        leading_slots(records, 0, moment, top),
+        leading_slots(records, 1, moment, top),
+        leading_slots(records, 2, moment, top),
+        leading_slots(records, 3, moment, top),
+        out,
+    );
+}
+
+// The greatest priority of the live records, 0 where none is live.
+#[tactic(auto, using(crate::proofs::Merging::top_live, crate::proofs::Merging::top_dark))]
+fn top_priority(records: &[Record], moment: u64) -> u8
+    ensures { result ≡ top_at moment records.now }
+{
+    let mut top = 0;
     for record in records {
         if record.is_live(moment) {
-            top = add(top, record, out);
+            top = record.priority.max(top);
         }
     }
-    if top.is_none() {
-        *out = [0; 512];
+    top
+}
+
+// The slots of the record at a place, where it leads, else zeros.
+fn leading_slots(records: &[Record], place: usize, moment: u64, top: u8) -> &[u8; 512]
+    ensures { (s : ℕ) → slice_index result.now s
+        ≡ slice_index (map (λ r. lit moment top r s) records.now) place }
+{
+    match records.get(place) {
+        Some(record) if record.leads(moment, top) => &record.slots,
+        _ => &DARK,
     }
 }
 
-// Adds a record to a frame of others, whose greatest priority is `top`; answers the greatest
-// priority then.
-fn add(top: Option<u8>, next: &Record, out: &mut [u8; 512]) -> Option<u8>
-    ensures { (lights : List Light) → Merges top out.old lights
-        → Merges result out.new (lights ++ light_of (kept_entry next.now) ∷ []) }
+// Writes the greatest of each slot of four frames.
+fn write_greatest(a: &[u8; 512], b: &[u8; 512], c: &[u8; 512], d: &[u8; 512], out: &mut [u8; 512])
+    ensures { (s : ℕ) → s < 512 → slice_index out.new s
+        ≡ max (max (max (slice_index a.now s) (slice_index b.now s)) (slice_index c.now s))
+        (slice_index d.now s) }
 {
-    match top {
-        Some(priority) if next.priority < priority => top,
-        Some(priority) if next.priority == priority => {
-            raise(out, &next.slots);
-            top
-        }
-        _ => {
-            *out = next.slots;
-            Some(next.priority)
-        }
+    for slot in 0..512 {
+        out[slot] = a[slot].max(b[slot]).max(c[slot]).max(d[slot]);
     }
-}
-
-// `max_into`, out of line: within the loop of `merge`, LLVM would keep the frame in two places, and
-// take twice as long.
-#[inline(never)]
-fn raise(out: &mut [u8; 512], slots: &[u8; 512])
-    ensures greatest { (s : ℕ) → s < length slots.now → slice_index out.new s
-        ≡ max (slice_index out.old s) (slice_index slots.now s) }
-    ensures rest { (s : ℕ) → length slots.now ≤ s
-        → slice_index out.new s ≡ slice_index out.old s }
-{
-    max_into(out, slots);
 }

@@ -1,5 +1,5 @@
 ghost use Rattle.std.specs.Prelude.{◌≡◌, ◌≤◌, ◌-◌, ◌++◌, length, replicate};
-ghost use Rattle.sacn_receiver.specs.Records.{kept_entry, is_live_at};
+ghost use Rattle.sacn_receiver.specs.Records.{kept_entry, is_live_at, leads_at};
 ghost use Rattle.sacn_receiver.specs.Source as source;
 ghost use Rattle.sacn_receiver.specs.Taking.{entry_of, is_termination as ends};
 
@@ -10,14 +10,15 @@ const DATA_LOSS: u64 = 2_500;
 
 const STREAM_TERMINATED: u8 = 0x40;
 
-// What a receiver keeps of a source: the packet of it that was accepted last.
+// What a receiver keeps of a source: the packet of it that was accepted last. The slots lie 16
+// bytes from the start, so that 16 of them at a time are read from one cache line.
 #[derive(Clone, Copy, Debug, Default, PartialEq, Eq)]
 pub(crate) struct Record {
     pub(crate) cid: [u8; 16],
-    pub(crate) number: u8,
-    pub(crate) moment: u64,
-    pub(crate) priority: u8,
     pub(crate) slots: [u8; 512],
+    pub(crate) moment: u64,
+    pub(crate) number: u8,
+    pub(crate) priority: u8,
     pub(crate) ended: bool,
 }
 
@@ -45,6 +46,13 @@ impl Record {
         ensures { result ≡ is_live_at moment (kept_entry self.now) }
     {
         self.is_there(moment) && !self.ended
+    }
+
+    // Whether its slots are shown where this is the greatest priority.
+    pub(crate) fn leads(&self, moment: u64, top: u8) -> bool
+        ensures { result ≡ leads_at moment top (kept_entry self.now) }
+    {
+        self.is_live(moment) && self.priority == top
     }
 }
 

@@ -1,21 +1,26 @@
-use Rattle.std.proofs.Common.{◌≡◌, ℕ, true, false, not, List, [], map, sym, ap, ◌∙◌, Option, Some}
-use Rattle.std.proofs.Common.{None}
-use Rattle.std.specs.Prelude.{filter, is_some}
-use Rattle.std.proofs.lemmas.List.{get_or-replicate, take_all}
-use Rattle.sacn_receiver.specs.Shown.{Light, light_of, merged}
-use Rattle.sacn_receiver.specs.Records.{entries, is_live_at, Merges}
+use Rattle.std.proofs.Common.{◌≡◌, ℕ, ◌≤◌, List, length, map, ◌∙◌, ap, max, get_or, arith}
+use Rattle.std.proofs.lemmas.List.{length-map}
+use Rattle.sacn_receiver.specs.declared.record.Record.{Record}
+use Rattle.sacn_receiver.specs.Shown.{greatest}
+use Rattle.sacn_receiver.specs.Records.{lit}
+use Rattle.sacn_receiver.proofs.Merging.{greatest_of_four, merged_lit}
 use Rattle.sacn_receiver.proofs.live.merge.Goals as goal
 
-none_live : (top : Option ℕ) (out : List ℕ) (lights : List Light) → is_some top ≡ false
-    → Merges top out lights → lights ≡ []
-none_live None out lights q m = m
-none_live (Some top) out lights q m = absurd (let e : true ≡ false = q in cc)
-
-pub returns-then-is_none : goal.returns-then-is_none
-returns-then-is_none c = λ s lt.
-    let none = none_live c.loop-record.top c.loop-record.out _ (c.is_none.ensures
-    ∙ ap not c.if-is_none.true) c.loop-record.invariant in
-    get_or-replicate 512 s 0 0 lt
-    ∙ sym (ap (λ rs. merged (map light_of (filter (is_live_at c.args.moment) (entries rs))) s)
-    (sym (take_all c.loop-record.record-index c.args.records.now c.loop-record-test.false))
-    ∙ ap (λ lights. merged lights s) none)
+pub returns : goal.returns
+returns c = λ s lt.
+    let rs : List Record = c.args.records.now in
+    let one : Record → ℕ = λ r. lit c.args.moment c.top_priority-top.result r s in
+    let few : length (map one rs) ≤ 4 = omega (arith, length-map rs one) in
+    let written : get_or c.write_greatest.new.out s 0 ≡ max (max (max (get_or (map one rs) 0 0)
+    (get_or (map one rs) 1 0)) (get_or (map one rs) 2 0)) (get_or (map one rs) 3 0) =
+    omega (
+      arith,
+      c.write_greatest.ensures s lt,
+      c.leading_slots.ensures s,
+      c.leading_slots-2.ensures s,
+      c.leading_slots-3.ensures s,
+      c.leading_slots-4.ensures s,
+    ) in
+    written ∙ greatest_of_four (map one rs) few
+    ∙ ap (λ top. greatest (map (λ r. lit c.args.moment top r s) rs)) c.top_priority-top.ensures
+    ∙ merged_lit c.args.moment s rs
