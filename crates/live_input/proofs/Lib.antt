@@ -1,10 +1,11 @@
 mod Rows
-pub mod TypedLemmas
 pub mod Answering
-pub mod Spelled
 pub mod Cases
 pub mod Counting
-pub mod Timely
-pub mod InOrder
+pub mod Digits
 pub mod Fine
+pub mod InOrder
 pub mod Replies
+pub mod Spelled
+pub mod Timely
+pub mod TypedLemmas

@@ -1,11 +1,13 @@
 -- Words behind a moment.
-use Rattle.std.proofs.Common.{◌≡◌, ◌≤◌, ◌<◌, ◌^◌, ℕ, suc, ◌+◌, Bool, true, false, cond, List, [], ◌∷◌, ◌++◌, length, refl, ap, ◌∙◌, arith, rules, append_assoc, Some, None}
-use Rattle.std.specs.Prelude.{◌&&◌, codes, decimal, nat_le, map, option_map, filter, All}
+use Rattle.std.proofs.Common.{◌≡◌, ◌≤◌, ◌<◌, ◌^◌, ℕ, suc, ◌+◌, Bool, true, false, cond, refl, ap}
+use Rattle.std.proofs.Common.{◌∙◌, arith, rules, List, [], ◌∷◌, ◌++◌, length, append_assoc}
+use Rattle.std.proofs.Common.{Option, Some, None}
+use Rattle.std.specs.Prelude.{codes, decimal, nat_le, map, option_map, filter, All}
 use Rattle.std.specs.Char.{is_ascii_digit, to_ascii_lowercase}
 use Rattle.std.specs.List.{before_first, list_all, position_or_len}
 use Rattle.std.specs.Str.Parse.{digits_value}
 use Rattle.std.proofs.lemmas.Bool.Decides.{nat_tests}
-use Rattle.std.proofs.lemmas.Fmt.{decimal_nonempty, digits_decimal, digits_value-decimal, length-decimal-le}
+use Rattle.std.proofs.lemmas.Fmt.{decimal_nonempty, digits_value-decimal, length-decimal-le}
 use Rattle.std.proofs.lemmas.List.Elements.{All-cons, All-nil}
 use Rattle.std.proofs.lemmas.List.Splits.{slice_split_at}
 use Rattle.std.proofs.lemmas.Slice.Eq.{bytes_eq-Decides}
@@ -15,21 +17,13 @@ use Rattle.ascii_text.specs.Text.{is_bang, is_separator, is_word, parts_of, word
 use Rattle.desk_core.specs.declared.command.Command.{Command}
 use Rattle.console_text.specs.declared.call.Call.TheVariants.{Order}
 use Rattle.console_text.specs.Spelling as spelling
-use Rattle.console_text.specs.Spelling.{call_of, command_of, command_with, reading_of, tick_of, with_none, with_one, with_two}
+use Rattle.console_text.specs.Spelling.{call_of, command_of, command_with, reading_of, tick_of}
 use Rattle.live_input.specs.Night.{at_moment}
-
-pub own : IsNumeralModel (λ ds. list_all is_ascii_digit ds ≡ true) (digits_value 10)
-own = numerals_by_value _ (search rules)
-
-pub both : (a b : Bool) → (a && b) ≡ true → (a ≡ true) × (b ≡ true)
-both true b h = (refl, h)
-both false b h = cc
+use Rattle.live_input.proofs.Counting.{both}
+use Rattle.live_input.proofs.Digits.{decimal_digits, digit_range}
 
 one_more : (n : ℕ) → 1 + n ≡ suc n
 one_more n = omega arith
-
-pub digit_range : (b : ℕ) → is_ascii_digit b ≡ true → (48 ≤ b) × (b ≤ 57)
-digit_range b h = grind (arith, nat_tests)
 
 no_bang : (b : ℕ) → is_ascii_digit b ≡ true → is_bang b ≡ false
 no_bang b h = let r = digit_range b h in grind (arith, nat_tests)
@@ -48,7 +42,8 @@ before_digits (d ∷ ds) rest h =
 before_space : (rest : List ℕ) → before_first is_bang (32 ∷ rest) ≡ 32 ∷ before_first is_bang rest
 before_space rest = rw one_more refl
 
-none_separates : (ds : List ℕ) → list_all is_ascii_digit ds ≡ true → All (λ b. is_separator b ≡ false) ds
+none_separates : (ds : List ℕ) → list_all is_ascii_digit ds ≡ true
+    → All (λ b. is_separator b ≡ false) ds
 none_separates [] h = All-nil _
 none_separates (d ∷ ds) h =
     let each = both (is_ascii_digit d) (list_all is_ascii_digit ds) h in
@@ -60,47 +55,54 @@ is_word_yes (b ∷ bs) h = refl
 
 words_behind : (ds line : List ℕ) → list_all is_ascii_digit ds ≡ true → 0 < length ds
     → words_of (ds ++ codes " " ++ line) ≡ ds ∷ words_of line
-words_behind ds line digits some =
+words_behind ds line each some =
     let rest : List ℕ = before_first is_bang line in
     ap words_of (append_assoc ds (codes " ") line)
-    ∙ ap parts_of (before_digits ds (32 ∷ line) digits ∙ ap (λ l. ds ++ l) (before_space line))
-    ∙ ap (filter is_word) (slice_split_at is_separator ds 32 rest (none_separates ds digits) refl)
+    ∙ ap parts_of (before_digits ds (32 ∷ line) each ∙ ap (λ l. ds ++ l) (before_space line))
+    ∙ ap (filter is_word) (slice_split_at is_separator ds 32 rest (none_separates ds each) refl)
     ∙ ap (λ b. cond b (ds ∷ parts_of rest) (parts_of rest)) (is_word_yes ds some)
+
+own : IsNumeralModel (λ ds. list_all is_ascii_digit ds ≡ true) (digits_value 10)
+own = numerals_by_value _ (search rules)
 
 moment_is : (moment : ℕ) → moment < 2 ^ 48 → moment_of (decimal moment) ≡ Some moment
 moment_is moment below =
-    let digits : list_all is_ascii_digit (decimal moment) ≡ true = digits_decimal own moment (omega arith) in
-    let some : 0 < length (decimal moment) = decimal_nonempty moment (omega arith) in
-    let short : length (decimal moment) ≤ 15 = length-decimal-le 15 moment (omega arith) (omega arith) (omega arith) in
+    let some = decimal_nonempty moment (omega arith) in
+    let short = length-decimal-le 15 moment (omega arith) (omega arith) (omega arith) in
     let a : nat_le 1 (length (decimal moment)) ≡ true = grind (arith, nat_tests) in
     let b : nat_le (length (decimal moment)) 15 ≡ true = grind (arith, nat_tests) in
-    rw (a, b, digits) (ap Some (digits_value-decimal own moment (omega arith)))
+    rw (a, b, decimal_digits moment) (ap Some (digits_value-decimal own moment (omega arith)))
 
 -- words behind a moment are read with it
 pub reading_is : (moment : ℕ) (line : List ℕ) → moment < 2 ^ 48
-    → reading_of (at_moment moment line) ≡ spelling.at_moment (Some moment) (call_of (words_of line))
+    → reading_of (at_moment moment line)
+    ≡ spelling.at_moment (Some moment) (call_of (words_of line))
 reading_is moment line below =
-    ap spelling.reading_of_words (words_behind (decimal moment) line (digits_decimal own moment (omega arith)) (decimal_nonempty moment (omega arith)))
+    ap spelling.reading_of_words (words_behind (decimal moment) line (decimal_digits moment)
+    (decimal_nonempty moment (omega arith)))
     ∙ ap (λ m. spelling.at_moment m (call_of (words_of line))) (moment_is moment below)
 
 -- ---- commands
 
--- what is `tick` spells no command
-no_other : (word : List ℕ) → same_word word (codes "tick") ≡ true → map to_ascii_lowercase word ≡ codes "tick"
-no_other word h = (bytes_eq-Decides (map to_ascii_lowercase word) (map to_ascii_lowercase (codes "tick"))).0 h
+tick_word : (word : List ℕ) → same_word word (codes "tick") ≡ true
+    → map to_ascii_lowercase word ≡ codes "tick"
+tick_word word h = (bytes_eq-Decides (map to_ascii_lowercase word) (codes "tick")).0 h
 
+-- `tick` spells no command
 not_tick : (keyword : List ℕ) (operands : List (List ℕ)) → same_word keyword (codes "tick") ≡ true
     → command_with keyword operands ≡ None
-not_tick keyword [] h = rw (no_other keyword h) refl
-not_tick keyword (a ∷ []) h = rw (no_other keyword h) refl
-not_tick keyword (a ∷ b ∷ []) h = rw (no_other keyword h) refl
+not_tick keyword [] h = rw (tick_word keyword h) refl
+not_tick keyword (a ∷ []) h = rw (tick_word keyword h) refl
+not_tick keyword (a ∷ b ∷ []) h = rw (tick_word keyword h) refl
 not_tick keyword (a ∷ b ∷ c ∷ rest) h = refl
 
-pub call_is : (words : List (List ℕ)) (command : Command) → command_of words ≡ Some command → call_of words ≡ Some (Order command)
+pub call_is : (words : List (List ℕ)) (command : Command) → command_of words ≡ Some command
+    → call_of words ≡ Some (Order command)
 call_is [] command h = cc
 call_is (keyword ∷ operands) command h = go (same_word keyword (codes "tick")) refl
   where
     go : (b : Bool) → same_word keyword (codes "tick") ≡ b
-        → cond b (tick_of operands) (option_map (λ c. Order c) (command_with keyword operands)) ≡ Some (Order command)
+        → cond b (tick_of operands) (option_map (λ c. Order c) (command_with keyword operands))
+        ≡ Some (Order command)
     go true e = let none = not_tick keyword operands e in cc
     go false e = ap (option_map (λ c. Order c)) h

@@ -1,14 +1,20 @@
 -- The moments of lines and of ticks.
 use Rattle.std.proofs.Common.{◌≤◌, ◌<◌, ◌^◌, ℕ, ◌+◌, Bool, List, [], ◌∷◌, arith}
-use Rattle.live_input.specs.Laws.{Rise, moments, with_moment}
+use Rattle.live_input.specs.Laws.{Rise, moments}
 use Rattle.live_input.specs.Laws as laws
-use Rattle.live_input.specs.Night.{Answer, Happening, answer_to, answers, asked, came, closed, due, due_after, now}
-use Rattle.live_input.proofs.Cases.{Next, answer_is_next, nothing, takes, refuses, closes, ticks, waits}
+use Rattle.live_input.specs.Night.{Answer, Happening, answer_to, answers, asked, came, closed}
+use Rattle.live_input.specs.Night.{due, due_after, now}
+use Rattle.live_input.proofs.Cases.{Next, answer_is_next, nothing, takes, refuses}
+use Rattle.live_input.proofs.Cases.{closes, ticks, waits}
 
 -- the newest, if there is one, is at least so much earlier
 abbrev IsAfter : ℕ → ℕ → List ℕ → Type 0
 IsAfter gap n [] = Unit {0}
 IsAfter gap n (newest ∷ older) = newest + gap ≤ n
+
+record Timely (gap n : ℕ) (ms : List ℕ) : Type 0 where
+  rise : Rise gap ms
+  after : IsAfter gap n ms
 
 rise_more : (gap n : ℕ) (ms : List ℕ) → IsAfter gap n ms → Rise gap ms → Rise gap (n ∷ ms)
 rise_more gap n [] after rise = tt
@@ -18,20 +24,11 @@ after_later : (gap m n : ℕ) (ms : List ℕ) → m ≤ n → IsAfter gap m ms �
 after_later gap m n [] le after = tt
 after_later gap m n (newest ∷ older) le after = omega (arith, after)
 
-record Timely (gap n : ℕ) (ms : List ℕ) : Type 0 where
-  rise : Rise gap ms
-  after : IsAfter gap n ms
+later : (gap m n : ℕ) (ms : List ℕ) → m ≤ n → Timely gap m ms → Timely gap n ms
+later gap m n ms le t = record { rise = t.rise; after = after_later gap m n ms le t.after }
 
-timely_later : (gap m n : ℕ) (ms : List ℕ) → m ≤ n → Timely gap m ms → Timely gap n ms
-timely_later gap m n ms le t = record { rise = t.rise; after = after_later gap m n ms le t.after }
-
-timely_more : (gap m n : ℕ) (ms : List ℕ) → m + gap ≤ n → IsAfter gap m ms → Rise gap ms → Timely gap n (m ∷ ms)
-timely_more gap m n ms le after rise = record { rise = rise_more gap m ms after rise; after = le }
-
--- ---- moments
-
-clock_rises : (h : List Happening) (moment : ℕ) → now h ≤ now (asked moment ∷ h)
-clock_rises h moment = omega arith
+more : (gap m n : ℕ) (ms : List ℕ) → m + gap ≤ n → Timely gap m ms → Timely gap n (m ∷ ms)
+more gap m n ms le t = record { rise = rise_more gap m ms t.after t.rise; after = le }
 
 pub clock_below : (h : List Happening) → now h < 2 ^ 48
 clock_below [] = omega arith
@@ -39,39 +36,45 @@ clock_below (asked moment ∷ h) = omega (arith, clock_below h)
 clock_below (came bytes ∷ h) = clock_below h
 clock_below (closed ∷ h) = clock_below h
 
-moment_by : (given : List Answer) (left : List (List ℕ)) (c : Bool) (n : ℕ) (answer : Answer) → Next given left c n answer
-    → Timely 0 n (moments given) → Timely 0 n (moments (answer ∷ given))
+clock_rises : (h : List Happening) (moment : ℕ) → now h ≤ now (asked moment ∷ h)
+clock_rises h moment = omega arith
+
+moment_by : (given : List Answer) (left : List (List ℕ)) (c : Bool) (n : ℕ) (answer : Answer)
+    → Next given left c n answer → Timely 0 n (moments given) → Timely 0 n (moments (answer ∷ given))
 moment_by given left c n _ (nothing e) t = t
-moment_by given left c n _ (takes line later on is taken) t = timely_more 0 n n (moments given) (omega arith) t.after t.rise
-moment_by given left c n _ (refuses line later on is refused) t = t
-moment_by given left c n _ (closes on is owed) t = timely_more 0 n n (moments given) (omega arith) t.after t.rise
-moment_by given left c n _ (ticks on is not_owed due) t = timely_more 0 n n (moments given) (omega arith) t.after t.rise
+moment_by given left c n _ (takes line lines on is taken) t = more 0 n n (moments given) (omega arith) t
+moment_by given left c n _ (refuses line lines on is refused) t = t
+moment_by given left c n _ (closes on is owed) t = more 0 n n (moments given) (omega arith) t
+moment_by given left c n _ (ticks on is not_owed due) t = more 0 n n (moments given) (omega arith) t
 moment_by given left c n _ (waits on is not_owed) t = t
 
 moments_timely : (h : List Happening) → Timely 0 (now h) (moments (answers h))
 moments_timely [] = record { rise = tt; after = tt }
 moments_timely (asked moment ∷ h) =
     moment_by (answers h) _ _ _ (answer_to h moment) (answer_is_next h moment)
-    (timely_later 0 (now h) (now (asked moment ∷ h)) (moments (answers h)) (clock_rises h moment) (moments_timely h))
+    (later 0 (now h) (now (asked moment ∷ h)) (moments (answers h)) (clock_rises h moment)
+    (moments_timely h))
 moments_timely (came bytes ∷ h) = moments_timely h
 moments_timely (closed ∷ h) = moments_timely h
 
 pub moments_rise : (h : List Happening) → Rise 0 (moments (answers h))
 moments_rise h = (moments_timely h).rise
 
--- ---- ticks
+abbrev TicksTimely : List Answer → Type 0
+TicksTimely given = Timely 23 (due given) (laws.ticks given)
 
-tick_by : (given : List Answer) (left : List (List ℕ)) (c : Bool) (n : ℕ) (answer : Answer) → Next given left c n answer
-    → Timely 23 (due given) (laws.ticks given) → Timely 23 (due (answer ∷ given)) (laws.ticks (answer ∷ given))
+tick_by : (given : List Answer) (left : List (List ℕ)) (c : Bool) (n : ℕ) (answer : Answer)
+    → Next given left c n answer → TicksTimely given → TicksTimely (answer ∷ given)
 tick_by given left c n _ (nothing e) t = t
-tick_by given left c n _ (takes line later on is taken) t = t
-tick_by given left c n _ (refuses line later on is refused) t = t
+tick_by given left c n _ (takes line lines on is taken) t = t
+tick_by given left c n _ (refuses line lines on is refused) t = t
 tick_by given left c n _ (closes on is owed) t = t
 tick_by given left c n _ (ticks on is not_owed not_early) t =
-    timely_more 23 n (due_after n) (laws.ticks given) (omega arith) (after_later 23 (due given) n (laws.ticks given) not_early t.after) t.rise
+    more 23 n (due_after n) (laws.ticks given) (omega arith)
+    (later 23 (due given) n (laws.ticks given) not_early t)
 tick_by given left c n _ (waits on is not_owed) t = t
 
-ticks_timely : (h : List Happening) → Timely 23 (due (answers h)) (laws.ticks (answers h))
+ticks_timely : (h : List Happening) → TicksTimely (answers h)
 ticks_timely [] = record { rise = tt; after = tt }
 ticks_timely (asked moment ∷ h) =
     tick_by (answers h) _ _ _ (answer_to h moment) (answer_is_next h moment) (ticks_timely h)

@@ -143,12 +143,15 @@ now (asked moment ∷ older) = max (now older) (min moment 281474976710655)
 now (came bytes ∷ older) = now older
 now (closed ∷ older) = now older
 
+-- the typed lines that were not answered
+abbrev pub lines_left : List Answer → List Happening → List (List ℕ)
+lines_left answers older = drop (length (lines_answered answers)) (typed_of (bytes_come older)).lines
+
 -- the answer to what is asked at a moment, after these answers and happenings
 abbrev pub answer_after : List Answer → List Happening → ℕ → Answer
 answer_after answers older moment =
     if is_over answers then over
-    else to_lines (drop (length (lines_answered answers)) (typed_of (bytes_come older)).lines)
-    answers (is_closed older) (now (asked moment ∷ older))
+    else to_lines (lines_left answers older) answers (is_closed older) (now (asked moment ∷ older))
 
 -- all answers
 abbrev pub answers : List Happening → List Answer
