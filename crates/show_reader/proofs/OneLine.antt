@@ -40,7 +40,8 @@ use Rattle.show_reader.specs.Shows.{IsShowOf}
 use Rattle.show_reader.specs.Reading.{fault_at, fault_below, first_fault}
 use Rattle.show_reader.specs.Applied.{applied, refused_by, HasOwner}
 use Rattle.show_reader.specs.Reads.{said_by, Reads}
-use Rattle.show_reader.proofs.Found.{after_if, both, applied_found, record_is, record_there, step, count_step}
+use Rattle.show_reader.proofs.Found.{after_if, both, applied_found, record_is}
+use Rattle.show_reader.proofs.Found.{record_there, step, count_step}
 
 -- ---- a secondary line speaks of its owner, and does not clear
 
