@@ -1,6 +1,6 @@
 -- A slots line that is made slot by slot.
-use Rattle.std.proofs.Common.{ℕ, ◌+◌, ◌<◌, ◌≡◌, List, [], ◌∷◌, ◌++◌, length, take, get_or, flat_map}
-use Rattle.std.proofs.Common.{sym, ap, ◌∙◌, add_comm, add-one, arith}
+use Rattle.std.proofs.Common.{ℕ, ◌+◌, ◌<◌, ◌≡◌, List, [], ◌∷◌, ◌++◌, length, take, get_or}
+use Rattle.std.proofs.Common.{flat_map, sym, ap, ◌∙◌, add_comm, add-one, arith}
 use Rattle.std.specs.List.{enumerate_from}
 use Rattle.std.proofs.Math.Seq.{take-suc}
 use Rattle.std.proofs.lemmas.List.{flat_map_more, take_all}
