@@ -1,6 +1,6 @@
 -- Bytes at an offset that are compared as numbers, and part by part.
-use Rattle.std.proofs.Common.{◌≡◌, ℕ, zero, suc, Bool, List, ◌++◌, ◌≤◌, ◌<◌, ◌+◌, length}
-use Rattle.std.proofs.Common.{drop, take, get_or, arith, refl, ap, sym, ◌∙◌, true, false, not, nat_eq}
+use Rattle.std.proofs.Common.{◌≡◌, ℕ, zero, suc, Bool, true, false, not, nat_eq, List, ◌++◌, ◌≤◌}
+use Rattle.std.proofs.Common.{◌<◌, ◌+◌, length, drop, take, get_or, arith, refl, ap, sym, ◌∙◌}
 use Rattle.std.proofs.Math.Seq.{drop-append_seam}
 use Rattle.std.proofs.lemmas.Bool.Decides.{nat_tests}
 use Rattle.std.proofs.lemmas.List.{length-append, length-take-le, length-drop, take_all}
@@ -31,15 +31,15 @@ number_four : (n : ℕ) → n < 4294967296 → big_number 4 (big_bytes 4 n) ≡ 
 number_four n below = omega arith
 
 -- bytes are others than those of a number where the number in them is another
-module _ (d : List ℕ) (offset n wanted : ℕ) (fits : offset + n ≤ length d) (bytes : AreBytes d) where
+module _ (d : List ℕ) (offset n wanted : ℕ) (fits : offset + n ≤ length d) where
   abbrev read : List ℕ
   read = bytes_at d offset n
 
   read_size : length read ≡ n
   read_size = length-take-le n (drop offset d) (omega (arith, length-drop offset d, fits))
 
-  other_number : read ≡ big_bytes n (big_number n read) → big_number n (big_bytes n wanted) ≡ wanted
-      → length (big_bytes n wanted) ≡ n
+  other_number : read ≡ big_bytes n (big_number n read)
+      → big_number n (big_bytes n wanted) ≡ wanted → length (big_bytes n wanted) ≡ n
       → not (nat_eq (big_number n read) wanted) ≡ differs_at d offset (big_bytes n wanted)
   other_number is back size =
       rw size (ap not (same_tests (nat_eq (big_number n read) wanted) _
@@ -51,16 +51,18 @@ module _ (d : List ℕ) (offset n wanted : ℕ) (fits : offset + n ≤ length d)
 
 pub other_four : (d : List ℕ) (offset wanted : ℕ) → offset + 4 ≤ length d → AreBytes d
     → wanted < 4294967296
-    → not (nat_eq (big_number 4 (bytes_at d offset 4)) wanted) ≡ differs_at d offset (big_bytes 4 wanted)
-other_four d offset wanted fits bytes below = other_number d offset 4 wanted fits bytes
-    (four_bytes (bytes_at d offset 4) (read_size d offset 4 wanted fits bytes)
+    → not (nat_eq (big_number 4 (bytes_at d offset 4)) wanted)
+    ≡ differs_at d offset (big_bytes 4 wanted)
+other_four d offset wanted fits bytes below = other_number d offset 4 wanted fits
+    (four_bytes (bytes_at d offset 4) (read_size d offset 4 wanted fits)
     (part_bytes d offset 4 bytes)) (number_four wanted below) refl
 
 pub other_two : (d : List ℕ) (offset wanted : ℕ) → offset + 2 ≤ length d → AreBytes d
     → wanted < 65536
-    → not (nat_eq (big_number 2 (bytes_at d offset 2)) wanted) ≡ differs_at d offset (big_bytes 2 wanted)
-other_two d offset wanted fits bytes below = other_number d offset 2 wanted fits bytes
-    (two_bytes (bytes_at d offset 2) (read_size d offset 2 wanted fits bytes)
+    → not (nat_eq (big_number 2 (bytes_at d offset 2)) wanted)
+    ≡ differs_at d offset (big_bytes 2 wanted)
+other_two d offset wanted fits bytes below = other_number d offset 2 wanted fits
+    (two_bytes (bytes_at d offset 2) (read_size d offset 2 wanted fits)
     (part_bytes d offset 2 bytes)) (number_two wanted below) refl
 
 -- other bytes stand at an offset where those of the first part do, or those of the second
@@ -70,7 +72,8 @@ module _ (d : List ℕ) (offset : ℕ) (xs ys : List ℕ) where
 
   second_from_both : both ≡ xs ++ ys → bytes_at d (offset + length xs) (length ys) ≡ ys
   second_from_both h =
-      inner d offset (length (xs ++ ys)) (length xs) (length ys) (omega (arith, length-append xs ys))
+      inner d offset (length (xs ++ ys)) (length xs) (length ys)
+      (omega (arith, length-append xs ys))
       ∙ ap (λ (zs : List ℕ). bytes_at zs (length xs) (length ys)) h
       ∙ ap (take (length ys)) (drop-append_seam xs ys)
       ∙ take_all (length ys) ys (omega arith)

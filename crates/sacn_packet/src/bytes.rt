@@ -13,14 +13,6 @@ pub(crate) fn number_at(bytes: &[u8], offset: usize) -> u16
     BigEndian::read_u16(&bytes[offset..offset + 2])
 }
 
-// The flags in the two bytes that open a PDU.
-pub(crate) fn flags_at(bytes: &[u8], offset: usize) -> u16
-    requires { offset + 2 ≤ length bytes.now }
-    ensures { result ≡ reading.flags_at bytes.now offset }
-{
-    number_at(bytes, offset) / 0x1000
-}
-
 // The length in the two bytes that open a PDU.
 pub(crate) fn length_at(bytes: &[u8], offset: usize) -> u16
     requires { offset + 2 ≤ length bytes.now }

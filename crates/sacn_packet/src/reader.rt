@@ -3,7 +3,7 @@ ghost use Rattle.std.specs.Result.{result_err};
 ghost use Rattle.sacn_packet.specs.Faults.{fault_of, differs_at, lengths_disagree, count_disagrees};
 ghost use Rattle.sacn_packet.specs.Wire.{Packet, HasPacket, packet_identifier};
 
-use crate::bytes::{differs_from, flags_at, length_at, number_at};
+use crate::bytes::{differs_from, length_at, number_at};
 use crate::data_packet::DataPacket;
 use crate::unreadable::Unreadable;
 
@@ -16,6 +16,9 @@ const ROOT_VECTOR: u32 = 0x0000_0004;
 // VECTOR_E131_DATA_PACKET
 const FRAMING_VECTOR: u32 = 0x0000_0002;
 
+// The flags of each PDU, 7, in the four bits above its length.
+const FLAGS: u16 = 0x7000;
+
 // Whether the ACN packet identifier, `ASC-E1.17` and three zero bytes, is another.
 fn has_other_identifier(datagram: &[u8]) -> bool
     requires { 126 ≤ length datagram.now }
@@ -26,19 +29,16 @@ fn has_other_identifier(datagram: &[u8]) -> bool
         || differs_from(datagram, 12, u32::from_be_bytes(*b"7\0\0\0"))
 }
 
-// Whether the flags or the lengths of the three PDUs are no packet's.
+// Whether the flags or the lengths of the three PDUs are no packet's. Both are compared at once.
 fn has_bad_lengths(datagram: &[u8]) -> bool
     requires { 126 ≤ length datagram.now }
     ensures { result ≡ lengths_disagree datagram.now }
 {
-    let root = length_at(datagram, 16);
-    flags_at(datagram, 16) != 7
-        || flags_at(datagram, 38) != 7
-        || flags_at(datagram, 115) != 7
-        || root < 110
-        || datagram.len() < 16 + usize::from(root)
-        || length_at(datagram, 38) + 22 != root
-        || length_at(datagram, 115) + 99 != root
+    let root = number_at(datagram, 16);
+    !(FLAGS + 110..=FLAGS + 0x0fff).contains(&root)
+        || datagram.len() < 16 + usize::from(root - FLAGS)
+        || number_at(datagram, 38) != root - 22
+        || number_at(datagram, 115) != root - 99
 }
 
 // Whether the DMP PDU is of another form: vector, address and data type, first address, increment.
@@ -55,7 +55,7 @@ fn has_bad_count(datagram: &[u8]) -> bool
     ensures { result ≡ count_disagrees datagram.now }
 {
     let count = number_at(datagram, 123);
-    count == 0 || count > 513 || count + 10 != length_at(datagram, 115)
+    !(1..=513).contains(&count) || count + 10 != length_at(datagram, 115)
 }
 
 // The first fault that applies.

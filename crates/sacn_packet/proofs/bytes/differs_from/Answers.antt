@@ -7,4 +7,5 @@ pub returns : goal.returns
 returns c =
     let four : c.args.offset + 4 - c.args.offset ≡ 4 = omega arith in
     rw (c.read_u32.ensures, four)
-    (other_four c.args.bytes.now c.args.offset c.args.wanted c.requires (λ i. Fits-lt-pow (c.type_inv.bytes i)) (Fits-lt-pow c.ranges.wanted))
+    (other_four c.args.bytes.now c.args.offset c.args.wanted c.requires
+    (λ i. Fits-lt-pow (c.type_inv.bytes i)) (Fits-lt-pow c.ranges.wanted))

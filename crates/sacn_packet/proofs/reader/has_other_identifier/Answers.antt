@@ -4,7 +4,8 @@ use Rattle.sacn_packet.specs.Wire.{packet_identifier}
 use Rattle.sacn_packet.specs.Faults.{differs_at}
 use Rattle.sacn_packet.proofs.Differs.{after_first}
 use Rattle.sacn_packet.proofs.reader.has_other_identifier.Goals as goal
-use Rattle.sacn_packet.proofs.reader.has_other_identifier.Goals.{then-differs_from, else-differs_from}
+use Rattle.sacn_packet.proofs.reader.has_other_identifier.Goals.{then-differs_from}
+use Rattle.sacn_packet.proofs.reader.has_other_identifier.Goals.{else-differs_from}
 
 abbrev asc : List ℕ
 asc = 65 ∷ 83 ∷ 67 ∷ 45 ∷ []
