@@ -8,9 +8,11 @@ use Rattle.console_text.specs.Spelling.{command_of}
 use Rattle.live_input.specs.declared.given.Given.{Given}
 use Rattle.live_input.specs.declared.progress.Progress.{Progress}
 use Rattle.live_input.specs.Kept.{Kept, TypedKept}
-use Rattle.live_input.specs.Night.{Answer, Happening, answer_to, answers, asked, at_moment, by_itself}
-use Rattle.live_input.specs.Night.{bytes_come, due, ended, has_room, is_closed, is_over, is_taken}
-use Rattle.live_input.specs.Night.{lines_answered, lines_given, lines_left, now, owes_end, to_line, to_lines}
+use Rattle.live_input.specs.Night.{Answer, Happening, answer_to, answers, asked, at_moment}
+use Rattle.live_input.specs.Night.{by_itself, bytes_come, due, ended, has_room, is_closed, is_over}
+use Rattle.live_input.specs.Night.{is_taken}
+use Rattle.live_input.specs.Night.{lines_answered, lines_given, lines_left, now, owes_end}
+use Rattle.live_input.specs.Night.{to_line, to_lines}
 use Rattle.live_input.specs.Night.{were_three, order, close, tick, refusal, wait, over}
 use Rattle.live_input.specs.Stands.{StandsFor, TypedStands}
 use Rattle.live_input.specs.Told.{Leaves, Tells}
@@ -79,14 +81,15 @@ abbrev pub answer_by : List (List ℕ) → List Happening → ℕ → Answer
 answer_by lines h clock = to_lines lines (answers h) (is_closed h) clock
 
 answer_is : (kept : Kept) (h : List Happening) (moment clock : ℕ) (lines : List (List ℕ))
-    → Asked kept h moment clock → lines_left (answers h) h ≡ lines → answer_by lines h clock ≡ answer_to h moment
-answer_is kept h moment clock lines a left =
-    ap (answer_by lines h) a.clock_is
-    ∙ ap (λ l. answer_by l h (now (asked moment ∷ h))) (sym left)
-    ∙ ap (λ (b : Bool). cond b over (answer_by (lines_left (answers h) h) h (now (asked moment ∷ h)))) (sym a.on)
-
-pub tells_it : (kept : Kept) (h : List Happening) (moment clock : ℕ) (lines : List (List ℕ)) (r : Given)
     → Asked kept h moment clock → lines_left (answers h) h ≡ lines
+    → answer_by lines h clock ≡ answer_to h moment
+answer_is kept h moment clock lines a left =
+    let n = now (asked moment ∷ h) in
+    ap (answer_by lines h) a.clock_is ∙ ap (λ l. answer_by l h n) (sym left)
+    ∙ ap (λ (b : Bool). cond b over (answer_by (lines_left (answers h) h) h n)) (sym a.on)
+
+pub tells_it : (kept : Kept) (h : List Happening) (moment clock : ℕ) (lines : List (List ℕ))
+    (r : Given) → Asked kept h moment clock → lines_left (answers h) h ≡ lines
     → Tells r (answer_by lines h clock) → Tells r (answer_to h moment)
 tells_it kept h moment clock lines r a left tells =
     subst (Tells r) (answer_is kept h moment clock lines a left) tells
@@ -103,7 +106,8 @@ kept_with typed closed clock progress = record {
 }
 
 pub stands_then : (kept : Kept) (h : List Happening) (moment clock : ℕ) (lines : List (List ℕ))
-    (typed : TypedKept) (progress : Progress) → Asked kept h moment clock → lines_left (answers h) h ≡ lines
+    (typed : TypedKept) (progress : Progress) → Asked kept h moment clock
+    → lines_left (answers h) h ≡ lines
     → TypedStands typed (bytes_come h) (count (answer_by lines h clock ∷ answers h))
     → Leaves progress (answer_by lines h clock ∷ answers h)
     → StandsFor (kept_with typed kept.closed clock progress) (asked moment ∷ h)
@@ -111,7 +115,8 @@ stands_then kept h moment clock lines typed progress a left typed_stands leaves 
     let given = answers h in
     let e = answer_is kept h moment clock lines a left in
     record {
-      typed_stands = subst (λ x. TypedStands typed (bytes_come h) (count (x ∷ given))) e typed_stands;
+      typed_stands =
+          subst (λ x. TypedStands typed (bytes_come h) (count (x ∷ given))) e typed_stands;
       closed_is = a.stands.closed_is;
       now_is = a.clock_is;
       due_is = leaves.due_is ∙ ap (λ x. due (x ∷ given)) e;

@@ -7,7 +7,8 @@ use Rattle.live_input.specs.Night.{is_over, is_taken, lines_left, now, owes_end,
 use Rattle.live_input.specs.Night.{order, close, tick, refusal, wait, over}
 
 -- each answer after those given, with these lines left, at a moment, and when it comes
-pub data Next (given : List Answer) (left : List (List ℕ)) (c : Bool) (n : ℕ) : Answer → Type 0 where
+pub data Next (given : List Answer) (left : List (List ℕ)) (c : Bool) (n : ℕ)
+    : Answer → Type 0 where
   nothing : is_over given ≡ true → Next given left c n over
   takes : (line : List ℕ) (later : List (List ℕ)) → is_over given ≡ false → left ≡ line ∷ later
       → is_taken given n line ≡ true → Next given left c n (order n line)
@@ -33,15 +34,16 @@ tick_is given c n on no_end true e = ticks on refl no_end (grind (arith, nat_tes
 tick_is given c n on no_end false e = waits on refl no_end
 
 end_is : (given : List Answer) (c : Bool) (n : ℕ) → is_over given ≡ false
-    → (b : Bool) → owes_end given c ≡ b
-    → Next given [] c n (cond b (close n) (cond (nat_le (due given) n) (tick n) (wait (due given))))
+    → (b : Bool) → owes_end given c ≡ b → Next given [] c n
+    (cond b (close n) (cond (nat_le (due given) n) (tick n) (wait (due given))))
 end_is given c n on true e = closes on refl e
 end_is given c n on false e = tick_is given c n on e (nat_le (due given) n) refl
 
 lines_are : (given : List Answer) (left : List (List ℕ)) (c : Bool) (n : ℕ)
     → is_over given ≡ false → Next given left c n (to_lines left given c n)
 lines_are given [] c n on = end_is given c n on (owes_end given c) refl
-lines_are given (line ∷ later) c n on = line_is given line later c n on (is_taken given n line) refl
+lines_are given (line ∷ later) c n on =
+    line_is given line later c n on (is_taken given n line) refl
 
 next_is : (given : List Answer) (left : List (List ℕ)) (c : Bool) (n : ℕ) (b : Bool)
     → is_over given ≡ b → Next given left c n (cond b over (to_lines left given c n))

@@ -31,7 +31,8 @@ record AreFew (count : ℕ) (since : Option ℕ) : Type 0 where
 one_order : (count n : ℕ) (line : List ℕ) (since : Option ℕ) → count < 9999996
     → AreFew count since → AreFew (suc count) (ended_by (order n line) since)
 one_order count n line None room h =
-    elim (is_end (command_of (words_of line))) as (λ b. AreFew (suc count) (cond b (Some 0) None)) [
+    elim (is_end (command_of (words_of line)))
+    as (λ b. AreFew (suc count) (cond b (Some 0) None)) [
       | true ↦ record { few = omega arith; three = omega arith }
       | false ↦ record { few = omega arith; three = tt }
     ]

@@ -1,6 +1,6 @@
 -- The digits of a number.
-use Rattle.std.proofs.Common.{◌≡◌, ◌≤◌, ◌<◌, ℕ, zero, suc, ◌/◌, ◌%◌, true, false, cond, refl, arith}
-use Rattle.std.proofs.Common.{List, ◌∷◌, []}
+use Rattle.std.proofs.Common.{◌≡◌, ◌≤◌, ◌<◌, ℕ, zero, suc, ◌/◌, ◌%◌, true, false, cond, refl}
+use Rattle.std.proofs.Common.{arith, List, ◌∷◌, []}
 use Rattle.std.specs.Prelude.{◌==◌, decimal}
 use Rattle.std.specs.Char.{is_ascii_digit}
 use Rattle.std.specs.Fmt.{digit_glyph, digits, digits_onto}
@@ -18,7 +18,7 @@ onto_digits : (k n : ℕ) (acc : List ℕ) → list_all is_ascii_digit acc ≡ t
 onto_digits zero n acc h = h
 onto_digits (suc k) n acc h =
     let last : List ℕ = digit_glyph false (n % 10) ∷ acc in
-    let glyph : is_ascii_digit (digit_glyph false (n % 10)) ≡ true = glyph_is (n % 10) (omega arith) in
+    let glyph = glyph_is (n % 10) (omega arith) in
     let more : list_all is_ascii_digit last ≡ true = rw glyph h in
     elim (n / 10 == 0) as (λ b. list_all is_ascii_digit
     (cond b last (digits_onto k 10 false (n / 10) last)) ≡ true) [

@@ -2,7 +2,7 @@
 use Rattle.std.proofs.Common.{◌≡◌, ◌≤◌, ◌<◌, ◌^◌, ℕ, zero, suc, Bool, true, false, cond, refl, sym}
 use Rattle.std.proofs.Common.{ap, subst, ◌∙◌, arith, List, [], ◌∷◌, ◌++◌, length, take, fold}
 use Rattle.std.proofs.Common.{append_assoc, append-nil, length-append, Option, Some, None}
-use Rattle.std.specs.Prelude.{◌&&◌, ◌==◌, not, nat_le, is_some, codes, decimal, All}
+use Rattle.std.specs.Prelude.{◌==◌, not, nat_le, is_some, codes, decimal, All}
 use Rattle.std.specs.List.{list_all, onto_first}
 use Rattle.std.specs.Char.{is_ascii_digit}
 use Rattle.std.proofs.lemmas.Bool.Decides.{nat_tests}
@@ -17,7 +17,7 @@ use Rattle.console_text.specs.Spelling.{command_of, is_malformed, reading_of}
 use Rattle.live_input.specs.Laws.{AreFine, IsSpelled, Spells, text_of}
 use Rattle.live_input.specs.Night.{Answer, Happening, answer_to, answers, asked, at_moment}
 use Rattle.live_input.specs.Night.{bytes_come, came, closed, has_room, is_taken, lines_given}
-use Rattle.live_input.specs.Night.{lines_left, order, close, tick}
+use Rattle.live_input.specs.Night.{lines_left}
 use Rattle.live_input.specs.Typed.{Typed, no_bytes, says_nothing, typed_of, with_byte, with_line}
 use Rattle.live_input.proofs.Cases.{Next, answer_is_next, nothing, takes, refuses}
 use Rattle.live_input.proofs.Cases.{closes, ticks, waits}
@@ -114,8 +114,9 @@ typed_no_lf typed (b ∷ bytes) h = typed_no_lf (with_byte typed b) bytes (byte_
 
 left_no_lf : (h : List Happening) → All HasNoLf (lines_left (answers h) h)
 left_no_lf h =
-    let none : TypedNoLf no_bytes = record { lines = All-nil HasNoLf; rest = unfold HasNoLf in refl } in
-    All-drop HasNoLf _ (typed_of (bytes_come h)).lines (typed_no_lf no_bytes (bytes_come h) none).lines
+    let none : HasNoLf [] = unfold HasNoLf in refl in
+    All-drop HasNoLf _ (typed_of (bytes_come h)).lines
+    (typed_no_lf no_bytes (bytes_come h) (record { lines = All-nil HasNoLf; rest = none })).lines
 
 -- ---- the lines that are given
 

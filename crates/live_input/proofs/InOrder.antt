@@ -1,5 +1,5 @@
 -- Lines are answered in their order, and a night ends.
-use Rattle.std.proofs.Common.{◌≡◌, ◌≤◌, ◌<◌, ◌↔◌, ℕ, Bool, true, false, cond, refl, sym, ap, ◌∙◌}
+use Rattle.std.proofs.Common.{◌≡◌, ◌≤◌, ◌↔◌, ℕ, Bool, true, cond, refl, sym, ap, ◌∙◌}
 use Rattle.std.proofs.Common.{arith, List, [], ◌∷◌, ◌++◌, length, drop, append_assoc, append-nil}
 use Rattle.std.proofs.Common.{Option, Some, None}
 use Rattle.std.proofs.Math.Seq.{drop-append_seam}
@@ -7,8 +7,8 @@ use Rattle.std.proofs.lemmas.Bool.Decides.{nat_tests}
 use Rattle.std.proofs.lemmas.List.Sums.{fold-append}
 use Rattle.live_input.specs.Laws.{IsAfterLines}
 use Rattle.live_input.specs.Night.{Answer, Happening, answer_to, answers, asked, bytes_come, came}
-use Rattle.live_input.specs.Night.{closed, ended, is_closed, is_over, lines_answered, lines_left, now}
-use Rattle.live_input.specs.Night.{over, to_lines, were_three}
+use Rattle.live_input.specs.Night.{closed, ended, is_closed, is_over, lines_answered}
+use Rattle.live_input.specs.Night.{lines_left, now, over, to_lines, were_three}
 use Rattle.live_input.specs.Typed.{no_bytes, typed_of, with_byte}
 use Rattle.live_input.proofs.Cases.{Next, answer_is_next, nothing, takes, refuses}
 use Rattle.live_input.proofs.Cases.{closes, ticks, waits}
@@ -57,8 +57,8 @@ begins_by lines given c n _ (closes on is owed) b = b
 begins_by lines given c n _ (ticks on is not_owed due) b = b
 begins_by lines given c n _ (waits on is not_owed) b = b
 
-pub begins : (h : List Happening)
-    → (later : List (List ℕ)) × ((typed_of (bytes_come h)).lines ≡ lines_answered (answers h) ++ later)
+pub begins : (h : List Happening) → (later : List (List ℕ))
+    × ((typed_of (bytes_come h)).lines ≡ lines_answered (answers h) ++ later)
 begins [] = ([], refl)
 begins (asked moment ∷ h) =
     begins_by (typed_of (bytes_come h)).lines (answers h) _ _ (answer_to h moment)

@@ -1,5 +1,5 @@
 -- What stands in replies.
-use Rattle.std.proofs.Common.{◌≡◌, ◌≤◌, ℕ, suc, ◌+◌, Bool, true, false, not, refl, ap, ◌∙◌, arith}
+use Rattle.std.proofs.Common.{◌≡◌, ℕ, suc, ◌+◌, Bool, true, false, not, refl, ap, ◌∙◌, arith}
 use Rattle.std.proofs.Common.{List, [], ◌∷◌, ◌++◌, append_assoc}
 use Rattle.std.specs.Prelude.{◌||◌, ◌==◌, nat_eq, codes, decimal, flat_map}
 use Rattle.std.specs.Char.{is_ascii_digit}
@@ -74,7 +74,8 @@ x-pair universe offered =
     (x-append (codes " ") (decimal universe) ∙ x-decimal universe)
     ∙ x-outcome universe offered
 
-x-pairs : (offers : List (ℕ × Offered)) → has_x (flat_map pair_text offers) ≡ list_any is_lost offers
+x-pairs : (offers : List (ℕ × Offered))
+    → has_x (flat_map pair_text offers) ≡ list_any is_lost offers
 x-pairs [] = refl
 x-pairs ((universe, offered) ∷ offers) =
     x-append (pair_text (universe, offered)) (flat_map pair_text offers)
@@ -101,7 +102,8 @@ shows_tick : (what : Ticked) (offers : List (ℕ × Offered))
     → shows (ticked_text what offers ++ codes "\n") ≡ list_any is_lost offers
 shows_tick Live offers = x-ticked (codes "live") offers refl
 shows_tick (Ending n) offers =
-    x-ticked (codes "ending " ++ decimal n) offers (x-append (codes "ending ") (decimal n) ∙ x-decimal n)
+    x-ticked (codes "ending " ++ decimal n) offers
+    (x-append (codes "ending ") (decimal n) ∙ x-decimal n)
 
 pub is_shown_by : (reply : List ℕ) → IsShown reply (shows (after_first (λ b. b == 32) reply))
 is_shown_by reply =

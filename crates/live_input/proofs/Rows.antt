@@ -1,7 +1,8 @@
 -- Nights, evaluated.
 use Rattle.std.specs.Prelude.{◌≡◌, ◌++◌, refl, codes, [], ◌∷◌}
 use Rattle.std.specs.Fmt.{digits}
-use Rattle.live_input.specs.Night.{came, closed, asked, order, close, tick, refusal, wait, over, answers, due_after, shown, lines_given}
+use Rattle.live_input.specs.Night.{answers, due_after, lines_given, shown, came, closed, asked}
+use Rattle.live_input.specs.Night.{order, close, tick, refusal, wait, over}
 
 -- ticks on the grid, one that is late, and those after it
 grid : (due_after 0 ≡ 25) × (due_after 25 ≡ 50) × (due_after 27 ≡ 50) × (due_after 28 ≡ 51)
@@ -9,13 +10,15 @@ grid : (due_after 0 ≡ 25) × (due_after 25 ≡ 50) × (due_after 27 ≡ 50) ×
 grid = (refl, refl, refl, refl, refl, refl)
 
 -- a command between two ticks; the clock stands still, and falls
-commands : answers (asked 20 ∷ asked 30 ∷ asked 9 ∷ came (codes "Go ! now\n") ∷ asked 8 ∷ asked 3 ∷ [])
+commands : answers (asked 20 ∷ asked 30 ∷ asked 9 ∷ came (codes "Go ! now\n")
+    ∷ asked 8 ∷ asked 3 ∷ [])
     ≡ wait 53 ∷ tick 30 ∷ order 9 (codes "Go ! now") ∷ wait 26 ∷ tick 3 ∷ []
 unfolding digits
 commands = refl
 
 -- half a line is none; the line goes before the tick that is due; what says nothing gives nothing
-half : answers (asked 40 ∷ asked 40 ∷ came (codes "ck\n\n! \n") ∷ asked 0 ∷ asked 0 ∷ came (codes "ba") ∷ [])
+half : answers (asked 40 ∷ asked 40 ∷ came (codes "ck\n\n! \n")
+    ∷ asked 0 ∷ asked 0 ∷ came (codes "ba") ∷ [])
     ≡ tick 40 ∷ order 40 (codes "back") ∷ wait 25 ∷ tick 0 ∷ []
 unfolding digits
 half = refl
@@ -27,13 +30,15 @@ unfolding digits
 refused = refl
 
 -- the end of the input: the last line without LF, an `end`, three ticks, and nothing more
-ending : answers (asked 80 ∷ asked 75 ∷ asked 60 ∷ asked 50 ∷ asked 25 ∷ asked 1 ∷ asked 1 ∷ closed ∷ came (codes "go") ∷ asked 0 ∷ [])
+ending : answers (asked 80 ∷ asked 75 ∷ asked 60 ∷ asked 50 ∷ asked 25 ∷ asked 1 ∷ asked 1
+    ∷ closed ∷ came (codes "go") ∷ asked 0 ∷ [])
     ≡ over ∷ tick 75 ∷ wait 75 ∷ tick 50 ∷ tick 25 ∷ close 1 ∷ order 1 (codes "go") ∷ tick 0 ∷ []
 unfolding digits
 ending = refl
 
 -- an `end` that was typed, a command behind it, and the end of the input
-ended_already : answers (asked 50 ∷ asked 25 ∷ asked 2 ∷ asked 1 ∷ closed ∷ asked 1 ∷ came (codes "END\ngo\n") ∷ asked 0 ∷ [])
+ended_already : answers (asked 50 ∷ asked 25 ∷ asked 2 ∷ asked 1 ∷ closed ∷ asked 1
+    ∷ came (codes "END\ngo\n") ∷ asked 0 ∷ [])
     ≡ tick 50 ∷ tick 25 ∷ wait 25 ∷ order 1 (codes "go") ∷ order 1 (codes "END") ∷ tick 0 ∷ []
 unfolding digits
 ended_already = refl

@@ -30,6 +30,9 @@ later gap m n ms le t = record { rise = t.rise; after = after_later gap m n ms l
 more : (gap m n : ℕ) (ms : List ℕ) → m + gap ≤ n → Timely gap m ms → Timely gap n (m ∷ ms)
 more gap m n ms le t = record { rise = rise_more gap m ms t.after t.rise; after = le }
 
+same : (n : ℕ) (ms : List ℕ) → Timely 0 n ms → Timely 0 n (n ∷ ms)
+same n ms t = more 0 n n ms (omega arith) t
+
 pub clock_below : (h : List Happening) → now h < 2 ^ 48
 clock_below [] = omega arith
 clock_below (asked moment ∷ h) = omega (arith, clock_below h)
@@ -40,12 +43,13 @@ clock_rises : (h : List Happening) (moment : ℕ) → now h ≤ now (asked momen
 clock_rises h moment = omega arith
 
 moment_by : (given : List Answer) (left : List (List ℕ)) (c : Bool) (n : ℕ) (answer : Answer)
-    → Next given left c n answer → Timely 0 n (moments given) → Timely 0 n (moments (answer ∷ given))
+    → Next given left c n answer → Timely 0 n (moments given)
+    → Timely 0 n (moments (answer ∷ given))
 moment_by given left c n _ (nothing e) t = t
-moment_by given left c n _ (takes line lines on is taken) t = more 0 n n (moments given) (omega arith) t
+moment_by given left c n _ (takes line lines on is taken) t = same n (moments given) t
 moment_by given left c n _ (refuses line lines on is refused) t = t
-moment_by given left c n _ (closes on is owed) t = more 0 n n (moments given) (omega arith) t
-moment_by given left c n _ (ticks on is not_owed due) t = more 0 n n (moments given) (omega arith) t
+moment_by given left c n _ (closes on is owed) t = same n (moments given) t
+moment_by given left c n _ (ticks on is not_owed due) t = same n (moments given) t
 moment_by given left c n _ (waits on is not_owed) t = t
 
 moments_timely : (h : List Happening) → Timely 0 (now h) (moments (answers h))

@@ -7,7 +7,7 @@ pub record TypedKept : Type 0 where
   pub line : List ℕ
 
 -- what was typed; whether the input ended; the clock; when the next tick is due; how many lines it
--- may give besides an `end` and three ticks; and the ticks since the first `end`, where there was one
+-- may give besides an `end` and three ticks; and the ticks since the first `end`, if there was one
 pub record Kept : Type 0 where
   pub typed : TypedKept
   pub closed : Bool

@@ -1,12 +1,14 @@
 -- Laws over all nights: whatever bytes came, and whatever the clock said.
-use Rattle.std.specs.Prelude.{◌≡◌, ◌↔◌, ◌≤◌, ◌+◌, ◌++◌, ℕ, false, List, [], ◌∷◌, Option, Some, None, All, length, codes}
+use Rattle.std.specs.Prelude.{◌≡◌, ◌↔◌, ◌≤◌, ◌+◌, ◌++◌, ℕ, false, List, [], ◌∷◌, Option, Some}
+use Rattle.std.specs.Prelude.{None, All, length, codes}
 use Rattle.ascii_text.specs.Text.{lines_of, words_of}
 use Rattle.desk_core.specs.declared.command.Command.{Command}
 use Rattle.desk_core.specs.declared.command.Command.TheVariants.{End}
 use Rattle.console_text.specs.declared.call.Call.TheVariants.{Order, Tick}
 use Rattle.console_text.specs.declared.reading.Reading.TheVariants.{At}
 use Rattle.console_text.specs.Spelling.{command_of, is_malformed, reading_of}
-use Rattle.live_input.specs.Night.{Answer, Happening, answer_to, answers, at_moment, bytes_come, ended, lines_answered, lines_given}
+use Rattle.live_input.specs.Night.{Answer, Happening, answer_to, answers, at_moment, bytes_come}
+use Rattle.live_input.specs.Night.{ended, lines_answered, lines_given}
 use Rattle.live_input.specs.Night.{order, close, tick, wait, over}
 use Rattle.live_input.specs.Typed.{typed_of}
 
@@ -97,4 +99,6 @@ LinesGoFirst = (h : List Happening) (moment : ℕ) → IsAfterLines (answer_to h
 -- nothing comes any more exactly where there were three ticks after the first `end`, and there are
 -- never more
 abbrev pub NightsEnd : Type 0
-NightsEnd = (h : List Happening) (moment : ℕ) → (answer_to h moment ≡ over) ↔ (ended (answers h) ≡ Some 3)
+NightsEnd =
+    (h : List Happening) (moment : ℕ)
+    → (answer_to h moment ≡ over) ↔ (ended (answers h) ≡ Some 3)

@@ -68,8 +68,8 @@ abbrev pub ended : List Answer → Option ℕ
 ended [] = None
 ended (answer ∷ older) = ended_by answer (ended older)
 
--- when the tick after a tick of this moment is due: at the next multiple of 25, and not before 23 ms
--- have passed. So a late one is made at once, and those that were missed are not made up for
+-- when the tick after a tick of this moment is due: at the next multiple of 25, and not before
+-- 23 ms have passed. So a late one is made at once, and those that were missed are not made up for
 abbrev pub due_after : ℕ → ℕ
 due_after moment = max (25 * (moment / 25 + 1)) (moment + 23)
 
@@ -145,7 +145,8 @@ now (closed ∷ older) = now older
 
 -- the typed lines that were not answered
 abbrev pub lines_left : List Answer → List Happening → List (List ℕ)
-lines_left answers older = drop (length (lines_answered answers)) (typed_of (bytes_come older)).lines
+lines_left answers older =
+    drop (length (lines_answered answers)) (typed_of (bytes_come older)).lines
 
 -- the answer to what is asked at a moment, after these answers and happenings
 abbrev pub answer_after : List Answer → List Happening → ℕ → Answer

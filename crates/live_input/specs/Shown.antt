@@ -12,8 +12,8 @@ abbrev pub is_lost : ℕ × Offered → Bool
 is_lost (universe, Lost number) = true
 is_lost (universe, _) = false
 
--- the reply to a command that was accepted is shown, and so is each refusal; that to a tick is shown
--- where it lost a packet
+-- the reply to a command that was accepted is shown, and so is each refusal; that to a tick is
+-- shown where it lost a packet
 pub record IsShown (reply : List ℕ) (shown : Bool) : Type 0 where
   pub done : (moment : ℕ) → reply ≡ numbered moment done_text → shown ≡ true
   pub refused : (moment : ℕ) (why : Refused) → reply ≡ numbered moment (refused_text why)

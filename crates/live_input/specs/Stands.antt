@@ -14,7 +14,8 @@ pub record TypedStands (kept : TypedKept) (bytes : List ℕ) (count : ℕ) : Typ
 
 -- the line after so many of these bytes' lines
 abbrev pub IsNext : List ℕ → List ℕ → ℕ → Type 0
-IsNext line bytes count = (later : List (List ℕ)) × (drop count (typed_of bytes).lines ≡ line ∷ later)
+IsNext line bytes count =
+    (later : List (List ℕ)) × (drop count (typed_of bytes).lines ≡ line ∷ later)
 
 -- each part that it keeps is what the happenings leave
 pub record StandsFor (kept : Kept) (happenings : List Happening) : Type 0 where

@@ -3,8 +3,8 @@ use Rattle.std.specs.Prelude.{ℕ, Bool, ◌&&◌, List, [], ◌∷◌, ◌++◌
 use Rattle.std.specs.Prelude.{fold, length, take}
 use Rattle.ascii_text.specs.Text.{words_of}
 
--- the lines that LF ended, without those that say nothing, and the bytes behind the last LF. A line
--- may have 200 bytes: of a longer one 201 are looked at, so that it is seen to be too long
+-- the lines that LF ended, without those that say nothing, and the bytes behind the last LF. A
+-- line may have 200 bytes: of a longer one 201 are looked at, so that it is seen to be too long
 pub record Typed : Type 0 where
   pub lines : List (List ℕ)
   pub rest : List ℕ

@@ -18,9 +18,9 @@ const SHORTEST_GAP: u64 = 23;
 // So many ticks after `end` carry the end of the streams.
 const ENDING_TICKS: u8 = 3;
 
-// `play` takes 10,000,000 lines, and the last four are an `end` and its ticks. At 40 ticks a second
-// that is after 69 hours: a night that is still on is then ended in order, so that receivers let
-// go of its levels at once and a second console takes over.
+// `play` takes 10,000,000 lines, and the last four are an `end` and its ticks. At 40 ticks a
+// second that is after 69 hours: a night that is still on then is ended in order, so that
+// receivers let go of its levels at once, and those of a second console count.
 const LINES: u32 = 9_999_996;
 
 // What the answers so far leave.

@@ -18,7 +18,8 @@ pub struct TypedLines {
 }
 
 impl TypedLines {
-    ghost use Rattle.std.specs.Prelude.{◌≡◌, ◌≤◌, ◌<◌, ◌-◌, ◌+◌, ℕ, [], List, IfNone, IfSome, length};
+    ghost use Rattle.std.specs.Prelude.{◌≡◌, ◌≤◌, ◌<◌, ◌+◌, ℕ, [], List, length};
+    ghost use Rattle.std.specs.Prelude.{IfNone, IfSome};
     ghost use Rattle.live_input.specs.Stands.{IsNext, TypedStands};
     ghost use Rattle.live_input.specs.TypedView.{typed_kept};
 

@@ -8,6 +8,6 @@ pub returns : goal.returns
 returns c =
     let line : List ℕ = c.args.line.now in
     c.loop-byte.invariant
-    ∙ ap (map printable) (take_all c.loop-byte.byte-index (take c.min.result line) c.loop-byte-test.false)
+    ∙ ap (map printable) (take_all c.loop-byte.byte-index _ c.loop-byte-test.false)
     ∙ ap (λ n. map printable (take n line)) (c.min.ensures ∙ min_comm (length line) 200)
     ∙ ap (map printable) (take_min 200 line)

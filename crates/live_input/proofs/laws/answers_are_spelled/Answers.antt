@@ -7,4 +7,5 @@ use Rattle.live_input.proofs.laws.answers_are_spelled.Goals as goal
 
 pub returns : goal.returns
 returns c = λ h moment.
-    spelled_by (answers h) _ _ _ (answer_to h moment) (clock_below (asked moment ∷ h)) (answer_is_next h moment)
+    spelled_by (answers h) _ _ _ (answer_to h moment) (clock_below (asked moment ∷ h))
+    (answer_is_next h moment)

@@ -6,8 +6,9 @@ use Rattle.live_input.proofs.typed.look_at.Goals as goal
 
 pub returns-then-not-is_full : goal.returns-then-not-is_full
 returns-then-not-is_full c =
+    let full = c.is_full.ensures in
     c.push.ensures.items
-    ∙ sym (take_all 201 _ (grind (arith, common_steps, nat_tests, c.is_full.ensures.value, c.is_full.ensures.fits)))
+    ∙ sym (take_all 201 _ (grind (arith, common_steps, nat_tests, full.value, full.fits)))
 
 pub returns-else-not-is_full : goal.returns-else-not-is_full
 returns-else-not-is_full c =
