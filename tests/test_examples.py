@@ -1,4 +1,4 @@
-"""What the repository shows its users: the shows of examples/, and the examples of the documents."""
+"""What the repository shows its users: examples/, and the examples of the documents."""
 
 import re
 import socket
@@ -55,7 +55,6 @@ class Examples(ProgramTest):
         }
         self.assertExample("small-play.asc", printed, looks)
 
-
     def test_one_dimmer_played(self):
         """The lines of one-dimmer.play, printed as README shows them, and the packets that go out."""
         lines = (TOP / "examples/one-dimmer.play").read_bytes()
@@ -70,6 +69,16 @@ class Examples(ProgramTest):
             for sequence, level in enumerate(levels):
                 self.assertEqual(packet(1, {1: level}, sequence), receiver.recv(1500))
         self.assertIn(printed.decode(), blocks("README.md"))
+
+    def test_backup_console(self):
+        """A rehearsal of a backup console that takes over, and the replies beside it. Half is 128;
+        after 2500 of 5000 ms the level is 64, and after 4000 it is 102."""
+        script = TOP / "examples/backup-console.script"
+        replies = (TOP / "examples/backup-console.replies").read_bytes()
+        self.assertRuns(["rehearse", TOP / "examples/one-dimmer.asc", script], b"", out=replies)
+        levels = [64, 64, 102, 128, 128, 128]
+        shown = [f"slots 1:{level}" for level in levels] + ["slots", "slots"]
+        self.assertEqual(shown, re.findall("slots.*", replies.decode()))
 
 
 class Documents(ProgramTest):

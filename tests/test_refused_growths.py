@@ -64,6 +64,18 @@ class RefusedGrowths(ProgramTest):
             words = ["play", file.name, "--to", "127.0.0.1:9", "--cid", CID]
             self.assertEachRefused(words, b"0 go\n0 tick\n25 sub 1 50\n25 tick\n50 end\n50 tick\n")
 
+    def test_rehearse(self):
+        lines = [f"console 1 10{n} {CID[:-1]}{n}" for n in range(2)] + ["receiver 1", "receiver 2"]
+        lines += ["0 do 0 go", "0 do 1 sub 1 50", "0 stray 0 00", "0 stray 1"]
+        for k in range(12):
+            lines += [f"{25 * k} do 0 sub 2 {k}", f"{25 * k} tick 0", f"{25 * k} tick 1"]
+            lines += [f"{25 * k} deliver {n} 0 {n + 1} {k}" for n in range(2)] + [f"{25 * k} slots 0"]
+        with tempfile.TemporaryDirectory() as folder:
+            show, script = Path(folder, "show.asc"), Path(folder, "night.script")
+            show.write_bytes(SHOW)
+            script.write_bytes(text(*lines))
+            self.assertEachRefused(["rehearse", show, script], b"")
+
     def test_words(self):
         for words in (["--help"], ["look", "-"], ["look", "-", "x", "--cid", CID], ["check", "a", "b"]):
             self.assertEachRefused(words, b"")

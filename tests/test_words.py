@@ -67,6 +67,7 @@ class Words(ProgramTest):
             (["help", "look"], b"Usage: cueplayer look"),
             (["look", "--help"], b"Usage: cueplayer look"),
             (["check", "-h"], b"Usage: cueplayer check"),
+            (["rehearse", "-h"], b"Usage: cueplayer rehearse"),
         ):
             with self.subTest(words):
                 outcome = run(*words)
@@ -79,6 +80,7 @@ class Words(ProgramTest):
             ([""], b"''"),
             (["check"], b"<SHOW>"),
             (["check", "-", "-"], b"'-'"),
+            (["rehearse", "a"], b"<SCRIPT>"),
             (["check", "-", "--cid", CID], b"'--cid'"),
             (["look", "-", "--cid", CID], b"<CUE>"),
             (["look", "-", "1"], b"--cid <UUID>"),

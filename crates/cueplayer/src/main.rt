@@ -13,18 +13,19 @@ mod words;
 use clap::Error;
 use cueplayer_faults::{RunFault, exit_status};
 use cueplayer_play::play;
+use cueplayer_rehearse::rehearse_text;
 use cueplayer_runs::{check, listen, look};
 use cueplayer_words::{Job, WordsFault, read_words};
 use devices::Output;
 use fade_core::PlainFader;
 use input::SystemInput;
 use output::SystemOutput;
-use reading::{file_text, show_text};
+use reading::{file_text, script_text, show_text};
 use sacn_packet::SourceName;
 use sacn_source::Identity;
 use socket::{ReceivingSocket, SendingSocket};
 use std::env;
-use std::io::ErrorKind;
+use std::io::{BufWriter, ErrorKind};
 use std::process::ExitCode;
 use words::UserWords;
 
@@ -65,6 +66,11 @@ fn run(rt: &HostRuntime, job: Job) -> Result<(), RunFault>
                 &mut out,
             )
         }
+        Job::Rehearse { show, script } => {
+            let show = file_text(rt, show.as_str())?;
+            let script = script_text(rt, script.as_str())?;
+            rehearse(rt, show.as_slice(), script.as_slice())
+        }
         Job::Listen {
             at,
             universe,
@@ -74,6 +80,17 @@ fn run(rt: &HostRuntime, job: Job) -> Result<(), RunFault>
             listen(&mut source, universe, count, &mut out)
         }
     }
+}
+
+// Prints a rehearsal through a buffer, since its lines are many.
+fn rehearse(rt: &HostRuntime, show: &[u8], script: &[u8]) -> Result<(), RunFault> {
+    let Ok(buffer) = BufWriter::new(rt.alloc(), rt.stdout()) else {
+        return Err(RunFault::Memory);
+    };
+    let mut out = SystemOutput::new(buffer);
+    rehearse_text::<PlainFader, _>(rt.alloc(), show, script, &mut out)?;
+    out.flush()?;
+    Ok(())
 }
 
 // Who sends: the source name is the program's.

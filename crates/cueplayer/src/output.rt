@@ -13,6 +13,11 @@ impl<W: Write> SystemOutput<W> {
     pub fn new(inner: W) -> Self {
         SystemOutput { inner }
     }
+
+    /// Hands on what a buffer still holds.
+    pub fn flush(&mut self) -> Result<(), LinkFault> {
+        self.inner.flush().map_err(|_| LinkFault)
+    }
 }
 
 impl<W: Write> Output for SystemOutput<W> {

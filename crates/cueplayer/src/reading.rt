@@ -3,6 +3,7 @@ ghost use Rattle.std.specs.Io.KnownBytes.{ReadConsumes};
 ghost use Rattle.cueplayer_faults.specs.declared.fault.RunFault.TheVariants as run;
 
 use cueplayer_faults::RunFault;
+use cueplayer_rehearse::LONGEST_SCRIPT;
 use devices::LinkFault;
 use show_reader::LONGEST_TEXT;
 use std::alloc::Global;
@@ -42,6 +43,31 @@ pub fn file_text(rt: &HostRuntime, name: &str) -> Result<Vec<u8>, RunFault>
         return Err(RunFault::Device);
     };
     first_bytes(rt.alloc(), &mut file)
+}
+
+/// The first bytes of the script in the file of this name.
+///
+/// # Errors
+///
+/// As [`file_text`].
+pub fn script_text(rt: &HostRuntime, name: &str) -> Result<Vec<u8>, RunFault>
+    ensures most { IfOk result (λ bytes. length bytes.items ≤ 16777217) }
+    ensures fault { IfErr result (λ fault. (fault ≡ run.Device) ⊎ (fault ≡ run.Memory)) }
+{
+    let Ok(mut file) = File::open(rt, name) else {
+        return Err(RunFault::Device);
+    };
+    script_bytes(rt.alloc(), &mut file)
+}
+
+// What is read of a script: the first 16,777,217 bytes of a reader, one more than the longest has.
+fn script_bytes<R: Read>(alloc: Global, reader: &mut R) -> Result<Vec<u8>, RunFault>
+    ensures most { IfOk result (λ bytes. length bytes.items ≤ 16777217) }
+    ensures first { IfOk result (λ bytes. IfSome (R.remaining reader.old)
+        (λ left. bytes.items ≡ take 16777217 left)) }
+    ensures fault { IfErr result (λ fault. (fault ≡ run.Device) ⊎ (fault ≡ run.Memory)) }
+{
+    read_most(alloc, reader, LONGEST_SCRIPT + 1)
 }
 
 // What is read of a show: the first 1,048,577 bytes of a reader, one more than the longest show has.

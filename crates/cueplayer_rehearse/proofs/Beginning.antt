@@ -50,18 +50,18 @@ no_line_fault n line.HalfPair e = cc
 no_line_fault n line.HalfTriple e = cc
 no_line_fault n line.Limit e = cc
 
-not_at : (n : ℕ) (o : Option LineFault) (below : Option ShowFault)
-    → (below ≡ Some show_fault.Memory → ⊥)
-    → option_or (option_map (fault_at n) o) below ≡ Some show_fault.Memory → ⊥
-not_at n None below rest e = rest e
-not_at n (Some f) below rest e =
+not_at : (n : ℕ) (o : Option LineFault) (above : Option ShowFault)
+    → (above ≡ Some show_fault.Memory → ⊥)
+    → option_or above (option_map (fault_at n) o) ≡ Some show_fault.Memory → ⊥
+not_at n o (Some f) rest e = rest e
+not_at n None None rest e = cc
+not_at n (Some f) None rest e =
     let same : fault_at n f ≡ show_fault.Memory = cc in no_line_fault n f same
 
-not_below : (above ss : List Statement) → first_fault above ss ≡ Some show_fault.Memory → ⊥
-not_below above [] e = cc
-not_below above (s ∷ ss) e =
-    not_at (length above + 1) (fault_below above s) (first_fault (above ++ s ∷ []) ss)
-    (not_below (above ++ s ∷ []) ss) e
+not_below : (ss : List Statement) → first_fault ss ≡ Some show_fault.Memory → ⊥
+not_below [] e = cc
+not_below (newest ∷ above) e =
+    not_at (length above + 1) (fault_below above newest) (first_fault above) (not_below above) e
 
 not_here : (b : Bool) (o : Option ShowFault) → (o ≡ Some show_fault.Memory → ⊥)
     → (if b then Some show_fault.TooLong else o) ≡ Some show_fault.Memory → ⊥
@@ -70,8 +70,8 @@ not_here false o rest e = rest e
 
 no_memory_fault : (text : List ℕ) → fault_of desk text ≡ Some show_fault.Memory → ⊥
 no_memory_fault text =
-    not_here (nat_lt longest_text (length text)) (first_fault [] (statements_of desk text))
-    (not_below [] (statements_of desk text))
+    not_here (nat_lt longest_text (length text)) (first_fault (statements_of desk text))
+    (not_below (statements_of desk text))
 
 -- the fault that was found, where it is not want of memory
 found : (text : List ℕ) (fault : ShowFault) → (fault ≡ show_fault.Memory → ⊥)
@@ -185,6 +185,7 @@ pub lines_of : (show script : List ℕ) (s : Tables) (p : Parts) (replies : List
     (last : List (List ℕ)) → IsRead show script s p → AreReplies (world s p) p.events replies
     → last ≡ last_slots (world s p) (done (world s p) p.events)
     → AreLinesOf show script (rehearsal_lines p.lines replies last)
+unfolding AreLinesOf
 lines_of show script s p replies last read are last_is =
     let lines = rehearsal_lines p.lines replies last in
     let known : AreLines s p lines = record {

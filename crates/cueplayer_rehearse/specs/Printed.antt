@@ -26,7 +26,7 @@ pub record AreLines (show : Tables) (script : Parts) (lines : List (List ℕ)) :
       (last_slots (world show script) (done (world show script) script.events))
 
 -- the lines of a rehearsal of the script that a text means, over the show that a text means
-abbrev pub AreLinesOf : List ℕ → List ℕ → List (List ℕ) → Type 0
+unfoldable pub AreLinesOf : List ℕ → List ℕ → List (List ℕ) → Type 0
 AreLinesOf show script lines =
     OfItsShow show (λ s. IsOkAnd (script_of script) (λ p. AreLines s p lines))
 
