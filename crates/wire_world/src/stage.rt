@@ -1,6 +1,8 @@
-ghost use Rattle.std.specs.Prelude.{◌≡◌, ℕ, List, [], ◌∷◌, map, IfOk, OnOk, OnErr, None, Some};
-ghost use Rattle.std.specs.Prelude.{MatchResult};
+ghost use Rattle.std.specs.Prelude.{◌≡◌, ◌↔◌, ℕ, List, [], ◌∷◌, map, IfOk, OnOk, OnErr, Err, None};
+ghost use Rattle.std.specs.Prelude.{IsFalse, MatchResult, Some};
 ghost use Rattle.std.specs.Option.{option_map};
+ghost use Rattle.patch_core.specs.Frame.{is_base};
+ghost use Rattle.patch_core.specs.declared.fault.RigFault.TheVariants.{Universe};
 ghost use Rattle.desk_core.specs.Played.{Act, ended, outcome, refusal, ticked};
 ghost use Rattle.console.specs.Streams.{Production, dues_at, order_at, tick_at};
 ghost use Rattle.wire_laws.specs.Happened.{bytes_of};
@@ -31,6 +33,7 @@ impl<F: Fader> Stage<F> {
         ensures stands { IfOk result (λ stage. StageStands F.stands_for stage
             (record { show = show.now; base = base; source = source }) []) }
         ensures tells { IfOk result (λ stage. Tells stage) }
+        ensures universe { (result ≡ Err Universe) ↔ IsFalse (is_base show.now.patch base) }
     {
         let console = Console::open(alloc, show, base, source)?;
         Ok(Stage {
