@@ -54,16 +54,65 @@ level_after_towards [] channel x y le = inl (omega arith, omega arith)
 level_after_towards (s ∷ older) channel x y le =
     split_fade_towards (level_after older channel s.moment) (255 * byte_of s.look channel) s.up s.down (x - s.moment) (y - s.moment) (omega arith)
 
-zero_of : (p q : Bool) (w t e : ℕ) → (if p then 0 else (if q then 0 else 0 - 0 * (e - w) / t)) ≡ 0
-zero_of true q w t e = refl
-zero_of false true w t e = refl
-zero_of false false w t e = omega arith
+stay : (p q : Bool) (b w t e : ℕ)
+    → (if p then b else (if q then b else b - (b - b) * (e - w) / t)) ≡ b
+stay true q b w t e = refl
+stay false true b w t e = refl
+stay false false b w t e = let none : b - b ≡ 0 = omega arith in rw none (omega arith)
 
--- a channel that goes from 0 to 0 stays there
-split_fade_none : (up down : Rate) (e : ℕ) → split_fade 0 0 up down e ≡ 0
+-- a channel that is where it goes stays there
+pub split_fade_still : (b : ℕ) (up down : Rate) (e : ℕ) → split_fade b b up down e ≡ b
 unfolding split_fade
-split_fade_none up down e = zero_of (nat_le (down.delay + down.time) e) (nat_le e down.delay) down.delay down.time e
+split_fade_still b up down e =
+    let is : nat_lt b b ≡ false = grind (arith, nat_tests) in
+    rw is (stay (nat_le (down.delay + down.time) e) (nat_le e down.delay) b down.delay down.time e)
+
+first : (p : Bool) (a b x : ℕ) → ((if p then b else a) ≡ a) ⊎ ((if p then b else a) ≡ b)
+first true a b x = inr refl
+first false a b x = inl refl
+
+-- at its start it is where it comes from, or already where it goes
+split_fade_first : (a b : ℕ) (up down : Rate)
+    → (split_fade a b up down 0 ≡ a) ⊎ (split_fade a b up down 0 ≡ b)
+unfolding split_fade
+split_fade_first a b up down = go (nat_lt a b) refl where
+  go : (r : Bool) → nat_lt a b ≡ r
+      → (split_fade a b up down 0 ≡ a) ⊎ (split_fade a b up down 0 ≡ b)
+  go true is =
+      let none : nat_le 0 up.delay ≡ true = grind (arith, nat_tests) in
+      rw (is, none) (first (nat_le (up.delay + up.time) 0) a b 0)
+  go false is =
+      let none : nat_le 0 down.delay ≡ true = grind (arith, nat_tests) in
+      rw (is, none) (first (nat_le (down.delay + down.time) 0) a b 0)
+
+between : (s x y b top : ℕ) → ((s ≡ x) ⊎ (s ≡ b)) → x ≤ top → b ≤ top → IsTowards s b y → y ≤ top
+between s x y b top (inl e) le_x le_b (inl (p, q)) = omega arith
+between s x y b top (inl e) le_x le_b (inr (p, q)) = omega arith
+between s x y b top (inr e) le_x le_b (inl (p, q)) = omega arith
+between s x y b top (inr e) le_x le_b (inr (p, q)) = omega arith
+
+-- and it stays in the range of both
+pub split_fade_full : (a b top : ℕ) (up down : Rate) (e : ℕ) → a ≤ top → b ≤ top
+    → split_fade a b up down e ≤ top
+split_fade_full a b top up down e le_a le_b =
+    between (split_fade a b up down 0) a (split_fade a b up down e) b top
+    (split_fade_first a b up down) le_a le_b (split_fade_towards a b up down 0 e (omega arith))
+
+-- once both rates are over it is there
+pub split_fade_over : (a b : ℕ) (up down : Rate) (e : ℕ)
+    → up.delay + up.time ≤ e → down.delay + down.time ≤ e → split_fade a b up down e ≡ b
+unfolding split_fade
+split_fade_over a b up down e up_over down_over = go (nat_lt a b) refl where
+  go : (r : Bool) → nat_lt a b ≡ r → split_fade a b up down e ≡ b
+  go true is =
+      let over : nat_le (up.delay + up.time) e ≡ true = grind (arith, nat_tests) in rw (is, over) refl
+  go false is =
+      let over : nat_le (down.delay + down.time) e ≡ true = grind (arith, nat_tests) in
+      rw (is, over) refl
 
 -- all levels are 0 where every channel is at 0 and aims at 0
-pub split_fade_zeros : (from to : List ℕ) (n i : ℕ) (up down : Rate) (e : ℕ) → i < n → from ≡ replicate n 0 → to ≡ replicate n 0 → split_fade (get_or from i 0) (255 * get_or to i 0) up down e ≡ 0
-split_fade_zeros from to n i up down e h p q = rw (p, q, get_or-replicate {A = ℕ} n i 0 0 h) (split_fade_none up down e)
+pub split_fade_zeros : (from to : List ℕ) (n i : ℕ) (up down : Rate) (e : ℕ) → i < n
+    → from ≡ replicate n 0 → to ≡ replicate n 0
+    → split_fade (get_or from i 0) (get_or to i 0) up down e ≡ 0
+split_fade_zeros from to n i up down e h p q =
+    rw (p, q, get_or-replicate {A = ℕ} n i 0 0 h) (split_fade_still 0 up down e)

@@ -1,3 +1,6 @@
+pub mod ByDigits
 pub mod Fade
 pub mod Look
+pub mod Shares
+pub mod Standing
 mod Rows

@@ -2,3 +2,7 @@ pub mod Level
 pub mod Laws
 pub mod Fading
 pub mod Plain
+pub mod Share
+pub mod Digits
+pub mod Stepping
+pub mod Step

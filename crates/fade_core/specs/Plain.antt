@@ -18,5 +18,6 @@ fading_view f = record {
 pub record IsFading (f : Fading) : Type 0 where
   pub same_length : length f.to ≡ length f.from
   pub few : length f.from < 2 ^ 16
-  pub full : All (λ level. level ≤ 65025) f.from
+  pub from_full : All (λ level. level ≤ 65025) f.from
+  pub to_full : All (λ level. level ≤ 65025) f.to
   pub in_order : f.began ≤ f.now

@@ -1,10 +1,8 @@
-ghost use Rattle.std.specs.Prelude.{◌≡◌, ℕ, ◌+◌, ◌*◌, ◌^◌, ◌<◌, ◌≤◌};
-ghost use Rattle.std.specs.Prelude.{IsTrue, All, EachIndex, length, slice_index};
-ghost use Rattle.std.specs.Ordering.{nat_cmp};
-ghost use Rattle.std.specs.FinMap.{is_sorted};
-ghost use Rattle.fade_core.specs.Level.{byte_of, split_fade};
+ghost use Rattle.std.specs.Prelude.{◌≡◌, ℕ, ◌≤◌, All, EachIndex, length, slice_index};
+ghost use Rattle.fade_core.specs.Level.{split_fade};
 
 use crate::fader::Fader;
+use crate::target::aim;
 use show_core::Rate;
 use std::alloc::{AllocError, Global};
 use std::marker::Model;
@@ -13,8 +11,8 @@ use std::marker::Model;
 /// is asked for.
 #[derive(Debug, Drop)]
 pub struct PlainFader {
-    from: Vec<u32>,
-    to: Vec<u8>,
+    from: Vec<u16>,
+    to: Vec<u16>,
     up: Rate,
     down: Rate,
     began: u64,
@@ -71,20 +69,20 @@ impl Fader for PlainFader {
 
     fn level(&self, channel: u16) -> u32 {
         let place = usize::from(channel) - 1;
-        let target = 255 * u32::from(self.to[place]);
-        faded(
+        let elapsed = self.now - self.began;
+        u32::from(faded(
             self.from[place],
-            target,
+            self.to[place],
             self.up,
             self.down,
-            self.now - self.began,
-        )
+            elapsed,
+        ))
     }
 }
 
 // The level of a channel that goes from `a` to `b`, `elapsed` milliseconds after the start.
 #[tactic(auto, unfolding(crate::specs::Level::split_fade))]
-fn faded(a: u32, b: u32, up: Rate, down: Rate, elapsed: u64) -> u32
+fn faded(a: u16, b: u16, up: Rate, down: Rate, elapsed: u64) -> u16
     requires a_full { a ≤ 65025 }
     requires b_full { b ≤ 65025 }
     ensures level { result ≡ split_fade a b up down elapsed }
@@ -98,36 +96,23 @@ fn faded(a: u32, b: u32, up: Rate, down: Rate, elapsed: u64) -> u32
     } else if elapsed <= delay {
         a
     } else if a < b {
-        a + (u64::from(b - a) * (elapsed - delay) / time) as u32
+        a + (u64::from(b - a) * (elapsed - delay) / time) as u16
     } else {
-        a - (u64::from(a - b) * (elapsed - delay) / time) as u32
+        a - (u64::from(a - b) * (elapsed - delay) / time) as u16
     }
 }
 
 // Puts each channel's level, `elapsed` milliseconds after the start, in place of its level at the
 // start.
-fn settle(from: &mut [u32], to: &[u8], up: Rate, down: Rate, elapsed: u64)
+fn settle(from: &mut [u16], to: &[u16], up: Rate, down: Rate, elapsed: u64)
     requires same_length { length to.now ≡ length from.old }
-    requires full { All (λ level. level ≤ 65025) from.old }
+    requires from_full { All (λ level. level ≤ 65025) from.old }
+    requires to_full { All (λ level. level ≤ 65025) to.now }
     ensures levels { EachIndex from.new (λ k. slice_index from.new k
-        ≡ split_fade (slice_index from.old k) (255 * slice_index to.now k) up down elapsed) }
+        ≡ split_fade (slice_index from.old k) (slice_index to.now k) up down elapsed) }
     ensures full { All (λ level. level ≤ 65025) from.new }
 {
     for i in 0..from.len() {
-        from[i] = faded(from[i], 255 * u32::from(to[i]), up, down, elapsed);
-    }
-}
-
-// Puts the byte of each channel in the look in its place.
-fn aim(to: &mut [u8], look: &[(u16, u8)])
-    requires ascending { IsTrue (is_sorted nat_cmp look.now) }
-    requires in_range { All (λ pair. (1 ≤ pair.0) × (pair.0 ≤ length to.old)) look.now }
-    ensures { EachIndex to.new (λ k. slice_index to.new k ≡ byte_of look.now (k + 1)) }
-{
-    for byte in to.iter_mut() {
-        *byte = 0;
-    }
-    for (channel, byte) in look {
-        to[usize::from(*channel) - 1] = *byte;
+        from[i] = faded(from[i], to[i], up, down, elapsed);
     }
 }

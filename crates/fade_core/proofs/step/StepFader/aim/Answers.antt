@@ -1,0 +1,45 @@
+use Rattle.std.proofs.Common.{◌≡◌, ◌≤◌, List, ℕ, ap, ◌∙◌, arith, length, Vec, Global}
+use Rattle.std.specs.Prelude.{All}
+use Rattle.std.specs.Vec.{with_items}
+use Rattle.std.proofs.lemmas.List.{with_items_is}
+use Rattle.fade_core.proofs.Standing.{stands_full, stands_started}
+use Rattle.fade_core.proofs.step.StepFader.aim.Goals as goal
+
+-- a vector that was lent as a slice has what was written there
+written : (v : Vec ℕ Global) (given new : List ℕ) → given ≡ v.items → length new ≡ length given
+    → (with_items v new).items ≡ new
+written v given new is size = with_items_is v new (omega (arith, size, ap length is, v.ok.0))
+
+pub invariant_of-self : goal.invariant_of-self
+invariant_of-self c =
+    let r = c.restart-self-inside in
+    let old = c.self.inside in
+    let fading = c.self.invariant.fading in
+    let stands = c.self.invariant.stands in
+    let from : _ ≡ r.new.from = written old.from _ _ c.deref_mut.ensures.value r.auto.from in
+    let to : _ ≡ r.new.to = written old.to _ _ c.deref_mut-2.ensures.value r.auto.to in
+    let levels : _ ≡ r.new.levels = written old.levels _ _ c.deref_mut-3.ensures.value r.auto.levels in
+    let moving : _ ≡ r.new.moving = written old.moving _ _ c.deref_mut-4.ensures.value r.auto.moving in
+    let from_size = r.auto.from ∙ ap length c.deref_mut.ensures.value in
+    let to_size = r.auto.to ∙ ap length c.deref_mut-2.ensures.value in
+    let levels_size = r.auto.levels ∙ ap length c.deref_mut-3.ensures.value in
+    let moving_size = r.auto.moving ∙ ap length c.deref_mut-4.ensures.value in
+    let given : length c.deref_mut.result.now ≡ length r.new.from = omega (arith, r.auto.from) in
+    let full : All (λ level. level ≤ 65025) r.new.from =
+    rw (r.ensures.from, c.deref_mut-3.ensures.value) (stands_full _ _ _ _ fading stands) in
+    record {
+      fading = record {
+        same_length = rw (from, to) (omega (arith, from_size, to_size, fading.same_length));
+        few = rw from (omega (arith, from_size, fading.few));
+        from_full = rw from full;
+        to_full = rw to r.ensures.full;
+        in_order = omega arith;
+      };
+      stands = rw (from, to, levels, moving) (stands_started _ _ _ _ (omega arith)
+          (omega (arith, from_size, levels_size, stands.levels_length))
+          (omega (arith, from_size, moving_size, stands.moving_length))
+          (omega (arith, given, r.ensures.count))
+          (rw given at r.ensures.listed)
+          r.ensures.levels
+          (rw given at r.ensures.others));
+    }

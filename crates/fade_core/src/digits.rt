@@ -1,0 +1,119 @@
+ghost use Rattle.std.specs.Prelude.{◌≡◌, ◌+◌, ◌*◌, ◌/◌, ◌^◌, ◌≤◌, IsTrue, if◌then◌else◌};
+
+// A share by its digits of 16 bits: LLVM multiplies eight ways at a time by a digit.
+#[derive(Clone, Copy, Debug)]
+pub struct Digits {
+    low: u16,
+    middle: u16,
+    high: u16,
+    whole: u16,
+    ghost at_most_one: { low + 2 ^ 16 * middle + 2 ^ 32 * high + 2 ^ 48 * whole ≤ 2 ^ 48 },
+}
+
+impl Digits {
+    ghost use Rattle.fade_core.specs.Digits.{share_by};
+    ghost use Rattle.fade_core.specs.Share.{moved};
+
+    // The digits of a share.
+    pub fn of(share: u64) -> Self
+        requires { share ≤ 2 ^ 48 }
+        ensures { share_by result ≡ share }
+    {
+        Digits {
+            low: (share % (1 << 16)) as u16,
+            middle: (share / (1 << 16) % (1 << 16)) as u16,
+            high: (share / (1 << 32) % (1 << 16)) as u16,
+            whole: (share / (1 << 48)) as u16,
+        }
+    }
+
+    // Whether the lowest digit is 0, as it is with short times.
+    pub fn is_coarse(&self) -> bool
+        ensures { IsTrue result → self.now.low ≡ 0 }
+    {
+        self.low == 0
+    }
+
+    // A copy, digit by digit: a plain one would be a number of 64 bits to LLVM, which then takes the
+    // channels one by one.
+    #[inline(always)]
+    pub fn copied(&self) -> Self
+        ensures { result ≡ self.now }
+    {
+        Digits {
+            low: self.low,
+            middle: self.middle,
+            high: self.high,
+            whole: self.whole,
+        }
+    }
+
+    // The same where LLVM is to know that the lowest digit is 0.
+    #[inline(always)]
+    pub fn copied_coarse(&self) -> Self
+        requires { self.now.low ≡ 0 }
+        ensures { result ≡ self.now }
+    {
+        Digits {
+            low: 0,
+            middle: self.middle,
+            high: self.high,
+            whole: self.whole,
+        }
+    }
+
+    // The level of a channel that goes from `a` to `b`.
+    #[inline(always)]
+    pub fn level(a: u16, b: u16, rising: Digits, falling: Digits) -> u16
+        ensures { result ≡ moved a b (share_by rising) (share_by falling) }
+    {
+        let rises = a < b;
+        let step = Digits::picked(rises, rising, falling).part_of(a.abs_diff(b));
+        if rises { a + step } else { a - step }
+    }
+
+    #[inline(always)]
+    fn picked(first: bool, a: Digits, b: Digits) -> Digits
+        ensures { result ≡ (if first then a else b) }
+    {
+        Digits {
+            low: pick(first, a.low, b.low),
+            middle: pick(first, a.middle, b.middle),
+            high: pick(first, a.high, b.high),
+            whole: pick(first, a.whole, b.whole),
+        }
+    }
+
+    // That share of the way.
+    #[inline(always)]
+    #[tactic(auto, using(crate::proofs::ByDigits::three_digits))]
+    fn part_of(self, way: u16) -> u16
+        ensures part { result ≡ way * share_by self / 2 ^ 48 }
+        ensures most { result ≤ way }
+    {
+        let lower = carried(way, self.low, 0);
+        let middle = carried(way, self.middle, lower);
+        let upper = carried(way, self.high, middle);
+        way * self.whole + upper
+    }
+}
+
+#[inline(always)]
+fn pick(first: bool, a: u16, b: u16) -> u16
+    ensures { result ≡ (if first then a else b) }
+{
+    if first { a } else { b }
+}
+
+// One digit of a product, with what the digit below it carries. Its halves stay numbers of 16 bits,
+// of which LLVM multiplies eight at a time.
+#[inline(always)]
+fn carried(way: u16, digit: u16, below: u16) -> u16
+    ensures { result ≡ (way * digit + below) / 2 ^ 16 }
+{
+    let low = way.wrapping_mul(digit);
+    let high = ((u32::from(way) * u32::from(digit)) >> 16) as u16;
+    let sum = low.wrapping_add(below);
+    let carry = if sum < below { 1 } else { 0 };
+    high.wrapping_add(carry)
+}
