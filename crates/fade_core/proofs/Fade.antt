@@ -1,5 +1,6 @@
--- A fade never turns back, and one from 0 to 0 stays there.
-use Rattle.std.proofs.Common.{◌≡◌, ℕ, ◌+◌, ◌-◌, ◌*◌, ◌/◌, ◌<◌, ◌≤◌, ◌⊎◌, inl, inr, Bool, true, false, List, [], ◌∷◌, refl, arith, replicate, get_or}
+-- A fade never turns back, keeps between its ends, and stays where it need not go or has gone.
+use Rattle.std.proofs.Common.{◌≡◌, ℕ, ◌+◌, ◌-◌, ◌*◌, ◌/◌, ◌<◌, ◌≤◌, ◌⊎◌, inl, inr}
+use Rattle.std.proofs.Common.{Bool, true, false, List, [], ◌∷◌, refl, arith, replicate, get_or}
 use Rattle.std.specs.Prelude.{nat_le, nat_lt, if◌then◌else◌}
 use Rattle.std.proofs.Math.Nat.{div-zero, div-mul-le_self, div-le_of_le-mul, mul-le-mul_left}
 use Rattle.std.proofs.lemmas.Nat.{le-div}
@@ -24,7 +25,8 @@ share_le : (d x t : ℕ) → x ≤ t → d * x / t ≤ d
 share_le d x t le = div-le_of_le-mul t (omega (arith, mul-le-mul_left d le))
 
 rising : (a b w t x y : ℕ) → a < b → x ≤ y
-    → let at : ℕ → ℕ = λ e. (if nat_le (w + t) e then b else (if nat_le e w then a else a + (b - a) * (e - w) / t)) in
+    → let at : ℕ → ℕ = λ e. (if nat_le (w + t) e then b
+    else (if nat_le e w then a else a + (b - a) * (e - w) / t)) in
     (at x ≤ at y) × (at y ≤ b)
 rising a b w t x y lt le =
     let more = share_mono (b - a) (x - w) (y - w) t (omega arith) in
@@ -33,7 +35,8 @@ rising a b w t x y lt le =
     (grind (arith, nat_tests), grind (arith, nat_tests))
 
 falling : (a b w t x y : ℕ) → b ≤ a → x ≤ y
-    → let at : ℕ → ℕ = λ e. (if nat_le (w + t) e then b else (if nat_le e w then a else a - (a - b) * (e - w) / t)) in
+    → let at : ℕ → ℕ = λ e. (if nat_le (w + t) e then b
+    else (if nat_le e w then a else a - (a - b) * (e - w) / t)) in
     (b ≤ at y) × (at y ≤ at x)
 falling a b w t x y le_b le =
     let more = share_mono (a - b) (x - w) (y - w) t (omega arith) in
@@ -42,17 +45,22 @@ falling a b w t x y le_b le =
     (grind (arith, nat_tests), grind (arith, nat_tests))
 
 -- as time passes, a channel goes towards b
-pub split_fade_towards : (a b : ℕ) (up down : Rate) (x y : ℕ) → x ≤ y → IsTowards (split_fade a b up down x) b (split_fade a b up down y)
+pub split_fade_towards : (a b : ℕ) (up down : Rate) (x y : ℕ) → x ≤ y
+    → IsTowards (split_fade a b up down x) b (split_fade a b up down y)
 unfolding split_fade
 split_fade_towards a b up down x y le = go (nat_lt a b) refl where
-  go : (r : Bool) → nat_lt a b ≡ r → IsTowards (split_fade a b up down x) b (split_fade a b up down y)
+  go : (r : Bool) → nat_lt a b ≡ r
+      → IsTowards (split_fade a b up down x) b (split_fade a b up down y)
   go true is = rw is (inl (rising a b up.delay up.time x y (grind (arith, nat_tests)) le))
   go false is = rw is (inr (falling a b down.delay down.time x y (grind (arith, nat_tests)) le))
 
-pub level_after_towards : (starts : List Start) (channel x y : ℕ) → x ≤ y → IsTowards (level_after starts channel x) (target_after starts channel) (level_after starts channel y)
+pub level_after_towards : (starts : List Start) (channel x y : ℕ) → x ≤ y
+    → IsTowards (level_after starts channel x) (target_after starts channel)
+    (level_after starts channel y)
 level_after_towards [] channel x y le = inl (omega arith, omega arith)
 level_after_towards (s ∷ older) channel x y le =
-    split_fade_towards (level_after older channel s.moment) (255 * byte_of s.look channel) s.up s.down (x - s.moment) (y - s.moment) (omega arith)
+    split_fade_towards (level_after older channel s.moment) (255 * byte_of s.look channel)
+    s.up s.down (x - s.moment) (y - s.moment) (omega arith)
 
 stay : (p q : Bool) (b w t e : ℕ)
     → (if p then b else (if q then b else b - (b - b) * (e - w) / t)) ≡ b
@@ -67,36 +75,23 @@ split_fade_still b up down e =
     let is : nat_lt b b ≡ false = grind (arith, nat_tests) in
     rw is (stay (nat_le (down.delay + down.time) e) (nat_le e down.delay) b down.delay down.time e)
 
-first : (p : Bool) (a b x : ℕ) → ((if p then b else a) ≡ a) ⊎ ((if p then b else a) ≡ b)
-first true a b x = inr refl
-first false a b x = inl refl
+falls_below : (p q : Bool) (a b x top : ℕ) → a ≤ top → b ≤ top
+    → (if p then b else (if q then a else a - x)) ≤ top
+falls_below true q a b x top le_a le_b = le_b
+falls_below false true a b x top le_a le_b = le_a
+falls_below false false a b x top le_a le_b = omega arith
 
--- at its start it is where it comes from, or already where it goes
-split_fade_first : (a b : ℕ) (up down : Rate)
-    → (split_fade a b up down 0 ≡ a) ⊎ (split_fade a b up down 0 ≡ b)
-unfolding split_fade
-split_fade_first a b up down = go (nat_lt a b) refl where
-  go : (r : Bool) → nat_lt a b ≡ r
-      → (split_fade a b up down 0 ≡ a) ⊎ (split_fade a b up down 0 ≡ b)
-  go true is =
-      let none : nat_le 0 up.delay ≡ true = grind (arith, nat_tests) in
-      rw (is, none) (first (nat_le (up.delay + up.time) 0) a b 0)
-  go false is =
-      let none : nat_le 0 down.delay ≡ true = grind (arith, nat_tests) in
-      rw (is, none) (first (nat_le (down.delay + down.time) 0) a b 0)
-
-between : (s x y b top : ℕ) → ((s ≡ x) ⊎ (s ≡ b)) → x ≤ top → b ≤ top → IsTowards s b y → y ≤ top
-between s x y b top (inl e) le_x le_b (inl (p, q)) = omega arith
-between s x y b top (inl e) le_x le_b (inr (p, q)) = omega arith
-between s x y b top (inr e) le_x le_b (inl (p, q)) = omega arith
-between s x y b top (inr e) le_x le_b (inr (p, q)) = omega arith
-
--- and it stays in the range of both
+-- a level stays in the range of both ends
 pub split_fade_full : (a b top : ℕ) (up down : Rate) (e : ℕ) → a ≤ top → b ≤ top
     → split_fade a b up down e ≤ top
-split_fade_full a b top up down e le_a le_b =
-    between (split_fade a b up down 0) a (split_fade a b up down e) b top
-    (split_fade_first a b up down) le_a le_b (split_fade_towards a b up down 0 e (omega arith))
+unfolding split_fade
+split_fade_full a b top up down e le_a le_b = go (nat_lt a b) refl where
+  go : (r : Bool) → nat_lt a b ≡ r → split_fade a b up down e ≤ top
+  go true is =
+      let lt : a < b = grind (arith, nat_tests) in
+      rw is (omega (arith, (rising a b up.delay up.time e e lt (omega arith)).1))
+  go false is = rw is (falls_below (nat_le (down.delay + down.time) e) (nat_le e down.delay) a b
+      ((a - b) * (e - down.delay) / down.time) top le_a le_b)
 
 -- once both rates are over it is there
 pub split_fade_over : (a b : ℕ) (up down : Rate) (e : ℕ)
@@ -105,7 +100,8 @@ unfolding split_fade
 split_fade_over a b up down e up_over down_over = go (nat_lt a b) refl where
   go : (r : Bool) → nat_lt a b ≡ r → split_fade a b up down e ≡ b
   go true is =
-      let over : nat_le (up.delay + up.time) e ≡ true = grind (arith, nat_tests) in rw (is, over) refl
+      let over : nat_le (up.delay + up.time) e ≡ true = grind (arith, nat_tests) in
+      rw (is, over) refl
   go false is =
       let over : nat_le (down.delay + down.time) e ≡ true = grind (arith, nat_tests) in
       rw (is, over) refl

@@ -9,15 +9,30 @@ over time = record { time = time; delay = 0 }
 
 -- channel 1 to full over five seconds
 abbrev first_cue : ℕ → Start
-first_cue moment = record { look = (1, 255) ∷ []; up = over 5000; down = over 5000; moment = moment }
+first_cue moment = record {
+  look = (1, 255) ∷ [];
+  up = over 5000;
+  down = over 5000;
+  moment = moment;
+}
 
 -- channel 2 to full over two seconds, and channel 1 out over four
 abbrev second_cue : ℕ → Start
-second_cue moment = record { look = (2, 255) ∷ []; up = over 2000; down = over 4000; moment = moment }
+second_cue moment = record {
+  look = (2, 255) ∷ [];
+  up = over 2000;
+  down = over 4000;
+  moment = moment;
+}
 
 -- a channel to full over two seconds, one second later
 abbrev delayed : Start
-delayed = record { look = (1, 255) ∷ []; up = record { time = 2000; delay = 1000 }; down = over 0; moment = 0 }
+delayed = record {
+  look = (1, 255) ∷ [];
+  up = record { time = 2000; delay = 1000 };
+  down = over 0;
+  moment = 0;
+}
 
 -- a channel to full in the longest time
 abbrev slowest : Start
@@ -51,11 +66,13 @@ split_crossfade-2 : level_after (second_cue 10000 ∷ first_cue 0 ∷ []) 2 1100
 unfolding split_fade
 split_crossfade-2 = refl
 
-goto_mid_fade : level_after (first_cue 11000 ∷ second_cue 10000 ∷ first_cue 0 ∷ []) 1 12000 ≡ 52020
+goto_mid_fade :
+    level_after (first_cue 11000 ∷ second_cue 10000 ∷ first_cue 0 ∷ []) 1 12000 ≡ 52020
 unfolding split_fade
 goto_mid_fade = refl
 
-goto_mid_fade-2 : level_after (first_cue 11000 ∷ second_cue 10000 ∷ first_cue 0 ∷ []) 2 12000 ≡ 26010
+goto_mid_fade-2 :
+    level_after (first_cue 11000 ∷ second_cue 10000 ∷ first_cue 0 ∷ []) 2 12000 ≡ 26010
 unfolding split_fade
 goto_mid_fade-2 = refl
 
@@ -91,6 +108,9 @@ slow_fade_exact-5999990 : level_after (slowest ∷ []) 1 5999990 ≡ 65025
 unfolding split_fade
 slow_fade_exact-5999990 = refl
 
-zero_times : level_after (record { look = (1, 255) ∷ []; up = over 0; down = over 0; moment = 7 } ∷ []) 1 7 ≡ 65025
+abbrev at_once : Start
+at_once = record { look = (1, 255) ∷ []; up = over 0; down = over 0; moment = 7 }
+
+zero_times : level_after (at_once ∷ []) 1 7 ≡ 65025
 unfolding split_fade
 zero_times = refl

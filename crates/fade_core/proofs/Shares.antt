@@ -1,5 +1,6 @@
 -- Shares of a way: how a division makes one, and that they move channels as fades do.
-use Rattle.std.proofs.Common.{◌≡◌, ℕ, ◌+◌, ◌-◌, ◌*◌, ◌/◌, ◌%◌, ◌^◌, ◌<◌, ◌≤◌, ap, refl, arith, lit<, Bool, true, false}
+use Rattle.std.proofs.Common.{◌≡◌, ℕ, ◌+◌, ◌-◌, ◌*◌, ◌/◌, ◌%◌, ◌^◌, ◌<◌, ◌≤◌}
+use Rattle.std.proofs.Common.{ap, refl, arith, lit<, Bool, true, false}
 use Rattle.std.specs.Prelude.{nat_le, nat_lt, if◌then◌else◌}
 use Rattle.std.proofs.Math.Nat.{mul-div_left, mul-le-mul_left}
 use Rattle.std.proofs.lemmas.Nat.{le-div, div_below, div-add-mod', mod_below, mul-lt}
@@ -81,7 +82,8 @@ pub long_fraction_below : (n t : ℕ) → n < t → t < 2 ^ 32
     → n * 2 ^ 32 / t * 2 ^ 16 + n * 2 ^ 32 % t * 2 ^ 16 / t + 1 < 2 ^ 48
 long_fraction_below n t lt long =
     let f : ℕ = n * 2 ^ 32 / t * 2 ^ 16 + n * 2 ^ 32 % t * 2 ^ 16 / t + 1 in
-    let range : (n * 2 ^ 48 < f * t) × (f * t ≤ n * 2 ^ 48 + t) = long_fraction_range n t (omega arith) in
+    let range : (n * 2 ^ 48 < f * t) × (f * t ≤ n * 2 ^ 48 + t) =
+    long_fraction_range n t (omega arith) in
     let most : (n + 1) * 2 ^ 48 ≤ t * 2 ^ 48 = omega arith in
     cancelled_lt f (2 ^ 48) t (omega arith) (omega arith)
 
@@ -109,12 +111,14 @@ moved_split_fade a b up down elapsed rising falling small_a small_b is_up is_dow
           → moved a b rising falling ≡ split_fade a b up down elapsed
       go true is =
           let lt : a < b = grind (arith, nat_tests) in
-          rw (is, is_up.exact (b - a) (omega arith)) (rises (nat_le (up.delay + up.time) elapsed)
-          (nat_le elapsed up.delay) a b ((b - a) * (elapsed - up.delay) / up.time) lt)
+          rw (is, is_up.exact (b - a) (omega arith))
+          (rises (nat_le (up.delay + up.time) elapsed) (nat_le elapsed up.delay) a b
+          ((b - a) * (elapsed - up.delay) / up.time) lt)
       go false is =
           let le : b ≤ a = grind (arith, nat_tests) in
-          rw (is, is_down.exact (a - b) (omega arith)) (falls (nat_le (down.delay + down.time) elapsed)
-          (nat_le elapsed down.delay) a b ((a - b) * (elapsed - down.delay) / down.time) le)
+          rw (is, is_down.exact (a - b) (omega arith))
+          (falls (nat_le (down.delay + down.time) elapsed) (nat_le elapsed down.delay) a b
+          ((a - b) * (elapsed - down.delay) / down.time) le)
 
 -- a channel that is where it goes stays there
 pub moved_still : (b rising falling : ℕ) → moved b b rising falling ≡ b

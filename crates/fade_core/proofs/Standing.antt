@@ -1,13 +1,13 @@
 -- What a step fader keeps besides, and what follows.
-use Rattle.std.proofs.Common.{◌≡◌, ℕ, ◌-◌, ◌^◌, ◌<◌, ◌≤◌, List, sym, ◌∙◌, length, ap, arith, replicate, take}
+use Rattle.std.proofs.Common.{◌≡◌, ℕ, ◌-◌, ◌^◌, ◌<◌, ◌≤◌, List, sym, ◌∙◌}
+use Rattle.std.proofs.Common.{length, ap, arith, replicate, take}
 use Rattle.std.specs.Prelude.{slice_index, All, EachIndex, Contains}
 use Rattle.std.proofs.lemmas.Grind.{get_or_default_zero}
 use Rattle.std.proofs.lemmas.List.{get_or-replicate, length-replicate, length-take-le, get_or-take}
 use Rattle.std.proofs.lemmas.List.Elements.{All-replicate}
 use Rattle.show_core.specs.declared.rate.Rate.{Rate}
 use Rattle.fade_core.specs.Level.{split_fade}
-use Rattle.fade_core.specs.Fading.{Fading, level_at}
-use Rattle.fade_core.specs.Plain.{IsFading}
+use Rattle.fade_core.specs.Fading.{Fading, IsFading, level_at}
 use Rattle.fade_core.specs.Stepping.{Stands, AreChannels, IsUnlisted}
 use Rattle.fade_core.proofs.Fade.{split_fade_still, split_fade_full, split_fade_zeros}
 
@@ -15,20 +15,20 @@ use Rattle.fade_core.proofs.Fade.{split_fade_still, split_fade_full, split_fade_
 pub stands_full : (f : Fading) (levels moving : List ℕ) (count : ℕ) → IsFading f
     → Stands f levels moving count → All (λ level. level ≤ 65025) levels
 stands_full f levels moving count fading s = λ k d lt.
-    let from_in : slice_index f.from k ≤ 65025 = fading.from_full k 0 (omega (arith, s.levels_length)) in
-    let to_in : slice_index f.to k ≤ 65025 = fading.to_full k 0 (omega (arith, s.levels_length, fading.same_length)) in
-    omega (
-      arith,
-      get_or_default_zero levels k d lt,
-      s.levels_are k (omega (arith, s.levels_length)),
-      split_fade_full (slice_index f.from k) (slice_index f.to k) 65025 f.up f.down (f.now - f.began) from_in to_in,
-    )
+    let within : k < length f.from = omega (arith, s.levels_length) in
+    let from_in : slice_index f.from k ≤ 65025 = fading.from_full k 0 within in
+    let to_in : slice_index f.to k ≤ 65025 =
+    fading.to_full k 0 (omega (arith, fading.same_length)) in
+    let full = split_fade_full (slice_index f.from k) (slice_index f.to k) 65025 f.up f.down
+    (f.now - f.began) from_in to_in in
+    omega (arith, get_or_default_zero levels k d lt, s.levels_are k within, full)
 
 -- all channels at 0
 pub fading_new : (f : Fading) (n : ℕ) → f.from ≡ replicate n 0 → f.to ≡ replicate n 0
     → n < 2 ^ 16 → f.began ≤ f.now → IsFading f
 fading_new f n from to few in_order =
-    let full : All (λ level. level ≤ 65025) (replicate n 0) = All-replicate (λ level. level ≤ 65025) n 0 (omega arith) in
+    let full : All (λ level. level ≤ 65025) (replicate n 0) =
+    All-replicate (λ level. level ≤ 65025) n 0 (omega arith) in
     record {
       same_length = ap length to ∙ sym (ap length from);
       few = omega (arith, ap length from, length-replicate {A = ℕ} n 0);

@@ -1,9 +1,9 @@
 -- What a fader keeps.
-use Rattle.std.specs.Prelude.{◌≡◌, ℕ, ◌-◌, ◌≤◌, List, length, slice_index}
+use Rattle.std.specs.Prelude.{◌≡◌, ℕ, ◌-◌, ◌^◌, ◌<◌, ◌≤◌, List, All, length, slice_index}
 use Rattle.show_core.specs.declared.rate.Rate.{Rate}
 use Rattle.fade_core.specs.Level.{Start, level_after, split_fade}
 
--- each channel's level at the last start and the level that it goes to, the rates, when it started,
+-- each channel's level at the last start and the one that it goes to, the rates, when it started,
 -- and the latest moment
 pub record Fading : Type 0 where
   pub from : List ℕ
@@ -22,3 +22,11 @@ level_at f place moment =
 abbrev pub Shows : Fading → List Start → Type 0
 Shows f starts = (channel moment : ℕ) → 1 ≤ channel → channel ≤ length f.from → f.now ≤ moment
     → level_at f (channel - 1) moment ≡ level_after starts channel moment
+
+-- both lists have an entry for each channel, the levels are in their range, and the start is over
+pub record IsFading (f : Fading) : Type 0 where
+  pub same_length : length f.to ≡ length f.from
+  pub few : length f.from < 2 ^ 16
+  pub from_full : All (λ level. level ≤ 65025) f.from
+  pub to_full : All (λ level. level ≤ 65025) f.to
+  pub in_order : f.began ≤ f.now

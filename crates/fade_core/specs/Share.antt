@@ -16,7 +16,8 @@ pub record IsShareOf (rate : Rate) (elapsed share : ℕ) : Type 0 where
   pub exact : (way : ℕ) → way < 2 ^ 16 → way * share / 2 ^ 48 ≡ gone rate elapsed way
   pub over : share ≡ 2 ^ 48 → rate.delay + rate.time ≤ elapsed
 
--- the level of a channel from a to b, where the ways up have gone this share, and the others that one
+-- the level of a channel from a to b, where those that rise have gone one share of their ways, and
+-- the others another
 unfoldable pub moved : ℕ → ℕ → ℕ → ℕ → ℕ
 moved a b rising falling =
     if nat_lt a b then a + (b - a) * rising / 2 ^ 48
@@ -24,5 +25,5 @@ moved a b rising falling =
 
 -- each channel is at the level that these shares make of its way
 abbrev pub AreMoved : List ℕ → List ℕ → List ℕ → ℕ → ℕ → Type 0
-AreMoved from to levels rising falling = EachIndex levels (λ place.
-    slice_index levels place ≡ moved (slice_index from place) (slice_index to place) rising falling)
+AreMoved from to levels rising falling = EachIndex levels (λ place. slice_index levels place
+    ≡ moved (slice_index from place) (slice_index to place) rising falling)

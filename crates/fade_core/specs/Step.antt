@@ -1,7 +1,6 @@
 -- The fields of a step fader, seen as what a fader keeps.
 use Rattle.fade_core.specs.declared.step.StepFader.TheInside.{Inside}
-use Rattle.fade_core.specs.Fading.{Fading}
-use Rattle.fade_core.specs.Plain.{IsFading}
+use Rattle.fade_core.specs.Fading.{Fading, IsFading}
 use Rattle.fade_core.specs.Stepping.{Stands}
 
 -- the lists in place of the vectors

@@ -11,8 +11,8 @@ abbrev pub AreChannels : List ℕ → ℕ → ℕ → Type 0
 AreChannels moving count channels = (m : ℕ) → m < count
     → (1 ≤ slice_index moving m) × (slice_index moving m ≤ channels)
 
--- each channel's level now is at hand; the channels that are listed are channels, and each other one
--- stays where it is
+-- each channel's level now is at hand, and each channel that is not among the first so many of the
+-- list stays there
 pub record Stands (f : Fading) (levels moving : List ℕ) (count : ℕ) : Type 0 where
   pub levels_length : length levels ≡ length f.from
   pub moving_length : length moving ≡ length f.from

@@ -1,4 +1,5 @@
-ghost use Rattle.std.specs.Prelude.{◌≡◌, ◌+◌, ◌*◌, ◌/◌, ◌^◌, ◌≤◌, IsTrue, if◌then◌else◌};
+ghost use Rattle.std.specs.Prelude.{◌≡◌, ◌↔◌, ◌+◌, ◌*◌, ◌/◌, ◌^◌, ◌≤◌};
+ghost use Rattle.std.specs.Prelude.{IsTrue, if◌then◌else◌};
 
 // A share by its digits of 16 bits: LLVM multiplies eight ways at a time by a digit.
 #[derive(Clone, Copy, Debug)]
@@ -29,13 +30,12 @@ impl Digits {
 
     // Whether the lowest digit is 0, as it is with short times.
     pub fn is_coarse(&self) -> bool
-        ensures { IsTrue result → self.now.low ≡ 0 }
+        ensures { IsTrue result ↔ (self.now.low ≡ 0) }
     {
         self.low == 0
     }
 
-    // A copy, digit by digit: a plain one would be a number of 64 bits to LLVM, which then takes the
-    // channels one by one.
+    // A copy, digit by digit, so that LLVM has each in a number of its own.
     #[inline(always)]
     pub fn copied(&self) -> Self
         ensures { result ≡ self.now }
@@ -48,7 +48,7 @@ impl Digits {
         }
     }
 
-    // The same where LLVM is to know that the lowest digit is 0.
+    // The same, where LLVM is told that the lowest digit is 0 and leaves it out.
     #[inline(always)]
     pub fn copied_coarse(&self) -> Self
         requires { self.now.low ≡ 0 }

@@ -16,7 +16,8 @@ pub trait LiveFader: Fader {
 
     /// The channels that may have another level at a later moment, as long as nothing starts.
     fn moving(&self) -> &[u16]
-        ensures in_range { All (λ channel. (1 ≤ channel) × (channel ≤ Self.channels self.now)) result.now }
+        ensures in_range { All (λ channel. (1 ≤ channel) × (channel ≤ Self.channels self.now))
+            result.now }
         ensures others { (starts : List Start) (channel moment : ℕ)
             → Self.stands_for self.now starts → 1 ≤ channel → channel ≤ Self.channels self.now
             → ¬ Contains result.now channel → Self.latest self.now ≤ moment

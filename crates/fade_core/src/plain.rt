@@ -20,11 +20,11 @@ pub struct PlainFader {
 }
 
 impl Model for PlainFader {
-    ghost use Rattle.fade_core.specs.Fading.{Fading};
+    ghost use Rattle.fade_core.specs.Fading.{Fading, IsFading};
 
     ghost Value = { Fading };
 
-    ghost use Rattle.fade_core.specs.Plain.{fading_view, IsFading};
+    ghost use Rattle.fade_core.specs.Plain.{fading_view};
 
     ghost view = { fading_view };
 

@@ -12,8 +12,8 @@ use crate::share::Shares;
 use crate::target::aim;
 use show_core::Rate;
 
-// Up to this many channels are taken one by one; more are quicker all together.
-const FEW: usize = 256;
+// Fewer channels are taken one by one; more are quicker all together.
+const FEW: usize = 1024;
 
 // Puts each channel at its level. Those that are not among the first `count` of the list are there.
 pub fn bring(
@@ -33,38 +33,17 @@ pub fn bring(
         (slice_index to.now place) shares.now.rising shares.now.falling }
     ensures { AreMoved from.now to.now levels.new shares.now.rising shares.now.falling }
 {
-    if count < FEW {
-        bring_few(levels, from, to, moving, count, shares);
-    } else {
+    if count >= FEW {
         bring_all(levels, from, to, shares);
+        return;
     }
-}
-
-// The same, channel by channel of the list.
-fn bring_few(
-    levels: &mut [u16],
-    from: &[u16],
-    to: &[u16],
-    moving: &[u16],
-    count: usize,
-    shares: &Shares,
-)
-    requires from { length from.now ≡ length levels.old }
-    requires to { length to.now ≡ length levels.old }
-    requires count { count ≤ length moving.now }
-    requires listed { AreChannels moving.now count (length levels.old) }
-    requires others { (place : ℕ) → place < length levels.old → IsUnlisted moving.now count place
-        → slice_index levels.old place ≡ moved (slice_index from.now place)
-        (slice_index to.now place) shares.now.rising shares.now.falling }
-    ensures { AreMoved from.now to.now levels.new shares.now.rising shares.now.falling }
-{
     for j in 0..count {
         let i = usize::from(moving[j]) - 1;
         levels[i] = shares.level(from[i], to[i]);
     }
 }
 
-// The same for every channel, whatever the levels are.
+// The same, whatever the levels are.
 fn bring_all(levels: &mut [u16], from: &[u16], to: &[u16], shares: &Shares)
     requires from { length from.now ≡ length levels.old }
     requires to { length to.now ≡ length levels.old }
@@ -79,7 +58,8 @@ fn bring_all(levels: &mut [u16], from: &[u16], to: &[u16], shares: &Shares)
     }
 }
 
-// Out of line and by reference, so that LLVM loads the digits one by one.
+// Out of line and by reference: else the digits of a share are one number to LLVM, which then takes
+// the channels one by one.
 #[inline(never)]
 fn walk_fine(levels: &mut [u16], from: &[u16], to: &[u16], rising: &Digits, falling: &Digits)
     requires from { length from.now ≡ length levels.old }

@@ -4,7 +4,8 @@ use Rattle.fade_core.proofs.share.fraction.Goals as goal
 
 pub returns-then-time-clause-exact : goal.returns-then-time-clause-exact
 returns-then-time-clause-exact c = λ way small.
-    short_fraction way c.args.part c.args.time (omega (arith, c.requires.part)) c.if-time.true small
+    short_fraction way c.args.part c.args.time (omega (arith, c.requires.part))
+    c.if-time.true small
 
 pub returns-else-time-clause-range : goal.returns-else-time-clause-range
 returns-else-time-clause-range c =
@@ -12,4 +13,5 @@ returns-else-time-clause-range c =
 
 pub returns-else-time-clause-exact : goal.returns-else-time-clause-exact
 returns-else-time-clause-exact c = λ way small.
-    long_fraction way c.args.part c.args.time (omega (arith, c.requires.part)) c.requires.time small
+    long_fraction way c.args.part c.args.time (omega (arith, c.requires.part))
+    c.requires.time small

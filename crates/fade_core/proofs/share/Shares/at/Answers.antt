@@ -20,5 +20,6 @@ returns c =
       moved = λ a b small_a small_b.
           moved_split_fade a b up down elapsed _ _ small_a small_b rising falling;
       over = λ up_is down_is a b later le.
-          split_fade_over a b up down later (omega (arith, rising.over up_is)) (omega (arith, falling.over down_is));
+          split_fade_over a b up down later (omega (arith, rising.over up_is))
+          (omega (arith, falling.over down_is));
     }

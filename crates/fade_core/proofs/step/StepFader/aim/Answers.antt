@@ -12,21 +12,25 @@ written v given new is size = with_items_is v new (omega (arith, size, ap length
 
 pub invariant_of-self : goal.invariant_of-self
 invariant_of-self c =
-    let r = c.restart-self-inside in
     let old = c.self.inside in
+    let r = c.restart-self-inside in
+    let from_is = c.deref_mut.ensures.value in
+    let to_is = c.deref_mut-2.ensures.value in
+    let levels_are = c.deref_mut-3.ensures.value in
+    let moving_is = c.deref_mut-4.ensures.value in
+    let from : _ ≡ r.new.from = written old.from _ _ from_is r.auto.from in
+    let to : _ ≡ r.new.to = written old.to _ _ to_is r.auto.to in
+    let levels : _ ≡ r.new.levels = written old.levels _ _ levels_are r.auto.levels in
+    let moving : _ ≡ r.new.moving = written old.moving _ _ moving_is r.auto.moving in
+    let from_size = r.auto.from ∙ ap length from_is in
+    let to_size = r.auto.to ∙ ap length to_is in
+    let levels_size = r.auto.levels ∙ ap length levels_are in
+    let moving_size = r.auto.moving ∙ ap length moving_is in
+    let given : length c.deref_mut.result.now ≡ length r.new.from = omega (arith, r.auto.from) in
     let fading = c.self.invariant.fading in
     let stands = c.self.invariant.stands in
-    let from : _ ≡ r.new.from = written old.from _ _ c.deref_mut.ensures.value r.auto.from in
-    let to : _ ≡ r.new.to = written old.to _ _ c.deref_mut-2.ensures.value r.auto.to in
-    let levels : _ ≡ r.new.levels = written old.levels _ _ c.deref_mut-3.ensures.value r.auto.levels in
-    let moving : _ ≡ r.new.moving = written old.moving _ _ c.deref_mut-4.ensures.value r.auto.moving in
-    let from_size = r.auto.from ∙ ap length c.deref_mut.ensures.value in
-    let to_size = r.auto.to ∙ ap length c.deref_mut-2.ensures.value in
-    let levels_size = r.auto.levels ∙ ap length c.deref_mut-3.ensures.value in
-    let moving_size = r.auto.moving ∙ ap length c.deref_mut-4.ensures.value in
-    let given : length c.deref_mut.result.now ≡ length r.new.from = omega (arith, r.auto.from) in
     let full : All (λ level. level ≤ 65025) r.new.from =
-    rw (r.ensures.from, c.deref_mut-3.ensures.value) (stands_full _ _ _ _ fading stands) in
+    rw (r.ensures.from, levels_are) (stands_full _ _ _ _ fading stands) in
     record {
       fading = record {
         same_length = rw (from, to) (omega (arith, from_size, to_size, fading.same_length));

@@ -1,6 +1,6 @@
 use Rattle.std.proofs.Common.{◌≡◌, ◌≢◌, ℕ, ◌+◌, ◌<◌, ◌≤◌, get_or, length}
 use Rattle.fade_core.specs.Share.{moved}
-use Rattle.fade_core.proofs.walk.bring_few.Given as goal
+use Rattle.fade_core.proofs.walk.bring.Given as goal
 
 -- the channels that are not listed from j on are moved
 abbrev pub invariant-loop-j : goal.invariant-loop-j
