@@ -1,4 +1,4 @@
--- What a step fader keeps besides, and what follows.
+-- What a fader keeps besides, at first and as a fade starts, and what follows.
 use Rattle.std.proofs.Common.{◌≡◌, ℕ, ◌-◌, ◌^◌, ◌<◌, ◌≤◌, List, sym, ◌∙◌}
 use Rattle.std.proofs.Common.{length, ap, arith, replicate, take}
 use Rattle.std.specs.Prelude.{slice_index, All, EachIndex, Contains}
@@ -20,12 +20,12 @@ stands_full f levels moving count fading s = λ k d lt.
     let to_in : slice_index f.to k ≤ 65025 =
     fading.to_full k 0 (omega (arith, fading.same_length)) in
     let full = split_fade_full (slice_index f.from k) (slice_index f.to k) 65025 f.up f.down
-    (f.now - f.began) from_in to_in in
+    (f.latest - f.began) from_in to_in in
     omega (arith, get_or_default_zero levels k d lt, s.levels_are k within, full)
 
 -- all channels at 0
 pub fading_new : (f : Fading) (n : ℕ) → f.from ≡ replicate n 0 → f.to ≡ replicate n 0
-    → n < 2 ^ 16 → f.began ≤ f.now → IsFading f
+    → n < 2 ^ 16 → f.began ≤ f.latest → IsFading f
 fading_new f n from to few in_order =
     let full : All (λ level. level ≤ 65025) (replicate n 0) =
     All-replicate (λ level. level ≤ 65025) n 0 (omega arith) in
@@ -51,8 +51,8 @@ stands_new f levels moving n from to are none =
       count_in = omega arith;
       listed = λ m lt. absurd (omega arith);
       levels_are = λ place lt.
-          rw are (get_or-replicate {A = ℕ} n place 0 0 (omega arith)) ∙ sym (dark place f.now lt);
-      others_stay = λ place lt unlisted moment le. dark place moment lt ∙ sym (dark place f.now lt);
+          rw are (get_or-replicate {A = ℕ} n place 0 0 (omega arith)) ∙ sym (dark place f.latest lt);
+      others_stay = λ place lt unlisted moment le. dark place moment lt ∙ sym (dark place f.latest lt);
     }
 
 still : (a b : ℕ) (up down : Rate) (e later : ℕ) → a ≡ b
@@ -61,7 +61,7 @@ still a b up down e later is =
     rw is (split_fade_still b up down later ∙ sym (split_fade_still b up down e))
 
 -- as a fade starts
-pub stands_started : (f : Fading) (levels moving : List ℕ) (count : ℕ) → f.began ≡ f.now
+pub stands_started : (f : Fading) (levels moving : List ℕ) (count : ℕ) → f.began ≡ f.latest
     → length levels ≡ length f.from → length moving ≡ length f.from → count ≤ length f.from
     → AreChannels moving count (length f.from)
     → EachIndex levels (λ place. slice_index levels place
@@ -70,7 +70,7 @@ pub stands_started : (f : Fading) (levels moving : List ℕ) (count : ℕ) → f
     → slice_index f.from place ≡ slice_index f.to place)
     → Stands f levels moving count
 stands_started f levels moving count begins size room count_in listed are others =
-    let none : f.now - f.began ≡ 0 = omega arith in
+    let none : f.latest - f.began ≡ 0 = omega arith in
     record {
       levels_length = size;
       moving_length = room;
@@ -79,7 +79,7 @@ stands_started f levels moving count begins size room count_in listed are others
       levels_are = λ place lt. rw none (are place (omega arith));
       others_stay = λ place lt unlisted moment le.
           still (slice_index f.from place) (slice_index f.to place) f.up f.down
-          (f.now - f.began) (moment - f.began) (others place lt unlisted);
+          (f.latest - f.began) (moment - f.began) (others place lt unlisted);
     }
 
 -- a channel that the front of a list does not have is not listed

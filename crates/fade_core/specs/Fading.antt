@@ -11,7 +11,7 @@ pub record Fading : Type 0 where
   pub up : Rate
   pub down : Rate
   pub began : ℕ
-  pub now : ℕ
+  pub latest : ℕ
 
 -- the level of the channel at a place of these lists, at a moment, where nothing else starts
 abbrev pub level_at : Fading → ℕ → ℕ → ℕ
@@ -20,7 +20,7 @@ level_at f place moment =
 
 -- from now on, each channel is at what these starts make
 abbrev pub Shows : Fading → List Start → Type 0
-Shows f starts = (channel moment : ℕ) → 1 ≤ channel → channel ≤ length f.from → f.now ≤ moment
+Shows f starts = (channel moment : ℕ) → 1 ≤ channel → channel ≤ length f.from → f.latest ≤ moment
     → level_at f (channel - 1) moment ≡ level_after starts channel moment
 
 -- both lists have an entry for each channel, the levels are in their range, and the start is over
@@ -29,4 +29,4 @@ pub record IsFading (f : Fading) : Type 0 where
   pub few : length f.from < 2 ^ 16
   pub from_full : All (λ level. level ≤ 65025) f.from
   pub to_full : All (λ level. level ≤ 65025) f.to
-  pub in_order : f.began ≤ f.now
+  pub in_order : f.began ≤ f.latest

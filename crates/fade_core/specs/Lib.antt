@@ -1,8 +1,7 @@
 pub mod Level
 pub mod Laws
 pub mod Fading
-pub mod Plain
 pub mod Share
 pub mod Digits
 pub mod Stepping
-pub mod Step
+pub mod Course

@@ -1,4 +1,4 @@
--- What a step fader keeps besides.
+-- What a fader keeps besides.
 use Rattle.std.specs.Prelude.{◌≡◌, ◌≢◌, ℕ, ◌+◌, ◌<◌, ◌≤◌, List, length, slice_index}
 use Rattle.fade_core.specs.Fading.{Fading, level_at}
 
@@ -19,6 +19,6 @@ pub record Stands (f : Fading) (levels moving : List ℕ) (count : ℕ) : Type 0
   pub count_in : count ≤ length f.from
   pub listed : AreChannels moving count (length f.from)
   pub levels_are : (place : ℕ) → place < length f.from
-      → slice_index levels place ≡ level_at f place f.now
+      → slice_index levels place ≡ level_at f place f.latest
   pub others_stay : (place : ℕ) → place < length f.from → IsUnlisted moving count place
-      → (moment : ℕ) → f.now ≤ moment → level_at f place moment ≡ level_at f place f.now
+      → (moment : ℕ) → f.latest ≤ moment → level_at f place moment ≡ level_at f place f.latest

@@ -105,8 +105,8 @@ fn pick(first: bool, a: u16, b: u16) -> u16
     if first { a } else { b }
 }
 
-// One digit of a product, with what the digit below it carries. Its halves stay numbers of 16 bits,
-// of which LLVM multiplies eight at a time.
+// One digit of a product, with what the digit below it carries. Its halves stay in 16 bits, so that
+// LLVM multiplies eight at a time.
 #[inline(always)]
 fn carried(way: u16, digit: u16, below: u16) -> u16
     ensures { result ≡ (way * digit + below) / 2 ^ 16 }

@@ -1,7 +1,9 @@
 //! Faders: what the level of each channel is, as cues start and time passes.
 #![tactic(auto)]
 
+mod course;
 mod digits;
+mod divide;
 mod fader;
 pub mod laws;
 mod live;

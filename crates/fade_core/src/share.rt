@@ -79,8 +79,8 @@ fn share_of(rate: Rate, elapsed: u64) -> u64
     }
 }
 
-// A part of a time, rounded up so that a way of 16 bits scales by it exactly. With a short time the
-// last 16 binary places are 0.
+// A part of a time, rounded up so that a way of 16 bits scales by it exactly. One division does for
+// a time below 2^16, and leaves the last 16 binary places 0.
 fn fraction(part: u64, time: u64) -> u64
     requires part { part < time }
     requires time { time < 2 ^ 32 }

@@ -8,7 +8,8 @@ ghost use Rattle.fade_core.specs.Level.{byte_of};
 pub fn aim(to: &mut [u16], look: &[(u16, u8)])
     requires ascending { IsTrue (is_sorted nat_cmp look.now) }
     requires in_range { All (λ pair. (1 ≤ pair.0) × (pair.0 ≤ length to.old)) look.now }
-    ensures levels { EachIndex to.new (λ k. slice_index to.new k ≡ 255 * byte_of look.now (k + 1)) }
+    ensures levels { EachIndex to.new (λ place.
+        slice_index to.new place ≡ 255 * byte_of look.now (place + 1)) }
     ensures full { All (λ level. level ≤ 65025) to.new }
 {
     for level in to.iter_mut() {

@@ -5,7 +5,6 @@ ghost use Rattle.show_core.specs.Readers.{IsRateInRange};
 
 use crate::{Fader, LiveFader, PlainFader, Rate, StepFader};
 use std::alloc::{AllocError, Global};
-use std::process::Abort;
 use std::test::Fail;
 
 const AT_ONCE: Rate = Rate { time: 0, delay: 0 };
@@ -183,9 +182,12 @@ fn slow_fade_exact(rt: HostRuntime) -> Result<(), Fail> {
     Ok(())
 }
 
-// The channels that a step fader lists are those on their way, until they have arrived.
+// The channels that are listed are those on their way, with a step fader until they have arrived.
 #[test]
 fn moving_channels(rt: HostRuntime) -> Result<(), Fail> {
+    let mut plain = PlainFader::new(rt.alloc(), 4)?;
+    plain.start(&[(1, 0), (2, 255), (4, 1)], over(1000), AT_ONCE, 0);
+    assert_eq!(rt; plain.moving(), [2, 4].as_slice());
     let mut fader = StepFader::new(rt.alloc(), 4)?;
     assert_eq!(rt; fader.moving().len(), 0);
     fader.start(&[(1, 0), (2, 255), (4, 1)], over(1000), AT_ONCE, 0);
@@ -241,19 +243,6 @@ impl Random {
     }
 }
 
-fn assert_same<F: Fader, G: Fader>(rt: &impl Abort, plain: &F, step: &G, moment: u64)
-    requires plain { F.channels plain.now ≡ 1500 }
-    requires step { G.channels step.now ≡ 1500 }
-{
-    for channel in 1..=1500 {
-        assert_eq!(rt;
-            plain.level(channel),
-            step.level(channel),
-            "{channel} at {moment}"
-        );
-    }
-}
-
 // Both faders are at the same levels after any starts and moments, with few channels that move and
 // with many.
 #[test]
@@ -275,15 +264,15 @@ fn same_levels(rt: HostRuntime) -> Result<(), Fail> {
             plain.advance(moment);
             step.advance(moment);
         }
-        assert_same(&rt, &plain, &step, moment);
+        assert_eq!(rt; plain.levels(), step.levels(), "at {moment}");
     }
     Ok(())
 }
 
-// `rt try --test --fail-alloc N` refuses the Nth growth: N from 1 to 2 refuses each growth of `new`
-// in turn, and this test passes each time. The other tests then answer their error.
+// `rt try --test --fail-alloc N` refuses the Nth growth: N from 1 to 4 refuses each growth of `new`
+// in turn, and these tests pass each time. The other tests then answer their error.
 #[test]
-fn each_growth_refused(rt: HostRuntime) {
+fn each_growth_of_plain_refused(rt: HostRuntime) {
     let fader = match PlainFader::new(rt.alloc(), 4) {
         Ok(fader) => fader,
         Err(AllocError) => PlainFader::new(rt.alloc(), 4).expect(&rt, "memory"),
@@ -291,7 +280,6 @@ fn each_growth_refused(rt: HostRuntime) {
     assert_eq!(rt; fader.level(4), 0);
 }
 
-// The same, N from 1 to 4.
 #[test]
 fn each_growth_of_step_refused(rt: HostRuntime) {
     let fader = match StepFader::new(rt.alloc(), 4) {

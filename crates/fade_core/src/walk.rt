@@ -15,7 +15,7 @@ use show_core::Rate;
 // Fewer channels are taken one by one; more are quicker all together.
 const FEW: usize = 1024;
 
-// Puts each channel at its level. Those that are not among the first `count` of the list are there.
+// Puts each channel at its level. Each that is not among the first `count` of the list is there.
 pub fn bring(
     levels: &mut [u16],
     from: &[u16],
@@ -37,9 +37,9 @@ pub fn bring(
         bring_all(levels, from, to, shares);
         return;
     }
-    for j in 0..count {
-        let i = usize::from(moving[j]) - 1;
-        levels[i] = shares.level(from[i], to[i]);
+    for index in 0..count {
+        let place = usize::from(moving[index]) - 1;
+        levels[place] = shares.level(from[place], to[place]);
     }
 }
 
@@ -58,8 +58,8 @@ fn bring_all(levels: &mut [u16], from: &[u16], to: &[u16], shares: &Shares)
     }
 }
 
-// Out of line and by reference: else the digits of a share are one number to LLVM, which then takes
-// the channels one by one.
+// Out of line and by reference: else LLVM keeps the digits of a share in one number, and takes the
+// channels one by one.
 #[inline(never)]
 fn walk_fine(levels: &mut [u16], from: &[u16], to: &[u16], rising: &Digits, falling: &Digits)
     requires from { length from.now ≡ length levels.old }
@@ -92,8 +92,8 @@ fn walk(levels: &mut [u16], from: &[u16], to: &[u16], rising: Digits, falling: D
     requires to { length to.now ≡ length levels.old }
     ensures { AreMoved from.now to.now levels.new (share_by rising) (share_by falling) }
 {
-    for i in 0..levels.len() {
-        levels[i] = Digits::level(from[i], to[i], rising, falling);
+    for place in 0..levels.len() {
+        levels[place] = Digits::level(from[place], to[place], rising, falling);
     }
 }
 
@@ -114,7 +114,8 @@ pub fn restart(
     requires levels { length levels.old ≡ length from.old }
     requires moving { length moving.old ≡ length from.old }
     ensures from { from.new ≡ levels.old }
-    ensures to { EachIndex to.new (λ k. slice_index to.new k ≡ 255 * byte_of look.now (k + 1)) }
+    ensures to { EachIndex to.new (λ place.
+        slice_index to.new place ≡ 255 * byte_of look.now (place + 1)) }
     ensures full { All (λ level. level ≤ 65025) to.new }
     ensures levels { EachIndex levels.new (λ place. slice_index levels.new place
         ≡ split_fade (slice_index from.new place) (slice_index to.new place) up down 0) }
@@ -141,9 +142,9 @@ fn list_moving(moving: &mut [u16], from: &[u16], to: &[u16]) -> usize
         → slice_index from.now place ≡ slice_index to.now place }
 {
     let mut count = 0;
-    for i in 0..from.len() {
-        if from[i] != to[i] {
-            moving[count] = i as u16 + 1;
+    for place in 0..from.len() {
+        if from[place] != to[place] {
+            moving[count] = place as u16 + 1;
             count += 1;
         }
     }

@@ -4,6 +4,6 @@ use Rattle.fade_core.specs.Share.{moved}
 use Rattle.fade_core.proofs.walk.walk.Given as goal
 
 -- the channels so far are moved
-abbrev pub invariant-loop-i : goal.invariant-loop-i
-invariant-loop-i l = (k : ℕ) → k < l.i → get_or l.levels k 0
+abbrev pub invariant-loop-place : goal.invariant-loop-place
+invariant-loop-place l = (k : ℕ) → k < l.place → get_or l.levels k 0
     ≡ moved (get_or l.from k 0) (get_or l.to k 0) (share_by l.rising) (share_by l.falling)
