@@ -50,9 +50,10 @@ stands_new f levels moving n from to are none =
       moving_length = ap length none ∙ sym (ap length from);
       count_in = omega arith;
       listed = λ m lt. absurd (omega arith);
-      levels_are = λ place lt.
-          rw are (get_or-replicate {A = ℕ} n place 0 0 (omega arith)) ∙ sym (dark place f.latest lt);
-      others_stay = λ place lt unlisted moment le. dark place moment lt ∙ sym (dark place f.latest lt);
+      levels_are = λ place lt. rw are (get_or-replicate {A = ℕ} n place 0 0 (omega arith))
+          ∙ sym (dark place f.latest lt);
+      others_stay = λ place lt unlisted moment le.
+          dark place moment lt ∙ sym (dark place f.latest lt);
     }
 
 still : (a b : ℕ) (up down : Rate) (e later : ℕ) → a ≡ b
@@ -88,4 +89,5 @@ pub unlisted_front : (moving : List ℕ) (count channel : ℕ) → count ≤ len
 unlisted_front moving count channel le from_one lacks = λ m lt same.
     let size : length (take count moving) ≡ count = length-take-le count moving le in
     let here = get_or-take {A = ℕ} count moving m channel lt in
-    lacks (m, omega arith, here ∙ omega (arith, get_or_default_zero moving m channel (omega arith)))
+    let default = get_or_default_zero moving m channel (omega arith) in
+    lacks (m, omega arith, here ∙ omega (arith, default))
