@@ -1,3 +1,6 @@
 pub mod Dimmers
 pub mod Frames
+pub mod Indexed
+pub mod Redrawn
+pub mod Drawn
 mod Rows

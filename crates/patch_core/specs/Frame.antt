@@ -1,5 +1,6 @@
 -- What a patch makes of the levels of the channels: the frames of its universes.
-use Rattle.std.specs.Prelude.{ℕ, ◌+◌, ◌-◌, ◌*◌, Bool, ◌&&◌, List, map, slice_index}
+use Rattle.std.specs.Prelude.{◌≡◌, ℕ, ◌+◌, ◌-◌, ◌*◌, ◌<◌, Bool, ◌&&◌, List, Some, map}
+use Rattle.std.specs.Prelude.{slice_get, slice_index}
 use Rattle.std.specs.List.{list_all, range_with_len}
 use Rattle.std.specs.Option.{option_map_or}
 use Rattle.std.specs.FinMap as maps
@@ -35,3 +36,8 @@ dimmer_slot patch level grand dimmer =
 abbrev pub frame_of : PatchMap → (ℕ → ℕ) → ℕ → ℕ → List ℕ
 frame_of patch level grand ordinal =
     map (dimmer_slot patch level grand) (range_with_len (512 * ordinal + 1) 512)
+
+-- the frames of the sixteen universes are those that these levels make
+abbrev pub AreDrawn : PatchMap → (ℕ → ℕ) → ℕ → List (List ℕ) → Type 0
+AreDrawn patch level grand frames = (ordinal : ℕ) → ordinal < 16
+    → slice_get frames ordinal ≡ Some (frame_of patch level grand ordinal)

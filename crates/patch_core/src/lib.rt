@@ -3,7 +3,9 @@
 
 mod fault;
 mod greatest;
+mod index;
 mod rig;
+mod slots;
 
 pub use fault::RigFault;
 pub use greatest::max_into;

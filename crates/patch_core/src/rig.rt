@@ -1,13 +1,16 @@
-ghost use Rattle.std.specs.Prelude.{◌≡◌, ◌+◌, ◌*◌, ◌<◌, ◌≤◌, ◌↔◌};
-ghost use Rattle.std.specs.Prelude.{IsTrue, IsFalse, IfOk, Err, All, length};
+ghost use Rattle.std.specs.Prelude.{◌≡◌, ℕ, ◌+◌, ◌*◌, ◌<◌, ◌≤◌, ◌↔◌};
+ghost use Rattle.std.specs.Prelude.{IsTrue, IsFalse, IfOk, Err, All, Contains, length};
 ghost use Rattle.std.specs.List.{AllWithin, list_all};
 ghost use Rattle.std.specs.Ordering.{nat_cmp};
 ghost use Rattle.std.specs.FinMap as map;
 ghost use Rattle.show_core.specs.Numbers.{is_channel};
 ghost use Rattle.patch_core.specs.Frame.{is_universe, is_base, level_in, frame_of};
+ghost use Rattle.patch_core.specs.Frame.{AreDrawn};
 ghost use Rattle.patch_core.specs.declared.fault.RigFault.TheVariants.{Universe, Memory};
 
 use crate::fault::RigFault;
+use crate::index::{begins_of, sorted_by_channel};
+use crate::slots::redraw_channels;
 use show_core::{SLOTS, Show, slot};
 use std::alloc::Global;
 use std::marker::Model;
@@ -20,6 +23,8 @@ pub const TOP_UNIVERSE: u32 = 63_999;
 pub struct Rig {
     base: u16,
     dimmers: Vec<(u16, (u16, u8))>,
+    by_channel: Vec<(u16, (u16, u8))>,
+    begins: Vec<usize>,
 }
 
 impl Model for Rig {
@@ -58,7 +63,14 @@ impl Rig {
             return Err(RigFault::Universe);
         }
         let dimmers = Vec::from_slice(alloc, show.patch())?;
-        Ok(Rig { base, dimmers })
+        let by_channel = sorted_by_channel(alloc, &dimmers)?;
+        let begins = begins_of(alloc, &by_channel)?;
+        Ok(Rig {
+            base,
+            dimmers,
+            by_channel,
+            begins,
+        })
     }
 
     /// The number of the universe of ordinal 0. Each universe with a patched dimmer has a number,
@@ -90,6 +102,32 @@ impl Rig {
             let (dimmer, (channel, byte)) = dimmers[i];
             out[usize::from(dimmer - first)] = slot(levels[usize::from(channel) - 1], grand, byte);
         }
+    }
+
+    /// Writes the slots of some channels anew, each 1 to 4096, into the frames of all ordinals. The
+    /// frames were those of levels that are equal at each other channel, at the same grand master.
+    ///
+    /// `levels` has a level for each channel, from 0 to 65025, beginning with channel 1; those of
+    /// other channels are not read.
+    pub fn redraw(&self, frames: &mut [[u8; 512]], channels: &[u16], levels: &[u32], grand: u8)
+        requires each_ordinal { length frames.old ≡ 16 }
+        requires channels { All (λ channel. IsTrue (is_channel channel)) channels.now }
+        requires each_channel { length levels.now ≡ 4096 }
+        requires full { All (λ level. level ≤ 65025) levels.now }
+        ensures { (before after : ℕ → ℕ) → AreDrawn self.now.patch before grand frames.old
+            → ((channel : ℕ) → IsTrue (is_channel channel) → ¬ Contains channels.now channel
+            → before channel ≡ after channel)
+            → All (λ channel. level_in levels.now channel ≡ after channel) channels.now
+            → AreDrawn self.now.patch after grand frames.new }
+    {
+        redraw_channels(
+            frames,
+            &self.by_channel,
+            &self.begins,
+            channels,
+            levels,
+            grand,
+        );
     }
 }
 

@@ -105,6 +105,50 @@ fn frame_half(rt: HostRuntime) -> Result<(), Fail> {
     Ok(())
 }
 
+// Puts some channels to a level, and tells whether the frames that are drawn anew for them alone are
+// those that are drawn as a whole.
+fn redraws(
+    rt: &impl Abort,
+    rig: &Rig,
+    frames: &mut [[u8; 512]],
+    levels: &mut [u32],
+    channels: &[u16],
+    level: u32,
+) -> bool {
+    for channel in channels {
+        assert!(rt; 1 <= *channel && *channel <= 4096 && levels.len() == 4096);
+        levels[usize::from(*channel) - 1] = level;
+    }
+    assert!(rt; levels.len() == 4096 && frames.len() == 16);
+    assert!(rt; levels.iter().all(|level| *level <= 65025));
+    assert!(rt; channels.iter().all(|channel| (1..=4096).contains(channel)));
+    rig.redraw(frames, channels, levels, 200);
+    for k in 0..16u16 {
+        assert!(rt; frames.len() == 16 && levels.len() == 4096);
+        let mut whole = [99; 512];
+        rig.frame(k, levels, 200, &mut whole);
+        if whole != frames[usize::from(k)] {
+            return false;
+        }
+    }
+    true
+}
+
+// Channel 7 has dimmers in two universes, channels 3 and 5 have none, and 4096 has the last one.
+#[test]
+fn redraw_of_some_channels(rt: HostRuntime) -> Result<(), Fail> {
+    let mut show = Show::new(rt.alloc());
+    patched_show(&mut show)?;
+    let rig = Rig::new(rt.alloc(), &show, 1).expect(&rt, "a rig");
+    let mut levels = vec![in rt.alloc(); 0; 4096]?;
+    let mut frames = vec![in rt.alloc(); [0; 512]; 16]?;
+    assert!(rt; redraws(&rt, &rig, &mut frames, &mut levels, &[7, 3, 7], 65025));
+    assert!(rt; redraws(&rt, &rig, &mut frames, &mut levels, &[4096, 1, 2], 255));
+    assert!(rt; redraws(&rt, &rig, &mut frames, &mut levels, &[7, 4096, 5], 32640));
+    assert!(rt; redraws(&rt, &rig, &mut frames, &mut levels, &[], 0));
+    Ok(())
+}
+
 fn fault_of(alloc: Global, show: &Show, base: u16) -> Option<RigFault> {
     match Rig::new(alloc, show, base) {
         Ok(_) => None,
@@ -137,7 +181,7 @@ fn universe_limit(rt: HostRuntime) -> Result<(), Fail> {
     Ok(())
 }
 
-// `rt try --test --fail-alloc N` refuses the Nth growth: N of 1 and 2 refuses each growth of this
+// `rt try --test --fail-alloc N` refuses the Nth growth: N from 1 to 4 refuses each growth of this
 // test in turn, and it passes each time. The other tests then answer their error.
 #[test]
 fn each_growth_refused(rt: HostRuntime) {
