@@ -1,4 +1,5 @@
-ghost use Rattle.std.specs.Prelude.{◌≡◌, ℕ, ◌^◌, ◌<◌, ◌≤◌, IsTrue, List, [], ◌∷◌, All, IfOk};
+ghost use Rattle.std.specs.Prelude.{◌≡◌, ℕ, ◌-◌, ◌^◌, ◌<◌, ◌≤◌, IsTrue, List, [], ◌∷◌, All};
+ghost use Rattle.std.specs.Prelude.{Contains, IfOk, IfSome, length, slice_index};
 ghost use Rattle.std.specs.Ordering.{nat_cmp};
 ghost use Rattle.std.specs.FinMap.{is_sorted};
 ghost use Rattle.show_core.specs.Readers.{IsRateInRange};
@@ -78,4 +79,31 @@ pub trait Fader: Drop {
         ensures level { (starts : List Start) → stands_for self.now starts
             → result ≡ level_after starts channel (latest self.now) }
         ensures full { result ≤ 65025 };
+
+    /// The level of each channel at the latest moment given, channel 1 first, where the fader has
+    /// them at hand.
+    fn levels(&self) -> Option<&[u16]>
+        ensures each_channel { IfSome result (λ levels.
+            length levels.now ≡ channels self.now) }
+        ensures levels { IfSome result (λ levels. (starts : List Start) (channel : ℕ)
+            → stands_for self.now starts → 1 ≤ channel → channel ≤ channels self.now
+            → slice_index levels.now (channel - 1)
+            ≡ level_after starts channel (latest self.now)) }
+        ensures full { IfSome result (λ levels. All (λ level. level ≤ 65025) levels.now) }
+    {
+        None
+    }
+
+    /// The channels that may have another level at a later moment, as long as nothing starts, where
+    /// the fader lists them. Where it does not, each may.
+    fn moving(&self) -> Option<&[u16]>
+        ensures in_range { IfSome result (λ moving.
+            All (λ channel. (1 ≤ channel) × (channel ≤ channels self.now)) moving.now) }
+        ensures others { IfSome result (λ moving. (starts : List Start) (channel moment : ℕ)
+            → stands_for self.now starts → 1 ≤ channel → channel ≤ channels self.now
+            → ¬ Contains moving.now channel → latest self.now ≤ moment
+            → level_after starts channel moment ≡ level_after starts channel (latest self.now)) }
+    {
+        None
+    }
 }

@@ -6,7 +6,6 @@ mod digits;
 mod divide;
 mod fader;
 pub mod laws;
-mod live;
 mod plain;
 mod share;
 mod step;
@@ -14,7 +13,6 @@ mod target;
 mod walk;
 
 pub use fader::Fader;
-pub use live::LiveFader;
 pub use plain::PlainFader;
 pub use show_core::Rate;
 pub use step::StepFader;

@@ -1,6 +1,5 @@
 use crate::course::Course;
 use crate::fader::Fader;
-use crate::live::LiveFader;
 use show_core::Rate;
 use std::alloc::{AllocError, Global};
 use std::marker::Model;
@@ -47,14 +46,12 @@ impl Fader for PlainFader {
     fn level(&self, channel: u16) -> u32 {
         self.course.level(channel)
     }
-}
 
-impl LiveFader for PlainFader {
-    fn levels(&self) -> &[u16] {
-        self.course.levels()
+    fn levels(&self) -> Option<&[u16]> {
+        Some(self.course.levels())
     }
 
-    fn moving(&self) -> &[u16] {
-        self.course.moving()
+    fn moving(&self) -> Option<&[u16]> {
+        Some(self.course.moving())
     }
 }

@@ -3,7 +3,7 @@ ghost use Rattle.std.specs.Ordering.{nat_cmp};
 ghost use Rattle.std.specs.FinMap.{is_sorted};
 ghost use Rattle.show_core.specs.Readers.{IsRateInRange};
 
-use crate::{Fader, LiveFader, PlainFader, Rate, StepFader};
+use crate::{Fader, PlainFader, Rate, StepFader};
 use std::alloc::{AllocError, Global};
 use std::test::Fail;
 
@@ -187,17 +187,17 @@ fn slow_fade_exact(rt: HostRuntime) -> Result<(), Fail> {
 fn moving_channels(rt: HostRuntime) -> Result<(), Fail> {
     let mut plain = PlainFader::new(rt.alloc(), 4)?;
     plain.start(&[(1, 0), (2, 255), (4, 1)], over(1000), AT_ONCE, 0);
-    assert_eq!(rt; plain.moving(), [2, 4].as_slice());
+    assert_eq!(rt; plain.moving().unwrap(), [2, 4].as_slice());
     let mut fader = StepFader::new(rt.alloc(), 4)?;
-    assert_eq!(rt; fader.moving().len(), 0);
+    assert_eq!(rt; fader.moving().unwrap().len(), 0);
     fader.start(&[(1, 0), (2, 255), (4, 1)], over(1000), AT_ONCE, 0);
-    assert_eq!(rt; fader.moving(), [2, 4].as_slice());
+    assert_eq!(rt; fader.moving().unwrap(), [2, 4].as_slice());
     fader.advance(999);
-    assert_eq!(rt; fader.moving(), [2, 4].as_slice());
-    assert_eq!(rt; fader.levels(), [0, 64959, 0, 254].as_slice());
+    assert_eq!(rt; fader.moving().unwrap(), [2, 4].as_slice());
+    assert_eq!(rt; fader.levels().unwrap(), [0, 64959, 0, 254].as_slice());
     fader.advance(1000);
-    assert_eq!(rt; fader.moving().len(), 0);
-    assert_eq!(rt; fader.levels(), [0, 65025, 0, 255].as_slice());
+    assert_eq!(rt; fader.moving().unwrap().len(), 0);
+    assert_eq!(rt; fader.levels().unwrap(), [0, 65025, 0, 255].as_slice());
     Ok(())
 }
 
@@ -264,7 +264,11 @@ fn same_levels(rt: HostRuntime) -> Result<(), Fail> {
             plain.advance(moment);
             step.advance(moment);
         }
-        assert_eq!(rt; plain.levels(), step.levels(), "at {moment}");
+        assert_eq!(rt;
+            plain.levels().unwrap(),
+            step.levels().unwrap(),
+            "at {moment}"
+        );
     }
     Ok(())
 }
