@@ -1,6 +1,6 @@
 -- The levels of a cue, as the look that a fader is given.
 use Rattle.std.proofs.Common.{◌≡◌, ℕ, ◌<◌, ◌≤◌, Bool, true, false, IsTrue, T, List, refl, arith, length, get_or}
-use Rattle.std.specs.Prelude.{All, map as map_list}
+use Rattle.std.specs.Prelude.{All, Option, Some, None, IfSome, map as map_list}
 use Rattle.std.specs.FinMap as map
 use Rattle.std.specs.FinMap.{is_sorted, entries_sorted}
 use Rattle.std.specs.Ordering.{nat_cmp}
@@ -26,3 +26,11 @@ pub channels_in_range : (levels : LevelMap) → HasChannels levels → All (λ p
 channels_in_range levels all = λ k d lt.
     let is : is_channel (get_or (map.entries levels) k d).0 ≡ true = channel_at (map.entries levels) k d all lt in
     (grind (arith, nat_tests), grind (arith, nat_tests))
+
+pub channel_range : (channel : ℕ) → IsTrue (is_channel channel) → (1 ≤ channel) × (channel ≤ 4096)
+channel_range channel is = (grind (arith, nat_tests), grind (arith, nat_tests))
+
+-- what holds of a value where there is one
+pub if_some : {A : Type 0} (P Q : A → Type 0) (o : Option A) → ((x : A) → P x → Q x) → IfSome o P → IfSome o Q
+if_some P Q None f h = tt
+if_some P Q (Some x) f h = f x h

@@ -1,5 +1,7 @@
-ghost use Rattle.std.specs.Prelude.{◌≡◌, ℕ, ◌^◌, ◌<◌, ◌≤◌, List, [], ◌∷◌, IfOk, OnOk, OnErr};
+ghost use Rattle.std.specs.Prelude.{◌≡◌, ℕ, ◌-◌, ◌^◌, ◌<◌, ◌≤◌, List, [], ◌∷◌, IsTrue, All, Contains};
+ghost use Rattle.std.specs.Prelude.{IfOk, OnOk, OnErr, IfSome, length, slice_index};
 ghost use Rattle.std.specs.Option.{ok_or};
+ghost use Rattle.show_core.specs.Numbers.{is_channel};
 ghost use Rattle.show_core.specs.Tables.{Tables};
 ghost use Rattle.playback_core.specs.Played.{Move, go_target, back_target, goto_target};
 ghost use Rattle.playback_core.specs.Played.{playback_level};
@@ -164,5 +166,32 @@ impl<F: Fader> Playback<F> {
         ensures full { result ≤ 65025 }
     {
         self.fader.level(channel)
+    }
+    /// The level of each channel, 0 to 65025, at the latest moment given, channel 1 first, where the
+    /// fader has them at hand.
+    pub fn levels(&self) -> Option<&[u16]>
+        ensures each_channel { IfSome result (λ levels. length levels.now ≡ 4096) }
+        ensures levels { IfSome result (λ levels. (show : Tables) (moves : List Move) (channel : ℕ)
+            → StandsFor F.stands_for show self.now moves → IsTrue (is_channel channel)
+            → slice_index levels.now (channel - 1)
+            ≡ playback_level show moves channel (F.latest self.now.fader)) }
+        ensures full { IfSome result (λ levels. All (λ level. level ≤ 65025) levels.now) }
+    {
+        self.fader.levels()
+    }
+
+    /// The channels that may have another level at a later moment, as long as there is no move, where
+    /// the fader lists them. Where it does not, each may.
+    pub fn moving(&self) -> Option<&[u16]>
+        ensures in_range { IfSome result (λ moving.
+            All (λ channel. IsTrue (is_channel channel)) moving.now) }
+        ensures others { IfSome result (λ moving. (show : Tables) (moves : List Move)
+            (channel moment : ℕ) → StandsFor F.stands_for show self.now moves
+            → IsTrue (is_channel channel) → ¬ Contains moving.now channel
+            → F.latest self.now.fader ≤ moment
+            → playback_level show moves channel moment
+            ≡ playback_level show moves channel (F.latest self.now.fader)) }
+    {
+        self.fader.moving()
     }
 }
