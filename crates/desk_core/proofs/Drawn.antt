@@ -1,5 +1,5 @@
 -- Frames, from the levels that they are made of.
-use Rattle.std.proofs.Common.{◌≡◌, ◌≢◌, ℕ, ◌+◌, ◌*◌, ◌<◌, nat_eq, true, false, IsTrue, List, [], ◌∷◌, length, get_or, set, Option, Some, None, refl, sym, ap, ◌∙◌, arith}
+use Rattle.std.proofs.Common.{◌≡◌, ◌≢◌, ℕ, ◌+◌, ◌*◌, ◌<◌, nat_eq, true, false, IsTrue, List, [], ◌∷◌, length, get_or, set, Option, Some, None, refl, sym, subst, ap, ◌∙◌, arith}
 use Rattle.std.specs.Prelude.{All, IfSome, map, replicate, slice_get}
 use Rattle.std.specs.List.{range_with_len}
 use Rattle.std.specs.Option.{option_map_or}
@@ -14,7 +14,7 @@ use Rattle.show_core.proofs.Ranges.{value_in}
 use Rattle.show_core.specs.Readers.{IsInRange}
 use Rattle.show_core.specs.Tables.{Tables}
 use Rattle.master_core.specs.Settings.{grand_after}
-use Rattle.patch_core.specs.Frame.{level_in, dimmer_slot, frame_of}
+use Rattle.patch_core.specs.Frame.{level_in, dimmer_slot, frame_of, AreDrawn}
 use Rattle.desk_core.specs.Meaning.{dark, channel_level, frame}
 use Rattle.desk_core.specs.Played.{Act, ended, settings}
 
@@ -60,6 +60,18 @@ pub live_frame : (show : Tables) → IsInRange show → (history : List Act) (mo
 unfolding frame
 live_frame show in_range history moment grand levels live is merged ordinal =
     rw (live, is) (frame_of-same show.patch in_range.patch_channels (level_in levels) (channel_level show history moment) merged (grand_after (settings history)) ordinal)
+
+-- equal patches, grand masters and frames
+pub drawn_same : (patch other : PatchMap) (level : ℕ → ℕ) (g h : ℕ) (frames others : List (List ℕ)) → patch ≡ other → g ≡ h → frames ≡ others
+    → AreDrawn patch level g frames → AreDrawn other level h others
+drawn_same patch other level g h frames others p q r drawn =
+    subst (λ x. AreDrawn x level h others) p (subst (λ x. AreDrawn patch level x others) q (subst (AreDrawn patch level g) r drawn))
+
+-- before End, the frame is what the levels make
+pub live_frame_is : (show : Tables) (history : List Act) (moment ordinal : ℕ) → ended history ≡ None
+    → frame show history moment ordinal ≡ frame_of show.patch (channel_level show history moment) (grand_after (settings history)) ordinal
+unfolding frame
+live_frame_is show history moment ordinal live = rw live refl
 
 -- each of so many dark frames is dark
 pub dark_at : (n ordinal : ℕ) → ordinal < n → slice_get (replicate n dark) ordinal ≡ Some dark

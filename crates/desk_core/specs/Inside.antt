@@ -1,14 +1,15 @@
 -- What holds of the fields of every desk.
-use Rattle.std.specs.Prelude.{◌≡◌, ◌≤◌, ℕ, List, length}
+use Rattle.std.specs.Prelude.{◌≡◌, ◌≤◌, ℕ, List, All, length}
 use Rattle.show_core.specs.Readers.{IsInRange}
 use Rattle.show_core.specs.Tables.{PatchMap, Tables}
 
 -- the fader is not ahead of the last call, the rig has the show's patch, the show's numbers are in
--- their ranges, and there is a level for each channel and a frame for each ordinal
+-- their ranges, and there is a level in its range for each channel and a frame for each ordinal
 pub record IsDesk (fader_latest last_moment : ℕ) (patch : PatchMap) (show : Tables)
     (levels : List ℕ) (frames : List (List ℕ)) : Type 0 where
   pub not_ahead : fader_latest ≤ last_moment
   pub patch_is : patch ≡ show.patch
   pub in_range : IsInRange show
   pub each_channel : length levels ≡ 4096
+  pub full : All (λ level. level ≤ 65025) levels
   pub each_ordinal : length frames ≡ 16

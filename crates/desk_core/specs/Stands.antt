@@ -1,12 +1,14 @@
 -- What a desk keeps, against its history.
-use Rattle.std.specs.Prelude.{◌≡◌, ◌<◌, ℕ, List, Some, slice_get}
+use Rattle.std.specs.Prelude.{◌≡◌, ◌<◌, ℕ, IsTrue, List, Some, slice_get}
 use Rattle.show_core.specs.Tables.{Tables}
 use Rattle.fade_core.specs.Level.{Start}
 use Rattle.playback_core.specs.Stands as playback
 use Rattle.master_core.specs.Settings as masters
+use Rattle.master_core.specs.Settings.{grand_after}
+use Rattle.patch_core.specs.Frame.{AreDrawn}
 use Rattle.desk_core.specs.DeskState.{DeskState}
 use Rattle.desk_core.specs.Played.{Act, last_moment, last_tick, ended, moves, settings}
-use Rattle.desk_core.specs.Meaning.{latest_frame}
+use Rattle.desk_core.specs.Meaning.{channel_level, latest_frame}
 
 -- a desk stands for a history of a show with a base: each part that it keeps is what the history
 -- leaves
@@ -21,3 +23,7 @@ pub record StandsFor {F : Type 0} (fader_stands_for : F → List Start → Type 
   pub ended_is : desk.ended ≡ ended history
   pub frames_are : (ordinal : ℕ) → ordinal < 16
       → slice_get desk.frames ordinal ≡ Some (latest_frame show history ordinal)
+  -- what is kept is what the show means at the moment of the last call
+  pub kept : IsTrue desk.is_kept
+      → AreDrawn show.patch (channel_level show history desk.last_moment)
+      (grand_after (settings history)) desk.frames

@@ -1,8 +1,10 @@
 ghost use Rattle.std.specs.Prelude.{◌≡◌, ◌↔◌, ℕ, ◌-◌, ◌^◌, ◌<◌, ◌≤◌, List, [], ◌∷◌, All, Contains};
-ghost use Rattle.std.specs.Prelude.{IsTrue, IsFalse, IfOk, OnOk, OnErr, Err, None, Some};
+ghost use Rattle.std.specs.Prelude.{IsTrue, IsFalse, IfOk, OnOk, OnErr, Err, IfSome, None, Some};
+ghost use Rattle.std.specs.Option.{OnSome};
 ghost use Rattle.std.specs.List.Sorted.{IsStrictlyIncreasing};
+ghost use Rattle.show_core.specs.Numbers.{is_channel};
 ghost use Rattle.show_core.specs.Tables.{Tables};
-ghost use Rattle.playback_core.specs.Played.{current_after};
+ghost use Rattle.playback_core.specs.Played.{Move, current_after, playback_level};
 ghost use Rattle.playback_core.specs.Stands as playback_stands;
 ghost use Rattle.master_core.specs.Settings as masters_stand;
 ghost use Rattle.patch_core.specs.Frame.{is_universe, is_base};
@@ -15,7 +17,7 @@ ghost use Rattle.desk_core.specs.Stands.{StandsFor};
 
 use crate::answer::{Refused, Ticked};
 use crate::command::Command;
-use crate::frames::{dark_frames, darken, draw, merge_levels};
+use crate::frames::{dark_frames, darken, draw, merge_levels, merge_some};
 use arrayvec::ArrayVec;
 use fade_core::Fader;
 use master_core::Masters;
@@ -36,6 +38,9 @@ const SHORTEST_GAP: u64 = 23;
 /// So many ticks after End carry the end of the streams (E1.31, Options: Stream_Terminated).
 const ENDING_TICKS: u8 = 3;
 
+/// More channels than this are quicker drawn with all others than one by one.
+const FEW: usize = 255;
+
 /// A console: a show, its playback and masters, and the frames of its universes as the latest tick
 /// showed them.
 ///
@@ -55,6 +60,7 @@ pub struct Desk<F: Fader> {
     ended: Option<u8>,
     levels: Vec<u32>,
     frames: Vec<[u8; 512]>,
+    is_kept: bool,
 }
 
 impl<F: Fader> Model for Desk<F> {
@@ -76,6 +82,7 @@ impl<F: Fader> Model for Desk<F> {
       last_tick = d.last_tick;
       ended = d.ended;
       frames = d.frames.items;
+      is_kept = d.is_kept;
     } };
 
     ghost use Rattle.desk_core.specs.Inside.{IsDesk};
@@ -124,6 +131,7 @@ impl<F: Fader> Desk<F> {
             ended: None,
             levels,
             frames,
+            is_kept: false,
         })
     }
 
@@ -154,6 +162,7 @@ impl<F: Fader> Desk<F> {
             moment,
             command,
         )?;
+        self.is_kept = false;
         self.ended = ending_begun(command);
         self.last_moment = moment;
         Ok(())
@@ -202,6 +211,77 @@ impl<F: Fader> Desk<F> {
             → let act : Act = record { moment = moment; call = tick } in
             StandsFor F.stands_for show base self.new (act ∷ history) }
     {
+        match self.few_moving() {
+            Some(channels) => self.tick_few(moment, &channels),
+            None => self.tick_all(moment),
+        }
+    }
+
+    // The channels that may move, where those are few and the rest of the frames may be kept.
+    fn few_moving(&self) -> Option<ArrayVec<u16, FEW>>
+        ensures kept { OnSome result (IsTrue self.now.is_kept) }
+        ensures in_range { IfSome result (λ channels.
+            All (λ channel. IsTrue (is_channel channel)) channels.items) }
+        ensures others { IfSome result (λ channels. (show : Tables) (moves : List Move)
+            (channel moment : ℕ)
+            → playback_stands.StandsFor F.stands_for show self.now.playback moves
+            → IsTrue (is_channel channel) → ¬ Contains channels.items channel
+            → F.latest self.now.playback.fader ≤ moment
+            → playback_level show moves channel moment
+            ≡ playback_level show moves channel (F.latest self.now.playback.fader)) }
+    {
+        if !self.is_kept {
+            return None;
+        }
+        let moving = self.playback.moving()?;
+        let mut channels = ArrayVec::new();
+        channels.try_extend_from_slice(moving).ok()?;
+        Some(channels)
+    }
+
+    // Draws these channels anew: each other one has the level that it had.
+    fn tick_few(&mut self, moment: u64, channels: &[u16])
+        requires not_before { self.old.last_moment ≤ moment }
+        requires below { moment < 2 ^ 48 }
+        requires live { self.old.ended ≡ None }
+        requires kept { IsTrue self.old.is_kept }
+        requires in_range { All (λ channel. IsTrue (is_channel channel)) channels.now }
+        requires others { (show : Tables) (moves : List Move) (channel later : ℕ)
+            → playback_stands.StandsFor F.stands_for show self.old.playback moves
+            → IsTrue (is_channel channel) → ¬ Contains channels.now channel
+            → F.latest self.old.playback.fader ≤ later
+            → playback_level show moves channel later
+            ≡ playback_level show moves channel (F.latest self.old.playback.fader) }
+        ensures { (show : Tables) (base : ℕ) (history : List Act)
+            → StandsFor F.stands_for show base self.old history
+            → let act : Act = record { moment = moment; call = tick } in
+            StandsFor F.stands_for show base self.new (act ∷ history) }
+    {
+        self.playback.advance(moment);
+        merge_some(
+            &mut self.levels,
+            channels,
+            &self.show,
+            &self.playback,
+            &self.masters,
+        );
+        let grand = self.masters.grand();
+        self.rig
+            .redraw(&mut self.frames, channels, &self.levels, grand);
+        self.last_moment = moment;
+        self.last_tick = Some(moment);
+    }
+
+    // Draws every channel.
+    fn tick_all(&mut self, moment: u64)
+        requires not_before { self.old.last_moment ≤ moment }
+        requires below { moment < 2 ^ 48 }
+        requires live { self.old.ended ≡ None }
+        ensures { (show : Tables) (base : ℕ) (history : List Act)
+            → StandsFor F.stands_for show base self.old history
+            → let act : Act = record { moment = moment; call = tick } in
+            StandsFor F.stands_for show base self.new (act ∷ history) }
+    {
         self.playback.advance(moment);
         merge_levels(&mut self.levels, &self.show, &self.playback, &self.masters);
         draw(
@@ -210,6 +290,7 @@ impl<F: Fader> Desk<F> {
             &self.levels,
             self.masters.grand(),
         );
+        self.is_kept = true;
         self.last_moment = moment;
         self.last_tick = Some(moment);
     }
@@ -226,6 +307,7 @@ impl<F: Fader> Desk<F> {
             StandsFor F.stands_for show base self.new (act ∷ history) }
     {
         darken(&mut self.frames);
+        self.is_kept = false;
         self.ended = Some(ticks);
         self.last_moment = moment;
         self.last_tick = Some(moment);

@@ -46,6 +46,33 @@ pub fn merge_levels<F: Fader>(
     }
 }
 
+// Writes the levels of these channels, at the latest moment that the playback was given.
+pub fn merge_some<F: Fader>(
+    levels: &mut [u32],
+    channels: &[u16],
+    show: &Show,
+    playback: &Playback<F>,
+    masters: &Masters,
+)
+    requires each_channel { length levels.old ≡ 4096 }
+    requires full { All (λ level. level ≤ 65025) levels.old }
+    requires in_range { All (λ channel. IsTrue (is_channel channel)) channels.now }
+    ensures merged { (moves : List Move) (settings : List masters_stand.Setting)
+        → playback_stands.StandsFor F.stands_for show.now playback.now moves
+        → masters_stand.StandsFor masters.now settings
+        → All (λ channel. level_in levels.new channel ≡ level_after show.now settings channel
+        (playback_level show.now moves channel (F.latest playback.now.fader))) channels.now }
+    ensures full { All (λ level. level ≤ 65025) levels.new }
+{
+    for channel in channels {
+        levels[usize::from(*channel) - 1] = masters.merged(
+            show,
+            *channel,
+            playback.level(*channel),
+        );
+    }
+}
+
 // Writes the frame of each ordinal.
 pub fn draw(frames: &mut [[u8; 512]], rig: &Rig, levels: &[u32], grand: u8)
     requires each_ordinal { length frames.old ≡ 16 }

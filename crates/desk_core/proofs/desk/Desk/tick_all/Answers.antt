@@ -1,5 +1,6 @@
-use Rattle.std.proofs.Common.{◌≡◌, ℕ, List, None, Some, refl, sym, subst, ap, ◌∙◌, IsTrue, length, arith}
+use Rattle.std.proofs.Common.{◌≡◌, ℕ, ◌<◌, List, None, Some, refl, sym, subst, ap, ◌∙◌, IsTrue, length, arith}
 use Rattle.std.specs.Prelude.{slice_get}
+use Rattle.std.specs.Vec.{with_items}
 use Rattle.std.proofs.lemmas.List.{with_items_is}
 use Rattle.show_core.specs.Numbers.{is_channel}
 use Rattle.show_core.specs.Readers.{IsInRange}
@@ -9,8 +10,8 @@ use Rattle.master_core.specs.Merged.{level_after}
 use Rattle.patch_core.specs.Frame.{level_in, frame_of}
 use Rattle.desk_core.specs.Played.{ended, moves, settings}
 use Rattle.desk_core.specs.Meaning.{channel_level, frame}
-use Rattle.desk_core.proofs.Drawn.{live_frame}
-use Rattle.desk_core.proofs.desk.Desk.tick_live.Goals as goal
+use Rattle.desk_core.proofs.Drawn.{live_frame, live_frame_is}
+use Rattle.desk_core.proofs.desk.Desk.tick_all.Goals as goal
 
 pub returns : goal.returns
 returns g c = rw (← c.self.view_is) (λ show base history stands.
@@ -30,6 +31,8 @@ returns g c = rw (← c.self.view_is) (λ show base history stands.
     let drawn : (ordinal : ℕ) → frame_of c.self.inside.rig.patch (level_in levels) c.grand.result ordinal ≡ frame show history c.args.moment ordinal = λ ordinal.
     ap (λ p. frame_of p (level_in levels) c.grand.result ordinal) patch_is
     ∙ live_frame show in_range history c.args.moment c.grand.result levels none (c.grand.ensures (settings history) stands.masters_stand) merged ordinal in
+    let frames_are : (ordinal : ℕ) → ordinal < 16 → slice_get (with_items c.self.inside.frames c.draw.new.frames).items ordinal ≡ Some (frame show history c.args.moment ordinal) = λ ordinal lt.
+    ap (λ fs. slice_get fs ordinal) (with_items_is c.self.inside.frames c.draw.new.frames size) ∙ c.draw.ensures ordinal lt ∙ ap Some (drawn ordinal) in
     record {
       show_is = stands.show_is;
       base_is = stands.base_is;
@@ -38,5 +41,6 @@ returns g c = rw (← c.self.view_is) (λ show base history stands.
       moment_is = refl;
       tick_is = refl;
       ended_is = rw (stands.ended_is, none) refl;
-      frames_are = λ ordinal lt. ap (λ fs. slice_get fs ordinal) (with_items_is c.self.inside.frames c.draw.new.frames size) ∙ c.draw.ensures ordinal lt ∙ ap Some (drawn ordinal);
+      frames_are = frames_are;
+      kept = λ kept ordinal lt. frames_are ordinal lt ∙ ap Some (live_frame_is show history c.args.moment ordinal none);
     })
