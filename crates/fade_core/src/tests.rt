@@ -183,21 +183,29 @@ fn slow_fade_exact(rt: HostRuntime) -> Result<(), Fail> {
 }
 
 // The channels that are listed are those on their way, with a step fader until they have arrived.
+// These numbers are told.
+fn are(told: Option<&[u16]>, numbers: &[u16]) -> bool {
+    match told {
+        Some(told) => told == numbers,
+        None => false,
+    }
+}
+
 #[test]
 fn moving_channels(rt: HostRuntime) -> Result<(), Fail> {
     let mut plain = PlainFader::new(rt.alloc(), 4)?;
     plain.start(&[(1, 0), (2, 255), (4, 1)], over(1000), AT_ONCE, 0);
-    assert_eq!(rt; plain.moving().unwrap(), [2, 4].as_slice());
+    assert!(rt; are(plain.moving(), &[2, 4]));
     let mut fader = StepFader::new(rt.alloc(), 4)?;
-    assert_eq!(rt; fader.moving().unwrap().len(), 0);
+    assert!(rt; are(fader.moving(), &[]));
     fader.start(&[(1, 0), (2, 255), (4, 1)], over(1000), AT_ONCE, 0);
-    assert_eq!(rt; fader.moving().unwrap(), [2, 4].as_slice());
+    assert!(rt; are(fader.moving(), &[2, 4]));
     fader.advance(999);
-    assert_eq!(rt; fader.moving().unwrap(), [2, 4].as_slice());
-    assert_eq!(rt; fader.levels().unwrap(), [0, 64959, 0, 254].as_slice());
+    assert!(rt; are(fader.moving(), &[2, 4]));
+    assert!(rt; are(fader.levels(), &[0, 64959, 0, 254]));
     fader.advance(1000);
-    assert_eq!(rt; fader.moving().unwrap().len(), 0);
-    assert_eq!(rt; fader.levels().unwrap(), [0, 65025, 0, 255].as_slice());
+    assert!(rt; are(fader.moving(), &[]));
+    assert!(rt; are(fader.levels(), &[0, 65025, 0, 255]));
     Ok(())
 }
 
@@ -264,11 +272,7 @@ fn same_levels(rt: HostRuntime) -> Result<(), Fail> {
             plain.advance(moment);
             step.advance(moment);
         }
-        assert_eq!(rt;
-            plain.levels().unwrap(),
-            step.levels().unwrap(),
-            "at {moment}"
-        );
+        assert_eq!(rt; plain.levels(), step.levels(), "at {moment}");
     }
     Ok(())
 }
