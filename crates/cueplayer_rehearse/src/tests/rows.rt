@@ -2,29 +2,29 @@ use super::{prints, with_header};
 use std::alloc::{AllocError, Global};
 use std::test::Fail;
 
-pub(super) const BASIC: &str = "0 do 0 go\n1000 tick 0\n1000 deliver 0 0 1 0\n2000 tick 0\n\
+// The whole script of row `rehearse_basic`: a test of it grows nothing itself.
+pub(super) const BASIC: &str = "console 1 100 c0ffee00-0000-4000-8000-00000000e131\nreceiver 1\n\
+0 do 0 go\n1000 tick 0\n1000 deliver 0 0 1 0\n2000 tick 0\n\
 2000 slots 0\n2010 deliver 0 0 1 1\n2010 slots 0\n2011 deliver 0 0 1 1\n2022 tick 0\n\
 2030 do 0 go\n2030 do 0 go\n2031 deliver 0 0 1 2\n";
 
-pub(super) const BASIC_REPLIES: &str = "3 ok\n4 live 1:s0\n5 taken 0\n6 live 1:s1\n7 slots 1:51\n\
+pub(super) const BASIC_TEXT: &str = "3 ok\n4 live 1:s0\n5 taken 0\n6 live 1:s1\n7 slots 1:51\n\
 8 taken 1\n9 slots 1:102\n10 ignored OutOfSequence\n11 refused TooSoon\n12 ok\n\
-13 refused AtEnd\n14 skipped NotSent\n";
+13 refused AtEnd\n14 skipped NotSent\nend 0 slots 1:102\n";
 
 #[test]
-fn rehearse_basic(rt: HostRuntime) -> Result<(), Fail> {
-    let alloc = rt.alloc();
-    let script = with_header(alloc, BASIC)?;
-    let text = format!(in alloc; "{BASIC_REPLIES}end 0 slots 1:102\n")?;
-    assert!(rt; prints(alloc, script.as_str(), text.as_str()));
-    Ok(())
+fn rehearse_basic(rt: HostRuntime) {
+    assert!(rt; prints(rt.alloc(), BASIC, BASIC_TEXT));
 }
 
 #[test]
 fn silence(rt: HostRuntime) -> Result<(), Fail> {
     let alloc = rt.alloc();
-    let events = format!(in alloc; "{BASIC}4509 slots 0\n4510 slots 0\n")?;
-    let script = with_header(alloc, events.as_str())?;
-    let text = format!(in alloc; "{BASIC_REPLIES}15 slots 1:102\n16 slots\nend 0 slots\n")?;
+    let script = format!(in alloc; "{BASIC}4509 slots 0\n4510 slots 0\n")?;
+    let Some(replies) = BASIC_TEXT.strip_suffix("end 0 slots 1:102\n") else {
+        return Err(Fail::from("no end line"));
+    };
+    let text = format!(in alloc; "{replies}15 slots 1:102\n16 slots\nend 0 slots\n")?;
     assert!(rt; prints(alloc, script.as_str(), text.as_str()));
     Ok(())
 }
