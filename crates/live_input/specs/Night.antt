@@ -84,42 +84,42 @@ due (answer ∷ older) = due_by answer (due older)
 
 -- `play` takes 10,000,000 lines: the last four are kept for an `end` and three ticks
 abbrev pub has_room : List Answer → Bool
-has_room answers = nat_lt (length (lines_given answers)) 9999996
+has_room given = nat_lt (length (lines_given given)) 9999996
 
--- ---- the next answer
+-- ---- the next answer, after those given
 
 -- a typed line is given where it spells a command and has at most 200 bytes with its moment; where
 -- there is no room for one line more it is refused too
 abbrev pub is_taken : List Answer → ℕ → List ℕ → Bool
-is_taken answers moment line =
+is_taken given moment line =
     (nat_le (length (at_moment moment line)) 200 && is_some (command_of (words_of line)))
-    && has_room answers
+    && has_room given
 
 abbrev pub to_line : List Answer → ℕ → List ℕ → Answer
-to_line answers moment line =
-    if is_taken answers moment line then order moment line else refusal line
+to_line given moment line =
+    if is_taken given moment line then order moment line else refusal line
 
 -- the input ended without an `end`, or all room was used
 abbrev pub owes_end : List Answer → Bool → Bool
-owes_end answers is_closed = is_none (ended answers) && (is_closed || not (has_room answers))
+owes_end given at_end = is_none (ended given) && (at_end || not (has_room given))
 
 -- where each typed line was answered
 abbrev pub by_itself : List Answer → Bool → ℕ → Answer
-by_itself answers is_closed moment =
-    if owes_end answers is_closed then close moment
-    else (if nat_le (due answers) moment then tick moment else wait (due answers))
+by_itself given at_end moment =
+    if owes_end given at_end then close moment
+    else (if nat_le (due given) moment then tick moment else wait (due given))
 
 -- the first typed line that was not answered, before anything else
 abbrev pub to_lines : List (List ℕ) → List Answer → Bool → ℕ → Answer
-to_lines [] answers is_closed moment = by_itself answers is_closed moment
-to_lines (line ∷ lines) answers is_closed moment = to_line answers moment line
+to_lines [] given at_end moment = by_itself given at_end moment
+to_lines (line ∷ lines) given at_end moment = to_line given moment line
 
 -- three ticks after `end` nothing comes any more
 abbrev pub were_three : Option ℕ → Bool
 were_three ended = option_map_or (nat_le 3) ended false
 
 abbrev pub is_over : List Answer → Bool
-is_over answers = were_three (ended answers)
+is_over given = were_three (ended given)
 
 -- ---- what happened
 
@@ -145,14 +145,14 @@ now (closed ∷ older) = now older
 
 -- the typed lines that were not answered
 abbrev pub lines_left : List Answer → List Happening → List (List ℕ)
-lines_left answers older =
-    drop (length (lines_answered answers)) (typed_of (bytes_come older)).lines
+lines_left given older =
+    drop (length (lines_answered given)) (typed_of (bytes_come older)).lines
 
--- the answer to what is asked at a moment, after these answers and happenings
+-- the answer to what is asked at a moment, after the answers given and these happenings
 abbrev pub answer_after : List Answer → List Happening → ℕ → Answer
-answer_after answers older moment =
-    if is_over answers then over
-    else to_lines (lines_left answers older) answers (is_closed older) (now (asked moment ∷ older))
+answer_after given older moment =
+    if is_over given then over
+    else to_lines (lines_left given older) given (is_closed older) (now (asked moment ∷ older))
 
 -- all answers
 abbrev pub answers : List Happening → List Answer
@@ -167,9 +167,10 @@ answer_to happenings moment = answer_after (answers happenings) happenings momen
 
 -- ---- texts
 
--- what is shown of a refused line: its first 200 bytes, each that is no printable ASCII as `?`
+-- a byte as it is shown: what is no printable ASCII as `?`
 abbrev pub printable : ℕ → ℕ
 printable byte = if nat_le 32 byte && nat_le byte 126 then byte else 63
 
+-- what is shown of a refused line: its first 200 bytes
 abbrev pub shown : List ℕ → List ℕ
 shown line = map printable (take 200 line)
