@@ -1,4 +1,5 @@
 mod Rows
+pub mod Accepting
 pub mod Answering
 pub mod Cases
 pub mod Counting

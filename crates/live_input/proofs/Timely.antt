@@ -39,7 +39,7 @@ clock_below (asked moment ∷ h) = omega (arith, clock_below h)
 clock_below (came bytes ∷ h) = clock_below h
 clock_below (closed ∷ h) = clock_below h
 
-clock_rises : (h : List Happening) (moment : ℕ) → now h ≤ now (asked moment ∷ h)
+pub clock_rises : (h : List Happening) (moment : ℕ) → now h ≤ now (asked moment ∷ h)
 clock_rises h moment = omega arith
 
 moment_by : (given : List Answer) (left : List (List ℕ)) (c : Bool) (n : ℕ) (answer : Answer)

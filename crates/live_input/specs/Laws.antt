@@ -1,7 +1,11 @@
 -- Laws over all nights: whatever bytes came, and whatever the clock said.
 use Rattle.std.specs.Prelude.{◌≡◌, ◌↔◌, ◌≤◌, ◌+◌, ◌++◌, ℕ, false, List, [], ◌∷◌, Option, Some}
 use Rattle.std.specs.Prelude.{None, All, length, codes}
+use Rattle.std.specs.Prelude.{is_none, option_map, if◌then◌else◌}
 use Rattle.ascii_text.specs.Text.{lines_of, words_of}
+use Rattle.show_core.specs.Tables.{Tables}
+use Rattle.desk_core.specs.Played as desk
+use Rattle.desk_core.specs.Played.{Act, refusal}
 use Rattle.desk_core.specs.declared.command.Command.{Command}
 use Rattle.desk_core.specs.declared.command.Command.TheVariants.{End}
 use Rattle.console_text.specs.declared.call.Call.TheVariants.{Order, Tick}
@@ -102,3 +106,37 @@ abbrev pub NightsEnd : Type 0
 NightsEnd =
     (h : List Happening) (moment : ℕ)
     → (answer_to h moment ≡ over) ↔ (ended (answers h) ≡ Some 3)
+
+-- ---- a desk that plays it
+
+-- the call that a line which is given spells
+abbrev pub act_of : Answer → Option Act
+act_of (order moment line) =
+    option_map (λ command. record { moment = moment; call = desk.order command })
+    (command_of (words_of line))
+act_of (close moment) = Some (record { moment = moment; call = desk.order End })
+act_of (tick moment) = Some (record { moment = moment; call = desk.tick })
+act_of _ = None
+
+-- one more, where the desk does not refuse it
+abbrev pub taken : Tables → Option Act → List Act → List Act
+taken show None history = history
+taken show (Some act) history =
+    if is_none (refusal show history act) then act ∷ history else history
+
+-- what a desk accepts of a night
+abbrev pub accepted : Tables → List Answer → List Act
+accepted show [] = []
+accepted show (answer ∷ older) = taken show (act_of answer) (accepted show older)
+
+-- a desk of any show accepts the first `end`, and each tick. So the three ticks after it end its
+-- streams
+abbrev pub EndsAreAccepted : Type 0
+EndsAreAccepted =
+    (show : Tables) (h : List Happening)
+    → desk.ended (accepted show (answers h)) ≡ ended (answers h)
+
+abbrev pub TicksAreAccepted : Type 0
+TicksAreAccepted =
+    (show : Tables) (h : List Happening) (moment n : ℕ) → answer_to h moment ≡ tick n
+    → refusal show (accepted show (answers h)) (record { moment = n; call = desk.tick }) ≡ None

@@ -3,6 +3,7 @@
 
 ghost use Rattle.live_input.specs.Laws.{AnswersAreSpelled, LinesAreFine, LinesComeInOrder};
 ghost use Rattle.live_input.specs.Laws.{LinesGoFirst, MomentsNeverFall, NightsEnd, TicksAreApart};
+ghost use Rattle.live_input.specs.Laws.{EndsAreAccepted, TicksAreAccepted};
 
 /// `play` takes all lines that are given: none is malformed or too long, and there are never more
 /// than 10,000,000.
@@ -38,4 +39,14 @@ pub fn lines_go_first()
 /// Nothing comes any more exactly where three ticks came after the first `end`.
 pub fn nights_end()
     ensures { NightsEnd }
+{}
+
+/// A desk of any show accepts the first `end`, and counts the ticks after it as they are given.
+pub fn ends_are_accepted()
+    ensures { EndsAreAccepted }
+{}
+
+/// A desk of any show accepts each tick.
+pub fn ticks_are_accepted()
+    ensures { TicksAreAccepted }
 {}
