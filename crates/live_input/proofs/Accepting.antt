@@ -194,7 +194,8 @@ close_by : (show : Tables) (history : List Act) (given : List Answer) (n : ℕ) 
 close_by show history given n below a none =
     let e = end_accepted show history given n below a none in
     let more : List Act = act n (desk.order End) ∷ history in
-    subst (λ (r : Option Refused). Agrees (cond (is_none r) more history) (close n ∷ given) n) (sym e)
+    subst (λ (r : Option Refused). Agrees (cond (is_none r) more history) (close n ∷ given) n)
+    (sym e)
     (record {
       moment = omega arith;
       since = ap (desk.ended_by (desk.order End)) (a.since ∙ none)

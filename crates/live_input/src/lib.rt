@@ -1,5 +1,9 @@
 //! The input of a live night: it hands `play` the commands that an operator types, each at its
 //! moment, and makes the ticks by itself.
+//!
+//! [`LiveInput`] decides, and touches nothing: a device tells it which bytes came, asks it at each
+//! moment of the clock what is next, and carries that out. [`is_shown`] picks the replies of
+//! `play` that an operator sees. [`laws`] has what holds of every night.
 #![tactic(auto)]
 
 mod given;
