@@ -8,8 +8,8 @@ use Rattle.cueplayer_words.specs.Program.{program}
 use Rattle.cueplayer_words.specs.Address.{address_of}
 use Rattle.cueplayer_words.specs.Job.{job_of, number_between}
 use Rattle.cueplayer_words.specs.Asked.{Passes}
-use Rattle.cueplayer_words.specs.declared.job.Job.TheVariants.{Check, Look, Play, Rehearse}
-use Rattle.cueplayer_words.specs.declared.job.Job.TheVariants.{Listen}
+use Rattle.cueplayer_words.specs.declared.job.Job.TheVariants.{Check, Look, Play, Live}
+use Rattle.cueplayer_words.specs.declared.job.Job.TheVariants.{Rehearse, Listen}
 
 -- `check a.asc`
 abbrev check_words : List Text
@@ -80,10 +80,13 @@ listen_unfit_job : job_of (listen_words (codes "127.0.0.1:") (codes "1")) ≡ No
 unfolding clap_on_literals
 listen_unfit_job = refl
 
--- `play a.asc --to ADDR --cid CID`, with more options
-abbrev play_words : Text → List Text → List Text
-play_words address more = codes "cueplayer" ∷ codes "play" ∷ codes "a.asc" ∷ codes "--to" ∷ address
+-- `LINE a.asc --to ADDR --cid CID`, with more options
+abbrev sending_words : Text → Text → List Text → List Text
+sending_words line address more = codes "cueplayer" ∷ line ∷ codes "a.asc" ∷ codes "--to" ∷ address
     ∷ codes "--cid" ∷ codes "c0ffee00-0000-4000-8000-00000000e131" ∷ more
+
+abbrev play_words : Text → List Text → List Text
+play_words = sending_words (codes "play")
 
 abbrev cid : List ℕ
 cid = 192 ∷ 255 ∷ 238 ∷ 0 ∷ 0 ∷ 0 ∷ 64 ∷ 0 ∷ 128 ∷ 0 ∷ 0 ∷ 0 ∷ 0 ∷ 0 ∷ 225 ∷ 49 ∷ []
@@ -106,6 +109,21 @@ play_options = refl
 play_unfit_job : job_of (play_words (codes "127.0.0.1") (codes "--priority" ∷ codes "201" ∷ [])) ≡ None
 unfolding clap_on_literals uuid_on_literals
 play_unfit_job = refl
+
+live_passes : Passes (sending_words (codes "live") (codes "127.0.0.1") [])
+unfolding clap_on_literals
+live_passes = refl
+
+live_job : job_of (sending_words (codes "live") (codes "127.0.0.1") [])
+    ≡ Some (Live (codes "a.asc") (127 ∷ 0 ∷ 0 ∷ 1 ∷ [], 5568) cid 100 1 None)
+unfolding clap_on_literals uuid_on_literals
+live_job = refl
+
+live_recorded : job_of (sending_words (codes "live") (codes "127.0.0.1:9")
+    (codes "--record" ∷ codes "b.play" ∷ codes "--priority" ∷ codes "150" ∷ []))
+    ≡ Some (Live (codes "a.asc") (127 ∷ 0 ∷ 0 ∷ 1 ∷ [], 9) cid 150 1 (Some (codes "b.play")))
+unfolding clap_on_literals uuid_on_literals
+live_recorded = refl
 
 -- `rehearse a.asc b.script`
 abbrev rehearse_words : List Text

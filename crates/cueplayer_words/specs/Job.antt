@@ -9,8 +9,8 @@ use Rattle.ascii_text.specs.Forms.{cue_number_of, whole_of}
 use Rattle.cueplayer_words.specs.Address.{address_of}
 use Rattle.cueplayer_words.specs.Program.{program}
 use Rattle.cueplayer_words.specs.declared.job.Job.{Job}
-use Rattle.cueplayer_words.specs.declared.job.Job.TheVariants.{Check, Look, Play, Rehearse}
-use Rattle.cueplayer_words.specs.declared.job.Job.TheVariants.{Listen}
+use Rattle.cueplayer_words.specs.declared.job.Job.TheVariants.{Check, Look, Play, Live}
+use Rattle.cueplayer_words.specs.declared.job.Job.TheVariants.{Rehearse, Listen}
 
 -- the value of an argument that has to be there: its text, read by a form
 abbrev pub value_by : {X : Type 0} → (Text → Option X) → Text → List Row → Option X
@@ -55,6 +55,20 @@ play_of rows = play_with (first_of (codes "SHOW") rows) (value_by address_of (co
     (value_or 100 (number_between 0 200) (codes "priority") rows)
     (value_or 1 (number_between 1 63999) (codes "base") rows)
 
+-- a live night is a play with the file of its record, where one is named
+abbrev pub recorded : Option Text → Job → Job
+recorded record_file (Play show to cid priority base) =
+    Live show to cid priority base record_file
+recorded record_file job = job
+
+abbrev pub live_with : Option Text → Option Job → Option Job
+live_with record_file (Some job) = Some (recorded record_file job)
+live_with record_file None = None
+
+-- the job of `live SHOW --to ADDR --cid UUID [--priority P] [--base U] [--record FILE]`
+abbrev pub live_of : List Row → Option Job
+live_of rows = live_with (first_of (codes "record") rows) (play_of rows)
+
 -- a rehearsal, where both of its values are there
 abbrev pub rehearse_with : Option Text → Option Text → Option Job
 rehearse_with (Some show) (Some script) = Some (Rehearse show script)
@@ -80,6 +94,7 @@ listen_of rows = listen_with (value_by address_of (codes "ADDR") rows)
 abbrev pub IsInRange : Job → Type 0
 IsInRange (Listen at universe count) = (1 ≤ universe) × (universe ≤ 63999)
 IsInRange (Play show to cid priority base) = priority ≤ 200
+IsInRange (Live show to cid priority base record_file) = priority ≤ 200
 IsInRange _ = Unit {0}
 
 -- the job of a line, by its name and the texts of its arguments
@@ -87,8 +102,9 @@ abbrev pub line_of : Text × List Row → Option Job
 line_of line = if bytes_eq line.0 (codes "check") then check_of line.1
     else (if bytes_eq line.0 (codes "look") then look_of line.1
     else (if bytes_eq line.0 (codes "play") then play_of line.1
+    else (if bytes_eq line.0 (codes "live") then live_of line.1
     else (if bytes_eq line.0 (codes "rehearse") then rehearse_of line.1
-    else (if bytes_eq line.0 (codes "listen") then listen_of line.1 else None))))
+    else (if bytes_eq line.0 (codes "listen") then listen_of line.1 else None)))))
 
 -- the job of the line that clap's meaning of the program gives for the words, where each of the
 -- texts that this meaning gives has its form

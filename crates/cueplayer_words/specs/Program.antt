@@ -23,15 +23,23 @@ abbrev pub look_line : App
 look_line = with_rule (with_rule (with_rule (new_app (codes "look"))
     (required (codes "SHOW"))) (required (codes "CUE"))) (required_option (codes "cid"))
 
--- `play SHOW --to ADDR --cid UUID`
-abbrev pub short_play_line : App
-short_play_line = with_rule (with_rule (with_rule (new_app (codes "play"))
+-- `NAME SHOW --to ADDR --cid UUID`
+abbrev pub short_play_line : Text → App
+short_play_line name = with_rule (with_rule (with_rule (new_app name)
     (required (codes "SHOW"))) (required_option (codes "to"))) (required_option (codes "cid"))
+
+-- `NAME SHOW --to ADDR --cid UUID [--priority P] [--base U]`
+abbrev pub named_play_line : Text → App
+named_play_line name =
+    with_rule (with_rule (short_play_line name) (option (codes "priority"))) (option (codes "base"))
 
 -- `play SHOW --to ADDR --cid UUID [--priority P] [--base U]`
 abbrev pub play_line : App
-play_line =
-    with_rule (with_rule short_play_line (option (codes "priority"))) (option (codes "base"))
+play_line = named_play_line (codes "play")
+
+-- `live SHOW --to ADDR --cid UUID [--priority P] [--base U] [--record FILE]`
+abbrev pub live_line : App
+live_line = with_rule (named_play_line (codes "live")) (option (codes "record"))
 
 -- `rehearse SHOW SCRIPT`
 abbrev pub rehearse_line : App
@@ -55,8 +63,8 @@ printing_lines = with_subcommand (with_subcommand without_lines check_line.top) 
 
 -- and with the lines that play
 abbrev pub playing_lines : App
-playing_lines = with_subcommand (with_subcommand printing_lines play_line.top) rehearse_line.top
+playing_lines = with_subcommand (with_subcommand printing_lines play_line.top) live_line.top
 
 -- the program with all its lines
 abbrev pub program : App
-program = with_subcommand playing_lines listen_line.top
+program = with_subcommand (with_subcommand playing_lines rehearse_line.top) listen_line.top

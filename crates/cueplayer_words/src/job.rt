@@ -62,6 +62,18 @@ pub enum Job {
         base: u16,
     },
 
+    /// `live SHOW --to ADDR --cid UUID [--priority P] [--base U] [--record FILE]`: play by the clock
+    /// what is typed. The values are those of `play`; `record_file` is where the lines that were
+    /// played are written to, where a file is named.
+    Live {
+        show: Name,
+        to: ([u8; 4], u16),
+        cid: [u8; 16],
+        priority: u8,
+        base: u16,
+        record_file: Option<Name>,
+    },
+
     /// `rehearse SHOW SCRIPT`: run a script in memory.
     Rehearse {
         show: Name,

@@ -3,7 +3,8 @@ ghost use Rattle.clap.specs.Words.{app_of, rule_of};
 ghost use Rattle.clap.specs.declared.builder.Command.TheViews.{out-Command as fields_of};
 ghost use Rattle.cueplayer_words.specs.Program.{required, required_option, option, check_line};
 ghost use Rattle.cueplayer_words.specs.Program.{look_line, rehearse_line};
-ghost use Rattle.cueplayer_words.specs.Program.{short_play_line, play_line, listen_line};
+ghost use Rattle.cueplayer_words.specs.Program.{short_play_line, named_play_line, play_line};
+ghost use Rattle.cueplayer_words.specs.Program.{live_line, listen_line};
 ghost use Rattle.cueplayer_words.specs.Program.{without_lines, printing_lines, playing_lines};
 ghost use Rattle.cueplayer_words.specs.Program.{program};
 
@@ -14,7 +15,9 @@ use std::alloc::{AllocError, Global};
 pub(crate) fn program<'a>(alloc: Global) -> Result<Command<'a>, AllocError>
     ensures { IfOk result (λ command. app_of command ≡ program) }
 {
-    playing_lines(alloc)?.subcommand(listen_line(alloc)?)
+    playing_lines(alloc)?
+        .subcommand(rehearse_line(alloc)?)?
+        .subcommand(listen_line(alloc)?)
 }
 
 fn playing_lines<'a>(alloc: Global) -> Result<Command<'a>, AllocError>
@@ -22,7 +25,7 @@ fn playing_lines<'a>(alloc: Global) -> Result<Command<'a>, AllocError>
 {
     printing_lines(alloc)?
         .subcommand(play_line(alloc)?)?
-        .subcommand(rehearse_line(alloc)?)
+        .subcommand(live_line(alloc)?)
 }
 
 fn printing_lines<'a>(alloc: Global) -> Result<Command<'a>, AllocError>
@@ -66,7 +69,40 @@ fn play_line<'a>(alloc: Global) -> Result<Command<'a>, AllocError>
     ensures app { IfOk result (λ command. app_of command ≡ play_line) }
     ensures local { IfOk result (λ command. (fields_of command).has_globals ≡ false) }
 {
-    short_play_line(alloc)?
+    named_play_line(
+        alloc,
+        "play",
+        "Plays the lines of standard input to the network",
+    )
+}
+
+fn live_line<'a>(alloc: Global) -> Result<Command<'a>, AllocError>
+    ensures app { IfOk result (λ command. app_of command ≡ live_line) }
+    ensures local { IfOk result (λ command. (fields_of command).has_globals ≡ false) }
+{
+    named_play_line(
+        alloc,
+        "live",
+        "Plays what is typed to the network, by the clock",
+    )?
+    .arg(option(
+        alloc,
+        "record",
+        "FILE",
+        "A new file for the lines that are played",
+    ))
+}
+
+// A line that plays.
+fn named_play_line<'a>(
+    alloc: Global,
+    name: &'a str,
+    about: &'a str,
+) -> Result<Command<'a>, AllocError>
+    ensures app { IfOk result (λ command. app_of command ≡ named_play_line name.now) }
+    ensures local { IfOk result (λ command. (fields_of command).has_globals ≡ false) }
+{
+    short_play_line(alloc, name, about)?
         .arg(option(
             alloc,
             "priority",
@@ -81,13 +117,17 @@ fn play_line<'a>(alloc: Global) -> Result<Command<'a>, AllocError>
         ))
 }
 
-// What `play` cannot do without.
-fn short_play_line<'a>(alloc: Global) -> Result<Command<'a>, AllocError>
-    ensures app { IfOk result (λ command. app_of command ≡ short_play_line) }
+// What it cannot do without.
+fn short_play_line<'a>(
+    alloc: Global,
+    name: &'a str,
+    about: &'a str,
+) -> Result<Command<'a>, AllocError>
+    ensures app { IfOk result (λ command. app_of command ≡ short_play_line name.now) }
     ensures local { IfOk result (λ command. (fields_of command).has_globals ≡ false) }
 {
-    Command::new(alloc, "play")
-        .about("Plays the lines of standard input to the network")
+    Command::new(alloc, name)
+        .about(about)
         .arg(required(alloc, "SHOW", "The show's file"))?
         .arg(required_option(
             alloc,

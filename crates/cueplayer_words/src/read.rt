@@ -2,7 +2,8 @@ ghost use Rattle.std.specs.Prelude.{◌≡◌, ◌≤◌, map, option_map, optio
 ghost use Rattle.std.specs.Prelude.{IfSome};
 ghost use Rattle.clap.specs.Words.{found_of, rows_of, subcommand_rows_of};
 ghost use Rattle.cueplayer_words.specs.Job.{line_of, check_of, look_of, look_with};
-ghost use Rattle.cueplayer_words.specs.Job.{play_of, play_with, rehearse_of, rehearse_with};
+ghost use Rattle.cueplayer_words.specs.Job.{play_of, play_with, live_of, live_with, recorded};
+ghost use Rattle.cueplayer_words.specs.Job.{rehearse_of, rehearse_with};
 ghost use Rattle.cueplayer_words.specs.Job.{listen_of, listen_with, IsInRange};
 ghost use Rattle.cueplayer_words.specs.Asked.{Explains, IsAsked, RefusedBy};
 
@@ -63,6 +64,8 @@ fn read_line(alloc: Global, matches: &ArgMatches<'_>) -> Result<Option<Job>, All
         read_look(alloc, inner)
     } else if line == "play" {
         read_play(alloc, inner)
+    } else if line == "live" {
+        read_live(alloc, inner)
     } else if line == "rehearse" {
         read_rehearse(alloc, inner)
     } else if line == "listen" {
@@ -159,6 +162,58 @@ fn play_job(
         priority,
         base,
     }))
+}
+
+fn read_live(alloc: Global, matches: &ArgMatches<'_>) -> Result<Option<Job>, AllocError>
+    ensures job { IfOk result (λ job. job ≡ live_of (rows_of (found_of matches.now))) }
+    ensures ranges { IfOk result (λ job. IfSome job IsInRange) }
+{
+    let play = read_play(alloc, matches)?;
+    live_job(alloc, text_at(matches, "record"), play)
+}
+
+fn live_job(
+    alloc: Global,
+    record_file: Option<&str>,
+    play: Option<Job>,
+) -> Result<Option<Job>, AllocError>
+    requires { IfSome play IsInRange }
+    ensures job { IfOk result (λ job.
+        job ≡ live_with (option_map (λ text. text.now) record_file.entry) play) }
+    ensures ranges { IfOk result (λ job. IfSome job IsInRange) }
+{
+    let Some(play) = play else {
+        return Ok(None);
+    };
+    let record_file = match record_file {
+        Some(text) => Some(Name::new(alloc, text)?),
+        None => None,
+    };
+    Ok(Some(recorded(play, record_file)))
+}
+
+// A play with the file of its record.
+fn recorded(job: Job, record_file: Option<Name>) -> Job
+    ensures job { result ≡ recorded record_file job }
+    ensures ranges { IsInRange job → IsInRange result }
+{
+    match job {
+        Job::Play {
+            show,
+            to,
+            cid,
+            priority,
+            base,
+        } => Job::Live {
+            show,
+            to,
+            cid,
+            priority,
+            base,
+            record_file,
+        },
+        job => job,
+    }
 }
 
 fn read_rehearse(alloc: Global, matches: &ArgMatches<'_>) -> Result<Option<Job>, AllocError>

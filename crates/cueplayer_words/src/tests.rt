@@ -253,6 +253,62 @@ fn words_of_play(rt: HostRuntime) -> Result<(), Fail> {
 }
 
 #[test]
+fn words_of_live(rt: HostRuntime) -> Result<(), Fail> {
+    for (option, name) in [("--record=b.play", Some("b.play")), ("--base=7", None)] {
+        let words = [
+            "cueplayer",
+            "live",
+            "a.asc",
+            "--to",
+            "10.0.0.9",
+            "--cid",
+            CID,
+            "--priority",
+            "150",
+            option,
+        ];
+        let Ok(
+            Job::Live {
+                show,
+                to,
+                cid,
+                priority,
+                base,
+                record_file,
+            },
+        ) = read(rt.alloc(), words.as_slice())
+        else {
+            return Err(Fail::from("no live"));
+        };
+        assert!(rt; show.as_str() == "a.asc" && cid == CID_BYTES, "{option}");
+        assert!(rt;
+            to.0 == [10, 0, 0, 9] && to.1 == 5568 && priority == 150,
+            "{option}"
+        );
+        assert_eq!(rt; base, if name.is_some() { 1 } else { 7 }, "{option}");
+        assert!(rt;
+            match (record_file, name) {
+                (Some(file), Some(name)) => file.as_str() == name,
+                (None, None) => true,
+                _ => false,
+            },
+            "{option}"
+        );
+    }
+    let words = [
+        "cueplayer",
+        "live",
+        "a.asc",
+        "--to",
+        "10.0.0.9",
+        "--cid",
+        "c0ffee00",
+    ];
+    assert!(rt; matches!(read(rt.alloc(), words.as_slice()), Err(WordsFault::Unfit)));
+    Ok(())
+}
+
+#[test]
 fn words_of_rehearse(rt: HostRuntime) -> Result<(), Fail> {
     let words = ["cueplayer", "rehearse", "a.asc", "-"];
     let Ok(Job::Rehearse { show, script }) = read(rt.alloc(), words.as_slice()) else {
