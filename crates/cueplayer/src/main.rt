@@ -5,9 +5,13 @@ ghost use Rattle.std.specs.Prelude.{◌≡◌, ◌≤◌, codes};
 ghost use Rattle.cueplayer_words.specs.Job.{IsInRange};
 
 mod input;
+mod live_feed;
 mod output;
 mod reading;
+mod record;
+mod shown_output;
 mod socket;
+mod typed_input;
 mod words;
 
 use clap::Error;
@@ -15,18 +19,22 @@ use cueplayer_faults::{RunFault, exit_status};
 use cueplayer_play::play;
 use cueplayer_rehearse::rehearse_text;
 use cueplayer_runs::{check, listen, look};
-use cueplayer_words::{Job, WordsFault, read_words};
+use cueplayer_words::{Job, Name, WordsFault, read_words};
 use devices::Output;
-use fade_core::PlainFader;
+use fade_core::StepFader;
 use input::SystemInput;
+use live_feed::LiveFeed;
 use output::SystemOutput;
 use reading::{file_text, script_text, show_text};
+use record::Record;
 use sacn_packet::SourceName;
 use sacn_source::Identity;
+use shown_output::ShownOutput;
 use socket::{ReceivingSocket, SendingSocket};
 use std::env;
 use std::io::{BufWriter, ErrorKind};
 use std::process::ExitCode;
+use typed_input::TypedInput;
 use words::UserWords;
 
 // The exit status of words that are refused.
@@ -51,26 +59,26 @@ fn run(rt: &HostRuntime, job: Job) -> Result<(), RunFault>
             cid,
             priority,
             base,
+        } => play_lines(rt, show.as_str(), to, identity(cid, priority), base),
+        Job::Live {
+            show,
+            to,
+            cid,
+            priority,
+            base,
+            record_file,
         } => {
-            let text = file_text(rt, show.as_str())?;
-            let mut link = SendingSocket::open(rt, to)?;
-            let mut input = SystemInput::new(rt.stdin());
-            let source = identity(cid, priority);
-            play::<PlainFader, _, _, _>(
-                rt.alloc(),
-                text.as_slice(),
-                source,
+            let record_file = record_file.as_ref().map(Name::as_str);
+            play_live(
+                rt,
+                show.as_str(),
+                to,
+                identity(cid, priority),
                 base,
-                &mut input,
-                &mut link,
-                &mut out,
+                record_file,
             )
         }
-        Job::Rehearse { show, script } => {
-            let show = file_text(rt, show.as_str())?;
-            let script = script_text(rt, script.as_str())?;
-            rehearse(rt, show.as_slice(), script.as_slice())
-        }
+        Job::Rehearse { show, script } => rehearse(rt, show.as_str(), script.as_str()),
         Job::Listen {
             at,
             universe,
@@ -82,13 +90,66 @@ fn run(rt: &HostRuntime, job: Job) -> Result<(), RunFault>
     }
 }
 
+// Plays the lines of standard input.
+fn play_lines(
+    rt: &HostRuntime,
+    show: &str,
+    to: ([u8; 4], u16),
+    source: Identity,
+    base: u16,
+) -> Result<(), RunFault> {
+    let text = file_text(rt, show)?;
+    let mut link = SendingSocket::open(rt, to)?;
+    let mut input = SystemInput::new(rt.stdin());
+    let mut out = SystemOutput::new(rt.stdout());
+    let text = text.as_slice();
+    play::<StepFader, _, _, _>(
+        rt.alloc(),
+        text,
+        source,
+        base,
+        &mut input,
+        &mut link,
+        &mut out,
+    )
+}
+
+// Plays by the clock what is typed.
+fn play_live(
+    rt: &HostRuntime,
+    show: &str,
+    to: ([u8; 4], u16),
+    source: Identity,
+    base: u16,
+    record_file: Option<&str>,
+) -> Result<(), RunFault> {
+    let input = TypedInput::open(rt)?;
+    let text = file_text(rt, show)?;
+    let record = Record::open(rt, record_file)?;
+    let mut link = SendingSocket::open(rt, to)?;
+    let mut feed = LiveFeed::new(rt, input, record)?;
+    let mut out = ShownOutput::new(SystemOutput::new(rt.stdout()));
+    let text = text.as_slice();
+    play::<StepFader, _, _, _>(
+        rt.alloc(),
+        text,
+        source,
+        base,
+        &mut feed,
+        &mut link,
+        &mut out,
+    )
+}
+
 // Prints a rehearsal through a buffer, since its lines are many.
-fn rehearse(rt: &HostRuntime, show: &[u8], script: &[u8]) -> Result<(), RunFault> {
+fn rehearse(rt: &HostRuntime, show: &str, script: &str) -> Result<(), RunFault> {
+    let show = file_text(rt, show)?;
+    let script = script_text(rt, script)?;
     let Ok(buffer) = BufWriter::new(rt.alloc(), rt.stdout()) else {
         return Err(RunFault::Memory);
     };
     let mut out = SystemOutput::new(buffer);
-    rehearse_text::<PlainFader, _>(rt.alloc(), show, script, &mut out)?;
+    rehearse_text::<StepFader, _>(rt.alloc(), show.as_slice(), script.as_slice(), &mut out)?;
     out.flush()?;
     Ok(())
 }

@@ -1,0 +1,95 @@
+ghost use Rattle.std.specs.Prelude.{◌≡◌, ◌≤◌, []};
+
+use crate::output::SystemOutput;
+use crate::record::Record;
+use crate::typed_input::{Came, TypedInput};
+use cueplayer_faults::RunFault;
+use devices::{Feed, LinkFault, Output};
+use live_input::{Given, LiveInput};
+use std::time::Instant;
+
+/// The input of a live night: what is typed, each line at its moment, and the ticks. It does not tell
+/// what it gave.
+#[derive(Drop)]
+pub struct LiveFeed<'a> {
+    rt: &'a HostRuntime,
+    start: Instant,
+    live: LiveInput,
+    input: TypedInput,
+    record: Record,
+}
+
+impl<'a> LiveFeed<'a> {
+    /// The night starts here: its moments are milliseconds from now on.
+    pub fn new(rt: &'a HostRuntime, input: TypedInput, record: Record) -> Result<Self, RunFault> {
+        let Ok(start) = Instant::now(rt) else {
+            return Err(RunFault::Device);
+        };
+        Ok(LiveFeed {
+            rt,
+            start,
+            live: LiveInput::new(),
+            input,
+            record,
+        })
+    }
+
+    // Milliseconds since the start.
+    fn moment(&self) -> Result<u64, LinkFault> {
+        let elapsed = self.start.elapsed(self.rt).map_err(|_| LinkFault)?;
+        Ok(u64::try_from(elapsed.as_millis()).unwrap_or(u64::MAX))
+    }
+
+    fn refuse(&self, text: &[u8]) {
+        let mut err = SystemOutput::new(self.rt.stderr());
+        let _ = err.write(b"line refused: ");
+        let _ = err.write(text);
+        let _ = err.write(b"\n");
+    }
+}
+
+// Waits for bytes, or for a moment.
+fn wait(
+    live: &mut LiveInput,
+    input: &mut TypedInput,
+    rt: &HostRuntime,
+    milliseconds: u64,
+) -> Result<(), LinkFault>
+    requires { live.old.typed.unread ≡ [] }
+{
+    let mut block = [0; 4096];
+    match input.wait(rt, milliseconds, &mut block)? {
+        Came::Bytes(count) => live.take_bytes(&block[..count.min(4096)]),
+        Came::End => live.close(),
+        Came::Nothing => {}
+    }
+    Ok(())
+}
+
+impl Feed for LiveFeed<'_> {
+    ghost tells = { λ _. ⊥ };
+
+    ghost tape = { λ _. record { items = []; failures = 0 } };
+
+    ghost ended = { λ _. ⊥ };
+
+    fn read(&mut self, buf: &mut [u8; 4096]) -> Result<usize, LinkFault> {
+        for _ in 0..u64::MAX {
+            let moment = self.moment()?;
+            match self.live.next(moment) {
+                Given::Line(line) => {
+                    self.record.keep(self.rt, line.as_slice());
+                    buf[..line.len()].copy_from_slice(line.as_slice());
+                    return Ok(line.len());
+                }
+                Given::Refused(text) => self.refuse(text.as_slice()),
+                Given::Until(due) => {
+                    let milliseconds = due.saturating_sub(moment);
+                    wait(&mut self.live, &mut self.input, self.rt, milliseconds)?;
+                }
+                Given::Over => return Ok(0),
+            }
+        }
+        Err(LinkFault)
+    }
+}

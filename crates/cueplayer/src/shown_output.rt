@@ -1,0 +1,30 @@
+ghost use Rattle.std.specs.Prelude.{[]};
+
+use devices::{LinkFault, Output};
+use live_input::is_shown;
+
+/// An output that the replies which are shown go to.
+#[derive(Drop)]
+pub struct ShownOutput<W> {
+    inner: W,
+}
+
+impl<W: Output> ShownOutput<W> {
+    pub fn new(inner: W) -> Self {
+        ShownOutput { inner }
+    }
+}
+
+impl<W: Output> Output for ShownOutput<W> {
+    ghost tells = { λ _. ⊥ };
+
+    ghost tape = { λ _. record { items = []; failures = 0 } };
+
+    fn write(&mut self, bytes: &[u8]) -> Result<(), LinkFault> {
+        if is_shown(bytes) {
+            self.inner.write(bytes)
+        } else {
+            Ok(())
+        }
+    }
+}

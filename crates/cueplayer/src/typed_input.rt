@@ -1,0 +1,122 @@
+use cueplayer_faults::RunFault;
+use devices::LinkFault;
+use mio::unix::SourceFd;
+use mio::{Events, Interest, Poll, Token};
+use std::io::{ErrorKind, Read};
+use std::time::Duration;
+
+// Standard input.
+const DESCRIPTOR: i32 = 0;
+
+const INPUT: Token = Token(0);
+
+// Whether standard input has to be asked if something is there.
+#[derive(Clone, Copy, Debug, PartialEq, Eq)]
+enum Readiness {
+    // A pipe, a terminal or a socket: it is waited for.
+    Polled,
+    // A file, or the null device: its bytes are always there.
+    Always,
+    // It ended.
+    Never,
+}
+
+/// Standard input, waited for at most so long.
+#[derive(Drop)]
+pub struct TypedInput {
+    poll: Poll,
+    events: Events,
+    readiness: Readiness,
+}
+
+/// What a wait brought.
+#[derive(Clone, Copy, Debug, PartialEq, Eq)]
+pub enum Came {
+    /// So many bytes, at the front of the block.
+    Bytes(usize),
+    /// The end of the input.
+    End,
+    /// Nothing.
+    Nothing,
+}
+
+impl TypedInput {
+    /// Standard input has to be asked for first of all: where it is closed, its descriptor would
+    /// be that of whatever is opened next.
+    ///
+    /// # Errors
+    ///
+    /// `Device` where standard input is closed or cannot be waited for; `Memory` where a growth was
+    /// refused.
+    pub fn open(rt: &HostRuntime) -> Result<Self, RunFault> {
+        let Ok(poll) = Poll::new(rt) else {
+            return Err(RunFault::Device);
+        };
+        let events = Events::with_capacity(rt.alloc(), 1)?;
+        let registered = poll
+            .registry()
+            .register(&mut SourceFd(&DESCRIPTOR), INPUT, Interest::READABLE);
+        let readiness = match registered {
+            Ok(()) => Readiness::Polled,
+            Err(error) if error.kind() == ErrorKind::PermissionDenied => Readiness::Always,
+            Err(_) => return Err(RunFault::Device),
+        };
+        Ok(TypedInput {
+            poll,
+            events,
+            readiness,
+        })
+    }
+
+    /// Waits for bytes, or until so many milliseconds have passed.
+    pub fn wait(
+        &mut self,
+        rt: &HostRuntime,
+        milliseconds: u64,
+        block: &mut [u8; 4096],
+    ) -> Result<Came, LinkFault> {
+        match self.readiness {
+            Readiness::Always => {}
+            Readiness::Polled => {
+                // The report is asked for anew, since a read may have left bytes behind.
+                self.poll
+                    .registry()
+                    .reregister(&mut SourceFd(&DESCRIPTOR), INPUT, Interest::READABLE)
+                    .map_err(|_| LinkFault)?;
+                self.sleep(milliseconds)?;
+                if self.events.is_empty() {
+                    return Ok(Came::Nothing);
+                }
+            }
+            Readiness::Never => {
+                self.sleep(milliseconds)?;
+                return Ok(Came::Nothing);
+            }
+        }
+        self.read(rt, block)
+    }
+
+    fn sleep(&mut self, milliseconds: u64) -> Result<(), LinkFault> {
+        let most = Duration::from_millis(milliseconds);
+        self.poll
+            .poll(&mut self.events, Some(most))
+            .map_err(|_| LinkFault)
+    }
+
+    fn read(&mut self, rt: &HostRuntime, block: &mut [u8; 4096]) -> Result<Came, LinkFault> {
+        match rt.stdin().read(block) {
+            Ok(0) => {
+                if self.readiness == Readiness::Polled {
+                    let _ = self.poll.registry().deregister(&mut SourceFd(&DESCRIPTOR));
+                }
+                self.readiness = Readiness::Never;
+                Ok(Came::End)
+            }
+            Ok(count) => Ok(Came::Bytes(count)),
+            Err(error) => match error.kind() {
+                ErrorKind::Interrupted | ErrorKind::WouldBlock => Ok(Came::Nothing),
+                _ => Err(LinkFault),
+            },
+        }
+    }
+}

@@ -1,0 +1,270 @@
+"""`live`: a night by the clock. What is typed, what it prints, its record, and its datagrams."""
+
+import os
+import pty
+import re
+import select
+import subprocess
+import tempfile
+import time
+from pathlib import Path
+
+from program import CID, PROGRAM, Outcome, ProgramTest, packet, run, text
+from test_play import S1, TERMINATED, receiving
+
+OTHER = CID[:-1] + "2"
+MOMENT = re.compile(rb"^\d+ ", re.MULTILINE)
+# The first slot of a datagram, its number and its options.
+SLOT_1, SEQUENCE, OPTIONS = 126, 111, 112
+
+
+def datagrams(receiver):
+    """All that has come to a socket."""
+    came = []
+    while select.select([receiver], [], [], 0.1)[0]:
+        came.append(receiver.recv(65536))
+    return came
+
+
+def without_moments(printed):
+    """What was printed, without the moments."""
+    return MOMENT.sub(b"", printed).decode().splitlines()
+
+
+class LiveTest(ProgramTest):
+    def setUp(self):
+        folder = tempfile.TemporaryDirectory()
+        self.addCleanup(folder.cleanup)
+        self.folder = Path(folder.name)
+        self.show = self.folder / "show.asc"
+        self.show.write_bytes(S1)
+        self.receiver = receiving()
+        self.addCleanup(self.receiver.close)
+
+    def words(self, *options, cid=CID, to=None):
+        to = to or "127.0.0.1:{}".format(self.receiver.getsockname()[1])
+        return ["live", self.show, "--to", to, "--cid", cid, *options]
+
+    def begun(self, *options, stdin=subprocess.PIPE, **kept):
+        """A night that has begun."""
+        night = subprocess.Popen(
+            [PROGRAM, *self.words(*options, **kept)],
+            stdin=stdin,
+            stdout=subprocess.PIPE,
+            stderr=subprocess.PIPE,
+            bufsize=0,
+        )
+        self.addCleanup(night.kill)
+        return night
+
+    def typed(self, night, *parts, pause=0.1):
+        for part in parts:
+            night.stdin.write(part)
+            night.stdin.flush()
+            time.sleep(pause)
+
+    def told(self, night, line, reply="ok", pause=0.2):
+        """Types a line, and waits for its reply and then for some ticks."""
+        night.stdin.write(line)
+        self.assertEqual([reply], without_moments(night.stdout.readline()))
+        time.sleep(pause)
+
+    def ended(self, night):
+        """How a night ended, once its input is closed."""
+        out, err = night.communicate(timeout=30)
+        return Outcome(night.returncode, out, err)
+
+    def assertTerminated(self, came):
+        """The last three datagrams, and no others, carry the end."""
+        ends = [bool(each[OPTIONS] & TERMINATED) for each in came]
+        self.assertEqual([False] * (len(came) - 3) + [True] * 3, ends)
+
+
+class Live(LiveTest):
+    def test_night(self):
+        """Commands through a pipe: replies without ticks, numbered datagrams, the end."""
+        night = self.begun()
+        for line in (b"sub 1 FL\n", b"master 50\n", b"sub 1 0\n", b"end\n"):
+            self.told(night, line)
+        self.assertEqual(Outcome(0, b"", b""), self.ended(night))
+        came = datagrams(self.receiver)
+        self.assertEqual([k % 256 for k in range(len(came))], [each[SEQUENCE] for each in came])
+        self.assertTerminated(came)
+        shown = [each[SLOT_1] for each in came[:-3]]
+        changes = [b for a, b in zip([None] + shown, shown) if a != b]
+        # Submaster 1 is 128; the master at 128 of 255 makes it 64.
+        self.assertEqual([0, 128, 64, 0], changes)
+        self.assertEqual(packet(1, {}, came[-1][SEQUENCE], TERMINATED), came[-1])
+
+    def test_closed_input(self):
+        """The end of the input is the end of the night; a last line needs no LF."""
+        for typed, replies in ((b"", []), (b"go", ["ok"]), (b"go\nback\nend", ["ok", "refused AtStart", "ok"])):
+            with self.subTest(typed):
+                outcome = run(*self.words(), stdin=typed)
+                self.assertEqual((0, b""), (outcome.status, outcome.err))
+                told = without_moments(outcome.out)
+                self.assertEqual(replies + (["ok"] if b"end" not in typed else []), told)
+                self.assertTerminated(datagrams(self.receiver))
+
+    def test_after_end(self):
+        """What is typed after `end` is answered as a desk answers it."""
+        outcome = run(*self.words(), stdin=b"end\ngo\nend\n")
+        self.assertEqual(["ok", "refused Ended", "refused Ended"], without_moments(outcome.out))
+        self.assertEqual((0, b""), (outcome.status, outcome.err))
+
+    def test_refused_lines(self):
+        """A line that is no command ends nothing, and is told with what can be printed of it."""
+        lines = [b"jump", b"go now", b"tick", b"5 go", b"sub 1", b"goto 0", b"g\0o", b"caf\xc3\xa9", b"x" * 500]
+        outcome = run(*self.words(), stdin=b"\n".join(lines) + b"\n  ! nothing\n\nGO ! now\n")
+        told = [b"jump", b"go now", b"tick", b"5 go", b"sub 1", b"goto 0", b"g?o", b"caf??", b"x" * 200]
+        self.assertEqual(b"".join(b"line refused: " + line + b"\n" for line in told), outcome.err)
+        self.assertEqual((0, ["ok", "ok"]), (outcome.status, without_moments(outcome.out)))
+
+    def test_bytes_one_by_one(self):
+        night = self.begun()
+        self.typed(night, *(bytes([byte]) for byte in b"sub 1 FL\n"), pause=0.03)
+        self.assertEqual(["ok"], without_moments(night.stdout.readline()))
+        self.typed(night, b"en", b"d\n", pause=0.2)
+        self.assertEqual(["ok"], without_moments(self.ended(night).out))
+        came = datagrams(self.receiver)
+        self.assertEqual({0, 128}, {each[SLOT_1] for each in came[:-3]})
+
+    def test_fade(self):
+        """A fade of two seconds is seen in the levels, with every step upwards."""
+        self.show.write_bytes(text("CUE 1", "UP 2", "CHAN 1@FL", "PATCH 1 1<1@FL"))
+        night = self.begun()
+        self.told(night, b"go\n", pause=1.0)
+        half = datagrams(self.receiver)
+        time.sleep(1.3)
+        self.ended(night)
+        came = half + datagrams(self.receiver)
+        levels = [each[SLOT_1] for each in came[:-3]]
+        self.assertEqual(sorted(levels), levels)
+        self.assertEqual((0, 255), (levels[0], levels[-1]))
+        self.assertGreater(len(set(levels)), 20)
+        self.assertTrue(50 < half[-1][SLOT_1] < 230, half[-1][SLOT_1])
+
+    def test_pace(self):
+        """Ticks are 23 ms apart at least, and come on a grid of 25 ms as far as the machine lets them."""
+        record = self.folder / "night.play"
+        night = self.begun("--record", record)
+        time.sleep(2)
+        self.ended(night)
+        lines = [line.split() for line in record.read_text().splitlines()]
+        ticks = [int(moment) for moment, *words in lines if words == ["tick"]]
+        gaps = [b - a for a, b in zip(ticks, ticks[1:])]
+        print(f"    {len(ticks)} ticks in {ticks[-1]} ms, {min(gaps)} to {max(gaps)} ms apart")
+        self.assertGreaterEqual(min(gaps), 23)
+        self.assertGreater(len(ticks), 20)
+        moments = [int(moment) for moment, *_ in lines]
+        self.assertEqual(sorted(moments), moments)
+
+    def test_record_replayed(self):
+        """`play` of the record sends the same datagrams, byte for byte and in order, and prints the
+        same replies."""
+        record = self.folder / "night.play"
+        night = self.begun("--record", record, "--priority", "150", "--base", "7")
+        self.typed(night, b"go\n", b"nonsense\nsub 1 30\n", b"  MASTER H80 ! down\n", b"back\n")
+        outcome = self.ended(night)
+        self.assertEqual((0, b"line refused: nonsense\n"), (outcome.status, outcome.err))
+        came = datagrams(self.receiver)
+        words = ["play", *self.words()[1:], "--priority", "150", "--base", "7"]
+        replay = run(*words, stdin=record.read_bytes())
+        self.assertEqual((0, b""), (replay.status, replay.err))
+        self.assertEqual(came, datagrams(self.receiver))
+        self.assertEqual(packet(7, {}, 0, priority=150), came[0])
+        replies = [line for line in replay.out.splitlines() if b" live" not in line and b" ending" not in line]
+        self.assertEqual(outcome.out.splitlines(), replies)
+
+    def test_record_of_another_night(self):
+        """A record that is not empty is refused: no night is written over another."""
+        record = self.folder / "night.play"
+        record.write_bytes(b"0 tick\n")
+        outcome = run(*self.words("--record", record), stdin=b"end\n")
+        self.assertEqual(Outcome(5, b"", b"device fault\n"), outcome)
+        self.assertEqual(b"0 tick\n", record.read_bytes())
+        record.write_bytes(b"")
+        self.assertEqual(0, run(*self.words("--record", record), stdin=b"end\n").status)
+        self.assertEqual(5, record.read_bytes().count(b"\n"))
+
+    def test_record_on_a_full_disk(self):
+        """It is told once, and the night goes on."""
+        outcome = run(*self.words("--record", "/dev/full"), stdin=b"go\nend\n")
+        self.assertEqual((0, ["ok", "ok"]), (outcome.status, without_moments(outcome.out)))
+        self.assertEqual(b"record: device fault\n", outcome.err)
+        self.assertTerminated(datagrams(self.receiver))
+
+    def test_terminal(self):
+        """A terminal is read as a pipe is; its end of input, control-D, ends the night."""
+        ours, theirs = pty.openpty()
+        night = self.begun(stdin=theirs)
+        os.close(theirs)
+        os.write(ours, b"sub 1 FL\n")
+        self.assertEqual(["ok"], without_moments(night.stdout.readline()))
+        time.sleep(0.2)
+        os.write(ours, b"\x04")
+        outcome = self.ended(night)
+        os.close(ours)
+        self.assertEqual((0, b"", ["ok"]), (outcome.status, outcome.err, without_moments(outcome.out)))
+        self.assertIn(128, [each[SLOT_1] for each in datagrams(self.receiver)])
+
+    def test_input_from_a_file(self):
+        """A file's lines are there at once: they come before the first tick."""
+        typed = self.folder / "typed"
+        typed.write_bytes(b"sub 1 FL\nmaster 50\n")
+        with open(typed, "rb") as stdin:
+            night = self.begun(stdin=stdin)
+        self.assertEqual((0, b""), (self.ended(night).status, b""))
+        self.assertEqual({64, 0}, {each[SLOT_1] for each in datagrams(self.receiver)})
+
+    def test_lost_packets(self):
+        """A tick that lost a packet is printed, and the night ends with their number."""
+        outcome = run(*self.words(to="255.255.255.255:9"), stdin=b"go\n")
+        lost = re.findall(rb":x(\d+)", outcome.out)
+        self.assertTrue(lost)
+        self.assertEqual((5, b"lost %d\n" % len(lost)), (outcome.status, outcome.err))
+        self.assertEqual([b"ok", b"ok"], re.findall(rb"ok$", outcome.out, re.MULTILINE))
+
+    def test_before_the_night(self):
+        """A fault of the show, the base or a file comes before anything is sent or recorded."""
+        record = self.folder / "night.play"
+        self.show.write_bytes(text("CUE x"))
+        outcome = run(*self.words("--record", record), stdin=b"go\n")
+        self.assertEqual(Outcome(3, b"", b"show line 1: BadNumber\n"), outcome)
+        self.assertEqual(b"", record.read_bytes())
+        self.show.write_bytes(text("PATCH 1 1<513@FL"))
+        outcome = run(*self.words("--base", "63999"), stdin=b"go\n")
+        self.assertEqual(Outcome(2, b"", b"base: Universe\n"), outcome)
+        self.show.unlink()
+        self.assertEqual(Outcome(5, b"", b"device fault\n"), run(*self.words(), stdin=b"go\n"))
+        outcome = run(*self.words("--priority", "201"), stdin=b"go\n")
+        self.assertEqual(Outcome(2, b"", b"words refused\n"), outcome)
+        self.assertEqual([], datagrams(self.receiver))
+
+    def test_input_closed_from_the_start(self):
+        night = subprocess.run(
+            [PROGRAM, *self.words()],
+            preexec_fn=lambda: os.close(0),
+            capture_output=True,
+            timeout=30,
+        )
+        self.assertEqual((5, b"device fault\n"), (night.returncode, night.stderr))
+
+    def test_two_consoles(self):
+        """Two nights into one `listen`: the one of priority 150 leads."""
+        with receiving() as free:
+            at = "127.0.0.1:{}".format(free.getsockname()[1])
+        listen = subprocess.Popen([PROGRAM, "listen", at, "1", "16"], stdout=subprocess.PIPE)
+        self.addCleanup(listen.kill)
+        time.sleep(0.5)
+        main = self.begun("--priority", "150", to=at)
+        backup = self.begun("--priority", "100", cid=OTHER, to=at)
+        self.typed(main, b"sub 1 50\n", pause=0)
+        self.typed(backup, b"sub 1 FL\n", pause=0)
+        printed = listen.communicate(timeout=30)[0].decode().splitlines()
+        self.ended(main)
+        self.ended(backup)
+        self.assertEqual(17, len(printed))
+        self.assertEqual([], [line for line in printed[:-1] if " taken " not in line])
+        # Submaster 1 is 128, and 128 of 255 makes it 64.
+        self.assertEqual("slots 1:64", printed[-1])
