@@ -4,7 +4,7 @@ use crate::shows::{CUES, FADE, fading_show};
 use crate::timed::Timed;
 use anyhow::{Result, anyhow};
 use desk_core::{Command, Desk, Refused};
-use fade_core::PlainFader;
+use fade_core::StepFader;
 use std::alloc::Global;
 use std::time::{Clock, Instant};
 
@@ -31,7 +31,7 @@ pub fn run_idle<R: AllocGlobal + Clock>(rt: &R, ticks: u32) -> Result<Timed> {
     Ok(Timed::since(began, rt, u64::from(ticks), sum_of_slots(&desk))?)
 }
 
-fn open(alloc: Global, step: u16) -> Result<Desk<PlainFader>>
+fn open(alloc: Global, step: u16) -> Result<Desk<StepFader>>
     requires { 0 < step }
 {
     let show = fading_show(alloc, step)?;
@@ -39,7 +39,7 @@ fn open(alloc: Global, step: u16) -> Result<Desk<PlainFader>>
 }
 
 // Ticks with a new fade once a minute.
-fn fade(desk: &mut Desk<PlainFader>, ticks: u32) -> Result<(), Refused> {
+fn fade(desk: &mut Desk<StepFader>, ticks: u32) -> Result<(), Refused> {
     for tick in 0..ticks {
         let moment = u64::from(TICK) * u64::from(tick);
         if tick % TICKS_OF_A_FADE == 0 {
@@ -52,7 +52,7 @@ fn fade(desk: &mut Desk<PlainFader>, ticks: u32) -> Result<(), Refused> {
 }
 
 // Ticks from the end of a fade on.
-fn idle(desk: &mut Desk<PlainFader>, ticks: u32) -> Result<(), Refused> {
+fn idle(desk: &mut Desk<StepFader>, ticks: u32) -> Result<(), Refused> {
     desk.command(0, Command::Go)?;
     for tick in 0..ticks {
         desk.tick(u64::from(FADE) + u64::from(TICK) * u64::from(tick))?;
@@ -60,7 +60,7 @@ fn idle(desk: &mut Desk<PlainFader>, ticks: u32) -> Result<(), Refused> {
     Ok(())
 }
 
-fn sum_of_slots(desk: &Desk<PlainFader>) -> u64 {
+fn sum_of_slots(desk: &Desk<StepFader>) -> u64 {
     let mut sum = 0u64;
     for universe in desk.universes().as_slice() {
         for slot in desk.slots(*universe) {
