@@ -18,10 +18,10 @@ MOMENT = re.compile(rb"^\d+ ", re.MULTILINE)
 SLOT_1, SEQUENCE, OPTIONS = 126, 111, 112
 
 
-def datagrams(receiver):
-    """All that has come to a socket."""
+def datagrams(receiver, wait=0.1):
+    """All that has come to a socket, until nothing comes for so many seconds."""
     came = []
-    while select.select([receiver], [], [], 0.1)[0]:
+    while select.select([receiver], [], [], wait)[0]:
         came.append(receiver.recv(65536))
     return came
 
@@ -134,7 +134,7 @@ class Live(LiveTest):
         self.show.write_bytes(text("CUE 1", "UP 2", "CHAN 1@FL", "PATCH 1 1<1@FL"))
         night = self.begun()
         self.told(night, b"go\n", pause=1.0)
-        half = datagrams(self.receiver)
+        half = datagrams(self.receiver, wait=0)
         time.sleep(1.3)
         self.ended(night)
         came = half + datagrams(self.receiver)
@@ -209,13 +209,14 @@ class Live(LiveTest):
         self.assertIn(128, [each[SLOT_1] for each in datagrams(self.receiver)])
 
     def test_input_from_a_file(self):
-        """A file's lines are there at once: they come before the first tick."""
+        """A file's lines are there at once, and so is its end."""
         typed = self.folder / "typed"
-        typed.write_bytes(b"sub 1 FL\nmaster 50\n")
+        typed.write_bytes(b"sub 1 FL\nmaster 50\n" * 1000)
         with open(typed, "rb") as stdin:
-            night = self.begun(stdin=stdin)
-        self.assertEqual((0, b""), (self.ended(night).status, b""))
-        self.assertEqual({64, 0}, {each[SLOT_1] for each in datagrams(self.receiver)})
+            outcome = self.ended(self.begun(stdin=stdin))
+        self.assertEqual((0, b""), (outcome.status, outcome.err))
+        self.assertEqual(["ok"] * 2001, without_moments(outcome.out))
+        self.assertTerminated(datagrams(self.receiver))
 
     def test_lost_packets(self):
         """A tick that lost a packet is printed, and the night ends with their number."""

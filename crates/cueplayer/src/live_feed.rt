@@ -16,7 +16,7 @@ pub struct LiveFeed<'a> {
     start: Instant,
     live: LiveInput,
     input: TypedInput,
-    record: Record,
+    kept: Record,
 }
 
 impl<'a> LiveFeed<'a> {
@@ -30,7 +30,7 @@ impl<'a> LiveFeed<'a> {
             start,
             live: LiveInput::new(),
             input,
-            record,
+            kept: record,
         })
     }
 
@@ -78,7 +78,7 @@ impl Feed for LiveFeed<'_> {
             let moment = self.moment()?;
             match self.live.next(moment) {
                 Given::Line(line) => {
-                    self.record.keep(self.rt, line.as_slice());
+                    self.kept.keep(self.rt, line.as_slice());
                     buf[..line.len()].copy_from_slice(line.as_slice());
                     return Ok(line.len());
                 }
