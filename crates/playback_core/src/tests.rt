@@ -150,7 +150,7 @@ fn go_back_goto(rt: HostRuntime) -> Result<(), Fail> {
     Ok(())
 }
 
-// `rt try --test --fail-alloc N` refuses the Nth growth: N from 1 to 2 refuses each growth of `new`
+// `rt try --test --fail-alloc N` refuses the Nth growth: N from 1 to 4 refuses each growth of `new`
 // in turn, and this test passes each time. The other tests then answer their error.
 #[test]
 fn each_growth_refused(rt: HostRuntime) {
