@@ -13,7 +13,7 @@ use Rattle.show_core.specs.Numbers.{is_channel, is_dimmer, is_sub, is_group, is_
 use Rattle.show_core.specs.Tables.{Tables, LevelMap, CueMap, MasterMap, PatchMap}
 use Rattle.show_core.specs.Builders.{blank, opened, can_open, changed, opened_in, with_listed}
 use Rattle.show_core.specs.Builders.{can_patch, patched_with}
-use Rattle.show_core.specs.Readers.{IsInRange, IsRateInRange, HasRates, rate_of}
+use Rattle.show_core.specs.Readers.{IsInRange, IsRateInRange, HasTimes, rate_of}
 use Rattle.show_core.proofs.Sorted.{and_left, from_true, to_true}
 use Rattle.show_core.proofs.Ranges.{keys-insert, keys-changed, keys-remove, key_in, len-changed}
 use Rattle.show_core.proofs.Ranges.{values-insert, values-remove, values-changed, value_in, none_in}
@@ -29,8 +29,8 @@ opened_in_range P masters n h p =
       | false ↦ keys-insert P masters n map.empty h p
     ]
 
-no_rates : HasRates blank
-no_rates = record { up_in = tt; down_in = tt }
+no_times : HasTimes blank
+no_times = record { up_in = tt; down_in = tt; follow_in = tt }
 
 time_fits : (t : ℕ) → IsTrue (is_time t) → t ≤ 5999990
 time_fits t h = grind (arith, nat_tests)
@@ -50,12 +50,18 @@ module _ (set other : Option Rate) (here : IfSome set IsRateInRange)
   pub rate_delay_fits : (rate_of set other).delay ≤ 5999990
   rate_delay_fits = time_fits (rate_of set other).delay (rate_in_range set other here there).1
 
+-- so is its follow-on time
+pub follow_fits : (follow : Option ℕ) → IfSome follow (λ time. IsTrue (is_time time))
+    → IfSome follow (λ time. time ≤ 5999990)
+follow_fits None h = tt
+follow_fits (Some time) h = time_fits time h
+
 pub empty_in_range : IsInRange
     (record { cues = map.empty; subs = map.empty; groups = map.empty; patch = map.empty })
 empty_in_range = record {
   cues_in = none_in CueData (λ n. IsTrue (is_cue_number n));
   cues_fit = omega (arith, map.len-empty nat_cmp CueData);
-  rates_in = no_values CueData (λ e. HasRates e.1);
+  times_in = no_values CueData (λ e. HasTimes e.1);
   subs_in = none_in LevelMap (λ n. IsTrue (is_sub n));
   groups_in = none_in LevelMap (λ n. IsTrue (is_group n));
   dimmers_in = none_in (ℕ × ℕ) (λ d. IsTrue (is_dimmer d));
@@ -66,11 +72,11 @@ module _ (t : Tables) (h : IsInRange t) where
   -- one table is replaced
   cues_in_range : (cues : CueMap) → All (λ n. IsTrue (is_cue_number n)) (map.keys cues)
       → map.len cues ≤ 2000
-      → All (λ e. HasRates e.1) (map.entries cues) → IsInRange (record t { cues = cues })
-  cues_in_range cues s fit rates = record {
+      → All (λ e. HasTimes e.1) (map.entries cues) → IsInRange (record t { cues = cues })
+  cues_in_range cues s fit times = record {
     cues_in = s;
     cues_fit = fit;
-    rates_in = rates;
+    times_in = times;
     subs_in = h.subs_in;
     groups_in = h.groups_in;
     dimmers_in = h.dimmers_in;
@@ -82,7 +88,7 @@ module _ (t : Tables) (h : IsInRange t) where
   subs_in_range subs s = record {
     cues_in = h.cues_in;
     cues_fit = h.cues_fit;
-    rates_in = h.rates_in;
+    times_in = h.times_in;
     subs_in = s;
     groups_in = h.groups_in;
     dimmers_in = h.dimmers_in;
@@ -94,7 +100,7 @@ module _ (t : Tables) (h : IsInRange t) where
   groups_in_range groups s = record {
     cues_in = h.cues_in;
     cues_fit = h.cues_fit;
-    rates_in = h.rates_in;
+    times_in = h.times_in;
     subs_in = h.subs_in;
     groups_in = s;
     dimmers_in = h.dimmers_in;
@@ -107,7 +113,7 @@ module _ (t : Tables) (h : IsInRange t) where
   patch_in_range patch s c = record {
     cues_in = h.cues_in;
     cues_fit = h.cues_fit;
-    rates_in = h.rates_in;
+    times_in = h.times_in;
     subs_in = h.subs_in;
     groups_in = h.groups_in;
     dimmers_in = s;
@@ -132,24 +138,24 @@ module _ (t : Tables) (h : IsInRange t) where
             cues_in_range (map.insert t.cues n blank)
             (keys-insert (λ k. IsTrue (is_cue_number k)) t.cues n blank h.cues_in number)
             (omega arith)
-            (values-insert HasRates t.cues n blank h.rates_in no_rates)
+            (values-insert HasTimes t.cues n blank h.times_in no_times)
       ] refl
 
   pub changed_cue_in_range : (n : ℕ) (change : CueData → CueData)
-      → ((cue : CueData) → HasRates cue → HasRates (change cue))
+      → ((cue : CueData) → HasTimes cue → HasTimes (change cue))
       → IsInRange (record t { cues = changed t.cues n change })
   changed_cue_in_range n change keep =
       let many : map.len (changed t.cues n change) ≡ map.len t.cues = len-changed t.cues n change in
       let few : map.len t.cues ≤ 2000 = h.cues_fit in
       cues_in_range (changed t.cues n change)
       (keys-changed (λ k. IsTrue (is_cue_number k)) t.cues n change h.cues_in) (omega arith)
-      (values-changed HasRates t.cues n change keep h.rates_in)
+      (values-changed HasTimes t.cues n change keep h.times_in)
 
   pub no_cues_in_range : IsInRange (record t { cues = map.empty })
   no_cues_in_range =
       cues_in_range map.empty (none_in CueData (λ n. IsTrue (is_cue_number n)))
       (omega (arith, map.len-empty nat_cmp CueData))
-      (no_values CueData (λ e. HasRates e.1))
+      (no_values CueData (λ e. HasTimes e.1))
 
   pub opened_sub_in_range : (n : ℕ) → IsTrue (is_sub n)
       → IsInRange (record t { subs = opened_in t.subs n })

@@ -11,7 +11,7 @@ use Rattle.show_core.specs.Tables.{CueMap, MasterMap, PatchMap}
 
 -- a cue with nothing in it
 abbrev pub blank : CueData
-blank = record { levels = map.empty; up = None; down = None }
+blank = record { levels = map.empty; up = None; down = None; follow = None }
 
 -- with cue n: as it is, or blank where it is not there
 abbrev pub opened : CueMap → ℕ → CueMap
@@ -37,6 +37,10 @@ with_up cues n rate = changed cues n (λ cue. record cue { up = Some rate })
 -- with the rate of falling levels of cue n
 abbrev pub with_down : CueMap → ℕ → Rate → CueMap
 with_down cues n rate = changed cues n (λ cue. record cue { down = Some rate })
+
+-- with the follow-on time of cue n
+abbrev pub with_follow : CueMap → ℕ → ℕ → CueMap
+with_follow cues n time = changed cues n (λ cue. record cue { follow = Some time })
 
 -- ---- submasters and groups
 

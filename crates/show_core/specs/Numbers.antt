@@ -21,6 +21,6 @@ is_group = is_within 500
 abbrev pub is_cue_number : ℕ → Bool
 is_cue_number = is_within 9999999
 
--- a time or a delay, in milliseconds
+-- a time, a delay or a follow-on time, in milliseconds
 abbrev pub is_time : ℕ → Bool
 is_time t = nat_le t 5999990

@@ -62,16 +62,17 @@ HasChannels levels = All (λ c. IsTrue (is_channel c)) (maps.keys levels)
 abbrev pub IsRateInRange : Rate → Type 0
 IsRateInRange rate = IsTrue (is_time rate.time) × IsTrue (is_time rate.delay)
 
--- each rate that a cue has set is in its range
-pub record HasRates (cue : CueData) : Type 0 where
+-- each time that a cue has set is in its range
+pub record HasTimes (cue : CueData) : Type 0 where
   pub up_in : IfSome cue.up IsRateInRange
   pub down_in : IfSome cue.down IsRateInRange
+  pub follow_in : IfSome cue.follow (λ time. IsTrue (is_time time))
 
 -- what holds of each show that the builders make: no number is outside its range
 pub record IsInRange (show : Tables) : Type 0 where
   pub cues_in : All (λ n. IsTrue (is_cue_number n)) (maps.keys show.cues)
   pub cues_fit : maps.len show.cues ≤ 2000
-  pub rates_in : All (λ e. HasRates e.1) (maps.entries show.cues)
+  pub times_in : All (λ e. HasTimes e.1) (maps.entries show.cues)
   pub subs_in : All (λ n. IsTrue (is_sub n)) (maps.keys show.subs)
   pub groups_in : All (λ n. IsTrue (is_group n)) (maps.keys show.groups)
   pub dimmers_in : All (λ d. IsTrue (is_dimmer d)) (maps.keys show.patch)

@@ -1,18 +1,19 @@
-ghost use Rattle.std.specs.Prelude.{◌≡◌, ◌≤◌, IfOk};
+ghost use Rattle.std.specs.Prelude.{◌≡◌, ◌≤◌, IfOk, IfSome};
 ghost use Rattle.std.specs.FinMap as map;
-ghost use Rattle.show_core.specs.Readers.{HasChannels, HasRates, rate_of, level_in};
+ghost use Rattle.show_core.specs.Readers.{HasChannels, HasTimes, rate_of, level_in};
 
 use crate::levels::Levels;
 use crate::rate::Rate;
 use std::alloc::{AllocError, Global};
 use std::marker::Model;
 
-/// What a cue has: its levels, and the rates that were set.
+/// What a cue has: its levels, and the rates and the follow-on time that were set.
 #[derive(Debug, Drop)]
 pub struct CueData {
     pub levels: Levels,
     pub up: Option<Rate>,
     pub down: Option<Rate>,
+    pub follow: Option<u32>,
 }
 
 impl CueData {
@@ -24,6 +25,7 @@ impl CueData {
             levels: self.levels.clone_in(alloc)?,
             up: self.up,
             down: self.down,
+            follow: self.follow,
         })
     }
 }
@@ -45,14 +47,14 @@ impl<'a> Model for Cue<'a> {
 
     ghost view = { λ c. c.data.now };
 
-    ghost use Rattle.show_core.specs.Readers.{HasRates};
+    ghost use Rattle.show_core.specs.Readers.{HasTimes};
 
-    ghost invariant = { λ c. HasRates c.data.now };
+    ghost invariant = { λ c. HasTimes c.data.now };
 }
 
 impl<'a> Cue<'a> {
     pub(crate) fn of(cue: &'a CueData) -> Cue<'a>
-        requires { HasRates cue.now }
+        requires { HasTimes cue.now }
         ensures { result ≡ cue.now }
     {
         Cue { data: cue }
@@ -98,5 +100,14 @@ impl<'a> Cue<'a> {
             .down
             .or(self.data.up)
             .unwrap_or(Rate { time: 0, delay: 0 })
+    }
+
+    /// The follow-on time in milliseconds, at most 5,999,990: so long after the move to this cue
+    /// the next one goes. `None` where no such time was set.
+    pub fn follow(&self) -> Option<u32>
+        ensures time { result ≡ self.now.follow }
+        ensures range { IfSome result (λ time. time ≤ 5999990) }
+    {
+        self.data.follow
     }
 }

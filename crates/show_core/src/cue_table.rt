@@ -2,8 +2,8 @@ ghost use Rattle.std.specs.Prelude.{◌≡◌, IsTrue, IsOk, IfOk, OnOk, OnErr, 
 ghost use Rattle.std.specs.Prelude.{find, reverse, nat_lt, map as map_list};
 ghost use Rattle.std.specs.FinMap as map;
 ghost use Rattle.show_core.specs.Numbers.{is_channel};
-ghost use Rattle.show_core.specs.Builders.{opened, with_level, with_up, with_down};
-ghost use Rattle.show_core.specs.Readers.{HasRates, cue_above, cue_below};
+ghost use Rattle.show_core.specs.Builders.{opened, with_level, with_up, with_down, with_follow};
+ghost use Rattle.show_core.specs.Readers.{HasTimes, cue_above, cue_below};
 
 use crate::cue::{Cue, CueData};
 use crate::levels::Levels;
@@ -68,6 +68,7 @@ impl CueTable {
                 levels: Levels::new(alloc),
                 up: None,
                 down: None,
+                follow: None,
             };
             put(&mut self.entries, n, blank)?;
         }
@@ -105,6 +106,14 @@ impl CueTable {
         }
     }
 
+    pub fn set_follow(&mut self, n: u32, time: u32)
+        ensures { self.new ≡ with_follow self.old n time }
+    {
+        if let Ok(at) = place(&self.entries, n) {
+            self.entries[at].1.follow = Some(time);
+        }
+    }
+
     pub fn clear(&mut self)
         ensures { self.new ≡ map.empty }
     {
@@ -112,7 +121,7 @@ impl CueTable {
     }
 
     pub fn get(&self, n: u32) -> Option<Cue<'_>>
-        requires { IfSome (map.get self.now n) HasRates }
+        requires { IfSome (map.get self.now n) HasTimes }
         ensures { result ≡ map.get self.now n }
     {
         match place(&self.entries, n) {

@@ -4,7 +4,8 @@ ghost use Rattle.std.specs.Option.{OnSome};
 ghost use Rattle.std.specs.FinMap as map;
 ghost use Rattle.show_core.specs.Numbers.{is_channel, is_dimmer, is_sub, is_group, is_time};
 ghost use Rattle.show_core.specs.Builders.{opened, can_open, with_level, with_up, with_down};
-ghost use Rattle.show_core.specs.Builders.{opened_in, with_listed, can_patch, patched_with};
+ghost use Rattle.show_core.specs.Builders.{with_follow, opened_in, with_listed};
+ghost use Rattle.show_core.specs.Builders.{can_patch, patched_with};
 ghost use Rattle.show_core.specs.Readers.{cue_above, cue_below, universes_of};
 ghost use Rattle.show_core.specs.Readers.{look_slot, look_frame, IsInRange};
 ghost use Rattle.show_core.specs.declared.fault.BuildFault.TheVariants.{Limit, Memory};
@@ -248,6 +249,16 @@ impl Show {
         ensures { self.new ≡ record self.old { cues = with_down self.old.cues n rate } }
     {
         self.cues.set_down(n, rate);
+    }
+
+    /// Sets the follow-on time of cue `n`: at most 5,999,990 milliseconds, after which the next cue
+    /// goes.
+    pub fn set_follow(&mut self, n: u32, time: u32)
+        requires there { IsTrue (map.contains_key self.old.cues n) }
+        requires time { IsTrue (is_time time) }
+        ensures { self.new ≡ record self.old { cues = with_follow self.old.cues n time } }
+    {
+        self.cues.set_follow(n, time);
     }
 
     /// Takes all cues away.

@@ -1,4 +1,4 @@
-use crate::{BuildFault, Counts, Rate, Show};
+use crate::{BuildFault, Counts, LONGEST_TIME, Rate, Show};
 use std::process::Abort;
 use std::test::Fail;
 
@@ -55,6 +55,12 @@ fn fall(rt: &impl Abort, show: &mut Show, n: u32) {
     show.set_down(n, FALL);
 }
 
+fn lead_on(rt: &impl Abort, show: &mut Show, n: u32, time: u32) {
+    assert!(rt; show.cue(n).is_some());
+    assert!(rt; time <= LONGEST_TIME);
+    show.set_follow(n, time);
+}
+
 fn rates(rt: &impl Abort, show: &Show, n: u32) -> (Rate, Rate) {
     let cue = show.cue(n).expect(rt, "the cue");
     (cue.up(), cue.down())
@@ -98,6 +104,29 @@ fn rates_of_cues(rt: HostRuntime) -> Result<(), Fail> {
     ] {
         assert!(rt; rates(&rt, &show, n) == (up, down), "cue {n}");
     }
+    Ok(())
+}
+
+#[test]
+fn follow_on_times(rt: HostRuntime) -> Result<(), Fail> {
+    let mut show = Show::new(rt.alloc());
+    for n in 1..=3 {
+        show.open_cue(n)?;
+    }
+    for (n, time) in [(1, 10_000), (1, 0), (2, 5_999_990)] {
+        lead_on(&rt, &mut show, n, time);
+    }
+    show.open_cue(1)?;
+    let copy = show.clone_in(rt.alloc())?;
+    for (n, follow) in [(1, Some(0)), (2, Some(5_999_990)), (3, None)] {
+        for shown in [&show, &copy] {
+            let cue = shown.cue(n).expect(&rt, "the cue");
+            assert!(rt; cue.follow() == follow, "cue {n}");
+        }
+    }
+    show.clear_cues();
+    show.open_cue(1)?;
+    assert!(rt; show.cue(1).expect(&rt, "cue 0.001").follow().is_none());
     Ok(())
 }
 

@@ -4,7 +4,7 @@ use Rattle.std.specs.Ordering.{nat_cmp}
 use Rattle.std.specs.Cmp.{nat_cmp_total}
 use Rattle.std.specs.FinMap as map
 use Rattle.show_core.specs.declared.cue.CueData.{CueData}
-use Rattle.show_core.specs.Readers.{HasRates}
+use Rattle.show_core.specs.Readers.{HasTimes}
 use Rattle.show_core.proofs.Sorted.{lookup_at, lookup_gap}
 use Rattle.show_core.proofs.cue_table.CueTable.get.Goals as goal
 
@@ -15,7 +15,7 @@ of-requires c =
     = rw (← c.self.view_is)
     (lookup_at nat_cmp nat_cmp_total c.self.inside.entries.items c.self.invariant c.args.n
     c.in-Ok.at c.index.result.now at c.index.ensures) in
-    subst (λ o. IfSome o HasRates) (sym is) c.requires
+    subst (λ o. IfSome o HasTimes) (sym is) c.requires
 
 pub returns-in-Ok : goal.returns-in-Ok
 returns-in-Ok c =

@@ -8,4 +8,8 @@ invariant_of-self c =
     rw c.set_down.ensures
     (changed_cue_in_range (show_view c.self.inside) c.self.invariant c.args.n
     (λ cue. record cue { down = Some c.args.rate })
-    (λ cue has. record { down_in = (c.requires.time, c.requires.delay); up_in = has.up_in }))
+    (λ cue has. record {
+      up_in = has.up_in;
+      down_in = (c.requires.time, c.requires.delay);
+      follow_in = has.follow_in;
+    }))

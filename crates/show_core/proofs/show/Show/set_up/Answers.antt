@@ -8,4 +8,8 @@ invariant_of-self c =
     rw c.set_up.ensures
     (changed_cue_in_range (show_view c.self.inside) c.self.invariant c.args.n
     (λ cue. record cue { up = Some c.args.rate })
-    (λ cue has. record { up_in = (c.requires.time, c.requires.delay); down_in = has.down_in }))
+    (λ cue has. record {
+      up_in = (c.requires.time, c.requires.delay);
+      down_in = has.down_in;
+      follow_in = has.follow_in;
+    }))
