@@ -23,7 +23,7 @@ use Rattle.show_line.specs.declared.statement.Statement.{Statement}
 use Rattle.show_line.specs.declared.statement.Statement.TheVariants.{Opens, Levels, Rises, Falls}
 use Rattle.show_line.specs.declared.statement.Statement.TheVariants.{Patches, Clears}
 use Rattle.show_line.specs.declared.triples.Triple.{Triple}
-use Rattle.show_reader.specs.Keys.{Key, There, Level, Up, Down, Dimmer, has_record, found}
+use Rattle.show_reader.specs.Keys.{Key, There, Level, Up, Down, Follow, Dimmer, has_record, found}
 use Rattle.show_reader.specs.Meaning.{News, Is, Gone, Silent, after, newer, pair_says, triple_says}
 use Rattle.show_reader.specs.Meaning.{says, cue_count, is_there}
 use Rattle.show_reader.specs.Shows.{IsShowOf}
@@ -51,7 +51,8 @@ both false x = refl
 
 -- ---- one entry of a table, as far as a look-up sees it
 
--- whether there is one; the level of a channel in a cue, and in a master; the rates of a cue
+-- whether there is one; the level of a channel in a cue, and in a master; the rates and the
+-- follow-on time of a cue
 abbrev there_at : {V : Type 0} → Option V → Option (Unit {0})
 there_at o = cond (is_some o) (Some tt) None
 
@@ -66,6 +67,9 @@ up_at = option_and_then (λ cue. cue.up)
 
 abbrev down_at : Option CueData → Option Rate
 down_at = option_and_then (λ cue. cue.down)
+
+abbrev follow_at : Option CueData → Option ℕ
+follow_at = option_and_then (λ cue. cue.follow)
 
 module _ {V : Type 0} (m : maps.FinMap nat_cmp V) (n : ℕ) where
   -- a key that was set
@@ -146,6 +150,7 @@ opens_found show (Cue n) (Level (Cue m) c) =
     opened_keeps show.cues n blank m (level_at c) (maps.get-empty nat_cmp c)
 opens_found show (Cue n) (Up m) = opened_keeps show.cues n blank m up_at refl
 opens_found show (Cue n) (Down m) = opened_keeps show.cues n blank m down_at refl
+opens_found show (Cue n) (Follow m) = opened_keeps show.cues n blank m follow_at refl
 opens_found show (Group n) (There (Group m)) = opened_there show.groups n maps.empty m
 opens_found show (Group n) (Level (Group m) c) =
     opened_keeps show.groups n maps.empty m (listed_at c) (maps.get-empty nat_cmp c)
@@ -172,6 +177,7 @@ pair_found show (Cue n) p there (Level (Cue m) c) =
     ∙ level_news p c (m == n) _
 pair_found show (Cue n) p there (Up m) = changed_keeps show.cues n _ m up_at (λ cue. refl)
 pair_found show (Cue n) p there (Down m) = changed_keeps show.cues n _ m down_at (λ cue. refl)
+pair_found show (Cue n) p there (Follow m) = changed_keeps show.cues n _ m follow_at (λ cue. refl)
 pair_found show (Group n) p there (There (Group m)) =
     changed_keeps show.groups n _ m there_at (λ levels. refl)
 pair_found show (Group n) p there (Level (Group m) c) =
@@ -221,6 +227,7 @@ rises_found show n rate there (Up m) =
     changed_at show.cues n _ m up_at (λ o. Some rate) there (λ cue. refl)
     ∙ after_if (m == n) (Is rate) _
 rises_found show n rate there (Down m) = changed_keeps show.cues n _ m down_at (λ cue. refl)
+rises_found show n rate there (Follow m) = changed_keeps show.cues n _ m follow_at (λ cue. refl)
 rises_found show n rate there k = refl
 
 falls_found : (show : Tables) (n : ℕ) (rate : Rate) → IsTrue (has_record show (Cue n)) → (k : Key)
@@ -233,6 +240,7 @@ falls_found show n rate there (Up m) = changed_keeps show.cues n _ m up_at (λ c
 falls_found show n rate there (Down m) =
     changed_at show.cues n _ m down_at (λ o. Some rate) there (λ cue. refl)
     ∙ after_if (m == n) (Is rate) _
+falls_found show n rate there (Follow m) = changed_keeps show.cues n _ m follow_at (λ cue. refl)
 falls_found show n rate there k = refl
 
 -- ---- PATCH
@@ -284,6 +292,7 @@ nothing_found (Level (Group n) c) = ap (listed_at c) (maps.get-empty nat_cmp n)
 nothing_found (Level (Sub n) c) = ap (listed_at c) (maps.get-empty nat_cmp n)
 nothing_found (Up n) = ap up_at (maps.get-empty nat_cmp n)
 nothing_found (Down n) = ap down_at (maps.get-empty nat_cmp n)
+nothing_found (Follow n) = ap follow_at (maps.get-empty nat_cmp n)
 nothing_found (Dimmer d) = maps.get-empty nat_cmp d
 
 clears_found : (what : Cleared) (show : Tables) (k : Key)
@@ -293,6 +302,7 @@ clears_found (Only Cues) show (There (Cue n)) = nothing_found (There (Cue n))
 clears_found (Only Cues) show (Level (Cue n) c) = nothing_found (Level (Cue n) c)
 clears_found (Only Cues) show (Up n) = nothing_found (Up n)
 clears_found (Only Cues) show (Down n) = nothing_found (Down n)
+clears_found (Only Cues) show (Follow n) = nothing_found (Follow n)
 clears_found (Only Groups) show (There (Group n)) = nothing_found (There (Group n))
 clears_found (Only Groups) show (Level (Group n) c) = nothing_found (Level (Group n) c)
 clears_found (Only Subs) show (There (Sub n)) = nothing_found (There (Sub n))

@@ -13,7 +13,7 @@ use Rattle.show_line.specs.declared.statement.Statement.{Statement}
 use Rattle.show_line.specs.Said.{desk}
 use Rattle.show_reader.specs.Text.{statements_of}
 use Rattle.show_reader.specs.ItsShow.{OfItsShow}
-use Rattle.show_reader.specs.Keys.{Key, There, Level, Up, Down, Dimmer, has_record, found}
+use Rattle.show_reader.specs.Keys.{Key, There, Level, Up, Down, Follow, Dimmer, has_record, found}
 use Rattle.show_reader.specs.Shows.{IsShowOf}
 use Rattle.show_reader.proofs.Found.{record_is}
 
@@ -32,21 +32,22 @@ same_levels None (Some b) there each = cc
 same_levels (Some a) None there each = cc
 same_levels (Some a) (Some b) there each = ap Some (same_map a b each)
 
--- cues that are there alike, with alike levels and rates, are alike
+-- cues that are there alike, with alike levels, rates and follow-on times, are alike
 same_cues : (a b : Option CueData) → is_some a ≡ is_some b
     → ((c : ℕ) → option_and_then (λ cue. maps.get cue.levels c) a
     ≡ option_and_then (λ cue. maps.get cue.levels c) b)
     → option_and_then (λ cue. cue.up) a ≡ option_and_then (λ cue. cue.up) b
     → option_and_then (λ cue. cue.down) a ≡ option_and_then (λ cue. cue.down) b
+    → option_and_then (λ cue. cue.follow) a ≡ option_and_then (λ cue. cue.follow) b
     → a ≡ b
-same_cues None None there levels ups downs = refl
-same_cues None (Some b) there levels ups downs = cc
-same_cues (Some a) None there levels ups downs = cc
-same_cues (Some a) (Some b) there levels ups downs =
+same_cues None None there levels ups downs follows = refl
+same_cues None (Some b) there levels ups downs follows = cc
+same_cues (Some a) None there levels ups downs follows = cc
+same_cues (Some a) (Some b) there levels ups downs follows =
     let same : a.levels ≡ b.levels = same_map a.levels b.levels levels in
-    let made : LevelMap → Option Rate → Option Rate → CueData =
-    λ l u d. record { levels = l; up = u; down = d } in
-    let is : made a.levels a.up a.down ≡ made b.levels b.up b.down = cc in
+    let made : LevelMap → Option Rate → Option Rate → Option ℕ → CueData =
+    λ l u d f. record { levels = l; up = u; down = d; follow = f } in
+    let is : made a.levels a.up a.down a.follow ≡ made b.levels b.up b.down b.follow = cc in
     ap Some is
 
 -- tables that are alike one by one
@@ -66,7 +67,7 @@ same_show ss s t a b =
     sym (record_is s r) ∙ ap is_some (same (There r)) ∙ record_is t r in
     same_tables s t
     (same_map s.cues t.cues (λ n. same_cues (maps.get s.cues n) (maps.get t.cues n) (there (Cue n))
-    (λ c. same (Level (Cue n) c)) (same (Up n)) (same (Down n))))
+    (λ c. same (Level (Cue n) c)) (same (Up n)) (same (Down n)) (same (Follow n))))
     (same_map s.subs t.subs (λ n. same_levels (maps.get s.subs n) (maps.get t.subs n)
     (there (Sub n)) (λ c. same (Level (Sub n) c))))
     (same_map s.groups t.groups (λ n. same_levels (maps.get s.groups n) (maps.get t.groups n)

@@ -14,15 +14,17 @@ pub data Key : Type 0 where
   Level : Record → ℕ → Key  -- the level of a channel in a record
   Up : ℕ → Key  -- the UP of a cue
   Down : ℕ → Key  -- the DOWN of a cue
+  Follow : ℕ → Key  -- the FOLLOWON of a cue
   Dimmer : ℕ → Key  -- how a dimmer is patched
 
 -- what the answer is, where there is one: that the record is there; a level byte; a time and a
--- delay; the dimmer's channel and its level byte
+-- delay; a time; the dimmer's channel and its level byte
 abbrev pub Answer : Key → Type 0
 Answer (There r) = Unit {0}
 Answer (Level r channel) = ℕ
 Answer (Up n) = Rate
 Answer (Down n) = Rate
+Answer (Follow n) = ℕ
 Answer (Dimmer dimmer) = ℕ × ℕ
 
 -- the table that a record is in
@@ -37,6 +39,7 @@ table_at (There r) = table_of r
 table_at (Level r channel) = table_of r
 table_at (Up n) = Cues
 table_at (Down n) = Cues
+table_at (Follow n) = Cues
 table_at (Dimmer dimmer) = Patch
 
 -- a show has a record
@@ -56,4 +59,5 @@ found show (Level (Sub n) channel) =
     option_and_then (λ levels. maps.get levels channel) (maps.get show.subs n)
 found show (Up n) = option_and_then (λ cue. cue.up) (maps.get show.cues n)
 found show (Down n) = option_and_then (λ cue. cue.down) (maps.get show.cues n)
+found show (Follow n) = option_and_then (λ cue. cue.follow) (maps.get show.cues n)
 found show (Dimmer dimmer) = maps.get show.patch dimmer

@@ -25,6 +25,7 @@ first = record {
   levels = map.from_sorted (listed 1 255);
   up = Some (record { time = 5000; delay = 0 });
   down = None;
+  follow = None;
 }
 
 second : CueData
@@ -32,6 +33,7 @@ second = record {
   levels = map.from_sorted (listed 2 255);
   up = Some (record { time = 2000; delay = 0 });
   down = Some (record { time = 4000; delay = 0 });
+  follow = None;
 }
 
 half : LevelMap
