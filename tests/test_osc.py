@@ -1,0 +1,227 @@
+"""`tools/osc`: Open Sound Control datagrams, and the lines that they ask for."""
+
+import re
+import socket
+import struct
+import subprocess
+import sys
+import tempfile
+import unittest
+
+from program import CID, PROGRAM, ProgramTest
+from test_live import SLOT_1, datagrams
+from test_play import S1, receiving
+from tooling import PATIENCE, TOOLS, Started, run_tool, wait_for
+
+from cueplayer_tools.osc_lines import lines_of
+
+
+def padded(text):
+    """An OSC string: one to four zero bytes behind it."""
+    return text + bytes(4 - len(text) % 4)
+
+
+def message(address, *arguments, tags=None):
+    """An OSC message, by the types of its arguments."""
+    forms = {int: "i", float: "f", str: "s", bool: "?"}
+    letters = "".join(forms[type(each)] for each in arguments)
+    data = b""
+    for letter, value in zip(letters, arguments):
+        if letter == "s":
+            data += padded(value.encode())
+        elif letter in "if":
+            data += struct.pack(">" + letter, value)
+    letters = letters.replace("?", "T" if True in arguments else "F")
+    return padded(address.encode()) + padded(b"," + (tags or letters).encode()) + data
+
+
+def bundle(*elements):
+    """An OSC bundle, to be carried out at once."""
+    sized = (len(each).to_bytes(4, "big") + each for each in elements)
+    return b"#bundle\0" + bytes(7) + b"\1" + b"".join(sized)
+
+
+GO = message("/cueplayer/go")
+
+ASKED = (
+    (GO, "go"),
+    (padded(b"/cueplayer/go"), "go"),
+    (message("/cueplayer/go", 1.0), "go"),
+    (message("/cueplayer/go", 1), "go"),
+    (message("/cueplayer/go", True), "go"),
+    (message("/cueplayer/go", tags="I"), "go"),
+    (message("/cueplayer/back", 1.0), "back"),
+    (message("/cueplayer/end"), "end"),
+    (message("/cueplayer/goto", 2.5), "goto 2.5"),
+    (message("/cueplayer/goto", 2.1), "goto 2.1"),
+    (message("/cueplayer/goto", 9999.999), "goto 9999.999"),
+    (message("/cueplayer/goto", 7), "goto 7"),
+    (message("/cueplayer/goto", "2.50"), "goto 2.5"),
+    (message("/cueplayer/goto", ".25"), "goto 0.25"),
+    (message("/cueplayer/goto/1.5", 1.0), "goto 1.5"),
+    (message("/cueplayer/sub/3", 0.5), "sub 3 H80"),
+    (message("/cueplayer/sub/3", "0.5"), "sub 3 H80"),
+    (message("/cueplayer/sub/65535", 0.0), "sub 65535 H00"),
+    (message("/cueplayer/group/1", 1.0), "group 1 HFF"),
+    (message("/cueplayer/group/1", 1), "group 1 HFF"),
+    (message("/cueplayer/group/01", False), "group 1 H00"),
+    (message("/cueplayer/master", 0.8), "master HCC"),
+    (message("/cueplayer/master", tags="d") + struct.pack(">d", 0.002), "master H01"),
+    (message("/cueplayer/master", tags="h") + struct.pack(">q", 1), "master HFF"),
+)
+RELEASED = (
+    message("/cueplayer/go", 0.0),
+    message("/cueplayer/back", 0),
+    message("/cueplayer/end", False),
+    message("/cueplayer/goto/1.5", 0.0),
+)
+REFUSED = (
+    (b"", "an empty datagram"),
+    (b"go", "a size that is no multiple of four: go"),
+    (b"gogo", "an address without an end: gogo"),
+    (padded(b"go\n"), "no address: go??"),
+    (b"/a\0b", "an address without its padding: /a?b"),
+    (message("/go"), "/go: no such address"),
+    (message("/cueplayer/"), "/cueplayer/: no such address"),
+    (message("/cueplayer/Go"), "/cueplayer/Go: no such address"),
+    (message("/cueplayer/go/"), "/cueplayer/go/: no such address"),
+    (message("/cueplayer/sub/*", 1.0), "/cueplayer/sub/*: no number: *"),
+    (message("/cueplayer/sub/65536", 1.0), "/cueplayer/sub/65536: no number: 65536"),
+    (message("/cueplayer/sub/3"), "/cueplayer/sub/3: 0 arguments in the place of one"),
+    (message("/cueplayer/sub/3", 0.1, 0.2), "/cueplayer/sub/3: 2 arguments in the place of one"),
+    (message("/cueplayer/master", 1.5), "/cueplayer/master: level out of range: 1.5"),
+    (message("/cueplayer/master", 50), "/cueplayer/master: level out of range: 50"),
+    (message("/cueplayer/master", -0.1), "/cueplayer/master: no number from 0: -0.1"),
+    (message("/cueplayer/master", float("nan")), "/cueplayer/master: no number from 0: nan"),
+    (message("/cueplayer/master", "full"), "/cueplayer/master: no number: full"),
+    (message("/cueplayer/goto", 0), "/cueplayer/goto: no cue number: 0.000"),
+    (message("/cueplayer/goto", 10000.0), "/cueplayer/goto: no cue number: 10000.000"),
+    (message("/cueplayer/goto", "1\n2 go"), "/cueplayer/goto: no cue number: 1?2 go"),
+    (message("/cueplayer/goto", True), "/cueplayer/goto: no cue number"),
+    (message("/cueplayer/go", -1.0), "/cueplayer/go: no number from 0: -1"),
+    (message("/cueplayer/go", tags="b"), "an argument of type b: /cueplayer/go???,b??"),
+    (message("/cueplayer/go", tags="i"), "an argument is cut off: /cueplayer/go???,i??"),
+    (GO + bytes(4), "bytes are left over behind /cueplayer/go: /cueplayer/go???,???????"),
+    (b"#bundle\0", "a bundle is cut off: #bundle?"),
+    (bundle(GO)[:-4], "a bundle's element has no such size: #bundle?????????????/cueplayer/go???"),
+)
+
+
+class Lines(unittest.TestCase):
+    def test_asked(self):
+        for datagram, line in ASKED:
+            with self.subTest(line=line, datagram=datagram):
+                self.assertEqual(([line], []), lines_of(datagram))
+
+    def test_release_asks_for_nothing(self):
+        for datagram in RELEASED:
+            with self.subTest(datagram):
+                self.assertEqual(([], []), lines_of(datagram))
+
+    def test_refused(self):
+        for datagram, named in REFUSED:
+            with self.subTest(named):
+                self.assertEqual(([], [named]), lines_of(datagram))
+
+    def test_every_byte_level(self):
+        """Each byte is reached from its own share, as a float of four bytes has it."""
+        for byte in range(256):
+            expected = [f"sub 1 H{byte:02X}"]
+            self.assertEqual((expected, []), lines_of(message("/cueplayer/sub/1", byte / 255)))
+
+    def test_bundles(self):
+        """The messages of a bundle in their order, bundles within it too; one that asks for nothing
+        known is refused alone, and a malformed one refuses them all."""
+        master = message("/cueplayer/master", 1.0)
+        inner = bundle(message("/cueplayer/back"), message("/cueplayer/go", 0.0))
+        self.assertEqual(
+            (["go", "back", "master HFF"], ["/other: no such address"]),
+            lines_of(bundle(GO, inner, message("/other"), master)),
+        )
+        self.assertEqual(([], []), lines_of(bundle()))
+        lines, refused = lines_of(bundle(GO, b"oops"))
+        self.assertEqual([], lines)
+        self.assertEqual(1, len(refused))
+        deep = GO
+        for _ in range(1000):
+            deep = bundle(deep)
+        self.assertRegex(lines_of(deep)[1][0], "^bundles within bundles, too deep: ")
+
+    def test_any_bytes(self):
+        """What is named of any datagram is one short printable line, and nothing is raised."""
+        for start in (b"", b"/cueplayer/go\0\0\0", b"#bundle\0" + bytes(8), b"/cueplayer/goto\0,s\0\0"):
+            for byte in range(256):
+                for size in (1, 4, 300):
+                    lines, refused = lines_of(start + bytes([byte]) * size)
+                    for text in lines + refused:
+                        self.assertRegex(text, r"\A[ -~]{1,200}\Z")
+
+
+class Tool(ProgramTest):
+    def begun(self, **options):
+        """The tool at a port of its own, and a function that sends to it."""
+        osc = Started(self, "osc", "--listen", "127.0.0.1:0", **options)
+        port = int(re.fullmatch(r"osc: listening at 127\.0\.0\.1:(\d+)", osc.err.next())[1])
+        sender = socket.socket(socket.AF_INET, socket.SOCK_DGRAM)
+        self.addCleanup(sender.close)
+        sender.bind(("127.0.0.1", 0))
+        self.from_port = sender.getsockname()[1]
+        return osc, lambda datagram: sender.sendto(datagram, ("127.0.0.1", port))
+
+    def test_lines_come_one_by_one(self):
+        osc, send = self.begun()
+        for datagram, line in ASKED[:4]:
+            send(datagram)
+            self.assertEqual(line, osc.out.next())
+        send(message("/other\n"))
+        told = f"osc: refused from 127.0.0.1:{self.from_port}: /other?: no such address"
+        self.assertEqual(told, osc.err.next())
+        send(b"")
+        self.assertIn("an empty datagram", osc.err.next())
+        send(GO)
+        self.assertEqual("go", osc.out.next())
+
+    def test_address(self):
+        """A port alone is of this machine alone; what is no address is refused by its words."""
+        with receiving() as taken:
+            port = taken.getsockname()[1]
+            done = run_tool("osc", "--listen", port)
+            told = f"osc: cannot listen at 127.0.0.1:{port}: Address already in use\n"
+            self.assertEqual((1, "", told), (done.returncode, done.stdout, done.stderr))
+        for word in ("", "1.2.3:4", "1.2.3.400:4", "localhost:4", "1.2.3.4:65536", "1.2.3.4:"):
+            with self.subTest(word):
+                self.assertEqual(2, run_tool("osc", "--listen", word).returncode)
+
+    def test_night(self):
+        """Into `live`: a fader of a tablet moves light; the end of the night ends the tool."""
+        receiver = receiving()
+        self.addCleanup(receiver.close)
+        show = self.enterContext(tempfile.NamedTemporaryFile(suffix=".asc"))
+        show.write(S1)
+        show.flush()
+        osc = subprocess.Popen(
+            [sys.executable, TOOLS / "osc", "--listen", "127.0.0.1:0"],
+            stdout=subprocess.PIPE,
+            stderr=subprocess.PIPE,
+            text=True,
+        )
+        self.addCleanup(osc.kill)
+        to = "127.0.0.1:{}".format(receiver.getsockname()[1])
+        words = [PROGRAM, "live", show.name, "--to", to, "--cid", CID]
+        night = subprocess.Popen(words, stdin=osc.stdout, stdout=subprocess.PIPE, text=True)
+        self.addCleanup(night.kill)
+        osc.stdout.close()
+        port = int(osc.stderr.readline().rpartition(":")[2])
+        with socket.socket(socket.AF_INET, socket.SOCK_DGRAM) as sender:
+            sender.connect(("127.0.0.1", port))
+            sender.send(message("/cueplayer/sub/1", 1.0))
+            self.assertRegex(night.stdout.readline(), r"^\d+ ok$")
+            wait_for(lambda: 128 in {each[SLOT_1] for each in datagrams(receiver)}, "light")
+            sender.send(bundle(message("/cueplayer/back", 1.0), message("/cueplayer/end")))
+            self.assertRegex(night.stdout.readline(), r"^\d+ refused AtStart$")
+            self.assertRegex(night.stdout.readline(), r"^\d+ ok$")
+        self.assertEqual(0, night.wait(PATIENCE))
+        self.assertEqual(0, osc.wait(PATIENCE))
+        self.assertEqual("", osc.stderr.read())
+        osc.stderr.close()
+        night.stdout.close()

@@ -1,0 +1,80 @@
+"""What the tests of `tools/` share: starting a tool, and waiting for what it tells."""
+
+import queue
+import subprocess
+import sys
+import threading
+import time
+
+from program import PROGRAM, TOP
+
+TOOLS = TOP / "tools"
+# A busy machine takes its time; nothing here waits so long where all is well.
+PATIENCE = 30
+sys.path.insert(0, str(TOOLS))
+
+
+class Lines:
+    """The lines of a stream, read as they come, so that its writer never waits."""
+
+    def __init__(self, stream):
+        self.came = queue.Queue()
+        self.reader = threading.Thread(target=self._read, args=(stream,), daemon=True)
+        self.reader.start()
+
+    def _read(self, stream):
+        with stream:
+            for line in stream:
+                self.came.put(line.rstrip("\n"))
+        self.came.put(None)
+
+    def next(self, patience=PATIENCE):
+        """The next line, or None at the end."""
+        return self.came.get(timeout=patience)
+
+    def rest(self):
+        """All lines up to the end."""
+        return list(iter(self.next, None))
+
+
+class Started:
+    """A tool that runs, with its lines on standard output and standard error."""
+
+    def __init__(self, test, tool, *words, environment=None, **options):
+        self.process = subprocess.Popen(
+            [sys.executable, TOOLS / tool, *map(str, words)],
+            text=True,
+            stdout=subprocess.PIPE,
+            stderr=subprocess.PIPE,
+            env=environment,
+            **options,
+        )
+        self.out = Lines(self.process.stdout)
+        self.err = Lines(self.process.stderr)
+        test.addCleanup(self.process.wait)
+        test.addCleanup(self.process.kill)
+
+
+def run_tool(tool, *words, **options):
+    """Runs a tool to its end."""
+    return subprocess.run(
+        [sys.executable, TOOLS / tool, *map(str, words)],
+        capture_output=True,
+        text=True,
+        timeout=2 * PATIENCE,
+        **options,
+    )
+
+
+def wait_for(condition, what):
+    """Waits until a condition holds, and answers what it answered."""
+    until = time.monotonic() + PATIENCE
+    while time.monotonic() < until:
+        found = condition()
+        if found:
+            return found
+        time.sleep(0.02)
+    raise AssertionError(f"not within {PATIENCE} seconds: {what}")
+
+
+__all__ = ["PATIENCE", "PROGRAM", "TOOLS", "Lines", "Started", "run_tool", "wait_for"]

@@ -1,0 +1,92 @@
+"""What an Open Sound Control message asks of the console, as a line of `live`."""
+
+import math
+import re
+
+from cueplayer_tools.osc_packets import Argument, Message, messages_of
+from cueplayer_tools.words import (
+    Refused,
+    cue_word,
+    level_word,
+    printable,
+    record_number,
+    thousandths_of,
+)
+
+PREFIX = "/cueplayer/"
+BUTTONS = ("go", "back", "end")
+_DECIMAL = re.compile(r"\d{1,9}(\.\d{1,9})?|\.\d{1,9}", re.ASCII)
+
+
+def _number(argument: Argument) -> float:
+    """The value of an argument, a string too, where it is a number from 0."""
+    if isinstance(argument, str):
+        if not _DECIMAL.fullmatch(argument):
+            raise Refused(f"no number: {printable(argument)}")
+        return float(argument)
+    value = float(argument)
+    if not math.isfinite(value) or value < 0:
+        raise Refused(f"no number from 0: {value:g}")
+    return value
+
+
+def _is_pressed(arguments: tuple[Argument, ...]) -> bool:
+    """Whether a button is pressed: without an argument, or by one that is not 0."""
+    if len(arguments) > 1:
+        raise Refused("more than one argument")
+    return not arguments or _number(arguments[0]) > 0
+
+
+def _only(arguments: tuple[Argument, ...]) -> Argument:
+    if len(arguments) != 1:
+        raise Refused(f"{len(arguments)} arguments in the place of one")
+    return arguments[0]
+
+
+def _cue(argument: Argument) -> str:
+    """A cue number: a string spells it; a float has it as near as a float can."""
+    if isinstance(argument, bool):
+        raise Refused("no cue number")
+    if isinstance(argument, str):
+        return cue_word(thousandths_of(argument))
+    thousandths = math.floor(_number(argument) * 1000 + 0.5)
+    return cue_word(thousandths_of(f"{thousandths // 1000}.{thousandths % 1000:03}"))
+
+
+def line_of(message: Message) -> str | None:
+    """The line that a message asks for; None at the release of a button."""
+    arguments = message.arguments
+    if not message.address.startswith(PREFIX):
+        raise Refused("no such address")
+    match message.address.removeprefix(PREFIX).split("/"):
+        case [button] if button in BUTTONS:
+            return button if _is_pressed(arguments) else None
+        case ["goto"]:
+            return f"goto {_cue(_only(arguments))}"
+        case ["goto", number]:
+            cue = cue_word(thousandths_of(number))
+            return f"goto {cue}" if _is_pressed(arguments) else None
+        case [("sub" | "group") as kind, number]:
+            level = level_word(_number(_only(arguments)))
+            return f"{kind} {record_number(number)} {level}"
+        case ["master"]:
+            return f"master {level_word(_number(_only(arguments)))}"
+    raise Refused("no such address")
+
+
+def lines_of(datagram: bytes) -> tuple[list[str], list[str]]:
+    """The lines of a datagram, and what is refused of it, each named in printable characters."""
+    try:
+        messages = messages_of(datagram)
+    except Refused as refusal:
+        return [], [f"{refusal}: {printable(datagram)}" if datagram else str(refusal)]
+    lines, refused = [], []
+    for message in messages:
+        try:
+            line = line_of(message)
+        except Refused as refusal:
+            refused.append(f"{printable(message.address)}: {refusal}")
+        else:
+            if line is not None:
+                lines.append(line)
+    return lines, refused

@@ -1,0 +1,78 @@
+"""The words of the program's lines: spelled as the program reads them, or refused."""
+
+import math
+import re
+
+HIGHEST_NUMBER = 65_535
+LONGEST_NAMED = 80
+_CUE = re.compile(r"(?P<whole>\d{1,9})?(?:\.(?P<parts>\d{1,3}))?", re.ASCII)
+_NUMBER = re.compile(r"\d{1,9}", re.ASCII)
+
+
+class Refused(ValueError):
+    """What was asked for has no meaning here; its text says why."""
+
+
+def printable(text: str | bytes, longest: int = LONGEST_NAMED) -> str:
+    """A text from elsewhere, safe to print: ASCII, one line, and cut."""
+    if isinstance(text, bytes):
+        text = text.decode("latin-1")
+    shown = "".join(letter if " " <= letter <= "~" else "?" for letter in text[:longest])
+    return shown if len(text) <= longest else shown + ".."
+
+
+def thousandths_of(word: str) -> int:
+    """The cue number that a word spells, in thousandths."""
+    found = _CUE.fullmatch(word)
+    if found and word:
+        whole, parts = found["whole"], found["parts"]
+        value = int(whole or 0) * 1000 + int((parts or "").ljust(3, "0") or 0)
+        if 1 <= value <= 9_999_999:
+            return value
+    raise Refused(f"no cue number: {printable(word)}")
+
+
+def cue_word(thousandths: int) -> str:
+    """The shortest spelling of a cue number."""
+    whole, parts = divmod(thousandths, 1000)
+    return f"{whole}.{parts:03}".rstrip("0").rstrip(".")
+
+
+def record_number(word: str) -> int:
+    """The number of a submaster or group that a word spells."""
+    if _NUMBER.fullmatch(word) and int(word) <= HIGHEST_NUMBER:
+        return int(word)
+    raise Refused(f"no number: {printable(word)}")
+
+
+def level_byte(word: str) -> int:
+    """The byte of a level word: percent, FL or FF, or H and hex digits."""
+    word = word.upper()
+    if word in ("FL", "FF"):
+        return 255
+    if re.fullmatch(r"H[0-9A-F]{1,2}", word):
+        return int(word[1:], 16)
+    if _NUMBER.fullmatch(word) and int(word) <= 100:
+        return (int(word) * 255 + 50) // 100
+    raise Refused(f"no level: {printable(word)}")
+
+
+def level_word(share: float) -> str:
+    """The level word of a share of full, 0.0 to 1.0, rounded to the nearest byte."""
+    if not 0.0 <= share <= 1.0:
+        raise Refused(f"level out of range: {share:g}")
+    return f"H{math.floor(share * 255 + 0.5):02X}"
+
+
+def command_line(text: str) -> str:
+    """A command as the one line of `live` that spells it, or Refused where it is none."""
+    match text.lower().split():
+        case [("go" | "back" | "end") as word]:
+            return word
+        case ["goto", number]:
+            return f"goto {cue_word(thousandths_of(number))}"
+        case [("sub" | "group") as kind, number, level]:
+            return f"{kind} {record_number(number)} H{level_byte(level):02X}"
+        case ["master", level]:
+            return f"master H{level_byte(level):02X}"
+    raise Refused(f"no command: {printable(text)}")
