@@ -1,0 +1,266 @@
+"""`tools/picture`: its levels are the program's, and its pictures stand on their own."""
+
+import re
+import subprocess
+import tempfile
+import time
+import unittest
+import xml.etree.ElementTree as xml
+from pathlib import Path
+
+from program import CID, PROGRAM, TOP, ProgramTest, run, text
+from test_live import SEQUENCE, SLOT_1, datagrams
+from test_play import S1, receiving
+from tooling import run_tool
+
+from cueplayer_tools import night, record, rehearsal, show
+from cueplayer_tools.axis import clock
+from cueplayer_tools.curves import ranges
+from cueplayer_tools.words import Refused
+
+EXAMPLES = TOP / "examples"
+EVENING = (
+    "night", EXAMPLES / "small-play.asc", EXAMPLES / "small-play.play", "--every", 100,
+    *(word for channel in (1, 7, 10, 23, 31) for word in ("--channel", channel)),
+    "--title", "A short evening",
+)
+BACKUP = (
+    "rehearsal", EXAMPLES / "one-dimmer.asc", EXAMPLES / "backup-console.script",
+    "--title", "A backup console takes over",
+)
+
+
+class PictureTest(ProgramTest):
+    def setUp(self):
+        folder = tempfile.TemporaryDirectory()
+        self.addCleanup(folder.cleanup)
+        self.folder = Path(folder.name)
+
+    def file(self, name, content):
+        file = self.folder / name
+        file.write_bytes(content)
+        return file
+
+    def night(self, lines, content=S1, universes=(1,), base=1):
+        """The night of these lines."""
+        given = record.read_record("\n".join(lines) + "\n")
+        return night.night_of(self.file("show.asc", content), given, list(universes), base)
+
+    def drawn(self, *words):
+        """A picture, which is sound XML and loads nothing."""
+        done = run_tool("picture", *words)
+        self.assertEqual((0, ""), (done.returncode, done.stderr))
+        drawn = xml.fromstring(done.stdout)
+        self.assertEqual("{http://www.w3.org/2000/svg}svg", drawn.tag)
+        for part in drawn.iter():
+            self.assertNotIn(part.tag.rpartition("}")[2], ("script", "image", "use", "a"))
+        self.assertEqual(["http://www.w3.org/2000/svg"], re.findall(r"\w+://[^\"]*", done.stdout))
+        return done.stdout, [part.text for part in drawn.iter() if part.tag.endswith("}text")]
+
+
+class Levels(PictureTest):
+    def test_rows(self):
+        """The fade of five seconds and the crossfade of the worked rows."""
+        fade = self.night(["0 go", "0 tick", "2500 tick", "2525 tick", "5000 tick"])
+        self.assertEqual([0, 2500, 2525, 5000], fade.moments)
+        self.assertEqual({(1, 1): [0, 127, 129, 255]}, fade.curves)
+        lines = ["0 go", "10000 go", "11000 tick", "11000 goto 1", "12000 tick"]
+        crossfade = self.night(lines, universes=[7], base=7)
+        self.assertEqual({(7, 1): [191, 204], (7, 2): [127, 102]}, crossfade.curves)
+
+    def test_keep_alive(self):
+        """Where a tick sends nothing the receiver keeps what it has; after a long silence too."""
+        lines = ["0 sub 1 FL", *(f"{moment} tick" for moment in (*range(0, 500, 25), 60000))]
+        self.assertEqual({(1, 1): [128] * 21}, self.night(lines).curves)
+
+    def test_refused_and_end(self):
+        """Refused commands are told by their names, refused ticks show nothing, the end is dark."""
+        lines = ["0 sub 1 FL", "0 tick", "5 tick", "25 back", "30 sub 2 FL", "40 end", "50 tick",
+                 "75 tick", "100 tick", "125 tick"]
+        found = self.night(lines)
+        self.assertEqual([0, 50, 75, 100], found.moments)
+        self.assertEqual({(1, 1): [128, 0, 0, 0]}, found.curves)
+        self.assertEqual([None, "AtStart", "NoSub", None], [each.refused for each in found.asked])
+
+    def test_more_universes_than_receivers(self):
+        dimmers = range(1, 16 * 512, 512)
+        patch = "PATCH 1 " + " ".join(f"1<{dimmer}@FL" for dimmer in dimmers)
+        content = text("CUE 1", "CHAN 1@50", patch)
+        found = self.night(["0 go", "0 tick"], content, range(3, 19), 3)
+        self.assertEqual({(universe, 1): [128] for universe in range(3, 19)}, found.curves)
+
+    def test_live_record(self):
+        """Of a live night the levels are those that reached a socket, at each tick."""
+        with receiving() as receiver:
+            to = "127.0.0.1:{}".format(receiver.getsockname()[1])
+            content = text("CUE 1", "UP 1", "CHAN 1@FL", "PATCH 1 1<1@FL")
+            file, kept = self.file("show.asc", content), self.folder / "night.play"
+            words = ["live", file, "--to", to, "--cid", CID, "--record", kept]
+            live = subprocess.Popen([PROGRAM, *words], stdin=subprocess.PIPE, stdout=subprocess.PIPE)
+            self.addCleanup(live.kill)
+            for line in (b"back\n", b"go\n", b"master 70\n"):
+                live.stdin.write(line)
+                live.stdin.flush()
+                time.sleep(0.3)
+            live.communicate(timeout=30)
+            came = datagrams(receiver)
+        given = record.read_record(kept.read_text())
+        found = night.night_of(file, given, [1], 1)
+        shown = iter(came)
+        levels, level = [], 0
+        for line in run(*["play", *words[1:6]], stdin=kept.read_bytes()).out.decode().splitlines():
+            if " live " in line or " ending " in line:
+                sent = re.search(r"1:s(\d+)", line)
+                if sent:
+                    datagram = next(shown)
+                    self.assertEqual(int(sent[1]), datagram[SEQUENCE])
+                    level = datagram[SLOT_1]
+                levels.append(level)
+        self.assertEqual(levels, found.curve((1, 1)))
+        self.assertGreater(len(set(levels)), 5)
+
+    def test_thinned(self):
+        """Of many ticks some are left away, and none beside a command; what is left is unchanged."""
+        ticks = [record.Given(moment, ("tick",)) for moment in range(0, 60000, 25)]
+        commands = [record.Given(moment, ("go",)) for moment in (10, 20010)]
+        given = sorted(ticks + commands, key=lambda line: line.moment)
+        thin = night.thinned(given, 0, 60000)
+        self.assertTrue(200 < len(thin) < 500, len(thin))
+        self.assertLessEqual(set(commands), set(thin))
+        for moment in (0, 25, 20000, 20025, 59975):
+            self.assertIn(record.Given(moment, ("tick",)), thin)
+        file = self.file("show.asc", S1)
+        whole, part = (night.night_of(file, lines, [1], 1) for lines in (given, thin))
+        at = {moment: place for place, moment in enumerate(whole.moments)}
+        for slot in ((1, 1), (1, 2)):
+            kept = [whole.curve(slot)[at[moment]] for moment in part.moments]
+            self.assertEqual(kept, part.curve(slot))
+
+    def test_filled(self):
+        """Ticks of our own stand only where there are none, and never too close to another."""
+        given = record.read_record("10 go\n500 tick\n900 back\n")
+        moments = [line.moment for line in night.filled(given, 100) if line.is_tick]
+        self.assertEqual([10, 110, 210, 310, 410, 500, 600, 700, 800, 900], moments)
+
+
+class Pictures(PictureTest):
+    def test_examples(self):
+        """The pictures of examples/, byte for byte."""
+        for name, words in (("small-play.svg", EVENING), ("backup-console.svg", BACKUP)):
+            with self.subTest(name):
+                drawn, _ = self.drawn(*words)
+                self.assertEqual((EXAMPLES / name).read_text(), drawn)
+
+    def test_evening(self):
+        """Cues by their names, masters, a refused command; both kinds of background."""
+        drawn, texts = self.drawn(*EVENING)
+        for told in ("A short evening", "0.5 preset: the audience comes in", "4 curtain call",
+                     "go: AtEnd", "master", "sub 2 work light", "channel 31 (3:1-2)"):
+            self.assertIn(told, texts)
+        self.assertIn("prefers-color-scheme:dark", drawn)
+        self.assertIn("@media print", drawn)
+
+    def test_backup(self):
+        """The lost packets of the example; its printed replies alone give the same but for what
+        they were not asked."""
+        for replies in ((), ("--replies", EXAMPLES / "backup-console.replies")):
+            _, texts = self.drawn(*BACKUP, *replies)
+            self.assertIn("2 of 6 lost", texts)
+            self.assertIn("0 of 5 lost", texts)
+
+    def test_questions_change_nothing(self):
+        script = (EXAMPLES / "backup-console.script").read_text()
+        asked = rehearsal.with_questions(script, list(range(0, 7000, 10)))
+        own = rehearsal.rehearse(EXAMPLES / "one-dimmer.asc", script)
+        more = rehearsal.rehearse(EXAMPLES / "one-dimmer.asc", asked)
+        self.assertGreater(len(more.events), len(own.events) + 600)
+        rest = iter(more.events)
+        self.assertTrue(all(any(event == each for each in rest) for event in own.events))
+        self.assertEqual(own.last, more.last)
+
+    def test_lost_packets(self):
+        """What `live` printed tells which packets were lost."""
+        file = self.file("show.asc", S1)
+        kept = self.file("night.play", b"0 go\n0 tick\n2000 tick\n4000 tick\n")
+        printed = self.file("printed", b"0 ok\n2000 live 1:x1\n4000 live 1:x2\n")
+        drawn, texts = self.drawn("night", file, kept, "--replies", printed)
+        self.assertEqual("2", texts[texts.index("lost packets") + 1])
+        self.assertIn("2 packets were lost", drawn)
+        self.assertNotIn("lost packets", self.drawn("night", file, kept)[1])
+
+    def test_names_are_text(self):
+        """What a show is called by is never markup."""
+        file = self.file("show.asc", text('CUE 1 ! <b>&"', "CHAN 1@FL", "PATCH 1 1<1@FL"))
+        kept = self.file("night.play", b"0 go\n0 tick\n25 tick\n")
+        _, texts = self.drawn("night", file, kept, "--title", "</svg>")
+        self.assertIn('1 <b>&"', texts)
+        self.assertIn("</svg>", texts)
+
+    def test_part_of_a_night(self):
+        """Commands before the part count, and are not drawn."""
+        file = self.file("show.asc", S1)
+        kept = self.file("night.play", b"0 go\n0 tick\n6000 tick\n6025 tick\n7000 go\n")
+        _, texts = self.drawn("night", file, kept, "--from", 6000, "--until", 6500, "--slot", "1:1")
+        self.assertNotIn("1", texts[texts.index("night.play") :])
+        self.assertIn("1:1", texts)
+
+    def test_refused(self):
+        file, kept = self.file("show.asc", S1), self.file("night.play", b"0 go\n0 tick\n5 ti")
+        self.assertEqual(0, run_tool("picture", "night", file, kept).returncode)
+        cases = (
+            (b"", "the record has no lines"),
+            (b"0 go\n5 jump\n0 tick\n", "record: line 2 refused"),
+            (b"0 go\n", "no tick is in this part of the night: nothing was shown"),
+        )
+        for content, told in cases:
+            kept.write_bytes(content)
+            done = run_tool("picture", "night", file, kept)
+            self.assertEqual((1, "", f"picture: {told}\n"), tuple(vars(done).values())[1:])
+        file.write_bytes(text("CUE x"))
+        done = run_tool("picture", "night", file, kept)
+        self.assertEqual((1, "picture: show line 1: BadNumber\n"), (done.returncode, done.stderr))
+
+
+class Shows(PictureTest):
+    def test_names(self):
+        """A cue is called by its TEXT line, else by the comment of its line."""
+        found = show.read_names(
+            text(
+                "IDENT 3:0", "CUE 1 ! one", "UP 1:30.5 2", "CUE 2", 'TEXT "two, or  so" ! no',
+                "CUE .5 1 ! \xe9", "DOWN 4", "SUB 3 ! three", "GROUP 4", "TEXT four",
+                "CUE 9 2 ! foreign", "TEXT foreign", "$MAKER", "CUE 7", "UP .5", "DOWN 1 .25",
+                "PATCH 1 1<1@FL 2<600@FL 2<2@FL 0<2@FL", "TEXT of none", "ENDDATA", "CUE 8",
+            )
+        )
+        names = {number: cue.name for number, cue in found.cues.items()}
+        self.assertEqual({1000: "one", 2000: "two, or so", 500: "\xe9", 7000: ""}, names)
+        self.assertEqual({3: show.Record("three")}, found.subs)
+        self.assertEqual({4: show.Record("four")}, found.groups)
+        self.assertEqual([92500, 0, 4000, 1250], [found.cues[number].fade for number in found.cues])
+        self.assertEqual({1: 1, 600: 2}, found.patch)
+        self.assertEqual([(3, 88)], found.slots_of(2, 2))
+
+    def test_cleared(self):
+        lines = ("CUE 1", "SUB 1", "GROUP 1", "PATCH 1 1<1@FL")
+        for word, left in (("ALL", "0000"), ("CUE", "0111"), ("SUBS", "1011"), ("PATCH", "1110")):
+            found = show.read_names(text(*lines, f"CLEAR {word}"))
+            tables = (found.cues, found.subs, found.groups, found.patch)
+            self.assertEqual(left, "".join(str(len(table)) for table in tables))
+
+    def test_examples_as_the_program_reads_them(self):
+        for file in EXAMPLES.glob("*.asc"):
+            self.assertTrue(show.read_show(str(file)).cues)
+
+    def test_faults(self):
+        with self.assertRaisesRegex(Refused, "device fault"):
+            show.read_show(str(self.folder / "none"))
+
+
+class Texts(unittest.TestCase):
+    def test_clock(self):
+        cases = ((0, "0 s"), (500, "0.5 s"), (59990, "59.99 s"), (60000, "1:00"), (3661000, "1:01:01"))
+        for moment, told in cases:
+            self.assertEqual(told, clock(moment))
+
+    def test_ranges(self):
+        self.assertEqual("1-3, 7, 9-10", ranges([1, 2, 3, 7, 9, 10]))

@@ -1,0 +1,163 @@
+"""A night, as the program tells it: what a receiver showed at many moments, and what was answered.
+
+The lines of the record are rehearsed by the program, with ticks where the record has them, and with
+a receiver of each universe that is handed each packet at once and asked for its slots.
+"""
+
+from bisect import bisect_left
+from dataclasses import dataclass, field
+
+from cueplayer_tools.position import Move, Position
+from cueplayer_tools.record import Given
+from cueplayer_tools.rehearsal import MOST_RECEIVERS, Event, rehearse
+from cueplayer_tools.show import Show
+from cueplayer_tools.words import Refused, level_byte
+
+# Any identity does: what is shown of a night does not hang on its name.
+CONSOLE = "00000000-0000-4000-8000-000000000001"
+LEAST_APART = 23
+MOST_MOMENTS = 480
+Slot = tuple[int, int]
+Curve = list[int]
+
+
+@dataclass(frozen=True)
+class Asked:
+    """A command and what the program answered to it: None is `ok`."""
+
+    moment: int
+    words: tuple[str, ...]
+    refused: str | None
+
+
+@dataclass
+class Night:
+    """What there is to draw: the levels of each slot that was ever lit, one for each moment."""
+
+    moments: list[int] = field(default_factory=list)
+    curves: dict[Slot, Curve] = field(default_factory=dict)
+    asked: list[Asked] = field(default_factory=list)
+
+    @property
+    def first(self) -> int:
+        return self.moments[0]
+
+    @property
+    def last(self) -> int:
+        return max(self.moments[-1], max((each.moment for each in self.asked), default=0))
+
+    def curve(self, slot: Slot) -> Curve:
+        return self.curves.get(slot, [0] * len(self.moments))
+
+
+def filled(given: list[Given], every: int) -> list[Given]:
+    """The lines, with ticks of our own wherever the next recorded one is farther than `every`."""
+    ticks = [line.moment for line in given if line.is_tick]
+    last = max(line.moment for line in given)
+    stops = sorted({*ticks, last + LEAST_APART})
+    own = list(range(min(line.moment for line in given), stops[0] - LEAST_APART + 1, every))
+    for here, there in zip(ticks, stops[bisect_left(stops, ticks[0]) + 1 :] if ticks else []):
+        own += range(here + every, there - LEAST_APART + 1, every)
+    both = given + [Given(moment, ("tick",)) for moment in own]
+    # Lines of one moment stay in their order, and a tick of our own comes behind them.
+    return sorted(both, key=lambda line: line.moment)
+
+
+def thinned(given: list[Given], first: int, last: int) -> list[Given]:
+    """The commands up to `last`, and of the ticks between the two no more than can be seen: those
+    at even distances, and the last before and the first after each command."""
+    ticks = [at for at, line in enumerate(given) if line.is_tick and first <= line.moment <= last]
+    moments = [given[at].moment for at in ticks]
+    wanted = set(ticks[:1] + ticks[-1:])
+    if len(ticks) > MOST_MOMENTS:
+        for step in range(MOST_MOMENTS):
+            moment = first + (last - first) * step // MOST_MOMENTS
+            wanted.add(ticks[min(bisect_left(moments, moment), len(ticks) - 1)])
+        for at in (at for at, line in enumerate(given) if not line.is_tick):
+            behind = bisect_left(ticks, at)
+            wanted.update(ticks[max(behind - 1, 0) : behind + 1])
+    else:
+        wanted.update(ticks)
+    return [
+        line
+        for at, line in enumerate(given)
+        if at in wanted or (not line.is_tick and line.moment <= last)
+    ]
+
+
+def _lines(given: list[Given]) -> list[str]:
+    return [
+        f"{line.moment} tick 0" if line.is_tick else f"{line.moment} do 0 {line.asked}"
+        for line in given
+    ]
+
+
+def _asked(events: list[Event]) -> list[Asked]:
+    commands = (event for event in events if event.words[0] == "do")
+    return [
+        Asked(each.moment, each.words[2:], None if each.reply == ("ok",) else each.reply[-1])
+        for each in commands
+    ]
+
+
+def night_of(file: str, given: list[Given], universes: list[int], base: int) -> Night:
+    """The night of these lines, at the moments of its ticks."""
+    header = f"console {base} 100 {CONSOLE}\n"
+    plain = rehearse(file, header + "\n".join(_lines(given)) + "\n")
+    ticks = [event for event in plain.events if event.words[0] == "tick"]
+    accepted = [event for event in ticks if event.reply[0] != "refused"]
+    if not accepted:
+        raise Refused("no tick is in this part of the night: nothing was shown")
+    night = Night([event.moment for event in accepted], asked=_asked(plain.events))
+    for start in range(0, len(universes), MOST_RECEIVERS):
+        _listen(night, file, header, plain.events, universes[start : start + MOST_RECEIVERS])
+    return night
+
+
+def _listen(
+    night: Night, file: str, header: str, events: list[Event], universes: list[int]
+) -> None:
+    """Adds the slots of these universes to a night, by a rehearsal with a receiver of each."""
+    script = [header + "".join(f"receiver {universe}\n" for universe in universes)]
+    packets = dict.fromkeys(universes, 0)
+    for event in events:
+        script.append(f"{event.moment} {' '.join(event.words)}\n")
+        if event.words[0] != "tick" or event.reply[0] == "refused":
+            continue
+        for receiver, universe in enumerate(universes):
+            if universe in event.sent():
+                packet = packets[universe]
+                packets[universe] += 1
+                script.append(f"{event.moment} deliver {receiver} 0 {universe} {packet}\n")
+            script.append(f"{event.moment} slots {receiver}\n")
+    heard = rehearse(file, "".join(script))
+    at = dict.fromkeys(range(len(universes)), 0)
+    for event in heard.events:
+        if event.words[0] == "slots":
+            receiver = int(event.words[1])
+            for slot, level in event.slots().items():
+                key = (universes[receiver], slot)
+                curve = night.curves.setdefault(key, [0] * len(night.moments))
+                curve[at[receiver]] = level
+            at[receiver] += 1
+
+
+def moves_of(show: Show, night: Night) -> list[Move]:
+    """The moves of a night: which cues it came to, and when."""
+    position = Position(show)
+    for each in night.asked:
+        if each.refused is None:
+            position.take(each.moment, each.words)
+    position.advance(night.last)
+    return position.moves
+
+
+def masters_of(asked: list[Asked]) -> dict[str, list[tuple[int, int]]]:
+    """The positions of each master that was moved, by its words: moments and bytes."""
+    masters: dict[str, list[tuple[int, int]]] = {}
+    for each in asked:
+        if each.refused is None and each.words[0] in ("sub", "group", "master"):
+            *name, level = each.words
+            words = " ".join([name[0], *(str(int(number)) for number in name[1:])])
+            masters.setdefault(words, []).append((each.moment, level_byte(level)))
+    return masters

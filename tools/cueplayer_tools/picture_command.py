@@ -1,0 +1,110 @@
+"""`tools/picture`: draws a night or a rehearsal, as scalable vector graphics on standard output."""
+
+import argparse
+import re
+import sys
+from pathlib import Path
+
+from cueplayer_tools.curves import all_of, chosen
+from cueplayer_tools.night import LEAST_APART, Slot, filled, night_of, thinned
+from cueplayer_tools.picture_night import NightPicture, draw_night
+from cueplayer_tools.picture_rehearsal import draw_rehearsal, moments_between
+from cueplayer_tools.record import lost_in, read_record, words_of
+from cueplayer_tools.rehearsal import rehearse, with_questions, with_replies
+from cueplayer_tools.show import read_show
+from cueplayer_tools.words import Refused
+
+QUESTIONS = 480
+
+
+def slot_word(word: str) -> Slot:
+    """`UNIVERSE:SLOT`."""
+    found = re.fullmatch(r"(\d{1,5}):(\d{1,3})", word, re.ASCII)
+    if found and 1 <= int(found[1]) <= 63_999 and 1 <= int(found[2]) <= 512:
+        return int(found[1]), int(found[2])
+    raise argparse.ArgumentTypeError(f"no slot of a universe: {word!r}")
+
+
+def whole_number(word: str) -> int:
+    if re.fullmatch(r"\d{1,15}", word, re.ASCII):
+        return int(word)
+    raise argparse.ArgumentTypeError(f"no number: {word!r}")
+
+
+def _text(file: str) -> str:
+    try:
+        return Path(file).read_bytes().decode("latin-1")
+    except OSError as fault:
+        raise Refused(f"{file}: {fault.strerror}") from fault
+
+
+def night_picture(words: argparse.Namespace) -> str:
+    """The picture of a record."""
+    show = read_show(words.show)
+    given = read_record(_text(words.record))
+    if not given:
+        raise Refused("the record has no lines")
+    if words.every is not None:
+        given = filled(given, max(words.every, LEAST_APART))
+    first = given[0].moment if words.first is None else words.first
+    last = given[-1].moment if words.until is None else words.until
+    asked_for = {universe for universe, _ in words.slot}
+    universes = sorted(asked_for | set(show.universes(words.base)))
+    night = night_of(words.show, thinned(given, first, last), universes, words.base)
+    if words.slot or words.channel:
+        named, left_away = chosen(night, show, words.base, words.slot, words.channel), 0
+    else:
+        named, left_away = all_of(night, show, words.base)
+    lost = None if words.replies is None else lost_in(_text(words.replies))
+    title = words.title or Path(words.record).name
+    return draw_night(NightPicture(title, show, night, named, left_away, lost))
+
+
+def rehearsal_picture(words: argparse.Namespace) -> str:
+    """The picture of a script's rehearsal, or of what was printed of it."""
+    script = _text(words.script)
+    if words.replies is not None:
+        rehearsal = with_replies(script, _text(words.replies))
+    else:
+        lines = (words_of(line) for line in script.split("\n"))
+        moments = [int(line[0]) for line in lines if line and line[0].isdecimal()]
+        questions = moments_between(moments, QUESTIONS)
+        rehearsal = rehearse(words.show, with_questions(script, questions))
+    return draw_rehearsal(words.title or Path(words.script).name, rehearsal)
+
+
+def _parser() -> argparse.ArgumentParser:
+    parser = argparse.ArgumentParser(prog="picture", description=__doc__)
+    kinds = parser.add_subparsers(required=True, metavar="night|rehearsal")
+    night = kinds.add_parser("night", help="a record of `live`, or lines of `play`")
+    night.add_argument("show", metavar="SHOW")
+    night.add_argument("record", metavar="RECORD")
+    night.add_argument("--replies", metavar="FILE", help="what `live` printed: the lost packets")
+    night.add_argument("--slot", metavar="U:S", type=slot_word, action="append", default=[])
+    night.add_argument("--channel", metavar="N", type=whole_number, action="append", default=[])
+    night.add_argument("--from", metavar="MS", dest="first", type=whole_number)
+    night.add_argument("--until", metavar="MS", type=whole_number)
+    night.add_argument("--base", metavar="U", type=whole_number, default=1)
+    night.add_argument("--every", metavar="MS", type=whole_number,
+                       help="ticks of its own, so far apart, where the lines have none")
+    night.add_argument("--title", metavar="TEXT")
+    night.set_defaults(draw=night_picture)
+    rehearsal = kinds.add_parser("rehearsal", help="a script of `rehearse`")
+    rehearsal.add_argument("show", metavar="SHOW")
+    rehearsal.add_argument("script", metavar="SCRIPT")
+    rehearsal.add_argument("--replies", metavar="FILE",
+                           help="what `rehearse` printed; left out, it is run, and asked often")
+    rehearsal.add_argument("--title", metavar="TEXT")
+    rehearsal.set_defaults(draw=rehearsal_picture)
+    return parser
+
+
+def main(words: list[str]) -> int:
+    """Runs the tool with these words, and answers its exit status."""
+    chosen_words = _parser().parse_args(words)
+    try:
+        print(chosen_words.draw(chosen_words), end="")
+    except Refused as refusal:
+        print(f"picture: {refusal}", file=sys.stderr)
+        return 1
+    return 0

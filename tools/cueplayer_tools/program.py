@@ -1,0 +1,29 @@
+"""Running the program: the built one that `CUEPLAYER` names, or the script that builds it."""
+
+import os
+import subprocess
+from dataclasses import dataclass
+from pathlib import Path
+
+TOP = Path(__file__).resolve().parents[2]
+SCRIPT = TOP / "cueplayer"
+
+
+def program() -> str:
+    """The program to run."""
+    return os.environ.get("CUEPLAYER") or str(SCRIPT)
+
+
+@dataclass(frozen=True)
+class Ended:
+    """How a run ended: a status other than 0 has its reason in `told`."""
+
+    status: int
+    printed: str
+    told: str
+
+
+def run(*words: str | os.PathLike[str], given: bytes = b"") -> Ended:
+    """Runs the program with these words and this standard input."""
+    done = subprocess.run([program(), *words], input=given, capture_output=True, check=False)
+    return Ended(done.returncode, done.stdout.decode("latin-1"), done.stderr.decode("latin-1"))
