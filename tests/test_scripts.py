@@ -1,86 +1,17 @@
-"""The two scripts of the repository, in a copy of its layout whose prover is a stand-in."""
+"""`.ci/run`, and when `./cueplayer` builds and runs, in a copy of the layout with a prover's stand-in."""
 
 import os
 import shutil
 import signal
-import subprocess
-import tempfile
-import time
-import unittest
 from pathlib import Path
 
-from program import TOP
-
-# A program that shows its words, its input and a status of its own.
-PROGRAM = """#!/bin/sh
-echo "words: $*"
-cat
-exit 3
-"""
-
-# A prover that proves everything at once, and leaves that program.
-PROVER = """#!/bin/sh
-echo "rt $*" >>"$PROVER_LOG"
-mkdir -p "$PROVER_TOP/crates/cueplayer/out"
-cp "$PROVER_TOP/made" "$PROVER_TOP/crates/cueplayer/out/cueplayer"
-echo "7 passed, 0 failed"
-"""
+from copied_layout import PROGRAM, PROVER, CopiedLayout
 
 
-class Scripts(unittest.TestCase):
-    def setUp(self):
-        folder = tempfile.TemporaryDirectory()
-        self.addCleanup(folder.cleanup)
-        self.top = Path(folder.name) / "a copy"
-        self.log = self.top / "log"
-        self.source = self.top / "crates/show_core/src/lib.rt"
-        self.source.parent.mkdir(parents=True)
-        (self.top / "crates/cueplayer").mkdir()
-        for file in (self.source, self.top / "crates.txt", self.top / "HANDLES", self.log):
-            file.write_text("")
-        for script in ("cueplayer", ".ci/run"):
-            (self.top / script).parent.mkdir(exist_ok=True)
-            shutil.copy(TOP / script, self.top / script)
-        self.write("made", PROGRAM)
-        self.write("bin/rt", PROVER)
-        self.write("tests/run", "#!/bin/sh\necho '4 passed, 0 failed'\n")
-
-    def write(self, name, content):
-        """An executable file of the copy."""
-        file = self.top / name
-        file.parent.mkdir(parents=True, exist_ok=True)
-        file.write_text(content)
-        file.chmod(0o755)
-
-    def start(self, script, *words, path=None):
-        """Starts a script of the copy, with all temporary files in a folder of the copy."""
-        (self.top / "tmp").mkdir(exist_ok=True)
-        environment = {
-            "PATH": path or f"{self.top}/bin:{os.environ['PATH']}",
-            "PROVER_TOP": str(self.top),
-            "PROVER_LOG": str(self.log),
-            "TMPDIR": str(self.top / "tmp"),
-        }
-        started = subprocess.Popen(
-            [self.top / script, *words],
-            stdin=subprocess.PIPE,
-            stdout=subprocess.PIPE,
-            stderr=subprocess.PIPE,
-            text=True,
-            env=environment,
-        )
-        self.addCleanup(started.wait)
-        self.addCleanup(started.kill)
-        return started
-
-    def run_script(self, script, *words, path=None):
-        started = self.start(script, *words, path=path)
-        out, err = started.communicate("a show\n", timeout=60)
-        return started.returncode, out, err
-
+class Scripts(CopiedLayout):
     def proved(self):
-        """How often the prover was started."""
-        return len(self.log.read_text().splitlines())
+        """How often the prover was asked for a program."""
+        return self.asked().count("rt run -- --help")
 
     def closing(self, outcome):
         """The exit status and the last line of a run of `.ci/run`."""
@@ -94,11 +25,10 @@ class Scripts(unittest.TestCase):
         self.assertIn("building and proving cueplayer, this takes minutes", err)
         self.assertEqual((*passed_through, ""), self.run_script("cueplayer", "look", "-", "1"))
         self.assertEqual(1, self.proved())
-        program = self.top / "crates/cueplayer/out/cueplayer"
         for file in (self.source, self.top / "crates.txt", self.top / "HANDLES"):
             with self.subTest(file):
                 before = self.proved()
-                newer = program.stat().st_mtime + 1
+                newer = self.program.stat().st_mtime + 1
                 os.utime(file, (newer, newer))
                 self.assertEqual(passed_through, self.run_script("cueplayer", "look", "-", "1")[:2])
                 self.assertEqual(before + 1, self.proved())
@@ -120,7 +50,6 @@ class Scripts(unittest.TestCase):
 
     def test_interrupted_build_leaves_nothing(self):
         """Neither half a program, nor a temporary file, nor the prover."""
-        program = self.top / "crates/cueplayer/out/cueplayer"
         self.write("bin/rt", PROVER + 'echo $$ >"$PROVER_TOP/prover"\nexec sleep 60\n')
         for interruption in (signal.SIGTERM, signal.SIGINT, signal.SIGHUP):
             with self.subTest(interruption):
@@ -131,17 +60,10 @@ class Scripts(unittest.TestCase):
                 started.send_signal(interruption)
                 started.communicate(timeout=60)
                 self.assertNotEqual(0, started.returncode)
-                self.assertFalse(program.exists())
+                self.assertFalse(self.program.exists())
                 self.assertEqual([], list((self.top / "tmp").iterdir()))
                 self.wait_for(lambda: not Path(f"/proc/{number}").exists())
                 prover.unlink()
-
-    def wait_for(self, condition):
-        for _ in range(600):
-            if condition():
-                return
-            time.sleep(0.05)
-        self.fail("nothing came of it within 30 seconds")
 
     def test_prover_that_leaves_no_program(self):
         self.write("bin/rt", "#!/bin/sh\necho all is well\n")
