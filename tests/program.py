@@ -14,6 +14,9 @@ CID = "c0ffee00-0000-4000-8000-00000000e131"
 LOOK_ONE = ("IDENT 3:0", "CUE 1", "CHAN 1@H80", "PATCH 1 1<1@H80", "ENDDATA")
 
 
+NO_PATCH = b"no dimmer is patched\n"
+
+
 class Outcome(NamedTuple):
     """How a run ended, and what it wrote."""
 
@@ -80,9 +83,12 @@ class ProgramTest(unittest.TestCase):
         self.assertRuns(["look", "-", "1", "--cid", CID], show, status=3, err=err)
 
     def assertLooks(self, show, cue, universes):
-        """`look` prints one packet a universe, with these slots: `universes` is in their order."""
+        """`look` prints one packet a universe, with these slots: `universes` is in their order.
+
+        Where there is no universe, it says so on standard error."""
         out = b"".join(packet(*universe).hex().encode() + b"\n" for universe in universes.items())
-        self.assertRuns(["look", "-", cue, "--cid", CID], show, out=out)
+        err = b"" if universes else NO_PATCH
+        self.assertRuns(["look", "-", cue, "--cid", CID], show, out=out, err=err)
 
     def assertNoCue(self, show, cue):
         """`look` does not find the cue."""

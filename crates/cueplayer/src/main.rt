@@ -12,13 +12,14 @@ mod record;
 mod shown_output;
 mod socket;
 mod typed_input;
+mod watched_output;
 mod words;
 
 use clap::Error;
 use cueplayer_faults::{RunFault, exit_status};
 use cueplayer_play::play;
 use cueplayer_rehearse::rehearse_text;
-use cueplayer_runs::{check, listen, look};
+use cueplayer_runs::{check, listen, look, slots};
 use cueplayer_words::{Job, Name, WordsFault, read_words};
 use devices::Output;
 use fade_core::StepFader;
@@ -35,6 +36,7 @@ use std::env;
 use std::io::{BufWriter, ErrorKind};
 use std::process::ExitCode;
 use typed_input::TypedInput;
+use watched_output::WatchedOutput;
 use words::UserWords;
 
 // The exit status of words that are refused.
@@ -43,16 +45,10 @@ const REFUSED: u8 = 2;
 fn run(rt: &HostRuntime, job: Job) -> Result<(), RunFault>
     requires { IsInRange job }
 {
-    let mut out = SystemOutput::new(rt.stdout());
     match job {
-        Job::Check { show } => {
-            let text = show_text(rt, show.as_str())?;
-            check(rt.alloc(), text.as_slice(), &mut out)
-        }
-        Job::Look { show, cue, cid } => {
-            let text = show_text(rt, show.as_str())?;
-            look(rt.alloc(), text.as_slice(), cue, cid, &mut out)
-        }
+        Job::Check { show } => check_show(rt, show.as_str()),
+        Job::Look { show, cue, cid } => look_at(rt, show.as_str(), cue, cid),
+        Job::Slots { show, cue, base } => show_slots(rt, show.as_str(), cue, base),
         Job::Play {
             show,
             to,
@@ -68,26 +64,61 @@ fn run(rt: &HostRuntime, job: Job) -> Result<(), RunFault>
             base,
             record_file,
         } => {
+            let source = identity(cid, priority);
             let record_file = record_file.as_ref().map(Name::as_str);
-            play_live(
-                rt,
-                show.as_str(),
-                to,
-                identity(cid, priority),
-                base,
-                record_file,
-            )
+            play_live(rt, show.as_str(), to, source, base, record_file)
         }
         Job::Rehearse { show, script } => rehearse(rt, show.as_str(), script.as_str()),
         Job::Listen {
             at,
             universe,
             count,
-        } => {
-            let mut source = ReceivingSocket::bind(rt, at)?;
-            listen(&mut source, universe, count, &mut out)
-        }
+        } => listen_at(rt, at, universe, count),
     }
+}
+
+fn check_show(rt: &HostRuntime, show: &str) -> Result<(), RunFault> {
+    let text = show_text(rt, show)?;
+    let mut out = SystemOutput::new(rt.stdout());
+    check(rt.alloc(), text.as_slice(), &mut out)
+}
+
+fn look_at(rt: &HostRuntime, show: &str, cue: u32, cid: [u8; 16]) -> Result<(), RunFault> {
+    let text = show_text(rt, show)?;
+    let mut out = WatchedOutput::new(SystemOutput::new(rt.stdout()));
+    look(rt.alloc(), text.as_slice(), cue, cid, &mut out)?;
+    if out.is_empty() {
+        tell_of_no_patch(rt);
+    }
+    Ok(())
+}
+
+fn show_slots(rt: &HostRuntime, show: &str, cue: u32, base: u16) -> Result<(), RunFault> {
+    let text = show_text(rt, show)?;
+    let mut out = WatchedOutput::new(SystemOutput::new(rt.stdout()));
+    slots(rt.alloc(), text.as_slice(), cue, base, &mut out)?;
+    if out.is_empty() {
+        tell_of_no_patch(rt);
+    }
+    Ok(())
+}
+
+// A show prints no universe exactly where none of its dimmers is patched.
+fn tell_of_no_patch(rt: &HostRuntime) {
+    let _ = SystemOutput::new(rt.stderr()).write(b"no dimmer is patched\n");
+}
+
+fn listen_at(
+    rt: &HostRuntime,
+    at: ([u8; 4], u16),
+    universe: u16,
+    count: u32,
+) -> Result<(), RunFault>
+    requires { (1 ≤ universe) × (universe ≤ 63999) }
+{
+    let mut source = ReceivingSocket::bind(rt, at)?;
+    let mut out = SystemOutput::new(rt.stdout());
+    listen(&mut source, universe, count, &mut out)
 }
 
 // Plays the lines of standard input.

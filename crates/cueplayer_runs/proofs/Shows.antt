@@ -26,7 +26,7 @@ check_of show written lines skipped s is read skips line =
     of_its_show show (λ t. written ≡ check_text (lines_read desk show) (lines_skipped desk show) t) s is counted
 
 -- a value that is there, of which something is known
-some_and : {X : Type 0} (o : Option X) (P : X → Type 0) → is_some o ≡ true → IfSome o P → IsSomeAnd o P
+pub some_and : {X : Type 0} (o : Option X) (P : X → Type 0) → is_some o ≡ true → IfSome o P → IsSomeAnd o P
 some_and None P there p = absurd (true≢false (sym there))
 some_and (Some x) P there p = p
 

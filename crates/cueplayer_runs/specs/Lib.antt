@@ -2,3 +2,4 @@ pub mod Texts
 pub mod Prints
 pub mod Faults
 pub mod Listening
+pub mod Slots

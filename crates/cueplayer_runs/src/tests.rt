@@ -1,6 +1,6 @@
 mod listening;
 
-use crate::{check, look};
+use crate::{check, look, slots};
 use cueplayer_faults::RunFault;
 use devices::memory::MemoryOutput;
 use std::alloc::Global;
@@ -15,12 +15,14 @@ const ONE_LAMP: &[u8] = b"IDENT 3:0\nCUE 1\nCHAN 1@H80\nPATCH 1 1<1@H80\nENDDATA
 enum Call {
     Check,
     Look(u32),
+    Slots(u32, u16),
 }
 
 fn run(alloc: Global, call: Call, show: &[u8], out: &mut MemoryOutput) -> Result<(), RunFault> {
     match call {
         Call::Check => check(alloc, show, out),
         Call::Look(cue) => look(alloc, show, cue, CID, out),
+        Call::Slots(cue, base) => slots(alloc, show, cue, base, out),
     }
 }
 
@@ -175,8 +177,48 @@ fn look_missing_cue(rt: HostRuntime) {
 }
 
 #[test]
+fn slots_rows(rt: HostRuntime) {
+    let two_universes = b"CUE 1\nCHAN 1@FL 2@50\nPATCH 1 1<1@FL 2<3@FL 1<513@FL\n";
+    for (row, show, base, text) in [
+        (
+            "look_one",
+            ONE_LAMP,
+            1,
+            b"universe 1\nslots 1:64\n".as_slice(),
+        ),
+        (
+            "look_two_universes",
+            two_universes,
+            7,
+            b"universe 7\nslots 1:255 3:128\nuniverse 8\nslots 1:255\n",
+        ),
+        (
+            "look_no_patch",
+            b"IDENT 3:0\nCUE 1\nCHAN 1@H80\nENDDATA\n",
+            1,
+            b"",
+        ),
+    ] {
+        let (answer, out) = end(rt.alloc(), Call::Slots(1000, base), show, 0);
+        assert_eq!(rt; answer, Ok(()), "{row}");
+        assert!(rt; out.bytes.as_slice() == text, "{row}");
+    }
+    for (show, cue, base, answer) in [
+        (ONE_LAMP, 2000, 64000, Err(RunFault::NoCue)),
+        (ONE_LAMP, 1000, 63999, Ok(())),
+        (two_universes, 1000, 63998, Ok(())),
+        (two_universes, 1000, 63999, Err(RunFault::Base)),
+        (ONE_LAMP, 1000, 0, Err(RunFault::Base)),
+    ] {
+        let (ended, out) = end(rt.alloc(), Call::Slots(cue, base), show, 0);
+        assert_eq!(rt; ended, answer, "{cue} {base}");
+        assert!(rt; out.bytes.is_empty() == answer.is_err(), "{cue} {base}");
+    }
+}
+
+#[test]
 fn each_device_fails(rt: HostRuntime) {
-    for call in [Call::Check, Call::Look(1000)] {
+    for call in [Call::Check, Call::Look(1000), Call::Slots(1000, 1)] {
         let (answer, out) = end(rt.alloc(), call, ONE_LAMP, 1);
         assert_eq!(rt; answer, Err(RunFault::Device), "{call:?}");
         assert!(rt; out.bytes.is_empty() && out.faults.failed == 1, "{call:?}");

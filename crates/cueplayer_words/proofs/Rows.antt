@@ -8,7 +8,7 @@ use Rattle.cueplayer_words.specs.Program.{program}
 use Rattle.cueplayer_words.specs.Address.{address_of}
 use Rattle.cueplayer_words.specs.Job.{job_of, number_between}
 use Rattle.cueplayer_words.specs.Asked.{Passes}
-use Rattle.cueplayer_words.specs.declared.job.Job.TheVariants.{Check, Look, Play, Live}
+use Rattle.cueplayer_words.specs.declared.job.Job.TheVariants.{Check, Look, Slots, Play, Live}
 use Rattle.cueplayer_words.specs.declared.job.Job.TheVariants.{Rehearse, Listen}
 
 -- `check a.asc`
@@ -45,6 +45,21 @@ look_job : job_of (look_words (codes "1")) ≡ Some (Look (codes "-") 1000
     (192 ∷ 255 ∷ 238 ∷ 0 ∷ 0 ∷ 0 ∷ 64 ∷ 0 ∷ 128 ∷ 0 ∷ 0 ∷ 0 ∷ 0 ∷ 0 ∷ 225 ∷ 49 ∷ []))
 unfolding clap_on_literals uuid_on_literals
 look_job = refl
+
+-- `slots a.asc CUE`, with more options
+abbrev slots_words : Text → List Text → List Text
+slots_words cue more = codes "cueplayer" ∷ codes "slots" ∷ codes "a.asc" ∷ cue ∷ more
+
+slots_passes : Passes (slots_words (codes "1.5") [])
+unfolding clap_on_literals
+slots_passes = refl
+
+slots_job : (job_of (slots_words (codes "1.5") []) ≡ Some (Slots (codes "a.asc") 1500 1))
+    × (job_of (slots_words (codes ".25") (codes "--base" ∷ codes "63999" ∷ []))
+    ≡ Some (Slots (codes "a.asc") 250 63999))
+    × (job_of (slots_words (codes "1") (codes "--base" ∷ codes "0" ∷ [])) ≡ None)
+unfolding clap_on_literals
+slots_job = (refl, refl, refl)
 
 unfit_passes : Passes (look_words (codes "x"))
 unfolding clap_on_literals

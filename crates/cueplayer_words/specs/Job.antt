@@ -9,7 +9,7 @@ use Rattle.ascii_text.specs.Forms.{cue_number_of, whole_of}
 use Rattle.cueplayer_words.specs.Address.{address_of}
 use Rattle.cueplayer_words.specs.Program.{program}
 use Rattle.cueplayer_words.specs.declared.job.Job.{Job}
-use Rattle.cueplayer_words.specs.declared.job.Job.TheVariants.{Check, Look, Play, Live}
+use Rattle.cueplayer_words.specs.declared.job.Job.TheVariants.{Check, Look, Slots, Play, Live}
 use Rattle.cueplayer_words.specs.declared.job.Job.TheVariants.{Rehearse, Listen}
 
 -- the value of an argument that has to be there: its text, read by a form
@@ -38,6 +38,17 @@ look_with _ _ _ = None
 abbrev pub look_of : List Row → Option Job
 look_of rows = look_with (first_of (codes "SHOW") rows) (value_by cue_number_of (codes "CUE") rows)
     (value_by parsed (codes "cid") rows)
+
+-- slots, where each of its values is there
+abbrev pub slots_with : Option Text → Option ℕ → Option ℕ → Option Job
+slots_with (Some show) (Some cue) (Some base) = Some (Slots show cue base)
+slots_with _ _ _ = None
+
+-- the job of `slots SHOW CUE [--base U]`: the base is a universe number, 1 where it is absent
+abbrev pub slots_of : List Row → Option Job
+slots_of rows = slots_with (first_of (codes "SHOW") rows)
+    (value_by cue_number_of (codes "CUE") rows)
+    (value_or 1 (number_between 1 63999) (codes "base") rows)
 
 -- a play, where each of its values is there
 abbrev pub play_with : Option Text → Option (List ℕ × ℕ) → Option (List ℕ) → Option ℕ → Option ℕ
@@ -101,10 +112,11 @@ IsInRange _ = Unit {0}
 abbrev pub line_of : Text × List Row → Option Job
 line_of line = if bytes_eq line.0 (codes "check") then check_of line.1
     else (if bytes_eq line.0 (codes "look") then look_of line.1
+    else (if bytes_eq line.0 (codes "slots") then slots_of line.1
     else (if bytes_eq line.0 (codes "play") then play_of line.1
     else (if bytes_eq line.0 (codes "live") then live_of line.1
     else (if bytes_eq line.0 (codes "rehearse") then rehearse_of line.1
-    else (if bytes_eq line.0 (codes "listen") then listen_of line.1 else None)))))
+    else (if bytes_eq line.0 (codes "listen") then listen_of line.1 else None))))))
 
 -- the job of the line that clap's meaning of the program gives for the words, where each of the
 -- texts that this meaning gives has its form

@@ -23,6 +23,11 @@ abbrev pub look_line : App
 look_line = with_rule (with_rule (with_rule (new_app (codes "look"))
     (required (codes "SHOW"))) (required (codes "CUE"))) (required_option (codes "cid"))
 
+-- `slots SHOW CUE [--base U]`
+abbrev pub slots_line : App
+slots_line = with_rule (with_rule (with_rule (new_app (codes "slots"))
+    (required (codes "SHOW"))) (required (codes "CUE"))) (option (codes "base"))
+
 -- `NAME SHOW --to ADDR --cid UUID`
 abbrev pub short_play_line : Text → App
 short_play_line name = with_rule (with_rule (with_rule (new_app name)
@@ -59,7 +64,8 @@ without_lines = record (new_app (codes "cueplayer")) {
 
 -- the program with the lines that only print
 abbrev pub printing_lines : App
-printing_lines = with_subcommand (with_subcommand without_lines check_line.top) look_line.top
+printing_lines = with_subcommand (with_subcommand (with_subcommand without_lines
+    check_line.top) look_line.top) slots_line.top
 
 -- and with the lines that play
 abbrev pub playing_lines : App

@@ -50,6 +50,15 @@ pub enum Job {
         cid: [u8; 16],
     },
 
+    /// `slots SHOW CUE [--base U]`: print the levels of one cue at full, for people. The cue number
+    /// is in thousandths, 1 to 9,999,999, and the base the number of the first universe, 1 to 63,999
+    /// (1 where it is absent).
+    Slots {
+        show: Name,
+        cue: u32,
+        base: u16,
+    },
+
     /// `play SHOW --to ADDR --cid UUID [--priority P] [--base U]`: play input lines to the network.
     /// `to` is the IPv4 address and the UDP port to send to, the CID the UUID's 16 bytes in order,
     /// the priority 0 to 200 (100 where it is absent), and the base the number of the first

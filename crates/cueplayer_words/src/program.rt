@@ -1,8 +1,8 @@
 ghost use Rattle.std.specs.Prelude.{◌≡◌, IfOk, false};
-ghost use Rattle.clap.specs.Words.{app_of, rule_of};
+ghost use Rattle.clap.specs.Words.{app_of, new_app, rule_of};
 ghost use Rattle.clap.specs.declared.builder.Command.TheViews.{out-Command as fields_of};
 ghost use Rattle.cueplayer_words.specs.Program.{required, required_option, option, check_line};
-ghost use Rattle.cueplayer_words.specs.Program.{look_line, rehearse_line};
+ghost use Rattle.cueplayer_words.specs.Program.{look_line, slots_line, rehearse_line};
 ghost use Rattle.cueplayer_words.specs.Program.{short_play_line, named_play_line, play_line};
 ghost use Rattle.cueplayer_words.specs.Program.{live_line, listen_line};
 ghost use Rattle.cueplayer_words.specs.Program.{without_lines, printing_lines, playing_lines};
@@ -33,7 +33,8 @@ fn printing_lines<'a>(alloc: Global) -> Result<Command<'a>, AllocError>
 {
     without_lines(alloc)?
         .subcommand(check_line(alloc)?)?
-        .subcommand(look_line(alloc)?)
+        .subcommand(look_line(alloc)?)?
+        .subcommand(slots_line(alloc)?)
 }
 
 fn without_lines<'a>(alloc: Global) -> Result<Command<'a>, AllocError>
@@ -63,6 +64,38 @@ fn look_line<'a>(alloc: Global) -> Result<Command<'a>, AllocError>
         .arg(required(alloc, "SHOW", "The show's file, or - for standard input"))?
         .arg(required(alloc, "CUE", "The number of the cue"))?
         .arg(required_option(alloc, "cid", "UUID", "The sender's CID"))
+}
+
+fn slots_line<'a>(alloc: Global) -> Result<Command<'a>, AllocError>
+    ensures app { IfOk result (λ command. app_of command ≡ slots_line) }
+    ensures local { IfOk result (λ command. (fields_of command).has_globals ≡ false) }
+{
+    explained_line(
+        alloc,
+        "slots",
+        "Prints the levels of one cue at full, for people",
+        "Example: cueplayer slots night.asc 1.5 --base 1",
+    )
+    .arg(required(alloc, "SHOW", "The show's file, or - for standard input"))?
+    .arg(required(
+        alloc,
+        "CUE",
+        "The number of the cue, as the show spells it: 1, 1.5, .25",
+    ))?
+    .arg(option(
+        alloc,
+        "base",
+        "U",
+        "The number of the first universe, 1 to 63999; 1 where it is absent",
+    ))
+}
+
+// A line before it has arguments, with an example at the end of its help.
+fn explained_line<'a>(alloc: Global, name: &'a str, about: &'a str, example: &'a str) -> Command<'a>
+    ensures app { app_of result ≡ new_app name.now }
+    ensures local { (fields_of result).has_globals ≡ false }
+{
+    Command::new(alloc, name).about(about).after_help(example)
 }
 
 fn play_line<'a>(alloc: Global) -> Result<Command<'a>, AllocError>

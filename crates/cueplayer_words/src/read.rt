@@ -2,6 +2,7 @@ ghost use Rattle.std.specs.Prelude.{◌≡◌, ◌≤◌, map, option_map, optio
 ghost use Rattle.std.specs.Prelude.{IfSome};
 ghost use Rattle.clap.specs.Words.{found_of, rows_of, subcommand_rows_of};
 ghost use Rattle.cueplayer_words.specs.Job.{line_of, check_of, look_of, look_with};
+ghost use Rattle.cueplayer_words.specs.Job.{slots_of, slots_with};
 ghost use Rattle.cueplayer_words.specs.Job.{play_of, play_with, live_of, live_with, recorded};
 ghost use Rattle.cueplayer_words.specs.Job.{rehearse_of, rehearse_with};
 ghost use Rattle.cueplayer_words.specs.Job.{listen_of, listen_with, IsInRange};
@@ -62,6 +63,8 @@ fn read_line(alloc: Global, matches: &ArgMatches<'_>) -> Result<Option<Job>, All
         read_check(alloc, inner)
     } else if line == "look" {
         read_look(alloc, inner)
+    } else if line == "slots" {
+        read_slots(alloc, inner)
     } else if line == "play" {
         read_play(alloc, inner)
     } else if line == "live" {
@@ -119,6 +122,35 @@ fn look_job(
     };
     let show = Name::new(alloc, show)?;
     Ok(Some(Job::Look { show, cue, cid }))
+}
+
+fn read_slots(alloc: Global, matches: &ArgMatches<'_>) -> Result<Option<Job>, AllocError>
+    ensures job { IfOk result (λ job. job ≡ slots_of (rows_of (found_of matches.now))) }
+    ensures ranges { IfOk result (λ job. IfSome job IsInRange) }
+{
+    let show = text_at(matches, "SHOW");
+    let cue = cue_at(matches, "CUE");
+    let base = number_or(matches, "base", 1, 1, 63999);
+    slots_job(alloc, show, cue, base)
+}
+
+fn slots_job(
+    alloc: Global,
+    show: Option<&str>,
+    cue: Option<u32>,
+    base: Option<u32>,
+) -> Result<Option<Job>, AllocError>
+    requires { IfSome base (λ number. number ≤ 63999) }
+    ensures job { IfOk result (λ job.
+        job ≡ slots_with (option_map (λ text. text.now) show.entry) cue base) }
+    ensures ranges { IfOk result (λ job. IfSome job IsInRange) }
+{
+    let (Some(show), Some(cue), Some(base)) = (show, cue, base) else {
+        return Ok(None);
+    };
+    let show = Name::new(alloc, show)?;
+    let base = base as u16;
+    Ok(Some(Job::Slots { show, cue, base }))
 }
 
 fn read_play(alloc: Global, matches: &ArgMatches<'_>) -> Result<Option<Job>, AllocError>

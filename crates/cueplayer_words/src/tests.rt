@@ -105,6 +105,37 @@ fn words_of_look_one(rt: HostRuntime) -> Result<(), Fail> {
 }
 
 #[test]
+fn words_of_slots(rt: HostRuntime) -> Result<(), Fail> {
+    for (words, number, first) in [
+        (["cueplayer", "slots", "a.asc", "1.5"].as_slice(), 1500, 1),
+        (
+            ["cueplayer", "slots", "--base", "63999", "a.asc", ".25"].as_slice(),
+            250,
+            63999,
+        ),
+    ] {
+        let Ok(Job::Slots { show, cue, base }) = read(rt.alloc(), words) else {
+            return Err(Fail::from("no slots"));
+        };
+        assert!(rt;
+            show.as_str() == "a.asc" && cue == number && base == first,
+            "{words:?}"
+        );
+    }
+    for words in [
+        ["cueplayer", "slots", "a.asc", "x", "--base", "1"],
+        ["cueplayer", "slots", "a.asc", "1", "--base", "0"],
+        ["cueplayer", "slots", "a.asc", "1", "--base", "64000"],
+    ] {
+        assert!(rt;
+            matches!(read(rt.alloc(), words.as_slice()), Err(WordsFault::Unfit)),
+            "{words:?}"
+        );
+    }
+    Ok(())
+}
+
+#[test]
 fn words_of_listen(rt: HostRuntime) -> Result<(), Fail> {
     for (spelling, host, port) in [
         ("127.0.0.1:5000", [127, 0, 0, 1], 5000),

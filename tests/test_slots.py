@@ -1,0 +1,97 @@
+"""`slots`: the levels of a cue, for people."""
+
+import subprocess
+
+from program import CID, LOOK_ONE, NO_PATCH, PROGRAM, TOP, ProgramTest, run, text
+
+SHOW = text(*LOOK_ONE)
+TWO = text("PATCH 1 1<1@FL 2<3@FL 1<513@FL", "CUE 1", "CHAN 1@FL 2@50", "CUE 2", "CHAN 2@H10")
+UNFIT = b"words refused\n"
+BASE = b"base: Universe\n"
+
+
+class Slots(ProgramTest):
+    def assertSlots(self, words, show, *lines):
+        out = "".join(line + "\n" for line in lines).encode()
+        self.assertRuns(["slots", "-", *words], show, out=out)
+
+    def test_levels(self):
+        self.assertSlots(["1"], SHOW, "universe 1", "slots 1:64")
+        self.assertSlots(["1"], TWO, "universe 1", "slots 1:255 3:128", "universe 2", "slots 1:255")
+
+    def test_dark_universe(self):
+        """A universe of the show is there too where the cue has no light in it."""
+        self.assertSlots(["2"], TWO, "universe 1", "slots 3:16", "universe 2", "slots")
+
+    def test_base(self):
+        for base in ("--base", "7"), ("--base=7",):
+            with self.subTest(base):
+                self.assertSlots(["1", *base], SHOW, "universe 7", "slots 1:64")
+        lines = ("universe 63998", "slots 1:255 3:128", "universe 63999", "slots 1:255")
+        self.assertSlots(["1", "--base", "63998"], TWO, *lines)
+        self.assertSlots(["1", "--base", "63999"], SHOW, "universe 63999", "slots 1:64")
+
+    def test_base_too_high(self):
+        words = ["slots", "-", "1", "--base", "63999"]
+        self.assertRuns(words, TWO, status=2, err=BASE)
+        # The show is read first, and then the cue is looked up.
+        self.assertRuns(words, b"CUE x", status=3, err=b"show line 1: BadNumber\n")
+        words[2] = "9"
+        self.assertRuns(words, TWO, status=3, err=b"show: NoCue\n")
+
+    def test_no_patch(self):
+        """`slots` and `look` print nothing, and say why."""
+        show = text("CUE 1", "CHAN 1@FL")
+        self.assertRuns(["slots", "-", "1"], show, err=NO_PATCH)
+        self.assertRuns(["look", "-", "1", "--cid", CID], show, err=NO_PATCH)
+        cleared = text("PATCH 1 1<1@FL", "CUE 1", "CHAN 1@FL", "PATCH 1 0<1@FL")
+        self.assertRuns(["slots", "-", "1"], cleared, err=NO_PATCH)
+
+    def test_faults(self):
+        self.assertRuns(["slots", "-", "2"], SHOW, status=3, err=b"show: NoCue\n")
+        self.assertRuns(["slots", "-", "1"], text("CUE 1", "CHAN 1"), 3, err=b"show line 2: HalfPair\n")
+        self.assertRuns(["slots", "/no/such/file", "1"], b"", 5, err=b"device fault\n")
+        with open("/dev/full", "wb") as full:
+            words = [PROGRAM, "slots", "-", "1"]
+            done = subprocess.run(words, input=SHOW, stdout=full, stderr=subprocess.PIPE, timeout=60)
+        self.assertEqual((5, b"device fault\n"), (done.returncode, done.stderr))
+
+    def test_words(self):
+        for words in (["x"], ["0"], ["1", "--base", "0"], ["1", "--base", "64000"], ["1", "--base", "x"]):
+            with self.subTest(words):
+                self.assertRuns(["slots", "-", *words], b"CUE x", status=2, err=UNFIT)
+        for words, telling in (
+            ([], b"<SHOW>"),
+            (["-"], b"<CUE>"),
+            (["-", "1", "2"], b"'2'"),
+            (["-", "1", "--base"], b"--base <U>"),
+            (["-", "1", "--cid", CID], b"'--cid'"),
+        ):
+            with self.subTest(words):
+                outcome = run("slots", *words, stdin=SHOW)
+                self.assertEqual((2, b""), (outcome.status, outcome.out))
+                self.assertIn(b"error: ", outcome.err)
+                self.assertIn(telling, outcome.err)
+
+    def test_help(self):
+        outcome = run("slots", "--help")
+        self.assertEqual((0, b""), (outcome.status, outcome.err))
+        for part in (b"Usage: cueplayer slots", b"<SHOW>", b"<CUE>", b"--base <U>", b"1 to 63999"):
+            self.assertIn(part, outcome.out)
+        self.assertIn(b"Example: cueplayer slots night.asc 1.5 --base 1", outcome.out)
+
+    def test_slots_of_the_packets(self):
+        """For each cue of the examples, the slots are those of the packets that `look` prints."""
+        for show, cue in (("one-dimmer", "1"), ("one-dimmer", "2"), ("small-play", "1"), ("small-play", "2")):
+            file = TOP / "examples" / f"{show}.asc"
+            with self.subTest(show=show, cue=cue):
+                looked = run("look", file, cue, "--cid", CID)
+                self.assertEqual(0, looked.status)
+                lines = []
+                for line in looked.out.split():
+                    packet = bytes.fromhex(line.decode())
+                    lines.append(f"universe {int.from_bytes(packet[113:115], 'big')}")
+                    levels = enumerate(packet[126:], 1)
+                    lines.append("slots" + "".join(f" {slot}:{level}" for slot, level in levels if level))
+                out = "".join(line + "\n" for line in lines).encode()
+                self.assertRuns(["slots", file, cue], b"", out=out)
