@@ -1,0 +1,168 @@
+"""The manual pages, against the program's help and against docs/FORMATS.md and docs/PROFILE.md."""
+
+import hashlib
+import re
+import shutil
+import subprocess
+import unittest
+
+from jobs import jobs
+from program import TOP
+
+PAGES = {name: TOP / "man" / name for name in ("cueplayer.1", "cueplayer-show.5")}
+FORMATS = (TOP / "docs/FORMATS.md").read_text()
+PROFILE = (TOP / "docs/PROFILE.md").read_text()
+
+# The Apache License, Version 2.0, as https://www.apache.org/licenses/LICENSE-2.0.txt has it.
+APACHE_2 = "cfc7749b96f63bd31c3c42b5c471bf756814053e847c10f3eb003417bc523d30"
+
+
+def shown(source):
+    """The text that a page's source shows, a line for each of its lines: no macros and no fonts."""
+    lines = []
+    for line in source.splitlines():
+        macro, _, rest = line.partition(" ")
+        if line.startswith('.\\"'):
+            continue
+        if macro in (".B", ".I", ".SH", ".SS", ".BR", ".BI", ".IB", ".IR", ".RB", ".RI"):
+            words = [quoted or bare for quoted, bare in re.findall(r'"([^"]*)"|(\S+)', rest)]
+            line = ("" if len(macro) == 3 and macro[1] != "S" else " ").join(words)
+        elif line.startswith("."):
+            line = ""
+        line = re.sub(r"\\f[BIPR]", "", line)
+        lines.append(line.replace("\\-", "-").replace("\\e", "\\"))
+    return "\n".join(lines)
+
+
+def parts(source, macro):
+    """The parts of a source that begin with this macro, by their headings."""
+    found = re.split(rf"(?m)^\.{macro} (.*)\n", source)[1:]
+    return {shown(head).strip('"'): body for head, body in zip(found[::2], found[1::2])}
+
+
+def tags(source):
+    """The tags of a source's paragraphs, as they are shown, each with its text."""
+    found = re.split(r"(?m)^\.TP\n(.*)\n", source)[1:]
+    return {shown(tag): " ".join(shown(body).split()) for tag, body in zip(found[::2], found[1::2])}
+
+
+def sections(name):
+    return parts(PAGES[name].read_text(), "SH")
+
+
+def rows(document, heading):
+    """The cells of the first table below a heading, without the table's own head and without marks."""
+    below = re.split(rf"(?m)^#+ {re.escape(heading)}\n", document)[1]
+    table = re.search(r"(?m)(?:^\|.*\n)+", below)[0].splitlines()[2:]
+    return [[cell.strip().replace("`", "") for cell in row.strip("|").split(" | ")] for row in table]
+
+
+def names_in(document):
+    """Each name that stands first in a row of a table of names or faults."""
+    found = []
+    for head, table in re.findall(r"(?m)^\| (?:No\. \| )?(Name|Fault|Reply) \|.*\n\|.*\n((?:\|.*\n)+)", document):
+        for row in table.splitlines():
+            cell = re.sub(r"^\| (?:\d+ \| )?", "", row).partition(" | ")[0]
+            found += re.findall(r"\b[A-Z][A-Za-z]*[a-z]\b", cell)
+    return found
+
+
+class Manual(unittest.TestCase):
+    def assertQuiet(self, *words):
+        """The words, called with each page, end well and have nothing to say on standard error."""
+        for page in PAGES.values():
+            with self.subTest(page.name):
+                done = subprocess.run([*words, page], capture_output=True, text=True, timeout=60)
+                self.assertEqual((0, ""), (done.returncode, done.stderr))
+                yield done.stdout
+
+    @unittest.skipUnless(shutil.which("groff"), "groff is not on PATH")
+    def test_groff_has_no_warning(self):
+        for out in self.assertQuiet("groff", "-man", "-Tutf8", "-ww"):
+            self.assertIn("Theatre Cue Player", out)
+
+    @unittest.skipUnless(shutil.which("man"), "man is not on PATH")
+    def test_man_has_no_warning(self):
+        for out in self.assertQuiet("man", "--warnings", "-l"):
+            self.assertIn("Theatre Cue Player", out)
+
+    @unittest.skipUnless(shutil.which("mandoc"), "mandoc is not on PATH")
+    def test_mandoc_has_no_warning(self):
+        self.assertEqual(["", ""], list(self.assertQuiet("mandoc", "-Tlint", "-Wwarning")))
+
+    def test_jobs_and_options(self):
+        """Each job of the help has its part, with exactly its options, each with the name of its value."""
+        found = parts(sections("cueplayer.1")["JOBS"], "SS")
+        self.assertEqual(list(jobs()), list(found))
+        for name, job in jobs().items():
+            with self.subTest(name):
+                options = [f"{option} {value}" for option, value in job.options.items()]
+                self.assertEqual(options, list(tags(found[name])))
+
+    def test_options_alone(self):
+        options = tags(sections("cueplayer.1")["OPTIONS"])
+        self.assertEqual(["-h, --help", "--version"], list(options))
+
+    def test_no_other_option(self):
+        """No option stands anywhere in the page that no job has."""
+        known = {option for job in jobs().values() for option in job.options} | {"--help", "--version"}
+        page = shown(PAGES["cueplayer.1"].read_text())
+        self.assertEqual(known, set(re.findall(r"(?<![\w-])--[a-z]+", page)))
+
+    def test_words(self):
+        """Each word and each value of the help is explained, and no other."""
+        wanted = {word for job in jobs().values() for word in (*job.arguments, *job.options.values())}
+        self.assertEqual(wanted, set(tags(sections("cueplayer.1")["WORDS"])))
+
+    def test_synopsis(self):
+        """A line for each job, in the order of the help, as the page on formats has it."""
+        lines = shown(sections("cueplayer.1")["SYNOPSIS"]).split("\n")
+        lines = [line for line in lines if line and "--help" not in line]
+        self.assertEqual(list(jobs()), [line.split()[1] for line in lines])
+        self.assertEqual([line for line, _ in rows(FORMATS, "The command line")], lines)
+
+    def test_exit_statuses(self):
+        statuses = [status for status, *_ in rows(FORMATS, "Exit statuses")]
+        found = tags(sections("cueplayer.1")["EXIT STATUS"])
+        self.assertEqual(statuses, [tag for tag in found if tag.isdigit()])
+
+    def test_names_of_faults_and_refusals(self):
+        """Each name of the page on formats stands in the page of the program."""
+        page = set(re.findall(r"\w+", shown(PAGES["cueplayer.1"].read_text())))
+        names = names_in(FORMATS)
+        self.assertIn("OutOfSequence", names)
+        self.assertLessEqual(set(names), page)
+
+    def test_faults_of_a_show(self):
+        """The same, in their order, and none besides."""
+        names = names_in(PROFILE)
+        self.assertEqual("TooLong", names[0])
+        self.assertEqual(names, list(tags(sections("cueplayer-show.5")["FAULTS"])))
+
+    def test_limits_of_a_show(self):
+        limits = {what: value.rstrip(".") for what, value in rows(PROFILE, "Limits")}
+        self.assertEqual(limits, tags(sections("cueplayer-show.5")["LIMITS"]))
+
+    def test_records_and_keywords(self):
+        """Each record of the profile has its part, and each keyword stands in the page."""
+        records = PROFILE.partition("## Records\n")[2].partition("\n## ")[0]
+        records = re.findall(r"(?m)^### (.*)$", records)
+        self.assertIn("CUE", records)
+        self.assertLessEqual(set(records), set(parts(sections("cueplayer-show.5")["RECORDS"], "SS")))
+        listed = re.search(r"(?m)^\*Primary\* keywords.*$", PROFILE)[0]
+        keywords = set(re.findall(r"\b[A-Z]{2,}\b", listed))
+        page = shown(PAGES["cueplayer-show.5"].read_text())
+        self.assertLessEqual(keywords, set(re.findall(r"\b[A-Z]{2,}\b", page)))
+
+    def test_synopsis_is_a_show(self):
+        """The show at the head of the page is that of the profile, but for a comment, and is checked."""
+        lines = shown(sections("cueplayer-show.5")["SYNOPSIS"]).strip("\n").split("\n")
+        profile = re.search(r"(?s)```\n(IDENT.*?)```", PROFILE)[1]
+        wanted, found = ([line.partition("!")[0].rstrip() for line in text] for text in (profile.splitlines(), lines))
+        self.assertEqual(wanted, found)
+
+
+class License(unittest.TestCase):
+    def test_license_is_the_standard_text(self):
+        found = hashlib.sha256((TOP / "LICENSE").read_bytes()).hexdigest()
+        self.assertEqual(APACHE_2, found)
