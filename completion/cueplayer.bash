@@ -1,0 +1,90 @@
+# Completion for bash of the words of cueplayer: jobs, options, files.
+# shellcheck shell=bash
+
+# The options of a job. Each takes a value.
+_cueplayer_options() {
+    case $1 in
+        look) echo --cid ;;
+        play) echo --to --cid --priority --base ;;
+        live) echo --to --cid --priority --base --record ;;
+    esac
+}
+
+# How many words of a job, from its first on, name files.
+_cueplayer_files() {
+    case $1 in
+        check | look | play | live) echo 1 ;;
+        rehearse) echo 2 ;;
+        *) echo 0 ;;
+    esac
+}
+
+# Fills COMPREPLY with what may stand where the cursor is.
+_cueplayer() {
+    local jobs="check look play live rehearse listen help"
+    local job='' option='' words_only='' place=0 used=' ' raw word name
+    local -a words=()
+    # Readline parts --cid=UUID and a.b.c.d:port into three words each.
+    local is_joined=''
+    for raw in "${COMP_WORDS[@]:1:COMP_CWORD}"; do
+        if ((${#words[@]} == 0)); then
+            words=("$raw")
+        elif [[ $raw == = && ${words[-1]} == --* ]]; then
+            words+=("")
+            is_joined=1
+        elif [[ -n $is_joined || $raw == [:=]* ]]; then
+            words[-1]+=$raw
+            is_joined=''
+            [[ $raw != *[:=] ]] || is_joined=1
+        else
+            words+=("$raw")
+        fi
+    done
+    ((${#words[@]})) || words=("")
+    local current=${words[-1]}
+    for word in "${words[@]:0:${#words[@]}-1}"; do
+        if [[ -n $option ]]; then
+            option=''
+        elif [[ $word == -- ]]; then
+            words_only=1
+        elif [[ $word == -?* && -z $words_only ]]; then
+            [[ $word == -h || $word == --help ]] || option=$word
+            used+="$word "
+        elif [[ -z $job ]]; then
+            job=$word
+        else
+            ((++place))
+        fi
+    done
+    local choices='' is_file=''
+    if [[ $option == --record ]]; then
+        is_file=1
+    elif [[ $option == --to ]]; then
+        choices=239.255.0.0
+    elif [[ -n $option ]]; then
+        :
+    elif [[ -z $job ]]; then
+        choices=$jobs
+        [[ $current != -* ]] || choices="--help --version"
+    elif [[ $job == help ]]; then
+        ((place)) || choices=${jobs% help}
+    elif [[ $current == -* && -z $words_only ]]; then
+        for name in $(_cueplayer_options "$job") --help; do
+            [[ $used == *" $name "* ]] || choices+=" $name"
+        done
+    elif ((place < $(_cueplayer_files "$job"))); then
+        is_file=1
+    fi
+    if [[ -n $is_file ]]; then
+        compopt -o filenames 2>/dev/null
+        mapfile -t COMPREPLY < <(compgen -f -- "$current")
+    else
+        mapfile -t COMPREPLY < <(compgen -W "$choices" -- "$current")
+    fi
+    # Of a word that Readline parted it puts in only what is behind the last part.
+    local last=${COMP_WORDS[COMP_CWORD]}
+    [[ $last != [:=] ]] || last=''
+    COMPREPLY=("${COMPREPLY[@]#"${current%"$last"}"}")
+}
+
+complete -F _cueplayer cueplayer

@@ -1,0 +1,108 @@
+"""The completion for bash, called as Readline calls it, against what the program's help names."""
+
+import re
+import subprocess
+import tempfile
+import unittest
+from pathlib import Path
+
+from jobs import jobs
+from program import TOP
+
+COMPLETION = TOP / "completion/cueplayer.bash"
+
+# Sources the completion and calls its function for the words given, the last being the current one.
+CALL = """
+set -u
+source "$1"
+shift
+COMP_WORDS=("$@") COMP_CWORD=$(($# - 1))
+function=$(complete -p cueplayer)
+function=${function#*-F }
+"${function%% *}"
+((${#COMPREPLY[@]} == 0)) || printf '%s\\n' "${COMPREPLY[@]}"
+"""
+
+
+class Completion(unittest.TestCase):
+    def setUp(self):
+        folder = tempfile.TemporaryDirectory()
+        self.addCleanup(folder.cleanup)
+        self.folder = Path(folder.name)
+        for name in ("night.asc", "nine shows.asc"):
+            (self.folder / name).write_text("")
+
+    def complete(self, *words):
+        """What may stand for the last word, sorted."""
+        done = subprocess.run(
+            ["bash", "--norc", "-c", CALL, "bash", COMPLETION, "cueplayer", *words],
+            cwd=self.folder,
+            capture_output=True,
+            text=True,
+            timeout=60,
+        )
+        self.assertEqual("", done.stderr)
+        return sorted(done.stdout.splitlines())
+
+    def assertCompletes(self, words, *expected):
+        self.assertEqual(sorted(expected), self.complete(*words), words)
+
+    def test_jobs(self):
+        """Those of the program's help, and the word help."""
+        self.assertCompletes([""], *jobs(), "help")
+        self.assertCompletes(["help", ""], *jobs())
+        self.assertCompletes(["li"], "listen", "live")
+        self.assertCompletes(["help", "look", ""])
+        self.assertCompletes(["nonsense"])
+
+    def test_options(self):
+        """Of each job those of its help, none twice; before a job, the two that stand alone."""
+        self.assertCompletes(["-"], "--help", "--version")
+        for name, job in jobs().items():
+            with self.subTest(name):
+                self.assertCompletes([name, "--"], "--help", *job.options)
+                for option in job.options:
+                    others = set(job.options) - {option}
+                    self.assertCompletes([name, option, "x", "-"], "--help", *others)
+                    self.assertCompletes([name, option, "=", "x", "-"], "--help", *others)
+
+    def test_files(self):
+        """Where the help has a word that names a file, there are files, and nothing elsewhere."""
+        for name, job in jobs().items():
+            before = [name]
+            for argument in job.arguments:
+                with self.subTest(f"{name} {argument}"):
+                    files = ["night.asc", "nine shows.asc"] if argument in ("SHOW", "SCRIPT") else []
+                    self.assertCompletes([*before, "ni"], *files)
+                    before.append("x")
+            with self.subTest(f"{name}, all words given"):
+                self.assertCompletes([*before, "ni"])
+
+    def test_values_of_options(self):
+        for name, job in jobs().items():
+            for option, value in job.options.items():
+                with self.subTest(f"{name} {option}"):
+                    files = ["night.asc"] if value == "FILE" else []
+                    self.assertCompletes([name, option, "nig"], *files)
+                    self.assertCompletes([name, option, "=", "nig"], *files)
+                    groups = ["239.255.0.0"] if value == "ADDR" else []
+                    self.assertCompletes([name, option, "2"], *groups)
+
+    def test_words_that_readline_parts(self):
+        """An address with a port is one word, and so is a UUID behind `urn:uuid:`."""
+        self.assertCompletes(["live", "--to", "127.0.0.1", ":", "5568", "nig"], "night.asc")
+        self.assertCompletes(["live", "--cid", "urn", ":", "uuid", ":", "x", "nig"], "night.asc")
+        self.assertCompletes(["live", "--record", "=", ""], "night.asc", "nine shows.asc")
+        self.assertCompletes(["live", "--record", "="], "night.asc", "nine shows.asc")
+
+    def test_no_options_behind_two_dashes(self):
+        (self.folder / "--cid").write_text("")
+        self.assertCompletes(["look", "--", "--"], "--cid")
+
+    def test_names_only_what_the_program_has(self):
+        """No job and no option stands in the completion that no help names."""
+        text = re.sub(r"(?m)^\s*#.*$", "", COMPLETION.read_text())
+        options = {option for job in jobs().values() for option in job.options}
+        self.assertEqual(options | {"--help", "--version"}, set(re.findall(r"(?<![\w-])--[a-z]+", text)))
+        cases = {name for line in re.findall(r"(?m)^ +([a-z |]+)\) echo", text) for name in line.split(" | ")}
+        self.assertLessEqual(cases, set(jobs()))
