@@ -51,7 +51,7 @@ class Building(CopiedLayout):
         self.assertEqual((status, lines), (got, rest))
 
     def assertNothingLeft(self):
-        self.assertFalse(self.program.exists())
+        self.assertEqual([], list(self.top.glob("crates/cueplayer/out/*")))
         self.assertEqual([], list((self.top / "tmp").iterdir()))
 
     def test_a_line_for_each_crate(self):
@@ -122,6 +122,18 @@ class Building(CopiedLayout):
                 self.wait_for(lambda: not Path(f"/proc/{number}").exists())
                 prover.unlink()
         self.assertNotIn("rt run -- --help", self.asked())
+
+    def test_interrupted_over_an_older_program(self):
+        """What the interrupted build may have changed goes, and what is said of it."""
+        self.run_script("cueplayer", "check", "-")
+        later = self.program.stat().st_mtime + 1
+        os.utime(self.source, (later, later))
+        self.write("all", proved("low") + OWN_CRATE)
+        started = self.start("cueplayer", "check", "-")
+        self.wait_for(lambda: (self.top / "own").exists())
+        started.terminate()
+        started.communicate(timeout=60)
+        self.assertNothingLeft()
 
     def test_after_an_interruption(self):
         """The next call builds, as if there had been none."""
