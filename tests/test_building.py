@@ -30,8 +30,11 @@ def kept(crate):
     return f"echo '== {crate}'\n"
 
 
-# The own crate's check goes on, and would take long.
-OWN_CRATE = 'echo $$ >"$PROVER_TOP/own"\nexec sleep 60\n'
+# Leaves the number of its process where the tests look for it.
+NUMBER = 'echo $$ >"$PROVER_TOP/number"\n'
+
+# The check of the program's own crate goes on, and would take long.
+OWN_CRATE = "exec sleep 60\n"
 
 
 class Building(CopiedLayout):
@@ -42,6 +45,11 @@ class Building(CopiedLayout):
     def told(self, err):
         """The lines of standard error, without the times."""
         return [re.sub(r", \d+:\d\d$", "", line) for line in err.splitlines()]
+
+    def number(self):
+        """The number of the process of `rt all`; 0 where it has not started yet."""
+        file = self.top / "number"
+        return int(file.read_text().strip() or 0) if file.exists() else 0
 
     def assertBuilds(self, lines, status=3):
         """A first call builds, and tells these lines between its first and the program's end."""
@@ -57,10 +65,9 @@ class Building(CopiedLayout):
     def test_a_line_for_each_crate(self):
         """Each crate that the program stands on, with its count, as it comes; the own crate is left
         to `rt run`, so that `rt all` is ended before it."""
-        self.write("all", proved("low") + proved("show_core") + proved("middle") + OWN_CRATE)
+        self.write("all", NUMBER + proved("low") + proved("show_core") + proved("middle") + OWN_CRATE)
         self.assertBuilds(["   1 of 4  low", "   2 of 4  show_core", "   3 of 4  middle", "   4 of 4  cueplayer"])
-        own = int((self.top / "own").read_text())
-        self.wait_for(lambda: not Path(f"/proc/{own}").exists())
+        self.wait_for(lambda: not Path(f"/proc/{self.number()}").exists())
         every, run, version = self.asked()
         self.assertRegex(every, r"^rt all check --jobs [1-9][0-9]*$")
         self.assertEqual(["rt run -- --help", "rt version"], [run, version])
@@ -108,19 +115,18 @@ class Building(CopiedLayout):
 
     def test_interrupted_beside_other_crates(self):
         """While crates are proved side by side: nothing is left, and nothing goes on."""
-        prover = self.top / "own"
-        self.write("all", proved("low") + OWN_CRATE)
+        self.write("all", NUMBER + proved("low") + OWN_CRATE)
         for interruption in (signal.SIGTERM, signal.SIGINT, signal.SIGHUP):
             with self.subTest(interruption):
                 started = self.start("cueplayer", "check", "-")
-                self.wait_for(lambda: prover.exists() and prover.read_text().strip())
-                number = int(prover.read_text())
+                self.wait_for(self.number)
+                number = self.number()
                 started.send_signal(interruption)
                 started.communicate(timeout=60)
                 self.assertEqual(128 + interruption, started.returncode)
                 self.assertNothingLeft()
                 self.wait_for(lambda: not Path(f"/proc/{number}").exists())
-                prover.unlink()
+                (self.top / "number").unlink()
         self.assertNotIn("rt run -- --help", self.asked())
 
     def test_interrupted_over_an_older_program(self):
@@ -128,18 +134,18 @@ class Building(CopiedLayout):
         self.run_script("cueplayer", "check", "-")
         later = self.program.stat().st_mtime + 1
         os.utime(self.source, (later, later))
-        self.write("all", proved("low") + OWN_CRATE)
+        self.write("all", NUMBER + proved("low") + OWN_CRATE)
         started = self.start("cueplayer", "check", "-")
-        self.wait_for(lambda: (self.top / "own").exists())
+        self.wait_for(self.number)
         started.terminate()
         started.communicate(timeout=60)
         self.assertNothingLeft()
 
     def test_after_an_interruption(self):
         """The next call builds, as if there had been none."""
-        self.write("all", proved("low") + OWN_CRATE)
+        self.write("all", NUMBER + proved("low") + OWN_CRATE)
         started = self.start("cueplayer", "check", "-")
-        self.wait_for(lambda: (self.top / "own").exists())
+        self.wait_for(self.number)
         started.terminate()
         started.communicate(timeout=60)
         self.write("all", kept("low") + proved("show_core") + proved("middle"))
