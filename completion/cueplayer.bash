@@ -19,13 +19,10 @@ _cueplayer_files() {
     esac
 }
 
-# Fills COMPREPLY with what may stand where the cursor is.
-_cueplayer() {
-    local jobs="check look play live rehearse listen help"
-    local job='' option='' words_only='' place=0 used=' ' raw word name
-    local -a words=()
-    # Readline parts --cid=UUID and a.b.c.d:port into three words each.
-    local is_joined=''
+# Fills the caller's `words` with those up to the cursor. Readline parts --cid=UUID and
+# a.b.c.d:port into three words each: here the first is two, and the second is one.
+_cueplayer_join() {
+    local raw is_joined=''
     for raw in "${COMP_WORDS[@]:1:COMP_CWORD}"; do
         if ((${#words[@]} == 0)); then
             words=("$raw")
@@ -41,8 +38,13 @@ _cueplayer() {
         fi
     done
     ((${#words[@]})) || words=("")
-    local current=${words[-1]}
-    for word in "${words[@]:0:${#words[@]}-1}"; do
+}
+
+# Fills the caller's `job`, the `option` whose value comes next, the options `used`, the number of
+# words of the job in `place`, and whether there were two dashes, by the words given.
+_cueplayer_parse() {
+    local word
+    for word; do
         if [[ -n $option ]]; then
             option=''
         elif [[ $word == -- ]]; then
@@ -56,7 +58,16 @@ _cueplayer() {
             ((++place))
         fi
     done
-    local choices='' is_file=''
+}
+
+# Fills COMPREPLY with what may stand where the cursor is.
+_cueplayer() {
+    local jobs="check look play live rehearse listen help"
+    local job='' option='' used=' ' place=0 words_only='' choices='' is_file='' name
+    local -a words=()
+    _cueplayer_join
+    local current=${words[-1]}
+    _cueplayer_parse "${words[@]:0:${#words[@]}-1}"
     if [[ $option == --record ]]; then
         is_file=1
     elif [[ $option == --to ]]; then
