@@ -3,9 +3,12 @@
 import os
 import shutil
 import signal
+import subprocess
+import unittest
 from pathlib import Path
 
 from copied_layout import PROGRAM, PROVER, CopiedLayout
+from program import TOP
 
 
 class Scripts(CopiedLayout):
@@ -106,3 +109,11 @@ class Scripts(CopiedLayout):
                 status, _, err = self.run_script(script, path=str(bare))
                 self.assertEqual(1, status)
                 self.assertIn("not on PATH", err)
+
+    @unittest.skipUnless(shutil.which("shellcheck"), "shellcheck is not on PATH")
+    def test_shellcheck_has_no_warning(self):
+        scripts = [TOP / name for name in ("cueplayer", "install", "completion/cueplayer.bash", ".ci/run")]
+        done = subprocess.run(
+            ["shellcheck", "--severity=warning", *scripts], capture_output=True, text=True, timeout=60
+        )
+        self.assertEqual((0, "", ""), (done.returncode, done.stdout, done.stderr))
