@@ -228,6 +228,10 @@ class WithoutBuilding(CopiedLayout):
         os.utime(self.source, (later + 1, later + 1))
         self.assertEqual("not built", self.version()[1])
 
+    def test_version_of_what_the_gate_built(self):
+        self.assertEqual(0, self.run_script(".ci/run")[0])
+        self.assertEqual("built by kit of a test", self.version()[1])
+
     def test_version_of_a_prover_that_tells_none(self):
         self.write("bin/rt", PROVER.replace('echo "kit of a test"; exit', "exit 1"))
         self.assertEqual(3, self.run_script("cueplayer", "check", "-")[0])
