@@ -19,6 +19,8 @@ cueplayer: middle clap
 aside: low
 """
 
+EACH_CRATE = ["   1 of 4  low", "   2 of 4  show_core", "   3 of 4  middle", "   4 of 4  cueplayer"]
+
 
 def proved(crate):
     """What `rt all` prints of a crate that it proved."""
@@ -66,7 +68,7 @@ class Building(CopiedLayout):
         """Each crate that the program stands on, with its count, as it comes; the own crate is left
         to `rt run`, so that `rt all` is ended before it."""
         self.write("all", NUMBER + proved("low") + proved("show_core") + proved("middle") + OWN_CRATE)
-        self.assertBuilds(["   1 of 4  low", "   2 of 4  show_core", "   3 of 4  middle", "   4 of 4  cueplayer"])
+        self.assertBuilds(EACH_CRATE)
         self.wait_for(lambda: not Path(f"/proc/{self.number()}").exists())
         every, run, version = self.asked()
         self.assertRegex(every, r"^rt all check --jobs [1-9][0-9]*$")
@@ -80,7 +82,7 @@ class Building(CopiedLayout):
     def test_crates_proved_before(self):
         """They have no line of their own below the heading: also the last is seen to be done."""
         self.write("all", proved("low") + kept("show_core") + kept("middle") + OWN_CRATE)
-        self.assertBuilds(["   1 of 4  low", "   2 of 4  show_core", "   3 of 4  middle", "   4 of 4  cueplayer"])
+        self.assertBuilds(EACH_CRATE)
 
     def test_crate_that_is_not_proved(self):
         """It is not told as done, nor is what stands on it; its own lines are, but for those of what is
@@ -149,7 +151,7 @@ class Building(CopiedLayout):
         started.terminate()
         started.communicate(timeout=60)
         self.write("all", kept("low") + proved("show_core") + proved("middle"))
-        self.assertBuilds(["   1 of 4  low", "   2 of 4  show_core", "   3 of 4  middle", "   4 of 4  cueplayer"])
+        self.assertBuilds(EACH_CRATE)
 
 
 class WithoutBuilding(CopiedLayout):
@@ -191,10 +193,12 @@ class WithoutBuilding(CopiedLayout):
         """The program answers itself, and so it does of more words than this one."""
         self.run_script("cueplayer", "check", "-")
         self.assertEqual((3, "words: --help\na show\n", ""), self.run_script("cueplayer", "--help"))
-        self.assertEqual((3, "words: --version x\na show\n", ""), self.run_script("cueplayer", "--version", "x"))
+        outcome = self.run_script("cueplayer", "--version", "x")
+        self.assertEqual((3, "words: --version x\na show\n", ""), outcome)
 
     def test_help_of_a_job_builds(self):
-        self.assertEqual((3, "words: look --help\na show\n"), self.run_script("cueplayer", "look", "--help")[:2])
+        outcome = self.run_script("cueplayer", "look", "--help")
+        self.assertEqual((3, "words: look --help\na show\n"), outcome[:2])
         self.assertIn("rt run -- --help", self.asked())
 
     def test_version_of_a_tree_that_is_not_built(self):

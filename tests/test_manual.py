@@ -60,7 +60,8 @@ def rows(document, heading):
 def names_in(document):
     """Each name that stands first in a row of a table of names or faults."""
     found = []
-    for head, table in re.findall(r"(?m)^\| (?:No\. \| )?(Name|Fault|Reply) \|.*\n\|.*\n((?:\|.*\n)+)", document):
+    head = r"(?m)^\| (?:No\. \| )?(?:Name|Fault|Reply) \|.*\n\|.*\n"
+    for table in re.findall(head + r"((?:\|.*\n)+)", document):
         for row in table.splitlines():
             cell = re.sub(r"^\| (?:\d+ \| )?", "", row).partition(" | ")[0]
             found += re.findall(r"\b[A-Z][A-Za-z]*[a-z]\b", cell)
@@ -158,8 +159,8 @@ class Manual(unittest.TestCase):
         """The show at the head of the page is that of the profile, but for a comment, and is checked."""
         lines = shown(sections("cueplayer-show.5")["SYNOPSIS"]).strip("\n").split("\n")
         profile = re.search(r"(?s)```\n(IDENT.*?)```", PROFILE)[1]
-        wanted, found = ([line.partition("!")[0].rstrip() for line in text] for text in (profile.splitlines(), lines))
-        self.assertEqual(wanted, found)
+        wanted = [line.partition("!")[0].rstrip() for line in profile.splitlines()]
+        self.assertEqual(wanted, [line.partition("!")[0].rstrip() for line in lines])
 
 
 class License(unittest.TestCase):
