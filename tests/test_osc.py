@@ -130,8 +130,8 @@ class Lines(unittest.TestCase):
             self.assertEqual((expected, []), lines_of(message("/cueplayer/sub/1", byte / 255)))
 
     def test_bundles(self):
-        """The messages of a bundle in their order, bundles within it too; one that asks for nothing
-        known is refused alone, and a malformed one refuses them all."""
+        """The messages of a bundle in their order, bundles within it too; one that asks for
+        nothing known is refused alone, and a malformed one refuses them all."""
         master = message("/cueplayer/master", 1.0)
         inner = bundle(message("/cueplayer/back"), message("/cueplayer/go", 0.0))
         self.assertEqual(
@@ -149,7 +149,8 @@ class Lines(unittest.TestCase):
 
     def test_any_bytes(self):
         """What is named of any datagram is one short printable line, and nothing is raised."""
-        for start in (b"", b"/cueplayer/go\0\0\0", b"#bundle\0" + bytes(8), b"/cueplayer/goto\0,s\0\0"):
+        starts = (b"", padded(b"/cueplayer/go"), b"#bundle\0" + bytes(8), padded(b"/cueplayer/goto"))
+        for start in (*starts, starts[-1] + b",s\0\0"):
             for byte in range(256):
                 for size in (1, 4, 300):
                     lines, refused = lines_of(start + bytes([byte]) * size)

@@ -74,7 +74,7 @@ class Levels(PictureTest):
         self.assertEqual({(1, 1): [128] * 21}, self.night(lines).curves)
 
     def test_refused_and_end(self):
-        """Refused commands are told by their names, refused ticks show nothing, the end is dark."""
+        """Refused commands are told by name, refused ticks show nothing, the end is dark."""
         lines = ["0 sub 1 FL", "0 tick", "5 tick", "25 back", "30 sub 2 FL", "40 end", "50 tick",
                  "75 tick", "100 tick", "125 tick"]
         found = self.night(lines)
@@ -96,7 +96,8 @@ class Levels(PictureTest):
             content = text("CUE 1", "UP 1", "CHAN 1@FL", "PATCH 1 1<1@FL")
             file, kept = self.file("show.asc", content), self.folder / "night.play"
             words = ["live", file, "--to", to, "--cid", CID, "--record", kept]
-            live = subprocess.Popen([PROGRAM, *words], stdin=subprocess.PIPE, stdout=subprocess.PIPE)
+            pipes = {"stdin": subprocess.PIPE, "stdout": subprocess.PIPE}
+            live = subprocess.Popen([PROGRAM, *words], **pipes)
             self.addCleanup(live.kill)
             for line in (b"back\n", b"go\n", b"master 70\n"):
                 live.stdin.write(line)
@@ -120,7 +121,7 @@ class Levels(PictureTest):
         self.assertGreater(len(set(levels)), 5)
 
     def test_thinned(self):
-        """Of many ticks some are left away, and none beside a command; what is left is unchanged."""
+        """Of many ticks some are left away, none beside a command; what is left is unchanged."""
         ticks = [record.Given(moment, ("tick",)) for moment in range(0, 60000, 25)]
         commands = [record.Given(moment, ("go",)) for moment in (10, 20010)]
         given = sorted(ticks + commands, key=lambda line: line.moment)
@@ -200,7 +201,8 @@ class Pictures(PictureTest):
         """Commands before the part count, and are not drawn."""
         file = self.file("show.asc", S1)
         kept = self.file("night.play", b"0 go\n0 tick\n6000 tick\n6025 tick\n7000 go\n")
-        _, texts = self.drawn("night", file, kept, "--from", 6000, "--until", 6500, "--slot", "1:1")
+        part = ("--from", 6000, "--until", 6500, "--slot", "1:1")
+        _, texts = self.drawn("night", file, kept, *part)
         self.assertNotIn("1", texts[texts.index("night.play") :])
         self.assertIn("1:1", texts)
 
@@ -236,7 +238,8 @@ class Shows(PictureTest):
         self.assertEqual({1000: "one", 2000: "two, or so", 500: "\xe9", 7000: ""}, names)
         self.assertEqual({3: show.Record("three")}, found.subs)
         self.assertEqual({4: show.Record("four")}, found.groups)
-        self.assertEqual([92500, 0, 4000, 1250], [found.cues[number].fade for number in found.cues])
+        fades = [found.cues[number].fade for number in found.cues]
+        self.assertEqual([92500, 0, 4000, 1250], fades)
         self.assertEqual({1: 1, 600: 2}, found.patch)
         self.assertEqual([(3, 88)], found.slots_of(2, 2))
 
@@ -258,8 +261,8 @@ class Shows(PictureTest):
 
 class Texts(unittest.TestCase):
     def test_clock(self):
-        cases = ((0, "0 s"), (500, "0.5 s"), (59990, "59.99 s"), (60000, "1:00"), (3661000, "1:01:01"))
-        for moment, told in cases:
+        cases = ((0, "0 s"), (500, "0.5 s"), (59990, "59.99 s"), (60000, "1:00"))
+        for moment, told in (*cases, (3661000, "1:01:01")):
             self.assertEqual(told, clock(moment))
 
     def test_ranges(self):

@@ -2,6 +2,7 @@
 
 import argparse
 import re
+import socket
 
 LOOPBACK = "127.0.0.1"
 Address = tuple[str, int]
@@ -36,3 +37,14 @@ def sending_address(word: str, usual_port: int = 5568) -> Address:
     if not _is_host(host):
         raise argparse.ArgumentTypeError(f"no IPv4 address: {host!r}")
     return host, port_number(port) if colon else usual_port
+
+
+def bound_socket(address: Address) -> socket.socket:
+    """A socket that receives datagrams there."""
+    receiver = socket.socket(socket.AF_INET, socket.SOCK_DGRAM)
+    try:
+        receiver.bind(address)
+    except OSError:
+        receiver.close()
+        raise
+    return receiver

@@ -68,7 +68,7 @@ def chosen(
     night: Night, show: Show, base: int, slots: list[Slot], channels: list[int]
 ) -> list[Named]:
     """The curves that were asked for: of each slot, and of the slots of each channel."""
-    named = [Named(f"{universe}:{slot}", night.curve((universe, slot))) for universe, slot in slots]
+    named = [Named(slots_name([slot]), night.curve(slot)) for slot in slots]
     for channel in channels:
         curves = {slot: night.curve(slot) for slot in show.slots_of(channel, base)}
         for of_one, curve in _together(curves):

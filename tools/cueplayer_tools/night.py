@@ -1,7 +1,7 @@
 """A night, as the program tells it: what a receiver showed at many moments, and what was answered.
 
-The lines of the record are rehearsed by the program, with ticks where the record has them, and with
-a receiver of each universe that is handed each packet at once and asked for its slots.
+The lines of the record are rehearsed by the program, with ticks where the record has them, and
+with a receiver of each universe that is handed each packet at once and asked for its slots.
 """
 
 from bisect import bisect_left

@@ -5,22 +5,11 @@ import select
 import socket
 import sys
 
-from cueplayer_tools.addresses import Address, listening_address
+from cueplayer_tools.addresses import bound_socket, listening_address
 from cueplayer_tools.osc_lines import lines_of
 
 LONGEST_DATAGRAM = 65_535
 USUAL = "127.0.0.1:8000"
-
-
-def bound_socket(address: Address) -> socket.socket:
-    """A socket that receives datagrams there."""
-    receiver = socket.socket(socket.AF_INET, socket.SOCK_DGRAM)
-    try:
-        receiver.bind(address)
-    except OSError:
-        receiver.close()
-        raise
-    return receiver
 
 
 def tell(text: str) -> None:
@@ -70,6 +59,6 @@ def main(words: list[str]) -> int:
         try:
             serve(receiver)
         except (BrokenPipeError, KeyboardInterrupt):
-            # What is left in the buffer has no reader; without this Python would say so at its end.
+            # What is left in the buffer has no reader; without this Python would complain.
             sys.stdout = None
     return 0

@@ -1,4 +1,4 @@
-"""`tools/picture`: draws a night or a rehearsal, as scalable vector graphics on standard output."""
+"""`tools/picture`: a night or a rehearsal as scalable vector graphics, on standard output."""
 
 import argparse
 import re

@@ -66,7 +66,8 @@ def _draw_master(
     points = [(axis.first, before[-1] if before else start)]
     points += [(moment, level) for moment, level in moved if axis.shows(moment)]
     bottom, deep = top + LANE - 8, LANE - 8
-    path = drawing.steps(((axis.at(at), bottom - deep * level / 255) for at, level in points), RIGHT)
+    heights = ((axis.at(at), bottom - deep * level / 255) for at, level in points)
+    path = drawing.steps(heights, RIGHT)
     drawing.add("path", d=f"{path}V{number(bottom)}H{number(LEFT)}Z", class_="area")
     drawing.text(LEFT - 6, bottom - 4, name if len(name) <= 18 else name[:16] + "..", "end")
     drawing.text(RIGHT + 26, bottom - 4, f"{points[-1][1]}", "faint")

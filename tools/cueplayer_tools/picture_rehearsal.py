@@ -11,6 +11,8 @@ from cueplayer_tools.svg import Drawing
 TOP = 40.0
 PLOT = 150.0
 LANE = 20.0
+# The slots of a receiver, each behind the moment at which it showed them.
+Shown = list[tuple[int, Slots]]
 
 
 @dataclass
@@ -27,7 +29,7 @@ class _Packet:
 class _Told:
     """What the replies tell."""
 
-    shown: dict[int, list[tuple[int, Slots]]] = field(default_factory=dict)
+    shown: dict[int, Shown] = field(default_factory=dict)
     # Receiver, console (None of a stray), moment, and whether it was ignored.
     heard: list[tuple[int, int | None, int, bool]] = field(default_factory=list)
     packets: dict[tuple[int, int], list[_Packet]] = field(default_factory=dict)
@@ -70,7 +72,7 @@ def _label(words: tuple[str, ...], reply: tuple[str, ...], moment: int, consoles
     return Label(moment, f"{text} {reply[-1]}" if refused else text, refused)
 
 
-def _curves(shown: list[tuple[int, Slots]], universe: int) -> list[Named]:
+def _curves(shown: Shown, universe: int) -> list[Named]:
     """The curves of all slots that a receiver showed."""
     slots = sorted({slot for _, lit_slots in shown for slot in lit_slots})
     curves: dict[Slot, Curve] = {
@@ -80,7 +82,7 @@ def _curves(shown: list[tuple[int, Slots]], universe: int) -> list[Named]:
 
 
 def _draw_receiver(
-    drawing: Drawing, axis: Axis, top: float, name: str, shown: list[tuple[int, Slots]], universe: int
+    drawing: Drawing, axis: Axis, top: float, name: str, shown: Shown, universe: int
 ) -> int:
     """What one receiver showed; how many curves were left away."""
     drawing.text(4, top + 20, name)
@@ -91,8 +93,10 @@ def _draw_receiver(
     return len(curves) - len(kept)
 
 
-def _draw_sent(drawing: Drawing, axis: Axis, top: float, name: str, packets: list[_Packet]) -> None:
-    """A lane with the packets of a console's universe: a stroke each, a cross where it was lost."""
+def _draw_sent(
+    drawing: Drawing, axis: Axis, top: float, name: str, packets: list[_Packet]
+) -> None:
+    """A lane with the packets of a console's universe: a stroke each, a cross where one was lost."""
     drawing.text(4, top + 14, name)
     drawing.line(LEFT, top + 10, RIGHT, top + 10, "rule")
     for packet in packets:
@@ -102,7 +106,8 @@ def _draw_sent(drawing: Drawing, axis: Axis, top: float, name: str, packets: lis
         else:
             drawing.cross(x, top + 10)
     lost = sum(not packet.arrived for packet in packets)
-    drawing.text(RIGHT + 26, top + 14, f"{lost} of {len(packets)} lost", "alarmed" if lost else "faint")
+    told = f"{lost} of {len(packets)} lost"
+    drawing.text(RIGHT + 26, top + 14, told, "alarmed" if lost else "faint")
 
 
 def _description(rehearsal: Rehearsal, told: _Told) -> str:

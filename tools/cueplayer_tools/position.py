@@ -1,4 +1,4 @@
-"""Which cue a playback is at: what go, back and goto came to, and the cues that follow by themselves.
+"""Which cue a playback is at: what go, back and goto came to, and what followed by itself.
 
 The program answers whether a move was made; where it came to follows from the order of the cues.
 """

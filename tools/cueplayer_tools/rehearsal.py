@@ -1,4 +1,4 @@
-"""Rehearsals of the program: a script is written, the program plays it, and its replies are read."""
+"""Rehearsals: a script is written, the program plays it, and its replies are read."""
 
 import tempfile
 from dataclasses import dataclass, field
@@ -38,7 +38,7 @@ class Event:
 
 @dataclass
 class Rehearsal:
-    """The consoles and receivers of a script, its events with their replies, and the last slots."""
+    """The consoles and receivers of a script, its events with replies, and the last slots."""
 
     consoles: list[tuple[str, ...]] = field(default_factory=list)
     receivers: list[int] = field(default_factory=list)
@@ -94,7 +94,7 @@ def rehearse(show: str, script: str) -> Rehearsal:
 
 
 def with_questions(script: str, moments: list[int]) -> str:
-    """The script with a `slots` line for each receiver at these moments, ascending, besides its own.
+    """The script, and besides a `slots` line for each receiver at these moments, ascending.
 
     A question changes nothing of what else is replied: its moment lies between those of the events
     around it."""

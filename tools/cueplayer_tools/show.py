@@ -1,8 +1,8 @@
-"""What a show file says besides levels: the names of its records, times, and which slots there are.
+"""What a show file says besides levels: names of records, times, and which slots there are.
 
 The program alone says what a show means; this reads what the program does not print, by the lines
-of docs/PROFILE.md. What it counts is held against what `check` counts, so that a show which the two
-read differently is refused here, and never shown wrongly.
+of docs/PROFILE.md. What it counts is held against what `check` counts, so that a show which the
+two read differently is refused here, and never shown wrongly.
 """
 
 import re
@@ -181,7 +181,7 @@ class _Reader:
 
 
 def follow_of(words: list[bytes]) -> int | None:
-    """The time of a FOLLOWON line; None where it has none, and the program looks at no word of it."""
+    """The time of a FOLLOWON line; None where it has none, and the program skips it."""
     try:
         return milliseconds_of(words[0])
     except (IndexError, ValueError):

@@ -1,0 +1,150 @@
+"""A headless Chromium, driven over its pipe: what a page does in a real browser."""
+
+import itertools
+import json
+import os
+import shutil
+import subprocess
+import tempfile
+
+from tooling import PATIENCE, wait_for
+
+NAMES = ("chromium", "chromium-browser", "google-chrome", "google-chrome-stable")
+CHROMIUM = os.environ.get("CHROMIUM") or next(filter(None, map(shutil.which, NAMES)), None)
+MISSING = "no Chromium: none of " + ", ".join(NAMES) + " is on PATH, and CHROMIUM names none"
+
+
+class Browser:
+    """A browser with a profile of its own."""
+
+    def __init__(self, test):
+        profile = tempfile.TemporaryDirectory(ignore_cleanup_errors=True)
+        test.addCleanup(profile.cleanup)
+        theirs_in, ours_out = os.pipe()
+        ours_in, theirs_out = os.pipe()
+        words = [CHROMIUM, "--headless", "--disable-gpu", "--remote-debugging-pipe"]
+        words += ["--no-first-run", "--disable-background-networking"]
+        words.append(f"--user-data-dir={profile.name}")
+        if os.geteuid() == 0:
+            words.append("--no-sandbox")
+        # The browser reads at number 3 and writes at number 4.
+        script = f'exec "$@" 3<&{theirs_in} 4>&{theirs_out}'
+        self.process = subprocess.Popen(
+            ["sh", "-c", script, "sh", *words],
+            pass_fds=(theirs_in, theirs_out),
+            stdin=subprocess.DEVNULL,
+            stdout=subprocess.DEVNULL,
+            stderr=subprocess.DEVNULL,
+        )
+        os.close(theirs_in)
+        os.close(theirs_out)
+        self.output = os.fdopen(ours_out, "wb", buffering=0)
+        self.input = os.fdopen(ours_in, "rb")
+        self.numbers = itertools.count(1)
+        self.faults = []
+        test.addCleanup(self.leave)
+
+    def leave(self):
+        self.output.close()
+        self.process.terminate()
+        try:
+            self.process.wait(PATIENCE)
+        except subprocess.TimeoutExpired:
+            self.process.kill()
+            self.process.wait()
+        self.input.close()
+
+    def _message(self):
+        read = bytearray()
+        while (byte := self.input.read(1)) not in (b"\0", b""):
+            read += byte
+        if not read:
+            raise AssertionError("the browser has gone")
+        return json.loads(bytes(read))
+
+    def call(self, method, session=None, **parameters):
+        """Calls a method of the browser, and notes what pages complain of meanwhile."""
+        number = next(self.numbers)
+        asked = {"id": number, "method": method, "params": parameters}
+        if session:
+            asked["sessionId"] = session
+        self.output.write(json.dumps(asked).encode() + b"\0")
+        while True:
+            message = self._message()
+            if message.get("method") in ("Runtime.exceptionThrown", "Log.entryAdded"):
+                self.faults.append(message["params"])
+            if message.get("id") == number:
+                if "error" in message:
+                    raise AssertionError(f"{method}: {message['error']}")
+                return message["result"]
+
+    def opened(self, address, width=1200, height=800):
+        """A page of its own at this address."""
+        return BrowserPage(self, address, width, height)
+
+
+class BrowserPage:
+    """One open page."""
+
+    def __init__(self, browser, address, width, height):
+        self.browser = browser
+        self.target = browser.call("Target.createTarget", url="about:blank")["targetId"]
+        attached = browser.call("Target.attachToTarget", targetId=self.target, flatten=True)
+        self.session = attached["sessionId"]
+        for domain in ("Runtime", "Log", "Page"):
+            self.call(f"{domain}.enable")
+        self.call(
+            "Emulation.setDeviceMetricsOverride",
+            width=width,
+            height=height,
+            deviceScaleFactor=1,
+            mobile=False,
+        )
+        self.call("Page.navigate", url=address)
+
+    def call(self, method, **parameters):
+        return self.browser.call(method, self.session, **parameters)
+
+    def value(self, expression):
+        """The value of an expression in the page."""
+        answer = self.call("Runtime.evaluate", expression=expression, returnByValue=True)
+        if "exceptionDetails" in answer:
+            raise AssertionError(answer["exceptionDetails"])
+        return answer["result"].get("value")
+
+    def text(self, element):
+        return self.value(f"document.getElementById({element!r})?.innerText ?? ''")
+
+    def wait(self, expression):
+        """Waits until an expression holds; while the page loads it may have no value."""
+        script = f"(() => {{ try {{ return {expression}; }} catch {{ return false; }} }})()"
+        return wait_for(lambda: self.value(script), expression)
+
+    def press(self, key, code=None, text=""):
+        """Presses and lets go a key."""
+        virtual = {" ": 32, "Enter": 13, "Backspace": 8, "ArrowRight": 39, "ArrowDown": 40}
+        self.call("Page.bringToFront")
+        named = {"key": key, "code": code or key, "windowsVirtualKeyCode": virtual[key]}
+        self.call("Input.dispatchKeyEvent", type="keyDown", text=text, **named)
+        self.call("Input.dispatchKeyEvent", type="keyUp", **named)
+
+    def click(self, expression):
+        """Clicks in the middle of an element."""
+        script = f"(() => {{ const at = ({expression}); at.scrollIntoView({{block: 'center'}});"
+        script += "const box = at.getBoundingClientRect();"
+        script += "return [box.x + box.width / 2, box.y + box.height / 2]; })()"
+        x, y = self.value(script)
+        for kind in ("mousePressed", "mouseReleased"):
+            self.call("Input.dispatchMouseEvent", type=kind, x=x, y=y, button="left", clickCount=1)
+
+    def names(self, role):
+        """The names that a screen reader has for the parts of this role."""
+        nodes = self.call("Accessibility.getFullAXTree")["nodes"]
+        return [
+            node.get("name", {}).get("value", "")
+            for node in nodes
+            if not node.get("ignored") and node.get("role", {}).get("value") == role
+        ]
+
+    def close(self):
+        self.browser.call("Target.closeTarget", targetId=self.target)

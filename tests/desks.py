@@ -1,0 +1,158 @@
+"""What the tests of `tools/desk` share: a desk whose night has begun, and open pages of it."""
+
+import http.client
+import json
+import os
+import re
+import signal
+import socket
+import tempfile
+import threading
+import uuid
+from pathlib import Path
+
+from program import CID, ProgramTest, text
+from test_live import SLOT_1, datagrams
+from test_play import receiving
+from tooling import PATIENCE, Started, wait_for
+
+SHOW = text(
+    "CUE 1 ! one",
+    "CHAN 1@50",
+    "CUE 1.5",
+    "TEXT half past",
+    "UP 2 1",
+    "DOWN 1",
+    "CHAN 1@FL",
+    "CUE 2 ! two <b>",
+    "CHAN 1@20",
+    "SUB 1 ! all",
+    "CHAN 1@FL",
+    "GROUP 3",
+    "CHAN 1@50",
+    "PATCH 1 1<1@FL",
+)
+
+
+class Page:
+    """An open page: the newest event of each kind, read as they come."""
+
+    def __init__(self, test, address):
+        self.host, self.path = re.fullmatch(r"http://([^/]+)(/.*/)", address).groups()
+        self.origin = f"http://{self.host}"
+        self.connection = http.client.HTTPConnection(self.host, timeout=PATIENCE)
+        self.connection.request("GET", self.path + "events")
+        self.answer = self.connection.getresponse()
+        self.newest = {}
+        self.is_closed = False
+        self.reader = threading.Thread(target=self._read, daemon=True)
+        self.reader.start()
+        test.addCleanup(self.close)
+
+    def _read(self):
+        kind = None
+        try:
+            for line in self.answer:
+                name, _, rest = line.decode().rstrip("\n").partition(": ")
+                if name == "event":
+                    kind = rest
+                elif name == "data":
+                    self.newest[kind] = json.loads(rest)
+        except (OSError, ValueError, AttributeError):
+            pass
+        self.is_closed = True
+
+    def close(self):
+        if not self.connection.sock and self.is_closed:
+            return
+        try:
+            self.answer.fp.raw._sock.shutdown(socket.SHUT_RDWR)
+        except (OSError, AttributeError):
+            pass
+        self.reader.join(PATIENCE)
+        self.connection.close()
+
+    @property
+    def state(self):
+        return self.newest.get("state", {})
+
+    def wait(self, **expected):
+        """Waits for a state with these values."""
+
+        def holds():
+            return all(self.state.get(name) == value for name, value in expected.items())
+
+        try:
+            wait_for(holds, expected)
+        except AssertionError as late:
+            raise AssertionError(f"{expected} in {self.state}") from late
+        return self.state
+
+    def notices(self):
+        return [notice["text"] for notice in self.state.get("notices", [])]
+
+    def request(self, method, name, body=None, path=None, **headers):
+        """The status and the answer of a request; a header of None is left out."""
+        sent = {"Host": self.host, "Origin": self.origin, **headers}
+        connection = http.client.HTTPConnection(self.host, timeout=PATIENCE)
+        try:
+            connection.putrequest(method, (path or self.path) + name, skip_host=True)
+            for header, value in sent.items():
+                if value is not None:
+                    connection.putheader(header.replace("_", "-"), value)
+            if body is not None:
+                connection.putheader("Content-Length", str(len(body)))
+            connection.endheaders(body)
+            answer = connection.getresponse()
+            return answer.status, answer.read(), answer.headers
+        finally:
+            connection.close()
+
+    def command(self, line):
+        return self.request("POST", "command", line.encode())[0]
+
+
+class DeskTest(ProgramTest):
+    def setUp(self):
+        folder = tempfile.TemporaryDirectory()
+        self.addCleanup(folder.cleanup)
+        self.folder = Path(folder.name)
+        self.show = self.folder / "show.asc"
+        self.show.write_bytes(SHOW)
+        self.receiver = receiving()
+        self.addCleanup(self.receiver.close)
+        self.to = "127.0.0.1:{}".format(self.receiver.getsockname()[1])
+        self.cid = CID
+
+    def begun(self, *options, to=None):
+        """A desk whose night has begun, and its address."""
+        # Others on this machine may play at the same time.
+        self.cid = str(uuid.uuid4())
+        words = (self.show, "--to", to or self.to, "--cid", self.cid, *options)
+        desk = Started(self, "desk", *words)
+        line = desk.out.next()
+        self.assertRegex(line or "", r"^desk: http://127\.0\.0\.1:\d+/[\w-]{32}/$")
+        told = re.match(rf"desk: console {self.cid}, live is process (\d+)", desk.err.next())
+        desk.live = int(told[1])
+        self.addCleanup(self.kill, desk.live, self.cid)
+        return desk, line.removeprefix("desk: ")
+
+    def opened(self, *options, **kept):
+        """A desk and an open page of it."""
+        desk, address = self.begun(*options, **kept)
+        page = Page(self, address)
+        page.wait(ending=False)
+        return desk, page
+
+    def shown(self):
+        """The levels that came to the socket since the last look."""
+        return {each[SLOT_1] for each in datagrams(self.receiver, wait=0.05)}
+
+    def wait_for_level(self, level):
+        wait_for(lambda: level in self.shown(), f"level {level}")
+
+    def kill(self, live, cid):
+        """Ends a `live` that outlived its desk."""
+        words = Path(f"/proc/{live}/cmdline")
+        if words.exists() and cid.encode() in words.read_bytes():
+            os.kill(live, signal.SIGKILL)

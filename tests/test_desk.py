@@ -1,0 +1,291 @@
+"""`tools/desk`: its page over HTTP, and the light that it moves."""
+
+import json
+import os
+import re
+import shutil
+import signal
+import socket
+import subprocess
+import sys
+import time
+import uuid
+
+from desks import DeskTest, Page
+from program import CID, packet, text
+from test_live import OPTIONS, datagrams
+from test_osc import message
+from test_play import TERMINATED, receiving
+from tooling import PATIENCE, TOOLS, run_tool, wait_for
+
+
+class Playback(DeskTest):
+    def test_go_moves_light(self):
+        _, page = self.opened()
+        self.assertEqual(204, page.command("go"))
+        page.wait(current="1", next="1.5", waiting=0)
+        self.wait_for_level(128)
+
+    def test_state(self):
+        """All of it comes from what `live` answers, in its own words."""
+        _, page = self.opened()
+        kinds = ("number", "name", "up", "down")
+        cues = [tuple(cue[kind] for kind in kinds) for cue in page.newest["show"]["cues"]]
+        expected = [("1", "one", 0, 0), ("1.5", "half past", 3000, 1000), ("2", "two <b>", 0, 0)]
+        self.assertEqual(expected, cues)
+        faders = [{"line": "sub 1", "name": "all"}, {"line": "group 3", "name": ""}]
+        self.assertEqual(faders, page.newest["show"]["faders"])
+        page.wait(current=None, next="1", fade=None, grand=255, masters={})
+        page.command("goto 1.50")
+        state = page.wait(current="1.5", next="2")
+        self.assertEqual(3000, state["fade"]["whole"])
+        self.assertLess(state["fade"]["elapsed"], 3000)
+        page.command("go")
+        page.wait(current="2", next=None)
+        page.command("BACK")
+        page.wait(current="1.5", next="2")
+        for line in ("sub 1 50", "group 3 FL", "master H40", "master 0"):
+            page.command(line)
+        page.wait(masters={"sub 1": 128, "group 3": 255}, grand=0, lit_grand=64)
+
+    def test_refused(self):
+        """What `live` refuses is told to all pages, until a move is accepted."""
+        _, page = self.opened()
+        for line in ("back", "goto 7", "sub 9 FL"):
+            self.assertEqual(204, page.command(line))
+        told = ["back: refused, AtStart", "goto 7: refused, NoCue", "sub 9 HFF: refused, NoSub"]
+        wait_for(lambda: page.notices() == told, told)
+        page.wait(current=None)
+        page.command("go")
+        page.wait(current="1", notices=[])
+
+    def test_no_command(self):
+        """What is no command never comes to `live`, and is told."""
+        _, page = self.opened()
+        for line in ("jump", "tick", "go\ngo", "5 go", "goto 0", "sub 1 101", "", "go ! \xe9"):
+            self.assertEqual(409, page.command(line), line)
+        page.command("go")
+        page.wait(current="1")
+        self.assertEqual((), tuple(page.notices()))
+        self.assertEqual(409, page.command("x" * 200))
+        wait_for(lambda: page.notices(), "a notice")
+        self.assertEqual("x" * 40 + "..: no command: " + "x" * 80 + "..", page.notices()[0])
+
+    def test_two_pages(self):
+        """Two pages show the same, and one that is opened again shows it at once."""
+        _, address = self.begun()
+        one, two = Page(self, address), Page(self, address)
+        one.command("go")
+        two.wait(current="1")
+        two.command("sub 1 FL")
+        one.wait(current="1", masters={"sub 1": 255})
+        one.close()
+        two.command("go")
+        again = Page(self, address)
+        again.wait(current="1.5", masters={"sub 1": 255})
+
+    def test_page_that_never_reads(self):
+        """It delays neither the light nor other pages."""
+        _, address = self.begun()
+        page = Page(self, address)
+        host, port = page.host.split(":")
+        with socket.create_connection((host, int(port))) as lazy:
+            lazy.setsockopt(socket.SOL_SOCKET, socket.SO_RCVBUF, 1024)
+            lazy.sendall(f"GET {page.path}events HTTP/1.1\r\nHost: {page.host}\r\n\r\n".encode())
+            for turn in range(300):
+                self.assertEqual(204, page.command(f"sub 1 H{turn % 256:02X}"))
+            page.wait(masters={"sub 1": 299 - 256})
+            page.command("go")
+            page.wait(current="1")
+
+    def test_lost_packets(self):
+        _, page = self.opened(to="255.255.255.255:9")
+        wait_for(lambda: page.state.get("lost", {}).get("count", 0) > 2, "lost packets")
+        self.assertEqual(1, page.state["lost"]["universe"])
+        page.command("go")
+        page.wait(current="1")
+
+
+class Ends(DeskTest):
+    def test_end(self):
+        """`end` tells receivers, and the page says that the night has ended."""
+        desk, page = self.opened()
+        page.command("end")
+        page.wait(ending=True, status=0)
+        ends = [bool(each[OPTIONS] & TERMINATED) for each in datagrams(self.receiver)]
+        self.assertEqual([False, True, True, True], ends[-4:])
+        self.assertEqual(409, page.command("go"))
+        self.assertEqual("desk: live has ended with status 0", desk.err.next())
+        again = Page(self, page.origin + page.path)
+        again.wait(status=0)
+        desk.process.send_signal(signal.SIGINT)
+        self.assertEqual(0, desk.process.wait(PATIENCE))
+
+    def test_live_that_dies(self):
+        """The page says so at once."""
+        desk, page = self.opened()
+        os.kill(desk.live, signal.SIGKILL)
+        before = time.monotonic()
+        page.wait(status=-signal.SIGKILL)
+        self.assertLess(time.monotonic() - before, 5)
+
+    def test_control_c(self):
+        """At the first the night goes on; the second ends it, and tells receivers."""
+        desk, page = self.opened()
+        desk.process.send_signal(signal.SIGINT)
+        self.assertIn("the night goes on", desk.err.next())
+        page.command("go")
+        page.wait(current="1")
+        desk.process.send_signal(signal.SIGHUP)
+        page.command("go")
+        page.wait(current="1.5")
+        desk.process.send_signal(signal.SIGINT)
+        try:
+            desk.process.wait(1.5)
+        except Exception:  # the first press was too long ago, as on a busy machine
+            desk.process.send_signal(signal.SIGINT)
+        self.assertEqual(0, desk.process.wait(PATIENCE))
+        self.assertTrue(datagrams(self.receiver)[-1][OPTIONS] & TERMINATED)
+
+    def test_terminated(self):
+        desk, _ = self.opened()
+        desk.process.terminate()
+        self.assertEqual(0, desk.process.wait(PATIENCE))
+        self.assertTrue(datagrams(self.receiver)[-1][OPTIONS] & TERMINATED)
+
+    def test_desk_that_dies(self):
+        """The light stays as it is, and nobody sends beside it under its name."""
+        desk, page = self.opened()
+        page.command("sub 1 50")
+        self.wait_for_level(128)
+        live = desk.live
+        desk.process.kill()
+        desk.process.wait()
+        time.sleep(0.3)
+        datagrams(self.receiver)
+        time.sleep(1.2)
+        self.assertEqual({128}, self.shown())
+        again = run_tool("desk", self.show, "--to", self.to, "--cid", self.cid.upper())
+        told = f"desk: process {live} plays live under this CID already: `kill {live}` ends it\n"
+        self.assertEqual((1, told), (again.returncode, again.stderr))
+
+    def test_before_the_night(self):
+        """What cannot begin is told, with the status of `live` where it has one."""
+        def told(*words):
+            done = run_tool("desk", *words)
+            return done.returncode, re.sub("desk: console .*\n", "", done.stderr)
+
+        usual = ("--to", self.to, "--cid", self.cid)
+        self.assertEqual((2, "desk: live: words refused\ndesk: live has ended with status 2\n"),
+                         told(self.show, *usual, "--priority", 201))
+        self.assertEqual((1, "desk: no IPv4 address: 'x'\n"), told(self.show, "--to", "x"))
+        with socket.create_server(("127.0.0.1", 0)) as taken:
+            port = taken.getsockname()[1]
+            self.assertEqual((1, "desk: cannot begin: Address already in use\n"),
+                             told(self.show, *usual, "--port", port))
+        self.show.write_bytes(text("PATCH 1 1<513@FL"))
+        self.assertEqual((2, "desk: live: base: Universe\ndesk: live has ended with status 2\n"),
+                         told(self.show, *usual, "--base", 63999))
+        self.show.write_bytes(text("CUE x"))
+        self.assertEqual((1, "desk: show line 1: BadNumber\n"), told(self.show, *usual))
+        self.assertEqual(set(), self.shown())
+
+    def test_record(self):
+        """The record is that of `live`."""
+        record = self.folder / "night.play"
+        desk, page = self.opened("--record", record)
+        page.command("go")
+        page.wait(current="1")
+        desk.process.terminate()
+        desk.process.wait(PATIENCE)
+        lines = [line.split()[1:] for line in record.read_text().splitlines()]
+        self.assertEqual([["go"], ["end"]], [line for line in lines if line != ["tick"]])
+
+
+class Beside(DeskTest):
+    def test_osc(self):
+        """Open Sound Control goes to the same night; what is refused of it is told by the page."""
+        _, page = self.opened("--osc", 0)
+        host, port = page.newest["show"]["osc"].split(":")
+        with socket.socket(socket.AF_INET, socket.SOCK_DGRAM) as sender:
+            sender.connect((host, int(port)))
+            sender.send(message("/cueplayer/go", 1.0))
+            sender.send(message("/cueplayer/go", 0.0))
+            page.wait(current="1")
+            sender.send(message("/cueplayer/sub/1", 0.5))
+            page.wait(masters={"sub 1": 128})
+            sender.send(message("/other"))
+            wait_for(lambda: page.notices() == ["OSC: /other: no such address"], "a notice")
+
+    def test_levels(self):
+        """Where nobody else receives at the address the grid does, and it shows what came."""
+        with receiving() as free:
+            to = "127.0.0.1:{}".format(free.getsockname()[1])
+        _, page = self.opened("--grid", to=to)
+        page.command("sub 1 50")
+        levels = (bytes([128]) + bytes(511)).hex()
+        wait_for(lambda: page.newest.get("levels", {}).get("slots") == {"1": levels}, "levels")
+        with socket.socket(socket.AF_INET, socket.SOCK_DGRAM) as other:
+            strange = packet(1, {1: 7}, priority=150, cid=CID[:-1] + "2")
+            other.sendto(strange, ("127.0.0.1", int(to.split(":")[1])))
+        told = ["cueplayer, priority 150, universe 1"]
+        wait_for(lambda: page.newest["levels"]["others"] == told, "the other source")
+        self.assertNotIn("07", json.dumps(page.newest["levels"]["slots"])[:20])
+
+    def test_levels_not_received(self):
+        """Nothing is taken from the receiver that the light is for."""
+        for options, reason in (((), "they are sent to one receiver alone"),
+                                (("--grid",), "Address already in use")):
+            _, page = self.opened(*options)
+            wait_for(lambda: page.newest.get("levels"), "levels")
+            self.assertEqual({"reason": reason, "slots": {}, "others": []}, page.newest["levels"])
+            page.command("sub 1 FL")
+            self.wait_for_level(255)
+
+
+class Multicast(DeskTest):
+    def test_levels(self):
+        """At `--to 239.255.0.0` the levels of each universe come to the grid by its own group."""
+        namespace = network_namespace()
+        if namespace is None:
+            self.skipTest("no network namespace can be made here")
+        script = "ip link set lo up multicast on && ip route add 239.0.0.0/8 dev lo && exec \"$@\""
+        words = [*namespace, "sh", "-c", script, "sh", sys.executable, "-c", SEEN, TOOLS / "desk"]
+        words += [self.show, "--to", "239.255.0.0", "--cid", str(uuid.uuid4()), "--base", "300"]
+        done = subprocess.run(words, capture_output=True, text=True, timeout=2 * PATIENCE)
+        levels = bytes([128]) + bytes(511)
+        came = [json.loads(line) for line in done.stdout.splitlines()]
+        self.assertIn({"300": levels.hex()}, came)
+
+
+# Runs in a network of its own: a desk, its page, a submaster at half, and the levels until then.
+SEEN = """
+import http.client, json, subprocess, sys
+desk = subprocess.Popen([sys.executable, *sys.argv[1:]], stdout=subprocess.PIPE, text=True)
+_, _, host, path = desk.stdout.readline().strip().split("/", 3)
+page = http.client.HTTPConnection(host, timeout=20)
+page.request("GET", "/" + path + "events")
+events = page.getresponse()
+other = http.client.HTTPConnection(host, timeout=20)
+other.request("POST", "/" + path + "command", "sub 1 50", {"Origin": "http://" + host})
+other.getresponse().read()
+for line in events:
+    if line.startswith(b"data: ") and b'"slots"' in line:
+        slots = json.loads(line[6:])["slots"]
+        print(json.dumps(slots))
+        if any(levels.startswith("80") for levels in slots.values()):
+            break
+desk.terminate()
+desk.wait()
+"""
+
+
+def network_namespace():
+    """The words that run a program in a network of its own, or None where that cannot be."""
+    unshare, ip = shutil.which("unshare"), shutil.which("ip")
+    if not unshare or not ip:
+        return None
+    root = [] if os.geteuid() == 0 else ["--user", "--map-root-user"]
+    words = [unshare, *root, "--net"]
+    probe = subprocess.run([*words, ip, "link", "set", "lo", "up"], capture_output=True)
+    return None if probe.returncode else words

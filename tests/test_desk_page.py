@@ -1,0 +1,173 @@
+"""The page of `tools/desk` in a real browser, headless."""
+
+import json
+import os
+import signal
+import unittest
+
+from browser import CHROMIUM, MISSING, Browser
+from desks import DeskTest, Page
+
+
+@unittest.skipUnless(CHROMIUM, MISSING)
+class DeskPage(DeskTest):
+    def shown_page(self, *options, **size):
+        """A desk, its page in a browser, and what a page of our own hears of the same night."""
+        desk, address = self.begun(*options)
+        self.browser = Browser(self)
+        page = self.browser.opened(address, **size)
+        page.wait("document.getElementById('next').textContent === '1 one'")
+        page.wait("!document.body.classList.contains('is-dead')")
+        return desk, page, Page(self, address)
+
+    def assertNoFaults(self):
+        """Nothing was refused by the page's own policy, and no script failed."""
+        self.assertEqual([], self.browser.faults)
+
+    def test_go_moves_light(self):
+        """By the space bar wherever the focus is, by the button, and by Enter."""
+        _, page, state = self.shown_page()
+        page.press(" ", "Space", " ")
+        state.wait(current="1")
+        self.wait_for_level(128)
+        page.value("document.getElementById('back').focus()")
+        page.press(" ", "Space", " ")
+        state.wait(current="1.5")
+        page.wait("document.getElementById('current').textContent === '1.5 half past'")
+        page.press("Backspace")
+        state.wait(current="1")
+        page.click("document.getElementById('go')")
+        state.wait(current="1.5")
+        page.value("document.getElementById('go').focus()")
+        page.press("Enter", "Enter", "\r")
+        state.wait(current="2")
+        self.wait_for_level(51)
+        page.wait("document.title === '2 two <b>'")
+        self.assertNoFaults()
+
+    def test_cue_list(self):
+        """A click goes to a cue; so do arrows and Enter."""
+        _, page, state = self.shown_page()
+        page.click("document.querySelectorAll('#cues button')[2]")
+        state.wait(current="2")
+        page.wait("document.querySelector('[aria-current]')?.innerText.includes('two <b>')")
+        page.value("document.querySelectorAll('#cues button')[0].focus()")
+        page.press("ArrowDown")
+        page.press("Enter", "Enter", "\r")
+        state.wait(current="1.5")
+        reached = page.value("document.querySelectorAll('#cues [tabindex=\"0\"]').length")
+        self.assertEqual(1, reached)
+
+    def test_faders_and_blackout(self):
+        _, page, state = self.shown_page()
+        page.value("document.getElementById('sub-1').focus()")
+        for _ in range(3):
+            page.press("ArrowRight")
+        state.wait(masters={"sub 1": 3})
+        self.wait_for_level(3)
+        page.wait("document.querySelectorAll('output')[1].textContent === '1 %'")
+        page.click("document.getElementById('blackout')")
+        state.wait(grand=0)
+        self.wait_for_level(0)
+        page.wait("document.getElementById('blackout').getAttribute('aria-pressed') === 'true'")
+        page.click("document.getElementById('blackout')")
+        state.wait(grand=255)
+        self.wait_for_level(3)
+        # What another page sets comes to rest on this one's fader.
+        state.command("sub 1 FL")
+        page.wait("document.getElementById('sub-1').value === '255'")
+        self.assertNoFaults()
+
+    def test_alarms(self):
+        """What is refused is told in words until it is dismissed; a dead console at once."""
+        desk, page, state = self.shown_page()
+        page.press("Backspace")
+        page.wait("document.getElementById('alarms').innerText.includes('back: refused, AtStart')")
+        page.click("document.querySelector('#alarms button')")
+        page.wait("document.getElementById('alarms').innerText === ''")
+        os.kill(desk.live, signal.SIGKILL)
+        page.wait("document.getElementById('alarms').innerText.includes('The night has ended')")
+        page.wait("document.body.classList.contains('is-dead')")
+        page.press(" ", "Space", " ")
+        self.assertIsNone(state.wait(status=-9)["current"])
+
+    def test_desk_that_dies(self):
+        desk, page, _ = self.shown_page()
+        desk.process.kill()
+        page.wait("document.getElementById('alarms').innerText.includes('No word from the desk')")
+
+    def test_closed_and_opened_again(self):
+        _, page, state = self.shown_page()
+        page.press(" ", "Space", " ")
+        state.wait(current="1")
+        page.close()
+        again = self.browser.opened(f"{state.origin}{state.path}")
+        again.wait("document.getElementById('current').textContent === '1 one'")
+        other = self.browser.opened(f"{state.origin}{state.path}")
+        other.wait("document.getElementById('current').textContent === '1 one'")
+        other.press(" ", "Space", " ")
+        state.wait(current="1.5")
+        again.wait("document.getElementById('current').textContent === '1.5 half past'")
+
+    def test_end_takes_two_presses(self):
+        _, page, state = self.shown_page()
+        page.click("document.getElementById('end')")
+        page.wait("document.getElementById('end').textContent.includes('once more')")
+        self.assertFalse(state.state["ending"])
+        page.click("document.getElementById('end')")
+        state.wait(status=0)
+
+    def test_tablet(self):
+        """Nothing lies beside a tablet's or a telephone's width, and GO is large."""
+        _, page, _ = self.shown_page(width=768, height=1024)
+        for width in (1180, 768, 390):
+            page.call(
+                "Emulation.setDeviceMetricsOverride",
+                width=width, height=1024, deviceScaleFactor=1, mobile=True,
+            )
+            wide = page.value("document.documentElement.scrollWidth")
+            self.assertLessEqual(wide, width)
+            tall = page.value("document.getElementById('go').getBoundingClientRect().height")
+            self.assertGreaterEqual(tall, 100)
+
+    def test_names(self):
+        """A screen reader has a name for each button and fader."""
+        _, page, _ = self.shown_page()
+        buttons = page.names("button")
+        for name in ("GO", "BACK", "BLACKOUT", "Go to cue 1.5 half past", "Universe before"):
+            self.assertIn(name, buttons)
+        self.assertNotIn("", buttons)
+        self.assertEqual(["Grand master", "sub 1 all", "group 3"], page.names("slider"))
+        self.assertEqual(["Fade"], page.names("progressIndicator") or page.names("progressbar"))
+
+    def test_other_site(self):
+        """A page of another site that knows the address cannot play."""
+        _, page, state = self.shown_page()
+        address = json.dumps(f"{state.origin}{state.path}command")
+        page.call("Page.navigate", url="data:text/html,<p>other")
+        page.wait("document.body.innerText === 'other'")
+        page.value(f"fetch({address}, {{method: 'POST', body: 'go', mode: 'no-cors'}})"
+                   ".finally(() => { document.body.innerText = 'done'; })")
+        page.wait("document.body.innerText === 'done'")
+        state.command("sub 1 FL")
+        self.assertIsNone(state.wait(masters={"sub 1": 255})["current"])
+
+    def test_levels(self):
+        """The grid shows what came; elsewhere it says why there is none."""
+        _, page, _ = self.shown_page()
+        page.wait("document.getElementById('universe').innerText.includes('not received here')")
+
+
+@unittest.skipUnless(CHROMIUM, MISSING)
+class Grid(DeskTest):
+    def test_grid(self):
+        self.receiver.close()
+        _, address = self.begun("--grid")
+        browser = Browser(self)
+        page = browser.opened(address)
+        page.wait("document.getElementById('universe').innerText === 'Universe 1: 0 slots lit'")
+        Page(self, address).command("sub 1 50")
+        page.wait("document.getElementById('universe').innerText === 'Universe 1: 1 slots lit'")
+        first = page.value("document.getElementById('grid').firstChild.innerText")
+        self.assertEqual("1\n128", first)
+        self.assertEqual([], browser.faults)

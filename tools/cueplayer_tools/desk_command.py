@@ -1,0 +1,167 @@
+"""`tools/desk`: runs `live`, and serves one page on this machine to play it from."""
+
+import argparse
+import queue
+import signal
+import socket
+import sys
+import threading
+import time
+import uuid
+from pathlib import Path
+
+from cueplayer_tools.addresses import LOOPBACK, bound_socket, port_number, sending_address
+from cueplayer_tools.desk_levels import LevelReader
+from cueplayer_tools.desk_night import Night, playing
+from cueplayer_tools.desk_server import DeskServer
+from cueplayer_tools.desk_view import show_view
+from cueplayer_tools.osc_command import LONGEST_DATAGRAM
+from cueplayer_tools.osc_lines import lines_of
+from cueplayer_tools.show import read_show
+from cueplayer_tools.words import Refused
+
+# How long a second control-C counts, and how long `live` may take to end.
+SECOND_PRESS = 3.0
+END_PATIENCE = 10.0
+WATCH_EVERY = 0.05
+
+
+class Teller:
+    """Tells lines on standard error, and waits for nobody: a terminal that is stopped, or has
+    gone, holds up no night."""
+
+    def __init__(self) -> None:
+        self.lines: queue.SimpleQueue[str] = queue.SimpleQueue()
+        self.printer = threading.Thread(target=self._print, daemon=True)
+        self.printer.start()
+
+    def __call__(self, text: str) -> None:
+        self.lines.put(text)
+
+    def _print(self) -> None:
+        while text := self.lines.get():
+            try:
+                print(f"desk: {text}", file=sys.stderr, flush=True)
+            except OSError:
+                pass
+
+    def leave(self) -> None:
+        """What was told is printed, if it can be at once."""
+        self.lines.put("")
+        self.printer.join(1.0)
+
+
+def _parser() -> argparse.ArgumentParser:
+    parser = argparse.ArgumentParser(prog="desk", description=__doc__)
+    parser.add_argument("show", metavar="SHOW")
+    parser.add_argument("--to", metavar="ADDR", required=True, help="as of `live`")
+    parser.add_argument("--cid", metavar="UUID", type=uuid.UUID,
+                        help="this console's own; left out, one is made for this night")
+    parser.add_argument("--priority", metavar="P", help="as of `live`")
+    parser.add_argument("--base", metavar="U", type=int, default=1, help="as of `live`")
+    parser.add_argument("--record", metavar="FILE", help="as of `live`")
+    parser.add_argument("--port", metavar="N", type=port_number, default=0,
+                        help="of the page; left out, the system chooses one")
+    parser.add_argument("--osc", metavar="PORT", type=port_number,
+                        help="take Open Sound Control too, on this machine alone")
+    parser.add_argument("--grid", action="store_true",
+                        help="receive the levels at --to too, an address of this machine's own")
+    return parser
+
+
+def _live_words(words: argparse.Namespace) -> list[str]:
+    live = [words.show, "--to", words.to, "--cid", str(words.cid), "--base", str(words.base)]
+    for name in ("priority", "record"):
+        value = getattr(words, name)
+        if value is not None:
+            live += [f"--{name}", value]
+    return live
+
+
+def _take_osc(night: Night, receiver: socket.socket) -> None:
+    """Takes Open Sound Control as `tools/osc` does."""
+    while True:
+        lines, refused = lines_of(receiver.recv(LONGEST_DATAGRAM))
+        for line in lines:
+            try:
+                night.give(line)
+            except Refused as fault:
+                refused.append(f"{line}: {fault}")
+        for fault in refused:
+            night.refuse(f"OSC: {fault}")
+
+
+class _Presses:
+    """Control-C: the first is asked about, the second ends the night."""
+
+    def __init__(self, tell: Teller) -> None:
+        self.tell = tell
+        self.latest = -SECOND_PRESS
+        self.is_asked_for = True
+        self.is_over = False
+
+    def press(self, *_: object) -> None:
+        now = time.monotonic()
+        self.is_over = not self.is_asked_for or now - self.latest < SECOND_PRESS
+        self.latest = now
+        if not self.is_over:
+            self.tell("the night goes on; control-C once more ends it, and the light goes out")
+
+    def leave(self, *_: object) -> None:
+        self.is_over = True
+
+
+def _watch(night: Night, server: DeskServer, presses: _Presses) -> int:
+    """Until the desk is left: makes follow-on moves, and tells when `live` ends; its status. Where
+    nobody has opened the page, there is nobody to be told by it."""
+    while not presses.is_over:
+        night.follow()
+        if night.state.status is not None and presses.is_asked_for:
+            presses.is_asked_for = False
+            presses.is_over = not server.was_opened
+            presses.tell(f"live has ended with status {night.state.status}")
+        time.sleep(WATCH_EVERY)
+    return night.end(END_PATIENCE)
+
+
+def run_desk(words: argparse.Namespace, tell: Teller) -> int:
+    """The desk of one night; the status of `live`."""
+    show = read_show(words.show)
+    words.cid = words.cid or uuid.uuid4()
+    to = sending_address(words.to)
+    other = playing(str(words.cid))
+    if other is not None:
+        raise Refused(f"process {other} plays live under this CID already: `kill {other}` ends it")
+    server = DeskServer(words.port)
+    receiver = None if words.osc is None else bound_socket((LOOPBACK, words.osc))
+    osc = None if receiver is None else "{}:{}".format(*receiver.getsockname())
+    presses = _Presses(tell)
+    signal.signal(signal.SIGINT, presses.press)
+    signal.signal(signal.SIGTERM, presses.leave)
+    # A terminal that is closed by mistake does not put out the light.
+    signal.signal(signal.SIGHUP, signal.SIG_IGN)
+    # Listens before the night begins, so that its first packets are heard.
+    levels = LevelReader(to, words.cid, show.universes(words.base), words.grid)
+    night = Night(show, _live_words(words), tell)
+    levels.read(night.wake)
+    server.show(night, levels, show_view(show, Path(words.show).name, words.base, osc))
+    if receiver is not None:
+        threading.Thread(target=_take_osc, args=(night, receiver), daemon=True).start()
+    print(f"desk: {server.address}", flush=True)
+    tell(f"console {words.cid}, live is process {night.process.pid}")
+    return _watch(night, server, presses)
+
+
+def main(words: list[str]) -> int:
+    """Runs the tool with these words, and answers its exit status."""
+    chosen = _parser().parse_args(words)
+    tell = Teller()
+    try:
+        return run_desk(chosen, tell)
+    except (Refused, argparse.ArgumentTypeError) as fault:
+        tell(str(fault))
+    except OSError as fault:
+        tell(f"cannot begin: {fault.strerror}")
+    finally:
+        tell.leave()
+    return 1

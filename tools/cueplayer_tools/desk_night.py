@@ -1,0 +1,227 @@
+"""A running `live`: lines are handed to it, and what it prints is kept as the state of the night.
+
+Nothing is taken for done before the program has said so. Each line that is handed on gets one
+answer, and answers come in the order of the lines, so the oldest line that waits is the one that
+is answered. What the program prints is always read at once, so that it never waits for a reader.
+
+The program holds the desk's ends of its pipes open too: should the desk be killed, the program's
+input does not end and its output is not refused, and the light stays as it is.
+"""
+
+import os
+import subprocess
+import threading
+import time
+from collections import deque
+from collections.abc import Callable
+from dataclasses import dataclass, field
+from pathlib import Path
+
+from cueplayer_tools.position import MOVES, Position
+from cueplayer_tools.program import program
+from cueplayer_tools.show import Show
+from cueplayer_tools.words import Refused, command_line, level_byte, printable
+
+FULL = 255
+NOTICES_KEPT = 20
+
+
+@dataclass(frozen=True)
+class Notice:
+    """Something that must not be missed, with a number of its own."""
+
+    number: int
+    kind: str
+    text: str
+
+
+@dataclass
+class Lost:
+    """How many packets could not be sent, and where the latest was."""
+
+    count: int = 0
+    moment: int = 0
+    universe: int = 0
+
+
+@dataclass
+class State:
+    """What `live` has said so far. Moments are its own, in milliseconds since the start."""
+
+    position: Position
+    grand: int = FULL
+    # The grand master before it was brought to 0.
+    lit_grand: int = FULL
+    masters: dict[str, int] = field(default_factory=dict)
+    lost: Lost = field(default_factory=Lost)
+    notices: deque[Notice] = field(default_factory=lambda: deque(maxlen=NOTICES_KEPT))
+    told: int = 0
+    is_ending: bool = False
+    status: int | None = None
+
+    def tell(self, kind: str, text: str) -> None:
+        self.told += 1
+        self.notices.append(Notice(self.told, kind, text))
+
+    def accept(self, moment: int, line: str) -> None:
+        """Takes a command that the program has accepted."""
+        kind, *words = line.split()
+        self.position.take(moment, [kind, *words])
+        if kind in ("sub", "group"):
+            self.masters[f"{kind} {words[0]}"] = level_byte(words[1])
+        elif kind == "master":
+            self.grand = level_byte(words[0])
+            self.lit_grand = self.grand or self.lit_grand
+        elif kind == "end":
+            self.is_ending = True
+        elif kind in MOVES:
+            # What was refused before a move is behind us; other notices stay.
+            kept = [notice for notice in self.notices if notice.kind != "refused"]
+            self.notices = deque(kept, NOTICES_KEPT)
+
+
+class Clock:
+    """The moment that it is for `live`, from what it said last."""
+
+    def __init__(self) -> None:
+        self.moment = 0
+        self.at = time.monotonic()
+
+    def hear(self, moment: int) -> None:
+        self.moment, self.at = moment, time.monotonic()
+
+    def now(self) -> int:
+        return self.moment + round((time.monotonic() - self.at) * 1000)
+
+
+def playing(cid: str) -> int | None:
+    """The number of a process on this machine that plays live under this CID. Receivers would take
+    two of them for one source, and the light would go to and fro between them."""
+    for process in Path("/proc").glob("[0-9]*"):
+        try:
+            words = (process / "cmdline").read_bytes().lower().split(b"\0")
+        except OSError:
+            continue
+        if b"live" in words[1:2] and cid.encode() in words:
+            return int(process.name)
+    return None
+
+
+class Night:
+    """The program `live`, as long as it runs, and its state."""
+
+    def __init__(self, show: Show, words: list[str], tell: Callable[[str], None]) -> None:
+        self.show = show
+        self.tell = tell
+        self.state = State(Position(show))
+        self.clock = Clock()
+        self.version = 0
+        self.changed = threading.Condition()
+        self.waiting: deque[str] = deque()
+        their_input, self.input = os.pipe()
+        output, their_output = os.pipe()
+        faults, their_faults = os.pipe()
+        os.set_blocking(self.input, False)
+        # In a session of its own: control-C at the desk's terminal must not end the light.
+        self.process = subprocess.Popen(
+            [program(), "live", *words],
+            stdin=their_input,
+            stdout=their_output,
+            stderr=their_faults,
+            pass_fds=(self.input, output, faults),
+            start_new_session=True,
+        )
+        for theirs in (their_input, their_output, their_faults):
+            os.close(theirs)
+        self.readers = [self._reader(output, self._hear), self._reader(faults, self._hear_fault)]
+        threading.Thread(target=self._wait, daemon=True).start()
+
+    def _reader(self, stream: int, hear: Callable[[str], None]) -> threading.Thread:
+        def read() -> None:
+            with os.fdopen(stream, encoding="latin-1") as lines:
+                for line in lines:
+                    with self.changed:
+                        hear(line.rstrip("\n"))
+                        self._change()
+
+        reader = threading.Thread(target=read, daemon=True)
+        reader.start()
+        return reader
+
+    def wake(self) -> None:
+        """Has whoever waits for a change look again."""
+        with self.changed:
+            self.changed.notify_all()
+
+    def _change(self) -> None:
+        self.version += 1
+        self.changed.notify_all()
+
+    def _hear(self, line: str) -> None:
+        """A line of standard output: the answer to a line, or a tick that lost a packet."""
+        moment, *words = line.split()
+        if not moment.isdecimal() or not words:
+            return
+        self.clock.hear(int(moment))
+        if words[0] in ("ok", "refused"):
+            # Where no line waits it is the `end` that the program gives at last.
+            asked = self.waiting.popleft() if self.waiting else "end"
+            if words[0] == "ok":
+                self.state.accept(int(moment), asked)
+            else:
+                self.state.tell("refused", f"{asked}: refused, {printable(words[-1])}")
+            return
+        for word in words[1:]:
+            universe, _, item = word.partition(":")
+            if item.startswith("x") and universe.isdecimal():
+                lost = self.state.lost
+                lost.count, lost.moment, lost.universe = lost.count + 1, int(moment), int(universe)
+
+    def _hear_fault(self, line: str) -> None:
+        text = printable(line, 300)
+        self.tell(f"live: {text}")
+        self.state.tell("fault", text)
+
+    def _wait(self) -> None:
+        status = self.process.wait()
+        for reader in self.readers:
+            reader.join()
+        with self.changed:
+            self.state.status = status
+            self._change()
+
+    def give(self, text: str) -> None:
+        """Hands a command on to `live`; Refused where it is none, or `live` cannot take it."""
+        line = command_line(text)
+        with self.changed:
+            if self.state.status is not None:
+                raise Refused("the night has ended")
+            try:
+                os.write(self.input, line.encode() + b"\n")
+            except (BlockingIOError, BrokenPipeError) as fault:
+                raise Refused("the console takes no line now") from fault
+            self.waiting.append(line)
+
+    def refuse(self, text: str) -> None:
+        """Tells all pages of what was refused before it came to `live`."""
+        with self.changed:
+            self.state.tell("refused", text)
+            self._change()
+
+    def follow(self) -> None:
+        """Makes the moves of cues that follow by themselves, where one is due."""
+        with self.changed:
+            if self.state.status is None and self.state.position.advance(self.clock.now()):
+                self._change()
+
+    def end(self, patience: float) -> int:
+        """Ends the night, and waits for `live` to tell its receivers; its status."""
+        try:
+            self.give("end")
+        except Refused:
+            pass
+        try:
+            return self.process.wait(patience)
+        except subprocess.TimeoutExpired:
+            self.process.terminate()
+            return self.process.wait()

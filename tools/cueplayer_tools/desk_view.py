@@ -1,0 +1,56 @@
+"""The state of a night as a page gets it: plain data, complete each time."""
+
+from typing import Any
+
+from cueplayer_tools.desk_night import Night
+from cueplayer_tools.show import Record, Show
+from cueplayer_tools.words import cue_word
+
+
+def _records(kind: str, records: dict[int, Record]) -> list[dict[str, str]]:
+    return [{"line": f"{kind} {at}", "name": records[at].name} for at in sorted(records)]
+
+
+def show_view(show: Show, title: str, base: int, osc: str | None) -> dict[str, Any]:
+    """What does not change in a night: the cue list, the faders, the universes, and where Open
+    Sound Control is taken."""
+    cues = [
+        {
+            "number": cue_word(number),
+            "name": show.cues[number].name,
+            "up": show.cues[number].rise.whole,
+            "down": show.cues[number].fall.whole,
+            "follow": show.cues[number].follow,
+        }
+        for number in show.cue_numbers()
+    ]
+    faders = _records("sub", show.subs) + _records("group", show.groups)
+    universes = show.universes(base)
+    return {"title": title, "cues": cues, "faders": faders, "universes": universes, "osc": osc}
+
+
+def _spelled(cue: int | None) -> str | None:
+    return None if cue is None else cue_word(cue)
+
+
+def state_view(night: Night) -> dict[str, Any]:
+    """What changes. Called with the night's lock held."""
+    state, position = night.state, night.state.position
+    fade = None
+    if position.moves:
+        latest = position.moves[-1]
+        whole = night.show.cues[latest.cue].fade
+        fade = {"whole": whole, "elapsed": max(night.clock.now() - latest.moment, 0)}
+    return {
+        "current": _spelled(position.current),
+        "next": _spelled(position.following()),
+        "fade": fade,
+        "grand": state.grand,
+        "lit_grand": state.lit_grand,
+        "masters": dict(state.masters),
+        "waiting": len(night.waiting),
+        "lost": dict(vars(state.lost)),
+        "notices": [vars(notice) for notice in state.notices],
+        "ending": state.is_ending,
+        "status": state.status,
+    }
