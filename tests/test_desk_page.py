@@ -155,7 +155,7 @@ class DeskPage(DeskTest):
     def test_levels(self):
         """The grid shows what came; elsewhere it says why there is none."""
         _, page, _ = self.shown_page()
-        page.wait("document.getElementById('universe').innerText.includes('not received here')")
+        page.wait("document.getElementById('lit').innerText.includes('not received here')")
 
 
 @unittest.skipUnless(CHROMIUM, MISSING)
@@ -165,9 +165,9 @@ class Grid(DeskTest):
         _, address = self.begun("--grid")
         browser = Browser(self)
         page = browser.opened(address)
-        page.wait("document.getElementById('universe').innerText === 'Universe 1: 0 slots lit'")
+        page.wait("document.getElementById('lit').innerText === '0 slots lit'")
         Page(self, address).command("sub 1 50")
-        page.wait("document.getElementById('universe').innerText === 'Universe 1: 1 slots lit'")
+        page.wait("document.getElementById('lit').innerText === '1 slots lit'")
         first = page.value("document.getElementById('grid').firstChild.innerText")
         self.assertEqual("1\n128", first)
         self.assertEqual([], browser.faults)

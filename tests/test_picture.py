@@ -1,6 +1,7 @@
 """`tools/picture`: its levels are the program's, and its pictures stand on their own."""
 
 import re
+import shlex
 import subprocess
 import tempfile
 import time
@@ -121,7 +122,7 @@ class Levels(PictureTest):
         self.assertGreater(len(set(levels)), 5)
 
     def test_thinned(self):
-        """Of many ticks some are left away, none beside a command; what is left is unchanged."""
+        """Of many ticks some are left away, none beside a move; what is left is unchanged."""
         ticks = [record.Given(moment, ("tick",)) for moment in range(0, 60000, 25)]
         commands = [record.Given(moment, ("go",)) for moment in (10, 20010)]
         given = sorted(ticks + commands, key=lambda line: line.moment)
@@ -145,6 +146,12 @@ class Levels(PictureTest):
 
 
 class Pictures(PictureTest):
+    def test_evening_is_told(self):
+        """The lines of the evening say how its picture is drawn."""
+        told = re.sub(r"\\\n!", "", (EXAMPLES / "small-play.play").read_text())
+        words = shlex.split(re.search(r"tools/picture (.*)", told)[1])
+        self.assertEqual([str(word).removeprefix(f"{TOP}/") for word in EVENING], words)
+
     def test_examples(self):
         """The pictures of examples/, byte for byte."""
         for name, words in (("small-play.svg", EVENING), ("backup-console.svg", BACKUP)):

@@ -1,5 +1,6 @@
 """What the tests of `tools/` share: starting a tool, and waiting for what it tells."""
 
+import os
 import queue
 import subprocess
 import sys
@@ -9,6 +10,8 @@ import time
 from program import PROGRAM, TOP
 
 TOOLS = TOP / "tools"
+# The tools run the program that is tested.
+os.environ["CUEPLAYER"] = str(PROGRAM)
 # A busy machine takes its time; nothing here waits so long where all is well.
 PATIENCE = 30
 sys.path.insert(0, str(TOOLS))

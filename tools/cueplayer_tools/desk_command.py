@@ -111,9 +111,9 @@ class _Presses:
         self.is_over = True
 
 
-def _watch(night: Night, server: DeskServer, presses: _Presses) -> int:
-    """Until the desk is left: makes follow-on moves, and tells when `live` ends; its status. Where
-    nobody has opened the page, there is nobody to be told by it."""
+def _watch(night: Night, server: DeskServer, presses: _Presses) -> None:
+    """Until the desk is left: makes follow-on moves, and tells when `live` ends. Where nobody has
+    opened the page, there is nobody to be told by it."""
     while not presses.is_over:
         night.follow()
         if night.state.status is not None and presses.is_asked_for:
@@ -121,7 +121,6 @@ def _watch(night: Night, server: DeskServer, presses: _Presses) -> int:
             presses.is_over = not server.was_opened
             presses.tell(f"live has ended with status {night.state.status}")
         time.sleep(WATCH_EVERY)
-    return night.end(END_PATIENCE)
 
 
 def run_desk(words: argparse.Namespace, tell: Teller) -> int:
@@ -142,14 +141,20 @@ def run_desk(words: argparse.Namespace, tell: Teller) -> int:
     signal.signal(signal.SIGHUP, signal.SIG_IGN)
     # Listens before the night begins, so that its first packets are heard.
     levels = LevelReader(to, words.cid, show.universes(words.base), words.grid)
-    night = Night(show, _live_words(words), tell)
-    levels.read(night.wake)
-    server.show(night, levels, show_view(show, Path(words.show).name, words.base, osc))
-    if receiver is not None:
-        threading.Thread(target=_take_osc, args=(night, receiver), daemon=True).start()
+    view = show_view(show, Path(words.show).name, words.base, osc)
     print(f"desk: {server.address}", flush=True)
-    tell(f"console {words.cid}, live is process {night.process.pid}")
-    return _watch(night, server, presses)
+    night = Night(show, _live_words(words), tell)
+    try:
+        levels.read(night.wake)
+        server.show(night, levels, view)
+        if receiver is not None:
+            threading.Thread(target=_take_osc, args=(night, receiver), daemon=True).start()
+        tell(f"console {words.cid}, live is process {night.process.pid}")
+        _watch(night, server, presses)
+    finally:
+        # Whatever happened, no `live` is left behind that nobody can play.
+        status = night.end(END_PATIENCE)
+    return status
 
 
 def main(words: list[str]) -> int:

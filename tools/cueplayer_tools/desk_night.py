@@ -141,12 +141,19 @@ class Night:
             with os.fdopen(stream, encoding="latin-1") as lines:
                 for line in lines:
                     with self.changed:
-                        hear(line.rstrip("\n"))
+                        self._take(hear, line.rstrip("\n"))
                         self._change()
 
         reader = threading.Thread(target=read, daemon=True)
         reader.start()
         return reader
+
+    def _take(self, hear: Callable[[str], None], line: str) -> None:
+        """Hears a line. A fault here must not end the reading: the program would wait for it."""
+        try:
+            hear(line)
+        except Exception as fault:
+            self.state.tell("fault", f"desk: {fault!r} at: {printable(line)}")
 
     def wake(self) -> None:
         """Has whoever waits for a change look again."""
@@ -160,8 +167,6 @@ class Night:
     def _hear(self, line: str) -> None:
         """A line of standard output: the answer to a line, or a tick that lost a packet."""
         moment, *words = line.split()
-        if not moment.isdecimal() or not words:
-            return
         self.clock.hear(int(moment))
         if words[0] in ("ok", "refused"):
             # Where no line waits it is the `end` that the program gives at last.

@@ -7,7 +7,7 @@ with a receiver of each universe that is handed each packet at once and asked fo
 from bisect import bisect_left
 from dataclasses import dataclass, field
 
-from cueplayer_tools.position import Move, Position
+from cueplayer_tools.position import MOVES, Move, Position
 from cueplayer_tools.record import Given
 from cueplayer_tools.rehearsal import MOST_RECEIVERS, Event, rehearse
 from cueplayer_tools.show import Show
@@ -65,7 +65,7 @@ def filled(given: list[Given], every: int) -> list[Given]:
 
 def thinned(given: list[Given], first: int, last: int) -> list[Given]:
     """The commands up to `last`, and of the ticks between the two no more than can be seen: those
-    at even distances, and the last before and the first after each command."""
+    at even distances, and the last before and the first after each move from cue to cue."""
     ticks = [at for at, line in enumerate(given) if line.is_tick and first <= line.moment <= last]
     moments = [given[at].moment for at in ticks]
     wanted = set(ticks[:1] + ticks[-1:])
@@ -73,7 +73,7 @@ def thinned(given: list[Given], first: int, last: int) -> list[Given]:
         for step in range(MOST_MOMENTS):
             moment = first + (last - first) * step // MOST_MOMENTS
             wanted.add(ticks[min(bisect_left(moments, moment), len(ticks) - 1)])
-        for at in (at for at, line in enumerate(given) if not line.is_tick):
+        for at in (at for at, line in enumerate(given) if line.words[0] in (*MOVES, "end")):
             behind = bisect_left(ticks, at)
             wanted.update(ticks[max(behind - 1, 0) : behind + 1])
     else:

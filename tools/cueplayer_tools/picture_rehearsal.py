@@ -96,7 +96,7 @@ def _draw_receiver(
 def _draw_sent(
     drawing: Drawing, axis: Axis, top: float, name: str, packets: list[_Packet]
 ) -> None:
-    """A lane with the packets of a console's universe: a stroke each, a cross where one was lost."""
+    """A lane with the packets of a console's universe: a stroke each, a cross where lost."""
     drawing.text(4, top + 14, name)
     drawing.line(LEFT, top + 10, RIGHT, top + 10, "rule")
     for packet in packets:

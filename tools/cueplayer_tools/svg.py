@@ -67,9 +67,10 @@ class Drawing:
         self.add("path", d=f"{start}l{far} {far}m0 -{far}l-{far} {far}", class_="alarm")
 
     def steps(self, points: Iterable[tuple[float, float]], end: float) -> str:
-        """A path that stays at each height until the next point, and at the last up to `end`."""
+        """A path that stays at each height until the next point, and at the last up to `end`. Of
+        points at one place the last counts."""
         path, height = "", None
-        for x, y in points:
+        for x, y in {number(x): (x, y) for x, y in points}.values():
             if height is None:
                 path = f"M{number(x)} {number(y)}"
             elif number(y) != number(height):

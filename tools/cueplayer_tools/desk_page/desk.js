@@ -282,9 +282,10 @@ function showLevels() {
   const universe = page.universes[page.universe];
   const slots = page.slots.get(universe);
   byId("grid").hidden = slots === undefined;
+  setText("universe", `Universe ${universe ?? "none"}`);
   if (slots === undefined) {
     const why = page.reason ? `: ${page.reason}` : "";
-    setText("universe", `Universe ${universe ?? "none"}: levels are not received here${why}`);
+    setText("lit", `levels are not received here${why}`);
     return;
   }
   let lit = 0;
@@ -298,7 +299,7 @@ function showLevels() {
     cell.classList.toggle("is-lit", level > 0);
     cell.style.setProperty("--share", `${level * 70 / 255}%`);
   });
-  setText("universe", `Universe ${universe}: ${lit} slots lit`);
+  setText("lit", `${lit} slots lit`);
 }
 
 function chooseUniverse(step) {
