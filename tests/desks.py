@@ -41,33 +41,30 @@ class Page:
         self.host, self.path = re.fullmatch(r"http://([^/]+)(/.*/)", address).groups()
         self.origin = f"http://{self.host}"
         self.connection = http.client.HTTPConnection(self.host, timeout=PATIENCE)
+        self.connection.connect()
+        self.socket = self.connection.sock
         self.connection.request("GET", self.path + "events")
         self.answer = self.connection.getresponse()
         self.newest = {}
-        self.is_closed = False
         self.reader = threading.Thread(target=self._read, daemon=True)
         self.reader.start()
         test.addCleanup(self.close)
 
     def _read(self):
         kind = None
-        try:
+        with self.answer:
             for line in self.answer:
                 name, _, rest = line.decode().rstrip("\n").partition(": ")
                 if name == "event":
                     kind = rest
-                elif name == "data":
+                elif name == "data" and rest.endswith("}"):
                     self.newest[kind] = json.loads(rest)
-        except (OSError, ValueError, AttributeError):
-            pass
-        self.is_closed = True
 
     def close(self):
-        if not self.connection.sock and self.is_closed:
-            return
         try:
-            self.answer.fp.raw._sock.shutdown(socket.SHUT_RDWR)
-        except (OSError, AttributeError):
+            self.socket.shutdown(socket.SHUT_RDWR)
+        except OSError:
+            # It was closed before, here or there.
             pass
         self.reader.join(PATIENCE)
         self.connection.close()
