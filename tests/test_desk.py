@@ -121,6 +121,15 @@ class Ends(DeskTest):
         desk.process.send_signal(signal.SIGINT)
         self.assertEqual(0, desk.process.wait(PATIENCE))
 
+    def test_live_that_does_not_answer(self):
+        """The page says so, until the answer has come."""
+        desk, page = self.opened()
+        os.kill(desk.live, signal.SIGSTOP)
+        page.command("go")
+        page.wait(late=True, waiting=1, current=None)
+        os.kill(desk.live, signal.SIGCONT)
+        page.wait(late=False, waiting=0, current="1")
+
     def test_live_that_dies(self):
         """The page says so at once."""
         desk, page = self.opened()

@@ -55,17 +55,33 @@ def _parser() -> argparse.ArgumentParser:
     parser = argparse.ArgumentParser(prog="desk", description=__doc__)
     parser.add_argument("show", metavar="SHOW")
     parser.add_argument("--to", metavar="ADDR", required=True, help="as of `live`")
-    parser.add_argument("--cid", metavar="UUID", type=uuid.UUID,
-                        help="this console's own; left out, one is made for this night")
+    parser.add_argument(
+        "--cid",
+        metavar="UUID",
+        type=uuid.UUID,
+        help="this console's own; left out, one is made for this night",
+    )
     parser.add_argument("--priority", metavar="P", help="as of `live`")
     parser.add_argument("--base", metavar="U", type=int, default=1, help="as of `live`")
     parser.add_argument("--record", metavar="FILE", help="as of `live`")
-    parser.add_argument("--port", metavar="N", type=port_number, default=0,
-                        help="of the page; left out, the system chooses one")
-    parser.add_argument("--osc", metavar="PORT", type=port_number,
-                        help="take Open Sound Control too, on this machine alone")
-    parser.add_argument("--grid", action="store_true",
-                        help="receive the levels at --to too, an address of this machine's own")
+    parser.add_argument(
+        "--port",
+        metavar="N",
+        type=port_number,
+        default=0,
+        help="of the page; left out, the system chooses one",
+    )
+    parser.add_argument(
+        "--osc",
+        metavar="PORT",
+        type=port_number,
+        help="take Open Sound Control too, on this machine alone",
+    )
+    parser.add_argument(
+        "--grid",
+        action="store_true",
+        help="receive the levels at --to too, an address of this machine's own",
+    )
     return parser
 
 
@@ -112,10 +128,10 @@ class _Presses:
 
 
 def _watch(night: Night, server: DeskServer, presses: _Presses) -> None:
-    """Until the desk is left: makes follow-on moves, and tells when `live` ends. Where nobody has
+    """Until the desk is left: watches the night, and tells when `live` ends. Where nobody has
     opened the page, there is nobody to be told by it."""
     while not presses.is_over:
-        night.follow()
+        night.watch()
         if night.state.status is not None and presses.is_asked_for:
             presses.is_asked_for = False
             presses.is_over = not server.was_opened

@@ -24,6 +24,8 @@ from cueplayer_tools.words import Refused, command_line, level_byte, printable
 
 FULL = 255
 NOTICES_KEPT = 20
+# An answer takes some milliseconds; so many seconds say that something is wrong.
+LATE = 2.0
 
 
 @dataclass(frozen=True)
@@ -56,6 +58,8 @@ class State:
     lost: Lost = field(default_factory=Lost)
     notices: deque[Notice] = field(default_factory=lambda: deque(maxlen=NOTICES_KEPT))
     told: int = 0
+    # Whether a line has waited for its answer for too long.
+    is_late: bool = False
     is_ending: bool = False
     status: int | None = None
 
@@ -117,7 +121,8 @@ class Night:
         self.clock = Clock()
         self.version = 0
         self.changed = threading.Condition()
-        self.waiting: deque[str] = deque()
+        # The lines without an answer, each behind the time at which it was handed on.
+        self.waiting: deque[tuple[float, str]] = deque()
         their_input, self.input = os.pipe()
         output, their_output = os.pipe()
         faults, their_faults = os.pipe()
@@ -170,7 +175,7 @@ class Night:
         self.clock.hear(int(moment))
         if words[0] in ("ok", "refused"):
             # Where no line waits it is the `end` that the program gives at last.
-            asked = self.waiting.popleft() if self.waiting else "end"
+            _, asked = self.waiting.popleft() if self.waiting else (0.0, "end")
             if words[0] == "ok":
                 self.state.accept(int(moment), asked)
             else:
@@ -205,7 +210,7 @@ class Night:
                 os.write(self.input, line.encode() + b"\n")
             except (BlockingIOError, BrokenPipeError) as fault:
                 raise Refused("the console takes no line now") from fault
-            self.waiting.append(line)
+            self.waiting.append((time.monotonic(), line))
 
     def refuse(self, text: str) -> None:
         """Tells all pages of what was refused before it came to `live`."""
@@ -213,10 +218,16 @@ class Night:
             self.state.tell("refused", text)
             self._change()
 
-    def follow(self) -> None:
-        """Makes the moves of cues that follow by themselves, where one is due."""
+    def watch(self) -> None:
+        """Makes the moves of cues that follow by themselves, where one is due, and sees whether
+        `live` still answers."""
         with self.changed:
-            if self.state.status is None and self.state.position.advance(self.clock.now()):
+            if self.state.status is not None:
+                return
+            has_moved = self.state.position.advance(self.clock.now())
+            is_late = bool(self.waiting) and time.monotonic() - self.waiting[0][0] > LATE
+            if has_moved or is_late != self.state.is_late:
+                self.state.is_late = is_late
                 self._change()
 
     def end(self, patience: float) -> int:

@@ -51,6 +51,7 @@ def state_view(night: Night) -> dict[str, Any]:
         "waiting": len(night.waiting),
         "lost": dict(vars(state.lost)),
         "notices": [vars(notice) for notice in state.notices],
+        "late": state.is_late,
         "ending": state.is_ending,
         "status": state.status,
     }

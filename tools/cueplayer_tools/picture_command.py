@@ -85,15 +85,22 @@ def _parser() -> argparse.ArgumentParser:
     night.add_argument("--from", metavar="MS", dest="first", type=whole_number)
     night.add_argument("--until", metavar="MS", type=whole_number)
     night.add_argument("--base", metavar="U", type=whole_number, default=1)
-    night.add_argument("--every", metavar="MS", type=whole_number,
-                       help="ticks of its own, so far apart, where the lines have none")
+    night.add_argument(
+        "--every",
+        metavar="MS",
+        type=whole_number,
+        help="ticks of its own, so far apart, where the lines have none",
+    )
     night.add_argument("--title", metavar="TEXT")
     night.set_defaults(draw=night_picture)
     rehearsal = kinds.add_parser("rehearsal", help="a script of `rehearse`")
     rehearsal.add_argument("show", metavar="SHOW")
     rehearsal.add_argument("script", metavar="SCRIPT")
-    rehearsal.add_argument("--replies", metavar="FILE",
-                           help="what `rehearse` printed; left out, it is run, and asked often")
+    rehearsal.add_argument(
+        "--replies",
+        metavar="FILE",
+        help="what `rehearse` printed; left out, it is run, and asked often",
+    )
     rehearsal.add_argument("--title", metavar="TEXT")
     rehearsal.set_defaults(draw=rehearsal_picture)
     return parser

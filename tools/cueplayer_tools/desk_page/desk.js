@@ -249,6 +249,7 @@ function alarms() {
   } else if (state.ending) {
     told.push(["The night is ending: receivers are told"]);
   }
+  if (state.late && state.status === null) told.push(["live does not answer"]);
   const { count, universe, moment } = state.lost;
   if (count > page.dismissedLost) {
     const latest = `of universe ${universe} at ${seconds(moment)}`;
