@@ -1,0 +1,126 @@
+"""The answers of whole runs: status, standard output, standard error, and the packets sent."""
+
+from typing import NamedTuple
+
+from program import CID, packet
+
+from . import script as scripts
+from . import show as shows
+from .desk import Desk, command
+from .receiver import Receiver
+from .script import ticked
+from .words import lines_of, moment, uuid, words_of
+
+LONGEST_LINE = 200
+MOST_LINES = 10_000_000
+
+
+class Answer(NamedTuple):
+    status: int
+    out: bytes = b""
+    err: bytes = b""
+    packets: tuple = ()
+
+
+def refused(status, text, printed=(), packets=()):
+    return Answer(status, printed_text(printed), text.encode() + b"\n", tuple(packets))
+
+
+def printed_text(lines):
+    return "".join(line + "\n" for line in lines).encode()
+
+
+def wire(universe, sent, console):
+    """A packet's bytes."""
+    cid = console.cid.hex()
+    return packet(universe, sent.slots, sent.k % 256, sent.options, console.priority, cid)
+
+
+def check(text):
+    show = shows.read(text)
+    if isinstance(show, str):
+        return refused(3, show)
+    tables = f"cues {len(show.cues)} subs {len(show.subs)} groups {len(show.groups)}"
+    return Answer(
+        0, f"lines {show.lines} {tables} dimmers {len(show.patch)} skipped {show.skipped}\n".encode()
+    )
+
+
+def look(text, cue, cid=CID):
+    """`cue` is in thousandths."""
+    show = shows.read(text)
+    if isinstance(show, str):
+        return refused(3, show)
+    if cue not in show.cues:
+        return refused(3, "show: NoCue")
+    levels = show.cues[cue].levels
+    lines = []
+    for k in show.universes():
+        slots = {}
+        for dimmer, (channel, patch) in show.patch.items():
+            if (dimmer - 1) // 512 == k:
+                fine = 255 * levels.get(channel, 0)
+                slots[(dimmer - 1) % 512 + 1] = (fine * 255 * patch + 8290687) // 16581375
+        lines.append(packet(k + 1, slots, cid=cid).hex())
+    return Answer(0, printed_text(lines))
+
+
+def play_line(desk, line):
+    """What is printed of a line of `play`, and the packets that it sends; None where it is malformed."""
+    words = words_of(line)
+    if not words:
+        return "", ()
+    at = moment(words[0])
+    if at is None or not words[1:]:
+        return None
+    if words[1].lower() == b"tick" and len(words) == 2:
+        answer = desk.tick(at)
+        sent = [] if isinstance(answer, str) else [(u, p) for u, p in answer[1] if p]
+        return f"{at} {ticked(answer)}", sent
+    asked = command(words[1:])
+    if asked is None:
+        return None
+    refusal = desk.order(at, asked)
+    return f"{at} " + (f"refused {refusal}" if refusal else "ok"), ()
+
+
+def play(text, lines, base=1, priority=100, cid=CID):
+    show = shows.read(text)
+    if isinstance(show, str):
+        return refused(3, show)
+    if base + max(show.universes(), default=0) > 63999:
+        return refused(2, "base: Universe")
+    console = scripts.Console(base, priority, uuid(cid.encode()))
+    desk = Desk(show, base)
+    printed, packets = [], []
+    for n, line in enumerate(lines_of(lines), 1):
+        fits = len(line) <= LONGEST_LINE and n <= MOST_LINES
+        answer = play_line(desk, line) if fits else None
+        if answer is None:
+            return refused(4, f"line {n} refused", printed, packets)
+        printed += [answer[0]] if answer[0] else []
+        packets += [wire(universe, sent, console) for universe, sent in answer[1]]
+    return Answer(0, printed_text(printed), packets=tuple(packets))
+
+
+def rehearse(text, script):
+    show = shows.read(text)
+    if isinstance(show, str):
+        return refused(3, show)
+    if len(script) > scripts.LONGEST:
+        return refused(4, "script: TooLong")
+    said = scripts.read(script)
+    fault = said if isinstance(said, str) else scripts.setup_fault(show, said[0], said[1])
+    if fault:
+        return refused(4, fault)
+    consoles, receivers, events = said
+    night = scripts.Night(show, consoles, receivers, wire)
+    printed = [f"{event.line} {night.reply(event)}" for event in events]
+    printed += [f"end {r} {each.slots_line(night.now)}" for r, each in enumerate(night.receivers)]
+    return Answer(0, printed_text(printed))
+
+
+def listen(universe, datagrams):
+    receiver = Receiver(universe)
+    printed = [f"{n} {receiver.take(0, sent[:1500])}" for n, sent in enumerate(datagrams, 1)]
+    return Answer(0, printed_text(printed + [receiver.slots_line(0)]))
