@@ -41,11 +41,13 @@ def is_bound(host, port):
 class Listener:
     """A run of `listen` that has its socket."""
 
-    def __init__(self, universe=1, count=1, host="127.0.0.1", port=None, address=None):
+    def __init__(self, universe=1, count=1, host="127.0.0.1", port=None, address=None, env=None):
         self.at = (host, port or free_port())
         words = [PROGRAM, "listen", address or f"{host}:{self.at[1]}", str(universe), str(count)]
         # Without a buffer, what `line` leaves is there for `close`.
-        self.child = subprocess.Popen(words, stdout=subprocess.PIPE, stderr=subprocess.PIPE, bufsize=0)
+        self.child = subprocess.Popen(
+            words, stdout=subprocess.PIPE, stderr=subprocess.PIPE, bufsize=0, env=env
+        )
         self.sender = socket.socket(socket.AF_INET, socket.SOCK_DGRAM)
         until = time.monotonic() + 30
         while self.child.poll() is None and not is_bound(*self.at):

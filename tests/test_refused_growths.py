@@ -1,15 +1,18 @@
 """Each growth of a run's memory refused in turn: the run then tells its want of memory and prints nothing,
-or ends as it does with all memory."""
+or ends as it does with all memory. And: once datagrams go or come, no memory is asked for."""
 
 import os
+import re
 import shutil
 import struct
 import subprocess
 import tempfile
+import time
 import unittest
 from pathlib import Path
 
-from program import CID, Outcome, ProgramTest, run, text
+from program import CID, PROGRAM, Outcome, ProgramTest, packet, run, text
+from test_listen import Listener
 
 COMPILER = shutil.which("cc")
 MEMORY = Outcome(6, b"", b"memory\n")
@@ -20,36 +23,68 @@ SHOW = text(
 )
 
 
+COMMANDS = ("go", "back", "goto 2", "sub 1 50", "group 3 FL", "master 50", "sub 200 1", "goto 999")
+
+
 @unittest.skipUnless(COMPILER, "no C compiler to build what refuses a growth")
-class RefusedGrowths(ProgramTest):
+class Growths(ProgramTest):
     @classmethod
     def setUpClass(cls):
         folder = tempfile.TemporaryDirectory()
         cls.addClassCleanup(folder.cleanup)
         cls.library = Path(folder.name, "refuse.so")
         cls.counted = Path(folder.name, "counted")
-        cls.counted.write_bytes(bytes(8))
+        cls.counted.write_bytes(bytes(16))
         source = Path(__file__).resolve().parent / "refuse.c"
         subprocess.run([COMPILER, "-shared", "-fPIC", "-o", cls.library, source], check=True)
 
-    def run_without(self, growth, words, stdin):
-        """How the run ends where the growth of this number is refused, and how many it asks for."""
+    def setUp(self):
+        folder = tempfile.TemporaryDirectory()
+        self.addCleanup(folder.cleanup)
+        self.folder = Path(folder.name)
+        self.show = self.folder / "show.asc"
+        self.show.write_bytes(SHOW)
+
+    def environment(self, growth):
         kept = {"LD_PRELOAD": str(self.library), "REFUSED": str(growth), "COUNTED": str(self.counted)}
-        outcome = run(*words, stdin=stdin, env=os.environ | kept)
-        return outcome, struct.unpack("q", self.counted.read_bytes())[0]
+        return os.environ | kept
+
+    def growths(self):
+        """How many growths the last run asked for, and how many until its first datagram."""
+        return struct.unpack("qq", self.counted.read_bytes())
+
+
+class RefusedGrowths(Growths):
+    def run_without(self, growth, words, stdin):
+        """How the run ends where the growth of this number is refused; its moments are left out.
+
+        The input is a file: of a pipe the pieces come as they will, and the growths by them.
+        """
+        typed = self.folder / "typed"
+        typed.write_bytes(stdin)
+        with open(typed, "rb") as given:
+            done = subprocess.run(
+                [PROGRAM, *words], stdin=given, capture_output=True, timeout=60, env=self.environment(growth)
+            )
+        out = re.sub(rb"^\d+ ", b"", done.stdout, flags=re.MULTILINE)
+        return Outcome(done.returncode, out, done.stderr)
 
     def assertEachRefused(self, words, stdin):
-        whole, growths = self.run_without(0, words, stdin)
-        self.assertEqual(run(*words, stdin=stdin), whole)
+        whole = self.run_without(0, words, stdin)
+        growths, _ = self.growths()
+        self.assertNotIn(b"memory", whole.err)
         refused = 0
         for growth in range(1, growths + 1):
             with self.subTest(words=words, growth=growth):
-                outcome, _ = self.run_without(growth, words, stdin)
+                outcome = self.run_without(growth, words, stdin)
                 self.assertIn(outcome, (MEMORY, whole))
                 refused += outcome == MEMORY
         # A block that is made smaller may stay where it is.
         self.assertGreaterEqual(refused, growths - 1)
         self.assertGreater(refused, 0)
+        # And where the growth after the last would be refused, none is.
+        self.assertEqual(whole, self.run_without(growths + 1, words, stdin))
+        self.assertEqual(growths, self.growths()[0])
 
     def test_check(self):
         self.assertEachRefused(["check", "-"], SHOW)
@@ -58,11 +93,12 @@ class RefusedGrowths(ProgramTest):
         self.assertEachRefused(["look", "-", "7", "--cid", CID], SHOW)
 
     def test_play(self):
-        with tempfile.NamedTemporaryFile() as file:
-            file.write(SHOW)
-            file.flush()
-            words = ["play", file.name, "--to", "127.0.0.1:9", "--cid", CID]
-            self.assertEachRefused(words, b"0 go\n0 tick\n25 sub 1 50\n25 tick\n50 end\n50 tick\n")
+        words = ["play", self.show, "--to", "127.0.0.1:9", "--cid", CID]
+        self.assertEachRefused(words, b"0 go\n0 tick\n25 sub 1 50\n25 tick\n50 end\n50 tick\n")
+
+    def test_live(self):
+        """A night that is over after three ticks."""
+        self.assertEachRefused(["live", self.show, "--to", "127.0.0.1:9", "--cid", CID], b"go\nend\n")
 
     def test_rehearse(self):
         lines = [f"console 1 10{n} {CID[:-1]}{n}" for n in range(2)] + ["receiver 1", "receiver 2"]
@@ -70,12 +106,67 @@ class RefusedGrowths(ProgramTest):
         for k in range(12):
             lines += [f"{25 * k} do 0 sub 2 {k}", f"{25 * k} tick 0", f"{25 * k} tick 1"]
             lines += [f"{25 * k} deliver {n} 0 {n + 1} {k}" for n in range(2)] + [f"{25 * k} slots 0"]
-        with tempfile.TemporaryDirectory() as folder:
-            show, script = Path(folder, "show.asc"), Path(folder, "night.script")
-            show.write_bytes(SHOW)
-            script.write_bytes(text(*lines))
-            self.assertEachRefused(["rehearse", show, script], b"")
+        script = self.folder / "night.script"
+        script.write_bytes(text(*lines))
+        self.assertEachRefused(["rehearse", self.show, script], b"")
 
     def test_words(self):
         for words in (["--help"], ["look", "-"], ["look", "-", "x", "--cid", CID], ["check", "a", "b"]):
             self.assertEachRefused(words, b"")
+
+
+class NoGrowths(Growths):
+    """What is asked for before the first datagram is all that is asked for."""
+
+    def assertNoneAfterTheFirst(self):
+        growths, before = self.growths()
+        self.assertGreaterEqual(before, 0)
+        self.assertEqual(before, growths)
+
+    def test_play(self):
+        """Every command, refused ones, changes and quiet ticks, and the end."""
+        lines = ["0 tick"]
+        for n in range(1, 201):
+            lines += [f"{25 * n} {COMMANDS[n % len(COMMANDS)]}", f"{25 * n} tick", f"{25 * n} tick"]
+        lines += ["5025 end", "5025 tick", "5050 tick", "5075 tick", "5100 tick", "x"]
+        words = ["play", self.show, "--to", "127.0.0.1:9", "--cid", CID]
+        outcome = run(*words, stdin=text(*lines), env=self.environment(0))
+        self.assertEqual((4, b"line 607 refused\n"), (outcome.status, outcome.err))
+        self.assertIn(b" s", outcome.out.replace(b"1:", b" "))
+        self.assertNoneAfterTheFirst()
+
+    def test_live(self):
+        """Commands, refused lines, a record, and the end."""
+        record = self.folder / "night.play"
+        words = ["live", self.show, "--to", "127.0.0.1:9", "--cid", CID, "--record", record]
+        night = subprocess.Popen(
+            [PROGRAM, *words],
+            stdin=subprocess.PIPE,
+            stdout=subprocess.PIPE,
+            stderr=subprocess.PIPE,
+            bufsize=0,
+            env=self.environment(0),
+        )
+        self.addCleanup(night.kill)
+        while b" tick" not in (record.read_bytes() if record.exists() else b""):
+            time.sleep(0.01)
+        for line in (*COMMANDS, "jump", "x" * 300):
+            night.stdin.write(text(line))
+            time.sleep(0.03)
+        _, err = night.communicate(timeout=60)
+        self.assertEqual((0, 2), (night.returncode, err.count(b"line refused")))
+        self.assertNoneAfterTheFirst()
+
+    def test_listen(self):
+        """Sources that come and go, a stranger, and what is no packet."""
+        listener = Listener(count=100, env=self.environment(0))
+        self.addCleanup(listener.abandon)
+        for n in range(100):
+            cid = f"{CID[:-1]}{n % 7}"
+            sent = packet(1 + n % 11 // 10, {1 + n: 255}, 3 * n % 256, 0x40 * (n % 13 == 0), cid=cid)
+            listener.send(sent[: 638 if n % 5 else 130])
+            self.assertNotEqual(b"(no line)", listener.line())
+        status, out, err = listener.close()
+        self.assertEqual((0, b""), (status, err))
+        self.assertTrue(out.startswith(b"slots "))
+        self.assertNoneAfterTheFirst()
