@@ -1,0 +1,355 @@
+"""Calls of the system that fail: each send, read, write and receive in turn, and networks that are gone."""
+
+import errno
+import os
+import re
+import shutil
+import subprocess
+import sys
+import tempfile
+import unittest
+from pathlib import Path
+
+from expected import runs
+from program import CID, LOOK_ONE, PROGRAM, Outcome, ProgramTest, counts, packet, run, text
+from test_listen import THREE, Listener
+from test_live import OPTIONS, SEQUENCE, without_moments
+from test_play import S1, TERMINATED, received, receiving
+from test_rehearse import BASIC, HEADER
+
+COMPILER = shutil.which("cc")
+DEVICE_FAULT = b"device fault\n"
+NETWORK_ERRORS = (errno.EAGAIN, errno.ECONNREFUSED, errno.ENETUNREACH, errno.ENOBUFS, errno.EPERM)
+FADE = (("0 go", "0 ok"), ("0 tick", "0 live 1:s0"), ("2500 tick", "2500 live 1:s1"))
+FADE += (("2525 tick", "2525 live 1:s2"), ("5000 tick", "5000 live 1:s3"))
+FADED = [packet(1, {1: level} if level else {}, k) for k, level in enumerate((0, 127, 129, 255))]
+SENDING = {0: 0, 25: 1, 50: 2, 75: 3, 875: 4, 1675: 5}  # the packets of row `keep_alive`, by their moments
+MOMENTS = range(0, 1676, 25)
+
+
+@unittest.skipUnless(COMPILER, "no C compiler to build what fails")
+class FailingCalls(ProgramTest):
+    @classmethod
+    def setUpClass(cls):
+        folder = tempfile.TemporaryDirectory()
+        cls.addClassCleanup(folder.cleanup)
+        cls.library = Path(folder.name, "fail.so")
+        source = Path(__file__).resolve().parent / "fail.c"
+        subprocess.run([COMPILER, "-shared", "-fPIC", "-o", cls.library, source], check=True)
+
+    def setUp(self):
+        folder = tempfile.TemporaryDirectory()
+        self.addCleanup(folder.cleanup)
+        self.folder = Path(folder.name)
+        self.show = self.folder / "show.asc"
+        self.show.write_bytes(S1)
+        self.receiver = receiving()
+        self.addCleanup(self.receiver.close)
+        self.to = "127.0.0.1:{}".format(self.receiver.getsockname()[1])
+
+    def environment(self, *failures):
+        """`failures`: a call's name, the first and the last of its calls that fail, and the error."""
+        words = " ".join(f"{call} {first} {last} {error}" for call, first, last, error in failures)
+        return os.environ | {"LD_PRELOAD": str(self.library), "FAILS": words}
+
+    def failing(self, words, stdin, *failures):
+        """How a run ends; its input is a file."""
+        typed = self.folder / "typed"
+        typed.write_bytes(stdin)
+        with open(typed, "rb") as given:
+            done = subprocess.run(
+                [PROGRAM, *words],
+                stdin=given,
+                capture_output=True,
+                timeout=60,
+                env=self.environment(*failures),
+            )
+        return Outcome(done.returncode, done.stdout, done.stderr)
+
+    def plays(self, lines, *failures):
+        """How `play` ends, and what came of its packets."""
+        words = ["play", self.show, "--to", self.to, "--cid", CID]
+        return self.failing(words, text(*lines), *failures), received(self.receiver)
+
+
+class Play(FailingCalls):
+    def kept_alive(self, *lost):
+        """What is printed of row `keep_alive`'s ticks where these packets are lost, and what comes."""
+        items = {at: ("x" if k in lost else "s") + str(k) for at, k in SENDING.items()}
+        printed = [f"{moment} live 1:{items.get(moment, '-')}" for moment in MOMENTS]
+        return text(*printed), [packet(1, {}, k) for k in range(6) if k not in lost]
+
+    def test_each_send_fails(self):
+        """The others are sent as if nothing had failed."""
+        ticks = [f"{moment} tick" for moment in MOMENTS]
+        for error in NETWORK_ERRORS:
+            for k in range(6):
+                with self.subTest(errno.errorcode[error], k=k):
+                    out, packets = self.kept_alive(k)
+                    outcome, came = self.plays(ticks, ("sendto", k + 1, k + 1, error))
+                    self.assertEqual(Outcome(5, out, b"lost 1\n"), outcome)
+                    self.assertEqual(packets, came)
+
+    def test_no_send_passes(self):
+        out, _ = self.kept_alive(*range(6))
+        outcome, came = self.plays([f"{m} tick" for m in MOMENTS], ("sendto", 1, 99, errno.ENETUNREACH))
+        self.assertEqual((Outcome(5, out, b"lost 6\n"), []), (outcome, came))
+
+    def test_interrupted_calls(self):
+        """A call that a signal interrupted is made again."""
+        for call in ("sendto", "read", "write"):
+            for first in range(1, 4):
+                with self.subTest(call, first=first):
+                    interrupted = (call, first, first + 2, errno.EINTR)
+                    outcome, came = self.plays([line for line, _ in FADE], interrupted)
+                    self.assertEqual(Outcome(0, text(*(out for _, out in FADE)), b""), outcome)
+                    self.assertEqual(FADED, came)
+
+    def test_each_device_fails(self):
+        """Row `five_second_fade`: what was printed and sent before the read or write that failed."""
+        lines, printed = zip(*FADE)
+        outcome, came = self.plays(lines[:4], ("read", 2, 2, errno.EIO))
+        self.assertEqual(Outcome(5, text(*printed[:4]), DEVICE_FAULT), outcome)
+        self.assertEqual(FADED[:3], came)
+        outcome, came = self.plays(lines, ("read", 1, 1, errno.EIO))
+        self.assertEqual((Outcome(5, b"", DEVICE_FAULT), []), (outcome, came))
+        for error in (errno.EIO, errno.ENOSPC, errno.EPIPE, errno.EAGAIN):
+            for write in range(1, 6):
+                with self.subTest(errno.errorcode[error], write=write):
+                    outcome, came = self.plays(lines, ("write", write, write, error))
+                    self.assertEqual(Outcome(5, text(*printed[: write - 1]), DEVICE_FAULT), outcome)
+                    # The packets of the line that was not printed went out before it.
+                    self.assertEqual(FADED[: write - 1], came)
+
+    def test_later_read_fails(self):
+        """An input of several blocks: all lines that came whole were carried out."""
+        lines = [f"{moment} go" for moment in range(3000)]
+        stdin = text(*lines)
+        for read in (2, 3, 4):
+            whole = stdin[: 4096 * (read - 1)].count(b"\n")
+            outcome, _ = self.plays(lines, ("read", read, read, errno.EIO))
+            printed = ["0 ok", "1 ok"] + [f"{moment} refused AtEnd" for moment in range(2, whole)]
+            self.assertEqual(Outcome(5, text(*printed), DEVICE_FAULT), outcome)
+
+    def test_output_closed_in_the_middle(self):
+        """The line after whose printing nobody reads any more ends the run; no signal does."""
+        words = [PROGRAM, "play", self.show, "--to", self.to, "--cid", CID]
+        with subprocess.Popen(
+            words, stdin=subprocess.PIPE, stdout=subprocess.PIPE, stderr=subprocess.PIPE, bufsize=0
+        ) as run:
+            self.addCleanup(run.kill)
+            run.stdin.write(b"0 go\n0 tick\n")
+            self.assertEqual([b"0 ok\n", b"0 live 1:s0\n"], [run.stdout.readline() for _ in range(2)])
+            run.stdout.close()
+            run.stdin.write(b"2500 tick\n")
+            self.assertEqual(DEVICE_FAULT, run.stderr.read())
+        self.assertEqual((5, FADED[:2]), (run.returncode, received(self.receiver)))
+
+    def test_input_cut(self):
+        """An input that ends anywhere, be it in the middle of a line."""
+        stdin = b"0 sub 1 50\n0 tick\n25 goto 2 ! now\n1025 tick\n1050 end\n1050 tick\n"
+        words = ["play", self.show, "--to", self.to, "--cid", CID]
+        for length in range(len(stdin)):
+            with self.subTest(stdin[:length]):
+                expected = runs.play(S1, stdin[:length])
+                answer = (*run(*words, stdin=stdin[:length]), tuple(received(self.receiver)))
+                self.assertEqual(expected, answer)
+
+
+class Prints(FailingCalls):
+    """Jobs that only print: the writes of each fail in turn, and are interrupted."""
+
+    def assertEachWriteFails(self, words, stdin, whole):
+        self.assertEqual(Outcome(0, whole, b""), self.failing(words, stdin))
+        self.assertEqual(Outcome(0, whole, b""), self.failing(words, stdin, ("write", 1, 3, errno.EINTR)))
+        for write in range(1, 100):
+            outcome = self.failing(words, stdin, ("write", write, write, errno.EIO))
+            if outcome.status == 0:
+                break
+            # Of the text it is not known how much went out.
+            self.assertEqual((5, DEVICE_FAULT), (outcome.status, outcome.err))
+            self.assertTrue(whole.startswith(outcome.out))
+        self.assertEqual(whole, outcome.out)
+        self.assertEqual(b"", self.failing(words, stdin, ("write", 1, 99, errno.EIO)).out)
+        return write - 1
+
+    def test_each_device_fails(self):
+        """`check`, `look` and `rehearse`, which prints through a buffer."""
+        self.assertEqual(1, self.assertEachWriteFails(["check", self.show], b"", counts(12, 2, 1, 0, 2)))
+        one = text(*LOOK_ONE)
+        line = packet(1, {1: 64}).hex().encode() + b"\n"
+        self.assertEqual(1, self.assertEachWriteFails(["look", "-", "1", "--cid", CID], one, line))
+        script = self.folder / "night.script"
+        script.write_bytes(text(*HEADER, *(line for line, _ in BASIC)))
+        whole = text(*(out for _, out in BASIC), "end 0 slots 1:102")
+        words = ["rehearse", self.show, script]
+        self.assertGreaterEqual(self.assertEachWriteFails(words, b"", whole), 1)
+        script.write_bytes(text(*HEADER, *["0 slots 0"] * 20_000))
+        whole = text(*(f"{n} slots" for n in range(3, 20_003)), "end 0 slots")
+        self.assertGreater(self.assertEachWriteFails(words, b"", whole), 1)
+
+    def test_each_read_fails(self):
+        """Standard input: interrupted it is asked again, and else it is a fault."""
+        whole = counts(12, 2, 1, 0, 2)
+        for read in (1, 2):
+            outcome = self.failing(["check", "-"], S1, ("read", read, read + 2, errno.EINTR))
+            self.assertEqual(Outcome(0, whole, b""), outcome)
+            outcome = self.failing(["check", "-"], S1, ("read", read, read, errno.EIO))
+            self.assertEqual(Outcome(5, b"", DEVICE_FAULT), outcome)
+
+    def test_script_cut(self):
+        """A script that ends anywhere."""
+        script = text(*HEADER, *(line for line, _ in BASIC[:5]))
+        file = self.folder / "night.script"
+        for length in range(len(script)):
+            with self.subTest(script[:length]):
+                file.write_bytes(script[:length])
+                expected = runs.rehearse(S1, script[:length])
+                self.assertEqual(expected[:3], run("rehearse", self.show, file))
+
+
+class Listen(FailingCalls):
+    DATAGRAMS = (packet(1, {1: 64}), packet(1, {1: 64}), bytes(5))
+
+    def heard(self, *failures):
+        listener = Listener(count=3, env=self.environment(*failures))
+        self.addCleanup(listener.abandon)
+        listener.send(*self.DATAGRAMS)
+        return listener.close()
+
+    def test_each_device_fails(self):
+        """Each receive and each write: what was printed before it stays."""
+        lines = THREE.splitlines(keepends=True)
+        for call, calls in (("recvfrom", 3), ("write", 4)):
+            for n in range(1, calls + 1):
+                for error in (errno.EIO, errno.ECONNREFUSED, errno.EAGAIN):
+                    with self.subTest(call, n=n, error=errno.errorcode[error]):
+                        out = b"".join(lines[: n - 1])
+                        self.assertEqual((5, out, DEVICE_FAULT), self.heard((call, n, n, error)))
+
+    def test_interrupted_calls(self):
+        for call in ("recvfrom", "write"):
+            self.assertEqual((0, THREE, b""), self.heard((call, 1, 2, errno.EINTR)))
+
+    def test_output_closed_in_the_middle(self):
+        listener = Listener(count=3)
+        self.addCleanup(listener.abandon)
+        listener.send(self.DATAGRAMS[0])
+        self.assertEqual(b"1 taken 0\n", listener.line())
+        listener.child.stdout.close()
+        listener.send(self.DATAGRAMS[1])
+        self.assertEqual(DEVICE_FAULT, listener.child.stderr.read())
+        self.assertEqual(5, listener.child.wait(timeout=30))
+
+
+class Live(FailingCalls):
+    WORDS = ("--cid", CID)
+
+    def lived(self, *failures, stdin=b"sub 1 FL\nend\n"):
+        """How a night ends, without its moments, and what came of its packets."""
+        words = ["live", self.show, "--to", self.to, *self.WORDS]
+        status, out, err = self.failing(words, stdin, *failures)
+        return status, without_moments(out), err, received(self.receiver)
+
+    def test_each_send_fails(self):
+        """The tick is printed, and the night goes on; the others come."""
+        for error in NETWORK_ERRORS:
+            for k in range(3):
+                with self.subTest(errno.errorcode[error], k=k):
+                    status, out, err, came = self.lived(("sendto", k + 1, k + 1, error))
+                    self.assertEqual((5, b"lost 1\n"), (status, err))
+                    self.assertEqual(["ok", "ok"], [line for line in out if line == "ok"])
+                    self.assertEqual([f"1:x{k}"], [line.split()[-1] for line in out if line != "ok"])
+                    numbers = [each[SEQUENCE] for each in came]
+                    self.assertEqual([n for n in range(numbers[-1] + 1) if n != k], numbers)
+                    self.assertGreaterEqual(len(numbers), 3)
+
+    def test_interrupted_calls(self):
+        for call in ("sendto", "write", "read", "epoll_wait"):
+            with self.subTest(call):
+                status, out, err, came = self.lived((call, 1, 2, errno.EINTR))
+                self.assertEqual((0, ["ok", "ok"], b""), (status, out, err))
+                self.assertEqual([TERMINATED] * 3, [each[OPTIONS] for each in came[-3:]])
+
+    def test_each_write_fails(self):
+        """A reply that nobody takes ends the night: its line was carried out."""
+        for write in (1, 2):
+            status, out, err, _ = self.lived(("write", write, write, errno.EIO))
+            self.assertEqual((5, ["ok"] * (write - 1), DEVICE_FAULT), (status, out, err))
+
+    def test_reads_that_fail(self):
+        """Nothing there yet is no fault; an input that cannot be read any more is one."""
+        status, out, err, _ = self.lived(("read", 1, 5, errno.EAGAIN))
+        self.assertEqual((0, ["ok", "ok"], b""), (status, out, err))
+        status, out, err, _ = self.lived(("read", 1, 1, errno.EIO))
+        self.assertEqual((5, [], DEVICE_FAULT), (status, out, err))
+
+    def test_input_cut(self):
+        """In the middle of a line: what is there of it is a line, and the end of the night is given."""
+        typed = b"sub 1 FL\n"
+        for length in range(len(typed)):
+            with self.subTest(typed[:length]):
+                status, out, err, came = self.lived(stdin=typed[:length])
+                refused = [b"line refused: " + typed[:length] + b"\n"] if 0 < length < 7 else []
+                if length == 7:
+                    refused = [b"line refused: sub 1 F\n"]
+                self.assertEqual((0, b"".join(refused)), (status, err))
+                self.assertEqual(["ok"] * (2 if length == 8 else 1), out)
+                self.assertEqual(3, len([each for each in came if each[OPTIONS] == TERMINATED]))
+
+
+# Runs in a network of its own, in which nothing is up: begins a night there, brings the network up, and
+# tells what came and what was printed.
+WITHOUT_NETWORK = """
+import select, socket, subprocess, sys, time
+night = subprocess.Popen(sys.argv[1:], stdin=subprocess.PIPE, stdout=subprocess.PIPE, stderr=subprocess.PIPE)
+lost = [night.stdout.readline() for _ in range(4)]
+receiver = socket.socket(socket.AF_INET, socket.SOCK_DGRAM)
+receiver.bind(("0.0.0.0", 5568))
+subprocess.run("ip link set lo up", shell=True, check=True)
+time.sleep(0.2)
+night.stdin.write(b"sub 1 FL\\n")
+night.stdin.flush()
+time.sleep(0.2)
+out, err = night.communicate(timeout=60)
+came = []
+while select.select([receiver], [], [], 0.1)[0]:
+    came.append(receiver.recv(65536))
+print(b"".join(lost).decode() + out.decode() + err.decode() + f"status {night.returncode}")
+print(max(each[126] for each in came), [each[112] for each in came[-3:]])
+"""
+
+
+class Network(FailingCalls):
+    def namespace(self):
+        """The words that run others in a network of their own."""
+        unshare, ip = shutil.which("unshare"), shutil.which("ip")
+        if not unshare or not ip:
+            self.skipTest("no tools to make a network namespace")
+        words = [unshare, "--net"] if os.geteuid() == 0 else [unshare, "--user", "--map-root-user", "--net"]
+        if subprocess.run([*words, ip, "link"], capture_output=True).returncode != 0:
+            self.skipTest("no network namespace can be made")
+        return words
+
+    def test_no_network(self):
+        """The system itself says that the network cannot be reached: each packet is lost, none ends the run."""
+        words = [*self.namespace(), PROGRAM, "play", self.show, "--to", "192.0.2.1", "--cid", CID]
+        done = subprocess.run(words, input=b"0 tick\n25 tick\n", capture_output=True, timeout=60)
+        out = b"0 live 1:x0\n25 live 1:x1\n"
+        self.assertEqual((5, out, b"lost 2\n"), (done.returncode, done.stdout, done.stderr))
+
+    def test_network_that_comes(self):
+        """A night that begins without its network goes on once it is there."""
+        words = [PROGRAM, "live", self.show, "--to", "127.0.0.1", "--cid", CID]
+        done = subprocess.run(
+            [*self.namespace(), sys.executable, "-c", WITHOUT_NETWORK, *words],
+            capture_output=True,
+            text=True,
+            timeout=60,
+        )
+        *printed, levels = done.stdout.splitlines()
+        lost = [line for line in printed if re.fullmatch(r"\d+ live 1:x\d+", line)]
+        self.assertEqual(("", printed[: len(lost)]), (done.stderr, lost))
+        rest = [re.sub(r"^\d+ ", "", line) for line in printed[len(lost) :]]
+        self.assertEqual(["ok", "ok", f"lost {len(lost)}", "status 5"], rest)
+        self.assertEqual("128 [64, 64, 64]", levels)
