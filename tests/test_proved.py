@@ -1,0 +1,84 @@
+"""docs/PROVED.md: the calls that it lists are the public calls of the crates that take no memory, and the
+tests that it names are there."""
+
+import re
+import unittest
+
+from program import TOP
+
+PAGE = TOP / "docs/PROVED.md"
+# What a device takes is its own: one over memory grows.
+OF_DEVICES = ("Datagrams::", "Feed::", "Link::", "Output::")
+# In a signature, what says that memory may be asked for: the allocator, or want of memory.
+MAY_GROW = re.compile(r"\b(alloc|rt): |AllocError|BuildFault")
+END = re.compile(r"\n\s*(requires|ensures|ghost|decreases|where)\b|[{;]")
+FUNCTION = re.compile(r"^( *)(pub )?(?:const )?fn (\w+)", re.MULTILINE)
+OWNER = re.compile(r"^(?:impl(?:<[^>]*>)? (?:([\w:]+)(?:<[^>]*>)? for )?(\w+)|pub trait (\w+))", re.MULTILINE)
+
+
+def signature(text, start):
+    """A function's signature from its name on, in one line."""
+    depth, end = 0, start
+    while depth or not END.match(text, end):
+        depth += {"(": 1, "[": 1, ")": -1, "]": -1}.get(text[end], 0)
+        end += 1
+    return re.sub(r",? \)", ")", re.sub(r"\s+", " ", text[start:end]).strip()).replace("( ", "(")
+
+
+def exported(crate):
+    """The names that a crate's library exports, laws aside."""
+    library = (crate / "src/lib.rt").read_text()
+    names = re.findall(r"pub use (\w+)::(?:\{([^}]*)\}|(\w+));", library)
+    inside = {name for path, *some in names if path != "law" for name in re.findall(r"\w+", " ".join(some))}
+    if "pub mod memory" in library:
+        inside |= {"MemoryDatagrams", "MemoryFeed", "MemoryLink", "MemoryOutput"}
+    return inside
+
+
+def calls_of(crate):
+    """The public calls of a crate that take no memory, each by its signature."""
+    names, calls = exported(crate), set()
+    for file in (crate / "src").rglob("*.rt"):
+        if "tests" in file.relative_to(crate).as_posix() or file.name in ("laws.rt", "law.rt"):
+            continue
+        text = file.read_text()
+        owners = [(m.start(), m[1], m[2] or m[3], bool(m[3])) for m in OWNER.finditer(text)]
+        for found in FUNCTION.finditer(text):
+            said = signature(text, found.start(3))
+            if not found[1]:
+                owner, public = None, found[2] and found[3] in names
+            else:
+                _, trait, owner, is_trait = [each for each in owners if each[0] < found.start()][-1]
+                public = owner in names and (is_trait or found[2] or trait == "Iterator")
+            name = f"{owner}::{said}" if owner else said
+            if public and not MAY_GROW.search(said) and not name.startswith(OF_DEVICES):
+                calls.add(name)
+    return calls
+
+
+def all_calls():
+    """Those of each crate that has any, in the order of crates.txt."""
+    names = [line.partition(":")[0] for line in (TOP / "crates.txt").read_text().splitlines()]
+    crates = [TOP / "crates" / name for name in names if name]
+    found = {crate.name: calls_of(crate) for crate in crates if (crate / "src/lib.rt").exists()}
+    return {name: calls for name, calls in found.items() if calls}
+
+
+class Proved(unittest.TestCase):
+    maxDiff = None
+
+    def test_calls(self):
+        page = dict(re.findall(r"^### (\w+)\n\n```\n(.*?)```", PAGE.read_text(), re.MULTILINE | re.DOTALL))
+        expected = all_calls()
+        self.assertEqual(sorted(expected), sorted(page))
+        for name, calls in expected.items():
+            self.assertEqual(sorted(calls), sorted(page[name].splitlines()), name)
+
+    def test_tests(self):
+        """Each test that the page names, as `file.Class.test` or as a file's, is one."""
+        named = re.findall(r"`(test_\w+)((?:\.\w+)*)`", PAGE.read_text())
+        self.assertTrue(named)
+        for file, rest in named:
+            text = (TOP / f"tests/{file}.py").read_text()
+            for part in rest.split(".")[1:]:
+                self.assertRegex(text, rf"(class|def) {part}\b", file + rest)
