@@ -1,5 +1,8 @@
 """docs/PROVED.md: the calls that it lists are the public calls of the crates that take no memory, and the
-tests that it names are there."""
+tests that it names are there.
+
+Run by itself (`python3 tests/test_proved.py`) it writes the page's list of calls anew.
+"""
 
 import re
 import unittest
@@ -64,15 +67,25 @@ def all_calls():
     return {name: calls for name, calls in found.items() if calls}
 
 
+def listed(page):
+    """The page's list of calls: from its first crate to the next chapter."""
+    begin = page.index("\n### ", page.index("\n## Calls that take no memory\n")) + 1
+    return slice(begin, page.index("\n## ", begin) + 1)
+
+
+def list_of_calls():
+    parts = []
+    for name, calls in all_calls().items():
+        parts += [f"### {name}", "", "```", *sorted(calls), "```", ""]
+    return "".join(part + "\n" for part in parts)
+
+
 class Proved(unittest.TestCase):
     maxDiff = None
 
     def test_calls(self):
-        page = dict(re.findall(r"^### (\w+)\n\n```\n(.*?)```", PAGE.read_text(), re.MULTILINE | re.DOTALL))
-        expected = all_calls()
-        self.assertEqual(sorted(expected), sorted(page))
-        for name, calls in expected.items():
-            self.assertEqual(sorted(calls), sorted(page[name].splitlines()), name)
+        page = PAGE.read_text()
+        self.assertEqual(list_of_calls(), page[listed(page)])
 
     def test_tests(self):
         """Each test that the page names, as `file.Class.test` or as a file's, is one."""
@@ -82,3 +95,9 @@ class Proved(unittest.TestCase):
             text = (TOP / f"tests/{file}.py").read_text()
             for part in rest.split(".")[1:]:
                 self.assertRegex(text, rf"(class|def) {part}\b", file + rest)
+
+
+if __name__ == "__main__":
+    written = PAGE.read_text()
+    place = listed(written)
+    PAGE.write_text(written[: place.start] + list_of_calls() + written[place.stop :])
