@@ -18,6 +18,8 @@ from test_osc import message
 from test_play import TERMINATED, receiving
 from tooling import PATIENCE, TOOLS, run_tool, wait_for
 
+from cueplayer_tools.show import has_follow_ons
+
 
 class Playback(DeskTest):
     def test_go_moves_light(self):
@@ -104,6 +106,17 @@ class Playback(DeskTest):
         self.assertEqual(1, page.state["lost"]["universe"])
         page.command("go")
         page.wait(current="1")
+
+
+    def test_follow_on(self):
+        """A cue that follows by itself is current without a press."""
+        if not has_follow_ons():
+            self.skipTest("the program plays no FOLLOWON lines")
+        self.show.write_bytes(text("CUE 1", "FOLLOWON 0.5", "CUE 2", "CHAN 1@FL", "PATCH 1 1<1@FL"))
+        _, page = self.opened()
+        page.command("go")
+        page.wait(current="2", next=None)
+        self.wait_for_level(255)
 
 
 class Ends(DeskTest):
