@@ -112,7 +112,8 @@ class Playback(DeskTest):
         """A cue that follows by itself is current without a press."""
         if not has_follow_ons():
             self.skipTest("the program plays no FOLLOWON lines")
-        self.show.write_bytes(text("CUE 1", "FOLLOWON 0.5", "CUE 2", "CHAN 1@FL", "PATCH 1 1<1@FL"))
+        lines = ("CUE 1", "FOLLOWON 0.5", "CUE 2", "CHAN 1@FL", "PATCH 1 1<1@FL")
+        self.show.write_bytes(text(*lines))
         _, page = self.opened()
         page.command("go")
         page.wait(current="2", next=None)
@@ -213,15 +214,21 @@ class Ends(DeskTest):
         self.assertEqual(set(), self.shown())
 
     def test_record(self):
-        """The record is that of `live`."""
-        record = self.folder / "night.play"
-        desk, page = self.opened("--record", record)
+        """The record is that of `live`, and so is what is kept of its replies."""
+        record, replies = self.folder / "night.play", self.folder / "night.replies"
+        desk, page = self.opened("--record", record, "--replies", replies)
+        page.command("back")
         page.command("go")
         page.wait(current="1")
         desk.process.terminate()
         desk.process.wait(PATIENCE)
         lines = [line.split()[1:] for line in record.read_text().splitlines()]
-        self.assertEqual([["go"], ["end"]], [line for line in lines if line != ["tick"]])
+        commands = [line for line in lines if line != ["tick"]]
+        self.assertEqual([["back"], ["go"], ["end"]], commands)
+        told = [line.split()[1:] for line in replies.read_text().splitlines()]
+        self.assertEqual([["refused", "AtStart"], ["ok"], ["ok"]], told)
+        again = run_tool("desk", self.show, "--to", self.to, "--replies", replies)
+        self.assertEqual(2, again.returncode)
 
 
 class Beside(DeskTest):

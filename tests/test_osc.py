@@ -149,8 +149,9 @@ class Lines(unittest.TestCase):
 
     def test_any_bytes(self):
         """What is named of any datagram is one short printable line, and nothing is raised."""
-        starts = (b"", padded(b"/cueplayer/go"), b"#bundle\0" + bytes(8), padded(b"/cueplayer/goto"))
-        for start in (*starts, starts[-1] + b",s\0\0"):
+        goto = padded(b"/cueplayer/goto")
+        starts = (b"", padded(b"/cueplayer/go"), b"#bundle\0" + bytes(8), goto)
+        for start in (*starts, goto + b",s\0\0"):
             for byte in range(256):
                 for size in (1, 4, 300):
                     lines, refused = lines_of(start + bytes([byte]) * size)

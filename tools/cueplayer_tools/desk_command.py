@@ -1,6 +1,7 @@
 """`tools/desk`: runs `live`, and serves one page on this machine to play it from."""
 
 import argparse
+import os
 import queue
 import signal
 import socket
@@ -9,6 +10,7 @@ import threading
 import time
 import uuid
 from pathlib import Path
+from typing import TextIO
 
 from cueplayer_tools.addresses import LOOPBACK, bound_socket, port_number, sending_address
 from cueplayer_tools.desk_levels import LevelReader
@@ -27,10 +29,12 @@ WATCH_EVERY = 0.05
 
 
 class Teller:
-    """Tells lines on standard error, and waits for nobody: a terminal that is stopped, or has
-    gone, holds up no night."""
+    """Writes lines, and waits for nobody: a terminal that is stopped or has gone, or a disk that
+    is full, holds up no night."""
 
-    def __init__(self) -> None:
+    def __init__(self, stream: TextIO, prefix: str = "") -> None:
+        self.stream = stream
+        self.prefix = prefix
         self.lines: queue.SimpleQueue[str] = queue.SimpleQueue()
         self.printer = threading.Thread(target=self._print, daemon=True)
         self.printer.start()
@@ -41,12 +45,12 @@ class Teller:
     def _print(self) -> None:
         while text := self.lines.get():
             try:
-                print(f"desk: {text}", file=sys.stderr, flush=True)
+                print(self.prefix + text, file=self.stream, flush=True)
             except OSError:
                 pass
 
     def leave(self) -> None:
-        """What was told is printed, if it can be at once."""
+        """What was told is written, if it can be at once."""
         self.lines.put("")
         self.printer.join(1.0)
 
@@ -64,6 +68,12 @@ def _parser() -> argparse.ArgumentParser:
     parser.add_argument("--priority", metavar="P", help="as of `live`")
     parser.add_argument("--base", metavar="U", type=int, default=1, help="as of `live`")
     parser.add_argument("--record", metavar="FILE", help="as of `live`")
+    parser.add_argument(
+        "--replies",
+        metavar="FILE",
+        type=argparse.FileType("x"),
+        help="a new file, which gets what `live` prints",
+    )
     parser.add_argument(
         "--port",
         metavar="N",
@@ -159,7 +169,8 @@ def run_desk(words: argparse.Namespace, tell: Teller) -> int:
     levels = LevelReader(to, words.cid, show.universes(words.base), words.grid)
     view = show_view(show, Path(words.show).name, words.base, osc)
     print(f"desk: {server.address}", flush=True)
-    night = Night(show, _live_words(words), tell)
+    replies = Teller(words.replies or open(os.devnull, "w", encoding="ascii"))
+    night = Night(show, _live_words(words), tell, replies)
     try:
         levels.read(night.wake)
         server.show(night, levels, view)
@@ -170,13 +181,14 @@ def run_desk(words: argparse.Namespace, tell: Teller) -> int:
     finally:
         # Whatever happened, no `live` is left behind that nobody can play.
         status = night.end(END_PATIENCE)
+        replies.leave()
     return status
 
 
 def main(words: list[str]) -> int:
     """Runs the tool with these words, and answers its exit status."""
     chosen = _parser().parse_args(words)
-    tell = Teller()
+    tell = Teller(sys.stderr, "desk: ")
     try:
         return run_desk(chosen, tell)
     except (Refused, argparse.ArgumentTypeError) as fault:

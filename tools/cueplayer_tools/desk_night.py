@@ -114,9 +114,18 @@ def playing(cid: str) -> int | None:
 class Night:
     """The program `live`, as long as it runs, and its state."""
 
-    def __init__(self, show: Show, words: list[str], tell: Callable[[str], None]) -> None:
+    def __init__(
+        self,
+        show: Show,
+        words: list[str],
+        tell: Callable[[str], None],
+        keep: Callable[[str], None],
+    ) -> None:
+        """Starts `live` with these words. `tell` gets what it says on standard error, and `keep`
+        each line that it prints; neither may wait."""
         self.show = show
         self.tell = tell
+        self.keep = keep
         self.state = State(Position(show))
         self.clock = Clock()
         self.version = 0
@@ -171,6 +180,7 @@ class Night:
 
     def _hear(self, line: str) -> None:
         """A line of standard output: the answer to a line, or a tick that lost a packet."""
+        self.keep(line)
         moment, *words = line.split()
         self.clock.hear(int(moment))
         if words[0] in ("ok", "refused"):
@@ -237,7 +247,10 @@ class Night:
         except Refused:
             pass
         try:
-            return self.process.wait(patience)
+            self.process.wait(patience)
         except subprocess.TimeoutExpired:
             self.process.terminate()
-            return self.process.wait()
+        status = self.process.wait()
+        for reader in self.readers:
+            reader.join()
+        return status

@@ -1,4 +1,5 @@
-"""Running the program: the built one that `CUEPLAYER` names, or the script that builds it."""
+"""Running the program: the one that `CUEPLAYER` names, the script that builds it, or the one that
+is installed."""
 
 import os
 import subprocess
@@ -11,7 +12,7 @@ SCRIPT = TOP / "cueplayer"
 
 def program() -> str:
     """The program to run."""
-    return os.environ.get("CUEPLAYER") or str(SCRIPT)
+    return os.environ.get("CUEPLAYER") or (str(SCRIPT) if SCRIPT.is_file() else "cueplayer")
 
 
 @dataclass(frozen=True)
