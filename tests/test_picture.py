@@ -225,9 +225,34 @@ class Pictures(PictureTest):
             kept.write_bytes(content)
             done = run_tool("picture", "night", file, kept)
             self.assertEqual((1, "", f"picture: {told}\n"), tuple(vars(done).values())[1:])
+        done = run_tool("picture", "night", file, kept, "--channel", 9)
+        self.assertEqual((1, "picture: no tick"), (done.returncode, done.stderr[:16]))
+        kept.write_bytes(b"0 tick\n")
+        done = run_tool("picture", "night", file, kept, "--channel", 9)
+        self.assertEqual((1, "picture: channel 9 runs no dimmer\n"), (done.returncode, done.stderr))
         file.write_bytes(text("CUE x"))
         done = run_tool("picture", "night", file, kept)
         self.assertEqual((1, "picture: show line 1: BadNumber\n"), (done.returncode, done.stderr))
+
+
+    def test_other_replies(self):
+        """Replies of another script are refused, and so is a script that the program refuses."""
+        own = (EXAMPLES / "backup-console.replies").read_bytes()
+        for content in (b"", own[: len(own) // 2], own + b"99 ok\n", b"\n" + own, b"no replies"):
+            done = run_tool("picture", *BACKUP, "--replies", self.file("replies", content))
+            told = "picture: the replies are not those of this script\n"
+            self.assertEqual((1, "", told), (done.returncode, done.stdout, done.stderr))
+        script = self.file("night.script", b"receiver 1\n0 slots\n")
+        done = run_tool("picture", "rehearsal", EXAMPLES / "one-dimmer.asc", script)
+        self.assertEqual("picture: rehearse: line 2 refused\n", done.stderr)
+
+    def test_bare_rehearsals(self):
+        """Without events, without receivers, and with datagrams of no console."""
+        console = f"console 1 100 {CID}\n"
+        strays = "receiver 7\n5 stray 0\n9 stray 0 00\n9 slots 0\n9 deliver 0 0 1 5\n"
+        for lines in ("", "0 tick 0\n", strays):
+            script = self.file("night.script", (console + lines).encode())
+            self.drawn("rehearsal", EXAMPLES / "one-dimmer.asc", script)
 
 
 class Shows(PictureTest):

@@ -78,6 +78,3 @@ def wait_for(condition, what):
             return found
         time.sleep(0.02)
     raise AssertionError(f"not within {PATIENCE} seconds: {what}")
-
-
-__all__ = ["PATIENCE", "PROGRAM", "TOOLS", "Lines", "Started", "run_tool", "wait_for"]

@@ -6,6 +6,7 @@ from cueplayer_tools.axis import LEFT, RIGHT, Axis
 from cueplayer_tools.night import Curve, Night, Slot
 from cueplayer_tools.show import Show
 from cueplayer_tools.svg import Drawing, colour, number, spread
+from cueplayer_tools.words import Refused
 
 MOST_CURVES = 12
 LONGEST_LABEL = 24
@@ -71,6 +72,8 @@ def chosen(
     named = [Named(slots_name([slot]), night.curve(slot)) for slot in slots]
     for channel in channels:
         curves = {slot: night.curve(slot) for slot in show.slots_of(channel, base)}
+        if not curves:
+            raise Refused(f"channel {channel} runs no dimmer")
         for of_one, curve in _together(curves):
             named.append(Named(cut(f"channel {channel} ({slots_name(of_one)})"), curve))
     return named

@@ -60,7 +60,14 @@ def replies_of(show: str, script: str) -> str:
 
 
 def with_replies(script: str, printed: str) -> Rehearsal:
-    """A script and what was printed of it, which must be of this script."""
+    """A script and what was printed of it; Refused where that is of no such script."""
+    try:
+        return _with_replies(script, printed)
+    except (ValueError, IndexError) as fault:
+        raise Refused("the replies are not those of this script") from fault
+
+
+def _with_replies(script: str, printed: str) -> Rehearsal:
     replies: dict[int, tuple[str, ...]] = {}
     rehearsal = Rehearsal()
     for line in printed.splitlines():
@@ -82,9 +89,9 @@ def with_replies(script: str, printed: str) -> Rehearsal:
             lower = tuple(word.lower() for word in words[1:])
             rehearsal.events.append(Event(int(words[0]), lower, replies.pop(number)))
         else:
-            raise Refused(f"no reply to line {number} of the script")
+            raise ValueError(f"no reply to line {number}")
     if replies or len(rehearsal.last) != len(rehearsal.receivers):
-        raise Refused("the replies are not those of this script")
+        raise ValueError("replies are left over, or slots are missing")
     return rehearsal
 
 
