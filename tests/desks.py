@@ -11,7 +11,7 @@ import threading
 import uuid
 from pathlib import Path
 
-from program import CID, ProgramTest, text
+from program import ProgramTest, text
 from test_live import SLOT_1, datagrams
 from test_play import receiving
 from tooling import PATIENCE, Started, wait_for
@@ -119,12 +119,15 @@ class DeskTest(ProgramTest):
         self.receiver = receiving()
         self.addCleanup(self.receiver.close)
         self.to = "127.0.0.1:{}".format(self.receiver.getsockname()[1])
-        self.cid = CID
+        self.cid = self.new_cid()
+
+    def new_cid(self):
+        """A CID of its own, since others on this machine may play at the same time."""
+        return str(uuid.uuid4())
 
     def begun(self, *options, to=None):
         """A desk whose night has begun, and its address."""
-        # Others on this machine may play at the same time.
-        self.cid = str(uuid.uuid4())
+        self.cid = self.new_cid()
         words = (self.show, "--to", to or self.to, "--cid", self.cid, *options)
         desk = Started(self, "desk", *words)
         line = desk.out.next()
