@@ -32,8 +32,8 @@ from program import CID, PROGRAM  # noqa: E402
 
 HUNG = -999
 DATAGRAMS = 60  # of one run of `listen`
-# Of twenty cases: shows that are checked, looked at and played, lines that are played, scripts, datagrams.
-JOBS = ["check"] * 3 + ["look"] * 3 + ["play"] * 6 + ["rehearse"] * 3 + ["listen"] * 5
+# How often each comes: of `check`, `look` and `slots` the show is changed, of others what is played too.
+JOBS = ["check"] * 3 + ["look"] * 2 + ["slots"] * 2 + ["play"] * 6 + ["rehearse"] * 3 + ["listen"] * 5
 
 
 @dataclass(frozen=True)
@@ -55,6 +55,8 @@ class Case:
             return runs.check(*self.parts)
         if self.job == "look":
             return runs.look(*self.parts, cue_number(self.cue.encode()))
+        if self.job == "slots":
+            return runs.slots(*self.parts, cue_number(self.cue.encode()), self.base)
         if self.job == "play":
             return runs.play(*self.parts, self.base, self.priority)
         if self.job == "rehearse":
@@ -91,6 +93,8 @@ class Runner:
             return self.run(["check", "-"], case.parts[0])
         if case.job == "look":
             return self.run(["look", "-", case.cue, "--cid", CID], case.parts[0])
+        if case.job == "slots":
+            return self.run(["slots", "-", case.cue, "--base", case.base], case.parts[0])
         if case.job == "listen":
             return self.heard(case.parts)
         self.show.write_bytes(case.parts[0])
@@ -149,16 +153,17 @@ def made(r, job):
     if job == "listen":
         datagrams = inputs.datagrams(r, DATAGRAMS)
         return Case(job, tuple(changes.changed(r, each, changes.OF_BYTES, 1) for each in datagrams))
-    if job in ("check", "look"):
+    base = r.choice([1] * 16 + [2, 63984, 63985, 63998, 63999])
+    if job in ("check", "look", "slots"):
         show = changes.changed(r, inputs.show(r, odd=0.004), changes.OF_TEXTS, 3)
         cues = [f"{n // 1000}.{n % 1000:03}" for n in getattr(shows.read(show), "cues", ())]
-        return Case(job, (show,), cue=r.choice(cues) if cues and r.random() < 0.9 else r.choice(inputs.CUES))
+        cue = r.choice(cues) if cues and r.random() < 0.9 else r.choice(inputs.CUES)
+        return Case(job, (show,), cue, base)
     # Of what is played most is good, so that the runs come far.
     show = changes.changed(r, inputs.show(r, odd=0.0002), changes.OF_TEXTS, r.choice([0, 0, 1]))
     if job == "rehearse":
         return Case(job, (show, changes.changed(r, inputs.script(r), changes.OF_TEXTS, r.choice([0, 0, 1, 2]))))
     lines = changes.changed(r, inputs.play_lines(r), changes.OF_TEXTS, r.choice([0, 1, 2]))
-    base = r.choice([1] * 16 + [2, 63984, 63985, 63998, 63999])
     return Case(job, (show, lines), base=base, priority=r.choice([100, 100, 0, 200]))
 
 

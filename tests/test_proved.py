@@ -85,7 +85,9 @@ class Proved(unittest.TestCase):
 
     def test_calls(self):
         page = PAGE.read_text()
-        self.assertEqual(list_of_calls(), page[listed(page)])
+        made, there = (set(text.splitlines()) for text in (list_of_calls(), page[listed(page)]))
+        told = "python3 tests/test_proved.py writes the list anew"
+        self.assertEqual((set(), set()), (made - there, there - made), told)
 
     def test_tests(self):
         """Each test that the page names, as `file.Class.test` or as a file's, is one."""

@@ -19,6 +19,11 @@ def fade(start, target, rate, elapsed):
     return start + moved if target > start else start - moved
 
 
+def slot_byte(fine, grand, patch):
+    """The byte of a patched slot, by its channel's fine level."""
+    return (fine * grand * patch + 8290687) // 16581375
+
+
 def command(words):
     """The command that these words spell, as a tuple, or None."""
     if not words:
@@ -82,7 +87,7 @@ class Desk:
         """The slots of a universe that are not 0."""
         frame = {}
         for slot, channel, patch in self.patched[k]:
-            byte = (self.channel(channel, moment) * self.grand * patch + 8290687) // 16581375
+            byte = slot_byte(self.channel(channel, moment), self.grand, patch)
             if byte:
                 frame[slot] = byte
         return frame

@@ -6,7 +6,7 @@ from program import CID, packet
 
 from . import script as scripts
 from . import show as shows
-from .desk import Desk, command
+from .desk import FULL, Desk, command, slot_byte
 from .receiver import Receiver
 from .script import ticked
 from .words import lines_of, moment, uuid, words_of
@@ -46,23 +46,45 @@ def check(text):
     )
 
 
-def look(text, cue, cid=CID):
-    """`cue` is in thousandths."""
+def full(text, cue):
+    """The universes of a cue at full, each with its slots that are not 0, or what is answered in their
+    place; `cue` is in thousandths."""
     show = shows.read(text)
     if isinstance(show, str):
         return refused(3, show)
     if cue not in show.cues:
         return refused(3, "show: NoCue")
     levels = show.cues[cue].levels
+    frames = {k: {} for k in show.universes()}
+    for dimmer, (channel, patch) in show.patch.items():
+        byte = slot_byte(255 * levels.get(channel, 0), FULL, patch)
+        if byte:
+            frames[(dimmer - 1) // 512][(dimmer - 1) % 512 + 1] = byte
+    return frames
+
+
+UNPATCHED = Answer(0, err=b"no dimmer is patched\n")
+
+
+def look(text, cue, cid=CID):
+    frames = full(text, cue)
+    if isinstance(frames, Answer):
+        return frames
+    lines = [packet(k + 1, slots, cid=cid).hex() for k, slots in frames.items()]
+    return Answer(0, printed_text(lines)) if lines else UNPATCHED
+
+
+def slots(text, cue, base=1):
+    frames = full(text, cue)
+    if isinstance(frames, Answer):
+        return frames
+    if base + max(frames, default=0) > 63999:
+        return refused(2, "base: Universe")
     lines = []
-    for k in show.universes():
-        slots = {}
-        for dimmer, (channel, patch) in show.patch.items():
-            if (dimmer - 1) // 512 == k:
-                fine = 255 * levels.get(channel, 0)
-                slots[(dimmer - 1) % 512 + 1] = (fine * 255 * patch + 8290687) // 16581375
-        lines.append(packet(k + 1, slots, cid=cid).hex())
-    return Answer(0, printed_text(lines))
+    for k, levels in frames.items():
+        lines += [f"universe {base + k}"]
+        lines += ["slots" + "".join(f" {n}:{byte}" for n, byte in sorted(levels.items()))]
+    return Answer(0, printed_text(lines)) if lines else UNPATCHED
 
 
 def play_line(desk, line):
