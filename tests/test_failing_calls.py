@@ -174,11 +174,13 @@ class Prints(FailingCalls):
         return write - 1
 
     def test_each_device_fails(self):
-        """`check`, `look` and `rehearse`, which prints through a buffer."""
+        """`check`, `look`, `slots`, and `rehearse`, which prints through a buffer."""
         self.assertEqual(1, self.assertEachWriteFails(["check", self.show], b"", counts(12, 2, 1, 0, 2)))
         one = text(*LOOK_ONE)
         line = packet(1, {1: 64}).hex().encode() + b"\n"
         self.assertEqual(1, self.assertEachWriteFails(["look", "-", "1", "--cid", CID], one, line))
+        shown = b"universe 1\nslots 1:64\n"
+        self.assertEqual(1, self.assertEachWriteFails(["slots", "-", "1"], one, shown))
         script = self.folder / "night.script"
         script.write_bytes(text(*HEADER, *(line for line, _ in BASIC)))
         whole = text(*(out for _, out in BASIC), "end 0 slots 1:102")

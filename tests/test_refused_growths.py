@@ -92,6 +92,9 @@ class RefusedGrowths(Growths):
     def test_look(self):
         self.assertEachRefused(["look", "-", "7", "--cid", CID], SHOW)
 
+    def test_slots(self):
+        self.assertEachRefused(["slots", "-", "7"], SHOW)
+
     def test_play(self):
         words = ["play", self.show, "--to", "127.0.0.1:9", "--cid", CID]
         self.assertEachRefused(words, b"0 go\n0 tick\n25 sub 1 50\n25 tick\n50 end\n50 tick\n")
