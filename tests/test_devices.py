@@ -1,10 +1,12 @@
 """Files, pipes and memory: where the show comes from, where the output goes, and what fails."""
 
 import os
+import re
 import resource
 import signal
 import subprocess
 import tempfile
+import time
 import unittest
 from pathlib import Path
 
@@ -85,6 +87,49 @@ class Files(ProgramTest):
         faulty = text("CUE 1", "CHAN 1")
         err = b"show line 2: HalfPair\n"
         self.assertRuns(["look", "-", "7", "--cid", CID], faulty, status=3, err=err)
+
+
+class Floods(ProgramTest):
+    """Input without end, as fast as it is taken."""
+
+    def setUp(self):
+        folder = tempfile.TemporaryDirectory()
+        self.addCleanup(folder.cleanup)
+        self.folder = Path(folder.name)
+        self.show = self.folder / "show.asc"
+        self.show.write_bytes(SHOW)
+
+    def flooded(self, line, job, *words, **options):
+        """A run whose input is this line for ever."""
+        flood = subprocess.Popen(["yes", line], stdout=subprocess.PIPE)
+        words = [PROGRAM, job, self.show, "--to", "127.0.0.1:9", "--cid", CID, *words]
+        run = subprocess.Popen(words, stdin=flood.stdout, **options)
+        flood.stdout.close()
+        for child in (flood, run):
+            self.addCleanup(child.wait)
+            self.addCleanup(child.kill)
+        return run
+
+    def test_endless_lines(self):
+        """Of `play` line 10,000,001 is the last that is looked at."""
+        run = self.flooded("", "play", stdout=subprocess.PIPE, stderr=subprocess.PIPE)
+        out, err = run.communicate(timeout=60)
+        self.assertEqual((4, b"", b"line 10000001 refused\n"), (run.returncode, out, err))
+
+    def test_live_goes_on(self):
+        """Blank lines, commands and what is none: ticks come nonetheless, 23 ms apart at least."""
+        for line in ("", "go", "jump"):
+            with self.subTest(line):
+                record = self.folder / f"{line}.play"
+                night = self.flooded(
+                    line, "live", "--record", record, stdout=subprocess.DEVNULL, stderr=subprocess.DEVNULL
+                )
+                time.sleep(1)
+                night.kill()
+                night.wait()
+                ticks = [int(at) for at in re.findall(rb"^(\d+) tick$", record.read_bytes(), re.MULTILINE)]
+                self.assertGreater(len(ticks), 10)
+                self.assertGreaterEqual(min(b - a for a, b in zip(ticks, ticks[1:])), 23)
 
 
 class Outputs(ProgramTest):
