@@ -90,7 +90,7 @@ class Files(ProgramTest):
 
 
 class Floods(ProgramTest):
-    """Input without end, as fast as it is taken."""
+    """Input without end, as fast as it is taken; and a night that is held."""
 
     def setUp(self):
         folder = tempfile.TemporaryDirectory()
@@ -130,6 +130,29 @@ class Floods(ProgramTest):
                 ticks = [int(at) for at in re.findall(rb"^(\d+) tick$", record.read_bytes(), re.MULTILINE)]
                 self.assertGreater(len(ticks), 10)
                 self.assertGreaterEqual(min(b - a for a, b in zip(ticks, ticks[1:])), 23)
+
+
+    def test_live_is_stopped(self):
+        """A night that the system holds for a second goes on: what it missed is not made up for."""
+        record = self.folder / "night.play"
+        words = [PROGRAM, "live", self.show, "--to", "127.0.0.1:9", "--cid", CID, "--record", record]
+        night = subprocess.Popen(words, stdin=subprocess.PIPE, stdout=subprocess.PIPE)
+        self.addCleanup(night.kill)
+        while not record.exists() or record.read_bytes().count(b"tick") < 4:
+            time.sleep(0.01)
+        night.send_signal(signal.SIGSTOP)
+        time.sleep(1)
+        night.send_signal(signal.SIGCONT)
+        time.sleep(0.3)
+        out, _ = night.communicate(timeout=60)
+        ticks = [int(at) for at in re.findall(rb"^(\d+) tick$", record.read_bytes(), re.MULTILINE)]
+        gaps = [b - a for a, b in zip(ticks, ticks[1:])]
+        self.assertEqual((0, 1), (night.returncode, out.count(b" ok\n")))
+        self.assertGreater(max(gaps), 900)
+        self.assertGreaterEqual(min(gaps), 23)
+        # After the gap there are no more ticks than fit.
+        after = ticks[gaps.index(max(gaps)) + 1 :]
+        self.assertLessEqual(len(after), (after[-1] - after[0]) // 23 + 1)
 
 
 class Outputs(ProgramTest):
