@@ -2,13 +2,12 @@
 
 import re
 
-NUMBERS = [
-    b"0", b"1", b"22", b"23", b"99", b"100", b"101", b"200", b"201", b"255", b"256", b"512", b"513", b"2001", b"4096",
-    b"4097", b"5999", b"6000", b"8192", b"8193", b"9999", b"10000", b"63999", b"64000", b"65535", b"65536",
-    b"999999999", b"1000000000", b"281474976710655", b"281474976710656", b"999999999999999", b"1000000000000000",
-    b"18446744073709551615", b"18446744073709551616", b"00", b"0000000000", b"-1",
-]  # fmt: skip
-SEPARATORS = [b" ", b"\t", b"\r", b"\x1a", b",", b";", b"/", b"<", b"=", b">", b"@", b"!", b"\n", b"\0", b"\x0b", b"$"]
+NUMBERS = (
+    b"0 1 22 23 99 100 101 200 201 255 256 512 513 2001 4096 4097 5999 6000 8192 8193 9999 10000 63999 64000"
+    b" 65535 65536 999999999 1000000000 281474976710655 281474976710656 999999999999999 1000000000000000"
+    b" 18446744073709551615 18446744073709551616 00 0000000000 -1"
+).split()
+SEPARATORS = [bytes([byte]) for byte in b" \t\r\x1a,;/<=>@!\n\0\x0b$"]
 
 
 def turned_byte(r, data):
@@ -111,10 +110,8 @@ def swapped_words(r, lines):
 
 
 OF_BYTES = (turned_byte, other_byte, cut, without, doubled, put_in)
-OF_TEXTS = OF_BYTES + (
-    other_separator, other_number, other_number, other_number, swapped_lines, doubled_line, cut_line, lost_line,
-    other_ends, joined_lines, swapped_words,
-)  # fmt: skip
+OF_LINES = (swapped_lines, doubled_line, cut_line, lost_line, other_ends, joined_lines, swapped_words)
+OF_TEXTS = OF_BYTES + OF_LINES + (other_separator, other_number, other_number, other_number)
 
 
 def changed(r, data, changes, most):

@@ -162,7 +162,8 @@ def made(r, job):
     # Of what is played most is good, so that the runs come far.
     show = changes.changed(r, inputs.show(r, odd=0.0002), changes.OF_TEXTS, r.choice([0, 0, 1]))
     if job == "rehearse":
-        return Case(job, (show, changes.changed(r, inputs.script(r), changes.OF_TEXTS, r.choice([0, 0, 1, 2]))))
+        script = changes.changed(r, inputs.script(r), changes.OF_TEXTS, r.choice([0, 0, 1, 2]))
+        return Case(job, (show, script))
     lines = changes.changed(r, inputs.play_lines(r), changes.OF_TEXTS, r.choice([0, 1, 2]))
     return Case(job, (show, lines), base=base, priority=r.choice([100, 100, 0, 200]))
 

@@ -5,7 +5,7 @@ from program import CID, packet
 SEPARATORS = [" ", " ", " ", "  ", "\t", ",", ";", "/", "<", "=", ">", "@", "\r", "\x1a", " ,;"]
 CUES = ["1", "1", "2", "2", "1.5", ".25", "0.001", "9999.999", "3", "3.0", "010"]
 LEVELS = ["FL", "FF", "0", "1", "50", "50", "99", "100", "H0", "HF", "H80", "h8a", "HFF", "000000050"]
-TIMES = ["0", "0", "5", "2.5", ".5", "1:30", "0:00.03", "99:59.99", "5999.99", ".01", "1:5", "000000002", "0.2"]
+TIMES = "0 0 5 2.5 .5 1:30 0:00.03 99:59.99 5999.99 .01 1:5 000000002 0.2".split()
 CHANNELS = ["1", "1", "2", "3", "4", "5", "4096", "0002"]
 DIMMERS = ["1", "2", "3", "4", "5", "512", "513", "514", "1025", "8192", "7681"]
 ODD = [
@@ -16,6 +16,12 @@ ODD = [
 STEPS = [0, 0, 1, 22, 23, 24, 25, 25, 25, 25, 100, 199, 200, 775, 799, 800, 801, 2500, 5000, 60000]
 STARTS = [0] * 20 + [5] * 5 + [1000000] * 5 + [(1 << 48) - 3000, (1 << 48) - 1, 1 << 48]
 BEHIND = [1, 1, 1, 2, 3, 18, 19, 20, 21, 127, 128, 217, 235, 236, 237, 255, 0]
+OTHER_LINES = [
+    "IDENT 3:0", "IDENT 3:0 x", "SET CHANNELS 96", "CONSOLE x", "MANUFACTURER", "CLEAR GROUPS", "CLEAR CUES",
+    "CLEAR PATCH", "CLEAR SUB", "CLEAR CUE 2", "CLEAR x", "CLEAR", "$MAKER 9", "$", "$$FADE 7", "$$", "MACRO 7",
+    "TEXT x", "LINK 2", "PART 1", "PATCH 2 x", "PATCH 1", "", "! comment", "\xef\xbb\xbfCUE 1", "CHAN", "DOWN 1 2",
+]  # fmt: skip
+HARDER_LINES = ["UP x", "CHAN 1 x", "DOWN", "CLEAR ALL", "ENDDATA"]
 CIDS = [CID[:-1] + digit for digit in "123456"]
 
 
@@ -47,8 +53,10 @@ def pairs(r):
 
 def triples(r):
     count = r.choice([1, 2, 4, 8])
-    triple = lambda: (r.choice(CHANNELS + ["0"]), r.choice(DIMMERS), r.choice(LEVELS[:2] * 4 + LEVELS))  # noqa: E731
-    return [word for _ in range(count) for word in triple()]
+    words = []
+    for _ in range(count):
+        words += [r.choice(CHANNELS + ["0"]), r.choice(DIMMERS), r.choice(LEVELS[:2] * 4 + LEVELS)]
+    return words
 
 
 def record(r):
@@ -61,29 +69,23 @@ def record(r):
         lines.append(["CHAN", *pairs(r)])
     for name in ("UP", "DOWN", "FOLLOWON"):
         if r.random() < (0.4 if name != "FOLLOWON" else 0.1):
-            lines.insert(r.randrange(1, len(lines) + 1), [name, *r.choices(TIMES, k=r.choice([1, 1, 1, 2, 3]))])
+            times = r.choices(TIMES, k=r.choice([1, 1, 1, 2, 3]))
+            lines.insert(r.randrange(1, len(lines) + 1), [name, *times])
     return lines
 
 
 def other_line(r):
-    """A line that is skipped or has no effect, that empties tables, or that is faulty below a record."""
+    """A line that is skipped or has no effect, that empties tables, ends it all, or is faulty."""
     if r.random() < 0.1:
-        return r.choice([["UP", "x"], ["CHAN", "1", "x"], ["DOWN"], ["CLEAR", "ALL"], ["ENDDATA"]])
-    return r.choice(
-        [
-            ["IDENT", "3:0"], ["IDENT", "3:0", "x"], ["SET", "CHANNELS", "96"], ["CONSOLE", "x"], ["MANUFACTURER"],
-            ["CLEAR", "GROUPS"], ["CLEAR", "CUES"], ["CLEAR", "PATCH"], ["CLEAR", "SUB"], ["CLEAR", "CUE", "2"],
-            ["CLEAR", "x"], ["CLEAR"], ["$MAKER", "9"], ["$"], ["$$FADE", "7"], ["$$"], ["MACRO", "7"], ["TEXT", "x"],
-            ["LINK", "2"], ["PART", "1"], ["PATCH", "2", "x"], ["PATCH", "1"], [], ["! comment"], ["\xef\xbb\xbfCUE", "1"], ["CHAN"], ["DOWN", "1", "2"],
-        ]
-    )  # fmt: skip
+        return r.choice(HARDER_LINES).split()
+    return r.choice(OTHER_LINES).split()
 
 
 def show(r, odd):
     """A show of some records, mostly with a patch; one word in so many is an odd one."""
     lines = [["IDENT", "3:0"]] if r.random() < 0.3 else []
     if r.random() < 0.6:
-        lines += [["PATCH", "1", "1", "1", "FL", "2", "2", "FL", "1", "513", "H80"], ["SUB", "1"], ["CHAN", *pairs(r)]]
+        lines += ["PATCH 1 1 1 FL 2 2 FL 1 513 H80".split(), ["SUB", "1"], ["CHAN", *pairs(r)]]
         lines += [["CUE", "1"], ["UP", r.choice(TIMES)], ["CHAN", "1", "FL", *pairs(r)]]
     for _ in range(r.randrange(1, 7)):
         lines += record(r)
@@ -149,7 +151,8 @@ def event(r, now, ticks):
 
 def script(r):
     """A rehearsal of one or two consoles."""
-    lines = [["console", r.choice("111117"), r.choice(["100", "100", "150", "200", "0"]), uuid_word(r, CIDS[0])]]
+    priority = r.choice(["100", "100", "150", "200", "0"])
+    lines = [["console", r.choice("111117"), priority, uuid_word(r, CIDS[0])]]
     if r.random() < 0.5:
         lines.append(["console", "1", r.choice(["100", "150", "99"]), uuid_word(r, r.choice(CIDS))])
     ticks = [0] * len(lines)

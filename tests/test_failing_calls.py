@@ -334,7 +334,7 @@ class Network(FailingCalls):
         return words
 
     def test_no_network(self):
-        """The system itself says that the network cannot be reached: each packet is lost, none ends the run."""
+        """The system itself says that the network cannot be reached: no packet that is lost ends the run."""
         words = [*self.namespace(), PROGRAM, "play", self.show, "--to", "192.0.2.1", "--cid", CID]
         done = subprocess.run(words, input=b"0 tick\n25 tick\n", capture_output=True, timeout=60)
         out = b"0 live 1:x0\n25 live 1:x1\n"

@@ -63,8 +63,8 @@ class HostileLive(unittest.TestCase):
     def typed(self, r):
         """Lines by chance; none of them ends the night."""
         while True:
-            lines = changes.changed(r, inputs.spelled(r, inputs.command(r)).encode("latin-1"), changes.OF_TEXTS, 3)
-            for line in lines.split(b"\n"):
+            line = inputs.spelled(r, inputs.command(r)).encode("latin-1")
+            for line in changes.changed(r, line, changes.OF_TEXTS, 3).split(b"\n"):
                 if len(line) < 150 and b"end" not in [word.lower() for word in words_of(line)]:
                     yield line
 

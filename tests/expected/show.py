@@ -6,8 +6,8 @@ from . import follow_on
 from .words import cue_number, level, lines_of, number, time, words_of
 
 LONGEST = 1_048_576
-PRIMARY = {b"CLEAR", b"CONSOLE", b"CUE", b"ENDDATA", b"GROUP", b"IDENT", b"MANUFACTURER", b"PATCH", b"SET", b"SUB"}
-SECONDARY = {b"CHAN", b"DOWN", b"FOLLOWON", b"LINK", b"PART", b"TEXT", b"UP"}
+PRIMARY = set(b"CLEAR CONSOLE CUE ENDDATA GROUP IDENT MANUFACTURER PATCH SET SUB".split())
+SECONDARY = set(b"CHAN DOWN FOLLOWON LINK PART TEXT UP".split())
 # The faults of a line, the one that is answered first where a line has several.
 FAULTS = (
     "Ident", "MissingNumber", "BadNumber", "BadLevel", "BadTime", "HalfPair", "HalfTriple", "Limit",
