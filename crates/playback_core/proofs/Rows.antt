@@ -1,11 +1,12 @@
 -- Moves and levels worked out by hand.
-use Rattle.std.proofs.Common.{◌≡◌, ℕ, [], ◌∷◌, Some, None, refl}
+use Rattle.std.proofs.Common.{◌≡◌, ℕ, List, [], ◌∷◌, Some, None, refl}
 use Rattle.std.specs.FinMap as map
 use Rattle.std.specs.FinMap.{contains_key-keys}
 use Rattle.show_core.specs.declared.cue.CueData.{CueData}
 use Rattle.show_core.specs.Tables.{CueMap, Tables}
 use Rattle.fade_core.specs.Level.{split_fade}
 use Rattle.playback_core.specs.Played.{Move, go_target, back_target, goto_target, playback_level}
+use Rattle.playback_core.specs.Played.{current_after, with_due}
 
 -- of cues 1, 1.5 and 2, go takes each in turn and then none
 go_back_goto-go : (cues : CueMap) → map.keys cues ≡ 1000 ∷ 1500 ∷ 2000 ∷ [] → (go_target cues None ≡ Some 1000) × (go_target cues (Some 1000) ≡ Some 1500) × (go_target cues (Some 1500) ≡ Some 2000) × (go_target cues (Some 2000) ≡ None)
@@ -55,3 +56,38 @@ goto_mid_fade show is = simp (is.is_first, is.is_second, is.first_lists_1, is.se
 goto_mid_fade-2 : (show : Tables) → TwoCues show → playback_level show (first_at 11000 ∷ second_at 10000 ∷ first_at 0 ∷ []) 2 12000 ≡ 26010
 unfolding split_fade
 goto_mid_fade-2 show is = simp (is.is_first, is.is_second, is.first_lists_no_2, is.second_lists_2, is.first_up, is.first_down, is.second_up, is.second_down) refl
+
+-- these two cues, and the first is followed so long after
+record Follows (show : Tables) (time : ℕ) : Type 0 where
+  two : TwoCues show
+  keys : map.keys show.cues ≡ 1000 ∷ 2000 ∷ []
+  first_follow : two.first.follow ≡ Some time
+
+follow_at_tick : (show : Tables) → Follows show 10000 → with_due show 11000 (first_at 0 ∷ []) ≡ second_at 10000 ∷ first_at 0 ∷ []
+unfolding with_due
+follow_at_tick show is = simp (is.keys, is.two.is_first, is.first_follow) refl
+
+follow_at_tick-before : (show : Tables) → Follows show 10000 → with_due show 9999 (first_at 0 ∷ []) ≡ first_at 0 ∷ []
+unfolding with_due
+follow_at_tick-before show is = simp (is.keys, is.two.is_first, is.first_follow) refl
+
+-- a go at the due moment comes after the due move
+follow_then_go : (show : Tables) → Follows show 10000 → go_target show.cues (current_after (with_due show 10000 (first_at 0 ∷ []))) ≡ None
+unfolding with_due
+follow_then_go show is = simp (is.keys, is.two.is_first, is.first_follow) refl
+
+returned : List Move
+returned = first_at 5000 ∷ first_at 0 ∷ []
+
+-- a goto lets what was due before it fall
+follow_after_goto : (show : Tables) → Follows show 10000 → (with_due show 5000 (first_at 0 ∷ []) ≡ first_at 0 ∷ []) × (with_due show 10000 returned ≡ returned) × (with_due show 15000 returned ≡ second_at 15000 ∷ returned)
+unfolding returned with_due
+follow_after_goto show is = (
+  simp (is.keys, is.two.is_first, is.first_follow) refl,
+  simp (is.keys, is.two.is_first, is.first_follow) refl,
+  simp (is.keys, is.two.is_first, is.first_follow) refl,
+)
+
+follow_zero : (show : Tables) → Follows show 0 → with_due show 0 (first_at 0 ∷ []) ≡ second_at 0 ∷ first_at 0 ∷ []
+unfolding with_due
+follow_zero show is = simp (is.keys, is.two.is_first, is.first_follow) refl

@@ -1,6 +1,7 @@
 -- The moves of a playback: which cue each takes, and the levels after them.
-use Rattle.std.specs.Prelude.{ℕ, ◌-◌, ◌*◌, List, [], ◌∷◌, if◌then◌else◌}
-use Rattle.std.specs.Prelude.{Option, Some, None, unwrap_or, option_and_then}
+use Rattle.std.specs.Prelude.{ℕ, ◌+◌, ◌-◌, ◌*◌, nat_le, Bool, false, if◌then◌else◌}
+use Rattle.std.specs.Prelude.{List, [], ◌∷◌, Option, Some, None, unwrap_or, option_and_then, option_map}
+use Rattle.std.specs.Option.{option_map_or}
 use Rattle.std.specs.FinMap as map
 use Rattle.show_core.specs.declared.cue.CueData.{CueData}
 use Rattle.show_core.specs.Builders.{blank}
@@ -33,6 +34,49 @@ goto_target cues n = if map.contains_key cues n then Some n else None
 -- cue n of the show; one that lists nothing where it is not there
 abbrev pub cue_at : Tables → ℕ → CueData
 cue_at show n = unwrap_or (map.get show.cues n) blank
+
+-- ---- moves by themselves
+
+-- the move to a cue so long after a moment, where there are both
+abbrev pub move_after : ℕ → Option ℕ → Option ℕ → Option Move
+move_after moment (Some cue) (Some time) = Some (record { cue = cue; moment = moment + time })
+move_after moment _ _ = None
+
+-- the move that is due after these: to the next cue number, so long after the newest move as the
+-- follow-on time of its cue, where it has one and there is such a cue
+abbrev pub due : Tables → List Move → Option Move
+due show [] = None
+due show (move ∷ older) =
+    move_after move.moment (cue_above show.cues move.cue) (cue_at show move.cue).follow
+
+-- the moves with those that are due by a moment before them, each at its own moment, as many as this
+-- list is long at most
+abbrev pub followed : Tables → ℕ → List ℕ → List Move → List Move
+followed show moment [] moves = moves
+followed show moment (n ∷ others) moves =
+    option_map_or (λ next. if nat_le next.moment moment
+    then followed show moment others (next ∷ moves) else moves) (due show moves) moves
+
+-- the moves with all those that are due by a moment: each goes to a greater cue number, so that
+-- there are not more of them than cues
+unfoldable pub with_due : Tables → ℕ → List Move → List Move
+with_due show moment moves = followed show moment (map.keys show.cues) moves
+
+-- the moves by a moment; none is due once the playback was stopped
+abbrev pub moves_by : Tables → Bool → ℕ → List Move → List Move
+moves_by show stopped moment moves = if stopped then moves else with_due show moment moves
+
+-- the moment at which the next cue goes by itself; none where the playback was stopped
+abbrev pub due_moment : Tables → Bool → List Move → Option ℕ
+due_moment show stopped moves =
+    if stopped then None else option_map (λ move. move.moment) (due show moves)
+
+-- there is a moment, and it is not after this one
+abbrev pub is_by : Option ℕ → ℕ → Bool
+is_by None moment = false
+is_by (Some due) moment = nat_le due moment
+
+-- ---- levels
 
 -- the level of a channel at a moment after these moves: 0 before the first; a move fades from the
 -- level at its moment to 255 times the byte in its cue, at the cue's rates

@@ -1,13 +1,15 @@
 -- What a playback keeps, against the moves so far.
-use Rattle.std.specs.Prelude.{◌≡◌, List, map}
+use Rattle.std.specs.Prelude.{◌≡◌, Bool, List, map}
 use Rattle.show_core.specs.Tables.{Tables}
 use Rattle.fade_core.specs.Level.{Start}
 use Rattle.playback_core.specs.Playing.{Playing}
-use Rattle.playback_core.specs.Played.{Move, start_of, current_after}
+use Rattle.playback_core.specs.Played.{Move, start_of, current_after, due_moment}
 
 -- a playback stands for these moves over a show, the newest first: its current cue is that of the
--- newest, and its fader stands, by the fader's own relation, for the starts that the moves make
+-- newest, the moment at which the next one goes by itself is that of the move that is due, none once
+-- it was stopped, and its fader stands, by the fader's own relation, for the starts of the moves
 pub record StandsFor {F : Type 0} (fader_stands_for : F → List Start → Type 0) (show : Tables)
-    (playback : Playing F) (moves : List Move) : Type 0 where
+    (playback : Playing F) (moves : List Move) (stopped : Bool) : Type 0 where
   pub current : playback.current ≡ current_after moves
+  pub due : playback.due ≡ due_moment show stopped moves
   pub fader : fader_stands_for playback.fader (map (start_of show) moves)

@@ -2,6 +2,7 @@
 #![tactic(auto)]
 
 pub mod laws;
+mod place;
 mod playback;
 
 pub use playback::{NoMove, Playback};

@@ -1,12 +1,16 @@
-ghost use Rattle.std.specs.Prelude.{◌≡◌, ℕ, ◌-◌, ◌^◌, ◌<◌, ◌≤◌, List, [], ◌∷◌, IsTrue, All, Contains};
-ghost use Rattle.std.specs.Prelude.{IfOk, OnOk, OnErr, IfSome, length, slice_index};
+ghost use Rattle.std.specs.Prelude.{◌≡◌, ℕ, ◌-◌, ◌^◌, ◌<◌, ◌≤◌, Bool, true, false, IsTrue};
+ghost use Rattle.std.specs.Prelude.{List, [], ◌∷◌, map, All, Contains, IfOk, OnOk, OnErr, IfSome};
+ghost use Rattle.std.specs.Prelude.{length, slice_index};
 ghost use Rattle.std.specs.Option.{ok_or};
 ghost use Rattle.show_core.specs.Numbers.{is_channel};
 ghost use Rattle.show_core.specs.Tables.{Tables};
+ghost use Rattle.playback_core.specs.Placed.{IsAt};
 ghost use Rattle.playback_core.specs.Played.{Move, go_target, back_target, goto_target};
+ghost use Rattle.playback_core.specs.Played.{current_after, moves_by, is_by, start_of};
 ghost use Rattle.playback_core.specs.Played.{playback_level};
 ghost use Rattle.playback_core.specs.Stands.{StandsFor};
 
+use crate::place::Place;
 use fade_core::Fader;
 use show_core::{CHANNELS, Show};
 use std::alloc::{AllocError, Global};
@@ -33,11 +37,15 @@ pub enum NoMove {
 /// latest given is 0 at first. A move starts every channel from its level at that moment, and aims
 /// at the whole look of the cue, with the cue's times.
 ///
+/// A cue with a follow-on time is followed by the next cue so long after it went, if no other move
+/// is made before. Each accepted call first makes such moves of moments up to its own, each at its
+/// own moment, also several in a chain.
+///
 /// Only `new` takes memory.
 #[derive(Debug, Drop)]
 pub struct Playback<F: Fader> {
     fader: F,
-    current: Option<u32>,
+    place: Place,
 }
 
 impl<F: Fader> Model for Playback<F> {
@@ -46,9 +54,15 @@ impl<F: Fader> Model for Playback<F> {
 
     ghost Value = { Playing F };
 
-    ghost view = { λ p. record { fader = p.fader; current = p.current } };
+    ghost view = { λ p. record {
+      fader = p.fader;
+      current = p.place.current;
+      due = p.place.due;
+    } };
 
-    ghost invariant = { λ p. F.channels p.fader ≡ 4096 };
+    ghost use Rattle.playback_core.specs.Inside.{IsPlayback};
+
+    ghost invariant = { λ p. IsPlayback (F.channels p.fader) (F.latest p.fader) p.place.due };
 }
 
 impl<F: Fader> Playback<F> {
@@ -59,13 +73,13 @@ impl<F: Fader> Playback<F> {
     /// Where a growth was refused.
     pub fn new(alloc: Global) -> Result<Self, AllocError>
         ensures stands { (show : Tables)
-            → IfOk result (λ playback. StandsFor F.stands_for show playback []) }
+            → IfOk result (λ playback. StandsFor F.stands_for show playback [] false) }
         ensures latest { IfOk result (λ playback. F.latest playback.fader ≡ 0) }
         ensures current { IfOk result (λ playback. playback.current ≡ None) }
     {
         Ok(Playback {
             fader: F::new(alloc, CHANNELS)?,
-            current: None,
+            place: Place::start(),
         })
     }
 
@@ -77,16 +91,21 @@ impl<F: Fader> Playback<F> {
     pub fn go(&mut self, show: &Show, moment: u64) -> Result<u32, NoMove>
         requires not_before { F.latest self.old.fader ≤ moment }
         requires below { moment < 2 ^ 48 }
-        ensures answer { result ≡ ok_or (go_target show.now.cues self.old.current) NoMove.AtEnd }
-        ensures stands { (moves : List Move) → StandsFor F.stands_for show.now self.old moves
+        ensures answer { (moves : List Move) (stopped : Bool)
+            → StandsFor F.stands_for show.now self.old moves stopped
+            → let current = current_after (moves_by show.now stopped moment moves) in
+            result ≡ ok_or (go_target show.now.cues current) NoMove.AtEnd }
+        ensures stands { (moves : List Move) (stopped : Bool)
+            → StandsFor F.stands_for show.now self.old moves stopped
             → IfOk result (λ cue. let move : Move = record { cue = cue; moment = moment } in
-            StandsFor F.stands_for show.now self.new (move ∷ moves)) }
+            let made = moves_by show.now stopped moment moves in
+            StandsFor F.stands_for show.now self.new (move ∷ made) false) }
         ensures current { IfOk result (λ cue. self.new.current ≡ Some cue) }
         ensures latest { OnOk result (F.latest self.new.fader ≡ moment) }
         ensures unchanged { OnErr result (self.new ≡ self.old) }
     {
-        let above = show.next(self.current.unwrap_or(0));
-        let cue = above.ok_or(NoMove::AtEnd)?;
+        let current = self.place.current_by(show, moment);
+        let cue = show.next(current.unwrap_or(0)).ok_or(NoMove::AtEnd)?;
         self.goto(show, cue, moment)
     }
 
@@ -98,16 +117,20 @@ impl<F: Fader> Playback<F> {
     pub fn back(&mut self, show: &Show, moment: u64) -> Result<u32, NoMove>
         requires not_before { F.latest self.old.fader ≤ moment }
         requires below { moment < 2 ^ 48 }
-        ensures answer { result
-            ≡ ok_or (back_target show.now.cues self.old.current) NoMove.AtStart }
-        ensures stands { (moves : List Move) → StandsFor F.stands_for show.now self.old moves
+        ensures answer { (moves : List Move) (stopped : Bool)
+            → StandsFor F.stands_for show.now self.old moves stopped
+            → let current = current_after (moves_by show.now stopped moment moves) in
+            result ≡ ok_or (back_target show.now.cues current) NoMove.AtStart }
+        ensures stands { (moves : List Move) (stopped : Bool)
+            → StandsFor F.stands_for show.now self.old moves stopped
             → IfOk result (λ cue. let move : Move = record { cue = cue; moment = moment } in
-            StandsFor F.stands_for show.now self.new (move ∷ moves)) }
+            let made = moves_by show.now stopped moment moves in
+            StandsFor F.stands_for show.now self.new (move ∷ made) false) }
         ensures current { IfOk result (λ cue. self.new.current ≡ Some cue) }
         ensures latest { OnOk result (F.latest self.new.fader ≡ moment) }
         ensures unchanged { OnErr result (self.new ≡ self.old) }
     {
-        let current = self.current.ok_or(NoMove::AtStart)?;
+        let current = self.place.current_by(show, moment).ok_or(NoMove::AtStart)?;
         let cue = show.before(current).ok_or(NoMove::AtStart)?;
         self.goto(show, cue, moment)
     }
@@ -122,57 +145,83 @@ impl<F: Fader> Playback<F> {
         requires not_before { F.latest self.old.fader ≤ moment }
         requires below { moment < 2 ^ 48 }
         ensures answer { result ≡ ok_or (goto_target show.now.cues n) NoMove.NoCue }
-        ensures stands { (moves : List Move) → StandsFor F.stands_for show.now self.old moves
+        ensures stands { (moves : List Move) (stopped : Bool)
+            → StandsFor F.stands_for show.now self.old moves stopped
             → IfOk result (λ cue. let move : Move = record { cue = cue; moment = moment } in
-            StandsFor F.stands_for show.now self.new (move ∷ moves)) }
+            let made = moves_by show.now stopped moment moves in
+            StandsFor F.stands_for show.now self.new (move ∷ made) false) }
         ensures current { IfOk result (λ cue. self.new.current ≡ Some cue) }
         ensures latest { OnOk result (F.latest self.new.fader ≡ moment) }
         ensures unchanged { OnErr result (self.new ≡ self.old) }
     {
         let cue = show.cue(n).ok_or(NoMove::NoCue)?;
+        make_due(&mut self.fader, &mut self.place, show, moment);
         self.fader.start(cue.pairs(), cue.up(), cue.down(), moment);
-        self.current = Some(n);
+        self.place = Place::at(show, n, moment);
         Ok(n)
     }
 
-    /// Moves on to this moment. It moves to no cue, so the levels do not depend on how often it is
-    /// called.
-    pub fn advance(&mut self, moment: u64)
+    /// Moves on to this moment, with the moves due by it. How often it is called changes nothing.
+    pub fn advance(&mut self, show: &Show, moment: u64)
         requires not_before { F.latest self.old.fader ≤ moment }
         requires below { moment < 2 ^ 48 }
-        ensures stands { (show : Tables) (moves : List Move)
-            → StandsFor F.stands_for show self.old moves
-            → StandsFor F.stands_for show self.new moves }
-        ensures current { self.new.current ≡ self.old.current }
+        ensures stands { (moves : List Move) (stopped : Bool)
+            → StandsFor F.stands_for show.now self.old moves stopped
+            → let made = moves_by show.now stopped moment moves in
+            StandsFor F.stands_for show.now self.new made stopped }
         ensures latest { F.latest self.new.fader ≡ moment }
     {
+        make_due(&mut self.fader, &mut self.place, show, moment);
         self.fader.advance(moment);
+    }
+
+    /// Moves on to this moment, with the moves due by it, and lets none be due until the next move.
+    pub fn stop(&mut self, show: &Show, moment: u64)
+        requires not_before { F.latest self.old.fader ≤ moment }
+        requires below { moment < 2 ^ 48 }
+        ensures stands { (moves : List Move) (stopped : Bool)
+            → StandsFor F.stands_for show.now self.old moves stopped
+            → let made = moves_by show.now stopped moment moves in
+            StandsFor F.stands_for show.now self.new made true }
+        ensures latest { F.latest self.new.fader ≡ moment }
+    {
+        self.advance(show, moment);
+        self.place.due = None;
+    }
+
+    /// Whether a move is due by this moment.
+    pub fn is_due(&self, moment: u64) -> bool
+        ensures { result ≡ is_by self.now.due moment }
+    {
+        self.place.is_due(moment)
     }
 
     /// The current cue, in thousandths: that of the latest move.
     pub fn current(&self) -> Option<u32>
         ensures { result ≡ self.now.current }
     {
-        self.current
+        self.place.current
     }
 
     /// The level of a channel, 1 to 4096, at the latest moment given: 0 to 65025.
     pub fn level(&self, channel: u16) -> u32
         requires from_one { 1 ≤ channel }
         requires in_range { channel ≤ 4096 }
-        ensures level { (show : Tables) (moves : List Move)
-            → StandsFor F.stands_for show self.now moves
+        ensures level { (show : Tables) (moves : List Move) (stopped : Bool)
+            → StandsFor F.stands_for show self.now moves stopped
             → result ≡ playback_level show moves channel (F.latest self.now.fader) }
         ensures full { result ≤ 65025 }
     {
         self.fader.level(channel)
     }
+
     /// The level of each channel, 0 to 65025, at the latest moment given, channel 1 first, where the
     /// fader has them at hand.
     pub fn levels(&self) -> Option<&[u16]>
         ensures each_channel { IfSome result (λ levels. length levels.now ≡ 4096) }
-        ensures levels { IfSome result (λ levels. (show : Tables) (moves : List Move) (channel : ℕ)
-            → StandsFor F.stands_for show self.now moves → IsTrue (is_channel channel)
+        ensures levels { IfSome result (λ levels. (show : Tables) (moves : List Move)
+            (stopped : Bool) (channel : ℕ) → StandsFor F.stands_for show self.now moves stopped
+            → IsTrue (is_channel channel)
             → slice_index levels.now (channel - 1)
             ≡ playback_level show moves channel (F.latest self.now.fader)) }
         ensures full { IfSome result (λ levels. All (λ level. level ≤ 65025) levels.now) }
@@ -186,12 +235,35 @@ impl<F: Fader> Playback<F> {
         ensures in_range { IfSome result (λ moving.
             All (λ channel. IsTrue (is_channel channel)) moving.now) }
         ensures others { IfSome result (λ moving. (show : Tables) (moves : List Move)
-            (channel moment : ℕ) → StandsFor F.stands_for show self.now moves
+            (stopped : Bool) (channel moment : ℕ)
+            → StandsFor F.stands_for show self.now moves stopped
             → IsTrue (is_channel channel) → ¬ Contains moving.now channel
             → F.latest self.now.fader ≤ moment
             → playback_level show moves channel moment
             ≡ playback_level show moves channel (F.latest self.now.fader)) }
     {
         self.fader.moving()
+    }
+}
+
+// Makes the moves that are due by this moment, each at its own.
+fn make_due<F: Fader>(fader: &mut F, place: &mut Place, show: &Show, moment: u64)
+    requires not_before { F.latest fader.old ≤ moment }
+    requires below { moment < 2 ^ 48 }
+    requires channels { F.channels fader.old ≡ 4096 }
+    requires in_order { IfSome place.old.due (λ due. F.latest fader.old ≤ due) }
+    ensures stands { (moves : List Move) (stopped : Bool) → IsAt show.now place.old moves stopped
+        → F.stands_for fader.old (map (start_of show.now) moves)
+        → let made = moves_by show.now stopped moment moves in
+        IsAt show.now place.new made stopped
+        × F.stands_for fader.new (map (start_of show.now) made) }
+    ensures channels { F.channels fader.new ≡ 4096 }
+    ensures not_ahead { F.latest fader.new ≤ moment }
+    ensures later { IfSome place.new.due (λ due. moment ≤ due) }
+{
+    while let Some((n, due)) = place.follow(show, moment) {
+        if let Some(cue) = show.cue(n) {
+            fader.start(cue.pairs(), cue.up(), cue.down(), due);
+        }
     }
 }

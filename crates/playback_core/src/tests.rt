@@ -1,7 +1,7 @@
 ghost use Rattle.std.specs.Prelude.{◌≡◌, ◌^◌, ◌<◌, ◌≤◌};
 
 use crate::{NoMove, Playback};
-use fade_core::{Fader, PlainFader};
+use fade_core::{Fader, PlainFader, StepFader};
 use show_core::{BuildFault, Rate, Show};
 use std::alloc::{AllocError, Global};
 use std::process::Abort;
@@ -46,17 +46,17 @@ enum Pace {
     EveryMillisecond,
 }
 
-fn pass<F: Fader>(playback: &mut Playback<F>, from: u32, to: u32, pace: Pace)
+fn pass<F: Fader>(playback: &mut Playback<F>, show: &Show, from: u32, to: u32, pace: Pace)
     requires not_before { F.latest playback.old.fader ≤ from }
     requires later { from ≤ to }
     ensures { F.latest playback.new.fader ≡ to }
 {
     if let Pace::EveryMillisecond = pace {
         for moment in from..to {
-            playback.advance(u64::from(moment));
+            playback.advance(show, u64::from(moment));
         }
     }
-    playback.advance(u64::from(to));
+    playback.advance(show, u64::from(to));
 }
 
 // The level of channel 1 where the first cue goes at 0.
@@ -69,7 +69,7 @@ fn first_cue_level<F: Fader>(
     let show = two_cues(rt, alloc)?;
     let mut playback: Playback<F> = Playback::new(alloc)?;
     assert_eq!(rt; playback.go(&show, 0), Ok(1000));
-    pass(&mut playback, 0, moment, pace);
+    pass(&mut playback, &show, 0, moment, pace);
     Ok(playback.level(1))
 }
 
@@ -83,12 +83,12 @@ fn crossfade_levels<F: Fader>(
     let show = two_cues(rt, alloc)?;
     let mut playback: Playback<F> = Playback::new(alloc)?;
     assert_eq!(rt; playback.go(&show, 0), Ok(1000));
-    pass(&mut playback, 0, 10000, pace);
+    pass(&mut playback, &show, 0, 10000, pace);
     assert_eq!(rt; playback.go(&show, 10000), Ok(2000));
-    pass(&mut playback, 10000, 11000, pace);
+    pass(&mut playback, &show, 10000, 11000, pace);
     let crossed = (playback.level(1), playback.level(2));
     assert_eq!(rt; playback.goto(&show, 1000, 11000), Ok(1000));
-    pass(&mut playback, 11000, 12000, pace);
+    pass(&mut playback, &show, 11000, 12000, pace);
     Ok([crossed, (playback.level(1), playback.level(2))])
 }
 
@@ -147,6 +147,128 @@ fn go_back_goto(rt: HostRuntime) -> Result<(), Fail> {
     assert_eq!(rt; playback.back(&show, 0), Ok(1500));
     assert_eq!(rt; playback.goto(&show, 1750, 0), Err(NoMove::NoCue));
     assert_eq!(rt; playback.current(), Some(1500));
+    Ok(())
+}
+
+// The two cues, the second of which follows the first so long after.
+fn follow_on(rt: &impl Abort, alloc: Global, time: u32) -> Result<Show, BuildFault>
+    requires { time ≤ 5999990 }
+{
+    let mut show = two_cues(rt, alloc)?;
+    assert!(rt; show.cue(1000).is_some());
+    show.set_follow(1000, time);
+    Ok(show)
+}
+
+fn levels<F: Fader>(playback: &Playback<F>) -> (u32, u32) {
+    (playback.level(1), playback.level(2))
+}
+
+fn follow_at_tick_with<F: Fader>(rt: &impl Abort, alloc: Global) -> Result<(), Fail> {
+    let show = follow_on(rt, alloc, 10000)?;
+    let mut playback: Playback<F> = Playback::new(alloc)?;
+    assert_eq!(rt; playback.go(&show, 0), Ok(1000));
+    assert!(rt; !playback.is_due(9999));
+    assert!(rt; playback.is_due(10000));
+    playback.advance(&show, 11000);
+    assert_eq!(rt; playback.current(), Some(2000));
+    assert_eq!(rt; levels(&playback), (48769, 32512));
+    Ok(())
+}
+
+#[test]
+fn follow_at_tick(rt: HostRuntime) -> Result<(), Fail> {
+    follow_at_tick_with::<PlainFader>(&rt, rt.alloc())?;
+    follow_at_tick_with::<StepFader>(&rt, rt.alloc())
+}
+
+fn follow_then_go_with<F: Fader>(rt: &impl Abort, alloc: Global) -> Result<(), Fail> {
+    let show = follow_on(rt, alloc, 10000)?;
+    let mut playback: Playback<F> = Playback::new(alloc)?;
+    assert_eq!(rt; playback.go(&show, 0), Ok(1000));
+    assert_eq!(rt; playback.go(&show, 10000), Err(NoMove::AtEnd));
+    assert_eq!(rt; playback.current(), Some(1000));
+    playback.advance(&show, 11000);
+    assert_eq!(rt; levels(&playback), (48769, 32512));
+    Ok(())
+}
+
+#[test]
+fn follow_then_go(rt: HostRuntime) -> Result<(), Fail> {
+    follow_then_go_with::<PlainFader>(&rt, rt.alloc())?;
+    follow_then_go_with::<StepFader>(&rt, rt.alloc())
+}
+
+fn follow_after_goto_with<F: Fader>(rt: &impl Abort, alloc: Global) -> Result<(), Fail> {
+    let show = follow_on(rt, alloc, 10000)?;
+    let mut playback: Playback<F> = Playback::new(alloc)?;
+    assert_eq!(rt; playback.go(&show, 0), Ok(1000));
+    assert_eq!(rt; playback.goto(&show, 1000, 5000), Ok(1000));
+    playback.advance(&show, 10000);
+    assert_eq!(rt; playback.current(), Some(1000));
+    playback.advance(&show, 15000);
+    assert_eq!(rt; playback.current(), Some(2000));
+    playback.advance(&show, 16000);
+    assert_eq!(rt; levels(&playback), (48769, 32512));
+    Ok(())
+}
+
+#[test]
+fn follow_after_goto(rt: HostRuntime) -> Result<(), Fail> {
+    follow_after_goto_with::<PlainFader>(&rt, rt.alloc())?;
+    follow_after_goto_with::<StepFader>(&rt, rt.alloc())
+}
+
+fn follow_zero_with<F: Fader>(rt: &impl Abort, alloc: Global) -> Result<(), Fail> {
+    let show = follow_on(rt, alloc, 0)?;
+    let mut playback: Playback<F> = Playback::new(alloc)?;
+    assert_eq!(rt; playback.go(&show, 0), Ok(1000));
+    assert_eq!(rt; playback.current(), Some(1000));
+    playback.advance(&show, 0);
+    assert_eq!(rt; playback.current(), Some(2000));
+    assert_eq!(rt; levels(&playback), (0, 0));
+    playback.advance(&show, 1000);
+    assert_eq!(rt; levels(&playback), (0, 32512));
+    Ok(())
+}
+
+#[test]
+fn follow_zero(rt: HostRuntime) -> Result<(), Fail> {
+    follow_zero_with::<PlainFader>(&rt, rt.alloc())?;
+    follow_zero_with::<StepFader>(&rt, rt.alloc())
+}
+
+// No cue follows after a stop, until the next move.
+#[test]
+fn follow_after_stop(rt: HostRuntime) -> Result<(), Fail> {
+    let show = follow_on(&rt, rt.alloc(), 10000)?;
+    let mut playback: Playback<PlainFader> = Playback::new(rt.alloc())?;
+    assert_eq!(rt; playback.go(&show, 0), Ok(1000));
+    playback.stop(&show, 9999);
+    playback.advance(&show, 20000);
+    assert_eq!(rt; playback.current(), Some(1000));
+    assert_eq!(rt; playback.goto(&show, 1000, 20000), Ok(1000));
+    playback.stop(&show, 30000);
+    assert_eq!(rt; playback.current(), Some(2000));
+    Ok(())
+}
+
+// Two thousand cues, each followed at once by the next, all go at one call.
+#[test]
+fn follow_chain(rt: HostRuntime) -> Result<(), Fail> {
+    let mut show = Show::new(rt.alloc());
+    for n in 1..2001 {
+        show.open_cue(n)?;
+        assert!(rt; show.cue(n).is_some());
+        show.set_follow(n, 0);
+    }
+    let mut playback: Playback<StepFader> = Playback::new(rt.alloc())?;
+    assert_eq!(rt; playback.go(&show, 0), Ok(1));
+    assert_eq!(rt; playback.go(&show, 0), Err(NoMove::AtEnd));
+    assert_eq!(rt; playback.current(), Some(1));
+    assert_eq!(rt; playback.back(&show, 0), Ok(1999));
+    playback.advance(&show, 0);
+    assert_eq!(rt; playback.current(), Some(2000));
     Ok(())
 }
 
