@@ -1,5 +1,5 @@
 -- Frames, from the levels that they are made of.
-use Rattle.std.proofs.Common.{◌≡◌, ◌≢◌, ℕ, ◌+◌, ◌*◌, ◌<◌, nat_eq, true, false, IsTrue, List, [], ◌∷◌, length, get_or, set, Option, Some, None, refl, sym, subst, ap, ◌∙◌, arith}
+use Rattle.std.proofs.Common.{◌≡◌, ◌≢◌, ℕ, ◌+◌, ◌*◌, ◌<◌, nat_eq, true, false, IsTrue, List, [], ◌∷◌, length, get_or, set, Option, Some, None, is_some, refl, sym, subst, ap, ◌∙◌, arith}
 use Rattle.std.specs.Prelude.{All, IfSome, map, replicate, slice_get}
 use Rattle.std.specs.List.{range_with_len}
 use Rattle.std.specs.Option.{option_map_or}
@@ -16,7 +16,10 @@ use Rattle.show_core.specs.Tables.{Tables}
 use Rattle.master_core.specs.Settings.{grand_after}
 use Rattle.patch_core.specs.Frame.{level_in, dimmer_slot, frame_of, AreDrawn}
 use Rattle.desk_core.specs.Meaning.{dark, channel_level, frame}
-use Rattle.desk_core.specs.Played.{Act, ended, settings}
+use Rattle.playback_core.specs.Played.{playback_level, with_due, moves_by}
+use Rattle.playback_core.proofs.Due.{with_due-again}
+use Rattle.master_core.specs.Merged.{level_after}
+use Rattle.desk_core.specs.Played.{Act, tick, ended, moves, settings}
 
 -- one frame more is written
 pub frames_more : (f : ℕ → List ℕ) (frames : List (List ℕ)) (at next : ℕ) (frame : List ℕ) → at ≡ next → next < length frames → frame ≡ f next
@@ -72,6 +75,16 @@ pub live_frame_is : (show : Tables) (history : List Act) (moment ordinal : ℕ) 
     → frame show history moment ordinal ≡ frame_of show.patch (channel_level show history moment) (grand_after (settings history)) ordinal
 unfolding frame
 live_frame_is show history moment ordinal live = rw live refl
+
+-- a tick makes the moves that are due by its moment, and then none is
+pub channel_level-tick : (show : Tables) (history : List Act) (moment : ℕ) → ended history ≡ None
+    → channel_level show (record { moment = moment; call = tick } ∷ history) moment
+    ≡ channel_level show history moment
+channel_level-tick show history moment live =
+    ap (λ made channel. level_after show (settings history) channel
+    (playback_level show made channel moment))
+    (ap (λ ended. with_due show moment (moves_by show (is_some ended) moment (moves show history)))
+    live ∙ with_due-again show moment (moves show history))
 
 -- each of so many dark frames is dark
 pub dark_at : (n ordinal : ℕ) → ordinal < n → slice_get (replicate n dark) ordinal ≡ Some dark

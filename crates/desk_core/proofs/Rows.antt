@@ -11,6 +11,8 @@ use Rattle.patch_core.specs.Frame.{dimmer_slot}
 use Rattle.desk_core.specs.declared.command.Command.TheVariants.{Go, Back, Goto, Sub, Group, Master, End}
 use Rattle.desk_core.specs.declared.answer.Ticked.TheVariants.{Live, Ending}
 use Rattle.desk_core.specs.declared.answer.Refused.TheVariants.{Backwards, MomentTooLarge, Ended, TooSoon, AtEnd, AtStart, NoCue, NoSub, NoGroup}
+use Rattle.playback_core.specs.Played.{Move, with_due}
+use Rattle.playback_core.proofs.Due.{with_due-none}
 use Rattle.desk_core.specs.Played.{Call, order, tick, Act, ended, settings, refusal, ticked}
 use Rattle.desk_core.specs.Meaning.{dark, channel_level, frame, latest_frame}
 
@@ -27,6 +29,8 @@ record IsSmall (show : Tables) : Type 0 where
   first_is : map.entries first.levels ≡ (1, 255) ∷ []
   second_is : map.entries second.levels ≡ (2, 255) ∷ []
   sub_is : map.entries sub ≡ (1, 128) ∷ []
+  first_follow : first.follow ≡ None
+  second_follow : second.follow ≡ None
   first_up : first.up ≡ Some (record { time = 5000; delay = 0 })
   first_down : first.down ≡ None
   second_up : second.up ≡ Some (record { time = 2000; delay = 0 })
@@ -47,6 +51,17 @@ slot_is show history moment place dimmer live next lt =
     rw (live, back) (get_or-map-range_with_len (dimmer_slot show.patch (channel_level show history moment) (grand_after (settings history))) 1 512 place dimmer 0 lt next)
 
 module _ (show : Tables) (is : IsSmall show) where
+  -- ---- no cue follows by itself
+
+  no_move : (moment : ℕ) → with_due show moment [] ≡ []
+  no_move moment = with_due-none show moment [] tt
+
+  after_first : (moment at : ℕ) (older : List Move) → with_due show moment (record { cue = 1000; moment = at } ∷ older) ≡ record { cue = 1000; moment = at } ∷ older
+  after_first moment at older = with_due-none show moment (record { cue = 1000; moment = at } ∷ older) (simp (map.get-entries show.cues 1000, is.cues_are, is.first_follow) tt)
+
+  after_second : (moment at : ℕ) (older : List Move) → with_due show moment (record { cue = 2000; moment = at } ∷ older) ≡ record { cue = 2000; moment = at } ∷ older
+  after_second moment at older = with_due-none show moment (record { cue = 2000; moment = at } ∷ older) (simp (map.get-entries show.cues 2000, is.cues_are, is.second_follow) tt)
+
   -- ---- refusals
 
   one_tick : List Act
@@ -67,7 +82,7 @@ module _ (show : Tables) (is : IsSmall show) where
     rw (map.contains_key-keys show.cues 3000, is.cues_are) refl,
     rw (map.contains_key-keys show.subs 2, is.subs_are) refl,
     rw (map.contains_key-keys show.groups 1, is.groups_are) refl,
-    rw is.cues_are refl,
+    simp (no_move, is.cues_are) refl,
   )
 
   -- equal moments pass, and the gap is counted from the last tick
@@ -92,7 +107,7 @@ module _ (show : Tables) (is : IsSmall show) where
       × (refusal show (at 23 tick ∷ at 0 tick ∷ end_at 0) (at 46 tick) ≡ None)
       × (refusal show three_ticks (at 69 tick) ≡ Some Ended)
   unfolding end_at three_ticks
-  play_refusals = (refl, refl, refl, refl, refl, refl, refl, refl, refl)
+  play_refusals = (simp no_move refl, refl, refl, refl, refl, refl, refl, refl, refl)
 
   -- over comes before too soon
   over_first : refusal show three_ticks (at 47 tick) ≡ Some Ended
@@ -100,7 +115,7 @@ module _ (show : Tables) (is : IsSmall show) where
   over_first = refl
 
   at_end : refusal show (at 0 (order Go) ∷ at 0 (order Go) ∷ []) (at 0 (order Go)) ≡ Some AtEnd
-  at_end = rw is.cues_are refl
+  at_end = simp (no_move, after_first, after_second, is.cues_are) refl
 
   -- ---- frames
 
@@ -127,7 +142,7 @@ module _ (show : Tables) (is : IsSmall show) where
 
   five_second_fade-level : channel_level show go_at_0 2500 1 ≡ 32512
   unfolding go_at_0 split_fade
-  five_second_fade-level = simp (map.get-entries show.cues 1000, is.cues_are, is.subs_are, is.groups_are, map.get-entries is.first.levels 1, is.first_is, map.get-entries is.sub 1, is.sub_is, is.first_up, is.first_down) refl
+  five_second_fade-level = simp (no_move, after_first, after_second, map.get-entries show.cues 1000, is.cues_are, is.subs_are, is.groups_are, map.get-entries is.first.levels 1, is.first_is, map.get-entries is.sub 1, is.sub_is, is.first_up, is.first_down) refl
 
   five_second_fade : slot show go_at_0 2500 1 ≡ 127
   unfolding go_at_0
@@ -135,7 +150,7 @@ module _ (show : Tables) (is : IsSmall show) where
 
   five_second_fade-2510-level : channel_level show go_at_0 2510 1 ≡ 32642
   unfolding go_at_0 split_fade
-  five_second_fade-2510-level = simp (map.get-entries show.cues 1000, is.cues_are, is.subs_are, is.groups_are, map.get-entries is.first.levels 1, is.first_is, map.get-entries is.sub 1, is.sub_is, is.first_up, is.first_down) refl
+  five_second_fade-2510-level = simp (no_move, after_first, after_second, map.get-entries show.cues 1000, is.cues_are, is.subs_are, is.groups_are, map.get-entries is.first.levels 1, is.first_is, map.get-entries is.sub 1, is.sub_is, is.first_up, is.first_down) refl
 
   five_second_fade-2510 : slot show go_at_0 2510 1 ≡ 128
   unfolding go_at_0
@@ -143,7 +158,7 @@ module _ (show : Tables) (is : IsSmall show) where
 
   five_second_fade-5000-level : channel_level show go_at_0 5000 1 ≡ 65025
   unfolding go_at_0 split_fade
-  five_second_fade-5000-level = simp (map.get-entries show.cues 1000, is.cues_are, is.subs_are, is.groups_are, map.get-entries is.first.levels 1, is.first_is, map.get-entries is.sub 1, is.sub_is, is.first_up, is.first_down) refl
+  five_second_fade-5000-level = simp (no_move, after_first, after_second, map.get-entries show.cues 1000, is.cues_are, is.subs_are, is.groups_are, map.get-entries is.first.levels 1, is.first_is, map.get-entries is.sub 1, is.sub_is, is.first_up, is.first_down) refl
 
   five_second_fade-5000 : slot show go_at_0 5000 1 ≡ 255
   unfolding go_at_0
@@ -154,7 +169,7 @@ module _ (show : Tables) (is : IsSmall show) where
 
   split_crossfade-level : channel_level show two_goes 11000 1 ≡ 48769
   unfolding two_goes split_fade
-  split_crossfade-level = simp (map.get-entries show.cues 1000, map.get-entries show.cues 2000, is.cues_are, is.subs_are, is.groups_are, map.get-entries is.first.levels 1, is.first_is, map.get-entries is.second.levels 1, is.second_is, map.get-entries is.sub 1, is.sub_is, is.first_up, is.first_down, is.second_up, is.second_down) refl
+  split_crossfade-level = simp (no_move, after_first, after_second, map.get-entries show.cues 1000, map.get-entries show.cues 2000, is.cues_are, is.subs_are, is.groups_are, map.get-entries is.first.levels 1, is.first_is, map.get-entries is.second.levels 1, is.second_is, map.get-entries is.sub 1, is.sub_is, is.first_up, is.first_down, is.second_up, is.second_down) refl
 
   split_crossfade : slot show two_goes 11000 1 ≡ 191
   unfolding two_goes
@@ -162,7 +177,7 @@ module _ (show : Tables) (is : IsSmall show) where
 
   split_crossfade-2-level : channel_level show two_goes 11000 2 ≡ 32512
   unfolding two_goes split_fade
-  split_crossfade-2-level = simp (map.get-entries show.cues 1000, map.get-entries show.cues 2000, is.cues_are, is.subs_are, is.groups_are, map.get-entries is.first.levels 2, is.first_is, map.get-entries is.second.levels 2, is.second_is, map.get-entries is.sub 2, is.sub_is, is.first_up, is.first_down, is.second_up, is.second_down) refl
+  split_crossfade-2-level = simp (no_move, after_first, after_second, map.get-entries show.cues 1000, map.get-entries show.cues 2000, is.cues_are, is.subs_are, is.groups_are, map.get-entries is.first.levels 2, is.first_is, map.get-entries is.second.levels 2, is.second_is, map.get-entries is.sub 2, is.sub_is, is.first_up, is.first_down, is.second_up, is.second_down) refl
 
   split_crossfade-2 : slot show two_goes 11000 2 ≡ 127
   unfolding two_goes
@@ -173,7 +188,7 @@ module _ (show : Tables) (is : IsSmall show) where
 
   goto_mid_fade-level : channel_level show returned 12000 1 ≡ 52020
   unfolding returned two_goes split_fade
-  goto_mid_fade-level = simp (map.get-entries show.cues 1000, map.get-entries show.cues 2000, is.cues_are, is.subs_are, is.groups_are, map.get-entries is.first.levels 1, is.first_is, map.get-entries is.second.levels 1, is.second_is, map.get-entries is.sub 1, is.sub_is, is.first_up, is.first_down, is.second_up, is.second_down) refl
+  goto_mid_fade-level = simp (no_move, after_first, after_second, map.get-entries show.cues 1000, map.get-entries show.cues 2000, is.cues_are, is.subs_are, is.groups_are, map.get-entries is.first.levels 1, is.first_is, map.get-entries is.second.levels 1, is.second_is, map.get-entries is.sub 1, is.sub_is, is.first_up, is.first_down, is.second_up, is.second_down) refl
 
   goto_mid_fade : slot show returned 12000 1 ≡ 204
   unfolding returned two_goes
@@ -181,7 +196,7 @@ module _ (show : Tables) (is : IsSmall show) where
 
   goto_mid_fade-2-level : channel_level show returned 12000 2 ≡ 26010
   unfolding returned two_goes split_fade
-  goto_mid_fade-2-level = simp (map.get-entries show.cues 1000, map.get-entries show.cues 2000, is.cues_are, is.subs_are, is.groups_are, map.get-entries is.first.levels 2, is.first_is, map.get-entries is.second.levels 2, is.second_is, map.get-entries is.sub 2, is.sub_is, is.first_up, is.first_down, is.second_up, is.second_down) refl
+  goto_mid_fade-2-level = simp (no_move, after_first, after_second, map.get-entries show.cues 1000, map.get-entries show.cues 2000, is.cues_are, is.subs_are, is.groups_are, map.get-entries is.first.levels 2, is.first_is, map.get-entries is.second.levels 2, is.second_is, map.get-entries is.sub 2, is.sub_is, is.first_up, is.first_down, is.second_up, is.second_down) refl
 
   goto_mid_fade-2 : slot show returned 12000 2 ≡ 102
   unfolding returned two_goes
@@ -192,7 +207,7 @@ module _ (show : Tables) (is : IsSmall show) where
 
   submaster_and_grand-half-level : channel_level show sub_at_half 0 1 ≡ 16384
   unfolding sub_at_half split_fade
-  submaster_and_grand-half-level = simp (is.subs_are, is.groups_are, map.get-entries is.sub 1, is.sub_is) refl
+  submaster_and_grand-half-level = simp (no_move, is.subs_are, is.groups_are, map.get-entries is.sub 1, is.sub_is) refl
 
   submaster_and_grand-half : slot show sub_at_half 0 1 ≡ 64
   unfolding sub_at_half
@@ -203,7 +218,7 @@ module _ (show : Tables) (is : IsSmall show) where
 
   submaster_and_grand-full-level : channel_level show sub_at_full 25 1 ≡ 32640
   unfolding sub_at_full sub_at_half split_fade
-  submaster_and_grand-full-level = simp (is.subs_are, is.groups_are, map.get-entries is.sub 1, is.sub_is) refl
+  submaster_and_grand-full-level = simp (no_move, is.subs_are, is.groups_are, map.get-entries is.sub 1, is.sub_is) refl
 
   submaster_and_grand-full : slot show sub_at_full 25 1 ≡ 128
   unfolding sub_at_full sub_at_half
@@ -214,7 +229,7 @@ module _ (show : Tables) (is : IsSmall show) where
 
   submaster_and_grand-level : channel_level show grand_at_half 5125 1 ≡ 65025
   unfolding grand_at_half sub_at_full sub_at_half split_fade
-  submaster_and_grand-level = simp (map.get-entries show.cues 1000, is.cues_are, is.subs_are, is.groups_are, map.get-entries is.first.levels 1, is.first_is, map.get-entries is.sub 1, is.sub_is, is.first_up, is.first_down) refl
+  submaster_and_grand-level = simp (no_move, after_first, after_second, map.get-entries show.cues 1000, is.cues_are, is.subs_are, is.groups_are, map.get-entries is.first.levels 1, is.first_is, map.get-entries is.sub 1, is.sub_is, is.first_up, is.first_down) refl
 
   submaster_and_grand : slot show grand_at_half 5125 1 ≡ 128
   unfolding grand_at_half sub_at_full sub_at_half

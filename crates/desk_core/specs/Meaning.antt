@@ -2,7 +2,7 @@
 use Rattle.std.specs.Prelude.{ℕ, ◌+◌, List, [], ◌∷◌, is_some, map, replicate, if◌then◌else◌}
 use Rattle.show_core.specs.Readers.{universes_of}
 use Rattle.show_core.specs.Tables.{PatchMap, Tables}
-use Rattle.playback_core.specs.Played.{playback_level}
+use Rattle.playback_core.specs.Played.{playback_level, with_due}
 use Rattle.master_core.specs.Settings.{grand_after}
 use Rattle.master_core.specs.Merged.{level_after}
 use Rattle.patch_core.specs.Frame.{frame_of}
@@ -12,12 +12,12 @@ use Rattle.desk_core.specs.Played.{Call, order, tick, Act, ended, moves, setting
 abbrev pub dark : List ℕ
 dark = replicate 512 0
 
--- the level of a channel at a moment after a history: the highest of playback, submasters and
--- groups
+-- the level of a channel at a moment after a history: the highest of playback, with the moves due
+-- by that moment, submasters and groups
 abbrev pub channel_level : Tables → List Act → ℕ → ℕ → ℕ
 channel_level show history moment channel =
     level_after show (settings history) channel
-    (playback_level show (moves show history) channel moment)
+    (playback_level show (with_due show moment (moves show history)) channel moment)
 
 -- the frame of an ordinal at a tick of this moment after a history: what the patch and the grand
 -- master make of the levels; dark after End (E1.31, Options: what a packet with Stream_Terminated

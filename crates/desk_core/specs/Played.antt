@@ -6,6 +6,7 @@ use Rattle.std.specs.Option.{option_or}
 use Rattle.std.specs.FinMap as map
 use Rattle.show_core.specs.Tables.{Tables}
 use Rattle.playback_core.specs.Played.{Move, current_after, go_target, back_target, goto_target}
+use Rattle.playback_core.specs.Played.{with_due, moves_by}
 use Rattle.master_core.specs.Settings.{Setting, sub_setting, group_setting, grand_setting}
 use Rattle.desk_core.specs.declared.command.Command.{Command}
 use Rattle.desk_core.specs.declared.command.Command.TheVariants.{Go, Back, Goto, Sub, Group}
@@ -66,11 +67,13 @@ abbrev pub moved_to : Option ℕ → ℕ → List Move → List Move
 moved_to None moment older = older
 moved_to (Some n) moment older = record { cue = n; moment = moment } ∷ older
 
--- the moves of a history, the newest first
+-- the moves of a history, the newest first: before each call those that are due by its moment, as
+-- long as there was no End, and then its own
 abbrev pub moves : Tables → List Act → List Move
 moves show [] = []
 moves show (act ∷ older) =
-    moved_to (target show (current_after (moves show older)) act.call) act.moment (moves show older)
+    let made = moves_by show (is_some (ended older)) act.moment (moves show older) in
+    moved_to (target show (current_after made) act.call) act.moment made
 
 -- a setting more, where the call sets a master
 abbrev pub set_by : Call → List Setting → List Setting
@@ -123,13 +126,14 @@ lacking show current (order (Group n byte)) =
     if map.contains_key show.groups n then None else Some NoGroup
 lacking show current _ = None
 
--- why a call is refused after a history: the lowest refusal that applies, if any does
+-- why a call is refused after a history: the lowest refusal that applies, if any does. The current cue
+-- is that after the moves due by the call's moment
 abbrev pub refusal : Tables → List Act → Act → Option Refused
 refusal show history act =
     option_or
     (untimely (last_moment history) act.moment (is_over (ended history) act.call)
     (is_soon (last_tick history) act.moment act.call))
-    (lacking show (current_after (moves show history)) act.call)
+    (lacking show (current_after (with_due show act.moment (moves show history))) act.call)
 
 -- the answer of a call: its refusal, or else this
 abbrev pub outcome : {A : Type 0} → Option Refused → A → Result A Refused

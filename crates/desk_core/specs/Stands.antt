@@ -1,5 +1,5 @@
 -- What a desk keeps, against its history.
-use Rattle.std.specs.Prelude.{◌≡◌, ◌<◌, ℕ, IsTrue, List, Some, slice_get}
+use Rattle.std.specs.Prelude.{◌≡◌, ◌<◌, ℕ, IsTrue, List, Some, is_some, slice_get}
 use Rattle.show_core.specs.Tables.{Tables}
 use Rattle.fade_core.specs.Level.{Start}
 use Rattle.playback_core.specs.Stands as playback
@@ -17,6 +17,7 @@ pub record StandsFor {F : Type 0} (fader_stands_for : F → List Start → Type 
   pub show_is : desk.show ≡ show
   pub base_is : desk.base ≡ base
   pub playback_stands : playback.StandsFor fader_stands_for show desk.playback (moves show history)
+      (is_some (ended history))
   pub masters_stand : masters.StandsFor desk.masters (settings history)
   pub moment_is : desk.last_moment ≡ last_moment history
   pub tick_is : desk.last_tick ≡ last_tick history

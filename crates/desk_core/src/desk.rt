@@ -1,10 +1,12 @@
 ghost use Rattle.std.specs.Prelude.{◌≡◌, ◌↔◌, ℕ, ◌-◌, ◌^◌, ◌<◌, ◌≤◌, List, [], ◌∷◌, All, Contains};
 ghost use Rattle.std.specs.Prelude.{IsTrue, IsFalse, IfOk, OnOk, OnErr, Err, IfSome, None, Some};
+ghost use Rattle.std.specs.Prelude.{Bool, false, is_some};
 ghost use Rattle.std.specs.Option.{OnSome};
 ghost use Rattle.std.specs.List.Sorted.{IsStrictlyIncreasing};
 ghost use Rattle.show_core.specs.Numbers.{is_channel};
 ghost use Rattle.show_core.specs.Tables.{Tables};
-ghost use Rattle.playback_core.specs.Played.{Move, current_after, playback_level};
+ghost use Rattle.playback_core.specs.Played.{Move, current_after, with_due, is_by};
+ghost use Rattle.playback_core.specs.Played.{playback_level};
 ghost use Rattle.playback_core.specs.Stands as playback_stands;
 ghost use Rattle.master_core.specs.Settings as masters_stand;
 ghost use Rattle.patch_core.specs.Frame.{is_universe, is_base};
@@ -211,26 +213,28 @@ impl<F: Fader> Desk<F> {
             → let act : Act = record { moment = moment; call = tick } in
             StandsFor F.stands_for show base self.new (act ∷ history) }
     {
-        match self.few_moving() {
+        match self.few_moving(moment) {
             Some(channels) => self.tick_few(moment, &channels),
             None => self.tick_all(moment),
         }
     }
 
-    // The channels that may move, where those are few and the rest of the frames may be kept.
-    fn few_moving(&self) -> Option<ArrayVec<u16, FEW>>
+    // The channels that may move, where those are few and the rest of the frames may be kept: no cue
+    // follows by itself.
+    fn few_moving(&self, moment: u64) -> Option<ArrayVec<u16, FEW>>
         ensures kept { OnSome result (IsTrue self.now.is_kept) }
+        ensures none_due { OnSome result (IsFalse (is_by self.now.playback.due moment)) }
         ensures in_range { IfSome result (λ channels.
             All (λ channel. IsTrue (is_channel channel)) channels.items) }
         ensures others { IfSome result (λ channels. (show : Tables) (moves : List Move)
-            (channel moment : ℕ)
-            → playback_stands.StandsFor F.stands_for show self.now.playback moves
+            (stopped : Bool) (channel moment : ℕ)
+            → playback_stands.StandsFor F.stands_for show self.now.playback moves stopped
             → IsTrue (is_channel channel) → ¬ Contains channels.items channel
             → F.latest self.now.playback.fader ≤ moment
             → playback_level show moves channel moment
             ≡ playback_level show moves channel (F.latest self.now.playback.fader)) }
     {
-        if !self.is_kept {
+        if !self.is_kept || self.playback.is_due(moment) {
             return None;
         }
         let moving = self.playback.moving()?;
@@ -246,8 +250,9 @@ impl<F: Fader> Desk<F> {
         requires live { self.old.ended ≡ None }
         requires kept { IsTrue self.old.is_kept }
         requires in_range { All (λ channel. IsTrue (is_channel channel)) channels.now }
-        requires others { (show : Tables) (moves : List Move) (channel later : ℕ)
-            → playback_stands.StandsFor F.stands_for show self.old.playback moves
+        requires none_due { IsFalse (is_by self.old.playback.due moment) }
+        requires others { (show : Tables) (moves : List Move) (stopped : Bool) (channel later : ℕ)
+            → playback_stands.StandsFor F.stands_for show self.old.playback moves stopped
             → IsTrue (is_channel channel) → ¬ Contains channels.now channel
             → F.latest self.old.playback.fader ≤ later
             → playback_level show moves channel later
@@ -257,7 +262,7 @@ impl<F: Fader> Desk<F> {
             → let act : Act = record { moment = moment; call = tick } in
             StandsFor F.stands_for show base self.new (act ∷ history) }
     {
-        self.playback.advance(moment);
+        self.playback.advance(&self.show, moment);
         merge_some(
             &mut self.levels,
             channels,
@@ -282,7 +287,7 @@ impl<F: Fader> Desk<F> {
             → let act : Act = record { moment = moment; call = tick } in
             StandsFor F.stands_for show base self.new (act ∷ history) }
     {
-        self.playback.advance(moment);
+        self.playback.advance(&self.show, moment);
         merge_levels(&mut self.levels, &self.show, &self.playback, &self.masters);
         draw(
             &mut self.frames,
@@ -400,12 +405,17 @@ fn carry_out<F: Fader>(
 ) -> Result<(), Refused>
     requires not_before { F.latest playback.old.fader ≤ moment }
     requires below { moment < 2 ^ 48 }
-    ensures answer { result ≡ outcome (lacking show.now playback.old.current (order command)) tt }
-    ensures playback { OnOk result ((history : List Act)
+    ensures answer { (history : List Act)
         → playback_stands.StandsFor F.stands_for show.now playback.old (moves show.now history)
+        false
+        → let current = current_after (with_due show.now moment (moves show.now history)) in
+        result ≡ outcome (lacking show.now current (order command)) tt }
+    ensures playback { OnOk result ((history : List Act) → ended history ≡ None
+        → playback_stands.StandsFor F.stands_for show.now playback.old (moves show.now history)
+        false
         → let act : Act = record { moment = moment; call = order command } in
         playback_stands.StandsFor F.stands_for show.now playback.new
-        (moves show.now (act ∷ history))) }
+        (moves show.now (act ∷ history)) (is_some (ended (act ∷ history)))) }
     ensures masters { OnOk result ((history : List Act)
         → masters_stand.StandsFor masters.old (settings history)
         → let act : Act = record { moment = moment; call = order command } in
@@ -424,10 +434,19 @@ fn carry_out<F: Fader>(
         Command::Goto(n) => {
             playback.goto(show, n, moment)?;
         }
-        Command::Sub(n, byte) => masters.set_sub(show, n, byte)?,
-        Command::Group(n, byte) => masters.set_group(show, n, byte)?,
-        Command::Master(byte) => masters.set_grand(byte),
-        Command::End => {}
+        Command::Sub(n, byte) => {
+            masters.set_sub(show, n, byte)?;
+            playback.advance(show, moment);
+        }
+        Command::Group(n, byte) => {
+            masters.set_group(show, n, byte)?;
+            playback.advance(show, moment);
+        }
+        Command::Master(byte) => {
+            masters.set_grand(byte);
+            playback.advance(show, moment);
+        }
+        Command::End => playback.stop(show, moment),
     }
     Ok(())
 }

@@ -1,4 +1,4 @@
-ghost use Rattle.std.specs.Prelude.{◌≡◌, ◌<◌, ◌≤◌, ◌-◌, ℕ, List, Some, All, IsTrue, IfOk};
+ghost use Rattle.std.specs.Prelude.{◌≡◌, ◌<◌, ◌≤◌, ◌-◌, ℕ, Bool, List, Some, All, IsTrue, IfOk};
 ghost use Rattle.std.specs.Prelude.{length, replicate, slice_get, slice_index};
 ghost use Rattle.show_core.specs.Numbers.{is_channel};
 ghost use Rattle.playback_core.specs.Played.{Move, playback_level};
@@ -34,8 +34,8 @@ pub fn merge_levels<F: Fader>(
     masters: &Masters,
 )
     requires { length levels.old ≡ 4096 }
-    ensures merged { (moves : List Move) (settings : List masters_stand.Setting)
-        → playback_stands.StandsFor F.stands_for show.now playback.now moves
+    ensures merged { (moves : List Move) (stopped : Bool) (settings : List masters_stand.Setting)
+        → playback_stands.StandsFor F.stands_for show.now playback.now moves stopped
         → masters_stand.StandsFor masters.now settings → (channel : ℕ) → IsTrue (is_channel channel)
         → let playback_is = playback_level show.now moves channel (F.latest playback.now.fader) in
         level_in levels.new channel ≡ level_after show.now settings channel playback_is }
@@ -57,8 +57,8 @@ pub fn merge_some<F: Fader>(
     requires each_channel { length levels.old ≡ 4096 }
     requires full { All (λ level. level ≤ 65025) levels.old }
     requires in_range { All (λ channel. IsTrue (is_channel channel)) channels.now }
-    ensures merged { (moves : List Move) (settings : List masters_stand.Setting)
-        → playback_stands.StandsFor F.stands_for show.now playback.now moves
+    ensures merged { (moves : List Move) (stopped : Bool) (settings : List masters_stand.Setting)
+        → playback_stands.StandsFor F.stands_for show.now playback.now moves stopped
         → masters_stand.StandsFor masters.now settings
         → All (λ channel. level_in levels.new channel ≡ level_after show.now settings channel
         (playback_level show.now moves channel (F.latest playback.now.fader))) channels.now }

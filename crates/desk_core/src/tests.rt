@@ -1,5 +1,5 @@
 use crate::{Command, Desk, Refused, Ticked};
-use fade_core::{Fader, PlainFader};
+use fade_core::{Fader, PlainFader, StepFader};
 use patch_core::RigFault;
 use show_core::{BuildFault, Rate, Show};
 use std::alloc::Global;
@@ -44,9 +44,14 @@ fn small_show(rt: &impl Abort, alloc: Global) -> Result<Show, BuildFault> {
     Ok(show)
 }
 
-fn small_desk(rt: &impl Abort, alloc: Global) -> Result<Desk<PlainFader>, Fail> {
-    let show = small_show(rt, alloc)?;
-    Ok(Desk::open(alloc, &show, 1)?)
+// The small show, in which the second cue follows the first so long after.
+fn follow_on(rt: &impl Abort, alloc: Global, time: u32) -> Result<Show, BuildFault>
+    requires { time ≤ 5999990 }
+{
+    let mut show = small_show(rt, alloc)?;
+    assert!(rt; show.cue(1000).is_some());
+    show.set_follow(1000, time);
+    Ok(show)
 }
 
 // The frame of the universe at a place of those in use.
@@ -77,7 +82,27 @@ enum Step {
 
 // A desk of the small show takes the steps.
 fn take_steps(rt: &impl Abort, alloc: Global, steps: &[Step]) -> Result<(), Fail> {
-    let mut desk = small_desk(rt, alloc)?;
+    let show = small_show(rt, alloc)?;
+    take_on::<PlainFader>(rt, alloc, &show, steps)
+}
+
+// A desk of the small show with a follow-on time takes the steps, with each fader.
+fn take_follow_on(rt: &impl Abort, alloc: Global, time: u32, steps: &[Step]) -> Result<(), Fail>
+    requires { time ≤ 5999990 }
+{
+    let show = follow_on(rt, alloc, time)?;
+    take_on::<PlainFader>(rt, alloc, &show, steps)?;
+    take_on::<StepFader>(rt, alloc, &show, steps)
+}
+
+// A desk of this show takes the steps.
+fn take_on<F: Fader>(
+    rt: &impl Abort,
+    alloc: Global,
+    show: &Show,
+    steps: &[Step],
+) -> Result<(), Fail> {
+    let mut desk: Desk<F> = Desk::open(alloc, show, 1)?;
     for (place, step) in steps.iter().enumerate() {
         let holds = match step {
             Step::Order(moment, command, answer) => desk.command(*moment, *command) == *answer,
@@ -255,6 +280,122 @@ fn at_end(rt: HostRuntime) -> Result<(), Fail> {
             Step::Order(0, Command::Go, Err(Refused::AtEnd)),
             Step::Order(0, Command::Back, Ok(())),
             Step::Current(Some(1000)),
+        ],
+    )
+}
+
+#[test]
+fn follow_at_tick(rt: HostRuntime) -> Result<(), Fail> {
+    take_follow_on(
+        &rt,
+        rt.alloc(),
+        10000,
+        &[
+            Step::Order(0, Command::Go, Ok(())),
+            Step::Tick(11000, Ok(Ticked::Live)),
+            Step::Slots(191, 127),
+            Step::Current(Some(2000)),
+        ],
+    )?;
+    // Also where the ticks before kept what did not move, and a master is set in between.
+    take_follow_on(
+        &rt,
+        rt.alloc(),
+        10000,
+        &[
+            Step::Order(0, Command::Go, Ok(())),
+            Step::Tick(0, Ok(Ticked::Live)),
+            Step::Tick(6000, Ok(Ticked::Live)),
+            Step::Tick(9000, Ok(Ticked::Live)),
+            Step::Slots(255, 0),
+            Step::Tick(11000, Ok(Ticked::Live)),
+            Step::Slots(191, 127),
+            Step::Order(11000, Command::Goto(1000), Ok(())),
+            Step::Order(21000, Command::Master(255), Ok(())),
+            Step::Current(Some(2000)),
+            Step::Tick(22000, Ok(Ticked::Live)),
+            Step::Slots(191, 127),
+        ],
+    )
+}
+
+#[test]
+fn follow_then_go(rt: HostRuntime) -> Result<(), Fail> {
+    take_follow_on(
+        &rt,
+        rt.alloc(),
+        10000,
+        &[
+            Step::Order(0, Command::Go, Ok(())),
+            Step::Order(10000, Command::Go, Err(Refused::AtEnd)),
+            Step::Current(Some(1000)),
+            Step::Tick(11000, Ok(Ticked::Live)),
+            Step::Slots(191, 127),
+        ],
+    )
+}
+
+#[test]
+fn follow_after_goto(rt: HostRuntime) -> Result<(), Fail> {
+    take_follow_on(
+        &rt,
+        rt.alloc(),
+        10000,
+        &[
+            Step::Order(0, Command::Go, Ok(())),
+            Step::Order(5000, Command::Goto(1000), Ok(())),
+            Step::Tick(10000, Ok(Ticked::Live)),
+            Step::Current(Some(1000)),
+            Step::Tick(15000, Ok(Ticked::Live)),
+            Step::Current(Some(2000)),
+            Step::Tick(16000, Ok(Ticked::Live)),
+            Step::Slots(191, 127),
+        ],
+    )
+}
+
+#[test]
+fn follow_zero(rt: HostRuntime) -> Result<(), Fail> {
+    take_follow_on(
+        &rt,
+        rt.alloc(),
+        0,
+        &[
+            Step::Order(0, Command::Go, Ok(())),
+            Step::Current(Some(1000)),
+            Step::Tick(0, Ok(Ticked::Live)),
+            Step::Slots(0, 0),
+            Step::Current(Some(2000)),
+            Step::Tick(1000, Ok(Ticked::Live)),
+            Step::Slots(0, 127),
+            Step::Current(Some(2000)),
+        ],
+    )
+}
+
+// End makes the moves that are due by its moment, and then none is made.
+#[test]
+fn follow_after_end(rt: HostRuntime) -> Result<(), Fail> {
+    take_follow_on(
+        &rt,
+        rt.alloc(),
+        10000,
+        &[
+            Step::Order(0, Command::Go, Ok(())),
+            Step::Order(9999, Command::End, Ok(())),
+            Step::Tick(10000, Ok(Ticked::Ending(1))),
+            Step::Tick(20000, Ok(Ticked::Ending(2))),
+            Step::Current(Some(1000)),
+        ],
+    )?;
+    take_follow_on(
+        &rt,
+        rt.alloc(),
+        10000,
+        &[
+            Step::Order(0, Command::Go, Ok(())),
+            Step::Order(10000, Command::End, Ok(())),
+            Step::Current(Some(2000)),
         ],
     )
 }

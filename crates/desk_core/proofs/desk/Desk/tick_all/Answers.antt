@@ -1,30 +1,37 @@
-use Rattle.std.proofs.Common.{◌≡◌, ℕ, ◌<◌, List, None, Some, refl, sym, subst, ap, ◌∙◌, IsTrue, length, arith}
+use Rattle.std.proofs.Common.{◌≡◌, ℕ, ◌<◌, List, None, Some, false, is_some, refl, sym, subst, ap, ◌∙◌, IsTrue, length, arith}
 use Rattle.std.specs.Prelude.{slice_get}
 use Rattle.std.specs.Vec.{with_items}
 use Rattle.std.proofs.lemmas.List.{with_items_is}
 use Rattle.show_core.specs.Numbers.{is_channel}
 use Rattle.show_core.specs.Readers.{IsInRange}
-use Rattle.playback_core.specs.Played.{playback_level}
+use Rattle.playback_core.specs.Played.{Move, playback_level, with_due}
 use Rattle.playback_core.specs.Stands as playback
 use Rattle.master_core.specs.Merged.{level_after}
-use Rattle.patch_core.specs.Frame.{level_in, frame_of}
+use Rattle.master_core.specs.Settings.{grand_after}
+use Rattle.patch_core.specs.Frame.{level_in, frame_of, AreDrawn}
 use Rattle.desk_core.specs.Played.{ended, moves, settings}
 use Rattle.desk_core.specs.Meaning.{channel_level, frame}
-use Rattle.desk_core.proofs.Drawn.{live_frame, live_frame_is}
+use Rattle.desk_core.proofs.Drawn.{live_frame, live_frame_is, channel_level-tick}
 use Rattle.desk_core.proofs.desk.Desk.tick_all.Goals as goal
 
 pub returns : goal.returns
 returns g c = rw (← c.self.view_is) (λ show base history stands.
     let none : ended history ≡ None = sym stands.ended_is ∙ ap (λ d. d.ended) c.self.view_is ∙ c.requires.live in
-    let moved : playback.StandsFor g.F.Fader.stands_for show c.advance.new.self (moves show history) = c.advance.ensures.stands show (moves show history) stands.playback_stands in
-    let own : playback.StandsFor g.F.Fader.stands_for c.self.inside.show c.advance.new.self (moves show history) =
-    subst (λ s. playback.StandsFor g.F.Fader.stands_for s c.advance.new.self (moves show history)) (sym stands.show_is) moved in
+    let now : List Move = with_due show c.args.moment (moves show history) in
+    let before : playback.StandsFor g.F.Fader.stands_for show c.self.inside.playback (moves show history) false =
+    subst (λ e. playback.StandsFor g.F.Fader.stands_for show c.self.inside.playback (moves show history) (is_some e)) none stands.playback_stands in
+    let moved : playback.StandsFor g.F.Fader.stands_for show c.advance.new.self now false =
+    subst (λ s. playback.StandsFor g.F.Fader.stands_for s c.self.inside.playback (moves show history) false
+    → playback.StandsFor g.F.Fader.stands_for s c.advance.new.self (with_due s c.args.moment (moves show history)) false) stands.show_is
+    (c.advance.ensures.stands (moves show history) false) before in
+    let own : playback.StandsFor g.F.Fader.stands_for c.self.inside.show c.advance.new.self now false =
+    subst (λ s. playback.StandsFor g.F.Fader.stands_for s c.advance.new.self now false) (sym stands.show_is) moved in
     let levels : List ℕ = c.deref.result.now in
     let written : levels ≡ c.merge_levels.new.levels = c.deref.ensures.value ∙ with_items_is c.self.inside.levels c.merge_levels.new.levels (omega (arith, c.merge_levels.auto.levels, c.deref_mut.ensures.len, c.self.inside.levels.ok.0)) in
     let merged : (channel : ℕ) → IsTrue (is_channel channel) → level_in levels channel ≡ channel_level show history c.args.moment channel = λ channel is.
-    subst (λ s. level_in levels channel ≡ level_after s (settings history) channel (playback_level s (moves show history) channel c.args.moment)) stands.show_is
-    (ap (λ ls. level_in ls channel) written ∙ c.merge_levels.ensures.merged (moves show history) (settings history) own stands.masters_stand channel is
-    ∙ ap (λ t. level_after c.self.inside.show (settings history) channel (playback_level c.self.inside.show (moves show history) channel t)) c.advance.ensures.latest) in
+    subst (λ s. level_in levels channel ≡ level_after s (settings history) channel (playback_level s now channel c.args.moment)) stands.show_is
+    (ap (λ ls. level_in ls channel) written ∙ c.merge_levels.ensures.merged now false (settings history) own stands.masters_stand channel is
+    ∙ ap (λ t. level_after c.self.inside.show (settings history) channel (playback_level c.self.inside.show now channel t)) c.advance.ensures.latest) in
     let size : length c.draw.new.frames ≡ c.self.inside.frames.len = omega (arith, c.draw.auto.frames, c.deref_mut-2.ensures.len, c.self.inside.frames.ok.0) in
     let patch_is : c.self.inside.rig.patch ≡ show.patch = c.self.invariant.patch_is ∙ ap (λ s. s.patch) stands.show_is in
     let in_range : IsInRange show = subst IsInRange stands.show_is c.self.invariant.in_range in
@@ -36,11 +43,12 @@ returns g c = rw (← c.self.view_is) (λ show base history stands.
     record {
       show_is = stands.show_is;
       base_is = stands.base_is;
-      playback_stands = moved;
+      playback_stands = rw none moved;
       masters_stand = stands.masters_stand;
       moment_is = refl;
       tick_is = refl;
       ended_is = rw (stands.ended_is, none) refl;
       frames_are = frames_are;
-      kept = λ kept ordinal lt. frames_are ordinal lt ∙ ap Some (live_frame_is show history c.args.moment ordinal none);
+      kept = λ kept. subst (λ level. AreDrawn show.patch level (grand_after (settings history)) (with_items c.self.inside.frames c.draw.new.frames).items) (sym (channel_level-tick show history c.args.moment none))
+          (λ ordinal lt. frames_are ordinal lt ∙ ap Some (live_frame_is show history c.args.moment ordinal none));
     })

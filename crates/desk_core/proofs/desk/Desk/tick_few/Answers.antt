@@ -1,26 +1,33 @@
-use Rattle.std.proofs.Common.{◌≡◌, ℕ, ◌<◌, ◌≤◌, List, None, Some, refl, sym, subst, ap, ◌∙◌, IsTrue, length, get_or, arith}
-use Rattle.std.specs.Prelude.{All, Contains, slice_get}
+use Rattle.std.proofs.Common.{◌≡◌, ℕ, ◌≤◌, List, None, Some, Bool, false, is_some, IsFalse, refl, sym, subst, ap, ◌∙◌, IsTrue, length, get_or, arith}
+use Rattle.std.specs.Prelude.{All, Contains}
 use Rattle.std.specs.Vec.{with_items}
 use Rattle.std.proofs.lemmas.List.{with_items_is}
 use Rattle.show_core.specs.Numbers.{is_channel}
 use Rattle.show_core.specs.Tables.{Tables}
-use Rattle.playback_core.specs.Played.{Move, playback_level}
+use Rattle.playback_core.specs.Played.{Move, playback_level, with_due, is_by}
+use Rattle.playback_core.proofs.Places.{none_made, is_by-before}
 use Rattle.playback_core.specs.Stands as playback
 use Rattle.master_core.specs.Merged.{level_after}
 use Rattle.master_core.specs.Settings.{grand_after}
 use Rattle.patch_core.specs.Frame.{level_in, AreDrawn}
 use Rattle.desk_core.specs.Played.{ended, moves, settings}
-use Rattle.desk_core.specs.Meaning.{channel_level, frame}
-use Rattle.desk_core.proofs.Drawn.{drawn_same, live_frame_is}
+use Rattle.desk_core.specs.Meaning.{channel_level}
+use Rattle.desk_core.proofs.Drawn.{drawn_same, live_frame_is, channel_level-tick}
 use Rattle.desk_core.proofs.desk.Desk.tick_few.Goals as goal
 
 pub returns : goal.returns
 returns g c = rw (← c.self.view_is) (λ show base history stands.
     let inside = c.self.inside in
     let none : ended history ≡ None = sym stands.ended_is ∙ ap (λ d. d.ended) c.self.view_is ∙ c.requires.live in
-    let moved : playback.StandsFor g.F.Fader.stands_for show c.advance.new.self (moves show history) = c.advance.ensures.stands show (moves show history) stands.playback_stands in
-    let own : playback.StandsFor g.F.Fader.stands_for inside.show c.advance.new.self (moves show history) =
-    subst (λ s. playback.StandsFor g.F.Fader.stands_for s c.advance.new.self (moves show history)) (sym stands.show_is) moved in
+    let now : List Move = with_due show c.args.moment (moves show history) in
+    let stood : playback.StandsFor g.F.Fader.stands_for show inside.playback (moves show history) false =
+    subst (λ e. playback.StandsFor g.F.Fader.stands_for show inside.playback (moves show history) (is_some e)) none stands.playback_stands in
+    let moved : playback.StandsFor g.F.Fader.stands_for show c.advance.new.self now false =
+    subst (λ s. playback.StandsFor g.F.Fader.stands_for s inside.playback (moves show history) false
+    → playback.StandsFor g.F.Fader.stands_for s c.advance.new.self (with_due s c.args.moment (moves show history)) false) stands.show_is
+    (c.advance.ensures.stands (moves show history) false) stood in
+    let own : playback.StandsFor g.F.Fader.stands_for inside.show c.advance.new.self now false =
+    subst (λ s. playback.StandsFor g.F.Fader.stands_for s c.advance.new.self now false) (sym stands.show_is) moved in
     let grand : ℕ = c.grand-grand.result in
     let grand_is : grand ≡ grand_after (settings history) = c.grand-grand.ensures (settings history) stands.masters_stand in
     let before : ℕ → ℕ = channel_level show history inside.last_moment in
@@ -28,17 +35,23 @@ returns g c = rw (← c.self.view_is) (λ show base history stands.
     let levels : List ℕ = c.deref.result.now in
     let written : levels ≡ c.merge_some.new.levels = c.deref.ensures.value ∙ with_items_is inside.levels c.merge_some.new.levels (omega (arith, c.merge_some.auto.levels, c.deref_mut.ensures.len, inside.levels.ok.0)) in
     let listed : All (λ channel. level_in levels channel ≡ after channel) c.args.channels.now = λ k d lt.
-    subst (λ s. (channel : ℕ) → level_in levels channel ≡ level_after inside.show (settings history) channel (playback_level inside.show (moves show history) channel (g.F.Fader.latest c.advance.new.self.fader)) → level_in levels channel ≡ level_after s (settings history) channel (playback_level s (moves show history) channel c.args.moment)) stands.show_is
-    (λ channel is. is ∙ ap (λ t. level_after inside.show (settings history) channel (playback_level inside.show (moves show history) channel t)) c.advance.ensures.latest) (get_or c.args.channels.now k d)
-    (ap (λ ls. level_in ls (get_or c.args.channels.now k d)) written ∙ c.merge_some.ensures.merged (moves show history) (settings history) own stands.masters_stand k d lt) in
-    let others = subst (λ d. (s : Tables) (ms : List Move) (channel later : ℕ) → playback.StandsFor g.F.Fader.stands_for s d.playback ms → IsTrue (is_channel channel) → ¬ Contains c.args.channels.now channel
+    subst (λ s. (channel : ℕ) → level_in levels channel ≡ level_after inside.show (settings history) channel (playback_level inside.show now channel (g.F.Fader.latest c.advance.new.self.fader)) → level_in levels channel ≡ level_after s (settings history) channel (playback_level s now channel c.args.moment)) stands.show_is
+    (λ channel is. is ∙ ap (λ t. level_after inside.show (settings history) channel (playback_level inside.show now channel t)) c.advance.ensures.latest) (get_or c.args.channels.now k d)
+    (ap (λ ls. level_in ls (get_or c.args.channels.now k d)) written ∙ c.merge_some.ensures.merged now false (settings history) own stands.masters_stand k d lt) in
+    let others = subst (λ d. (s : Tables) (ms : List Move) (stopped : Bool) (channel later : ℕ) → playback.StandsFor g.F.Fader.stands_for s d.playback ms stopped → IsTrue (is_channel channel) → ¬ Contains c.args.channels.now channel
     → g.F.Fader.latest d.playback.fader ≤ later → playback_level s ms channel later ≡ playback_level s ms channel (g.F.Fader.latest d.playback.fader)) (sym c.self.view_is) c.requires.others in
     let still : (channel later : ℕ) → IsTrue (is_channel channel) → ¬ Contains c.args.channels.now channel → inside.last_moment ≤ later
     → playback_level show (moves show history) channel later ≡ playback_level show (moves show history) channel (g.F.Fader.latest inside.playback.fader) = λ channel later is lacks le.
-    others show (moves show history) channel later stands.playback_stands is lacks (omega (arith, c.self.invariant.not_ahead)) in
+    others show (moves show history) false channel later stood is lacks (omega (arith, c.self.invariant.not_ahead)) in
     let later : inside.last_moment ≤ c.args.moment = omega (arith, c.requires.not_before, ap (λ d. d.last_moment) c.self.view_is) in
+    let waits : is_by inside.playback.due c.args.moment ≡ false = subst (λ d. IsFalse (is_by d.playback.due c.args.moment)) (sym c.self.view_is) c.requires.none_due in
+    let same_before : with_due show inside.last_moment (moves show history) ≡ moves show history =
+    none_made show inside.last_moment inside.playback.due (moves show history) stood.due (is_by-before inside.playback.due inside.last_moment c.args.moment later waits) in
+    let same_now : now ≡ moves show history = none_made show c.args.moment inside.playback.due (moves show history) stood.due waits in
     let agree : (channel : ℕ) → IsTrue (is_channel channel) → ¬ Contains c.args.channels.now channel → before channel ≡ after channel = λ channel is lacks.
-    ap (level_after show (settings history) channel) (still channel inside.last_moment is lacks (omega arith) ∙ sym (still channel c.args.moment is lacks later)) in
+    ap (λ ms. level_after show (settings history) channel (playback_level show ms channel inside.last_moment)) same_before
+    ∙ ap (level_after show (settings history) channel) (still channel inside.last_moment is lacks (omega arith) ∙ sym (still channel c.args.moment is lacks later))
+    ∙ ap (λ ms. level_after show (settings history) channel (playback_level show ms channel c.args.moment)) (sym same_now) in
     let patch_is : inside.rig.patch ≡ show.patch = c.self.invariant.patch_is ∙ ap (λ s. s.patch) stands.show_is in
     let old : AreDrawn inside.rig.patch before grand c.deref_mut-2.result.now =
     drawn_same show.patch inside.rig.patch before (grand_after (settings history)) grand inside.frames.items c.deref_mut-2.result.now (sym patch_is) (sym grand_is) (sym c.deref_mut-2.ensures.value)
@@ -50,11 +63,11 @@ returns g c = rw (← c.self.view_is) (λ show base history stands.
     record {
       show_is = stands.show_is;
       base_is = stands.base_is;
-      playback_stands = moved;
+      playback_stands = rw none moved;
       masters_stand = stands.masters_stand;
       moment_is = refl;
       tick_is = refl;
       ended_is = rw (stands.ended_is, none) refl;
       frames_are = λ ordinal lt. drawn ordinal lt ∙ ap Some (sym (live_frame_is show history c.args.moment ordinal none));
-      kept = λ kept. drawn;
+      kept = λ kept. subst (λ level. AreDrawn show.patch level (grand_after (settings history)) (with_items inside.frames c.redraw.new.frames).items) (sym (channel_level-tick show history c.args.moment none)) drawn;
     })
