@@ -1,3 +1,4 @@
+pub mod Raised
 pub mod Greatest
 pub mod Setting
 mod Rows

@@ -11,19 +11,20 @@ pub fn highest(records: &[(u16, Levels)], masters: &[u8], channel: u16) -> u32
         (λ e. level_in e.1 channel * slice_index masters.now e.0) records.now) }
     ensures full { result ≤ 65025 }
 {
-    let mut most: u32 = 0;
+    let mut most: u16 = 0;
     for (number, levels) in records {
         let master = masters[usize::from(*number)];
         if master > 0 {
             most = most.max(product(levels.level(channel), master));
         }
     }
-    most
+    u32::from(most)
 }
 
-fn product(byte: u8, master: u8) -> u32
+// The level that a record makes a channel.
+pub fn product(byte: u8, master: u8) -> u16
     ensures product { result ≡ byte * master }
     ensures full { result ≤ 65025 }
 {
-    u32::from(byte) * u32::from(master)
+    u16::from(byte) * u16::from(master)
 }

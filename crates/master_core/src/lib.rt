@@ -3,6 +3,7 @@
 #![tactic(auto)]
 
 mod fault;
+mod floors;
 mod highest;
 mod masters;
 

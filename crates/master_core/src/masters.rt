@@ -1,14 +1,16 @@
-ghost use Rattle.std.specs.Prelude.{◌≡◌, ◌↔◌, ◌≤◌, List, [], ◌∷◌};
+ghost use Rattle.std.specs.Prelude.{◌≡◌, ◌↔◌, ℕ, ◌-◌, ◌≤◌, List, [], ◌∷◌};
 ghost use Rattle.std.specs.Prelude.{IsTrue, IsFalse, IsOk, OnOk, OnErr, Err};
+ghost use Rattle.std.specs.Prelude.{All, length, slice_index};
 ghost use Rattle.std.specs.Bool.{OnTrue};
 ghost use Rattle.std.specs.FinMap as map;
-ghost use Rattle.show_core.specs.Numbers.{is_sub, is_group};
+ghost use Rattle.show_core.specs.Numbers.{is_channel, is_sub, is_group};
 ghost use Rattle.master_core.specs.declared.fault.NoMaster.TheVariants.{NoSub, NoGroup};
 ghost use Rattle.master_core.specs.Merged.{level_after};
 ghost use Rattle.master_core.specs.Settings.{Setting, sub_setting, group_setting, grand_setting};
 ghost use Rattle.master_core.specs.Settings.{grand_after, StandsFor};
 
 use crate::fault::NoMaster;
+use crate::floors::raise;
 use crate::highest::highest;
 use show_core::Show;
 use std::marker::Model;
@@ -123,6 +125,20 @@ impl Masters {
         playback
             .max(highest(show.subs(), &self.subs, channel))
             .max(highest(show.groups(), &self.groups, channel))
+    }
+
+    /// Writes the level of each channel over a playback level of 0, as `merged` answers it, channel
+    /// 1 first: no more work than the records with a master above 0 list channels.
+    pub fn write_floors(&self, show: &Show, floors: &mut [u16])
+        requires { length floors.old ≡ 4096 }
+        ensures levels { (settings : List Setting) → StandsFor self.now settings
+            → (channel : ℕ) → IsTrue (is_channel channel)
+            → slice_index floors.new (channel - 1) ≡ level_after show.now settings channel 0 }
+        ensures full { All (λ floor. floor ≤ 65025) floors.new }
+    {
+        floors.fill(0);
+        raise(floors, show.subs(), &self.subs);
+        raise(floors, show.groups(), &self.groups);
     }
 }
 

@@ -97,3 +97,30 @@ fn submaster_and_grand(rt: HostRuntime) -> Result<(), Fail> {
     assert!(rt; masters.grand() == 128 && masters.merged(&show, 1, 0) == 32640);
     Ok(())
 }
+
+// Submaster 1 and group 500 share channel 1; floors of an earlier setting are written over.
+#[test]
+fn floors(rt: HostRuntime) -> Result<(), Fail> {
+    let mut show = Show::new(rt.alloc());
+    light_sub(&rt, &mut show, 1, 1, 128)?;
+    light_sub(&rt, &mut show, 1, 4096, 255)?;
+    light_group(&rt, &mut show, 500, 1, 255)?;
+    light_group(&rt, &mut show, 500, 7, 2)?;
+    let mut masters = Masters::new();
+    let mut floors = vec![in rt.alloc(); 9; 4096]?;
+    for (sub, group, first, seventh, last) in [
+        (0, 0, 0, 0, 0),
+        (255, 100, 32640, 200, 65025),
+        (100, 255, 65025, 510, 25500),
+        (1, 0, 128, 0, 255),
+    ] {
+        assert!(rt; masters.set_sub(&show, 1, sub) == Ok(()));
+        assert!(rt; masters.set_group(&show, 500, group) == Ok(()));
+        assert!(rt; floors.len() == 4096);
+        masters.write_floors(&show, &mut floors);
+        assert!(rt; floors.len() == 4096);
+        assert!(rt; floors[0] == first && floors[6] == seventh && floors[4095] == last);
+        assert!(rt; floors[1] == 0 && masters.merged(&show, 1, 0) == u32::from(first));
+    }
+    Ok(())
+}
