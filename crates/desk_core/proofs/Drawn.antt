@@ -1,43 +1,70 @@
 -- Frames, from the levels that they are made of.
-use Rattle.std.proofs.Common.{◌≡◌, ◌≢◌, ℕ, ◌+◌, ◌*◌, ◌<◌, nat_eq, true, false, IsTrue, List, [], ◌∷◌, length, get_or, set, Option, Some, None, is_some, refl, sym, subst, ap, ◌∙◌, arith}
-use Rattle.std.specs.Prelude.{All, IfSome, map, replicate, slice_get}
+use Rattle.std.proofs.Common.{◌≡◌, ℕ, ◌+◌, ◌*◌, ◌<◌, Bool, true, false, ◌&&◌, IsTrue}
+use Rattle.std.proofs.Common.{List, [], ◌∷◌, length, Option, Some, None, is_some, refl, sym}
+use Rattle.std.proofs.Common.{subst, ap, ◌∙◌, arith}
+use Rattle.std.specs.Prelude.{All, IfSome, max, map, replicate, slice_get}
 use Rattle.std.specs.List.{range_with_len}
 use Rattle.std.specs.Option.{option_map_or}
 use Rattle.std.specs.FinMap as maps
-use Rattle.std.proofs.lemmas.Bool.Decides.{nat_tests}
-use Rattle.std.proofs.lemmas.List.{get_or-set_same, get_or-set_other, length-set, length-replicate, get_or-replicate}
-use Rattle.std.proofs.lemmas.Option.{slice_get-get_or, get_or_from_slice_get}
+use Rattle.std.proofs.lemmas.List.{length-replicate, get_or-replicate}
+use Rattle.std.proofs.lemmas.Option.{slice_get-get_or}
 use Rattle.show_core.specs.Numbers.{is_channel}
 use Rattle.show_core.specs.Readers.{slot_of}
 use Rattle.show_core.specs.Tables.{PatchMap}
 use Rattle.show_core.proofs.Ranges.{value_in}
 use Rattle.show_core.specs.Readers.{IsInRange}
 use Rattle.show_core.specs.Tables.{Tables}
-use Rattle.master_core.specs.Settings.{grand_after}
+use Rattle.playback_core.specs.Played.{playback_level}
+use Rattle.master_core.specs.Merged.{greatest_in, level_after}
+use Rattle.master_core.specs.Settings.{sub_after, group_after, grand_after}
 use Rattle.patch_core.specs.Frame.{level_in, dimmer_slot, frame_of, AreDrawn}
+use Rattle.desk_core.specs.declared.command.Command.{Command}
+use Rattle.desk_core.specs.declared.command.Command.TheVariants.{Go, Back, Goto, Sub, Group, Master}
+use Rattle.desk_core.specs.declared.command.Command.TheVariants.{End}
+use Rattle.std.proofs.lemmas.Bool.{false≢true}
+use Rattle.desk_core.specs.Stands.{keeps_floors}
 use Rattle.desk_core.specs.Meaning.{dark, channel_level, frame}
-use Rattle.playback_core.specs.Played.{playback_level, with_due, moves_by}
+use Rattle.playback_core.specs.Played.{Move, with_due, moves_by}
 use Rattle.playback_core.proofs.Due.{with_due-again}
-use Rattle.master_core.specs.Merged.{level_after}
-use Rattle.desk_core.specs.Played.{Act, tick, ended, moves, settings}
+use Rattle.desk_core.specs.Played.{Act, order, tick, ended, moves, settings}
 
--- one frame more is written
-pub frames_more : (f : ℕ → List ℕ) (frames : List (List ℕ)) (at next : ℕ) (frame : List ℕ) → at ≡ next → next < length frames → frame ≡ f next
-    → ((k : ℕ) → k < next → slice_get frames k ≡ Some (f k)) → (k : ℕ) → k < next + 1 → slice_get (set frames at frame) k ≡ Some (f k)
-frames_more f frames at next frame place within is so_far k lt =
-    let room : length (set frames at frame) ≡ length frames = length-set frames at frame in
-    let found : slice_get (set frames at frame) k ≡ Some (get_or (set frames at frame) k frame) = slice_get-get_or (set frames at frame) k frame (omega arith) in
-    elim (nat_eq k at) as (λ b. nat_eq k at ≡ b → slice_get (set frames at frame) k ≡ Some (f k)) [
-      | true ↦ λ b.
-          let same : k ≡ at = grind (arith, nat_tests) in
-          let here : get_or (set frames at frame) k frame ≡ frame = rw same (get_or-set_same frames at frame frame (omega arith)) in
-          let next_is : next ≡ k = sym (same ∙ place) in
-          found ∙ ap Some (here ∙ is ∙ ap f next_is)
-      | false ↦ λ b.
-          let other : k ≢ at = grind (arith, nat_tests) in
-          let before : k < next = omega arith in
-          found ∙ ap Some (get_or-set_other frames at k frame frame other ∙ get_or_from_slice_get frames k (f k) frame (so_far k before))
-    ] refl
+-- over a playback level, what submasters and groups make of a dark one
+over : (playback floor : ℕ) → max playback (max 0 floor) ≡ max playback floor
+over playback floor = omega arith
+
+-- the higher of the playback's level after these moves and of the floor is the level that submasters
+-- and groups make of it
+pub merged_level : (show : Tables) (history : List Act) (made : List Move) (floors : List ℕ)
+    (channel moment latest level : ℕ)
+    → level ≡ max (playback_level show made channel latest) (level_in floors channel)
+    → latest ≡ moment → level_in floors channel ≡ level_after show (settings history) channel 0
+    → level ≡ level_after show (settings history) channel (playback_level show made channel moment)
+merged_level show history made floors channel moment latest level is same floor =
+    is ∙ ap (λ t. max (playback_level show made channel t) (level_in floors channel)) same
+    ∙ ap (max (playback_level show made channel moment)) floor
+    ∙ over (playback_level show made channel moment)
+    (max (greatest_in show.subs (sub_after (settings history)) channel) (greatest_in show.groups
+    (group_after (settings history)) channel))
+
+-- the floors after a command that keeps them
+pub floors_same : (show : Tables) (history : List Act) (moment channel : ℕ) (command : Command)
+    → keeps_floors command ≡ true
+    → level_after show (settings history) channel 0 ≡ level_after show (settings (record {
+      moment =
+          moment;
+      call = order command;
+    } ∷ history)) channel 0
+floors_same show history moment channel Go h = refl
+floors_same show history moment channel Back h = refl
+floors_same show history moment channel (Goto n) h = refl
+floors_same show history moment channel (Sub n byte) h = absurd (false≢true h)
+floors_same show history moment channel (Group n byte) h = absurd (false≢true h)
+floors_same show history moment channel (Master byte) h = refl
+floors_same show history moment channel End h = refl
+
+pub both : (a b : Bool) → IsTrue (a && b) → IsTrue a × IsTrue b
+both true b h = (refl, h)
+both false b h = absurd (false≢true h)
 
 -- maps by functions that agree
 map-same : {X Y : Type 0} (f g : X → Y) → ((x : X) → f x ≡ g x) → (xs : List X) → map f xs ≡ map g xs

@@ -4,12 +4,15 @@ use Rattle.show_core.specs.Readers.{IsInRange}
 use Rattle.show_core.specs.Tables.{PatchMap, Tables}
 
 -- the fader is not ahead of the last call, the rig has the show's patch, the show's numbers are in
--- their ranges, and there is a level in its range for each channel and a frame for each ordinal
+-- their ranges, and there is a level and a floor in its range for each channel and a frame for each
+-- ordinal
 pub record IsDesk (fader_latest last_moment : ℕ) (patch : PatchMap) (show : Tables)
-    (levels : List ℕ) (frames : List (List ℕ)) : Type 0 where
+    (levels floors : List ℕ) (frames : List (List ℕ)) : Type 0 where
   pub not_ahead : fader_latest ≤ last_moment
   pub patch_is : patch ≡ show.patch
   pub in_range : IsInRange show
   pub each_channel : length levels ≡ 4096
   pub full : All (λ level. level ≤ 65025) levels
+  pub each_floor : length floors ≡ 4096
+  pub floors_full : All (λ floor. floor ≤ 65025) floors
   pub each_ordinal : length frames ≡ 16

@@ -1,14 +1,25 @@
 -- What a desk keeps, against its history.
-use Rattle.std.specs.Prelude.{◌≡◌, ◌<◌, ℕ, IsTrue, List, Some, is_some, slice_get}
+use Rattle.std.specs.Prelude.{◌≡◌, ◌<◌, ℕ, Bool, true, false, IsTrue, List, Some, is_some}
+use Rattle.std.specs.Prelude.{slice_get}
+use Rattle.show_core.specs.Numbers.{is_channel}
 use Rattle.show_core.specs.Tables.{Tables}
 use Rattle.fade_core.specs.Level.{Start}
 use Rattle.playback_core.specs.Stands as playback
 use Rattle.master_core.specs.Settings as masters
+use Rattle.master_core.specs.Merged.{level_after}
 use Rattle.master_core.specs.Settings.{grand_after}
-use Rattle.patch_core.specs.Frame.{AreDrawn}
+use Rattle.patch_core.specs.Frame.{level_in, AreDrawn}
+use Rattle.desk_core.specs.declared.command.Command.{Command}
+use Rattle.desk_core.specs.declared.command.Command.TheVariants.{Sub, Group}
 use Rattle.desk_core.specs.DeskState.{DeskState}
 use Rattle.desk_core.specs.Played.{Act, last_moment, last_tick, ended, moves, settings}
 use Rattle.desk_core.specs.Meaning.{channel_level, latest_frame}
+
+-- a command sets no submaster and no group, so that their levels stay
+abbrev pub keeps_floors : Command → Bool
+keeps_floors (Sub n byte) = false
+keeps_floors (Group n byte) = false
+keeps_floors _ = true
 
 -- a desk stands for a history of a show with a base: each part that it keeps is what the history
 -- leaves
@@ -24,6 +35,9 @@ pub record StandsFor {F : Type 0} (fader_stands_for : F → List Start → Type 
   pub ended_is : desk.ended ≡ ended history
   pub frames_are : (ordinal : ℕ) → ordinal < 16
       → slice_get desk.frames ordinal ≡ Some (latest_frame show history ordinal)
+  -- the floors that are kept are the levels of the channels over a dark playback
+  pub floors_are : IsTrue desk.are_floors → (channel : ℕ) → IsTrue (is_channel channel)
+      → level_in desk.floors channel ≡ level_after show (settings history) channel 0
   -- what is kept is what the show means at the moment of the last call
   pub kept : IsTrue desk.is_kept
       → AreDrawn show.patch (channel_level show history desk.last_moment)

@@ -15,11 +15,11 @@ ghost use Rattle.desk_core.specs.Played.{Act, order, tick, ended, ended_by, move
 ghost use Rattle.desk_core.specs.Played.{untimely, is_over, is_soon, lacking, refusal};
 ghost use Rattle.desk_core.specs.Played.{outcome, ticked};
 ghost use Rattle.desk_core.specs.Meaning.{latest_frame, universe_numbers};
-ghost use Rattle.desk_core.specs.Stands.{StandsFor};
+ghost use Rattle.desk_core.specs.Stands.{StandsFor, keeps_floors};
 
 use crate::answer::{Refused, Ticked};
 use crate::command::Command;
-use crate::frames::{dark_frames, darken, draw, merge_levels, merge_some};
+use crate::frames::{dark_frames, darken, merge_levels, merge_some};
 use arrayvec::ArrayVec;
 use fade_core::Fader;
 use master_core::Masters;
@@ -60,7 +60,9 @@ pub struct Desk<F: Fader> {
     last_moment: u64,
     last_tick: Option<u64>,
     ended: Option<u8>,
-    levels: Vec<u32>,
+    levels: Vec<u16>,
+    floors: Vec<u16>,
+    are_floors: bool,
     frames: Vec<[u8; 512]>,
     is_kept: bool,
 }
@@ -83,6 +85,8 @@ impl<F: Fader> Model for Desk<F> {
       last_moment = d.last_moment;
       last_tick = d.last_tick;
       ended = d.ended;
+      floors = d.floors.items;
+      are_floors = d.are_floors;
       frames = d.frames.items;
       is_kept = d.is_kept;
     } };
@@ -90,7 +94,7 @@ impl<F: Fader> Model for Desk<F> {
     ghost use Rattle.desk_core.specs.Inside.{IsDesk};
 
     ghost invariant = { λ d. IsDesk (F.latest d.playback.fader) d.last_moment d.rig.patch d.show
-        d.levels.items d.frames.items };
+        d.levels.items d.floors.items d.frames.items };
 }
 
 impl<F: Fader> fmt::Debug for Desk<F> {
@@ -122,6 +126,7 @@ impl<F: Fader> Desk<F> {
         let show = show.clone_in(alloc)?;
         let playback = Playback::new(alloc)?;
         let levels = vec![in alloc; 0; usize::from(CHANNELS)]?;
+        let floors = vec![in alloc; 0; usize::from(CHANNELS)]?;
         let frames = dark_frames(alloc)?;
         Ok(Desk {
             show,
@@ -132,6 +137,8 @@ impl<F: Fader> Desk<F> {
             last_tick: None,
             ended: None,
             levels,
+            floors,
+            are_floors: false,
             frames,
             is_kept: false,
         })
@@ -165,6 +172,7 @@ impl<F: Fader> Desk<F> {
             command,
         )?;
         self.is_kept = false;
+        self.are_floors &= keeps_floors(command);
         self.ended = ending_begun(command);
         self.last_moment = moment;
         Ok(())
@@ -213,9 +221,25 @@ impl<F: Fader> Desk<F> {
             → let act : Act = record { moment = moment; call = tick } in
             StandsFor F.stands_for show base self.new (act ∷ history) }
     {
+        self.keep_floors();
         match self.few_moving(moment) {
             Some(channels) => self.tick_few(moment, &channels),
             None => self.tick_all(moment),
+        }
+    }
+
+    // Works the floors out anew, where a submaster or a group was set.
+    fn keep_floors(&mut self)
+        ensures floors { IsTrue self.new.are_floors }
+        ensures rest { self.new
+            ≡ record self.old { floors = self.new.floors; are_floors = self.new.are_floors } }
+        ensures stands { (show : Tables) (base : ℕ) (history : List Act)
+            → StandsFor F.stands_for show base self.old history
+            → StandsFor F.stands_for show base self.new history }
+    {
+        if !self.are_floors {
+            self.masters.write_floors(&self.show, &mut self.floors);
+            self.are_floors = true;
         }
     }
 
@@ -249,6 +273,7 @@ impl<F: Fader> Desk<F> {
         requires below { moment < 2 ^ 48 }
         requires live { self.old.ended ≡ None }
         requires kept { IsTrue self.old.is_kept }
+        requires floors { IsTrue self.old.are_floors }
         requires in_range { All (λ channel. IsTrue (is_channel channel)) channels.now }
         requires none_due { IsFalse (is_by self.old.playback.due moment) }
         requires others { (show : Tables) (moves : List Move) (stopped : Bool) (channel later : ℕ)
@@ -263,13 +288,7 @@ impl<F: Fader> Desk<F> {
             StandsFor F.stands_for show base self.new (act ∷ history) }
     {
         self.playback.advance(&self.show, moment);
-        merge_some(
-            &mut self.levels,
-            channels,
-            &self.show,
-            &self.playback,
-            &self.masters,
-        );
+        merge_some(&mut self.levels, channels, &self.playback, &self.floors);
         let grand = self.masters.grand();
         self.rig
             .redraw(&mut self.frames, channels, &self.levels, grand);
@@ -282,19 +301,16 @@ impl<F: Fader> Desk<F> {
         requires not_before { self.old.last_moment ≤ moment }
         requires below { moment < 2 ^ 48 }
         requires live { self.old.ended ≡ None }
+        requires floors { IsTrue self.old.are_floors }
         ensures { (show : Tables) (base : ℕ) (history : List Act)
             → StandsFor F.stands_for show base self.old history
             → let act : Act = record { moment = moment; call = tick } in
             StandsFor F.stands_for show base self.new (act ∷ history) }
     {
         self.playback.advance(&self.show, moment);
-        merge_levels(&mut self.levels, &self.show, &self.playback, &self.masters);
-        draw(
-            &mut self.frames,
-            &self.rig,
-            &self.levels,
-            self.masters.grand(),
-        );
+        merge_levels(&mut self.levels, &self.playback, &self.floors);
+        let grand = self.masters.grand();
+        self.rig.draw(&mut self.frames, &self.levels, grand);
         self.is_kept = true;
         self.last_moment = moment;
         self.last_tick = Some(moment);
@@ -392,6 +408,16 @@ fn ending_begun(command: Command) -> Option<u8>
     match command {
         Command::End => Some(0),
         _ => None,
+    }
+}
+
+// Whether a command leaves the floors as they are.
+fn keeps_floors(command: Command) -> bool
+    ensures { result ≡ keeps_floors command }
+{
+    match command {
+        Command::Sub(_, _) | Command::Group(_, _) => false,
+        _ => true,
     }
 }
 

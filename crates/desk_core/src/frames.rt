@@ -1,18 +1,16 @@
-ghost use Rattle.std.specs.Prelude.{◌≡◌, ◌<◌, ◌≤◌, ◌-◌, ℕ, Bool, List, Some, All, IsTrue, IfOk};
-ghost use Rattle.std.specs.Prelude.{length, replicate, slice_get, slice_index};
+ghost use Rattle.std.specs.Prelude.{◌≡◌, ◌<◌, ◌≤◌, ℕ, Bool, List, Some, All, EachIndex};
+ghost use Rattle.std.specs.Prelude.{IsTrue, IfOk};
+ghost use Rattle.std.specs.Prelude.{length, max, replicate, slice_get, slice_index};
 ghost use Rattle.show_core.specs.Numbers.{is_channel};
+ghost use Rattle.show_core.specs.Tables.{Tables};
 ghost use Rattle.playback_core.specs.Played.{Move, playback_level};
 ghost use Rattle.playback_core.specs.Stands as playback_stands;
-ghost use Rattle.master_core.specs.Settings as masters_stand;
-ghost use Rattle.master_core.specs.Merged.{level_after};
-ghost use Rattle.patch_core.specs.Frame.{level_in, frame_of};
+ghost use Rattle.patch_core.specs.Frame.{level_in};
 ghost use Rattle.desk_core.specs.Meaning.{dark};
 
 use fade_core::Fader;
-use master_core::Masters;
-use patch_core::Rig;
 use playback_core::Playback;
-use show_core::{CHANNELS, Show, UNIVERSES};
+use show_core::{CHANNELS, UNIVERSES};
 use std::alloc::{AllocError, Global};
 
 // A frame for each ordinal, with every slot at 0.
@@ -26,63 +24,83 @@ pub fn dark_frames(alloc: Global) -> Result<Vec<[u8; 512]>, AllocError>
     Ok(frames)
 }
 
-// Writes the level of each channel, at the latest moment that the playback was given.
-pub fn merge_levels<F: Fader>(
-    levels: &mut [u32],
-    show: &Show,
-    playback: &Playback<F>,
-    masters: &Masters,
-)
-    requires { length levels.old ≡ 4096 }
-    ensures merged { (moves : List Move) (stopped : Bool) (settings : List masters_stand.Setting)
-        → playback_stands.StandsFor F.stands_for show.now playback.now moves stopped
-        → masters_stand.StandsFor masters.now settings → (channel : ℕ) → IsTrue (is_channel channel)
-        → let playback_is = playback_level show.now moves channel (F.latest playback.now.fader) in
-        level_in levels.new channel ≡ level_after show.now settings channel playback_is }
+// Writes the level of each channel: the higher of its floor and of the playback's level at the
+// latest moment that the playback was given.
+pub fn merge_levels<F: Fader>(levels: &mut [u16], playback: &Playback<F>, floors: &[u16])
+    requires levels { length levels.old ≡ 4096 }
+    requires floors { length floors.now ≡ 4096 }
+    requires full { All (λ floor. floor ≤ 65025) floors.now }
+    ensures merged { (show : Tables) (moves : List Move) (stopped : Bool)
+        → playback_stands.StandsFor F.stands_for show playback.now moves stopped
+        → (channel : ℕ) → IsTrue (is_channel channel)
+        → level_in levels.new channel
+        ≡ max (playback_level show moves channel (F.latest playback.now.fader))
+        (level_in floors.now channel) }
+    ensures full { All (λ level. level ≤ 65025) levels.new }
+{
+    match playback.levels() {
+        Some(playing) => merge_all(levels, playing, floors),
+        None => merge_each(levels, playback, floors),
+    }
+}
+
+// The higher of two levels at each place.
+fn merge_all(levels: &mut [u16], playing: &[u16], floors: &[u16])
+    requires levels { length levels.old ≡ 4096 }
+    requires playing { length playing.now ≡ 4096 }
+    requires floors { length floors.now ≡ 4096 }
+    requires playing_full { All (λ level. level ≤ 65025) playing.now }
+    requires floors_full { All (λ floor. floor ≤ 65025) floors.now }
+    ensures merged { EachIndex levels.new (λ place. slice_index levels.new place
+        ≡ max (slice_index playing.now place) (slice_index floors.now place)) }
+    ensures full { All (λ level. level ≤ 65025) levels.new }
+{
+    for place in 0..levels.len() {
+        levels[place] = playing[place].max(floors[place]);
+    }
+}
+
+// The same where the playback tells the level of one channel at a time.
+fn merge_each<F: Fader>(levels: &mut [u16], playback: &Playback<F>, floors: &[u16])
+    requires levels { length levels.old ≡ 4096 }
+    requires floors { length floors.now ≡ 4096 }
+    requires full { All (λ floor. floor ≤ 65025) floors.now }
+    ensures merged { (show : Tables) (moves : List Move) (stopped : Bool)
+        → playback_stands.StandsFor F.stands_for show playback.now moves stopped
+        → (channel : ℕ) → IsTrue (is_channel channel)
+        → level_in levels.new channel
+        ≡ max (playback_level show moves channel (F.latest playback.now.fader))
+        (level_in floors.now channel) }
     ensures full { All (λ level. level ≤ 65025) levels.new }
 {
     for channel in 1..=CHANNELS {
-        levels[usize::from(channel) - 1] = masters.merged(show, channel, playback.level(channel));
+        let place = usize::from(channel) - 1;
+        levels[place] = floors[place].max(playback.level(channel) as u16);
     }
 }
 
 // Writes the levels of these channels, at the latest moment that the playback was given.
 pub fn merge_some<F: Fader>(
-    levels: &mut [u32],
+    levels: &mut [u16],
     channels: &[u16],
-    show: &Show,
     playback: &Playback<F>,
-    masters: &Masters,
+    floors: &[u16],
 )
     requires each_channel { length levels.old ≡ 4096 }
     requires full { All (λ level. level ≤ 65025) levels.old }
     requires in_range { All (λ channel. IsTrue (is_channel channel)) channels.now }
-    ensures merged { (moves : List Move) (stopped : Bool) (settings : List masters_stand.Setting)
-        → playback_stands.StandsFor F.stands_for show.now playback.now moves stopped
-        → masters_stand.StandsFor masters.now settings
-        → All (λ channel. level_in levels.new channel ≡ level_after show.now settings channel
-        (playback_level show.now moves channel (F.latest playback.now.fader))) channels.now }
+    requires floors { length floors.now ≡ 4096 }
+    requires floors_full { All (λ floor. floor ≤ 65025) floors.now }
+    ensures merged { (show : Tables) (moves : List Move) (stopped : Bool)
+        → playback_stands.StandsFor F.stands_for show playback.now moves stopped
+        → All (λ channel. level_in levels.new channel
+        ≡ max (playback_level show moves channel (F.latest playback.now.fader))
+        (level_in floors.now channel)) channels.now }
     ensures full { All (λ level. level ≤ 65025) levels.new }
 {
     for channel in channels {
-        levels[usize::from(*channel) - 1] = masters.merged(
-            show,
-            *channel,
-            playback.level(*channel),
-        );
-    }
-}
-
-// Writes the frame of each ordinal.
-pub fn draw(frames: &mut [[u8; 512]], rig: &Rig, levels: &[u32], grand: u8)
-    requires each_ordinal { length frames.old ≡ 16 }
-    requires each_channel { length levels.now ≡ 4096 }
-    requires full { All (λ level. level ≤ 65025) levels.now }
-    ensures { (ordinal : ℕ) → ordinal < 16 → slice_get frames.new ordinal
-        ≡ Some (frame_of rig.now.patch (level_in levels.now) grand ordinal) }
-{
-    for ordinal in 0..UNIVERSES {
-        rig.frame(ordinal, levels, grand, &mut frames[usize::from(ordinal)]);
+        let place = usize::from(*channel) - 1;
+        levels[place] = floors[place].max(playback.level(*channel) as u16);
     }
 }
 

@@ -248,6 +248,33 @@ fn submaster_and_grand(rt: HostRuntime) -> Result<(), Fail> {
     )
 }
 
+// A submaster holds its channel through a move and a change of the grand master, until it is set
+// anew.
+#[test]
+fn submaster_stays(rt: HostRuntime) -> Result<(), Fail> {
+    take_steps(
+        &rt,
+        rt.alloc(),
+        &[
+            Step::Order(0, Command::Sub(1, 128), Ok(())),
+            Step::Tick(0, Ok(Ticked::Live)),
+            Step::Slots(64, 0),
+            Step::Order(25, Command::Goto(2000), Ok(())),
+            Step::Tick(2025, Ok(Ticked::Live)),
+            Step::Slots(64, 255),
+            Step::Order(2025, Command::Master(128), Ok(())),
+            Step::Tick(2050, Ok(Ticked::Live)),
+            Step::Slots(32, 128),
+            Step::Order(2050, Command::Sub(1, 0), Ok(())),
+            Step::Tick(2075, Ok(Ticked::Live)),
+            Step::Slots(0, 128),
+            Step::Order(2075, Command::Sub(1, 255), Ok(())),
+            Step::Tick(2100, Ok(Ticked::Live)),
+            Step::Slots(64, 128),
+        ],
+    )
+}
+
 // After the third tick since End a tick is refused as such, also where it would be too soon.
 #[test]
 fn play_refusals(rt: HostRuntime) -> Result<(), Fail> {

@@ -35,7 +35,7 @@ module _ (es : List (ℕ × (ℕ × ℕ))) (q : ℕ) where
       ∙ ap (find nat_cmp q) (take-append-drop n es)
 
   -- one entry more
-  find_more : IsTrue (is_sorted nat_cmp es) → (i : ℕ) (e x : ℕ × (ℕ × ℕ)) → i < length es → e ≡ get_or es i x
+  pub find_more : IsTrue (is_sorted nat_cmp es) → (i : ℕ) (e x : ℕ × (ℕ × ℕ)) → i < length es → e ≡ get_or es i x
       → find nat_cmp q (take (i + 1) es) ≡ cond (eq_by_cmp nat_cmp q e.0) (Some e.1) (find nat_cmp q (take i es))
   find_more sorted i e x lt is =
       let smaller : AllWithin (λ f. f.0 < e.0) es 0 i = λ j d low before.

@@ -2,5 +2,6 @@ pub mod Dimmers
 pub mod Frames
 pub mod Indexed
 pub mod Redrawn
+pub mod Sourced
 pub mod Drawn
 mod Rows

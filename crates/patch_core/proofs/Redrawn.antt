@@ -1,5 +1,5 @@
 -- Slots are those of their dimmers again, once those of some channels are written.
-use Rattle.std.proofs.Common.{◌≡◌, ◌≢◌, ℕ, ◌+◌, ◌-◌, ◌*◌, ◌/◌, ◌%◌, ◌<◌, ◌≤◌, ◌⊎◌, inl, inr, Bool, true, false, nat_eq, IsTrue, List, [], length, get_or, set, Option, Some, None, refl, sym, ap, ◌∙◌, arith}
+use Rattle.std.proofs.Common.{◌≡◌, ◌≢◌, ℕ, ◌+◌, ◌-◌, ◌/◌, ◌%◌, ◌<◌, ◌≤◌, ◌⊎◌, inl, inr, Bool, true, false, nat_eq, IsTrue, List, [], length, get_or, set, Option, Some, None, refl, sym, ap, ◌∙◌, arith}
 use Rattle.std.specs.Prelude.{unwrap_or, if◌then◌else◌, All, IfSome}
 use Rattle.std.specs.Option.{option_map_or}
 use Rattle.std.specs.FinMap as map
@@ -12,7 +12,7 @@ use Rattle.show_core.specs.Readers.{slot_of}
 use Rattle.show_core.specs.Tables.{PatchMap}
 use Rattle.patch_core.specs.Frame.{dimmer_slot}
 use Rattle.show_core.proofs.Ranges.{value_in}
-use Rattle.patch_core.specs.Index.{IsIndex, AreFrames, slot_at, dimmer_at, channel_at, byte_at}
+use Rattle.patch_core.specs.Index.{IsIndex, AreFrames, slot_at, dimmer_at, byte_at}
 use Rattle.patch_core.proofs.Indexed.{entry, complete}
 
 pub dimmer_range : (dimmer : ℕ) → IsTrue (is_dimmer dimmer) → (1 ≤ dimmer) × (dimmer ≤ 8192)

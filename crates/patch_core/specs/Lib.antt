@@ -1,3 +1,4 @@
 pub mod Frame
 pub mod Index
+pub mod Sources
 pub mod Inside

@@ -1,11 +1,13 @@
 //! The patch: the frames of the universes, and the slot-wise greatest of two frames.
 #![tactic(auto)]
 
+mod draw;
 mod fault;
 mod greatest;
 mod index;
 mod rig;
 mod slots;
+mod sources;
 
 pub use fault::RigFault;
 pub use greatest::max_into;

@@ -8,10 +8,12 @@ ghost use Rattle.patch_core.specs.Frame.{is_universe, is_base, level_in, frame_o
 ghost use Rattle.patch_core.specs.Frame.{AreDrawn};
 ghost use Rattle.patch_core.specs.declared.fault.RigFault.TheVariants.{Universe, Memory};
 
+use crate::draw::draw_frames;
 use crate::fault::RigFault;
 use crate::index::{begins_of, sorted_by_channel};
 use crate::slots::redraw_channels;
-use show_core::{SLOTS, Show, slot};
+use crate::sources::{Bytes, kinds_of, write_sources};
+use show_core::{DIMMERS, SLOTS, Show, slot};
 use std::alloc::Global;
 use std::marker::Model;
 
@@ -25,6 +27,9 @@ pub struct Rig {
     dimmers: Vec<(u16, (u16, u8))>,
     by_channel: Vec<(u16, (u16, u8))>,
     begins: Vec<usize>,
+    sources: Vec<u16>,
+    bytes: Vec<u8>,
+    kinds: Vec<Bytes>,
 }
 
 impl Model for Rig {
@@ -65,11 +70,18 @@ impl Rig {
         let dimmers = Vec::from_slice(alloc, show.patch())?;
         let by_channel = sorted_by_channel(alloc, &dimmers)?;
         let begins = begins_of(alloc, &by_channel)?;
+        let mut sources = vec![in alloc; 0; usize::from(DIMMERS)]?;
+        let mut bytes = vec![in alloc; 0; usize::from(DIMMERS)]?;
+        write_sources(&mut sources, &mut bytes, &dimmers);
+        let kinds = kinds_of(alloc, &bytes)?;
         Ok(Rig {
             base,
             dimmers,
             by_channel,
             begins,
+            sources,
+            bytes,
+            kinds,
         })
     }
 
@@ -104,12 +116,31 @@ impl Rig {
         }
     }
 
+    /// Writes the frames of all ordinals, as `frame` writes each.
+    ///
+    /// `levels` has a level for each channel, from 0 to 65025, beginning with channel 1.
+    pub fn draw(&self, frames: &mut [[u8; 512]], levels: &[u16], grand: u8)
+        requires each_ordinal { length frames.old ≡ 16 }
+        requires each_channel { length levels.now ≡ 4096 }
+        requires full { All (λ level. level ≤ 65025) levels.now }
+        ensures { AreDrawn self.now.patch (level_in levels.now) grand frames.new }
+    {
+        draw_frames(
+            frames,
+            levels,
+            &self.sources,
+            &self.bytes,
+            &self.kinds,
+            grand,
+        );
+    }
+
     /// Writes the slots of some channels anew, each 1 to 4096, into the frames of all ordinals. The
     /// frames were those of levels that are equal at each other channel, at the same grand master.
     ///
     /// `levels` has a level for each channel, from 0 to 65025, beginning with channel 1; those of
     /// other channels are not read.
-    pub fn redraw(&self, frames: &mut [[u8; 512]], channels: &[u16], levels: &[u32], grand: u8)
+    pub fn redraw(&self, frames: &mut [[u8; 512]], channels: &[u16], levels: &[u16], grand: u8)
         requires each_ordinal { length frames.old ≡ 16 }
         requires channels { All (λ channel. IsTrue (is_channel channel)) channels.now }
         requires each_channel { length levels.now ≡ 4096 }

@@ -15,7 +15,7 @@ pub fn redraw_channels(
     by_channel: &[(u16, (u16, u8))],
     begins: &[usize],
     channels: &[u16],
-    levels: &[u32],
+    levels: &[u16],
     grand: u8,
 )
     requires frames { AreFrames frames.old }
@@ -44,7 +44,8 @@ pub fn redraw_channels(
         let place = usize::from(*channel);
         let from = begins[place - 1];
         let to = begins[place];
-        redraw_run(frames, by_channel, from, to, levels[place - 1], grand);
+        let level = u32::from(levels[place - 1]);
+        redraw_run(frames, by_channel, from, to, level, grand);
     }
 }
 

@@ -77,6 +77,27 @@ fn slot_of(
     out.get(place).copied()
 }
 
+// The frames of all ordinals, over what was there.
+fn drawn(rt: &impl Abort, rig: &Rig, levels: &[u16], grand: u8) -> [[u8; 512]; 16] {
+    assert!(rt; levels.len() == 4096 && levels.iter().all(|level| *level <= 65025));
+    let mut frames = [[99; 512]; 16];
+    rig.draw(&mut frames, levels, grand);
+    frames
+}
+
+// The slot at a place of the frame of an ordinal, of the frames that are drawn together.
+fn drawn_slot(
+    rt: &impl Abort,
+    rig: &Rig,
+    k: u16,
+    levels: &[u16],
+    grand: u8,
+    place: usize,
+) -> Option<u8> {
+    let frames = drawn(rt, rig, levels, grand);
+    frames.get(usize::from(k))?.get(place).copied()
+}
+
 #[test]
 fn frame_half(rt: HostRuntime) -> Result<(), Fail> {
     let mut show = Show::new(rt.alloc());
@@ -85,6 +106,9 @@ fn frame_half(rt: HostRuntime) -> Result<(), Fail> {
     let mut levels = vec![in rt.alloc(); 0; 4096]?;
     levels[6] = 32640;
     levels[4095] = 65025;
+    let mut fine = vec![in rt.alloc(); 0; 4096]?;
+    fine[6] = 32640;
+    fine[4095] = 65025;
     for (k, grand, place, slot) in [
         (0, 255, 0, 64),
         (0, 255, 1, 0),
@@ -96,24 +120,30 @@ fn frame_half(rt: HostRuntime) -> Result<(), Fail> {
         (1, 255, 1, 32),
         (2, 255, 1, 0),
         (15, 255, 511, 255),
+        (15, 128, 511, 128),
+        (15, 128, 510, 0),
     ] {
         assert!(rt;
             slot_of(&rt, &rig, k, &levels, grand, place) == Some(slot),
             "place {place} of {k} at {grand}"
         );
+        assert!(rt;
+            drawn_slot(&rt, &rig, k, &fine, grand, place) == Some(slot),
+            "drawn place {place} of {k} at {grand}"
+        );
     }
     Ok(())
 }
 
-// Puts some channels to a level, and tells whether the frames that are drawn anew for them alone are
-// those that are drawn as a whole.
+// Puts some channels to a level, and tells whether the frames that are drawn anew for them alone
+// are those that are drawn as a whole.
 fn redraws(
     rt: &impl Abort,
     rig: &Rig,
     frames: &mut [[u8; 512]],
-    levels: &mut [u32],
+    levels: &mut [u16],
     channels: &[u16],
-    level: u32,
+    level: u16,
 ) -> bool {
     for channel in channels {
         assert!(rt; 1 <= *channel && *channel <= 4096 && levels.len() == 4096);
@@ -123,15 +153,8 @@ fn redraws(
     assert!(rt; levels.iter().all(|level| *level <= 65025));
     assert!(rt; channels.iter().all(|channel| (1..=4096).contains(channel)));
     rig.redraw(frames, channels, levels, 200);
-    for k in 0..16u16 {
-        assert!(rt; frames.len() == 16 && levels.len() == 4096);
-        let mut whole = [99; 512];
-        rig.frame(k, levels, 200, &mut whole);
-        if whole != frames[usize::from(k)] {
-            return false;
-        }
-    }
-    true
+    let whole = drawn(rt, rig, levels, 200);
+    whole.as_slice() == &*frames
 }
 
 // Channel 7 has dimmers in two universes, channels 3 and 5 have none, and 4096 has the last one.
@@ -181,7 +204,7 @@ fn universe_limit(rt: HostRuntime) -> Result<(), Fail> {
     Ok(())
 }
 
-// `rt try --test --fail-alloc N` refuses the Nth growth: N from 1 to 4 refuses each growth of this
+// `rt try --test --fail-alloc N` refuses the Nth growth: N from 1 to 7 refuses each growth of this
 // test in turn, and it passes each time. The other tests then answer their error.
 #[test]
 fn each_growth_refused(rt: HostRuntime) {

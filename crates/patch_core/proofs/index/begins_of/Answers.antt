@@ -1,4 +1,4 @@
-use Rattle.std.proofs.Common.{◌≡◌, ◌++◌, ◌∷◌, [], subst, sym, arith}
+use Rattle.std.proofs.Common.{arith}
 use Rattle.patch_core.specs.Index.{IsBegin}
 use Rattle.patch_core.proofs.Indexed.{places_more}
 use Rattle.patch_core.proofs.index.begins_of.Goals as goal

@@ -1,6 +1,4 @@
-use Rattle.std.proofs.Common.{◌≡◌, ℕ, ◌+◌, ◌-◌, ◌<◌, ◌≤◌, IsTrue, get_or, length, ap, ◌∙◌, arith}
-use Rattle.std.proofs.lemmas.Bool.Decides.{nat_tests}
-use Rattle.show_core.specs.Numbers.{is_channel}
+use Rattle.std.proofs.Common.{◌≡◌, ℕ, ◌-◌, ◌≤◌, get_or, ap, ◌∙◌, arith}
 use Rattle.patch_core.specs.Frame.{level_in}
 use Rattle.patch_core.specs.Index.{slot_at}
 use Rattle.patch_core.proofs.Redrawn.{channel_range, same_slot, want, kept, drawn, next}
@@ -28,7 +26,7 @@ loop-channel-preserved c = record {
       let old : ℕ → ℕ = slot_at c.loop-channel.frames in
       c.redraw_run.ensures.slots (want patch c.args.by_channel.now c.args.begins.now index after c.args.grand k one_up few old)
       (λ at at_is unlisted. kept patch c.args.by_channel.now c.args.begins.now index after c.args.grand k one_up few old at unlisted)
-      (λ p low high. drawn patch c.args.by_channel.now c.args.begins.now index after c.args.grand k one_up few old (get_or c.args.levels.now (k - 1) 0) p level_is low high)
+      (λ p low high. drawn patch c.args.by_channel.now c.args.begins.now index after c.args.grand k one_up few old c.from-level.result p (c.from-level.ensures ∙ level_is) low high)
       dimmer is
       ∙ next patch c.args.by_channel.now c.args.begins.now index after c.args.grand k one_up few old c.args.channels.now j dimmer here
       (λ left. c.loop-channel.invariant.slots patch before after index in_range holds agree listed dimmer is left) rest;

@@ -1,4 +1,4 @@
-use Rattle.std.proofs.Common.{◌≡◌, ◌-◌, ◌/◌, ◌%◌, ◌<◌, ◌≤◌, ◌∙◌, sym, ap, length, arith}
+use Rattle.std.proofs.Common.{◌<◌, ◌∙◌, arith}
 use Rattle.patch_core.specs.Index.{dimmer_at}
 use Rattle.patch_core.proofs.Redrawn.{dimmer_range, sizes, written, behind}
 use Rattle.patch_core.proofs.slots.redraw_run.Goals as goal

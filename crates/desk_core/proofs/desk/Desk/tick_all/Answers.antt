@@ -4,14 +4,13 @@ use Rattle.std.specs.Vec.{with_items}
 use Rattle.std.proofs.lemmas.List.{with_items_is}
 use Rattle.show_core.specs.Numbers.{is_channel}
 use Rattle.show_core.specs.Readers.{IsInRange}
-use Rattle.playback_core.specs.Played.{Move, playback_level, with_due}
+use Rattle.playback_core.specs.Played.{Move, with_due}
 use Rattle.playback_core.specs.Stands as playback
-use Rattle.master_core.specs.Merged.{level_after}
 use Rattle.master_core.specs.Settings.{grand_after}
 use Rattle.patch_core.specs.Frame.{level_in, frame_of, AreDrawn}
 use Rattle.desk_core.specs.Played.{ended, moves, settings}
 use Rattle.desk_core.specs.Meaning.{channel_level, frame}
-use Rattle.desk_core.proofs.Drawn.{live_frame, live_frame_is, channel_level-tick}
+use Rattle.desk_core.proofs.Drawn.{merged_level, live_frame, live_frame_is, channel_level-tick}
 use Rattle.desk_core.proofs.desk.Desk.tick_all.Goals as goal
 
 pub returns : goal.returns
@@ -24,20 +23,30 @@ returns g c = rw (← c.self.view_is) (λ show base history stands.
     subst (λ s. playback.StandsFor g.F.Fader.stands_for s c.self.inside.playback (moves show history) false
     → playback.StandsFor g.F.Fader.stands_for s c.advance.new.self (with_due s c.args.moment (moves show history)) false) stands.show_is
     (c.advance.ensures.stands (moves show history) false) before in
-    let own : playback.StandsFor g.F.Fader.stands_for c.self.inside.show c.advance.new.self now false =
-    subst (λ s. playback.StandsFor g.F.Fader.stands_for s c.advance.new.self now false) (sym stands.show_is) moved in
-    let levels : List ℕ = c.deref.result.now in
-    let written : levels ≡ c.merge_levels.new.levels = c.deref.ensures.value ∙ with_items_is c.self.inside.levels c.merge_levels.new.levels (omega (arith, c.merge_levels.auto.levels, c.deref_mut.ensures.len, c.self.inside.levels.ok.0)) in
+    let levels : List ℕ = c.deref-2.result.now in
+    let written : levels ≡ c.merge_levels.new.levels = c.deref-2.ensures.value
+    ∙ with_items_is c.self.inside.levels c.merge_levels.new.levels (omega (
+      arith,
+      c.merge_levels.auto.levels,
+      c.deref_mut.ensures.len,
+      c.self.inside.levels.ok.0,
+    )) in
     let merged : (channel : ℕ) → IsTrue (is_channel channel) → level_in levels channel ≡ channel_level show history c.args.moment channel = λ channel is.
-    subst (λ s. level_in levels channel ≡ level_after s (settings history) channel (playback_level s now channel c.args.moment)) stands.show_is
-    (ap (λ ls. level_in ls channel) written ∙ c.merge_levels.ensures.merged now false (settings history) own stands.masters_stand channel is
-    ∙ ap (λ t. level_after c.self.inside.show (settings history) channel (playback_level c.self.inside.show now channel t)) c.advance.ensures.latest) in
+    merged_level show history now c.deref.result.now channel c.args.moment (g.F.Fader.latest
+    c.advance.new.self.fader) (level_in levels channel)
+    (ap (λ ls. level_in ls channel) written ∙ c.merge_levels.ensures.merged show now false moved
+    channel is) c.advance.ensures.latest
+    (ap (λ fs. level_in fs channel) c.deref.ensures.value
+    ∙ stands.floors_are (subst (λ d. IsTrue d.are_floors) (sym c.self.view_is)
+    c.requires.floors) channel is) in
     let size : length c.draw.new.frames ≡ c.self.inside.frames.len = omega (arith, c.draw.auto.frames, c.deref_mut-2.ensures.len, c.self.inside.frames.ok.0) in
     let patch_is : c.self.inside.rig.patch ≡ show.patch = c.self.invariant.patch_is ∙ ap (λ s. s.patch) stands.show_is in
     let in_range : IsInRange show = subst IsInRange stands.show_is c.self.invariant.in_range in
-    let drawn : (ordinal : ℕ) → frame_of c.self.inside.rig.patch (level_in levels) c.grand.result ordinal ≡ frame show history c.args.moment ordinal = λ ordinal.
-    ap (λ p. frame_of p (level_in levels) c.grand.result ordinal) patch_is
-    ∙ live_frame show in_range history c.args.moment c.grand.result levels none (c.grand.ensures (settings history) stands.masters_stand) merged ordinal in
+    let drawn : (ordinal : ℕ) → frame_of c.self.inside.rig.patch (level_in levels)
+    c.grand-grand.result ordinal ≡ frame show history c.args.moment ordinal = λ ordinal.
+    ap (λ p. frame_of p (level_in levels) c.grand-grand.result ordinal) patch_is
+    ∙ live_frame show in_range history c.args.moment c.grand-grand.result levels none
+    (c.grand-grand.ensures (settings history) stands.masters_stand) merged ordinal in
     let frames_are : (ordinal : ℕ) → ordinal < 16 → slice_get (with_items c.self.inside.frames c.draw.new.frames).items ordinal ≡ Some (frame show history c.args.moment ordinal) = λ ordinal lt.
     ap (λ fs. slice_get fs ordinal) (with_items_is c.self.inside.frames c.draw.new.frames size) ∙ c.draw.ensures ordinal lt ∙ ap Some (drawn ordinal) in
     record {
@@ -49,6 +58,7 @@ returns g c = rw (← c.self.view_is) (λ show base history stands.
       tick_is = refl;
       ended_is = rw (stands.ended_is, none) refl;
       frames_are = frames_are;
+      floors_are = stands.floors_are;
       kept = λ kept. subst (λ level. AreDrawn show.patch level (grand_after (settings history)) (with_items c.self.inside.frames c.draw.new.frames).items) (sym (channel_level-tick show history c.args.moment none))
           (λ ordinal lt. frames_are ordinal lt ∙ ap Some (live_frame_is show history c.args.moment ordinal none));
     })

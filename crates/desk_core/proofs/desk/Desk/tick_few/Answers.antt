@@ -12,7 +12,7 @@ use Rattle.master_core.specs.Settings.{grand_after}
 use Rattle.patch_core.specs.Frame.{level_in, AreDrawn}
 use Rattle.desk_core.specs.Played.{ended, moves, settings}
 use Rattle.desk_core.specs.Meaning.{channel_level}
-use Rattle.desk_core.proofs.Drawn.{drawn_same, live_frame_is, channel_level-tick}
+use Rattle.desk_core.proofs.Drawn.{merged_level, drawn_same, live_frame_is, channel_level-tick}
 use Rattle.desk_core.proofs.desk.Desk.tick_few.Goals as goal
 
 pub returns : goal.returns
@@ -26,18 +26,27 @@ returns g c = rw (← c.self.view_is) (λ show base history stands.
     subst (λ s. playback.StandsFor g.F.Fader.stands_for s inside.playback (moves show history) false
     → playback.StandsFor g.F.Fader.stands_for s c.advance.new.self (with_due s c.args.moment (moves show history)) false) stands.show_is
     (c.advance.ensures.stands (moves show history) false) stood in
-    let own : playback.StandsFor g.F.Fader.stands_for inside.show c.advance.new.self now false =
-    subst (λ s. playback.StandsFor g.F.Fader.stands_for s c.advance.new.self now false) (sym stands.show_is) moved in
     let grand : ℕ = c.grand-grand.result in
     let grand_is : grand ≡ grand_after (settings history) = c.grand-grand.ensures (settings history) stands.masters_stand in
     let before : ℕ → ℕ = channel_level show history inside.last_moment in
     let after : ℕ → ℕ = channel_level show history c.args.moment in
-    let levels : List ℕ = c.deref.result.now in
-    let written : levels ≡ c.merge_some.new.levels = c.deref.ensures.value ∙ with_items_is inside.levels c.merge_some.new.levels (omega (arith, c.merge_some.auto.levels, c.deref_mut.ensures.len, inside.levels.ok.0)) in
+    let levels : List ℕ = c.deref-2.result.now in
+    let written : levels ≡ c.merge_some.new.levels = c.deref-2.ensures.value
+    ∙ with_items_is inside.levels c.merge_some.new.levels (omega (
+      arith,
+      c.merge_some.auto.levels,
+      c.deref_mut.ensures.len,
+      inside.levels.ok.0,
+    )) in
     let listed : All (λ channel. level_in levels channel ≡ after channel) c.args.channels.now = λ k d lt.
-    subst (λ s. (channel : ℕ) → level_in levels channel ≡ level_after inside.show (settings history) channel (playback_level inside.show now channel (g.F.Fader.latest c.advance.new.self.fader)) → level_in levels channel ≡ level_after s (settings history) channel (playback_level s now channel c.args.moment)) stands.show_is
-    (λ channel is. is ∙ ap (λ t. level_after inside.show (settings history) channel (playback_level inside.show now channel t)) c.advance.ensures.latest) (get_or c.args.channels.now k d)
-    (ap (λ ls. level_in ls (get_or c.args.channels.now k d)) written ∙ c.merge_some.ensures.merged now false (settings history) own stands.masters_stand k d lt) in
+    let channel : ℕ = get_or c.args.channels.now k d in
+    merged_level show history now c.deref.result.now channel c.args.moment (g.F.Fader.latest
+    c.advance.new.self.fader) (level_in levels channel)
+    (ap (λ ls. level_in ls channel) written ∙ c.merge_some.ensures.merged show now false moved k d
+    lt) c.advance.ensures.latest
+    (ap (λ fs. level_in fs channel) c.deref.ensures.value
+    ∙ stands.floors_are (subst (λ d. IsTrue d.are_floors) (sym c.self.view_is)
+    c.requires.floors) channel (c.requires.in_range k d lt)) in
     let others = subst (λ d. (s : Tables) (ms : List Move) (stopped : Bool) (channel later : ℕ) → playback.StandsFor g.F.Fader.stands_for s d.playback ms stopped → IsTrue (is_channel channel) → ¬ Contains c.args.channels.now channel
     → g.F.Fader.latest d.playback.fader ≤ later → playback_level s ms channel later ≡ playback_level s ms channel (g.F.Fader.latest d.playback.fader)) (sym c.self.view_is) c.requires.others in
     let still : (channel later : ℕ) → IsTrue (is_channel channel) → ¬ Contains c.args.channels.now channel → inside.last_moment ≤ later
@@ -69,5 +78,6 @@ returns g c = rw (← c.self.view_is) (λ show base history stands.
       tick_is = refl;
       ended_is = rw (stands.ended_is, none) refl;
       frames_are = λ ordinal lt. drawn ordinal lt ∙ ap Some (sym (live_frame_is show history c.args.moment ordinal none));
+      floors_are = stands.floors_are;
       kept = λ kept. subst (λ level. AreDrawn show.patch level (grand_after (settings history)) (with_items inside.frames c.redraw.new.frames).items) (sym (channel_level-tick show history c.args.moment none)) drawn;
     })
