@@ -454,7 +454,7 @@ fn universe_limit(rt: HostRuntime) -> Result<(), Fail> {
     Ok(())
 }
 
-// `rt try --test --fail-alloc N` refuses the Nth growth: N from 1 to 11 refuses each growth of this
+// `rt try --test --fail-alloc N` refuses the Nth growth: N from 1 to 17 refuses each growth of this
 // test in turn, and it passes each time. The other tests then answer their error.
 #[test]
 fn each_growth_refused(rt: HostRuntime) {
