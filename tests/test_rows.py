@@ -39,6 +39,15 @@ class Rows(ProgramTest):
         self.assertChecks(text("IDENT 3:0"), lines=1)
         self.assertFault(b"!" * (LONGEST_SHOW + 1), ": TooLong")
 
+    def test_follow_faults(self):
+        for fault, *lines in (
+            (" line 2: BadTime", "CUE 1", "FOLLOWON x"),
+            (" line 2: MissingNumber", "CUE 1", "FOLLOWON"),
+        ):
+            with self.subTest(lines):
+                self.assertFault(text(*lines), fault)
+        self.assertChecks(text("GROUP 1", "FOLLOWON x"), lines=2, groups=1)
+
     def test_skipped_lines(self):
         lines = (
             "CUE 1",

@@ -127,14 +127,15 @@ class ShowTexts(ProgramTest):
         self.assertCounts(
             (dict(lines=3, cues=1, skipped=2), "CUE 1", "CLEAR x", "CHAN 1@FL"),
             (dict(lines=6, skipped=6), "CHAN x", "UP x", "DOWN x", "LINK x", "PART x", "TEXT x"),
+            (dict(lines=2, skipped=2), "FOLLOWON x", "FOLLOWON"),
         )
 
     def test_lines_without_effect(self):
-        """They are accepted unchecked under a record, and UP and DOWN of a group or submaster too."""
+        """Accepted unchecked under a record; of a group or submaster UP, DOWN and FOLLOWON too."""
         self.assertCounts(
             (dict(lines=4, cues=1), "CUE 1", "LINK", "PART x", "TEXT 1@x"),
-            (dict(lines=3, groups=1), "GROUP 1", "UP x", "DOWN"),
-            (dict(lines=3, subs=1), "SUB 1", "UP", "DOWN x y z"),
+            (dict(lines=4, groups=1), "GROUP 1", "UP x", "DOWN", "FOLLOWON"),
+            (dict(lines=4, subs=1), "SUB 1", "UP", "DOWN x y z", "FOLLOWON x"),
             (dict(lines=6), "CONSOLE", "CONSOLE x", "MANUFACTURER", "SET", "SET x y", "MANUFACTURER x"),
         )
 
@@ -254,11 +255,13 @@ class ShowTexts(ProgramTest):
         for word in good:
             with self.subTest(word):
                 self.assertChecks(text("CUE 1", f"UP {word} {word} extra"), lines=2, cues=1)
+                self.assertChecks(text("CUE 1", f"FOLLOWON {word} extra"), lines=2, cues=1)
         bad = ("6000", "1.", ".", "1.005", "1:60", "1:005", "100:00", ":30", "1:", "1:.5", "1:2:3")
         for word in bad:
             with self.subTest(word):
                 self.assertFault(text("CUE 1", "UP " + word), " line 2: BadTime")
                 self.assertFault(text("CUE 1", "DOWN 1 " + word), " line 2: BadTime")
+                self.assertFault(text("CUE 1", "FOLLOWON " + word), " line 2: BadTime")
 
     def test_ranges(self):
         self.assertCounts(

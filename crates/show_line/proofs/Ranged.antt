@@ -17,14 +17,15 @@ use Rattle.show_line.specs.declared.keyword.Keyword.{Keyword}
 use Rattle.show_line.specs.declared.keyword.Keyword.TheVariants.{Clear, Ident, Cue, Group, Sub}
 use Rattle.show_line.specs.declared.keyword.Keyword.TheVariants.{Patch}
 use Rattle.show_line.specs.declared.keyword.Keyword.TheVariants.{EndData, Setting}
-use Rattle.show_line.specs.declared.keyword.Keyword.TheVariants.{Chan, Up, Down, Remark, Maker}
+use Rattle.show_line.specs.declared.keyword.Keyword.TheVariants.{Chan, Up, Down, FollowOn}
+use Rattle.show_line.specs.declared.keyword.Keyword.TheVariants.{Remark, Maker}
 use Rattle.show_line.specs.declared.keyword.Keyword.TheVariants.{Unknown}
 use Rattle.show_line.specs.declared.statement.Cleared.{Cleared}
 use Rattle.show_line.specs.declared.statement.Record.{Record}
 use Rattle.show_line.specs.declared.statement.Record.TheVariants as record_of
 use Rattle.show_line.specs.declared.statement.Statement.{Statement}
 use Rattle.show_line.specs.declared.statement.Statement.TheVariants.{Opens, Levels, Rises, Falls}
-use Rattle.show_line.specs.declared.statement.Statement.TheVariants.{Patches}
+use Rattle.show_line.specs.declared.statement.Statement.TheVariants.{Follows, Patches}
 use Rattle.show_line.specs.declared.statement.Statement.TheVariants.{Clears, Quiet}
 use Rattle.show_line.specs.declared.statement.Statement.TheVariants.{Skipped, Faulty}
 use Rattle.show_line.specs.Keywords.{named}
@@ -34,6 +35,7 @@ use Rattle.show_line.specs.Said.{unless_faulty, is_page_1, record_said, cue_name
 use Rattle.show_line.specs.Said.{sub_named}
 use Rattle.show_line.specs.Said.{patch_said}
 use Rattle.show_line.specs.Said.{rate_fault, rate_in, rate_said, ident_said, cleared_names}
+use Rattle.show_line.specs.Said.{follow_fault, follow_in, follow_said}
 use Rattle.show_line.specs.Said.{clear_said}
 use Rattle.show_line.specs.Said.{levels_said}
 use Rattle.show_line.specs.Said.{owned_said, cue_said, said}
@@ -160,6 +162,18 @@ IsSound-falls words (record_of.Cue n) =
 IsSound-falls words (record_of.Group n) = tt
 IsSound-falls words (record_of.Sub n) = tt
 
+follow_in_range : (words : List (List ℕ)) → follow_fault words ≡ None
+    → IsTrue (is_time (follow_in words))
+follow_in_range [] h = refl
+follow_in_range (time ∷ words) h = time_in_range time h
+
+IsSound-follows : (words : List (List ℕ)) (r : Record)
+    → IsSound (cue_said (λ n. follow_said n words) r)
+IsSound-follows words (record_of.Cue n) =
+    IsSound-unless_faulty (follow_fault words) (Follows n (follow_in words)) (follow_in_range words)
+IsSound-follows words (record_of.Group n) = tt
+IsSound-follows words (record_of.Sub n) = tt
+
 IsSound-owned_said : (owner : Option Record) (says : Record → Statement)
     → ((r : Record) → IsSound (says r))
     → IsSound (owned_said owner says)
@@ -187,6 +201,8 @@ said_in_range owner Up words =
     IsSound-owned_said owner (cue_said (λ n. rate_said (Rises n) words)) (IsSound-rises words)
 said_in_range owner Down words =
     IsSound-owned_said owner (cue_said (λ n. rate_said (Falls n) words)) (IsSound-falls words)
+said_in_range owner FollowOn words =
+    IsSound-owned_said owner (cue_said (λ n. follow_said n words)) (IsSound-follows words)
 said_in_range owner Remark words = IsSound-owned_said owner (λ r. Quiet) (λ r. tt)
 said_in_range owner Maker words = tt
 said_in_range owner Unknown words = tt

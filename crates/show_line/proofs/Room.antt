@@ -12,14 +12,14 @@ use Rattle.show_line.specs.declared.keyword.Keyword.{Keyword}
 use Rattle.show_line.specs.declared.keyword.Keyword.TheVariants.{Clear, Ident, Cue, Group, Sub}
 use Rattle.show_line.specs.declared.keyword.Keyword.TheVariants.{Patch}
 use Rattle.show_line.specs.declared.keyword.Keyword.TheVariants.{EndData, Setting, Chan, Up, Down}
-use Rattle.show_line.specs.declared.keyword.Keyword.TheVariants.{Remark}
+use Rattle.show_line.specs.declared.keyword.Keyword.TheVariants.{FollowOn, Remark}
 use Rattle.show_line.specs.declared.keyword.Keyword.TheVariants.{Maker, Unknown}
 use Rattle.show_line.specs.declared.statement.Cleared.{Cleared}
 use Rattle.show_line.specs.declared.statement.Record.{Record}
 use Rattle.show_line.specs.declared.statement.Record.TheVariants as record_of
 use Rattle.show_line.specs.declared.statement.Statement.{Statement}
 use Rattle.show_line.specs.declared.statement.Statement.TheVariants.{Opens, Levels, Rises, Falls}
-use Rattle.show_line.specs.declared.statement.Statement.TheVariants.{Patches}
+use Rattle.show_line.specs.declared.statement.Statement.TheVariants.{Follows, Patches}
 use Rattle.show_line.specs.declared.statement.Statement.TheVariants.{Clears, Quiet, Skipped, Faulty}
 use Rattle.show_line.specs.declared.triples.Triple.{Triple}
 use Rattle.show_line.specs.Keywords.{named}
@@ -28,7 +28,7 @@ use Rattle.show_line.specs.Pairs.{Limits, pair_fault, pairs_in, triple_fault, tr
 use Rattle.show_line.specs.Said.{unless_faulty, is_page_1, record_said, cue_named, group_named}
 use Rattle.show_line.specs.Said.{sub_named}
 use Rattle.show_line.specs.Said.{patch_said, rate_fault, rate_in, rate_said, ident_said}
-use Rattle.show_line.specs.Said.{cleared_names}
+use Rattle.show_line.specs.Said.{follow_fault, follow_in, follow_said, cleared_names}
 use Rattle.show_line.specs.Said.{clear_said, levels_said, owned_said, cue_said, said}
 use Rattle.show_line.proofs.Ranges.{faultless_pair, faultless_triple}
 
@@ -86,6 +86,13 @@ within-rates lim says h words (record_of.Cue n) =
     within-unless_faulty lim (rate_fault words) (says n (rate_in words)) (λ _. h n (rate_in words))
 within-rates lim says h words (record_of.Group n) = tt
 within-rates lim says h words (record_of.Sub n) = tt
+
+within-follows : (lim : Limits) (words : List (List ℕ)) (r : Record)
+    → IsWithin lim (cue_said (λ n. follow_said n words) r)
+within-follows lim words (record_of.Cue n) =
+    within-unless_faulty lim (follow_fault words) (Follows n (follow_in words)) (λ _. tt)
+within-follows lim words (record_of.Group n) = tt
+within-follows lim words (record_of.Sub n) = tt
 
 within-owned_said : (lim : Limits) (owner : Option Record) (says : Record → Statement)
     → ((r : Record) → IsWithin lim (says r)) → IsWithin lim (owned_said owner says)
@@ -151,6 +158,8 @@ said_within lim owner Up words =
 said_within lim owner Down words =
     within-owned_said lim owner (cue_said (λ n. rate_said (Falls n) words))
     (within-rates lim Falls (λ n rate. tt) words)
+said_within lim owner FollowOn words =
+    within-owned_said lim owner (cue_said (λ n. follow_said n words)) (within-follows lim words)
 said_within lim owner Remark words = within-owned_said lim owner (λ r. Quiet) (λ r. tt)
 said_within lim owner Maker words = tt
 said_within lim owner Unknown words = tt

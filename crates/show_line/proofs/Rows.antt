@@ -9,16 +9,22 @@ use Rattle.show_line.specs.declared.statement.Cleared.TheVariants.{All, Only}
 use Rattle.show_line.specs.declared.statement.Record.TheVariants.{Cue, Group, Sub}
 use Rattle.show_line.specs.declared.statement.Statement.{Statement}
 use Rattle.show_line.specs.declared.statement.Statement.TheVariants.{Opens, Levels, Rises, Falls}
-use Rattle.show_line.specs.declared.statement.Statement.TheVariants.{Patches}
+use Rattle.show_line.specs.declared.statement.Statement.TheVariants.{Follows, Patches}
 use Rattle.show_line.specs.declared.statement.Statement.TheVariants.{Clears, Quiet, Skipped, Faulty}
 use Rattle.show_line.specs.declared.statement.Table.TheVariants.{Cues, Patch}
 use Rattle.show_line.specs.Said.{desk, reading_of}
 
--- what a line says below cue 1, and below no record
+-- what a line says below cue 1
 abbrev in_cue : List ℕ → Option Statement
 in_cue line =
     option_map (λ reading. reading.statement) (reading_of desk (Some (Cue 1000)) (words_of line))
 
+-- and below group 1
+abbrev in_group : List ℕ → Option Statement
+in_group line =
+    option_map (λ reading. reading.statement) (reading_of desk (Some (Group 1)) (words_of line))
+
+-- and below no record
 abbrev alone : List ℕ → Option Statement
 alone line = option_map (λ reading. reading.statement) (reading_of desk None (words_of line))
 
@@ -102,6 +108,20 @@ within_records :
     × (in_cue (codes "UP 5 3") ≡ Some (Rises 1000 (record { time = 5000; delay = 3000 })))
     × (in_cue (codes "Down .5") ≡ Some (Falls 1000 (record { time = 500; delay = 0 })))
 within_records = (refl, refl, refl, refl)
+
+-- a time in a cue; in a group it is not looked at
+follow_faults : (in_cue (codes "FOLLOWON x") ≡ Some (Faulty BadTime))
+    × (in_cue (codes "FOLLOWON") ≡ Some (Faulty MissingNumber))
+    × (in_group (codes "FOLLOWON x") ≡ Some Quiet)
+    × (in_group (codes "FOLLOWON") ≡ Some Quiet)
+    × (alone (codes "FOLLOWON 10") ≡ Some Skipped)
+follow_faults = (refl, refl, refl, refl, refl)
+
+follow_times : (in_cue (codes "FOLLOWON 10") ≡ Some (Follows 1000 10000))
+    × (in_cue (codes "FollowOn 0 x") ≡ Some (Follows 1000 0))
+    × (in_cue (codes "FOLLOWON 99:59.99") ≡ Some (Follows 1000 5999990))
+    × (in_cue (codes "FOLLOWON 1:60") ≡ Some (Faulty BadTime))
+follow_times = (refl, refl, refl, refl)
 
 patches : (alone (codes "PATCH 1") ≡ Some (Patches []))
     × (alone (codes "PATCH 1 0<1@50")

@@ -10,8 +10,8 @@ use Rattle.show_line.specs.declared.fault.LineFault.{LineFault}
 use Rattle.show_line.specs.declared.fault.LineFault.TheVariants.{HalfPair, HalfTriple}
 use Rattle.show_line.specs.declared.keyword.Keyword.{Keyword}
 use Rattle.show_line.specs.declared.keyword.Keyword.TheVariants.{Clear, Ident, Cue, Group, Sub, Patch}
-use Rattle.show_line.specs.declared.keyword.Keyword.TheVariants.{EndData, Setting, Chan, Up, Down, Remark}
-use Rattle.show_line.specs.declared.keyword.Keyword.TheVariants.{Maker, Unknown}
+use Rattle.show_line.specs.declared.keyword.Keyword.TheVariants.{EndData, Setting, Chan, Up, Down}
+use Rattle.show_line.specs.declared.keyword.Keyword.TheVariants.{FollowOn, Remark, Maker, Unknown}
 use Rattle.show_line.specs.declared.statement.Record.{Record}
 use Rattle.show_line.specs.declared.statement.Statement.{Statement}
 use Rattle.show_line.specs.declared.statement.Statement.TheVariants.{Levels, Patches, Skipped}
@@ -107,6 +107,7 @@ module _
   said_wider owner Chan words fine = chan_wider owner words fine
   said_wider owner Up words fine = refl
   said_wider owner Down words fine = refl
+  said_wider owner FollowOn words fine = refl
   said_wider owner Remark words fine = refl
   said_wider owner Maker words fine = refl
   said_wider owner Unknown words fine = refl

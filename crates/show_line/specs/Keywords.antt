@@ -9,7 +9,7 @@ use Rattle.show_line.specs.declared.keyword.Keyword.{Keyword}
 use Rattle.show_line.specs.declared.keyword.Keyword.TheVariants.{Clear, Ident, Cue, Group, Sub}
 use Rattle.show_line.specs.declared.keyword.Keyword.TheVariants.{Patch}
 use Rattle.show_line.specs.declared.keyword.Keyword.TheVariants.{EndData, Setting, Chan, Up, Down}
-use Rattle.show_line.specs.declared.keyword.Keyword.TheVariants.{Remark}
+use Rattle.show_line.specs.declared.keyword.Keyword.TheVariants.{FollowOn, Remark}
 use Rattle.show_line.specs.declared.keyword.Keyword.TheVariants.{Maker, Unknown}
 
 -- the primary keywords, each with what it makes of its line
@@ -23,7 +23,7 @@ primary_keywords =
 -- the secondary keywords
 abbrev pub secondary_keywords : List (List ℕ × Keyword)
 secondary_keywords =
-    (codes "chan", Chan) ∷ (codes "down", Down) ∷ (codes "followon", Remark)
+    (codes "chan", Chan) ∷ (codes "down", Down) ∷ (codes "followon", FollowOn)
     ∷ (codes "link", Remark) ∷ (codes "part", Remark) ∷ (codes "text", Remark) ∷ (codes "up", Up) ∷ []
 
 -- the value of the first entry that is this word
@@ -44,6 +44,7 @@ abbrev pub may_own : Keyword → Bool
 may_own Chan = false
 may_own Up = false
 may_own Down = false
+may_own FollowOn = false
 may_own Remark = false
 may_own Unknown = false
 may_own _ = true

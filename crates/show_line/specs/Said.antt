@@ -12,7 +12,7 @@ use Rattle.show_line.specs.declared.keyword.Keyword.{Keyword}
 use Rattle.show_line.specs.declared.keyword.Keyword.TheVariants.{Clear, Ident, Cue, Group, Sub}
 use Rattle.show_line.specs.declared.keyword.Keyword.TheVariants.{Patch}
 use Rattle.show_line.specs.declared.keyword.Keyword.TheVariants.{EndData, Setting, Chan, Up, Down}
-use Rattle.show_line.specs.declared.keyword.Keyword.TheVariants.{Remark}
+use Rattle.show_line.specs.declared.keyword.Keyword.TheVariants.{FollowOn, Remark}
 use Rattle.show_line.specs.declared.keyword.Keyword.TheVariants.{Maker, Unknown}
 use Rattle.show_line.specs.declared.statement.Record.{Record}
 use Rattle.show_line.specs.declared.statement.Record.TheVariants as record_of
@@ -22,7 +22,7 @@ use Rattle.show_line.specs.declared.statement.Cleared.TheVariants.{All, Only}
 use Rattle.show_line.specs.declared.line.Reading.{Reading}
 use Rattle.show_line.specs.declared.statement.Statement.{Statement}
 use Rattle.show_line.specs.declared.statement.Statement.TheVariants.{Opens, Levels, Rises, Falls}
-use Rattle.show_line.specs.declared.statement.Statement.TheVariants.{Patches}
+use Rattle.show_line.specs.declared.statement.Statement.TheVariants.{Follows, Patches}
 use Rattle.show_line.specs.declared.statement.Statement.TheVariants.{Clears, Quiet, Skipped, Faulty}
 use Rattle.show_line.specs.Keywords.{named, keyword_of}
 use Rattle.show_line.specs.Faults.{lower, number_fault, cue_fault, page_fault, time_fault}
@@ -87,6 +87,20 @@ rate_in [] = record { time = 0; delay = 0 }
 abbrev pub rate_said : (Rate → Statement) → List (List ℕ) → Statement
 rate_said says words = unless_faulty (rate_fault words) (says (rate_in words))
 
+-- the fault of the words of FOLLOWON: a time must be there; words behind it are ignored
+abbrev pub follow_fault : List (List ℕ) → Option LineFault
+follow_fault [] = Some MissingNumber
+follow_fault (time ∷ words) = time_fault time
+
+-- the time that they spell
+abbrev pub follow_in : List (List ℕ) → ℕ
+follow_in [] = 0
+follow_in (time ∷ words) = unwrap_or (time_of time) 0
+
+-- FOLLOWON of a cue
+abbrev pub follow_said : ℕ → List (List ℕ) → Statement
+follow_said n words = unless_faulty (follow_fault words) (Follows n (follow_in words))
+
 -- IDENT: the version must be 3:0; words behind it are ignored
 abbrev pub ident_said : List (List ℕ) → Statement
 ident_said [] = Faulty BadIdent
@@ -113,7 +127,7 @@ owned_said owner says = option_map_or says owner Skipped
 abbrev pub levels_said : Limits → List (List ℕ) → Record → Statement
 levels_said lim words which = unless_faulty (pair_fault lim words) (Levels which (pairs_in words))
 
--- UP and DOWN count for a cue, and have no effect in a group or a submaster
+-- UP, DOWN and FOLLOWON count for a cue, and have no effect in a group or a submaster
 abbrev pub cue_said : (ℕ → Statement) → Record → Statement
 cue_said says (record_of.Cue n) = says n
 cue_said says (record_of.Group n) = Quiet
@@ -132,6 +146,7 @@ said lim owner Setting words = Quiet
 said lim owner Chan words = owned_said owner (levels_said lim words)
 said lim owner Up words = owned_said owner (cue_said (λ n. rate_said (Rises n) words))
 said lim owner Down words = owned_said owner (cue_said (λ n. rate_said (Falls n) words))
+said lim owner FollowOn words = owned_said owner (cue_said (λ n. follow_said n words))
 said lim owner Remark words = owned_said owner (λ r. Quiet)
 said lim owner Maker words = Skipped
 said lim owner Unknown words = Skipped

@@ -7,7 +7,7 @@ use Rattle.show_line.specs.declared.statement.Record.{Record}
 use Rattle.show_line.specs.declared.statement.Record.TheVariants as record_of
 use Rattle.show_line.specs.declared.statement.Statement.{Statement}
 use Rattle.show_line.specs.declared.statement.Statement.TheVariants.{Opens, Levels, Rises, Falls}
-use Rattle.show_line.specs.declared.statement.Statement.TheVariants.{Patches}
+use Rattle.show_line.specs.declared.statement.Statement.TheVariants.{Follows, Patches}
 use Rattle.show_line.specs.declared.statement.Statement.TheVariants.{Faulty}
 use Rattle.show_line.specs.declared.triples.Triple.{Triple}
 
@@ -35,6 +35,7 @@ IsSound (Opens which) = IsRecordInRange which
 IsSound (Levels which pairs) = All IsPairInRange pairs
 IsSound (Rises n rate) = IsRateInRange rate
 IsSound (Falls n rate) = IsRateInRange rate
+IsSound (Follows n time) = IsTrue (is_time time)
 IsSound (Patches triples) = All IsTripleInRange triples
 IsSound _ = Unit {0}
 

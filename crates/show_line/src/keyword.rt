@@ -20,7 +20,8 @@ pub enum Keyword {
     Chan,
     Up,
     Down,
-    /// FOLLOWON, LINK, PART or TEXT: it belongs to a record and has no effect.
+    FollowOn,
+    /// LINK, PART or TEXT: it belongs to a record and has no effect.
     Remark,
     /// A word with exactly one `$` in front, which opens a maker's record.
     Maker,
@@ -35,7 +36,12 @@ impl Keyword {
     {
         !matches!(
             self,
-            Keyword::Chan | Keyword::Up | Keyword::Down | Keyword::Remark | Keyword::Unknown
+            Keyword::Chan
+                | Keyword::Up
+                | Keyword::Down
+                | Keyword::FollowOn
+                | Keyword::Remark
+                | Keyword::Unknown
         )
     }
 
@@ -84,7 +90,7 @@ fn secondary(word: &[u8]) -> Option<Keyword>
     } else if same_word(word, b"down") {
         Keyword::Down
     } else if same_word(word, b"followon") {
-        Keyword::Remark
+        Keyword::FollowOn
     } else if same_word(word, b"link") {
         Keyword::Remark
     } else if same_word(word, b"part") {

@@ -8,6 +8,7 @@ ghost use Rattle.show_line.specs.Pairs.{desk};
 ghost use Rattle.show_line.specs.Said.{cleared_names, clear_said, ident_said, record_said, on_page};
 ghost use Rattle.show_line.specs.Said.{cue_named, group_named, sub_named, patch_said, owned_said};
 ghost use Rattle.show_line.specs.Said.{levels_said, cue_said, rate_said, rate_fault, rate_in};
+ghost use Rattle.show_line.specs.Said.{follow_said, follow_fault, follow_in};
 ghost use Rattle.show_line.specs.Said.{said, reading_of};
 ghost use Rattle.show_line.specs.Sound.{IsSound};
 
@@ -56,6 +57,7 @@ fn statement<'a>(owner: Option<Record>, keyword: Keyword, operands: &'a [u8]) ->
         Keyword::Chan => chan_statement(owner, operands),
         Keyword::Up => up_statement(owner, operands),
         Keyword::Down => down_statement(owner, operands),
+        Keyword::FollowOn => follow_statement(owner, operands),
         Keyword::Remark if owner.is_some() => Statement::Quiet,
         Keyword::Remark | Keyword::Maker | Keyword::Unknown => Statement::Skipped,
     }
@@ -226,5 +228,31 @@ fn rate(operands: &[u8]) -> Result<Rate, LineFault>
     match (time(first), delay) {
         (Some(time), Some(delay)) => Ok(Rate { time, delay }),
         _ => Err(LineFault::BadTime),
+    }
+}
+
+fn follow_statement<'a>(owner: Option<Record>, operands: &'a [u8]) -> Statement<'a>
+    ensures { result ≡ owned_said owner (cue_said (λ n. follow_said n (words_of operands.now))) }
+{
+    match owner {
+        Some(Record::Cue(n)) => match follow_time(operands) {
+            Ok(time) => Statement::Follows(n, time),
+            Err(fault) => Statement::Faulty(fault),
+        },
+        Some(Record::Group(_) | Record::Sub(_)) => Statement::Quiet,
+        None => Statement::Skipped,
+    }
+}
+
+// The time that the words of FOLLOWON spell.
+fn follow_time(operands: &[u8]) -> Result<u32, LineFault>
+    ensures { MatchResult result
+        (λ time. (follow_fault (words_of operands.now) ≡ None)
+        × (time ≡ follow_in (words_of operands.now)))
+        (λ fault. follow_fault (words_of operands.now) ≡ Some fault) }
+{
+    match Words::new(operands).next() {
+        Some(word) => time(word).ok_or(LineFault::BadTime),
+        None => Err(LineFault::MissingNumber),
     }
 }

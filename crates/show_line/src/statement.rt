@@ -38,6 +38,8 @@ pub enum Statement<'a> {
     Rises(u32, Rate),
     /// The time and delay of a cue's falling levels.
     Falls(u32, Rate),
+    /// The follow-on time of a cue in milliseconds: so long after the move to it the next one goes.
+    Follows(u32, u32),
     /// It patches dimmers: the triples of a PATCH line.
     Patches(Triples<'a>),
     /// It empties tables.

@@ -141,6 +141,7 @@ fn lines_without_effect(rt: HostRuntime) -> Result<(), Fail> {
         (None, b"CHAN 1@x", true),
         (None, b"TEXT Opening", true),
         (None, b"UP x", true),
+        (None, b"FOLLOWON x", true),
         (CUE, b"TEXT Opening", false),
         (Some(Record::Sub(1)), b"UP x", false),
         (None, b"CLEAR ALL", false),
@@ -229,6 +230,39 @@ fn rates(rt: HostRuntime) -> Result<(), Fail> {
             }
             _ => return Err(Fail::from("a rate")),
         }
+    }
+    Ok(())
+}
+
+#[test]
+fn follow_faults(rt: HostRuntime) -> Result<(), Fail> {
+    for (line, fault) in [
+        (b"FOLLOWON x".as_slice(), Some(LineFault::BadTime)),
+        (b"FOLLOWON", Some(LineFault::MissingNumber)),
+        (b"FOLLOWON 6000", Some(LineFault::BadTime)),
+        (b"FOLLOWON 5 x", None),
+    ] {
+        assert_eq!(rt; fault_of(line), fault, "{line:?}");
+    }
+    for owner in [Record::Group(1), Record::Sub(1)] {
+        let reading = read_line(Some(owner), b"FOLLOWON x").ok_or("words")?;
+        assert!(rt; matches!(reading.statement, Statement::Quiet));
+        assert!(rt; !reading.keyword.may_own());
+    }
+    Ok(())
+}
+
+#[test]
+fn follow_on_times(rt: HostRuntime) -> Result<(), Fail> {
+    for (line, time) in [
+        (b"FOLLOWON 10".as_slice(), 10_000),
+        (b"FollowOn 0 x", 0),
+        (b"FOLLOWON 99:59.99", 5_999_990),
+    ] {
+        let Statement::Follows(cue, got) = read_line(CUE, line).ok_or("words")?.statement else {
+            return Err(Fail::from("a follow-on time"));
+        };
+        assert_eq!(rt; (cue, got), (1000, time), "{line:?}");
     }
     Ok(())
 }

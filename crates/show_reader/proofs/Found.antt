@@ -21,7 +21,7 @@ use Rattle.show_line.specs.declared.statement.Cleared.{Cleared}
 use Rattle.show_line.specs.declared.statement.Cleared.TheVariants.{All, Only}
 use Rattle.show_line.specs.declared.statement.Statement.{Statement}
 use Rattle.show_line.specs.declared.statement.Statement.TheVariants.{Opens, Levels, Rises, Falls}
-use Rattle.show_line.specs.declared.statement.Statement.TheVariants.{Patches, Clears}
+use Rattle.show_line.specs.declared.statement.Statement.TheVariants.{Follows, Patches, Clears}
 use Rattle.show_line.specs.declared.triples.Triple.{Triple}
 use Rattle.show_reader.specs.Keys.{Key, There, Level, Up, Down, Follow, Dimmer, has_record, found}
 use Rattle.show_reader.specs.Meaning.{News, Is, Gone, Silent, after, newer, pair_says, triple_says}
@@ -215,7 +215,7 @@ pairs_found show r (p ∷ ps) there k =
     ∙ ap (after (says (Levels r ps) k)) (pair_found show r p there k)
     ∙ after_newer (says (Levels r ps) k) (pair_says r p k) (found show k)
 
--- ---- UP and DOWN
+-- ---- UP, DOWN and FOLLOWON
 
 rises_found : (show : Tables) (n : ℕ) (rate : Rate) → IsTrue (has_record show (Cue n)) → (k : Key)
     → found (applied (Rises n rate) show) k ≡ after (says (Rises n rate) k) (found show k)
@@ -242,6 +242,19 @@ falls_found show n rate there (Down m) =
     ∙ after_if (m == n) (Is rate) _
 falls_found show n rate there (Follow m) = changed_keeps show.cues n _ m follow_at (λ cue. refl)
 falls_found show n rate there k = refl
+
+follows_found : (show : Tables) (n time : ℕ) → IsTrue (has_record show (Cue n)) → (k : Key)
+    → found (applied (Follows n time) show) k ≡ after (says (Follows n time) k) (found show k)
+follows_found show n time there (There (Cue m)) =
+    changed_keeps show.cues n _ m there_at (λ cue. refl)
+follows_found show n time there (Level (Cue m) c) =
+    changed_keeps show.cues n _ m (level_at c) (λ cue. refl)
+follows_found show n time there (Up m) = changed_keeps show.cues n _ m up_at (λ cue. refl)
+follows_found show n time there (Down m) = changed_keeps show.cues n _ m down_at (λ cue. refl)
+follows_found show n time there (Follow m) =
+    changed_at show.cues n _ m follow_at (λ o. Some time) there (λ cue. refl)
+    ∙ after_if (m == n) (Is time) _
+follows_found show n time there k = refl
 
 -- ---- PATCH
 
@@ -321,6 +334,7 @@ applied_found (Opens r) show owned k = opens_found show r k
 applied_found (Levels r ps) show owned k = pairs_found show r ps owned k
 applied_found (Rises n rate) show owned k = rises_found show n rate owned k
 applied_found (Falls n rate) show owned k = falls_found show n rate owned k
+applied_found (Follows n time) show owned k = follows_found show n time owned k
 applied_found (Patches ts) show owned k = triples_found show ts k
 applied_found (Clears what) show owned k = clears_found what show k
 applied_found s show owned k = refl
@@ -355,6 +369,7 @@ count_step ss (Opens (Cue n)) show h e =
 count_step ss (Levels r ps) show h e = e ∙ sym (len-with_pairs show r ps)
 count_step ss (Rises n rate) show h e = e ∙ sym (len-changed show.cues n _)
 count_step ss (Falls n rate) show h e = e ∙ sym (len-changed show.cues n _)
+count_step ss (Follows n time) show h e = e ∙ sym (len-changed show.cues n _)
 count_step ss (Clears All) show h e = sym (maps.len-empty nat_cmp CueData)
 count_step ss (Clears (Only Cues)) show h e = sym (maps.len-empty nat_cmp CueData)
 count_step ss s show h e = e

@@ -12,7 +12,8 @@ use Rattle.show_line.specs.declared.fault.LineFault.{LineFault}
 use Rattle.show_line.specs.declared.statement.Record.{Record}
 use Rattle.show_line.specs.declared.statement.Statement.{Statement}
 use Rattle.show_line.specs.declared.statement.Statement.TheVariants.{Opens, Levels, Rises, Falls}
-use Rattle.show_line.specs.declared.statement.Statement.TheVariants.{Patches, Clears, Faulty}
+use Rattle.show_line.specs.declared.statement.Statement.TheVariants.{Follows, Patches}
+use Rattle.show_line.specs.declared.statement.Statement.TheVariants.{Clears, Faulty}
 use Rattle.show_line.specs.declared.triples.Triple.{Triple}
 use Rattle.show_line.specs.Keywords.{keyword_of}
 use Rattle.show_line.specs.Pairs.{Limits}
@@ -23,7 +24,7 @@ use Rattle.show_line.proofs.Room.{IsPairWithin, IsTripleWithin, IsWithin, said_w
 use Rattle.show_reader.specs.declared.fault.ShowFault.TheVariants as show_fault
 use Rattle.show_reader.specs.Text.{Words, owns, said_under, owner_below, statement_below}
 use Rattle.show_reader.specs.Text.{statements, statements_of, lines_in}
-use Rattle.show_reader.specs.Keys.{Key, There, Level, Up, Down, Dimmer, Answer, table_at}
+use Rattle.show_reader.specs.Keys.{Key, There, Level, Up, Down, Follow, Dimmer, Answer, table_at}
 use Rattle.show_reader.specs.Meaning.{News, Is, Gone, Silent, after, newer, last_news, pair_says}
 use Rattle.show_reader.specs.Meaning.{triple_says, says, meaning, same_record, empties}
 use Rattle.show_reader.specs.Reading.{fault_at, fault_below, first_fault, fault_of, ReadsAlike}
@@ -140,6 +141,7 @@ module _ (lim : Limits) where
       list_within lim k (IsPairWithin lim) (λ p. pair_says r p k) (λ p w. pair_within r p w k) ps h
   says_within (Rises n rate) h (Up m) = if_within lim (Up m) (m == n) (Is rate) (λ e. tt)
   says_within (Falls n rate) h (Down m) = if_within lim (Down m) (m == n) (Is rate) (λ e. tt)
+  says_within (Follows n time) h (Follow m) = if_within lim (Follow m) (m == n) (Is time) (λ e. tt)
   says_within (Patches ts) h k =
       list_within lim k (IsTripleWithin lim) (λ t. triple_says t k) (λ t w. triple_within t w k)
       ts h

@@ -22,13 +22,15 @@ use Rattle.show_line.specs.declared.statement.Record.TheVariants.{Cue, Group, Su
 use Rattle.show_line.specs.declared.statement.Cleared.{Cleared}
 use Rattle.show_line.specs.declared.statement.Statement.{Statement}
 use Rattle.show_line.specs.declared.statement.Statement.TheVariants.{Opens, Levels, Rises, Falls}
-use Rattle.show_line.specs.declared.statement.Statement.TheVariants.{Patches, Clears, Quiet}
+use Rattle.show_line.specs.declared.statement.Statement.TheVariants.{Follows, Patches}
+use Rattle.show_line.specs.declared.statement.Statement.TheVariants.{Clears, Quiet}
 use Rattle.show_line.specs.declared.statement.Statement.TheVariants.{Skipped, Faulty}
 use Rattle.show_line.specs.Keywords.{keyword_of, may_own, named}
 use Rattle.show_line.specs.Faults.{lower, cue_fault, number_fault, page_fault}
 use Rattle.show_line.specs.Pairs.{pair_fault, pairs_in, triple_fault, triples_in}
 use Rattle.show_line.specs.Said.{desk, said, opened, unless_faulty, record_said, patch_said}
-use Rattle.show_line.specs.Said.{rate_fault, rate_in, ident_said, clear_said, is_page_1, cue_named}
+use Rattle.show_line.specs.Said.{rate_fault, rate_in, follow_fault, follow_in, ident_said}
+use Rattle.show_line.specs.Said.{clear_said, is_page_1, cue_named}
 use Rattle.show_line.specs.Said.{group_named, sub_named, cleared_names, reading_of}
 use Rattle.show_line.specs.Sound.{IsSound}
 use Rattle.show_reader.specs.declared.read.Reader.{Reader}
@@ -49,6 +51,7 @@ abbrev Belongs : Option Record → Bool → Statement → Type 0
 Belongs owner own (Levels r pairs) = owner ≡ Some r
 Belongs owner own (Rises n rate) = owner ≡ Some (Cue n)
 Belongs owner own (Falls n rate) = owner ≡ Some (Cue n)
+Belongs owner own (Follows n time) = owner ≡ Some (Cue n)
 Belongs owner own (Clears what) = own ≡ true
 Belongs owner own _ = Unit {0}
 
@@ -109,6 +112,8 @@ said_belongs (Some (Cue n)) word.Up words =
     unless_belongs (Some (Cue n)) false (rate_fault words) (Rises n (rate_in words)) refl
 said_belongs (Some (Cue n)) word.Down words =
     unless_belongs (Some (Cue n)) false (rate_fault words) (Falls n (rate_in words)) refl
+said_belongs (Some (Cue n)) word.FollowOn words =
+    unless_belongs (Some (Cue n)) false (follow_fault words) (Follows n (follow_in words)) refl
 said_belongs None word.Remark words = tt
 said_belongs owner keyword words = tt
 
@@ -129,6 +134,7 @@ owned : (owner : Option Record) (own : Bool) (s : Statement) (show : Tables) →
 owned owner own (Levels r ps) show of h = subst (IsHere show) of h
 owned owner own (Rises n rate) show of h = subst (IsHere show) of h
 owned owner own (Falls n rate) show of h = subst (IsHere show) of h
+owned owner own (Follows n time) show of h = subst (IsHere show) of h
 owned owner own s show of h = tt
 
 -- a record is there below a statement where the statement leaves it, or opens it

@@ -11,7 +11,7 @@ use Rattle.show_reader.specs.declared.fault.ShowFault.TheVariants.{Ident, Missin
 use Rattle.show_reader.specs.declared.fault.ShowFault.TheVariants.{BadLevel, BadTime, HalfPair}
 use Rattle.show_reader.specs.declared.fault.ShowFault.TheVariants.{HalfTriple, Limit}
 use Rattle.show_reader.specs.Text.{statements_of}
-use Rattle.show_reader.specs.Keys.{Level, Up, Down, Dimmer}
+use Rattle.show_reader.specs.Keys.{Level, Up, Down, Follow, Dimmer}
 use Rattle.show_reader.specs.Meaning.{is_there, meaning, cue_count}
 use Rattle.show_reader.specs.Reading.{fault_below, fault_of, lines_read, lines_skipped, grows}
 use Rattle.show_reader.specs.Reading.{faultless_front}
@@ -63,6 +63,11 @@ foreign_page_order : (fault_1 (codes "CUE x 2") ≡ Some (BadNumber 1))
     × (fault_1 (codes "CUE 3 2") ≡ None)
     × (skipped_1 (codes "CUE 3 2") ≡ 1)
 foreign_page_order = (refl, refl, refl, refl)
+
+follow_faults : (fault_2 (codes "CUE 1") (codes "FOLLOWON x") ≡ Some (BadTime 2))
+    × (fault_2 (codes "CUE 1") (codes "FOLLOWON") ≡ Some (MissingNumber 2))
+    × (fault_2 (codes "GROUP 1") (codes "FOLLOWON x") ≡ None)
+follow_faults = (refl, refl, refl)
 
 -- the first faulty line decides, and on it the lowest fault
 first_fault_decides : (fault_3 (codes "CUE 1") (codes "CHAN 5000") (codes "IDENT")
@@ -256,3 +261,21 @@ last_rates : (meaning twice_opened (Up 1000) ≡ Some (record { time = 5000; del
     × (meaning twice_opened (Level (Group 1) 1) ≡ None)
     × (cue_count twice_opened ≡ 1)
 last_rates = (refl, refl, refl, refl, refl, refl)
+
+-- the last FOLLOWON line of a cue wins, and CLEAR takes it away
+abbrev followed : List Statement
+followed = statements_of desk (text_of (
+    codes "CUE 1" ∷ codes "FOLLOWON 10" ∷ codes "CUE 2" ∷ codes "FOLLOWON 3" ∷ codes "CUE 1"
+    ∷ codes "FollowOn 1:30 x" ∷ codes "GROUP 1" ∷ codes "FOLLOWON 7" ∷ codes "CUE 3" ∷ []
+    ))
+
+abbrev followed_no_more : List Statement
+followed_no_more = statements_of desk
+    (text_of (codes "CUE 1" ∷ codes "FOLLOWON 10" ∷ codes "CLEAR CUES" ∷ codes "CUE 1" ∷ []))
+
+last_follow : (meaning followed (Follow 1000) ≡ Some 90000)
+    × (meaning followed (Follow 2000) ≡ Some 3000)
+    × (meaning followed (Follow 3000) ≡ None)
+    × (meaning followed (Up 1000) ≡ None)
+    × (meaning followed_no_more (Follow 1000) ≡ None)
+last_follow = (refl, refl, refl, refl, refl)

@@ -4,7 +4,7 @@ use Rattle.std.specs.Prelude.{None}
 use Rattle.std.specs.FinMap as maps
 use Rattle.show_core.specs.Tables.{PatchMap, Tables}
 use Rattle.show_core.specs.Builders.{opened, opened_in, with_level, with_listed, with_up}
-use Rattle.show_core.specs.Builders.{with_down, patched_with, can_open}
+use Rattle.show_core.specs.Builders.{with_down, with_follow, patched_with, can_open}
 use Rattle.show_line.specs.declared.fault.LineFault.{LineFault}
 use Rattle.show_line.specs.declared.fault.LineFault.TheVariants.{Limit}
 use Rattle.show_line.specs.declared.statement.Record.{Record}
@@ -14,7 +14,8 @@ use Rattle.show_line.specs.declared.statement.Cleared.{Cleared}
 use Rattle.show_line.specs.declared.statement.Cleared.TheVariants.{All, Only}
 use Rattle.show_line.specs.declared.statement.Statement.{Statement}
 use Rattle.show_line.specs.declared.statement.Statement.TheVariants.{Opens, Levels, Rises, Falls}
-use Rattle.show_line.specs.declared.statement.Statement.TheVariants.{Patches, Clears, Faulty}
+use Rattle.show_line.specs.declared.statement.Statement.TheVariants.{Follows, Patches}
+use Rattle.show_line.specs.declared.statement.Statement.TheVariants.{Clears, Faulty}
 use Rattle.show_line.specs.declared.triples.Triple.{Triple}
 use Rattle.show_reader.specs.declared.apply.Refusal.{Refusal}
 use Rattle.show_reader.specs.declared.apply.Refusal.TheVariants as refusal
@@ -60,6 +61,7 @@ applied (Opens r) show = with_record show r
 applied (Levels r pairs) show = with_pairs show r pairs
 applied (Rises n rate) show = record show { cues = with_up show.cues n rate }
 applied (Falls n rate) show = record show { cues = with_down show.cues n rate }
+applied (Follows n time) show = record show { cues = with_follow show.cues n time }
 applied (Patches triples) show = record show { patch = with_triples show.patch triples }
 applied (Clears what) show = without what show
 applied _ show = show
@@ -75,6 +77,7 @@ abbrev pub HasOwner : Tables → Statement → Type 0
 HasOwner show (Levels r pairs) = IsTrue (has_record show r)
 HasOwner show (Rises n rate) = IsTrue (has_record show (Cue n))
 HasOwner show (Falls n rate) = IsTrue (has_record show (Cue n))
+HasOwner show (Follows n time) = IsTrue (has_record show (Cue n))
 HasOwner show _ = Unit {0}
 
 -- why a statement was not carried out: the fault that the show has with it; or want of memory,

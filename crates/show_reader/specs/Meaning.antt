@@ -10,9 +10,10 @@ use Rattle.show_line.specs.declared.statement.Cleared.{Cleared}
 use Rattle.show_line.specs.declared.statement.Cleared.TheVariants.{All, Only}
 use Rattle.show_line.specs.declared.statement.Statement.{Statement}
 use Rattle.show_line.specs.declared.statement.Statement.TheVariants.{Opens, Levels, Rises, Falls}
-use Rattle.show_line.specs.declared.statement.Statement.TheVariants.{Patches, Clears, Skipped}
+use Rattle.show_line.specs.declared.statement.Statement.TheVariants.{Follows, Patches}
+use Rattle.show_line.specs.declared.statement.Statement.TheVariants.{Clears, Skipped}
 use Rattle.show_line.specs.declared.triples.Triple.{Triple}
-use Rattle.show_reader.specs.Keys.{Key, There, Level, Up, Down, Dimmer, Answer, table_at}
+use Rattle.show_reader.specs.Keys.{Key, There, Level, Up, Down, Follow, Dimmer, Answer, table_at}
 
 -- ---- what is said of a key
 
@@ -79,6 +80,7 @@ triple_says t _ = Silent
 --   CUE, GROUP and SUB: their record is there;
 --   CHAN: the last pair of a channel wins, a 0 too;
 --   UP and DOWN: the whole time and delay of their cue;
+--   FOLLOWON: the follow-on time of its cue;
 --   PATCH: a dimmer has the channel of its last triple;
 --   CLEAR: what the file has said so far of its tables is gone
 abbrev pub says : Statement → (k : Key) → News (Answer k)
@@ -86,6 +88,7 @@ says (Opens r) (There q) = if same_record q r then Is tt else Silent
 says (Levels r pairs) k = last_news (λ pair. pair_says r pair k) pairs
 says (Rises n rate) (Up m) = if m == n then Is rate else Silent
 says (Falls n rate) (Down m) = if m == n then Is rate else Silent
+says (Follows n time) (Follow m) = if m == n then Is time else Silent
 says (Patches triples) k = last_news (λ triple. triple_says triple k) triples
 says (Clears what) k = if empties what (table_at k) then Gone else Silent
 says _ _ = Silent

@@ -50,6 +50,10 @@ pub fn apply(show: &mut Show, statement: Statement<'_>) -> Result<(), Refusal>
             show.set_down(n, rate);
             Ok(())
         }
+        Statement::Follows(n, time) => {
+            show.set_follow(n, time);
+            Ok(())
+        }
         Statement::Patches(triples) => patch(show, triples),
         Statement::Clears(what) => {
             clear(show, what);

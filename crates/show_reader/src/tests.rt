@@ -103,6 +103,20 @@ fn show_faults(rt: HostRuntime) {
 }
 
 #[test]
+fn follow_faults(rt: HostRuntime) {
+    for (text, answer) in [
+        (b"CUE 1\nFOLLOWON x".as_slice(), Err(ShowFault::BadTime(2))),
+        (b"CUE 1\nFOLLOWON", Err(ShowFault::MissingNumber(2))),
+        (b"GROUP 1\nFOLLOWON x", Ok((2, 0))),
+        (b"SUB 1\nFOLLOWON", Ok((2, 0))),
+        (b"FOLLOWON x", Ok((1, 1))),
+        (b"CUE 3 2\nFOLLOWON x", Ok((2, 2))),
+    ] {
+        assert_eq!(rt; reading(rt.alloc(), text), answer, "{text:?}");
+    }
+}
+
+#[test]
 fn foreign_page_order(rt: HostRuntime) {
     for (text, answer) in [
         (b"CUE x 2".as_slice(), Err(ShowFault::BadNumber(1))),
@@ -308,5 +322,17 @@ fn last_rates(rt: HostRuntime) -> Result<(), Fail> {
         delay: 1000,
     };
     assert_eq!(rt; (cue.up(), cue.down(), cue.level(7)), (up, down, 15));
+    Ok(())
+}
+
+// The last FOLLOWON line of a cue wins.
+#[test]
+fn last_follow_on_time(rt: HostRuntime) -> Result<(), Fail> {
+    let text = b"CUE 1\nFOLLOWON 10\nUP 5\nCUE 2\nCUE 1\nFOLLOWON 1:30 x\nCUE 3\nFOLLOWON 0";
+    let loaded = read(rt.alloc(), text)?;
+    for (n, follow) in [(1000, Some(90_000)), (2000, None), (3000, Some(0))] {
+        let cue = loaded.show.cue(n).expect(&rt, "the cue");
+        assert_eq!(rt; cue.follow(), follow, "cue {n}");
+    }
     Ok(())
 }
