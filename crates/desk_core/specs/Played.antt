@@ -126,8 +126,8 @@ lacking show current (order (Group n byte)) =
     if map.contains_key show.groups n then None else Some NoGroup
 lacking show current _ = None
 
--- why a call is refused after a history: the lowest refusal that applies, if any does. The current cue
--- is that after the moves due by the call's moment
+-- why a call is refused after a history: the lowest refusal that applies, if any does. The current
+-- cue is that after the moves due by the call's moment
 abbrev pub refusal : Tables → List Act → Act → Option Refused
 refusal show history act =
     option_or

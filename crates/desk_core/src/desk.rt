@@ -243,8 +243,8 @@ impl<F: Fader> Desk<F> {
         }
     }
 
-    // The channels that may move, where those are few and the rest of the frames may be kept: no cue
-    // follows by itself.
+    // The channels that may move, where those are few and the rest of the frames may be kept, since
+    // no cue follows by itself.
     fn few_moving(&self, moment: u64) -> Option<ArrayVec<u16, FEW>>
         ensures kept { OnSome result (IsTrue self.now.is_kept) }
         ensures none_due { OnSome result (IsFalse (is_by self.now.playback.due moment)) }

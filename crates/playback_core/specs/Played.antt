@@ -1,6 +1,7 @@
 -- The moves of a playback: which cue each takes, and the levels after them.
 use Rattle.std.specs.Prelude.{ℕ, ◌+◌, ◌-◌, ◌*◌, nat_le, Bool, false, if◌then◌else◌}
-use Rattle.std.specs.Prelude.{List, [], ◌∷◌, Option, Some, None, unwrap_or, option_and_then, option_map}
+use Rattle.std.specs.Prelude.{List, [], ◌∷◌, Option, Some, None, unwrap_or, option_and_then}
+use Rattle.std.specs.Prelude.{option_map}
 use Rattle.std.specs.Option.{option_map_or}
 use Rattle.std.specs.FinMap as map
 use Rattle.show_core.specs.declared.cue.CueData.{CueData}
@@ -49,20 +50,20 @@ due show [] = None
 due show (move ∷ older) =
     move_after move.moment (cue_above show.cues move.cue) (cue_at show move.cue).follow
 
--- the moves with those that are due by a moment before them, each at its own moment, as many as this
--- list is long at most
+-- the moves and those that follow them by themselves up to a moment, each at its own moment; at most
+-- one for each number of this list
 abbrev pub followed : Tables → ℕ → List ℕ → List Move → List Move
 followed show moment [] moves = moves
-followed show moment (n ∷ others) moves =
+followed show moment (_ ∷ others) moves =
     option_map_or (λ next. if nat_le next.moment moment
     then followed show moment others (next ∷ moves) else moves) (due show moves) moves
 
--- the moves with all those that are due by a moment: each goes to a greater cue number, so that
--- there are not more of them than cues
+-- the moves and all that follow them by themselves up to a moment: each goes to a greater cue number,
+-- so there are at most as many as cues
 unfoldable pub with_due : Tables → ℕ → List Move → List Move
 with_due show moment moves = followed show moment (map.keys show.cues) moves
 
--- the moves by a moment; none is due once the playback was stopped
+-- the moves up to a moment; none follows by itself once the playback was stopped
 abbrev pub moves_by : Tables → Bool → ℕ → List Move → List Move
 moves_by show stopped moment moves = if stopped then moves else with_due show moment moves
 

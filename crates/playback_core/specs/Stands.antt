@@ -6,8 +6,8 @@ use Rattle.playback_core.specs.Playing.{Playing}
 use Rattle.playback_core.specs.Played.{Move, start_of, current_after, due_moment}
 
 -- a playback stands for these moves over a show, the newest first: its current cue is that of the
--- newest, the moment at which the next one goes by itself is that of the move that is due, none once
--- it was stopped, and its fader stands, by the fader's own relation, for the starts of the moves
+-- newest; the next one is due at the moment of the move that is due, and never once it was stopped;
+-- and its fader stands, by the fader's own relation, for the starts that the moves make
 pub record StandsFor {F : Type 0} (fader_stands_for : F → List Start → Type 0) (show : Tables)
     (playback : Playing F) (moves : List Move) (stopped : Bool) : Type 0 where
   pub current : playback.current ≡ current_after moves

@@ -48,8 +48,8 @@ impl Place {
         self.due.is_some_and(|due| due <= moment)
     }
 
-    /// Goes on to the next cue, where it is due by this moment: that cue, and the moment at which it
-    /// goes.
+    /// Goes on to the next cue, where it is due by this moment: that cue, and the moment of the
+    /// move.
     pub fn follow(&mut self, show: &Show, moment: u64) -> Option<(u32, u64)>
         requires { moment < 2 ^ 48 }
         ensures due { IfSome result (λ next. self.old.due ≡ Some next.1) }

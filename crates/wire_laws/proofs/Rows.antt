@@ -26,6 +26,7 @@ use Rattle.wire_laws.proofs.Several.{merge_law}
 use Rattle.wire_laws.proofs.Came.{came}
 use Rattle.wire_laws.proofs.Small.{small, cues, subs, numbers, based, first_at, frame_1000}
 use Rattle.wire_laws.proofs.Small.{frame_2000, frame_full, frame_half}
+use Rattle.wire_laws.proofs.Small.{no_move, after_first, after_second}
 
 abbrev at : ℕ → What → Event
 at t x = record { moment = t; what = x }
@@ -55,25 +56,26 @@ script =
     ∷ at 2030 (Order 0 Go) ∷ at 2030 (Order 0 Go) ∷ at 2031 (Deliver 0 0 1 2) ∷ []
 
 line_3 : reply_to w (done w (take 0 script)) (at 0 (Order 0 Go)) ≡ Done
-line_3 = simp cues refl
+line_3 = simp (no_move, after_first, cues) refl
 
 line_4 : reply_to w (done w (take 1 script)) (at 1000 (Tick 0)) ≡ Ticked Live ((1, Sent 0) ∷ [])
-line_4 = simp (cues, numbers) refl
+line_4 = simp (no_move, after_first, cues, numbers) refl
 
 line_6 : reply_to w (done w (take 2 script)) (at 2000 (Tick 0)) ≡ Ticked Live ((1, Sent 1) ∷ [])
-line_6 = simp (cues, numbers, frame_1000, frame_2000) refl
+line_6 = simp (no_move, after_first, cues, numbers, frame_1000, frame_2000) refl
 
 line_11 : reply_to w (done w (take 3 script)) (at 2022 (Tick 0)) ≡ Refused refused.TooSoon
-line_11 = simp cues refl
+line_11 = simp (no_move, after_first, cues) refl
 
 line_12 : reply_to w (done w (take 4 script)) (at 2030 (Order 0 Go)) ≡ Done
-line_12 = simp cues refl
+line_12 = simp (no_move, after_first, cues) refl
 
 line_13 : reply_to w (done w (take 5 script)) (at 2030 (Order 0 Go)) ≡ Refused refused.AtEnd
-line_13 = simp cues refl
+line_13 = simp (no_move, after_first, after_second, cues) refl
 
 line_14 : reply_to w (done w (take 6 script)) (at 2031 (Deliver 0 0 1 2)) ≡ Skipped skip.NotSent
-line_14 = simp (cues, numbers, frame_1000, frame_2000) refl
+line_14 =
+    simp (no_move, after_first, after_second, cues, numbers, frame_1000, frame_2000) refl
 
 skips : (reply_to w [] (at 0 (Order 1 Go)) ≡ Skipped skip.NoConsole)
     × (reply_to w [] (at 0 (Show 1)) ≡ Skipped skip.NoReceiver)
@@ -85,7 +87,7 @@ skips = (refl, refl, refl, refl)
 -- End, and the numbers of its terminations
 ending : reply_to w (done w (at 0 (Order 0 Go) ∷ at 1000 (Tick 0) ∷ at 1000 (Order 0 End) ∷ []))
     (at 1023 (Tick 0)) ≡ Ticked (Ending 1) ((1, Sent 1) ∷ [])
-ending = simp (cues, numbers) refl
+ending = simp (no_move, after_first, cues, numbers) refl
 
 -- with the deliveries: what the receiver shows, by what came (`accepted_is` joins it to the
 -- bytes)
@@ -95,19 +97,19 @@ with_deliveries =
     ∷ at 2010 (Deliver 0 0 1 1) ∷ at 2011 (Deliver 0 0 1 1) ∷ []
 
 line_7 : shown (accepted 4 (came w 0 (done w (take 4 with_deliveries)))) 2000 0 ≡ 51
-line_7 = simp (cues, numbers, frame_1000) refl
+line_7 = simp (no_move, after_first, cues, numbers, frame_1000) refl
 
 line_9 : shown (accepted 4 (came w 0 (done w (take 5 with_deliveries)))) 2010 0 ≡ 102
-line_9 = simp (cues, numbers, frame_1000, frame_2000) refl
+line_9 = simp (no_move, after_first, cues, numbers, frame_1000, frame_2000) refl
 
 line_10 : length (accepted 4 (came w 0 (done w (take 6 with_deliveries)))) ≡ 2
-line_10 = simp (cues, numbers, frame_1000, frame_2000) refl
+line_10 = simp (no_move, after_first, cues, numbers, frame_1000, frame_2000) refl
 
 silence : (shown (accepted 4 (came w 0 (done w with_deliveries))) 4509 0 ≡ 102)
     × (shown (accepted 4 (came w 0 (done w with_deliveries))) 4510 0 ≡ 0)
 silence = (
-  simp (cues, numbers, frame_1000, frame_2000) refl,
-  simp (cues, numbers, frame_1000, frame_2000) refl,
+  simp (no_move, after_first, cues, numbers, frame_1000, frame_2000) refl,
+  simp (no_move, after_first, cues, numbers, frame_1000, frame_2000) refl,
 )
 
 -- ---- the premises of the headline and of the window law are met
@@ -124,35 +126,35 @@ alone (suc j) l f = omega (arith, l)
 hears : HearsOne w 0 0 (done w with_deliveries)
 hears = record {
   alone = λ j l f. absurd (alone j l f);
-  no_stray = simp (cues, numbers, frame_1000, frame_2000) (tt, (tt, (tt, (tt, (tt, (tt, tt))))));
-  window = simp (cues, numbers, frame_1000, frame_2000)
+  no_stray = simp (no_move, after_first, cues, numbers, frame_1000, frame_2000) (tt, (tt, (tt, (tt, (tt, (tt, tt))))));
+  window = simp (no_move, after_first, cues, numbers, frame_1000, frame_2000)
       (omega arith, omega arith, (omega arith, omega arith, tt));
 }
 
 fresh : IsFresh w 0 0 (done w with_deliveries) 4509
-fresh = simp (cues, numbers, frame_1000, frame_2000) (refl, omega arith)
+fresh = simp (no_move, after_first, cues, numbers, frame_1000, frame_2000) (refl, omega arith)
 
 by_then : (t : ℕ) → 2011 ≤ t → last_moment (done w with_deliveries) ≤ t
-by_then t l = simp (cues, numbers, frame_1000, frame_2000) l
+by_then t l = simp (no_move, after_first, cues, numbers, frame_1000, frame_2000) l
 
 headline_met : slots_at w 0 (done w with_deliveries) 4509 ≡ first_at 102
 headline_met =
     headline w with_deliveries 0 0 4509 world (by_then 4509 (omega arith)) hears fresh
-    ∙ simp (cues, numbers, frame_1000, frame_2000) refl
+    ∙ simp (no_move, after_first, cues, numbers, frame_1000, frame_2000) refl
 
 -- from 4511 on nothing is recent, not even the repeat, and all slots are 0
 silence_met : slots_at w 0 (done w with_deliveries) 4511 ≡ dark
 silence_met =
     silence_dark w with_deliveries 0 0 4511 world (by_then 4511 (omega arith)) hears
-    (simp (cues, numbers, frame_1000, frame_2000) refl)
+    (simp (no_move, after_first, cues, numbers, frame_1000, frame_2000) refl)
 
 -- before the second packet comes the window law speaks, and the headline does not: the packet
 -- that came is not the newest that was sent
 hears_first : HearsOne w 0 0 (done w (take 4 with_deliveries))
 hears_first = record {
   alone = λ j l f. absurd (alone j l f);
-  no_stray = simp (cues, numbers) (tt, (tt, (tt, (tt, tt))));
-  window = simp (cues, numbers) tt;
+  no_stray = simp (no_move, after_first, cues, numbers) (tt, (tt, (tt, (tt, tt))));
+  window = simp (no_move, after_first, cues, numbers) tt;
 }
 
 window_met : IsOneOf 2009 (slots_at w 0 (done w (take 4 with_deliveries)) 2009)
@@ -161,7 +163,7 @@ window_met : IsOneOf 2009 (slots_at w 0 (done w (take 4 with_deliveries)) 2009)
     ⊎ (slots_at w 0 (done w (take 4 with_deliveries)) 2009 ≡ dark)
 window_met =
     window_law w (take 4 with_deliveries) 0 0 2009 world
-    (simp (cues, numbers) (omega arith)) hears_first
+    (simp (no_move, after_first, cues, numbers) (omega arith)) hears_first
 
 -- two consoles on one universe, with CIDs and priorities of their own
 module _ (priority : ℕ) (low : priority ≤ 200) where

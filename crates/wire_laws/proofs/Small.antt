@@ -14,6 +14,8 @@ use Rattle.fade_core.specs.Level.{split_fade}
 use Rattle.master_core.specs.Settings.{grand_after}
 use Rattle.patch_core.specs.Frame.{frame_of, is_base}
 use Rattle.desk_core.specs.declared.command.Command.TheVariants.{Go, Sub}
+use Rattle.playback_core.specs.Played.{Move, with_due}
+use Rattle.playback_core.proofs.Due.{with_due-none}
 use Rattle.desk_core.specs.Played.{Act, ended, order, settings, tick}
 use Rattle.desk_core.specs.Meaning.{channel_level, frame, universe_numbers}
 
@@ -51,6 +53,14 @@ first_down : first.down ≡ None
 unfolding first
 first_down = refl
 
+first_follow : first.follow ≡ None
+unfolding first
+first_follow = refl
+
+second_follow : second.follow ≡ None
+unfolding second
+second_follow = refl
+
 half_is : map.entries half ≡ listed 1 128
 unfolding half
 half_is = map.entries-from_sorted nat_cmp (listed 1 128) tt
@@ -69,6 +79,24 @@ small = record {
 cues_are : map.entries small.cues ≡ (1000, first) ∷ (2000, second) ∷ []
 unfolding small
 cues_are = map.entries-from_sorted nat_cmp ((1000, first) ∷ (2000, second) ∷ []) tt
+
+-- no cue follows by itself
+pub no_move : (moment : ℕ) → with_due small moment [] ≡ []
+no_move moment = with_due-none small moment [] tt
+
+pub after_first : (moment at : ℕ) (older : List Move)
+    → with_due small moment (record { cue = 1000; moment = at } ∷ older)
+    ≡ record { cue = 1000; moment = at } ∷ older
+after_first moment at older =
+    with_due-none small moment (record { cue = 1000; moment = at } ∷ older)
+    (simp (map.get-entries small.cues 1000, cues_are, first_follow) tt)
+
+pub after_second : (moment at : ℕ) (older : List Move)
+    → with_due small moment (record { cue = 2000; moment = at } ∷ older)
+    ≡ record { cue = 2000; moment = at } ∷ older
+after_second moment at older =
+    with_due-none small moment (record { cue = 2000; moment = at } ∷ older)
+    (simp (map.get-entries small.cues 2000, cues_are, second_follow) tt)
 
 subs_are : map.entries small.subs ≡ (1, half) ∷ []
 unfolding small
@@ -139,6 +167,8 @@ level_1000 : (channel_level small at_go 1000 1 ≡ 13005) × (channel_level smal
 unfolding split_fade
 level_1000 = (
   simp (
+    no_move,
+    after_first,
     map.get-entries small.cues 1000,
     cues_are,
     subs_are,
@@ -151,6 +181,8 @@ level_1000 = (
     half_is,
   ) refl,
   simp (
+    no_move,
+    after_first,
     map.get-entries small.cues 1000,
     cues_are,
     subs_are,
@@ -169,6 +201,8 @@ level_2000 : (channel_level small at_1000 2000 1 ≡ 26010)
 unfolding split_fade
 level_2000 = (
   simp (
+    no_move,
+    after_first,
     map.get-entries small.cues 1000,
     cues_are,
     subs_are,
@@ -181,6 +215,8 @@ level_2000 = (
     half_is,
   ) refl,
   simp (
+    no_move,
+    after_first,
     map.get-entries small.cues 1000,
     cues_are,
     subs_are,
@@ -197,15 +233,15 @@ level_2000 = (
 level_full : (channel_level small (at_sub 255) 0 1 ≡ 32640)
     × (channel_level small (at_sub 255) 0 2 ≡ 0)
 level_full = (
-  simp (subs_are, groups_are, map.get-entries half 1, half_is) refl,
-  simp (subs_are, groups_are, map.get-entries half 2, half_is) refl,
+  simp (no_move, subs_are, groups_are, map.get-entries half 1, half_is) refl,
+  simp (no_move, subs_are, groups_are, map.get-entries half 2, half_is) refl,
 )
 
 level_half : (channel_level small (at_sub 128) 0 1 ≡ 16384)
     × (channel_level small (at_sub 128) 0 2 ≡ 0)
 level_half = (
-  simp (subs_are, groups_are, map.get-entries half 1, half_is) refl,
-  simp (subs_are, groups_are, map.get-entries half 2, half_is) refl,
+  simp (no_move, subs_are, groups_are, map.get-entries half 1, half_is) refl,
+  simp (no_move, subs_are, groups_are, map.get-entries half 2, half_is) refl,
 )
 
 pub frame_1000 : frame small at_go 1000 0 ≡ first_at 51
