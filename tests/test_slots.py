@@ -3,6 +3,7 @@
 import subprocess
 
 from program import CID, LOOK_ONE, NO_PATCH, PROGRAM, TOP, ProgramTest, run, text
+from test_examples import blocks
 
 SHOW = text(*LOOK_ONE)
 TWO = text("PATCH 1 1<1@FL 2<3@FL 1<513@FL", "CUE 1", "CHAN 1@FL 2@50", "CUE 2", "CHAN 2@H10")
@@ -49,15 +50,17 @@ class Slots(ProgramTest):
 
     def test_faults(self):
         self.assertRuns(["slots", "-", "2"], SHOW, status=3, err=b"show: NoCue\n")
-        self.assertRuns(["slots", "-", "1"], text("CUE 1", "CHAN 1"), 3, err=b"show line 2: HalfPair\n")
+        half_pair = b"show line 2: HalfPair\n"
+        self.assertRuns(["slots", "-", "1"], text("CUE 1", "CHAN 1"), status=3, err=half_pair)
         self.assertRuns(["slots", "/no/such/file", "1"], b"", 5, err=b"device fault\n")
         with open("/dev/full", "wb") as full:
             words = [PROGRAM, "slots", "-", "1"]
-            done = subprocess.run(words, input=SHOW, stdout=full, stderr=subprocess.PIPE, timeout=60)
+            pipe = subprocess.PIPE
+            done = subprocess.run(words, input=SHOW, stdout=full, stderr=pipe, timeout=60)
         self.assertEqual((5, b"device fault\n"), (done.returncode, done.stderr))
 
     def test_words(self):
-        for words in (["x"], ["0"], ["1", "--base", "0"], ["1", "--base", "64000"], ["1", "--base", "x"]):
+        for words in (["x"], ["0"], *(["1", "--base", base] for base in ("0", "64000", "x"))):
             with self.subTest(words):
                 self.assertRuns(["slots", "-", *words], b"CUE x", status=2, err=UNFIT)
         for words, telling in (
@@ -80,9 +83,16 @@ class Slots(ProgramTest):
             self.assertIn(part, outcome.out)
         self.assertIn(b"Example: cueplayer slots night.asc 1.5 --base 1", outcome.out)
 
+    def test_example_of_the_document(self):
+        (block,) = (block for block in blocks("docs/FORMATS.md") if "cueplayer slots" in block)
+        words, _, printed = block.partition("\n")
+        show, cue = words.split()[-2:]
+        self.assertRuns(["slots", TOP / show, cue], b"", out=printed.encode())
+
     def test_slots_of_the_packets(self):
         """For each cue of the examples, the slots are those of the packets that `look` prints."""
-        for show, cue in (("one-dimmer", "1"), ("one-dimmer", "2"), ("small-play", "1"), ("small-play", "2")):
+        cues = {"one-dimmer": "123", "crossfade": "12", "small-play": "12345"}
+        for show, cue in ((show, cue) for show in cues for cue in cues[show]):
             file = TOP / "examples" / f"{show}.asc"
             with self.subTest(show=show, cue=cue):
                 looked = run("look", file, cue, "--cid", CID)
@@ -91,7 +101,7 @@ class Slots(ProgramTest):
                 for line in looked.out.split():
                     packet = bytes.fromhex(line.decode())
                     lines.append(f"universe {int.from_bytes(packet[113:115], 'big')}")
-                    levels = enumerate(packet[126:], 1)
-                    lines.append("slots" + "".join(f" {slot}:{level}" for slot, level in levels if level))
+                    levels = (f" {slot}:{level}" for slot, level in enumerate(packet[126:], 1) if level)
+                    lines.append("slots" + "".join(levels))
                 out = "".join(line + "\n" for line in lines).encode()
                 self.assertRuns(["slots", file, cue], b"", out=out)

@@ -16,6 +16,7 @@ mod watched_output;
 mod words;
 
 use clap::Error;
+use cueplayer_explain::explain;
 use cueplayer_faults::{RunFault, exit_status};
 use cueplayer_play::play;
 use cueplayer_rehearse::rehearse_text;
@@ -47,6 +48,7 @@ fn run(rt: &HostRuntime, job: Job) -> Result<(), RunFault>
 {
     match job {
         Job::Check { show } => check_show(rt, show.as_str()),
+        Job::Explain { show } => explain_show(rt, show.as_str()),
         Job::Look { show, cue, cid } => look_at(rt, show.as_str(), cue, cid),
         Job::Slots { show, cue, base } => show_slots(rt, show.as_str(), cue, base),
         Job::Play {
@@ -81,6 +83,12 @@ fn check_show(rt: &HostRuntime, show: &str) -> Result<(), RunFault> {
     let text = show_text(rt, show)?;
     let mut out = SystemOutput::new(rt.stdout());
     check(rt.alloc(), text.as_slice(), &mut out)
+}
+
+fn explain_show(rt: &HostRuntime, show: &str) -> Result<(), RunFault> {
+    let text = show_text(rt, show)?;
+    let mut out = SystemOutput::new(rt.stdout());
+    explain(rt.alloc(), text.as_slice(), &mut out)
 }
 
 fn look_at(rt: &HostRuntime, show: &str, cue: u32, cid: [u8; 16]) -> Result<(), RunFault> {
@@ -209,7 +217,7 @@ fn unfit(rt: &HostRuntime) -> u8 {
 }
 
 // Shows the text of an error: help on standard output, any other on standard error.
-fn explain(rt: &HostRuntime, error: &Error) -> u8 {
+fn tell(rt: &HostRuntime, error: &Error) -> u8 {
     let printed = error.print(rt);
     if error.use_stderr() {
         REFUSED
@@ -231,7 +239,7 @@ fn status(rt: &HostRuntime) -> u8 {
     };
     match read_words(rt.alloc(), words.as_slice()) {
         Ok(job) => report(rt, &run(rt, job)),
-        Err(WordsFault::Refused(error)) => explain(rt, &error),
+        Err(WordsFault::Refused(error)) => tell(rt, &error),
         Err(WordsFault::Unfit) => unfit(rt),
         Err(WordsFault::Memory) => report(rt, &Err(RunFault::Memory)),
     }

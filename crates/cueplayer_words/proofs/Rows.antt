@@ -8,8 +8,8 @@ use Rattle.cueplayer_words.specs.Program.{program}
 use Rattle.cueplayer_words.specs.Address.{address_of}
 use Rattle.cueplayer_words.specs.Job.{job_of, number_between}
 use Rattle.cueplayer_words.specs.Asked.{Passes}
-use Rattle.cueplayer_words.specs.declared.job.Job.TheVariants.{Check, Look, Slots, Play, Live}
-use Rattle.cueplayer_words.specs.declared.job.Job.TheVariants.{Rehearse, Listen}
+use Rattle.cueplayer_words.specs.declared.job.Job.TheVariants.{Check, Explain, Look, Slots}
+use Rattle.cueplayer_words.specs.declared.job.Job.TheVariants.{Play, Live, Rehearse, Listen}
 
 -- `check a.asc`
 abbrev check_words : List Text
@@ -36,6 +36,15 @@ check_passes = refl
 check_job : job_of check_words ≡ Some (Check (codes "a.asc"))
 unfolding clap_on_literals
 check_job = refl
+
+-- `explain -`
+explain_passes : Passes (codes "cueplayer" ∷ codes "explain" ∷ codes "-" ∷ [])
+unfolding clap_on_literals
+explain_passes = refl
+
+explain_job : job_of (codes "cueplayer" ∷ codes "explain" ∷ codes "-" ∷ []) ≡ Some (Explain (codes "-"))
+unfolding clap_on_literals
+explain_job = refl
 
 look_passes : Passes (look_words (codes "1"))
 unfolding clap_on_literals

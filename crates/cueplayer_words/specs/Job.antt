@@ -9,8 +9,8 @@ use Rattle.ascii_text.specs.Forms.{cue_number_of, whole_of}
 use Rattle.cueplayer_words.specs.Address.{address_of}
 use Rattle.cueplayer_words.specs.Program.{program}
 use Rattle.cueplayer_words.specs.declared.job.Job.{Job}
-use Rattle.cueplayer_words.specs.declared.job.Job.TheVariants.{Check, Look, Slots, Play, Live}
-use Rattle.cueplayer_words.specs.declared.job.Job.TheVariants.{Rehearse, Listen}
+use Rattle.cueplayer_words.specs.declared.job.Job.TheVariants.{Check, Explain, Look, Slots}
+use Rattle.cueplayer_words.specs.declared.job.Job.TheVariants.{Play, Live, Rehearse, Listen}
 
 -- the value of an argument that has to be there: its text, read by a form
 abbrev pub value_by : {X : Type 0} → (Text → Option X) → Text → List Row → Option X
@@ -28,6 +28,10 @@ number_between least most text =
 -- the job of `check SHOW`
 abbrev pub check_of : List Row → Option Job
 check_of rows = option_map Check (first_of (codes "SHOW") rows)
+
+-- the job of `explain SHOW`
+abbrev pub explain_of : List Row → Option Job
+explain_of rows = option_map Explain (first_of (codes "SHOW") rows)
 
 -- a look, where each of its values is there
 abbrev pub look_with : Option Text → Option ℕ → Option (List ℕ) → Option Job
@@ -111,12 +115,13 @@ IsInRange _ = Unit {0}
 -- the job of a line, by its name and the texts of its arguments
 abbrev pub line_of : Text × List Row → Option Job
 line_of line = if bytes_eq line.0 (codes "check") then check_of line.1
+    else (if bytes_eq line.0 (codes "explain") then explain_of line.1
     else (if bytes_eq line.0 (codes "look") then look_of line.1
     else (if bytes_eq line.0 (codes "slots") then slots_of line.1
     else (if bytes_eq line.0 (codes "play") then play_of line.1
     else (if bytes_eq line.0 (codes "live") then live_of line.1
     else (if bytes_eq line.0 (codes "rehearse") then rehearse_of line.1
-    else (if bytes_eq line.0 (codes "listen") then listen_of line.1 else None))))))
+    else (if bytes_eq line.0 (codes "listen") then listen_of line.1 else None)))))))
 
 -- the job of the line that clap's meaning of the program gives for the words, where each of the
 -- texts that this meaning gives has its form

@@ -18,6 +18,10 @@ option id = record (new_rule id) { long = Some id; value_names = 1 }
 abbrev pub check_line : App
 check_line = with_rule (new_app (codes "check")) (required (codes "SHOW"))
 
+-- `explain SHOW`
+abbrev pub explain_line : App
+explain_line = with_rule (new_app (codes "explain")) (required (codes "SHOW"))
+
 -- `look SHOW CUE --cid UUID`
 abbrev pub look_line : App
 look_line = with_rule (with_rule (with_rule (new_app (codes "look"))
@@ -62,10 +66,13 @@ without_lines = record (new_app (codes "cueplayer")) {
   top = record (new_app (codes "cueplayer")).top { subcommand_required = true };
 }
 
--- the program with the lines that only print
+-- the program with the lines that tell of a show's text
+abbrev pub telling_lines : App
+telling_lines = with_subcommand (with_subcommand without_lines check_line.top) explain_line.top
+
+-- and with those that print a cue
 abbrev pub printing_lines : App
-printing_lines = with_subcommand (with_subcommand (with_subcommand without_lines
-    check_line.top) look_line.top) slots_line.top
+printing_lines = with_subcommand (with_subcommand telling_lines look_line.top) slots_line.top
 
 -- and with the lines that play
 abbrev pub playing_lines : App

@@ -42,6 +42,11 @@ pub enum Job {
         show: Name,
     },
 
+    /// `explain SHOW`: print which lines of a show are skipped, and why, and notes for its author.
+    Explain {
+        show: Name,
+    },
+
     /// `look SHOW CUE --cid UUID`: print the packets of one cue at full. The cue number is in
     /// thousandths, 1 to 9,999,999, and the CID is the UUID's 16 bytes in order.
     Look {

@@ -2,11 +2,12 @@ ghost use Rattle.std.specs.Prelude.{◌≡◌, IfOk, false};
 ghost use Rattle.clap.specs.Words.{app_of, new_app, rule_of};
 ghost use Rattle.clap.specs.declared.builder.Command.TheViews.{out-Command as fields_of};
 ghost use Rattle.cueplayer_words.specs.Program.{required, required_option, option, check_line};
-ghost use Rattle.cueplayer_words.specs.Program.{look_line, slots_line, rehearse_line};
+ghost use Rattle.cueplayer_words.specs.Program.{explain_line, look_line, slots_line};
+ghost use Rattle.cueplayer_words.specs.Program.{rehearse_line};
 ghost use Rattle.cueplayer_words.specs.Program.{short_play_line, named_play_line, play_line};
 ghost use Rattle.cueplayer_words.specs.Program.{live_line, listen_line};
-ghost use Rattle.cueplayer_words.specs.Program.{without_lines, printing_lines, playing_lines};
-ghost use Rattle.cueplayer_words.specs.Program.{program};
+ghost use Rattle.cueplayer_words.specs.Program.{without_lines, telling_lines, printing_lines};
+ghost use Rattle.cueplayer_words.specs.Program.{playing_lines, program};
 
 use clap::{Arg, Command};
 use std::alloc::{AllocError, Global};
@@ -31,10 +32,17 @@ fn playing_lines<'a>(alloc: Global) -> Result<Command<'a>, AllocError>
 fn printing_lines<'a>(alloc: Global) -> Result<Command<'a>, AllocError>
     ensures { IfOk result (λ command. app_of command ≡ printing_lines) }
 {
-    without_lines(alloc)?
-        .subcommand(check_line(alloc)?)?
+    telling_lines(alloc)?
         .subcommand(look_line(alloc)?)?
         .subcommand(slots_line(alloc)?)
+}
+
+fn telling_lines<'a>(alloc: Global) -> Result<Command<'a>, AllocError>
+    ensures { IfOk result (λ command. app_of command ≡ telling_lines) }
+{
+    without_lines(alloc)?
+        .subcommand(check_line(alloc)?)?
+        .subcommand(explain_line(alloc)?)
 }
 
 fn without_lines<'a>(alloc: Global) -> Result<Command<'a>, AllocError>
@@ -53,6 +61,19 @@ fn check_line<'a>(alloc: Global) -> Result<Command<'a>, AllocError>
     Command::new(alloc, "check")
         .about("Reads a show and prints its counts")
         .arg(required(alloc, "SHOW", "The show's file, or - for standard input"))
+}
+
+fn explain_line<'a>(alloc: Global) -> Result<Command<'a>, AllocError>
+    ensures app { IfOk result (λ command. app_of command ≡ explain_line) }
+    ensures local { IfOk result (λ command. (fields_of command).has_globals ≡ false) }
+{
+    explained_line(
+        alloc,
+        "explain",
+        "Prints which lines of a show are skipped, and why, and notes for its author",
+        "Example: cueplayer explain night.asc",
+    )
+    .arg(required(alloc, "SHOW", "The show's file, or - for standard input"))
 }
 
 fn look_line<'a>(alloc: Global) -> Result<Command<'a>, AllocError>

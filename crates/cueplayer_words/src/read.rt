@@ -2,7 +2,7 @@ ghost use Rattle.std.specs.Prelude.{◌≡◌, ◌≤◌, map, option_map, optio
 ghost use Rattle.std.specs.Prelude.{IfSome};
 ghost use Rattle.clap.specs.Words.{found_of, rows_of, subcommand_rows_of};
 ghost use Rattle.cueplayer_words.specs.Job.{line_of, check_of, look_of, look_with};
-ghost use Rattle.cueplayer_words.specs.Job.{slots_of, slots_with};
+ghost use Rattle.cueplayer_words.specs.Job.{explain_of, slots_of, slots_with};
 ghost use Rattle.cueplayer_words.specs.Job.{play_of, play_with, live_of, live_with, recorded};
 ghost use Rattle.cueplayer_words.specs.Job.{rehearse_of, rehearse_with};
 ghost use Rattle.cueplayer_words.specs.Job.{listen_of, listen_with, IsInRange};
@@ -61,6 +61,8 @@ fn read_line(alloc: Global, matches: &ArgMatches<'_>) -> Result<Option<Job>, All
     };
     if line == "check" {
         read_check(alloc, inner)
+    } else if line == "explain" {
+        read_explain(alloc, inner)
     } else if line == "look" {
         read_look(alloc, inner)
     } else if line == "slots" {
@@ -95,6 +97,25 @@ fn check_job(alloc: Global, show: Option<&str>) -> Result<Option<Job>, AllocErro
     };
     let show = Name::new(alloc, show)?;
     Ok(Some(Job::Check { show }))
+}
+
+fn read_explain(alloc: Global, matches: &ArgMatches<'_>) -> Result<Option<Job>, AllocError>
+    ensures job { IfOk result (λ job. job ≡ explain_of (rows_of (found_of matches.now))) }
+    ensures ranges { IfOk result (λ job. IfSome job IsInRange) }
+{
+    explain_job(alloc, text_at(matches, "SHOW"))
+}
+
+fn explain_job(alloc: Global, show: Option<&str>) -> Result<Option<Job>, AllocError>
+    ensures job { IfOk result (λ job.
+        job ≡ option_map Job.Explain (option_map (λ text. text.now) show.entry)) }
+    ensures ranges { IfOk result (λ job. IfSome job IsInRange) }
+{
+    let Some(show) = show else {
+        return Ok(None);
+    };
+    let show = Name::new(alloc, show)?;
+    Ok(Some(Job::Explain { show }))
 }
 
 fn read_look(alloc: Global, matches: &ArgMatches<'_>) -> Result<Option<Job>, AllocError>

@@ -105,6 +105,25 @@ fn words_of_look_one(rt: HostRuntime) -> Result<(), Fail> {
 }
 
 #[test]
+fn words_of_explain(rt: HostRuntime) -> Result<(), Fail> {
+    let words = ["cueplayer", "explain", "a.asc"];
+    let Ok(Job::Explain { show }) = read(rt.alloc(), words.as_slice()) else {
+        return Err(Fail::from("no explain"));
+    };
+    assert!(rt; show.as_str() == "a.asc");
+    for words in [
+        ["cueplayer", "explain"].as_slice(),
+        ["cueplayer", "explain", "a", "b"].as_slice(),
+    ] {
+        assert!(rt;
+            matches!(read(rt.alloc(), words), Err(WordsFault::Refused(_))),
+            "{words:?}"
+        );
+    }
+    Ok(())
+}
+
+#[test]
 fn words_of_slots(rt: HostRuntime) -> Result<(), Fail> {
     for (words, number, first) in [
         (["cueplayer", "slots", "a.asc", "1.5"].as_slice(), 1500, 1),

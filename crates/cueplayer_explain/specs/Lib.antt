@@ -1,0 +1,4 @@
+pub mod Headings
+pub mod Reasons
+pub mod Skipped
+pub mod Explained

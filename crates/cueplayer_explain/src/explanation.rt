@@ -1,0 +1,62 @@
+ghost use Rattle.std.specs.Prelude.{◌≡◌, ◌<◌, ◌++◌, OnOk, IfErr, None, length, flat_map, map};
+ghost use Rattle.std.specs.Prelude.{string_bytes};
+ghost use Rattle.show_line.specs.Said.{desk};
+ghost use Rattle.show_reader.specs.declared.fault.ShowFault.TheVariants as show_fault;
+ghost use Rattle.show_reader.specs.Reading.{fault_of, longest_text};
+ghost use Rattle.cueplayer_runs.specs.Faults.{CheckFails};
+ghost use Rattle.cueplayer_runs.specs.Prints.{Prints};
+ghost use Rattle.cueplayer_explain.specs.Explained.{IsExplanationOf, note_line};
+
+use crate::notes::notes_on;
+use crate::skipped::skipped_lines;
+use cueplayer_faults::RunFault;
+use devices::Output;
+use show_reader::read_show;
+use std::alloc::{AllocError, Global};
+
+/// Prints why lines of a show text are skipped: for each of them a line with its number, the
+/// reason, and its text; and then notes for the author of the show, each on a line that begins
+/// with `note: `.
+///
+/// Of a line the first 200 bytes are shown: a tab and a CR as a space, and `?` for each other byte
+/// that is no printable ASCII. All of the text goes out by one write, and only after all memory was
+/// taken.
+///
+/// # Errors
+///
+/// The text's fault; `Memory` where a growth was refused; `Device` where the write failed.
+pub fn explain<W: Output>(alloc: Global, show: &[u8], out: &mut W) -> Result<(), RunFault>
+    ensures told { W.tells out.new → W.tells out.old }
+    ensures text { W.tells out.new → Prints result (IsExplanationOf show.now) (W.tape out.old)
+        (W.tape out.new) }
+    ensures faultless { OnOk result (fault_of desk show.now ≡ None) }
+    ensures fault { IfErr result (CheckFails show.now) }
+    ensures too_long { longest_text < length show.now → result ≡ Err
+        (RunFault.Show show_fault.TooLong) }
+{
+    let loaded = read_show(alloc, show)?;
+    let mut text = skipped_lines(alloc, show, loaded.lines)?;
+    let notes = notes_on(alloc, show, &loaded.show)?;
+    push_notes(&mut text, notes.as_slice())?;
+    out.write(text.as_slice())?;
+    Ok(())
+}
+
+fn push_notes(text: &mut Vec<u8>, notes: &[String]) -> Result<(), AllocError>
+    ensures { OnOk result (text.new.items
+        ≡ text.old.items ++ flat_map note_line (map string_bytes notes.now)) }
+{
+    for note in notes {
+        push_note(text, note.as_str())?;
+    }
+    Ok(())
+}
+
+fn push_note(text: &mut Vec<u8>, note: &str) -> Result<(), AllocError>
+    ensures { OnOk result (text.new.items ≡ text.old.items ++ note_line note.now) }
+{
+    text.extend_from_slice(b"note: ")?;
+    text.extend_from_slice(note.as_bytes())?;
+    text.push(b'\n')?;
+    Ok(())
+}
