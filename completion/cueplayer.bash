@@ -14,7 +14,7 @@ _cueplayer_options() {
 # How many words of a job, from its first on, name files.
 _cueplayer_files() {
     case $1 in
-        check | look | slots | play | live) echo 1 ;;
+        check | explain | look | slots | play | live) echo 1 ;;
         rehearse) echo 2 ;;
         *) echo 0 ;;
     esac
@@ -63,7 +63,7 @@ _cueplayer_parse() {
 
 # Fills COMPREPLY with what may stand where the cursor is.
 _cueplayer() {
-    local jobs="check look slots play live rehearse listen help"
+    local jobs="check explain look slots play live rehearse listen help"
     local job='' option='' used=' ' place=0 words_only='' choices='' is_file='' name
     local -a words=()
     _cueplayer_join
