@@ -5,7 +5,7 @@ move was made first. A due move comes before a call of its own moment, several m
 after `end` none is due.
 """
 
-HAS_FOLLOW_ONS = False
+HAS_FOLLOW_ONS = True
 
 
 def next_cue(show, cue):
