@@ -63,6 +63,15 @@ neq a b h e = let q : true ≡ false = sym (eq-eqb a b e) ∙ h in cc
 pub lt_true : (m n : ℕ) → m < n → nat_lt m n ≡ true
 lt_true m n h = grind (arith, nat_tests)
 
+-- what is asked for by a number, where there are as many as stand in a row
+pub is_among : {here there : ℕ} (k n : ℕ) → here ≡ there → k < here → k ≡ n
+    → nat_lt n there ≡ true
+is_among k n each l same = grind (arith, nat_tests)
+
+pub is_not_among : {here there : ℕ} (k n : ℕ) → here ≡ there → here ≤ k → k ≡ n
+    → nat_lt n there ≡ false
+is_not_among k n each l same = grind (arith, nat_tests)
+
 module _ {S : Type 0} (tells : S → Type 0) (stages : List S) (k : ℕ) (is : S) where
   pub tell_set : tells is → AllTell tells stages → AllTell tells (set stages k is)
   tell_set new all = λ j s g. go j s (get_set stages k j is s g)

@@ -11,7 +11,7 @@ use Rattle.wire_laws.specs.Happened.{acts, datagram}
 use Rattle.wire_laws.specs.Replies.{replied}
 use Rattle.wire_world.specs.Stands.{AllHear, unless_skipped}
 use Rattle.wire_world.proofs.Stages.{stood_at, not_sent, delivered_replied, delivered_handed}
-use Rattle.wire_world.proofs.Stages.{delivered_skip, few_receivers}
+use Rattle.wire_world.proofs.Stages.{delivered_skip, few_receivers, is_among, is_not_among}
 use Rattle.wire_world.specs.StageStands.{StageStands}
 use Rattle.wire_world.proofs.steps.deliver_at.Goals as goal
 
@@ -101,3 +101,25 @@ returns-in-Some-clause-hear g c = λ w past all tell hear.
     (delivered_handed (StageStands g.F.Fader.stands_for) c.args.stages.now w past all
     c.from-i.result c.index-stages-i.result at c.args.console c.from-i.ensures c.args.receiver
     c.args.universe c.args.k c.args.moment few c.in-Some.bytes.now got))
+
+pub returns-then-i-stages-clause-reply : goal.returns-then-i-stages-clause-reply
+returns-then-i-stages-clause-reply g c = λ w past all tell hear.
+    rw (is_not_among c.from-i.result c.args.console all.each c.if-i-stages.true c.from-i.ensures)
+    refl
+
+pub returns-then-i-stages-clause-hear : goal.returns-then-i-stages-clause-hear
+returns-then-i-stages-clause-hear g c = λ w past all tell hear.
+    rw (is_not_among c.from-i.result c.args.console all.each c.if-i-stages.true c.from-i.ensures)
+    hear
+
+pub returns-then-from-receivers-clause-reply : goal.returns-then-from-receivers-clause-reply
+returns-then-from-receivers-clause-reply g c = λ w past all tell hear.
+    rw (is_among c.from-i.result c.args.console all.each c.if-i-stages.false c.from-i.ensures,
+    is_not_among c.from.result c.args.receiver hear.each c.if-from-receivers.true c.from.ensures)
+    refl
+
+pub returns-then-from-receivers-clause-hear : goal.returns-then-from-receivers-clause-hear
+returns-then-from-receivers-clause-hear g c = λ w past all tell hear.
+    rw (is_among c.from-i.result c.args.console all.each c.if-i-stages.false c.from-i.ensures,
+    is_not_among c.from.result c.args.receiver hear.each c.if-from-receivers.true c.from.ensures)
+    hear
