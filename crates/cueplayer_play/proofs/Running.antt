@@ -15,8 +15,9 @@ use Rattle.console_text.specs.declared.reading.Reading.TheVariants.{Blank}
 use Rattle.console_text.specs.Spelling.{is_malformed, reading_of}
 use Rattle.cueplayer_play.specs.declared.fault.PlayFault.{PlayFault}
 use Rattle.cueplayer_play.specs.Lines.{AreFine, Cut, with_byte}
-use Rattle.cueplayer_play.specs.Run.{Carried, CarriesOut, Emitted, Ran, due_after, history_of, line_text, lines_in, sends_of, text_of}
-use Rattle.cueplayer_play.specs.Stage.{Ends, EndsWithin, Leaves}
+use Rattle.cueplayer_play.specs.Run.{Carried, CarriesOut, Emitted, FailsToPrint, Ran, due_after, history_of, line_text, lines_in, sends_of, text_of}
+use Rattle.cueplayer_play.specs.declared.fault.PlayFault.TheVariants.{Device, Line}
+use Rattle.cueplayer_play.specs.Stage.{Ends, EndsWithin, Leaves, LeavesLine}
 
 -- ---- tapes
 
@@ -110,6 +111,23 @@ ran_more p line older before middle after lost more r l =
 pub ran_same : (p : Production) (lines : List (List ℕ)) (before middle after : Emitted) (lost : ℕ) → after ≡ middle
     → Ran p lines before middle lost → Ran p lines before after lost
 ran_same p lines before middle after lost e r = subst (λ (x : Emitted). Ran p lines before x lost) (sym e) r
+
+-- what the last line leaves is what the bytes leave
+pub left_behind : (fault : PlayFault) (p : Production) (cut : Cut) (line : List ℕ)
+    (before middle after : Emitted) (lost : ℕ) → line ≡ cut.rest
+    → Ran p cut.lines before middle lost
+    → LeavesLine fault p (history_of p.show cut.lines) (reading_of line) middle after
+    → Leaves fault p cut before after
+left_behind (Line n) p cut line before middle after lost is ran same =
+    (lost, ran_same p cut.lines before middle after lost same ran)
+left_behind Device p cut line before middle after lost is ran fails = record {
+  middle = middle;
+  lost = lost;
+  ran = ran;
+  fails =
+      subst (λ (l : List ℕ). FailsToPrint p (history_of p.show cut.lines) (reading_of l) middle
+      after) is fails;
+}
 
 -- the line that LF ends is carried out
 pub ran_ended : (p : Production) (cut : Cut) (b : ℕ) (line : List ℕ) (before middle after : Emitted) (lost more : ℕ) → b ≡ 10
