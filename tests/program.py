@@ -1,6 +1,7 @@
 """What the tests share: running the program, show texts, and the packet that is expected."""
 
 import os
+import re
 import subprocess
 import unittest
 from pathlib import Path
@@ -17,8 +18,26 @@ LOOK_ONE = ("IDENT 3:0", "CUE 1", "CHAN 1@H80", "PATCH 1 1<1@H80", "ENDDATA")
 NO_PATCH = b"no dimmer is patched\n"
 
 
+# The first line that tells of a fault; the line behind it is a remark, in words.
+FAULT = re.compile(
+    rb"(words refused|show(: | line \d+: )\w+|base: Universe|line \d+ refused|script: TooLong|setup: \w+"
+    rb"|device fault|lost \d+)\n"
+)
+
+# What `listen` tells before it waits.
+WAITING = (b"listening at ", b"this machine hears ")
+
+
+def told(err):
+    """Standard error without remarks, and without what `listen` tells before it waits."""
+    lines = [line for line in err.splitlines(keepends=True) if not line.startswith(WAITING)]
+    if len(lines) > 1 and FAULT.fullmatch(lines[-2]):
+        lines.pop()
+    return b"".join(lines)
+
+
 class Outcome(NamedTuple):
-    """How a run ended, and what it wrote."""
+    """How a run ended, and what it wrote; of standard error what `told` leaves."""
 
     status: int
     out: bytes
@@ -28,7 +47,7 @@ class Outcome(NamedTuple):
 def run(*words, stdin=b"", **options):
     """Runs the program with these words. A negative status is the signal that ended it."""
     done = subprocess.run([PROGRAM, *words], input=stdin, capture_output=True, timeout=60, **options)
-    return Outcome(done.returncode, done.stdout, done.stderr)
+    return Outcome(done.returncode, done.stdout, told(done.stderr))
 
 
 def text(*lines):

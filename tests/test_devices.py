@@ -10,7 +10,7 @@ import time
 import unittest
 from pathlib import Path
 
-from program import CID, LOOK_ONE, PROGRAM, ProgramTest, counts, packet, run, text
+from program import CID, LOOK_ONE, PROGRAM, ProgramTest, counts, packet, run, text, told
 
 SHOW = text(*LOOK_ONE)
 LOOK = ("look", "-", "1", "--cid", CID)
@@ -59,7 +59,7 @@ class Files(ProgramTest):
         folder = os.open(self.folder, os.O_RDONLY)
         self.addCleanup(os.close, folder)
         done = subprocess.run([PROGRAM, "check", "-"], stdin=folder, capture_output=True, timeout=60)
-        self.assertEqual((5, b"", DEVICE_FAULT), (done.returncode, done.stdout, done.stderr))
+        self.assertEqual((5, b"", DEVICE_FAULT), (done.returncode, done.stdout, told(done.stderr)))
 
     def test_input_in_pieces(self):
         """A pipe that gives a few bytes at a time gives the same show."""
@@ -114,6 +114,7 @@ class Floods(ProgramTest):
         """Of `play` line 10,000,001 is the last that is looked at."""
         run = self.flooded("", "play", stdout=subprocess.PIPE, stderr=subprocess.PIPE)
         out, err = run.communicate(timeout=60)
+        err = told(err)
         self.assertEqual((4, b"", b"line 10000001 refused\n"), (run.returncode, out, err))
 
     def test_live_goes_on(self):
@@ -163,7 +164,7 @@ class Outputs(ProgramTest):
                 done = subprocess.run(
                     [PROGRAM, *words], input=SHOW, stderr=subprocess.PIPE, timeout=60, **options
                 )
-                self.assertEqual((5, DEVICE_FAULT), (done.returncode, done.stderr))
+                self.assertEqual((5, DEVICE_FAULT), (done.returncode, told(done.stderr)))
 
     def test_full_output(self):
         with open("/dev/full", "wb") as full:
@@ -221,9 +222,9 @@ class Memory(unittest.TestCase):
         if done.returncode == 127 or done.returncode in (-signal.SIGKILL, -signal.SIGSEGV):
             return "unstarted"
         if done.returncode == 6:
-            self.assertEqual((b"", b"memory\n"), (done.stdout, done.stderr))
+            self.assertEqual((b"", b"memory\n"), (done.stdout, told(done.stderr)))
             return "memory"
-        self.assertEqual((0, b""), (done.returncode, done.stderr))
+        self.assertEqual((0, b""), (done.returncode, told(done.stderr)))
         return "done"
 
     def test_want_of_memory(self):

@@ -2,7 +2,7 @@
 
 import subprocess
 
-from program import CID, LOOK_ONE, PROGRAM, TOP, ProgramTest, run, text
+from program import CID, LOOK_ONE, PROGRAM, TOP, ProgramTest, run, text, told
 
 PATCHED = "PATCH 1 1<1@FL 2<2@FL"
 NO_PATCH = "note: no dimmer is patched: no universe is sent"
@@ -132,7 +132,7 @@ class Explain(ProgramTest):
             words = [PROGRAM, "explain", "-"]
             pipe = subprocess.PIPE
             done = subprocess.run(words, input=b"WHAT\n", stdout=full, stderr=pipe, timeout=60)
-        self.assertEqual((5, b"device fault\n"), (done.returncode, done.stderr))
+        self.assertEqual((5, b"device fault\n"), (done.returncode, told(done.stderr)))
 
     def test_words(self):
         for words, telling in (

@@ -11,7 +11,7 @@ import unittest
 from pathlib import Path
 
 from expected import runs
-from program import CID, LOOK_ONE, PROGRAM, Outcome, ProgramTest, counts, packet, run, text
+from program import CID, LOOK_ONE, PROGRAM, Outcome, ProgramTest, counts, packet, run, text, told
 from test_listen import THREE, Listener
 from test_live import OPTIONS, SEQUENCE, without_moments
 from test_play import S1, TERMINATED, received, receiving
@@ -64,7 +64,7 @@ class FailingCalls(ProgramTest):
                 timeout=60,
                 env=self.environment(*failures),
             )
-        return Outcome(done.returncode, done.stdout, done.stderr)
+        return Outcome(done.returncode, done.stdout, told(done.stderr))
 
     def plays(self, lines, *failures):
         """How `play` ends, and what came of its packets."""
@@ -142,7 +142,7 @@ class Play(FailingCalls):
             self.assertEqual([b"0 ok\n", b"0 live 1:s0\n"], [run.stdout.readline() for _ in range(2)])
             run.stdout.close()
             run.stdin.write(b"2500 tick\n")
-            self.assertEqual(DEVICE_FAULT, run.stderr.read())
+            self.assertEqual(DEVICE_FAULT, told(run.stderr.read()))
         self.assertEqual((5, FADED[:2]), (run.returncode, received(self.receiver)))
 
     def test_input_cut(self):
@@ -240,7 +240,7 @@ class Listen(FailingCalls):
         self.assertEqual(b"1 taken 0\n", listener.line())
         listener.child.stdout.close()
         listener.send(self.DATAGRAMS[1])
-        self.assertEqual(DEVICE_FAULT, listener.child.stderr.read())
+        self.assertEqual(DEVICE_FAULT, told(listener.child.stderr.read()))
         self.assertEqual(5, listener.child.wait(timeout=30))
 
 
@@ -338,7 +338,7 @@ class Network(FailingCalls):
         words = [*self.namespace(), PROGRAM, "play", self.show, "--to", "192.0.2.1", "--cid", CID]
         done = subprocess.run(words, input=b"0 tick\n25 tick\n", capture_output=True, timeout=60)
         out = b"0 live 1:x0\n25 live 1:x1\n"
-        self.assertEqual((5, out, b"lost 2\n"), (done.returncode, done.stdout, done.stderr))
+        self.assertEqual((5, out, b"lost 2\n"), (done.returncode, done.stdout, told(done.stderr)))
 
     def test_network_that_comes(self):
         """A night that begins without its network goes on once it is there."""

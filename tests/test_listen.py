@@ -8,7 +8,7 @@ import subprocess
 import time
 from pathlib import Path
 
-from program import PROGRAM, ProgramTest, packet, run
+from program import PROGRAM, ProgramTest, packet, run, told
 
 LOOK_ONE = packet(1, {1: 64})
 THREE = b"1 taken 0\n2 ignored OutOfSequence\n3 ignored Unreadable Short\nslots 1:64\n"
@@ -73,6 +73,7 @@ class Listener:
         """Waits for the run's end: its status, the rest of its output, and what it told."""
         self.sender.close()
         out, err = self.child.communicate(timeout=30)
+        err = told(err)
         return self.child.returncode, out, err
 
     def abandon(self):
@@ -257,5 +258,5 @@ class Listen(ProgramTest):
                     time.sleep(0.002)
                 with socket.socket(socket.AF_INET, socket.SOCK_DGRAM) as sender:
                     sender.sendto(LOOK_ONE, ("127.0.0.1", port))
-                self.assertEqual(DEVICE_FAULT, child.stderr.read())
+                self.assertEqual(DEVICE_FAULT, told(child.stderr.read()))
             self.assertEqual(5, child.returncode)

@@ -9,7 +9,7 @@ import tempfile
 import time
 from pathlib import Path
 
-from program import CID, PROGRAM, Outcome, ProgramTest, packet, run, text
+from program import CID, PROGRAM, Outcome, ProgramTest, packet, run, text, told
 from test_play import S1, TERMINATED, receiving
 
 OTHER = CID[:-1] + "2"
@@ -72,6 +72,7 @@ class LiveTest(ProgramTest):
     def ended(self, night):
         """How a night ended, once its input is closed."""
         out, err = night.communicate(timeout=30)
+        err = told(err)
         return Outcome(night.returncode, out, err)
 
     def assertTerminated(self, came):
@@ -249,7 +250,7 @@ class Live(LiveTest):
             capture_output=True,
             timeout=30,
         )
-        self.assertEqual((5, b"device fault\n"), (night.returncode, night.stderr))
+        self.assertEqual((5, b"device fault\n"), (night.returncode, told(night.stderr)))
 
     def test_two_consoles(self):
         """Two nights into one `listen`: the one of priority 150 leads."""

@@ -9,7 +9,7 @@ import sys
 import tempfile
 from pathlib import Path
 
-from program import CID, LOOK_ONE, PROGRAM, Outcome, ProgramTest, packet, run, text
+from program import CID, LOOK_ONE, PROGRAM, Outcome, ProgramTest, packet, run, text, told
 
 S1 = text(
     "IDENT 3:0",
@@ -212,7 +212,7 @@ class Ends(PlayTest):
         folder = os.open(self.folder, os.O_RDONLY)
         self.addCleanup(os.close, folder)
         done = subprocess.run([PROGRAM, *self.words(S1)], stdin=folder, capture_output=True, timeout=60)
-        self.assertEqual((*fault, b""), (done.returncode, done.stderr, done.stdout))
+        self.assertEqual((*fault, b""), (done.returncode, told(done.stderr), done.stdout))
         with open("/dev/full", "wb") as full:
             done = subprocess.run(
                 [PROGRAM, *self.words(S1)],
@@ -221,7 +221,7 @@ class Ends(PlayTest):
                 stderr=subprocess.PIPE,
                 timeout=60,
             )
-        self.assertEqual(fault, (done.returncode, done.stderr))
+        self.assertEqual(fault, (done.returncode, told(done.stderr)))
 
     def test_lost_packets(self):
         """A broadcast address, which the system refuses to send to without leave."""

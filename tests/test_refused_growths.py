@@ -11,7 +11,7 @@ import time
 import unittest
 from pathlib import Path
 
-from program import CID, PROGRAM, Outcome, ProgramTest, packet, run, text
+from program import CID, PROGRAM, Outcome, ProgramTest, packet, run, text, told
 from test_listen import Listener
 
 COMPILER = shutil.which("cc")
@@ -67,7 +67,7 @@ class RefusedGrowths(Growths):
                 [PROGRAM, *words], stdin=given, capture_output=True, timeout=60, env=self.environment(growth)
             )
         out = re.sub(rb"^\d+ ", b"", done.stdout, flags=re.MULTILINE)
-        return Outcome(done.returncode, out, done.stderr)
+        return Outcome(done.returncode, out, told(done.stderr))
 
     def assertEachRefused(self, words, stdin):
         whole = self.run_without(0, words, stdin)
@@ -160,6 +160,7 @@ class NoGrowths(Growths):
             night.stdin.write(text(line))
             time.sleep(0.03)
         _, err = night.communicate(timeout=60)
+        err = told(err)
         self.assertEqual((0, 2), (night.returncode, err.count(b"line refused")))
         self.assertNoneAfterTheFirst()
 

@@ -4,7 +4,7 @@ import subprocess
 import tempfile
 from pathlib import Path
 
-from program import CID, PROGRAM, ProgramTest, run, text
+from program import CID, PROGRAM, ProgramTest, run, text, told
 from test_play import S1
 
 CONSOLE = f"console 1 100 {CID}"
@@ -291,4 +291,4 @@ class Rehearse(ProgramTest):
         words = self.words(S1, text(*HEADER, "0 tick 0"))
         with open("/dev/full", "wb") as full:
             done = subprocess.run([PROGRAM, *words], stdout=full, stderr=subprocess.PIPE, timeout=60)
-        self.assertEqual((5, b"device fault\n"), (done.returncode, done.stderr))
+        self.assertEqual((5, b"device fault\n"), (done.returncode, told(done.stderr)))

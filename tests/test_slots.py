@@ -2,7 +2,7 @@
 
 import subprocess
 
-from program import CID, LOOK_ONE, NO_PATCH, PROGRAM, TOP, ProgramTest, run, text
+from program import CID, LOOK_ONE, NO_PATCH, PROGRAM, TOP, ProgramTest, run, text, told
 from test_examples import blocks
 
 SHOW = text(*LOOK_ONE)
@@ -57,7 +57,7 @@ class Slots(ProgramTest):
             words = [PROGRAM, "slots", "-", "1"]
             pipe = subprocess.PIPE
             done = subprocess.run(words, input=SHOW, stdout=full, stderr=pipe, timeout=60)
-        self.assertEqual((5, b"device fault\n"), (done.returncode, done.stderr))
+        self.assertEqual((5, b"device fault\n"), (done.returncode, told(done.stderr)))
 
     def test_words(self):
         for words in (["x"], ["0"], *(["1", "--base", base] for base in ("0", "64000", "x"))):

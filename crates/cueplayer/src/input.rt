@@ -24,6 +24,6 @@ impl<R: Read> Feed for SystemInput<R> {
     ghost ended = { λ _. ⊥ };
 
     fn read(&mut self, buf: &mut [u8; 4096]) -> Result<usize, LinkFault> {
-        read_some(&mut self.inner, buf)
+        read_some(&mut self.inner, buf).map_err(|_| LinkFault)
     }
 }

@@ -1,9 +1,9 @@
 ghost use Rattle.std.specs.Prelude.{◌≡◌, ◌≤◌, []};
 
+use crate::failure::Failure;
 use crate::output::SystemOutput;
 use crate::record::Record;
 use crate::typed_input::{Came, TypedInput};
-use cueplayer_faults::RunFault;
 use devices::{Feed, LinkFault, Output};
 use live_input::{Given, LiveInput};
 use std::time::Instant;
@@ -21,9 +21,10 @@ pub struct LiveFeed<'a> {
 
 impl<'a> LiveFeed<'a> {
     /// The night starts here: its moments are milliseconds from now on.
-    pub fn new(rt: &'a HostRuntime, input: TypedInput, record: Record) -> Result<Self, RunFault> {
-        let Ok(start) = Instant::now(rt) else {
-            return Err(RunFault::Device);
+    pub fn new(rt: &'a HostRuntime, input: TypedInput, record: Record) -> Result<Self, Failure> {
+        let start = match Instant::now(rt) {
+            Ok(start) => start,
+            Err(error) => return Err(Failure::of_device("the clock", error.kind())),
         };
         Ok(LiveFeed {
             rt,

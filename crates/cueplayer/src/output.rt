@@ -1,22 +1,39 @@
 ghost use Rattle.std.specs.Prelude.{[]};
 
 use devices::{LinkFault, Output};
-use std::io::Write;
+use std::io::{ErrorKind, Write};
 
 /// An output of the system: a file, a pipe or a terminal. It does not tell what it took.
 #[derive(Drop)]
 pub struct SystemOutput<W> {
     inner: W,
+    failure: Option<ErrorKind>,
 }
 
 impl<W: Write> SystemOutput<W> {
     pub fn new(inner: W) -> Self {
-        SystemOutput { inner }
+        SystemOutput {
+            inner,
+            failure: None,
+        }
     }
 
     /// Hands on what a buffer still holds.
     pub fn flush(&mut self) -> Result<(), LinkFault> {
-        self.inner.flush().map_err(|_| LinkFault)
+        match self.inner.flush() {
+            Ok(()) => Ok(()),
+            Err(error) => {
+                self.failure = Some(error.kind());
+                Err(LinkFault)
+            }
+        }
+    }
+}
+
+impl<W> SystemOutput<W> {
+    /// The system's reason where a write failed: that of the last.
+    pub fn failure(&self) -> Option<ErrorKind> {
+        self.failure
     }
 }
 
@@ -26,6 +43,12 @@ impl<W: Write> Output for SystemOutput<W> {
     ghost tape = { λ _. record { items = []; failures = 0 } };
 
     fn write(&mut self, bytes: &[u8]) -> Result<(), LinkFault> {
-        self.inner.write_all(bytes).map_err(|_| LinkFault)
+        match self.inner.write_all(bytes) {
+            Ok(()) => Ok(()),
+            Err(error) => {
+                self.failure = Some(error.kind());
+                Err(LinkFault)
+            }
+        }
     }
 }

@@ -2,11 +2,11 @@ ghost use Rattle.std.specs.Prelude.{◌≡◌, ◌≤◌, ◌⊎◌, IfOk, IfErr
 ghost use Rattle.std.specs.Io.KnownBytes.{ReadConsumes};
 ghost use Rattle.cueplayer_faults.specs.declared.fault.RunFault.TheVariants as run;
 
+use crate::failure::Failure;
 use cueplayer_faults::RunFault;
 use cueplayer_rehearse::LONGEST_SCRIPT;
-use devices::LinkFault;
 use show_reader::LONGEST_TEXT;
-use std::alloc::Global;
+use std::alloc::{AllocError, Global};
 use std::fs::File;
 use std::io::{ErrorKind, Read};
 
@@ -20,12 +20,13 @@ const BLOCK: usize = 65536;
 /// # Errors
 ///
 /// As [`file_text`].
-pub fn show_text(rt: &HostRuntime, name: &str) -> Result<Vec<u8>, RunFault>
+pub fn show_text(rt: &HostRuntime, name: &str) -> Result<Vec<u8>, Failure>
     ensures most { IfOk result (λ bytes. length bytes.items ≤ 1048577) }
-    ensures fault { IfErr result (λ fault. (fault ≡ run.Device) ⊎ (fault ≡ run.Memory)) }
+    ensures fault { IfErr result (λ failure.
+        (failure.fault ≡ run.Device) ⊎ (failure.fault ≡ run.Memory)) }
 {
     if name == "-" {
-        return first_bytes(rt.alloc(), &mut rt.stdin());
+        return named("standard input", first_bytes(rt.alloc(), &mut rt.stdin()));
     }
     file_text(rt, name)
 }
@@ -35,14 +36,15 @@ pub fn show_text(rt: &HostRuntime, name: &str) -> Result<Vec<u8>, RunFault>
 /// # Errors
 ///
 /// `Device` where the file cannot be opened or read; `Memory` where a growth was refused.
-pub fn file_text(rt: &HostRuntime, name: &str) -> Result<Vec<u8>, RunFault>
+pub fn file_text(rt: &HostRuntime, name: &str) -> Result<Vec<u8>, Failure>
     ensures most { IfOk result (λ bytes. length bytes.items ≤ 1048577) }
-    ensures fault { IfErr result (λ fault. (fault ≡ run.Device) ⊎ (fault ≡ run.Memory)) }
+    ensures fault { IfErr result (λ failure.
+        (failure.fault ≡ run.Device) ⊎ (failure.fault ≡ run.Memory)) }
 {
-    let Ok(mut file) = File::open(rt, name) else {
-        return Err(RunFault::Device);
-    };
-    first_bytes(rt.alloc(), &mut file)
+    match File::open(rt, name) {
+        Ok(mut file) => named(name, first_bytes(rt.alloc(), &mut file)),
+        Err(error) => Err(Failure::of_device(name, error.kind())),
+    }
 }
 
 /// The first bytes of the script in the file of this name.
@@ -50,42 +52,74 @@ pub fn file_text(rt: &HostRuntime, name: &str) -> Result<Vec<u8>, RunFault>
 /// # Errors
 ///
 /// As [`file_text`].
-pub fn script_text(rt: &HostRuntime, name: &str) -> Result<Vec<u8>, RunFault>
+pub fn script_text(rt: &HostRuntime, name: &str) -> Result<Vec<u8>, Failure>
     ensures most { IfOk result (λ bytes. length bytes.items ≤ 16777217) }
-    ensures fault { IfErr result (λ fault. (fault ≡ run.Device) ⊎ (fault ≡ run.Memory)) }
+    ensures fault { IfErr result (λ failure.
+        (failure.fault ≡ run.Device) ⊎ (failure.fault ≡ run.Memory)) }
 {
-    let Ok(mut file) = File::open(rt, name) else {
-        return Err(RunFault::Device);
-    };
-    script_bytes(rt.alloc(), &mut file)
+    match File::open(rt, name) {
+        Ok(mut file) => named(name, script_bytes(rt.alloc(), &mut file)),
+        Err(error) => Err(Failure::of_device(name, error.kind())),
+    }
+}
+
+// Why bytes are not read whole.
+#[derive(Clone, Copy, Debug)]
+enum Unread {
+    // A read failed, for the system's reason.
+    Device(ErrorKind),
+    // A growth was refused.
+    Memory,
+}
+
+impl From<ErrorKind> for Unread {
+    fn from(kind: ErrorKind) -> Unread {
+        Unread::Device(kind)
+    }
+}
+
+impl From<AllocError> for Unread {
+    fn from(_error: AllocError) -> Unread {
+        Unread::Memory
+    }
+}
+
+// What was read of an input of this name.
+fn named(name: &str, bytes: Result<Vec<u8>, Unread>) -> Result<Vec<u8>, Failure>
+    ensures bytes { IfOk result (λ read. bytes ≡ Ok read) }
+    ensures fault { IfErr result (λ failure.
+        (failure.fault ≡ run.Device) ⊎ (failure.fault ≡ run.Memory)) }
+{
+    match bytes {
+        Ok(read) => Ok(read),
+        Err(Unread::Device(kind)) => Err(Failure::of_device(name, kind)),
+        Err(Unread::Memory) => Err(Failure::from(RunFault::Memory)),
+    }
 }
 
 // What is read of a script: the first 16,777,217 bytes of a reader, one more than the longest has.
-fn script_bytes<R: Read>(alloc: Global, reader: &mut R) -> Result<Vec<u8>, RunFault>
+fn script_bytes<R: Read>(alloc: Global, reader: &mut R) -> Result<Vec<u8>, Unread>
     ensures most { IfOk result (λ bytes. length bytes.items ≤ 16777217) }
     ensures first { IfOk result (λ bytes. IfSome (R.remaining reader.old)
         (λ left. bytes.items ≡ take 16777217 left)) }
-    ensures fault { IfErr result (λ fault. (fault ≡ run.Device) ⊎ (fault ≡ run.Memory)) }
 {
     read_most(alloc, reader, LONGEST_SCRIPT + 1)
 }
 
 // What is read of a show: the first 1,048,577 bytes of a reader, one more than the longest show has.
-fn first_bytes<R: Read>(alloc: Global, reader: &mut R) -> Result<Vec<u8>, RunFault>
+fn first_bytes<R: Read>(alloc: Global, reader: &mut R) -> Result<Vec<u8>, Unread>
     ensures most { IfOk result (λ bytes. length bytes.items ≤ 1048577) }
     ensures first { IfOk result (λ bytes. IfSome (R.remaining reader.old)
         (λ left. bytes.items ≡ take 1048577 left)) }
-    ensures fault { IfErr result (λ fault. (fault ≡ run.Device) ⊎ (fault ≡ run.Memory)) }
 {
     read_most(alloc, reader, MOST)
 }
 
 // The first bytes of a reader, at most so many.
-fn read_most<R: Read>(alloc: Global, reader: &mut R, most: usize) -> Result<Vec<u8>, RunFault>
+fn read_most<R: Read>(alloc: Global, reader: &mut R, most: usize) -> Result<Vec<u8>, Unread>
     ensures most { IfOk result (λ bytes. length bytes.items ≤ most) }
     ensures first { IfOk result (λ bytes. IfSome (R.remaining reader.old)
         (λ left. bytes.items ≡ take most left)) }
-    ensures fault { IfErr result (λ fault. (fault ≡ run.Device) ⊎ (fault ≡ run.Memory)) }
 {
     let mut bytes = Vec::new(alloc);
     let mut block = [0u8; BLOCK];
@@ -102,7 +136,7 @@ fn read_most<R: Read>(alloc: Global, reader: &mut R, most: usize) -> Result<Vec<
 
 /// The next bytes of a reader, put to the front of the block; none at its end. A read that a signal
 /// interrupted is made again.
-pub fn read_some<R: Read>(reader: &mut R, block: &mut [u8]) -> Result<usize, LinkFault>
+pub fn read_some<R: Read>(reader: &mut R, block: &mut [u8]) -> Result<usize, ErrorKind>
     ensures within { IfOk result (λ count. count ≤ length block.old) }
     ensures bytes { ReadConsumes (R.remaining reader.old) (R.remaining reader.new) result block.new }
 {
@@ -110,8 +144,8 @@ pub fn read_some<R: Read>(reader: &mut R, block: &mut [u8]) -> Result<usize, Lin
         match reader.read(block) {
             Ok(count) => return Ok(count),
             Err(error) if error.kind() == ErrorKind::Interrupted => {}
-            Err(_) => return Err(LinkFault),
+            Err(error) => return Err(error.kind()),
         }
     }
-    Err(LinkFault)
+    Err(ErrorKind::Interrupted)
 }

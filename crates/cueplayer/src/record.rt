@@ -1,5 +1,5 @@
+use crate::failure::Failure;
 use crate::output::SystemOutput;
-use cueplayer_faults::RunFault;
 use devices::Output;
 use std::fs::{File, OpenOptions};
 use std::io::Write;
@@ -17,16 +17,20 @@ impl Record {
     ///
     /// `Device` where the file cannot be opened, or something stands in it: no night is written
     /// over another.
-    pub fn open(rt: &HostRuntime, name: Option<&str>) -> Result<Self, RunFault> {
+    pub fn open(rt: &HostRuntime, name: Option<&str>) -> Result<Self, Failure> {
         let Some(name) = name else {
             return Ok(Record { file: None });
         };
-        let Ok(file) = OpenOptions::new().append(true).create(true).open(rt, name) else {
-            return Err(RunFault::Device);
+        let file = match OpenOptions::new().append(true).create(true).open(rt, name) {
+            Ok(file) => file,
+            Err(error) => return Err(Failure::of_device(name, error.kind())),
         };
         match file.metadata() {
             Ok(metadata) if metadata.len() == 0 => Ok(Record { file: Some(file) }),
-            _ => Err(RunFault::Device),
+            Ok(_) => Err(Failure::device(
+                "the record's file is not empty: no night is written over another",
+            )),
+            Err(error) => Err(Failure::of_device(name, error.kind())),
         }
     }
 

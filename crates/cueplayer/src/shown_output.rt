@@ -1,7 +1,9 @@
 ghost use Rattle.std.specs.Prelude.{[]};
 
+use crate::output::SystemOutput;
 use devices::{LinkFault, Output};
 use live_input::is_shown;
+use std::io::ErrorKind;
 
 /// An output that the replies which are shown go to.
 #[derive(Drop)]
@@ -12,6 +14,13 @@ pub struct ShownOutput<W> {
 impl<W: Output> ShownOutput<W> {
     pub fn new(inner: W) -> Self {
         ShownOutput { inner }
+    }
+}
+
+impl<W> ShownOutput<SystemOutput<W>> {
+    /// The system's reason where a write failed: that of the last.
+    pub fn failure(&self) -> Option<ErrorKind> {
+        self.inner.failure()
     }
 }
 

@@ -1,21 +1,39 @@
 ghost use Rattle.std.specs.Prelude.{[]};
 
-use cueplayer_faults::RunFault;
+use crate::failure::Failure;
+use arrayvec::ArrayString;
 use devices::{Datagrams, Link, LinkFault};
-use std::io::{ErrorKind, Result as IoResult};
+use std::fmt::Write;
+use std::io::ErrorKind;
 use std::net::{IpAddr, Net, SocketAddr, UdpSocket};
 
 /// A UDP socket that receives. It does not tell what it gave.
 #[derive(Drop)]
 pub struct ReceivingSocket {
     inner: UdpSocket,
+    failure: Option<ErrorKind>,
 }
 
 impl ReceivingSocket {
     /// A socket at an IPv4 address and a port of this machine.
-    pub fn bind(rt: &impl Net, at: ([u8; 4], u16)) -> Result<Self, RunFault> {
-        let inner = bind(rt, at).map_err(|_| RunFault::Device)?;
-        Ok(ReceivingSocket { inner })
+    pub fn bind(rt: &impl Net, at: ([u8; 4], u16)) -> Result<Self, Failure> {
+        Ok(ReceivingSocket {
+            inner: bind(rt, at)?,
+            failure: None,
+        })
+    }
+
+    /// Where it receives, with the port that the system chose where none was asked for.
+    pub fn address(&self) -> AddressText {
+        match self.inner.local_addr() {
+            Ok(address) => text_of(address),
+            Err(_) => AddressText::new(),
+        }
+    }
+
+    /// The system's reason where a receipt failed.
+    pub fn failure(&self) -> Option<ErrorKind> {
+        self.failure
     }
 }
 
@@ -31,7 +49,10 @@ impl Datagrams for ReceivingSocket {
             match self.inner.recv_from(buf) {
                 Ok((count, _)) => return Ok(count),
                 Err(error) if error.kind() == ErrorKind::Interrupted => {}
-                Err(_) => return Err(LinkFault),
+                Err(error) => {
+                    self.failure = Some(error.kind());
+                    return Err(LinkFault);
+                }
             }
         }
         Err(LinkFault)
@@ -48,15 +69,27 @@ pub struct SendingSocket {
     inner: UdpSocket,
     host: [u8; 4],
     port: u16,
+    failure: Option<(SocketAddr, ErrorKind)>,
 }
 
 impl SendingSocket {
     /// A socket that sends all universes to this IPv4 address and port; or, where the address is
     /// 239.255.0.0, each to the multicast group of its number (E1.31, multicast addressing).
-    pub fn open(rt: &impl Net, to: ([u8; 4], u16)) -> Result<Self, RunFault> {
-        let inner = bind(rt, ([0, 0, 0, 0], 0)).map_err(|_| RunFault::Device)?;
+    pub fn open(rt: &impl Net, to: ([u8; 4], u16)) -> Result<Self, Failure> {
+        let inner = bind(rt, ([0, 0, 0, 0], 0))?;
         let (host, port) = to;
-        Ok(SendingSocket { inner, host, port })
+        Ok(SendingSocket {
+            inner,
+            host,
+            port,
+            failure: None,
+        })
+    }
+
+    /// Where the last send that failed went to, and the system's reason.
+    pub fn failure(&self) -> Option<(AddressText, ErrorKind)> {
+        let (address, kind) = self.failure?;
+        Some((text_of(address), kind))
     }
 
     fn address(&self, universe: u16) -> SocketAddr {
@@ -82,14 +115,31 @@ impl Link for SendingSocket {
             match self.inner.send_to(bytes, address) {
                 Ok(count) if count == bytes.len() => return Ok(()),
                 Err(error) if error.kind() == ErrorKind::Interrupted => {}
-                _ => return Err(LinkFault),
+                Err(error) => {
+                    self.failure = Some((address, error.kind()));
+                    return Err(LinkFault);
+                }
+                Ok(_) => return Err(LinkFault),
             }
         }
         Err(LinkFault)
     }
 }
 
-fn bind(rt: &impl Net, at: ([u8; 4], u16)) -> IoResult<UdpSocket> {
+/// An address and its port: there is room for four numbers of three digits and one of five.
+pub type AddressText = ArrayString<21>;
+
+fn text_of(address: SocketAddr) -> AddressText {
+    let mut text = AddressText::new();
+    let _ = write!(text, "{address}");
+    text
+}
+
+fn bind(rt: &impl Net, at: ([u8; 4], u16)) -> Result<UdpSocket, Failure> {
     let (host, port) = at;
-    UdpSocket::bind(rt, SocketAddr::new(IpAddr::from(host), port))
+    let address = SocketAddr::new(IpAddr::from(host), port);
+    match UdpSocket::bind(rt, address) {
+        Ok(socket) => Ok(socket),
+        Err(error) => Err(Failure::of_device(text_of(address).as_str(), error.kind())),
+    }
 }

@@ -1,3 +1,4 @@
+use crate::failure::Failure;
 use cueplayer_faults::RunFault;
 use devices::LinkFault;
 use mio::unix::SourceFd;
@@ -9,6 +10,8 @@ use std::time::Duration;
 const DESCRIPTOR: i32 = 0;
 
 const INPUT: Token = Token(0);
+
+const NAME: &str = "standard input";
 
 // Whether standard input has to be asked if something is there.
 #[derive(Clone, Copy, Debug, PartialEq, Eq)]
@@ -48,18 +51,18 @@ impl TypedInput {
     ///
     /// `Device` where standard input is closed or cannot be waited for; `Memory` where a growth was
     /// refused.
-    pub fn open(rt: &HostRuntime) -> Result<Self, RunFault> {
-        let Ok(poll) = Poll::new(rt) else {
-            return Err(RunFault::Device);
+    pub fn open(rt: &HostRuntime) -> Result<Self, Failure> {
+        let poll = Poll::new(rt).map_err(|error| Failure::of_device(NAME, error.kind()))?;
+        let Ok(events) = Events::with_capacity(rt.alloc(), 1) else {
+            return Err(Failure::from(RunFault::Memory));
         };
-        let events = Events::with_capacity(rt.alloc(), 1)?;
         let registered = poll
             .registry()
             .register(&mut SourceFd(&DESCRIPTOR), INPUT, Interest::READABLE);
         let readiness = match registered {
             Ok(()) => Readiness::Polled,
             Err(error) if error.kind() == ErrorKind::PermissionDenied => Readiness::Always,
-            Err(_) => return Err(RunFault::Device),
+            Err(error) => return Err(Failure::of_device(NAME, error.kind())),
         };
         Ok(TypedInput {
             poll,

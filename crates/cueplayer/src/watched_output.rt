@@ -1,6 +1,8 @@
 ghost use Rattle.std.specs.Prelude.{[]};
 
+use crate::output::SystemOutput;
 use devices::{LinkFault, Output};
+use std::io::ErrorKind;
 
 /// An output that notes whether it was handed any bytes.
 #[derive(Drop)]
@@ -20,6 +22,13 @@ impl<W> WatchedOutput<W> {
     /// Whether it was handed no byte so far.
     pub fn is_empty(&self) -> bool {
         self.is_empty
+    }
+}
+
+impl<W> WatchedOutput<SystemOutput<W>> {
+    /// The system's reason where a write failed: that of the last.
+    pub fn failure(&self) -> Option<ErrorKind> {
+        self.inner.failure()
     }
 }
 

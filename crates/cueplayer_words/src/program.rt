@@ -12,6 +12,9 @@ ghost use Rattle.cueplayer_words.specs.Program.{playing_lines, program};
 use clap::{Arg, Command};
 use std::alloc::{AllocError, Global};
 
+const CID_FORM: &str =
+    "The sender's CID, its own for good: 32 hex digits, as uuidgen prints them";
+
 /// The command whose subcommands are the program's lines.
 pub(crate) fn program<'a>(alloc: Global) -> Result<Command<'a>, AllocError>
     ensures { IfOk result (λ command. app_of command ≡ program) }
@@ -58,9 +61,13 @@ fn check_line<'a>(alloc: Global) -> Result<Command<'a>, AllocError>
     ensures app { IfOk result (λ command. app_of command ≡ check_line) }
     ensures local { IfOk result (λ command. (fields_of command).has_globals ≡ false) }
 {
-    Command::new(alloc, "check")
-        .about("Reads a show and prints its counts")
-        .arg(required(alloc, "SHOW", "The show's file, or - for standard input"))
+    explained_line(
+        alloc,
+        "check",
+        "Reads a show and prints its counts",
+        "Example: cueplayer check night.asc",
+    )
+    .arg(required(alloc, "SHOW", "The show's file, or - for standard input"))
 }
 
 fn explain_line<'a>(alloc: Global) -> Result<Command<'a>, AllocError>
@@ -80,11 +87,19 @@ fn look_line<'a>(alloc: Global) -> Result<Command<'a>, AllocError>
     ensures app { IfOk result (λ command. app_of command ≡ look_line) }
     ensures local { IfOk result (λ command. (fields_of command).has_globals ≡ false) }
 {
-    Command::new(alloc, "look")
-        .about("Prints the packets of one cue at full")
-        .arg(required(alloc, "SHOW", "The show's file, or - for standard input"))?
-        .arg(required(alloc, "CUE", "The number of the cue"))?
-        .arg(required_option(alloc, "cid", "UUID", "The sender's CID"))
+    explained_line(
+        alloc,
+        "look",
+        "Prints the packets of one cue at full",
+        "Example: cueplayer look night.asc 1.5 --cid c0ffee00-0000-4000-8000-00000000e131",
+    )
+    .arg(required(alloc, "SHOW", "The show's file, or - for standard input"))?
+    .arg(required(
+        alloc,
+        "CUE",
+        "The number of the cue, as the show spells it: 1, 1.5, .25",
+    ))?
+    .arg(required_option(alloc, "cid", "UUID", CID_FORM))
 }
 
 fn slots_line<'a>(alloc: Global) -> Result<Command<'a>, AllocError>
@@ -127,6 +142,7 @@ fn play_line<'a>(alloc: Global) -> Result<Command<'a>, AllocError>
         alloc,
         "play",
         "Plays the lines of standard input to the network",
+        "Example: cueplayer play night.asc --to 10.0.0.7 --cid c0ffee00-0000-4000-8000-00000000e131",
     )
 }
 
@@ -138,12 +154,13 @@ fn live_line<'a>(alloc: Global) -> Result<Command<'a>, AllocError>
         alloc,
         "live",
         "Plays what is typed to the network, by the clock",
+        "Example: cueplayer live night.asc --to 10.0.0.7 --cid c0ffee00-0000-4000-8000-00000000e131",
     )?
     .arg(option(
         alloc,
         "record",
         "FILE",
-        "A new file for the lines that are played",
+        "A new file, or an empty one, for the lines that are played: a text for play",
     ))
 }
 
@@ -152,11 +169,12 @@ fn named_play_line<'a>(
     alloc: Global,
     name: &'a str,
     about: &'a str,
+    example: &'a str,
 ) -> Result<Command<'a>, AllocError>
     ensures app { IfOk result (λ command. app_of command ≡ named_play_line name.now) }
     ensures local { IfOk result (λ command. (fields_of command).has_globals ≡ false) }
 {
-    short_play_line(alloc, name, about)?
+    short_play_line(alloc, name, about, example)?
         .arg(option(
             alloc,
             "priority",
@@ -167,7 +185,7 @@ fn named_play_line<'a>(
             alloc,
             "base",
             "U",
-            "The number of the first universe; 1 where it is absent",
+            "The number of the first universe, 1 to 63999; 1 where it is absent",
         ))
 }
 
@@ -176,49 +194,57 @@ fn short_play_line<'a>(
     alloc: Global,
     name: &'a str,
     about: &'a str,
+    example: &'a str,
 ) -> Result<Command<'a>, AllocError>
     ensures app { IfOk result (λ command. app_of command ≡ short_play_line name.now) }
     ensures local { IfOk result (λ command. (fields_of command).has_globals ≡ false) }
 {
-    Command::new(alloc, name)
-        .about(about)
+    explained_line(alloc, name, about, example)
         .arg(required(alloc, "SHOW", "The show's file"))?
         .arg(required_option(
             alloc,
             "to",
             "ADDR",
-            "The address to send to, or 239.255.0.0 for the universes' multicast groups",
+            "Where to send: a.b.c.d, at port 5568, or a.b.c.d:port; 239.255.0.0 for multicast groups",
         ))?
-        .arg(required_option(alloc, "cid", "UUID", "The sender's CID"))
+        .arg(required_option(alloc, "cid", "UUID", CID_FORM))
 }
 
 fn rehearse_line<'a>(alloc: Global) -> Result<Command<'a>, AllocError>
     ensures app { IfOk result (λ command. app_of command ≡ rehearse_line) }
     ensures local { IfOk result (λ command. (fields_of command).has_globals ≡ false) }
 {
-    Command::new(alloc, "rehearse")
-        .about("Rehearses a script of consoles, receivers and a network in memory")
-        .arg(required(alloc, "SHOW", "The show's file"))?
-        .arg(required(alloc, "SCRIPT", "The script's file"))
+    explained_line(
+        alloc,
+        "rehearse",
+        "Rehearses a script of consoles, receivers and a network in memory",
+        "Example: cueplayer rehearse night.asc backup.script",
+    )
+    .arg(required(alloc, "SHOW", "The show's file"))?
+    .arg(required(alloc, "SCRIPT", "The script's file, of at most 16 MiB"))
 }
 
 fn listen_line<'a>(alloc: Global) -> Result<Command<'a>, AllocError>
     ensures app { IfOk result (λ command. app_of command ≡ listen_line) }
     ensures local { IfOk result (λ command. (fields_of command).has_globals ≡ false) }
 {
-    Command::new(alloc, "listen")
-        .about("Prints what a receiver makes of datagrams, and its slots at the end")
-        .arg(required(
-            alloc,
-            "ADDR",
-            "The address to receive at: a.b.c.d or a.b.c.d:port",
-        ))?
-        .arg(required(alloc, "UNIVERSE", "The universe to receive, 1 to 63999"))?
-        .arg(required(
-            alloc,
-            "COUNT",
-            "How many datagrams to receive, up to 1000000",
-        ))
+    explained_line(
+        alloc,
+        "listen",
+        "Prints what a receiver makes of datagrams, and its slots at the end",
+        "Example: cueplayer listen 0.0.0.0 1 40",
+    )
+    .arg(required(
+        alloc,
+        "ADDR",
+        "Where to receive: a.b.c.d, at port 5568, or a.b.c.d:port; 0.0.0.0 is all of this machine",
+    ))?
+    .arg(required(alloc, "UNIVERSE", "The universe to receive, 1 to 63999"))?
+    .arg(required(
+        alloc,
+        "COUNT",
+        "How many datagrams to receive, 1 to 1000000: then the run ends",
+    ))
 }
 
 fn required<'a>(alloc: Global, id: &'a str, help: &'a str) -> Arg<'a>

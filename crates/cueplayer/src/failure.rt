@@ -1,0 +1,85 @@
+ghost use Rattle.std.specs.Prelude.{◌≡◌};
+ghost use Rattle.cueplayer_faults.specs.declared.fault.RunFault.TheVariants as run;
+
+use crate::remark::{Remark, of_device, of_line, of_setup, of_show, plain};
+use cueplayer_faults::RunFault;
+use std::io::ErrorKind;
+
+const INPUT_LINE: &str =
+    "MOMENT and go, back, goto CUE, sub N LEVEL, group N LEVEL, master LEVEL, end or tick";
+
+const SCRIPT_LINE: &str =
+    "console BASE PRIORITY UUID, receiver UNIVERSE, or MOMENT and do, tick, deliver, stray or slots";
+
+/// Why a job did not end well, and what is told of it behind the line of its fault.
+#[derive(Debug, Drop)]
+pub struct Failure {
+    pub fault: RunFault,
+    pub remark: Remark,
+}
+
+impl Failure {
+    /// A device of this name failed, for the system's reason.
+    pub fn of_device(name: &str, kind: ErrorKind) -> Failure
+        ensures { result.fault ≡ run.Device }
+    {
+        Failure {
+            fault: RunFault::Device,
+            remark: of_device(name, kind),
+        }
+    }
+
+    /// A device failed, as these words tell.
+    pub fn device(words: &str) -> Failure
+        ensures { result.fault ≡ run.Device }
+    {
+        Failure {
+            fault: RunFault::Device,
+            remark: plain(words),
+        }
+    }
+
+    /// A run over this show, with lines of standard input, and with replies to standard output
+    /// that the system refused for a reason.
+    pub fn of_run(fault: RunFault, show: &[u8], output: Option<ErrorKind>) -> Failure {
+        let remark = match (fault, output) {
+            (RunFault::Show(fault), _) => of_show(fault, show),
+            (RunFault::NoCue, _) => plain("the show has no cue of this number"),
+            (RunFault::Base, _) => {
+                plain("the base, and the show's universes behind it, are 1 to 63999")
+            }
+            (RunFault::Line(_), _) => plain(INPUT_LINE),
+            (RunFault::Device, Some(kind)) => of_device("standard output", kind),
+            (RunFault::Device, None) => plain("standard input could not be read"),
+            _ => Remark::new(),
+        };
+        Failure { fault, remark }
+    }
+
+    /// A rehearsal of this script over this show.
+    pub fn of_rehearsal(
+        fault: RunFault,
+        show: &[u8],
+        script: &[u8],
+        output: Option<ErrorKind>,
+    ) -> Failure {
+        let remark = match fault {
+            RunFault::Line(line) => of_line(line, script, SCRIPT_LINE),
+            RunFault::Script => plain("a script has at most 16777216 bytes"),
+            RunFault::Setup(fault) => of_setup(fault),
+            _ => return Failure::of_run(fault, show, output),
+        };
+        Failure { fault, remark }
+    }
+}
+
+impl From<RunFault> for Failure {
+    ghost from_gives = { λ fault failure. failure.fault ≡ fault };
+
+    fn from(fault: RunFault) -> Failure {
+        Failure {
+            fault,
+            remark: Remark::new(),
+        }
+    }
+}

@@ -1,0 +1,244 @@
+ghost use Rattle.std.specs.Prelude.{◌≡◌, ◌≤◌, codes};
+ghost use Rattle.cueplayer_words.specs.Job.{IsInRange};
+
+use crate::failure::Failure;
+use crate::input::SystemInput;
+use crate::live_feed::LiveFeed;
+use crate::output::SystemOutput;
+use crate::reading::{file_text, script_text, show_text};
+use crate::record::Record;
+use crate::remark::of_device;
+use crate::shown_output::ShownOutput;
+use crate::socket::{ReceivingSocket, SendingSocket};
+use crate::typed_input::TypedInput;
+use crate::watched_output::WatchedOutput;
+use cueplayer_explain::explain;
+use cueplayer_faults::RunFault;
+use cueplayer_play::play;
+use cueplayer_rehearse::rehearse_text;
+use cueplayer_runs::{check, listen, look, slots};
+use cueplayer_words::{Job, Name};
+use devices::Output;
+use fade_core::StepFader;
+use sacn_packet::SourceName;
+use sacn_source::Identity;
+use std::io::{BufWriter, ErrorKind};
+
+/// Runs what the words ask for.
+pub fn run(rt: &HostRuntime, job: Job) -> Result<(), Failure>
+    requires { IsInRange job }
+{
+    match job {
+        Job::Check { show } => check_show(rt, show.as_str()),
+        Job::Look { show, cue, cid } => look_at(rt, show.as_str(), cue, cid),
+        Job::Explain { show } => explain_show(rt, show.as_str()),
+        Job::Slots { show, cue, base } => show_slots(rt, show.as_str(), cue, base),
+        Job::Play {
+            show,
+            to,
+            cid,
+            priority,
+            base,
+        } => play_lines(rt, show.as_str(), to, identity(cid, priority), base),
+        Job::Live {
+            show,
+            to,
+            cid,
+            priority,
+            base,
+            record_file,
+        } => {
+            let source = identity(cid, priority);
+            let record_file = record_file.as_ref().map(Name::as_str);
+            play_live(rt, show.as_str(), to, source, base, record_file)
+        }
+        Job::Rehearse { show, script } => rehearse(rt, show.as_str(), script.as_str()),
+        Job::Listen {
+            at,
+            universe,
+            count,
+        } => listen_at(rt, at, universe, count),
+    }
+}
+
+// How a run over a show ended, and what is told of it.
+fn ended(
+    answer: Result<(), RunFault>,
+    show: &[u8],
+    output: Option<ErrorKind>,
+) -> Result<(), Failure> {
+    match answer {
+        Ok(()) => Ok(()),
+        Err(fault) => Err(Failure::of_run(fault, show, output)),
+    }
+}
+
+fn check_show(rt: &HostRuntime, show: &str) -> Result<(), Failure> {
+    let text = show_text(rt, show)?;
+    let mut out = SystemOutput::new(rt.stdout());
+    let answer = check(rt.alloc(), text.as_slice(), &mut out);
+    ended(answer, text.as_slice(), out.failure())
+}
+
+fn explain_show(rt: &HostRuntime, show: &str) -> Result<(), Failure> {
+    let text = show_text(rt, show)?;
+    let mut out = SystemOutput::new(rt.stdout());
+    let answer = explain(rt.alloc(), text.as_slice(), &mut out);
+    ended(answer, text.as_slice(), out.failure())
+}
+
+fn look_at(rt: &HostRuntime, show: &str, cue: u32, cid: [u8; 16]) -> Result<(), Failure> {
+    let text = show_text(rt, show)?;
+    let mut out = WatchedOutput::new(SystemOutput::new(rt.stdout()));
+    let answer = look(rt.alloc(), text.as_slice(), cue, cid, &mut out);
+    ended(answer, text.as_slice(), out.failure())?;
+    if out.is_empty() {
+        tell(rt, b"no dimmer is patched\n");
+    }
+    Ok(())
+}
+
+fn show_slots(rt: &HostRuntime, show: &str, cue: u32, base: u16) -> Result<(), Failure> {
+    let text = show_text(rt, show)?;
+    let mut out = WatchedOutput::new(SystemOutput::new(rt.stdout()));
+    let answer = slots(rt.alloc(), text.as_slice(), cue, base, &mut out);
+    ended(answer, text.as_slice(), out.failure())?;
+    // A show prints no universe exactly where none of its dimmers is patched.
+    if out.is_empty() {
+        tell(rt, b"no dimmer is patched\n");
+    }
+    Ok(())
+}
+
+// Tells this on standard error.
+fn tell(rt: &HostRuntime, text: &[u8]) {
+    let _ = SystemOutput::new(rt.stderr()).write(text);
+}
+
+fn listen_at(
+    rt: &HostRuntime,
+    at: ([u8; 4], u16),
+    universe: u16,
+    count: u32,
+) -> Result<(), Failure>
+    requires { (1 ≤ universe) × (universe ≤ 63999) }
+{
+    let mut source = ReceivingSocket::bind(rt, at)?;
+    tell(rt, b"listening at ");
+    tell(rt, source.address().as_str().as_bytes());
+    tell(rt, b"\n");
+    let (host, _) = at;
+    if let [239, 255, ..] = host {
+        tell(rt, b"this machine hears a multicast group only where it has joined it\n");
+    }
+    let mut out = SystemOutput::new(rt.stdout());
+    match listen(&mut source, universe, count, &mut out) {
+        Ok(()) => Ok(()),
+        Err(fault) => match source.failure() {
+            Some(kind) => Err(Failure::of_device("the socket", kind)),
+            None => Err(Failure::of_run(fault, &[], out.failure())),
+        },
+    }
+}
+
+// Plays the lines of standard input.
+fn play_lines(
+    rt: &HostRuntime,
+    show: &str,
+    to: ([u8; 4], u16),
+    source: Identity,
+    base: u16,
+) -> Result<(), Failure> {
+    let text = file_text(rt, show)?;
+    let text = text.as_slice();
+    let mut link = SendingSocket::open(rt, to)?;
+    let mut input = SystemInput::new(rt.stdin());
+    let mut out = SystemOutput::new(rt.stdout());
+    let answer = play::<StepFader, _, _, _>(
+        rt.alloc(),
+        text,
+        source,
+        base,
+        &mut input,
+        &mut link,
+        &mut out,
+    );
+    played(answer, text, &link, out.failure())
+}
+
+// Plays by the clock what is typed.
+fn play_live(
+    rt: &HostRuntime,
+    show: &str,
+    to: ([u8; 4], u16),
+    source: Identity,
+    base: u16,
+    record_file: Option<&str>,
+) -> Result<(), Failure> {
+    let input = TypedInput::open(rt)?;
+    let text = file_text(rt, show)?;
+    let text = text.as_slice();
+    let record = Record::open(rt, record_file)?;
+    let mut link = SendingSocket::open(rt, to)?;
+    let mut feed = LiveFeed::new(rt, input, record)?;
+    let mut out = ShownOutput::new(SystemOutput::new(rt.stdout()));
+    let answer = play::<StepFader, _, _, _>(
+        rt.alloc(),
+        text,
+        source,
+        base,
+        &mut feed,
+        &mut link,
+        &mut out,
+    );
+    played(answer, text, &link, out.failure())
+}
+
+// How a night ended. Of packets that were lost the last is told.
+fn played(
+    answer: Result<(), RunFault>,
+    show: &[u8],
+    link: &SendingSocket,
+    output: Option<ErrorKind>,
+) -> Result<(), Failure> {
+    match (answer, link.failure()) {
+        (Err(fault @ RunFault::Lost(_)), Some((address, kind))) => Err(Failure {
+            fault,
+            remark: of_device(address.as_str(), kind),
+        }),
+        (answer, _) => ended(answer, show, output),
+    }
+}
+
+// Prints a rehearsal through a buffer, since its lines are many.
+fn rehearse(rt: &HostRuntime, show: &str, script: &str) -> Result<(), Failure> {
+    let show = file_text(rt, show)?;
+    let show = show.as_slice();
+    let script = script_text(rt, script)?;
+    let script = script.as_slice();
+    let Ok(buffer) = BufWriter::new(rt.alloc(), rt.stdout()) else {
+        return Err(Failure::from(RunFault::Memory));
+    };
+    let mut out = SystemOutput::new(buffer);
+    match rehearse_text::<StepFader, _>(rt.alloc(), show, script, &mut out) {
+        Ok(()) => {}
+        Err(fault) => return Err(Failure::of_rehearsal(fault, show, script, out.failure())),
+    }
+    match out.flush() {
+        Ok(()) => Ok(()),
+        Err(_) => Err(Failure::of_run(RunFault::Device, show, out.failure())),
+    }
+}
+
+// Who sends: the source name is the program's.
+fn identity(cid: [u8; 16], priority: u8) -> Identity
+    requires { priority ≤ 200 }
+    ensures { result ≡ record {
+      cid = cid;
+      name = codes "cueplayer";
+      priority = priority;
+    } }
+{
+    let name = SourceName::new("cueplayer").unwrap();
+    Identity::new(cid, name, priority).unwrap()
+}
