@@ -28,7 +28,7 @@ import changes  # noqa: E402  (tests/ is on the path from here on)
 import inputs  # noqa: E402
 from expected import runs, show as shows  # noqa: E402
 from expected.words import cue_number  # noqa: E402
-from program import CID, PROGRAM  # noqa: E402
+from program import CID, PROGRAM, told as without_remark  # noqa: E402
 
 HUNG = -999
 DATAGRAMS = 60  # of one run of `listen`
@@ -126,7 +126,7 @@ class Runner:
         os.close(process)
         status = os.waitstatus_to_exitcode(os.waitpid(child, 0)[1])
         out, err = (os.pread(stream, os.fstat(stream).st_size, 0) for stream in self.streams[1:])
-        return runs.Answer(HUNG if hung else status, out, err, tuple(self.received()))
+        return runs.Answer(HUNG if hung else status, out, without_remark(err), tuple(self.received()))
 
     def received(self):
         try:

@@ -199,7 +199,9 @@ class Ends(DeskTest):
             return done.returncode, re.sub("desk: console .*\n", "", done.stderr)
 
         usual = ("--to", self.to, "--cid", self.cid)
-        self.assertEqual((2, "desk: live: words refused\ndesk: live has ended with status 2\n"),
+        over = "desk: live has ended with status 2\n"
+        remark = "desk: live: `201`: a priority is a number from 0 to 200\n"
+        self.assertEqual((2, "desk: live: words refused\n" + remark + over),
                          told(self.show, *usual, "--priority", 201))
         self.assertEqual((1, "desk: no IPv4 address: 'x'\n"), told(self.show, "--to", "x"))
         with socket.create_server(("127.0.0.1", 0)) as taken:
@@ -207,10 +209,12 @@ class Ends(DeskTest):
             self.assertEqual((1, "desk: cannot begin: Address already in use\n"),
                              told(self.show, *usual, "--port", port))
         self.show.write_bytes(text("PATCH 1 1<513@FL"))
-        self.assertEqual((2, "desk: live: base: Universe\ndesk: live has ended with status 2\n"),
+        remark = "desk: live: the base, and the show's universes behind it, are 1 to 63999\n"
+        self.assertEqual((2, "desk: live: base: Universe\n" + remark + over),
                          told(self.show, *usual, "--base", 63999))
         self.show.write_bytes(text("CUE x"))
-        self.assertEqual((1, "desk: show line 1: BadNumber\n"), told(self.show, *usual))
+        remark = "`CUE x`: a number is 1 to 9 digits; a cue's is 0.001 to 9999.999, as 2.5\n"
+        self.assertEqual((1, "desk: show line 1: BadNumber\n" + remark), told(self.show, *usual))
         self.assertEqual(set(), self.shown())
 
     def test_record(self):

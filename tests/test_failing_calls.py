@@ -353,5 +353,6 @@ class Network(FailingCalls):
         lost = [line for line in printed if re.fullmatch(r"\d+ live 1:x\d+", line)]
         self.assertEqual(("", printed[: len(lost)]), (done.stderr, lost))
         rest = [re.sub(r"^\d+ ", "", line) for line in printed[len(lost) :]]
-        self.assertEqual(["ok", "ok", f"lost {len(lost)}", "status 5"], rest)
+        remark = "127.0.0.1:5568: no route leads to that network"
+        self.assertEqual(["ok", "ok", f"lost {len(lost)}", remark, "status 5"], rest)
         self.assertEqual("128 [64, 64, 64]", levels)

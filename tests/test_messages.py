@@ -50,11 +50,12 @@ class Messages(unittest.TestCase):
 
     def test_what_is_shown_of_a_line(self):
         """200 bytes at most, each of them printable."""
-        told = [b"show line 1: BadLevel", b"`CHAN 1 ??[31m??`: " + LEVEL]
-        self.assertEqual((3, told), run("check", "-", stdin=b"CHAN\t1 \x00\x1b[31m\xff\x7f\r\n".replace(b"\r", b"")))
+        line = b"CHAN\t1 \x00\x1b[31m\xff\x7f"
+        told = [b"show line 2: BadLevel", b"`CHAN 1 ??[31m??`: " + LEVEL]
+        self.assertEqual((3, told), run("check", "-", stdin=b"CUE 1\n" + line + b"\n"))
         line = b"CHAN 1@x" + b" " * 300
-        told = [b"show line 1: BadLevel", b"`" + line[:200] + b"`: " + LEVEL]
-        self.assertEqual((3, told), run("check", "-", stdin=line))
+        told = [b"show line 2: BadLevel", b"`" + line[:200] + b"`: " + LEVEL]
+        self.assertEqual((3, told), run("check", "-", stdin=b"CUE 1\n" + line))
 
     def test_shows(self):
         told = [b"show: TooLong", b"a show has at most 1048576 bytes"]
