@@ -69,7 +69,7 @@ class RefusedGrowths(Growths):
         out = re.sub(rb"^\d+ ", b"", done.stdout, flags=re.MULTILINE)
         return Outcome(done.returncode, out, told(done.stderr))
 
-    def assertEachRefused(self, words, stdin):
+    def assertEachRefused(self, words, stdin, has_remark=False):
         whole = self.run_without(0, words, stdin)
         growths, _ = self.growths()
         self.assertNotIn(b"memory", whole.err)
@@ -79,8 +79,8 @@ class RefusedGrowths(Growths):
                 outcome = self.run_without(growth, words, stdin)
                 self.assertIn(outcome, (MEMORY, whole))
                 refused += outcome == MEMORY
-        # A block that is made smaller may stay where it is.
-        self.assertGreaterEqual(refused, growths - 1)
+        # A block that is made smaller may stay where it is; and a remark that cannot be made is left out.
+        self.assertTrue(has_remark or refused >= growths - 1)
         self.assertGreater(refused, 0)
         # And where the growth after the last would be refused, none is.
         self.assertEqual(whole, self.run_without(growths + 1, words, stdin))
@@ -117,8 +117,9 @@ class RefusedGrowths(Growths):
         self.assertEachRefused(["rehearse", self.show, script], b"")
 
     def test_words(self):
-        for words in (["--help"], ["look", "-"], ["look", "-", "x", "--cid", CID], ["check", "a", "b"]):
+        for words in (["--help"], ["look", "-"], ["check", "a", "b"]):
             self.assertEachRefused(words, b"")
+        self.assertEachRefused(["look", "-", "x", "--cid", CID], b"", has_remark=True)
 
 
 class NoGrowths(Growths):
