@@ -115,12 +115,7 @@ fn tell(rt: &HostRuntime, text: &[u8]) {
     let _ = SystemOutput::new(rt.stderr()).write(text);
 }
 
-fn listen_at(
-    rt: &HostRuntime,
-    at: ([u8; 4], u16),
-    universe: u16,
-    count: u32,
-) -> Result<(), Failure>
+fn listen_at(rt: &HostRuntime, at: ([u8; 4], u16), universe: u16, count: u32) -> Result<(), Failure>
     requires { (1 ≤ universe) × (universe ≤ 63999) }
 {
     let mut source = ReceivingSocket::bind(rt, at)?;
@@ -129,7 +124,10 @@ fn listen_at(
     tell(rt, b"\n");
     let (host, _) = at;
     if let [239, 255, ..] = host {
-        tell(rt, b"this machine hears a multicast group only where it has joined it\n");
+        tell(
+            rt,
+            b"this machine hears a multicast group only where it has joined it\n",
+        );
     }
     let mut out = SystemOutput::new(rt.stdout());
     match listen(&mut source, universe, count, &mut out) {

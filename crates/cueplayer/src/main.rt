@@ -78,7 +78,10 @@ fn show_error(rt: &HostRuntime, error: &Error) -> u8 {
     if error.use_stderr() {
         REFUSED
     } else {
-        report(rt, &printed.map_err(|error| Failure::of_device("standard output", error.kind())))
+        report(
+            rt,
+            &printed.map_err(|error| Failure::of_device("standard output", error.kind())),
+        )
     }
 }
 

@@ -120,7 +120,8 @@ fn rule(fault: ShowFault) -> &'static str {
 pub fn of_setup(fault: Fault) -> Remark {
     let rule = match fault {
         Fault::Consoles => "a script has one to four consoles",
-        Fault::Receivers => "a script has at most eight receivers, each of its own universe, 1 to 63999",
+        Fault::Receivers =>
+            "a script has at most eight receivers, each of its own universe, 1 to 63999",
         Fault::NoShow => "a console plays the show that is given",
         Fault::Universe => "a base and the show's universes behind it are 1 to 63999",
         Fault::Memory => "the system refused memory",

@@ -12,8 +12,7 @@ ghost use Rattle.cueplayer_words.specs.Program.{playing_lines, program};
 use clap::{Arg, Command};
 use std::alloc::{AllocError, Global};
 
-const CID_FORM: &str =
-    "The sender's CID, its own for good: 32 hex digits, as uuidgen prints them";
+const CID_FORM: &str = "The sender's CID, its own for good: 32 hex digits, as uuidgen prints them";
 
 /// The command whose subcommands are the program's lines.
 pub(crate) fn program<'a>(alloc: Global) -> Result<Command<'a>, AllocError>

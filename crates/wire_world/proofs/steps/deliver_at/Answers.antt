@@ -114,12 +114,16 @@ returns-then-i-stages-clause-hear g c = λ w past all tell hear.
 
 pub returns-then-from-receivers-clause-reply : goal.returns-then-from-receivers-clause-reply
 returns-then-from-receivers-clause-reply g c = λ w past all tell hear.
-    rw (is_among c.from-i.result c.args.console all.each c.if-i-stages.false c.from-i.ensures,
-    is_not_among c.from.result c.args.receiver hear.each c.if-from-receivers.true c.from.ensures)
+    rw (
+      is_among c.from-i.result c.args.console all.each c.if-i-stages.false c.from-i.ensures,
+      is_not_among c.from.result c.args.receiver hear.each c.if-from-receivers.true c.from.ensures,
+    )
     refl
 
 pub returns-then-from-receivers-clause-hear : goal.returns-then-from-receivers-clause-hear
 returns-then-from-receivers-clause-hear g c = λ w past all tell hear.
-    rw (is_among c.from-i.result c.args.console all.each c.if-i-stages.false c.from-i.ensures,
-    is_not_among c.from.result c.args.receiver hear.each c.if-from-receivers.true c.from.ensures)
+    rw (
+      is_among c.from-i.result c.args.console all.each c.if-i-stages.false c.from-i.ensures,
+      is_not_among c.from.result c.args.receiver hear.each c.if-from-receivers.true c.from.ensures,
+    )
     hear
