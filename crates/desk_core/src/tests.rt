@@ -45,12 +45,10 @@ fn small_show(rt: &impl Abort, alloc: Global) -> Result<Show, BuildFault> {
 }
 
 // The small show, in which the second cue follows the first so long after.
-fn follow_on(rt: &impl Abort, alloc: Global, time: u32) -> Result<Show, BuildFault>
-    requires { time ≤ 5999990 }
-{
+fn follow_on(rt: &impl Abort, alloc: Global, time: u16) -> Result<Show, BuildFault> {
     let mut show = small_show(rt, alloc)?;
     assert!(rt; show.cue(1000).is_some());
-    show.set_follow(1000, time);
+    show.set_follow(1000, u32::from(time));
     Ok(show)
 }
 
@@ -87,9 +85,7 @@ fn take_steps(rt: &impl Abort, alloc: Global, steps: &[Step]) -> Result<(), Fail
 }
 
 // A desk of the small show with a follow-on time takes the steps, with each fader.
-fn take_follow_on(rt: &impl Abort, alloc: Global, time: u32, steps: &[Step]) -> Result<(), Fail>
-    requires { time ≤ 5999990 }
-{
+fn take_follow_on(rt: &impl Abort, alloc: Global, time: u16, steps: &[Step]) -> Result<(), Fail> {
     let show = follow_on(rt, alloc, time)?;
     take_on::<PlainFader>(rt, alloc, &show, steps)?;
     take_on::<StepFader>(rt, alloc, &show, steps)
