@@ -7,6 +7,8 @@ import unittest
 
 from browser import CHROMIUM, MISSING, Browser
 from desks import DeskTest, Page
+from program import TOP, run
+from test_live import datagrams
 
 
 @unittest.skipUnless(CHROMIUM, MISSING)
@@ -43,6 +45,32 @@ class DeskPage(DeskTest):
         state.wait(current="2")
         self.wait_for_level(51)
         page.wait("document.title === '2 two <b>'")
+        self.assertNoFaults()
+
+    def test_evening(self):
+        """An evening of the examples, from the first GO to End; its record, played, sends the same datagrams."""
+        self.show.write_bytes((TOP / "examples/small-play.asc").read_bytes())
+        record = self.folder / "evening.play"
+        _, address = self.begun("--record", record)
+        self.browser = Browser(self)
+        page, state = self.browser.opened(address), Page(self, address)
+        page.wait("!document.body.classList.contains('is-dead')")
+        came = []
+        for cue in ("0.5", "1", "1.5", "2", "3", "4", "5"):
+            page.press(" ", "Space", " ")
+            state.wait(current=cue)
+            came += datagrams(self.receiver, wait=0.02)
+        page.press("Backspace")
+        state.wait(current="4")
+        for _ in range(2):
+            page.click("document.getElementById('end')")
+        state.wait(status=0)
+        came += datagrams(self.receiver)
+        words = ["play", self.show, "--to", self.to, "--cid", self.cid]
+        replay = run(*words, stdin=record.read_bytes())
+        self.assertEqual((0, b""), (replay.status, replay.err))
+        self.assertEqual(came, datagrams(self.receiver))
+        self.assertGreater(len(came), 3 * 7)
         self.assertNoFaults()
 
     def test_cue_list(self):
