@@ -342,60 +342,6 @@ fn follow_at_tick(rt: HostRuntime) -> Result<(), Fail> {
     )
 }
 
-#[test]
-fn follow_then_go(rt: HostRuntime) -> Result<(), Fail> {
-    take_follow_on(
-        &rt,
-        rt.alloc(),
-        10000,
-        &[
-            Step::Order(0, Command::Go, Ok(())),
-            Step::Order(10000, Command::Go, Err(Refused::AtEnd)),
-            Step::Current(Some(1000)),
-            Step::Tick(11000, Ok(Ticked::Live)),
-            Step::Slots(191, 127),
-        ],
-    )
-}
-
-#[test]
-fn follow_after_goto(rt: HostRuntime) -> Result<(), Fail> {
-    take_follow_on(
-        &rt,
-        rt.alloc(),
-        10000,
-        &[
-            Step::Order(0, Command::Go, Ok(())),
-            Step::Order(5000, Command::Goto(1000), Ok(())),
-            Step::Tick(10000, Ok(Ticked::Live)),
-            Step::Current(Some(1000)),
-            Step::Tick(15000, Ok(Ticked::Live)),
-            Step::Current(Some(2000)),
-            Step::Tick(16000, Ok(Ticked::Live)),
-            Step::Slots(191, 127),
-        ],
-    )
-}
-
-#[test]
-fn follow_zero(rt: HostRuntime) -> Result<(), Fail> {
-    take_follow_on(
-        &rt,
-        rt.alloc(),
-        0,
-        &[
-            Step::Order(0, Command::Go, Ok(())),
-            Step::Current(Some(1000)),
-            Step::Tick(0, Ok(Ticked::Live)),
-            Step::Slots(0, 0),
-            Step::Current(Some(2000)),
-            Step::Tick(1000, Ok(Ticked::Live)),
-            Step::Slots(0, 127),
-            Step::Current(Some(2000)),
-        ],
-    )
-}
-
 // End makes the moves that are due by its moment, and then none is made.
 #[test]
 fn follow_after_end(rt: HostRuntime) -> Result<(), Fail> {
