@@ -6,19 +6,6 @@ import socket
 from program import CID, TOP, ProgramTest, counts, packet, run, text
 
 
-PLAYED = (
-    "0 live 1:s0",
-    "1000 ok",
-    "2000 live 1:s1",
-    "6000 live 1:s2",
-    "6500 ok",
-    "7500 live 1:s3",
-    "8500 live 1:s4",
-    "8600 ok",
-    "8600 live 1:s5",
-)
-
-
 def blocks(document):
     """The fenced blocks of a document, in order."""
     return re.findall(r"^```\n(.*?)^```$", (TOP / document).read_text(), re.MULTILINE | re.DOTALL)
@@ -56,19 +43,19 @@ class Examples(ProgramTest):
         self.assertExample("small-play.asc", printed, looks)
 
     def test_one_dimmer_played(self):
-        """The lines of one-dimmer.play, printed as README shows them, and the packets that go out."""
-        lines = (TOP / "examples/one-dimmer.play").read_bytes()
-        printed = b"".join(line.encode() + b"\n" for line in PLAYED)
+        """README's first command, what it prints, and the packets that go out."""
+        command, _, printed = blocks("README.md")[0].partition("\n")
+        words, _, lines = command.removeprefix("$ ./cueplayer ").partition(" <")
         levels = (0, 26, 128, 191, 255, 230)
         with socket.socket(socket.AF_INET, socket.SOCK_DGRAM) as receiver:
             receiver.bind(("127.0.0.1", 0))
             receiver.settimeout(30)
             to = "127.0.0.1:{}".format(receiver.getsockname()[1])
-            words = ["play", TOP / "examples/one-dimmer.asc", "--to", to, "--cid", CID]
-            self.assertRuns(words, lines, out=printed)
+            words = [to if word == "127.0.0.1" else word for word in words.split()]
+            outcome = run(*words, stdin=(TOP / lines).read_bytes(), cwd=TOP)
+            self.assertEqual((0, printed.encode(), b""), outcome)
             for sequence, level in enumerate(levels):
                 self.assertEqual(packet(1, {1: level}, sequence), receiver.recv(1500))
-        self.assertIn(printed.decode(), blocks("README.md"))
 
     def test_backup_console(self):
         """A rehearsal of a backup console that takes over, and the replies beside it. Half is 128;

@@ -1,5 +1,5 @@
-"""docs/PROVED.md: the calls that it lists are the public calls of the crates that take no memory, and the
-tests that it names are there.
+"""docs/PROVED.md: it says of each crate what README says of it, the calls that it lists are the public calls
+of the crates that take no memory, and the tests that it names are there.
 
 Run by itself (`python3 tests/test_proved.py`) it writes the page's list of calls anew.
 """
@@ -59,11 +59,16 @@ def calls_of(crate):
     return calls
 
 
+def crates():
+    """The names of all crates, in the order of crates.txt."""
+    lines = (TOP / "crates.txt").read_text().splitlines()
+    return [line.partition(":")[0] for line in lines if line]
+
+
 def all_calls():
-    """Those of each crate that has any, in the order of crates.txt."""
-    names = [line.partition(":")[0] for line in (TOP / "crates.txt").read_text().splitlines()]
-    crates = [TOP / "crates" / name for name in names if name]
-    found = {crate.name: calls_of(crate) for crate in crates if (crate / "src/lib.rt").exists()}
+    """Those of each crate that has any."""
+    folders = [TOP / "crates" / name for name in crates()]
+    found = {crate.name: calls_of(crate) for crate in folders if (crate / "src/lib.rt").exists()}
     return {name: calls for name, calls in found.items() if calls}
 
 
@@ -82,6 +87,16 @@ def list_of_calls():
 
 class Proved(unittest.TestCase):
     maxDiff = None
+
+    def test_crates(self):
+        """README and the page say the same of each crate: one sentence, and the calls that carry it."""
+        readme = (TOP / "README.md").read_text().partition("\n## What is proved\n")[2]
+        rows = re.findall(r"^\| ([a-z]\w+) \| (.*) \| (.*) \|$", readme, re.MULTILINE)
+        told = re.findall(r"^- \*\*(\w+)\.\*\* (.*) \*By\* (.*)\.$", PAGE.read_text(), re.MULTILINE)
+        self.assertEqual(sorted(crates()), sorted(name for name, _, _ in rows))
+        self.assertEqual(rows, told)
+        for name, sentence, _ in rows:
+            self.assertLessEqual(len(sentence.split()), 25, name)
 
     def test_calls(self):
         page = PAGE.read_text()
