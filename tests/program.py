@@ -62,6 +62,11 @@ def counts(lines, cues=0, subs=0, groups=0, dimmers=0, skipped=0):
     ).encode()
 
 
+def slots_line(slots):
+    """The line that shows these slots, those that are not 0."""
+    return "slots" + "".join(f" {slot}:{level}" for slot, level in sorted(slots.items()))
+
+
 def packet(universe, slots, sequence=0, options=0, priority=100, cid=CID):
     """An E1.31 data packet of the program, field by field: `slots` has the slots that are not 0."""
     levels = bytearray(512)
@@ -96,19 +101,23 @@ class ProgramTest(unittest.TestCase):
         self.assertRuns(["check", "-"], show, out=counts(**expected))
 
     def assertFault(self, show, fault):
-        """`check` and `look` both refuse the show, with this fault."""
+        """`check`, `look` and `slots` all refuse the show, with this fault."""
         err = f"show{fault}\n".encode()
-        self.assertRuns(["check", "-"], show, status=3, err=err)
-        self.assertRuns(["look", "-", "1", "--cid", CID], show, status=3, err=err)
+        for words in (["check", "-"], ["look", "-", "1", "--cid", CID], ["slots", "-", "1"]):
+            self.assertRuns(words, show, status=3, err=err)
 
     def assertLooks(self, show, cue, universes):
-        """`look` prints one packet a universe, with these slots: `universes` is in their order.
+        """`look` prints one packet a universe, with these slots, and `slots` the slots themselves:
+        `universes` is in their order.
 
-        Where there is no universe, it says so on standard error."""
-        out = b"".join(packet(*universe).hex().encode() + b"\n" for universe in universes.items())
+        Where there is no universe, both say so on standard error."""
         err = b"" if universes else NO_PATCH
+        out = text(*(packet(*universe).hex() for universe in universes.items()))
         self.assertRuns(["look", "-", cue, "--cid", CID], show, out=out, err=err)
+        shown = (f"universe {universe}\n{slots_line(slots)}" for universe, slots in universes.items())
+        self.assertRuns(["slots", "-", cue], show, out=text(*shown), err=err)
 
     def assertNoCue(self, show, cue):
-        """`look` does not find the cue."""
-        self.assertRuns(["look", "-", cue, "--cid", CID], show, status=3, err=b"show: NoCue\n")
+        """Neither `look` nor `slots` finds the cue."""
+        for words in (["look", "-", cue, "--cid", CID], ["slots", "-", cue]):
+            self.assertRuns(words, show, status=3, err=b"show: NoCue\n")

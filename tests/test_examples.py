@@ -2,8 +2,10 @@
 
 import re
 import socket
+import unittest
 
 from program import CID, TOP, ProgramTest, counts, packet, run, text
+from worked import SECTIONS
 
 
 def blocks(document):
@@ -68,7 +70,18 @@ class Examples(ProgramTest):
         self.assertEqual(shown, re.findall("slots.*", replies.decode()))
 
 
+def tests_in(suite):
+    """The names of the tests of a suite and of the suites inside it."""
+    for part in suite:
+        yield from tests_in(part) if isinstance(part, unittest.TestSuite) else [part.id().split(".")[-1]]
+
+
 class Documents(ProgramTest):
+    def test_worked_examples(self):
+        """Each example of the page is carried out by a test of its name."""
+        found = set(tests_in(unittest.defaultTestLoader.discover(str(TOP / "tests"))))
+        self.assertEqual(set(), {f"test_{name}" for name in SECTIONS} - found)
+
     def test_profile_show(self):
         """The show that the page begins with, and what `check` prints of it."""
         show, printed = blocks("docs/PROFILE.md")[:2]

@@ -2,11 +2,11 @@
 
 import subprocess
 
-from program import CID, LOOK_ONE, NO_PATCH, PROGRAM, TOP, ProgramTest, run, text, told
+from program import CID, LOOK_ONE, PROGRAM, TOP, ProgramTest, run, text, told
 from test_examples import blocks
 
 SHOW = text(*LOOK_ONE)
-TWO = text("PATCH 1 1<1@FL 2<3@FL 1<513@FL", "CUE 1", "CHAN 1@FL 2@50", "CUE 2", "CHAN 2@H10")
+TWO = text("PATCH 1 1<1@FL 2<3@FL 1<513@FL", "CUE 1", "CHAN 1@FL 2@50")
 UNFIT = b"words refused\n"
 BASE = b"base: Universe\n"
 
@@ -15,14 +15,6 @@ class Slots(ProgramTest):
     def assertSlots(self, words, show, *lines):
         out = "".join(line + "\n" for line in lines).encode()
         self.assertRuns(["slots", "-", *words], show, out=out)
-
-    def test_levels(self):
-        self.assertSlots(["1"], SHOW, "universe 1", "slots 1:64")
-        self.assertSlots(["1"], TWO, "universe 1", "slots 1:255 3:128", "universe 2", "slots 1:255")
-
-    def test_dark_universe(self):
-        """A universe of the show is there too where the cue has no light in it."""
-        self.assertSlots(["2"], TWO, "universe 1", "slots 3:16", "universe 2", "slots")
 
     def test_base(self):
         for base in ("--base", "7"), ("--base=7",):
@@ -40,18 +32,7 @@ class Slots(ProgramTest):
         words[2] = "9"
         self.assertRuns(words, TWO, status=3, err=b"show: NoCue\n")
 
-    def test_no_patch(self):
-        """`slots` and `look` print nothing, and say why."""
-        show = text("CUE 1", "CHAN 1@FL")
-        self.assertRuns(["slots", "-", "1"], show, err=NO_PATCH)
-        self.assertRuns(["look", "-", "1", "--cid", CID], show, err=NO_PATCH)
-        cleared = text("PATCH 1 1<1@FL", "CUE 1", "CHAN 1@FL", "PATCH 1 0<1@FL")
-        self.assertRuns(["slots", "-", "1"], cleared, err=NO_PATCH)
-
-    def test_faults(self):
-        self.assertRuns(["slots", "-", "2"], SHOW, status=3, err=b"show: NoCue\n")
-        half_pair = b"show line 2: HalfPair\n"
-        self.assertRuns(["slots", "-", "1"], text("CUE 1", "CHAN 1"), status=3, err=half_pair)
+    def test_devices(self):
         self.assertRuns(["slots", "/no/such/file", "1"], b"", 5, err=b"device fault\n")
         with open("/dev/full", "wb") as full:
             words = [PROGRAM, "slots", "-", "1"]

@@ -6,6 +6,7 @@ import subprocess
 import tempfile
 
 from program import CID, LOOK_ONE, PROGRAM, ProgramTest, counts, packet, run, text
+from worked import codes, table
 
 SHOW = text(*LOOK_ONE)
 LINE = packet(1, {1: 64}).hex().encode() + b"\n"
@@ -45,7 +46,7 @@ class Words(ProgramTest):
 
     def test_cue_words(self):
         """CUE is a cue number: its form is checked before the show is read."""
-        for word in ("x", "", "0", "0.0", "10000", "1.2345", "1.", "0000000001", "1 "):
+        for word in ("", "0", "0.0", "10000", "1.2345", "1.", "0000000001", "1 "):
             with self.subTest(word):
                 self.assertRuns(["look", "-", word, "--cid", CID], b"CUE x", status=2, err=UNFIT)
         for word in ("1.0", "01", "1.000", "000000001"):
@@ -54,6 +55,14 @@ class Words(ProgramTest):
         for word in ("2", ".001", "1.001", "9999.999"):
             with self.subTest(word):
                 self.assertNoCue(SHOW, word)
+
+    def test_look_words(self):
+        """A word that lacks its form, and words without an option that must be there."""
+        for row in table("look_words").rows:
+            (words,), (told,) = codes(row["Words"]), codes(row["Told"])
+            outcome = run(*words.split(), stdin=SHOW)
+            self.assertEqual((2, b""), (outcome.status, outcome.out))
+            self.assertIn(told.encode(), outcome.err)
 
     def test_no_words(self):
         self.assertRefused(telling=[b"Usage:"])
@@ -83,7 +92,6 @@ class Words(ProgramTest):
             (["rehearse", "a"], b"<SCRIPT>"),
             (["check", "-", "--cid", CID], b"'--cid'"),
             (["look", "-", "--cid", CID], b"<CUE>"),
-            (["look", "-", "1"], b"--cid <UUID>"),
             (["look", "-", "1", "--cid", CID, "--bogus"], b"'--bogus'"),
             (["look", "-", "-1", "--cid", CID], b"'-1'"),
             (["-x", "check", "-"], b"'-x'"),
