@@ -12,9 +12,8 @@ import uuid
 from pathlib import Path
 
 from program import ProgramTest, text
-from test_live import SLOT_1, datagrams
-from test_play import receiving
 from tooling import PATIENCE, Started, wait_for
+from wire import SLOT_1, address_of, received, receiving
 
 SHOW = text(
     "CUE 1 ! one",
@@ -118,7 +117,7 @@ class DeskTest(ProgramTest):
         self.show.write_bytes(SHOW)
         self.receiver = receiving()
         self.addCleanup(self.receiver.close)
-        self.to = "127.0.0.1:{}".format(self.receiver.getsockname()[1])
+        self.to = address_of(self.receiver)
         self.cid = self.new_cid()
 
     def new_cid(self):
@@ -146,7 +145,7 @@ class DeskTest(ProgramTest):
 
     def shown(self):
         """The levels that came to the socket since the last look."""
-        return {each[SLOT_1] for each in datagrams(self.receiver, wait=0.05)}
+        return {each[SLOT_1] for each in received(self.receiver, wait=0.05)}
 
     def wait_for_level(self, level):
         wait_for(lambda: level in self.shown(), f"level {level}")

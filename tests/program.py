@@ -62,6 +62,11 @@ def counts(lines, cues=0, subs=0, groups=0, dimmers=0, skipped=0):
     ).encode()
 
 
+def slots_in(line):
+    """The slots that a slots line shows, by their numbers."""
+    return {int(slot): int(level) for slot, level in re.findall(r"(\d+):(\d+)", line)}
+
+
 def slots_line(slots):
     """The line that shows these slots, those that are not 0."""
     return "slots" + "".join(f" {slot}:{level}" for slot, level in sorted(slots.items()))

@@ -13,10 +13,9 @@ import uuid
 
 from desks import DeskTest, Page
 from program import CID, packet, text
-from test_live import OPTIONS, datagrams
 from test_osc import message
-from test_play import TERMINATED, receiving
 from tooling import PATIENCE, TOOLS, run_tool, wait_for
+from wire import OPTIONS, TERMINATED, address_of, received, receiving
 
 from cueplayer_tools.show import has_follow_ons
 
@@ -126,7 +125,7 @@ class Ends(DeskTest):
         desk, page = self.opened()
         page.command("end")
         page.wait(ending=True, status=0)
-        ends = [bool(each[OPTIONS] & TERMINATED) for each in datagrams(self.receiver)]
+        ends = [bool(each[OPTIONS] & TERMINATED) for each in received(self.receiver)]
         self.assertEqual([False, True, True, True], ends[-4:])
         self.assertEqual(409, page.command("go"))
         self.assertEqual("desk: live has ended with status 0", desk.err.next())
@@ -168,13 +167,13 @@ class Ends(DeskTest):
         except Exception:  # the first press was too long ago, as on a busy machine
             desk.process.send_signal(signal.SIGINT)
         self.assertEqual(0, desk.process.wait(PATIENCE))
-        self.assertTrue(datagrams(self.receiver)[-1][OPTIONS] & TERMINATED)
+        self.assertTrue(received(self.receiver)[-1][OPTIONS] & TERMINATED)
 
     def test_terminated(self):
         desk, _ = self.opened()
         desk.process.terminate()
         self.assertEqual(0, desk.process.wait(PATIENCE))
-        self.assertTrue(datagrams(self.receiver)[-1][OPTIONS] & TERMINATED)
+        self.assertTrue(received(self.receiver)[-1][OPTIONS] & TERMINATED)
 
     def test_desk_that_dies(self):
         """The light stays as it is, and nobody sends beside it under its name."""
@@ -185,7 +184,7 @@ class Ends(DeskTest):
         desk.process.kill()
         desk.process.wait()
         time.sleep(0.3)
-        datagrams(self.receiver)
+        received(self.receiver)
         time.sleep(1.2)
         self.assertEqual({128}, self.shown())
         again = run_tool("desk", self.show, "--to", self.to, "--cid", self.cid.upper())
@@ -253,7 +252,7 @@ class Beside(DeskTest):
     def test_levels(self):
         """Where nobody else receives at the address the grid does, and it shows what came."""
         with receiving() as free:
-            to = "127.0.0.1:{}".format(free.getsockname()[1])
+            to = address_of(free)
         _, page = self.opened("--grid", to=to)
         page.command("sub 1 50")
         levels = (bytes([128]) + bytes(511)).hex()

@@ -8,7 +8,7 @@ import unittest
 from browser import CHROMIUM, MISSING, Browser
 from desks import DeskTest, Page
 from program import TOP, run
-from test_live import datagrams
+from wire import received
 
 
 @unittest.skipUnless(CHROMIUM, MISSING)
@@ -59,17 +59,17 @@ class DeskPage(DeskTest):
         for cue in ("0.5", "1", "1.5", "2", "3", "4", "5"):
             page.press(" ", "Space", " ")
             state.wait(current=cue)
-            came += datagrams(self.receiver, wait=0.02)
+            came += received(self.receiver, wait=0.02)
         page.press("Backspace")
         state.wait(current="4")
         for _ in range(2):
             page.click("document.getElementById('end')")
         state.wait(status=0)
-        came += datagrams(self.receiver)
+        came += received(self.receiver)
         words = ["play", self.show, "--to", self.to, "--cid", self.cid]
         replay = run(*words, stdin=record.read_bytes())
         self.assertEqual((0, b""), (replay.status, replay.err))
-        self.assertEqual(came, datagrams(self.receiver))
+        self.assertEqual(came, received(self.receiver))
         self.assertGreater(len(came), 3 * 7)
         self.assertNoFaults()
 

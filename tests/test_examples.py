@@ -5,6 +5,7 @@ import socket
 import unittest
 
 from program import CID, TOP, ProgramTest, counts, packet, run, text
+from wire import address_of
 from worked import SECTIONS
 
 
@@ -52,8 +53,7 @@ class Examples(ProgramTest):
         with socket.socket(socket.AF_INET, socket.SOCK_DGRAM) as receiver:
             receiver.bind(("127.0.0.1", 0))
             receiver.settimeout(30)
-            to = "127.0.0.1:{}".format(receiver.getsockname()[1])
-            words = [to if word == "127.0.0.1" else word for word in words.split()]
+            words = [address_of(receiver) if word == "127.0.0.1" else word for word in words.split()]
             outcome = run(*words, stdin=(TOP / lines).read_bytes(), cwd=TOP)
             self.assertEqual((0, printed.encode(), b""), outcome)
             for sequence, level in enumerate(levels):

@@ -13,18 +13,18 @@ from pathlib import Path
 from expected import runs
 from program import CID, LOOK_ONE, PROGRAM, Outcome, ProgramTest, counts, packet, run, text, told
 from test_listen import THREE, Listener
-from test_live import OPTIONS, SEQUENCE, without_moments
-from test_play import S1, TERMINATED, received, receiving
+from test_live import without_moments
 from test_rehearse import BASIC, HEADER
+from wire import OPTIONS, SEQUENCE, TERMINATED, address_of, received, receiving
+from worked import S1, keep_alive, plays
 
 COMPILER = shutil.which("cc")
 DEVICE_FAULT = b"device fault\n"
 NETWORK_ERRORS = (errno.EAGAIN, errno.ECONNREFUSED, errno.ENETUNREACH, errno.ENOBUFS, errno.EPERM)
-FADE = (("0 go", "0 ok"), ("0 tick", "0 live 1:s0"), ("2500 tick", "2500 live 1:s1"))
-FADE += (("2525 tick", "2525 live 1:s2"), ("5000 tick", "5000 live 1:s3"))
-FADED = [packet(1, {1: level} if level else {}, k) for k, level in enumerate((0, 127, 129, 255))]
-SENDING = {0: 0, 25: 1, 50: 2, 75: 3, 875: 4, 1675: 5}  # the packets of row `keep_alive`, by their moments
-MOMENTS = range(0, 1676, 25)
+(FADE,) = plays("five_second_fade")
+LINES, PRINTED = (each.decode().splitlines() for each in (FADE.stdin, FADE.out))
+KEPT_ALIVE = keep_alive()
+TICKS = KEPT_ALIVE.stdin.decode().splitlines()
 
 
 @unittest.skipUnless(COMPILER, "no C compiler to build what fails")
@@ -45,7 +45,7 @@ class FailingCalls(ProgramTest):
         self.show.write_bytes(S1)
         self.receiver = receiving()
         self.addCleanup(self.receiver.close)
-        self.to = "127.0.0.1:{}".format(self.receiver.getsockname()[1])
+        self.to = address_of(self.receiver)
 
     def environment(self, *failures):
         """`failures`: a call's name, the first and the last of its calls that fail, and the error."""
@@ -75,24 +75,25 @@ class FailingCalls(ProgramTest):
 class Play(FailingCalls):
     def kept_alive(self, *lost):
         """What is printed of row `keep_alive`'s ticks where these packets are lost, and what comes."""
-        items = {at: ("x" if k in lost else "s") + str(k) for at, k in SENDING.items()}
-        printed = [f"{moment} live 1:{items.get(moment, '-')}" for moment in MOMENTS]
-        return text(*printed), [packet(1, {}, k) for k in range(6) if k not in lost]
+        def item(sent):
+            return (b"x" if int(sent[1]) in lost else b"s") + sent[1]
+
+        out = re.sub(rb"s(\d)$", item, KEPT_ALIVE.out, flags=re.MULTILINE)
+        return out, [sent for k, sent in enumerate(KEPT_ALIVE.packets) if k not in lost]
 
     def test_each_send_fails(self):
         """The others are sent as if nothing had failed."""
-        ticks = [f"{moment} tick" for moment in MOMENTS]
         for error in NETWORK_ERRORS:
             for k in range(6):
                 with self.subTest(errno.errorcode[error], k=k):
                     out, packets = self.kept_alive(k)
-                    outcome, came = self.plays(ticks, ("sendto", k + 1, k + 1, error))
+                    outcome, came = self.plays(TICKS, ("sendto", k + 1, k + 1, error))
                     self.assertEqual(Outcome(5, out, b"lost 1\n"), outcome)
                     self.assertEqual(packets, came)
 
     def test_no_send_passes(self):
         out, _ = self.kept_alive(*range(6))
-        outcome, came = self.plays([f"{m} tick" for m in MOMENTS], ("sendto", 1, 99, errno.ENETUNREACH))
+        outcome, came = self.plays(TICKS, ("sendto", 1, 99, errno.ENETUNREACH))
         self.assertEqual((Outcome(5, out, b"lost 6\n"), []), (outcome, came))
 
     def test_interrupted_calls(self):
@@ -101,25 +102,23 @@ class Play(FailingCalls):
             for first in range(1, 4):
                 with self.subTest(call, first=first):
                     interrupted = (call, first, first + 2, errno.EINTR)
-                    outcome, came = self.plays([line for line, _ in FADE], interrupted)
-                    self.assertEqual(Outcome(0, text(*(out for _, out in FADE)), b""), outcome)
-                    self.assertEqual(FADED, came)
+                    outcome, came = self.plays(LINES, interrupted)
+                    self.assertEqual((Outcome(0, FADE.out, b""), FADE.packets), (outcome, came))
 
     def test_each_device_fails(self):
         """Row `five_second_fade`: what was printed and sent before the read or write that failed."""
-        lines, printed = zip(*FADE)
-        outcome, came = self.plays(lines[:4], ("read", 2, 2, errno.EIO))
-        self.assertEqual(Outcome(5, text(*printed[:4]), DEVICE_FAULT), outcome)
-        self.assertEqual(FADED[:3], came)
-        outcome, came = self.plays(lines, ("read", 1, 1, errno.EIO))
+        outcome, came = self.plays(LINES[:4], ("read", 2, 2, errno.EIO))
+        self.assertEqual(Outcome(5, text(*PRINTED[:4]), DEVICE_FAULT), outcome)
+        self.assertEqual(FADE.packets[:3], came)
+        outcome, came = self.plays(LINES, ("read", 1, 1, errno.EIO))
         self.assertEqual((Outcome(5, b"", DEVICE_FAULT), []), (outcome, came))
         for error in (errno.EIO, errno.ENOSPC, errno.EPIPE, errno.EAGAIN):
             for write in range(1, 6):
                 with self.subTest(errno.errorcode[error], write=write):
-                    outcome, came = self.plays(lines, ("write", write, write, error))
-                    self.assertEqual(Outcome(5, text(*printed[: write - 1]), DEVICE_FAULT), outcome)
+                    outcome, came = self.plays(LINES, ("write", write, write, error))
+                    self.assertEqual(Outcome(5, text(*PRINTED[: write - 1]), DEVICE_FAULT), outcome)
                     # The packets of the line that was not printed went out before it.
-                    self.assertEqual(FADED[: write - 1], came)
+                    self.assertEqual(FADE.packets[: write - 1], came)
 
     def test_later_read_fails(self):
         """An input of several blocks: all lines that came whole were carried out."""
@@ -143,7 +142,7 @@ class Play(FailingCalls):
             run.stdout.close()
             run.stdin.write(b"2500 tick\n")
             self.assertEqual(DEVICE_FAULT, told(run.stderr.read()))
-        self.assertEqual((5, FADED[:2]), (run.returncode, received(self.receiver)))
+        self.assertEqual((5, FADE.packets[:2]), (run.returncode, received(self.receiver)))
 
     def test_input_cut(self):
         """An input that ends anywhere, be it in the middle of a line."""

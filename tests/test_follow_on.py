@@ -4,7 +4,7 @@ import tempfile
 from pathlib import Path
 
 from program import CID, TOP, ProgramTest, counts, text
-from test_play import S1
+from worked import S1
 
 HEADER = (f"console 1 100 {CID}", "receiver 1")
 

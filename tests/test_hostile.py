@@ -17,7 +17,8 @@ from expected import desk, receiver, runs, stream
 from expected.words import words_of
 from hostile import Runner, first_failure
 from program import CID, PROGRAM
-from test_play import S1, received, receiving
+from wire import address_of, received, receiving
+from worked import S1
 
 CASES, SEED = 20_000, 1
 
@@ -75,7 +76,7 @@ class HostileLive(unittest.TestCase):
         with tempfile.TemporaryDirectory() as folder, receiving() as socket:
             show, record = Path(folder, "show.asc"), Path(folder, "night.play")
             show.write_bytes(S1)
-            to = "127.0.0.1:{}".format(socket.getsockname()[1])
+            to = address_of(socket)
             words = [PROGRAM, "live", show, "--to", to, "--cid", CID, "--record", record]
             night = subprocess.Popen(
                 words, stdin=subprocess.PIPE, stdout=subprocess.PIPE, stderr=subprocess.PIPE, bufsize=0

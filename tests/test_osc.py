@@ -9,9 +9,9 @@ import tempfile
 import unittest
 
 from program import CID, PROGRAM, ProgramTest
-from test_live import SLOT_1, datagrams
-from test_play import S1, receiving
 from tooling import PATIENCE, TOOLS, Started, run_tool, wait_for
+from wire import SLOT_1, address_of, received, receiving
+from worked import S1
 
 from cueplayer_tools.osc_lines import lines_of
 
@@ -208,8 +208,7 @@ class Tool(ProgramTest):
             text=True,
         )
         self.addCleanup(osc.kill)
-        to = "127.0.0.1:{}".format(receiver.getsockname()[1])
-        words = [PROGRAM, "live", show.name, "--to", to, "--cid", CID]
+        words = [PROGRAM, "live", show.name, "--to", address_of(receiver), "--cid", CID]
         night = subprocess.Popen(words, stdin=osc.stdout, stdout=subprocess.PIPE, text=True)
         self.addCleanup(night.kill)
         osc.stdout.close()
@@ -218,7 +217,7 @@ class Tool(ProgramTest):
             sender.connect(("127.0.0.1", port))
             sender.send(message("/cueplayer/sub/1", 1.0))
             self.assertRegex(night.stdout.readline(), r"^\d+ ok$")
-            wait_for(lambda: 128 in {each[SLOT_1] for each in datagrams(receiver)}, "light")
+            wait_for(lambda: 128 in {each[SLOT_1] for each in received(receiver)}, "light")
             sender.send(bundle(message("/cueplayer/back", 1.0), message("/cueplayer/end")))
             self.assertRegex(night.stdout.readline(), r"^\d+ refused AtStart$")
             self.assertRegex(night.stdout.readline(), r"^\d+ ok$")

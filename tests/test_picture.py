@@ -10,9 +10,9 @@ import xml.etree.ElementTree as xml
 from pathlib import Path
 
 from program import CID, PROGRAM, TOP, ProgramTest, run, text
-from test_live import SEQUENCE, SLOT_1, datagrams
-from test_play import S1, receiving
 from tooling import run_tool
+from wire import SEQUENCE, SLOT_1, address_of, received, receiving
+from worked import S1, plays
 
 from cueplayer_tools import night, record, rehearsal, show
 from cueplayer_tools.axis import clock
@@ -61,13 +61,14 @@ class PictureTest(ProgramTest):
 
 class Levels(PictureTest):
     def test_rows(self):
-        """The fade of five seconds and the crossfade of the worked rows."""
-        fade = self.night(["0 go", "0 tick", "2500 tick", "2525 tick", "5000 tick"])
-        self.assertEqual([0, 2500, 2525, 5000], fade.moments)
-        self.assertEqual({(1, 1): [0, 127, 129, 255]}, fade.curves)
-        lines = ["0 go", "10000 go", "11000 tick", "11000 goto 1", "12000 tick"]
-        crossfade = self.night(lines, universes=[7], base=7)
-        self.assertEqual({(7, 1): [191, 204], (7, 2): [127, 102]}, crossfade.curves)
+        """The levels of two worked plays, at their ticks, also of other universes."""
+        for name, base, slots in (("five_second_fade", 1, [1]), ("goto_mid_fade", 7, [1, 2])):
+            (play,) = plays(name)
+            lines = play.stdin.decode().splitlines()
+            found = self.night(lines, universes=[base], base=base)
+            self.assertEqual([int(line.split()[0]) for line in lines if "tick" in line], found.moments)
+            levels = {(base, slot): [sent[SLOT_1 + slot - 1] for sent in play.packets] for slot in slots}
+            self.assertEqual(levels, found.curves)
 
     def test_keep_alive(self):
         """Where a tick sends nothing the receiver keeps what it has; after a long silence too."""
@@ -93,7 +94,7 @@ class Levels(PictureTest):
     def test_live_record(self):
         """Of a live night the levels are those that reached a socket, at each tick."""
         with receiving() as receiver:
-            to = "127.0.0.1:{}".format(receiver.getsockname()[1])
+            to = address_of(receiver)
             content = text("CUE 1", "UP 1", "CHAN 1@FL", "PATCH 1 1<1@FL")
             file, kept = self.file("show.asc", content), self.folder / "night.play"
             words = ["live", file, "--to", to, "--cid", CID, "--record", kept]
@@ -105,7 +106,7 @@ class Levels(PictureTest):
                 live.stdin.flush()
                 time.sleep(0.3)
             live.communicate(timeout=30)
-            came = datagrams(receiver)
+            came = received(receiver)
         given = record.read_record(kept.read_text())
         found = night.night_of(file, given, [1], 1)
         shown = iter(came)

@@ -5,7 +5,7 @@ import tempfile
 from pathlib import Path
 
 from program import CID, PROGRAM, ProgramTest, run, text, told
-from test_play import S1
+from worked import S1
 
 CONSOLE = f"console 1 100 {CID}"
 OTHER = CID[:-1] + "2"

@@ -3,21 +3,23 @@
 import re
 from typing import NamedTuple
 
-from program import TOP
+from program import TOP, packet, slots_in, text
+from wire import TERMINATED
 
 PAGE = TOP / "docs/EXAMPLES.md"
+# What is printed of an input that ends a run of `play`.
+TOLD = re.compile(r"`(.*)` on standard error, status (\d)")
 # A piece of a cell: a line, lines that count, or bytes as they are.
 PIECE = re.compile(r"(?:(\d+) times |(the bytes ))?`([^`]*)`(?: to `([^`]*)`)?")
 
 
 class Table(NamedTuple):
-    """A table of an example: the heads of its columns, and the cells of each row by them."""
+    """A table of an example: the heads of its columns, the cells of each row by them, and what stands above
+    it, below the table before."""
 
     heads: tuple
     rows: list
-
-    def column(self, head):
-        return [row[head] for row in self.rows]
+    above: str
 
 
 def sections():
@@ -28,6 +30,7 @@ def sections():
 
 
 SECTIONS = sections()
+S1 = re.search(r"(?s)\*\*S1\*\*.*?```\n(.*?)```", PAGE.read_text())[1].encode()
 
 
 def cells(line):
@@ -35,12 +38,14 @@ def cells(line):
 
 
 def tables(name):
-    """The tables of an example, in their order."""
+    """The tables of an example, in their order. One that begins as another's has its rows in front."""
     found = []
-    for text in re.findall(r"(?m)(?:^\|.*\n)+", SECTIONS[name] + "\n"):
+    for above, text in re.findall(r"(?ms)(.*?)((?:^\|[^\n]*\n)+)", SECTIONS[name] + "\n"):
         head, _, *rows = text.splitlines()
         heads = tuple(cells(head))
-        found.append(Table(heads, [dict(zip(heads, cells(row))) for row in rows]))
+        begins = re.search(r"Begins as (?:the first (\d+) lines of )?`(\w+)`", above)
+        front = table(begins[2]).rows[: int(begins[1]) if begins[1] else None] if begins else []
+        found.append(Table(heads, front + [dict(zip(heads, cells(row))) for row in rows], above))
     return found
 
 
@@ -88,10 +93,71 @@ def texts(cell):
     return made
 
 
+def said(what, text):
+    """What a line of the page says behind these words, or None."""
+    found = re.search(rf"(?m)^{what}: (.*)$", text)
+    return found and found[1]
+
+
 def above(name):
     """The lines that stand above each text of the example."""
-    said = re.search(r"(?m)^Above each: (.*)$", SECTIONS[name])
-    return texts(said[1])[0] if said else b""
+    lines = said("Above each", SECTIONS[name])
+    return texts(lines)[0] if lines else b""
+
+
+def show_of(name):
+    """The show of an example: S1 where it names none."""
+    lines = said("Show", SECTIONS[name])
+    return texts(lines)[0] if lines else S1
+
+
+class Play(NamedTuple):
+    """A run of `play`: what goes in and what comes out, and the packets that are sent."""
+
+    show: bytes
+    options: list
+    stdin: bytes
+    out: bytes
+    packets: list
+    status: int = 0
+    err: bytes = b""
+
+
+def packets_of(printed, slots):
+    """The packets that a printed line says were sent, with these slots lines."""
+    options = TERMINATED if " ending " in printed else 0
+    items = re.findall(r"(\d+):s(\d+)", printed)
+    lines = slots * len(items) if len(slots) == 1 else slots
+    assert len(lines) == len(items), printed
+    return [packet(int(u), slots_in(line), int(k), options) for (u, k), line in zip(items, lines)]
+
+
+def runs_in(show, table):
+    """The runs of a table of the worked examples: more than one where its line is more than one text."""
+    options = (said("Options", table.above) or "").strip("`").split()
+    told = TOLD.search(table.rows[-1]["Printed"])
+    status, err = (int(told[2]), text(told[1])) if told else (0, b"")
+    printed = [codes(row["Printed"]) for row in table.rows[: -1 if told else None]]
+    packets = [packets_of(*out, codes(row["Slots"])) for out, row in zip(printed, table.rows) if out]
+    *before, last = (texts(row["Line"]) for row in table.rows)
+    for line in last:
+        stdin = b"".join(each[0] for each in before) + line
+        yield Play(show, options, stdin, text(*sum(printed, [])), sum(packets, []), status, err)
+
+
+def plays(name):
+    """The runs of an example."""
+    found = [each for each in tables(name) if each.heads == ("Line", "Printed", "Slots")]
+    return [play for each in found for play in runs_in(show_of(name), each)]
+
+
+def keep_alive():
+    """The run of row `keep_alive`: ticks 25 ms apart, of which those that it lists send a packet."""
+    rows = table("keep_alive").rows
+    printed = {codes(row["Tick"])[0]: codes(row["Printed"])[0] for row in rows}
+    ticks = [f"{moment} tick" for moment in range(0, int(list(printed)[-1].split()[0]) + 1, 25)]
+    out = [printed.get(tick, tick.replace("tick", "live 1:-")) for tick in ticks]
+    return Play(S1, [], text(*ticks), text(*out), [packet(1, {}, k) for k in range(len(rows))])
 
 
 def with_examples(*heads):

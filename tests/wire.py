@@ -1,0 +1,28 @@
+"""Datagrams on this machine: sockets that receive them, and where a packet has its fields."""
+
+import select
+import socket
+
+SEQUENCE, OPTIONS, SLOT_1 = 111, 112, 126
+TERMINATED = 0x40
+
+
+def receiving(host="127.0.0.1"):
+    """A socket with room for what a test sends."""
+    receiver = socket.socket(socket.AF_INET, socket.SOCK_DGRAM)
+    receiver.setsockopt(socket.SOL_SOCKET, socket.SO_RCVBUF, 1 << 22)
+    receiver.bind((host, 0))
+    return receiver
+
+
+def address_of(receiver):
+    """Its address and port, as a word of the program."""
+    return "{}:{}".format(*receiver.getsockname())
+
+
+def received(receiver, wait=0.1):
+    """The datagrams that have come to a socket, until none comes for so many seconds."""
+    datagrams = []
+    while select.select([receiver], [], [], wait)[0]:
+        datagrams.append(receiver.recv(65536))
+    return datagrams
