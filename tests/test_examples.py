@@ -36,6 +36,10 @@ class Examples(ProgramTest):
         }
         self.assertExample("crossfade.asc", counts(27, cues=2, dimmers=7), looks)
 
+    def test_sunrise(self):
+        file = TOP / "examples/sunrise.asc"
+        self.assertRuns(["check", file], b"", out=counts(22, cues=3, dimmers=3))
+
     def test_small_play(self):
         printed = counts(82, cues=7, subs=2, groups=2, dimmers=19)
         night = {1: 16, 2: 32, 3: 200, 4: 16, 5: 32, 6: 200}

@@ -14,9 +14,8 @@ from expected import runs
 from program import CID, LOOK_ONE, PROGRAM, Outcome, ProgramTest, counts, packet, run, text, told
 from test_listen import THREE, Listener
 from test_live import without_moments
-from test_rehearse import BASIC, HEADER
 from wire import OPTIONS, SEQUENCE, TERMINATED, address_of, received, receiving
-from worked import S1, keep_alive, plays
+from worked import HEADER, S1, keep_alive, plays, rehearsals
 
 COMPILER = shutil.which("cc")
 DEVICE_FAULT = b"device fault\n"
@@ -24,6 +23,7 @@ NETWORK_ERRORS = (errno.EAGAIN, errno.ECONNREFUSED, errno.ENETUNREACH, errno.ENO
 (FADE,) = plays("five_second_fade")
 LINES, PRINTED = (each.decode().splitlines() for each in (FADE.stdin, FADE.out))
 KEPT_ALIVE = keep_alive()
+(REHEARSED,) = rehearsals("rehearse_basic")
 TICKS = KEPT_ALIVE.stdin.decode().splitlines()
 
 
@@ -181,10 +181,9 @@ class Prints(FailingCalls):
         shown = b"universe 1\nslots 1:64\n"
         self.assertEqual(1, self.assertEachWriteFails(["slots", "-", "1"], one, shown))
         script = self.folder / "night.script"
-        script.write_bytes(text(*HEADER, *(line for line, _ in BASIC)))
-        whole = text(*(out for _, out in BASIC), "end 0 slots 1:102")
+        script.write_bytes(REHEARSED.script)
         words = ["rehearse", self.show, script]
-        self.assertGreaterEqual(self.assertEachWriteFails(words, b"", whole), 1)
+        self.assertGreaterEqual(self.assertEachWriteFails(words, b"", REHEARSED.out), 1)
         script.write_bytes(text(*HEADER, *["0 slots 0"] * 20_000))
         whole = text(*(f"{n} slots" for n in range(3, 20_003)), "end 0 slots")
         self.assertGreater(self.assertEachWriteFails(words, b"", whole), 1)
@@ -200,7 +199,7 @@ class Prints(FailingCalls):
 
     def test_script_cut(self):
         """A script that ends anywhere."""
-        script = text(*HEADER, *(line for line, _ in BASIC[:5]))
+        script = b"".join(REHEARSED.script.splitlines(keepends=True)[:7])
         file = self.folder / "night.script"
         for length in range(len(script)):
             with self.subTest(script[:length]):

@@ -10,9 +10,9 @@ from pathlib import Path
 
 from program import CID, PROGRAM, Outcome, ProgramTest, packet, run, text, told
 from wire import address_of, received, receiving
-from worked import S1, keep_alive, plays, show_of, with_examples
+from worked import S1, keep_alive, plays, table, with_examples
 
-TWO_UNIVERSES = show_of("two_universes")
+TWO_UNIVERSES = table("two_universes").show
 
 
 class PlayTest(ProgramTest):

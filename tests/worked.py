@@ -3,7 +3,7 @@
 import re
 from typing import NamedTuple
 
-from program import TOP, packet, slots_in, text
+from program import CID, TOP, packet, slots_in, text
 from wire import TERMINATED
 
 PAGE = TOP / "docs/EXAMPLES.md"
@@ -14,12 +14,13 @@ PIECE = re.compile(r"(?:(\d+) times |(the bytes ))?`([^`]*)`(?: to `([^`]*)`)?")
 
 
 class Table(NamedTuple):
-    """A table of an example: the heads of its columns, the cells of each row by them, and what stands above
-    it, below the table before."""
+    """A table of an example: the heads of its columns, the cells of each row by them, what stands between it
+    and the table before, and its show."""
 
     heads: tuple
     rows: list
     above: str
+    show: bytes
 
 
 def sections():
@@ -30,6 +31,7 @@ def sections():
 
 
 SECTIONS = sections()
+HEADER = (f"console 1 100 {CID}", "receiver 1")
 S1 = re.search(r"(?s)\*\*S1\*\*.*?```\n(.*?)```", PAGE.read_text())[1].encode()
 
 
@@ -39,13 +41,15 @@ def cells(line):
 
 def tables(name):
     """The tables of an example, in their order. One that begins as another's has its rows in front."""
-    found = []
-    for above, text in re.findall(r"(?ms)(.*?)((?:^\|[^\n]*\n)+)", SECTIONS[name] + "\n"):
-        head, _, *rows = text.splitlines()
+    found, show = [], S1
+    for above, written in re.findall(r"(?ms)(.*?)((?:^\|[^\n]*\n)+)", SECTIONS[name] + "\n"):
+        named = show_in(above)
+        show = show if named is None else named
+        head, _, *rows = written.splitlines()
         heads = tuple(cells(head))
         begins = re.search(r"Begins as (?:the first (\d+) lines of )?`(\w+)`", above)
         front = table(begins[2]).rows[: int(begins[1]) if begins[1] else None] if begins else []
-        found.append(Table(heads, front + [dict(zip(heads, cells(row))) for row in rows], above))
+        found.append(Table(heads, front + [dict(zip(heads, cells(row))) for row in rows], above, show))
     return found
 
 
@@ -105,10 +109,17 @@ def above(name):
     return texts(lines)[0] if lines else b""
 
 
-def show_of(name):
-    """The show of an example: S1 where it names none."""
-    lines = said("Show", SECTIONS[name])
-    return texts(lines)[0] if lines else S1
+def show_in(text):
+    """The show that a text names: its lines, a file's, or S1 with a line more. None where it names none."""
+    lines = said("Show", text)
+    if lines is None:
+        return None
+    if lines.startswith("the file "):
+        return (TOP / codes(lines)[0]).read_bytes()
+    if lines.startswith("S1 with "):
+        line, above = (f"{code}\n".encode() for code in codes(lines))
+        return S1.replace(above, above + line, 1)
+    return texts(lines)[0]
 
 
 class Play(NamedTuple):
@@ -132,8 +143,8 @@ def packets_of(printed, slots):
     return [packet(int(u), slots_in(line), int(k), options) for (u, k), line in zip(items, lines)]
 
 
-def runs_in(show, table):
-    """The runs of a table of the worked examples: more than one where its line is more than one text."""
+def runs_in(table):
+    """The runs of a table of plays: more than one where its last line is more than one text."""
     options = (said("Options", table.above) or "").strip("`").split()
     told = TOLD.search(table.rows[-1]["Printed"])
     status, err = (int(told[2]), text(told[1])) if told else (0, b"")
@@ -142,13 +153,52 @@ def runs_in(show, table):
     *before, last = (texts(row["Line"]) for row in table.rows)
     for line in last:
         stdin = b"".join(each[0] for each in before) + line
-        yield Play(show, options, stdin, text(*sum(printed, [])), sum(packets, []), status, err)
+        yield Play(table.show, options, stdin, text(*sum(printed, [])), sum(packets, []), status, err)
 
 
 def plays(name):
     """The runs of an example."""
     found = [each for each in tables(name) if each.heads == ("Line", "Printed", "Slots")]
-    return [play for each in found for play in runs_in(show_of(name), each)]
+    return [play for each in found for play in runs_in(each)]
+
+
+class Rehearsal(NamedTuple):
+    """A run of `rehearse`: what goes in, and what comes out."""
+
+    show: bytes
+    script: bytes
+    out: bytes = b""
+    status: int = 0
+    err: bytes = b""
+
+
+def rehearsals(name):
+    """The runs of an example, those that are refused too."""
+    for table in tables(name):
+        if table.heads == ("Line", "Reply"):
+            yield rehearsal_of(table.show, steps(table.rows, "Line"))
+        elif table.heads == ("Script", "Answer"):
+            for row in table.rows:
+                for script in texts(row["Script"]):
+                    (told,) = codes(row["Answer"])
+                    yield Rehearsal(table.show, above(name) + script, status=4, err=text(told))
+
+
+def steps(rows, head):
+    """The line of each row, in bytes, and its reply; either may be empty."""
+    return [(texts(row[head])[0], "".join(codes(row["Reply"]))) for row in rows]
+
+
+def rehearsal_of(show, steps):
+    """The run of lines and their replies, below the usual header where they have no console."""
+    lines = [line for line, _ in steps]
+    has_console = any(line.lower().startswith(b"console") for line in lines)
+    header = [] if has_console else [text(line) for line in HEADER]
+    out = []
+    for number, (line, reply) in enumerate(steps, len(header) + 1):
+        if reply:
+            out.append(f"{number} {reply}" if line else reply)
+    return Rehearsal(show, b"".join(header + lines), text(*out))
 
 
 def keep_alive():
