@@ -3,6 +3,7 @@
 import os
 import re
 import subprocess
+import tempfile
 import unittest
 from pathlib import Path
 from typing import NamedTuple
@@ -126,3 +127,22 @@ class ProgramTest(unittest.TestCase):
         """Neither `look` nor `slots` finds the cue."""
         for words in (["look", "-", cue, "--cid", CID], ["slots", "-", cue]):
             self.assertRuns(words, show, status=3, err=b"show: NoCue\n")
+
+
+class FolderTest(ProgramTest):
+    """With a folder for each test; where the class names a SHOW, it is there as `self.show`."""
+
+    SHOW = None
+
+    def setUp(self):
+        folder = tempfile.TemporaryDirectory()
+        self.addCleanup(folder.cleanup)
+        self.folder = Path(folder.name)
+        if self.SHOW is not None:
+            self.show = self.file("show.asc", self.SHOW)
+
+    def file(self, name, content):
+        """A file of the folder."""
+        file = self.folder / name
+        file.write_bytes(content)
+        return file

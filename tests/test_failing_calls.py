@@ -12,7 +12,7 @@ from pathlib import Path
 
 from expected import runs
 from program import CID, LOOK_ONE, PROGRAM, Outcome, ProgramTest, counts, packet, run, text, told
-from test_listen import THREE, Listener
+from test_listen import DATAGRAMS, THREE, Listener
 from test_live import without_moments
 from wire import OPTIONS, SEQUENCE, TERMINATED, address_of, received, receiving
 from worked import HEADER, S1, keep_alive, plays, rehearsals
@@ -209,12 +209,10 @@ class Prints(FailingCalls):
 
 
 class Listen(FailingCalls):
-    DATAGRAMS = (packet(1, {1: 64}), packet(1, {1: 64}), bytes(5))
-
     def heard(self, *failures):
         listener = Listener(count=3, env=self.environment(*failures))
         self.addCleanup(listener.abandon)
-        listener.send(*self.DATAGRAMS)
+        listener.send(*DATAGRAMS)
         return listener.close()
 
     def test_each_device_fails(self):
@@ -234,10 +232,10 @@ class Listen(FailingCalls):
     def test_output_closed_in_the_middle(self):
         listener = Listener(count=3)
         self.addCleanup(listener.abandon)
-        listener.send(self.DATAGRAMS[0])
+        listener.send(DATAGRAMS[0])
         self.assertEqual(b"1 taken 0\n", listener.line())
         listener.child.stdout.close()
-        listener.send(self.DATAGRAMS[1])
+        listener.send(DATAGRAMS[1])
         self.assertEqual(DEVICE_FAULT, told(listener.child.stderr.read()))
         self.assertEqual(5, listener.child.wait(timeout=30))
 

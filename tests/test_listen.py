@@ -8,21 +8,13 @@ import subprocess
 import time
 from pathlib import Path
 
-from program import PROGRAM, ProgramTest, packet, run, told
+from program import CID, PROGRAM, ProgramTest, packet, run, told
+from worked import heard, look_one, with_examples
 
-LOOK_ONE = packet(1, {1: 64})
-THREE = b"1 taken 0\n2 ignored OutOfSequence\n3 ignored Unreadable Short\nslots 1:64\n"
+LOOK_ONE = look_one()
+DATAGRAMS, THREE = heard("listen_three")
 UNFIT = b"words refused\n"
 DEVICE_FAULT = b"device fault\n"
-LAST_OF_CID, PRIORITY, SEQUENCE, OPTIONS, UNIVERSE, START = 37, 108, 111, 112, 114, 125
-
-
-def changed(fields, sent=LOOK_ONE):
-    """A packet with other bytes, by their offsets."""
-    sent = bytearray(sent)
-    for offset, byte in fields.items():
-        sent[offset] = byte
-    return bytes(sent)
 
 
 def free_port():
@@ -84,11 +76,16 @@ class Listener:
         self.child.communicate()
 
 
+@with_examples("Datagram", "Reply")
 class Listen(ProgramTest):
     def listener(self, **options):
         started = Listener(**options)
         self.addCleanup(started.abandon)
         return started
+
+    def assertExample(self, name):
+        datagrams, out = heard(name)
+        self.assertHears(out, datagrams)
 
     def assertHears(self, out, datagrams, **options):
         """`listen` of these datagrams prints this, with status 0."""
@@ -96,65 +93,27 @@ class Listen(ProgramTest):
         listener.send(*datagrams)
         self.assertEqual((0, out, b""), listener.close())
 
-    def test_listen_three(self):
-        self.assertHears(THREE, [LOOK_ONE, LOOK_ONE, bytes(5)])
-
     def test_udp_source(self):
         """The datagrams wait at the socket: all were sent before the first is taken."""
         listener = self.listener(count=3)
         listener.child.send_signal(signal.SIGSTOP)
-        listener.send(LOOK_ONE, LOOK_ONE, bytes(5))
+        listener.send(*DATAGRAMS)
         listener.child.send_signal(signal.SIGCONT)
         self.assertEqual((0, THREE, b""), listener.close())
 
     def test_line_by_line(self):
         """Each line is there before the next datagram is sent."""
         listener = self.listener(count=3)
-        for datagram, line in zip((LOOK_ONE, LOOK_ONE, bytes(5)), THREE.splitlines(True)):
+        for datagram, line in zip(DATAGRAMS, THREE.splitlines(True)):
             self.assertTrue(listener.is_silent())
             listener.send(datagram)
             self.assertEqual(line, listener.line())
         self.assertEqual((0, b"slots 1:64\n", b""), listener.close())
 
-    def test_replies(self):
-        """Each name that a single source can bring about."""
-        out = (
-            b"1 taken 255 terminated\n2 taken 0\n3 ignored OutOfSequence\n4 ignored OtherUniverse\n"
-            b"5 ignored Preview\n6 ignored AltStart\n7 ignored Unreadable Priority\n8 taken 236\n"
-            b"slots 1:64\n"
-        )
-        datagrams = [
-            changed({SEQUENCE: 255, OPTIONS: 0x40}),
-            LOOK_ONE,
-            changed({SEQUENCE: 237}),
-            changed({UNIVERSE: 2}),
-            changed({OPTIONS: 0xC0}),
-            changed({START: 0xDD}),
-            changed({PRIORITY: 201}),
-            changed({SEQUENCE: 236}),
-        ]
-        self.assertHears(out, datagrams)
-
-    def test_unreadable(self):
-        """The faults of a packet, by the byte that is turned over."""
-        faults = {
-            0: b"Preamble",
-            4: b"Identifier",
-            18: b"RootVector",
-            16: b"Length",
-            40: b"FramingVector",
-            113: b"Universe",
-            117: b"Dmp",
-            123: b"Count",
-        }
-        out = [b"%d ignored Unreadable %s\n" % (i, name) for i, name in enumerate(faults.values(), 1)]
-        datagrams = [changed({offset: LOOK_ONE[offset] ^ 0xFF}) for offset in faults]
-        self.assertHears(b"".join(out) + b"slots\n", datagrams)
-
     def test_sources(self):
         """Four sources, and a fifth; of equal priority the greatest level of each slot shows."""
         datagrams = [
-            changed({LAST_OF_CID: n}, packet(1, {1: 10 * n, n: 200 + n, 512: 255})) for n in range(1, 6)
+            packet(1, {1: 10 * n, n: 200 + n, 512: 255}, cid=f"{CID[:-1]}{n}") for n in range(1, 6)
         ]
         out = (
             b"1 taken 0\n2 taken 0\n3 taken 0\n4 taken 0\n5 ignored SourcesFull\n"
@@ -165,8 +124,8 @@ class Listen(ProgramTest):
     def test_priority(self):
         """The levels of the source with the greatest priority show alone."""
         datagrams = [
-            changed({LAST_OF_CID: 1}, packet(1, {1: 255})),
-            changed({LAST_OF_CID: 2, PRIORITY: 101}, packet(1, {2: 7})),
+            packet(1, {1: 255}),
+            packet(1, {2: 7}, priority=101, cid=CID[:-1] + "2"),
         ]
         self.assertHears(b"1 taken 0\n2 taken 0\nslots 2:7\n", datagrams)
 
@@ -175,16 +134,6 @@ class Listen(ProgramTest):
         slots = {slot: 100 + slot % 156 for slot in range(1, 513)}
         line = "slots" + "".join(f" {slot}:{level}" for slot, level in slots.items()) + "\n"
         self.assertHears(b"1 taken 0\n" + line.encode(), [packet(1, slots)])
-
-    def test_lengths(self):
-        """Empty datagrams count; what is behind a packet does not matter, however long it is."""
-        later = changed({SEQUENCE: 1})
-        datagrams = [b"", LOOK_ONE[:637], LOOK_ONE + bytes(2), later + bytes(8000), bytes(1501)]
-        out = (
-            b"1 ignored Unreadable Short\n2 ignored Unreadable Length\n3 taken 0\n4 taken 1\n"
-            b"5 ignored Unreadable Preamble\nslots 1:64\n"
-        )
-        self.assertHears(out, datagrams)
 
     def test_universes(self):
         datagrams = [packet(63999, {512: 1})]

@@ -1,9 +1,7 @@
 """The worked shows: what `check`, `look` and `slots` answer of them, each a test of its name."""
 
-import re
-
 from program import CID, NO_PATCH, ProgramTest, packet, slots_in, text
-from worked import above, block, codes, tables, texts, with_examples
+from worked import above, codes, look_one, table, tables, texts, with_examples
 
 
 @with_examples("Show", "Answer")
@@ -39,9 +37,7 @@ class Rows(ProgramTest):
             self.assertLooks(show, cue, dict(zip(universes, map(slots_in, shown[1::2]))))
 
     def test_packet_of_look_one(self):
-        """The packet stands in the page byte by byte; the form that other tests expect is the same."""
-        written = re.sub(r"00\*(\d+)", lambda zeros: "00" * int(zeros[1]), block("look_one"))
-        line = "".join(written.split())
-        self.assertEqual(line, packet(1, {1: 64}).hex())
-        (show,) = texts(tables("look_one")[0].rows[0]["Show"])
-        self.assertRuns(["look", "-", "1", "--cid", CID], show, out=text(line))
+        """The packet that stands in the page is the one that other tests put together by its fields."""
+        self.assertEqual(look_one(), packet(1, {1: 64}))
+        (show,) = texts(table("look_one").rows[0]["Show"])
+        self.assertRuns(["look", "-", "1", "--cid", CID], show, out=text(look_one().hex()))

@@ -210,6 +210,37 @@ def keep_alive():
     return Play(S1, [], text(*ticks), text(*out), [packet(1, {}, k) for k in range(len(rows))])
 
 
+def look_one():
+    """The packet of row `look_one`, which stands in the page byte by byte."""
+    return bytes.fromhex(re.sub(r"00\*(\d+)", lambda zeros: "00" * int(zeros[1]), block("look_one")))
+
+
+def datagram_in(cell):
+    """The datagram that a cell names."""
+    sent = bytearray(look_one() if cell.startswith("the packet") else b"")
+    for byte, offset in re.findall(r"([0-9a-f]{2}) at (\d+)", cell):
+        sent[int(offset)] = int(byte, 16)
+    cut = re.search(r"cut to (\d+) bytes", cell)
+    return bytes(sent[: int(cut[1]) if cut else None]) + texts(cell)[0]
+
+
+def heard(name):
+    """The datagrams of an example, and what `listen` prints of them."""
+    *rows, last = table(name).rows
+    lines = [f"{number} {codes(row['Reply'])[0]}" for number, row in enumerate(rows, 1)]
+    return [datagram_in(row["Datagram"]) for row in rows], text(*lines, *codes(last["Reply"]))
+
+
+def numbered(name, head):
+    """Each number that an example's rows name, alone or as `FIRST to LAST`, with the reply of its row."""
+    found = {}
+    for row in table(name).rows:
+        for part in row[head].split(", "):
+            first, _, last = part.partition(" to ")
+            found |= dict.fromkeys(range(int(first), int(last or first) + 1), codes(row["Reply"])[0])
+    return found
+
+
 def with_examples(*heads):
     """A test of its name for each example that has a table with these heads: `assertExample` runs it."""
 
