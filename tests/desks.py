@@ -6,14 +6,13 @@ import os
 import re
 import signal
 import socket
-import tempfile
 import threading
 import uuid
 from pathlib import Path
 
-from program import ProgramTest, text
+from program import text
 from tooling import PATIENCE, Started, wait_for
-from wire import SLOT_1, address_of, received, receiving
+from wire import SLOT_1, ReceiverTest
 
 SHOW = text(
     "CUE 1 ! one",
@@ -108,16 +107,11 @@ class Page:
         return self.request("POST", "command", line.encode())[0]
 
 
-class DeskTest(ProgramTest):
+class DeskTest(ReceiverTest):
+    SHOW = SHOW
+
     def setUp(self):
-        folder = tempfile.TemporaryDirectory()
-        self.addCleanup(folder.cleanup)
-        self.folder = Path(folder.name)
-        self.show = self.folder / "show.asc"
-        self.show.write_bytes(SHOW)
-        self.receiver = receiving()
-        self.addCleanup(self.receiver.close)
-        self.to = address_of(self.receiver)
+        super().setUp()
         self.cid = self.new_cid()
 
     def new_cid(self):
@@ -145,7 +139,7 @@ class DeskTest(ProgramTest):
 
     def shown(self):
         """The levels that came to the socket since the last look."""
-        return {each[SLOT_1] for each in received(self.receiver, wait=0.05)}
+        return {each[SLOT_1] for each in self.came(0.05)}
 
     def wait_for_level(self, level):
         wait_for(lambda: level in self.shown(), f"level {level}")

@@ -15,7 +15,7 @@ from desks import DeskTest, Page
 from program import CID, packet, text
 from test_osc import message
 from tooling import PATIENCE, TOOLS, run_tool, wait_for
-from wire import OPTIONS, TERMINATED, address_of, received, receiving
+from wire import OPTIONS, TERMINATED, address_of, receiving
 
 from cueplayer_tools.show import has_follow_ons
 
@@ -125,7 +125,7 @@ class Ends(DeskTest):
         desk, page = self.opened()
         page.command("end")
         page.wait(ending=True, status=0)
-        ends = [bool(each[OPTIONS] & TERMINATED) for each in received(self.receiver)]
+        ends = [bool(each[OPTIONS] & TERMINATED) for each in self.came()]
         self.assertEqual([False, True, True, True], ends[-4:])
         self.assertEqual(409, page.command("go"))
         self.assertEqual("desk: live has ended with status 0", desk.err.next())
@@ -167,13 +167,13 @@ class Ends(DeskTest):
         except Exception:  # the first press was too long ago, as on a busy machine
             desk.process.send_signal(signal.SIGINT)
         self.assertEqual(0, desk.process.wait(PATIENCE))
-        self.assertTrue(received(self.receiver)[-1][OPTIONS] & TERMINATED)
+        self.assertTrue(self.came()[-1][OPTIONS] & TERMINATED)
 
     def test_terminated(self):
         desk, _ = self.opened()
         desk.process.terminate()
         self.assertEqual(0, desk.process.wait(PATIENCE))
-        self.assertTrue(received(self.receiver)[-1][OPTIONS] & TERMINATED)
+        self.assertTrue(self.came()[-1][OPTIONS] & TERMINATED)
 
     def test_desk_that_dies(self):
         """The light stays as it is, and nobody sends beside it under its name."""
@@ -184,7 +184,7 @@ class Ends(DeskTest):
         desk.process.kill()
         desk.process.wait()
         time.sleep(0.3)
-        received(self.receiver)
+        self.came()
         time.sleep(1.2)
         self.assertEqual({128}, self.shown())
         again = run_tool("desk", self.show, "--to", self.to, "--cid", self.cid.upper())

@@ -8,7 +8,6 @@ import unittest
 from browser import CHROMIUM, MISSING, Browser
 from desks import DeskTest, Page
 from program import TOP, run
-from wire import received
 
 
 @unittest.skipUnless(CHROMIUM, MISSING)
@@ -59,17 +58,17 @@ class DeskPage(DeskTest):
         for cue in ("0.5", "1", "1.5", "2", "3", "4", "5"):
             page.press(" ", "Space", " ")
             state.wait(current=cue)
-            came += received(self.receiver, wait=0.02)
+            came += self.came(0.02)
         page.press("Backspace")
         state.wait(current="4")
         for _ in range(2):
             page.click("document.getElementById('end')")
         state.wait(status=0)
-        came += received(self.receiver)
+        came += self.came()
         words = ["play", self.show, "--to", self.to, "--cid", self.cid]
         replay = run(*words, stdin=record.read_bytes())
         self.assertEqual((0, b""), (replay.status, replay.err))
-        self.assertEqual(came, received(self.receiver))
+        self.assertEqual(came, self.came())
         self.assertGreater(len(came), 3 * 7)
         self.assertNoFaults()
 

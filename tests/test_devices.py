@@ -8,9 +8,8 @@ import subprocess
 import tempfile
 import time
 import unittest
-from pathlib import Path
 
-from program import CID, LOOK_ONE, PROGRAM, ProgramTest, counts, packet, run, text, told
+from program import CID, LOOK_ONE, PROGRAM, FolderTest, ProgramTest, counts, packet, run, text, told
 
 SHOW = text(*LOOK_ONE)
 LOOK = ("look", "-", "1", "--cid", CID)
@@ -19,12 +18,7 @@ CHECKED = counts(lines=5, cues=1, dimmers=1)
 DEVICE_FAULT = b"device fault\n"
 
 
-class Files(ProgramTest):
-    def setUp(self):
-        folder = tempfile.TemporaryDirectory()
-        self.addCleanup(folder.cleanup)
-        self.folder = Path(folder.name)
-
+class Files(FolderTest):
     def assertDeviceFault(self, show, **options):
         for words in (["check", show], ["look", show, "1", "--cid", CID]):
             with self.subTest(words):
@@ -89,15 +83,10 @@ class Files(ProgramTest):
         self.assertRuns(["look", "-", "7", "--cid", CID], faulty, status=3, err=err)
 
 
-class Floods(ProgramTest):
+class Floods(FolderTest):
     """Input without end, as fast as it is taken; and a night that is held."""
 
-    def setUp(self):
-        folder = tempfile.TemporaryDirectory()
-        self.addCleanup(folder.cleanup)
-        self.folder = Path(folder.name)
-        self.show = self.folder / "show.asc"
-        self.show.write_bytes(SHOW)
+    SHOW = SHOW
 
     def flooded(self, line, job, *words, **options):
         """A run whose input is this line for ever."""

@@ -6,18 +6,15 @@ import re
 import shutil
 import subprocess
 import sys
-import tempfile
-import unittest
-from pathlib import Path
 
 from expected import runs
-from program import CID, LOOK_ONE, PROGRAM, Outcome, ProgramTest, counts, packet, run, text, told
+from preload import PreloadTest
+from program import CID, LOOK_ONE, PROGRAM, Outcome, counts, packet, run, text, told
 from test_listen import DATAGRAMS, THREE, Listener
 from test_live import without_moments
-from wire import OPTIONS, SEQUENCE, TERMINATED, address_of, received, receiving
+from wire import OPTIONS, SEQUENCE, TERMINATED, ReceiverTest
 from worked import HEADER, S1, keep_alive, plays, rehearsals
 
-COMPILER = shutil.which("cc")
 DEVICE_FAULT = b"device fault\n"
 NETWORK_ERRORS = (errno.EAGAIN, errno.ECONNREFUSED, errno.ENETUNREACH, errno.ENOBUFS, errno.EPERM)
 (FADE,) = plays("five_second_fade")
@@ -27,49 +24,22 @@ KEPT_ALIVE = keep_alive()
 TICKS = KEPT_ALIVE.stdin.decode().splitlines()
 
 
-@unittest.skipUnless(COMPILER, "no C compiler to build what fails")
-class FailingCalls(ProgramTest):
-    @classmethod
-    def setUpClass(cls):
-        folder = tempfile.TemporaryDirectory()
-        cls.addClassCleanup(folder.cleanup)
-        cls.library = Path(folder.name, "fail.so")
-        source = Path(__file__).resolve().parent / "fail.c"
-        subprocess.run([COMPILER, "-shared", "-fPIC", "-o", cls.library, source], check=True)
-
-    def setUp(self):
-        folder = tempfile.TemporaryDirectory()
-        self.addCleanup(folder.cleanup)
-        self.folder = Path(folder.name)
-        self.show = self.folder / "show.asc"
-        self.show.write_bytes(S1)
-        self.receiver = receiving()
-        self.addCleanup(self.receiver.close)
-        self.to = address_of(self.receiver)
+class FailingCalls(ReceiverTest, PreloadTest):
+    SHOW, SOURCE = S1, "fail.c"
 
     def environment(self, *failures):
         """`failures`: a call's name, the first and the last of its calls that fail, and the error."""
         words = " ".join(f"{call} {first} {last} {error}" for call, first, last, error in failures)
-        return os.environ | {"LD_PRELOAD": str(self.library), "FAILS": words}
+        return self.preloaded(FAILS=words)
 
     def failing(self, words, stdin, *failures):
         """How a run ends; its input is a file."""
-        typed = self.folder / "typed"
-        typed.write_bytes(stdin)
-        with open(typed, "rb") as given:
-            done = subprocess.run(
-                [PROGRAM, *words],
-                stdin=given,
-                capture_output=True,
-                timeout=60,
-                env=self.environment(*failures),
-            )
-        return Outcome(done.returncode, done.stdout, told(done.stderr))
+        return self.run_preloaded(words, stdin, self.environment(*failures))
 
     def plays(self, lines, *failures):
         """How `play` ends, and what came of its packets."""
         words = ["play", self.show, "--to", self.to, "--cid", CID]
-        return self.failing(words, text(*lines), *failures), received(self.receiver)
+        return self.failing(words, text(*lines), *failures), self.came()
 
 
 class Play(FailingCalls):
@@ -142,7 +112,7 @@ class Play(FailingCalls):
             run.stdout.close()
             run.stdin.write(b"2500 tick\n")
             self.assertEqual(DEVICE_FAULT, told(run.stderr.read()))
-        self.assertEqual((5, FADE.packets[:2]), (run.returncode, received(self.receiver)))
+        self.assertEqual((5, FADE.packets[:2]), (run.returncode, self.came()))
 
     def test_input_cut(self):
         """An input that ends anywhere, be it in the middle of a line."""
@@ -151,7 +121,7 @@ class Play(FailingCalls):
         for length in range(len(stdin)):
             with self.subTest(stdin[:length]):
                 expected = runs.play(S1, stdin[:length])
-                answer = (*run(*words, stdin=stdin[:length]), tuple(received(self.receiver)))
+                answer = (*run(*words, stdin=stdin[:length]), tuple(self.came()))
                 self.assertEqual(expected, answer)
 
 
@@ -247,7 +217,7 @@ class Live(FailingCalls):
         """How a night ends, without its moments, and what came of its packets."""
         words = ["live", self.show, "--to", self.to, *self.WORDS]
         status, out, err = self.failing(words, stdin, *failures)
-        return status, without_moments(out), err, received(self.receiver)
+        return status, without_moments(out), err, self.came()
 
     def test_each_send_fails(self):
         """The tick is printed, and the night goes on; the others come."""

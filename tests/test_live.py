@@ -4,12 +4,10 @@ import os
 import pty
 import re
 import subprocess
-import tempfile
 import time
-from pathlib import Path
 
-from program import CID, PROGRAM, Outcome, ProgramTest, packet, run, text, told
-from wire import OPTIONS, SEQUENCE, SLOT_1, TERMINATED, address_of, received, receiving
+from program import CID, PROGRAM, Outcome, packet, run, text, told
+from wire import OPTIONS, SEQUENCE, SLOT_1, TERMINATED, ReceiverTest, address_of, receiving
 from worked import S1
 
 OTHER = CID[:-1] + "2"
@@ -21,18 +19,11 @@ def without_moments(printed):
     return MOMENT.sub(b"", printed).decode().splitlines()
 
 
-class LiveTest(ProgramTest):
-    def setUp(self):
-        folder = tempfile.TemporaryDirectory()
-        self.addCleanup(folder.cleanup)
-        self.folder = Path(folder.name)
-        self.show = self.folder / "show.asc"
-        self.show.write_bytes(S1)
-        self.receiver = receiving()
-        self.addCleanup(self.receiver.close)
+class LiveTest(ReceiverTest):
+    SHOW = S1
 
     def words(self, *options, cid=CID, to=None):
-        return ["live", self.show, "--to", to or address_of(self.receiver), "--cid", cid, *options]
+        return ["live", self.show, "--to", to or self.to, "--cid", cid, *options]
 
     def begun(self, *options, stdin=subprocess.PIPE, **kept):
         """A night that has begun."""
@@ -77,7 +68,7 @@ class Live(LiveTest):
         for line in (b"sub 1 FL\n", b"master 50\n", b"sub 1 0\n", b"end\n"):
             self.told(night, line)
         self.assertEqual(Outcome(0, b"", b""), self.ended(night))
-        came = received(self.receiver)
+        came = self.came()
         self.assertEqual([k % 256 for k in range(len(came))], [each[SEQUENCE] for each in came])
         self.assertTerminated(came)
         shown = [each[SLOT_1] for each in came[:-3]]
@@ -94,7 +85,7 @@ class Live(LiveTest):
                 self.assertEqual((0, b""), (outcome.status, outcome.err))
                 told = without_moments(outcome.out)
                 self.assertEqual(replies + (["ok"] if b"end" not in typed else []), told)
-                self.assertTerminated(received(self.receiver))
+                self.assertTerminated(self.came())
 
     def test_after_end(self):
         """What is typed after `end` is answered as a desk answers it."""
@@ -116,7 +107,7 @@ class Live(LiveTest):
         self.assertEqual(["ok"], without_moments(night.stdout.readline()))
         self.typed(night, b"en", b"d\n", pause=0.2)
         self.assertEqual(["ok"], without_moments(self.ended(night).out))
-        came = received(self.receiver)
+        came = self.came()
         self.assertEqual({0, 128}, {each[SLOT_1] for each in came[:-3]})
 
     def test_fade(self):
@@ -124,10 +115,10 @@ class Live(LiveTest):
         self.show.write_bytes(text("CUE 1", "UP 2", "CHAN 1@FL", "PATCH 1 1<1@FL"))
         night = self.begun()
         self.told(night, b"go\n", pause=1.0)
-        half = received(self.receiver, wait=0)
+        half = self.came(wait=0)
         time.sleep(1.3)
         self.ended(night)
-        came = half + received(self.receiver)
+        came = half + self.came()
         levels = [each[SLOT_1] for each in came[:-3]]
         self.assertEqual(sorted(levels), levels)
         self.assertEqual((0, 255), (levels[0], levels[-1]))
@@ -157,11 +148,11 @@ class Live(LiveTest):
         self.typed(night, b"go\n", b"nonsense\nsub 1 30\n", b"  MASTER H80 ! down\n", b"back\n")
         outcome = self.ended(night)
         self.assertEqual((0, b"line refused: nonsense\n"), (outcome.status, outcome.err))
-        came = received(self.receiver)
+        came = self.came()
         words = ["play", *self.words()[1:], "--priority", "150", "--base", "7"]
         replay = run(*words, stdin=record.read_bytes())
         self.assertEqual((0, b""), (replay.status, replay.err))
-        self.assertEqual(came, received(self.receiver))
+        self.assertEqual(came, self.came())
         self.assertEqual(packet(7, {}, 0, priority=150), came[0])
         replies = [line for line in replay.out.splitlines() if b" live" not in line and b" ending" not in line]
         self.assertEqual(outcome.out.splitlines(), replies)
@@ -182,7 +173,7 @@ class Live(LiveTest):
         outcome = run(*self.words("--record", "/dev/full"), stdin=b"go\nend\n")
         self.assertEqual((0, ["ok", "ok"]), (outcome.status, without_moments(outcome.out)))
         self.assertEqual(b"record: device fault\n", outcome.err)
-        self.assertTerminated(received(self.receiver))
+        self.assertTerminated(self.came())
 
     def test_terminal(self):
         """A terminal is read as a pipe is; its end of input, control-D, ends the night."""
@@ -196,7 +187,7 @@ class Live(LiveTest):
         outcome = self.ended(night)
         os.close(ours)
         self.assertEqual((0, b"", ["ok"]), (outcome.status, outcome.err, without_moments(outcome.out)))
-        self.assertIn(128, [each[SLOT_1] for each in received(self.receiver)])
+        self.assertIn(128, [each[SLOT_1] for each in self.came()])
 
     def test_input_from_a_file(self):
         """A file's lines are there at once, and so is its end."""
@@ -206,7 +197,7 @@ class Live(LiveTest):
             outcome = self.ended(self.begun(stdin=stdin))
         self.assertEqual((0, b""), (outcome.status, outcome.err))
         self.assertEqual(["ok"] * 2001, without_moments(outcome.out))
-        self.assertTerminated(received(self.receiver))
+        self.assertTerminated(self.came())
 
     def test_lost_packets(self):
         """A tick that lost a packet is printed, and the night ends with their number."""
@@ -230,7 +221,7 @@ class Live(LiveTest):
         self.assertEqual(Outcome(5, b"", b"device fault\n"), run(*self.words(), stdin=b"go\n"))
         outcome = run(*self.words("--priority", "201"), stdin=b"go\n")
         self.assertEqual(Outcome(2, b"", b"words refused\n"), outcome)
-        self.assertEqual([], received(self.receiver))
+        self.assertEqual([], self.came())
 
     def test_input_closed_from_the_start(self):
         night = subprocess.run(

@@ -3,13 +3,11 @@
 import re
 import shlex
 import subprocess
-import tempfile
 import time
 import unittest
 import xml.etree.ElementTree as xml
-from pathlib import Path
 
-from program import CID, PROGRAM, TOP, ProgramTest, run, text
+from program import CID, PROGRAM, TOP, FolderTest, run, text
 from tooling import run_tool
 from wire import SEQUENCE, SLOT_1, address_of, received, receiving
 from worked import S1, plays
@@ -31,17 +29,7 @@ BACKUP = (
 )
 
 
-class PictureTest(ProgramTest):
-    def setUp(self):
-        folder = tempfile.TemporaryDirectory()
-        self.addCleanup(folder.cleanup)
-        self.folder = Path(folder.name)
-
-    def file(self, name, content):
-        file = self.folder / name
-        file.write_bytes(content)
-        return file
-
+class PictureTest(FolderTest):
     def night(self, lines, content=S1, universes=(1,), base=1):
         """The night of these lines."""
         given = record.read_record("\n".join(lines) + "\n")

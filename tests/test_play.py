@@ -5,29 +5,17 @@ import select
 import shutil
 import subprocess
 import sys
-import tempfile
-from pathlib import Path
 
-from program import CID, PROGRAM, Outcome, ProgramTest, packet, run, text, told
+from program import CID, PROGRAM, FolderTest, Outcome, packet, run, text, told
 from wire import address_of, received, receiving
 from worked import S1, keep_alive, plays, table, with_examples
 
 TWO_UNIVERSES = table("two_universes").show
 
 
-class PlayTest(ProgramTest):
-    def setUp(self):
-        folder = tempfile.TemporaryDirectory()
-        self.addCleanup(folder.cleanup)
-        self.folder = Path(folder.name)
-
-    def file(self, show):
-        file = self.folder / "show.asc"
-        file.write_bytes(show)
-        return file
-
+class PlayTest(FolderTest):
     def words(self, show, *options, to="127.0.0.1:9"):
-        return ["play", self.file(show), "--to", to, "--cid", CID, *options]
+        return ["play", self.file("show.asc", show), "--to", to, "--cid", CID, *options]
 
     def assertPlays(self, play):
         """A run prints its lines, and sends its packets in this order."""

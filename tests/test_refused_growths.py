@@ -1,53 +1,33 @@
 """Each growth of a run's memory refused in turn: the run then tells its want of memory and prints nothing,
 or ends as it does with all memory. And: once datagrams go or come, no memory is asked for."""
 
-import os
 import re
-import shutil
 import struct
 import subprocess
-import tempfile
 import time
-import unittest
-from pathlib import Path
 
-from program import CID, PROGRAM, Outcome, ProgramTest, packet, run, text, told
+from preload import PreloadTest
+from program import CID, PROGRAM, Outcome, packet, run, text, told
 from test_listen import Listener
 
-COMPILER = shutil.which("cc")
 MEMORY = Outcome(6, b"", b"memory\n")
 SHOW = text(
     "IDENT 3:0",
     *(f"PATCH 1 {channel}<{channel}@FL {channel}<{channel + 512}@H80" for channel in range(1, 41)),
     *(f"{record} {number}\nCHAN 1@50 2@FL 3@H01" for record in ("SUB", "GROUP", "CUE") for number in range(1, 41)),
 )
-
-
 COMMANDS = ("go", "back", "goto 2", "sub 1 50", "group 3 FL", "master 50", "sub 200 1", "goto 999")
 
 
-@unittest.skipUnless(COMPILER, "no C compiler to build what refuses a growth")
-class Growths(ProgramTest):
-    @classmethod
-    def setUpClass(cls):
-        folder = tempfile.TemporaryDirectory()
-        cls.addClassCleanup(folder.cleanup)
-        cls.library = Path(folder.name, "refuse.so")
-        cls.counted = Path(folder.name, "counted")
-        cls.counted.write_bytes(bytes(16))
-        source = Path(__file__).resolve().parent / "refuse.c"
-        subprocess.run([COMPILER, "-shared", "-fPIC", "-o", cls.library, source], check=True)
+class Growths(PreloadTest):
+    SHOW, SOURCE = SHOW, "refuse.c"
 
     def setUp(self):
-        folder = tempfile.TemporaryDirectory()
-        self.addCleanup(folder.cleanup)
-        self.folder = Path(folder.name)
-        self.show = self.folder / "show.asc"
-        self.show.write_bytes(SHOW)
+        super().setUp()
+        self.counted = self.file("counted", bytes(16))
 
     def environment(self, growth):
-        kept = {"LD_PRELOAD": str(self.library), "REFUSED": str(growth), "COUNTED": str(self.counted)}
-        return os.environ | kept
+        return self.preloaded(REFUSED=str(growth), COUNTED=str(self.counted))
 
     def growths(self):
         """How many growths the last run asked for, and how many until its first datagram."""
@@ -60,14 +40,8 @@ class RefusedGrowths(Growths):
 
         The input is a file: of a pipe the pieces come as they will, and the growths by them.
         """
-        typed = self.folder / "typed"
-        typed.write_bytes(stdin)
-        with open(typed, "rb") as given:
-            done = subprocess.run(
-                [PROGRAM, *words], stdin=given, capture_output=True, timeout=60, env=self.environment(growth)
-            )
-        out = re.sub(rb"^\d+ ", b"", done.stdout, flags=re.MULTILINE)
-        return Outcome(done.returncode, out, told(done.stderr))
+        outcome = self.run_preloaded(words, stdin, self.environment(growth))
+        return outcome._replace(out=re.sub(rb"^\d+ ", b"", outcome.out, flags=re.MULTILINE))
 
     def assertEachRefused(self, words, stdin, has_remark=False):
         whole = self.run_without(0, words, stdin)

@@ -1,10 +1,8 @@
 """`rehearse`: its scripts, and what it prints of them."""
 
 import subprocess
-import tempfile
-from pathlib import Path
 
-from program import CID, PROGRAM, ProgramTest, run, text, told
+from program import CID, PROGRAM, FolderTest, run, text, told
 from worked import HEADER, S1, codes, rehearsal_of, rehearsals, steps, table, tables, with_examples
 
 OTHER = CID[:-1] + "2"
@@ -13,20 +11,10 @@ LONGEST_SCRIPT = 16_777_216
 
 @with_examples("Line", "Reply")
 @with_examples("Script", "Answer")
-class Rehearse(ProgramTest):
-    def setUp(self):
-        folder = tempfile.TemporaryDirectory()
-        self.addCleanup(folder.cleanup)
-        self.folder = Path(folder.name)
-
+class Rehearse(FolderTest):
     def words(self, show, script):
         """The words of a rehearsal of this show and this script."""
-        names = []
-        for name, content in (("show.asc", show), ("night.script", script)):
-            file = self.folder / name
-            file.write_bytes(content)
-            names.append(file)
-        return ["rehearse", *names]
+        return ["rehearse", self.file("show.asc", show), self.file("night.script", script)]
 
     def assertExample(self, name):
         for run in rehearsals(name):

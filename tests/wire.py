@@ -3,6 +3,8 @@
 import select
 import socket
 
+from program import FolderTest
+
 SEQUENCE, OPTIONS, SLOT_1 = 111, 112, 126
 TERMINATED = 0x40
 
@@ -26,3 +28,17 @@ def received(receiver, wait=0.1):
     while select.select([receiver], [], [], wait)[0]:
         datagrams.append(receiver.recv(65536))
     return datagrams
+
+
+class ReceiverTest(FolderTest):
+    """With a socket that receives what a test plays to `self.to`."""
+
+    def setUp(self):
+        super().setUp()
+        self.receiver = receiving()
+        self.addCleanup(self.receiver.close)
+        self.to = address_of(self.receiver)
+
+    def came(self, wait=0.1):
+        """The datagrams that have come since the last look."""
+        return received(self.receiver, wait)
