@@ -13,10 +13,10 @@ BUILT = TOP / "crates/cueplayer/out/cueplayer"
 PROGRAM = Path(os.environ.get("CUEPLAYER") or BUILT).resolve()
 
 CID = "c0ffee00-0000-4000-8000-00000000e131"
-LOOK_ONE = ("IDENT 3:0", "CUE 1", "CHAN 1@H80", "PATCH 1 1<1@H80", "ENDDATA")
-
 
 NO_PATCH = b"no dimmer is patched\n"
+UNFIT = b"words refused\n"
+DEVICE_FAULT = b"device fault\n"
 
 
 # The first line that tells of a fault; the line behind it is a remark, in words.
@@ -127,6 +127,13 @@ class ProgramTest(unittest.TestCase):
         """Neither `look` nor `slots` finds the cue."""
         for words in (["look", "-", cue, "--cid", CID], ["slots", "-", cue]):
             self.assertRuns(words, show, status=3, err=b"show: NoCue\n")
+
+    def assertFullDisk(self, words, stdin=b""):
+        """A run whose output has no room ends with a device fault."""
+        with open("/dev/full", "wb") as full:
+            pipe = subprocess.PIPE
+            done = subprocess.run([PROGRAM, *words], input=stdin, stdout=full, stderr=pipe, timeout=60)
+        self.assertEqual((5, DEVICE_FAULT), (done.returncode, told(done.stderr)))
 
 
 class FolderTest(ProgramTest):

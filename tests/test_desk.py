@@ -3,7 +3,6 @@
 import json
 import os
 import re
-import shutil
 import signal
 import socket
 import subprocess
@@ -15,7 +14,7 @@ from desks import DeskTest, Page
 from program import CID, packet, text
 from test_osc import message
 from tooling import PATIENCE, TOOLS, run_tool, wait_for
-from wire import OPTIONS, TERMINATED, address_of, receiving
+from wire import OPTIONS, TERMINATED, address_of, own_network, receiving
 
 from cueplayer_tools.show import has_follow_ons
 
@@ -278,11 +277,8 @@ class Beside(DeskTest):
 class Multicast(DeskTest):
     def test_levels(self):
         """At `--to 239.255.0.0` the levels of each universe come to the grid by its own group."""
-        namespace = network_namespace()
-        if namespace is None:
-            self.skipTest("no network namespace can be made here")
         script = "ip link set lo up multicast on && ip route add 239.0.0.0/8 dev lo && exec \"$@\""
-        words = [*namespace, "sh", "-c", script, "sh", sys.executable, "-c", SEEN, TOOLS / "desk"]
+        words = [*own_network(self), "sh", "-c", script, "sh", sys.executable, "-c", SEEN, TOOLS / "desk"]
         words += [self.show, "--to", "239.255.0.0", "--cid", str(uuid.uuid4()), "--base", "300"]
         done = subprocess.run(words, capture_output=True, text=True, timeout=2 * PATIENCE)
         levels = bytes([128]) + bytes(511)
@@ -310,14 +306,3 @@ for line in events:
 desk.terminate()
 desk.wait()
 """
-
-
-def network_namespace():
-    """The words that run a program in a network of its own, or None where that cannot be."""
-    unshare, ip = shutil.which("unshare"), shutil.which("ip")
-    if not unshare or not ip:
-        return None
-    root = [] if os.geteuid() == 0 else ["--user", "--map-root-user"]
-    words = [unshare, *root, "--net"]
-    probe = subprocess.run([*words, ip, "link", "set", "lo", "up"], capture_output=True)
-    return None if probe.returncode else words

@@ -9,13 +9,12 @@ import tempfile
 import time
 import unittest
 
-from program import CID, LOOK_ONE, PROGRAM, FolderTest, ProgramTest, counts, packet, run, text, told
+from program import CID, DEVICE_FAULT, PROGRAM, FolderTest, ProgramTest, counts, packet, run, text, told
+from worked import LOOK_ONE as SHOW
 
-SHOW = text(*LOOK_ONE)
 LOOK = ("look", "-", "1", "--cid", CID)
 LINE = packet(1, {1: 64}).hex().encode() + b"\n"
 CHECKED = counts(lines=5, cues=1, dimmers=1)
-DEVICE_FAULT = b"device fault\n"
 
 
 class Files(FolderTest):

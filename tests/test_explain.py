@@ -1,8 +1,7 @@
 """`explain`: which lines of a show are skipped, and why, and notes for its author."""
 
-import subprocess
-
-from program import CID, LOOK_ONE, PROGRAM, TOP, ProgramTest, run, text, told
+from program import CID, DEVICE_FAULT, TOP, ProgramTest, run, text
+from worked import LOOK_ONE
 
 PATCHED = "PATCH 1 1<1@FL 2<2@FL"
 NO_PATCH = "note: no dimmer is patched: no universe is sent"
@@ -23,7 +22,7 @@ class Explain(ProgramTest):
         self.assertEqual(counted, sum(line.startswith("line ") for line in lines))
 
     def test_nothing_to_tell(self):
-        self.assertExplains(text(*LOOK_ONE))
+        self.assertExplains(LOOK_ONE)
         self.assertExplains(b"", NO_PATCH)
 
     def test_unknown_keyword(self):
@@ -127,12 +126,8 @@ class Explain(ProgramTest):
                 self.assertRuns(["explain", file], b"")
 
     def test_devices(self):
-        self.assertRuns(["explain", "/no/such/file"], b"", status=5, err=b"device fault\n")
-        with open("/dev/full", "wb") as full:
-            words = [PROGRAM, "explain", "-"]
-            pipe = subprocess.PIPE
-            done = subprocess.run(words, input=b"WHAT\n", stdout=full, stderr=pipe, timeout=60)
-        self.assertEqual((5, b"device fault\n"), (done.returncode, told(done.stderr)))
+        self.assertRuns(["explain", "/no/such/file"], b"", status=5, err=DEVICE_FAULT)
+        self.assertFullDisk(["explain", "-"], b"WHAT\n")
 
     def test_words(self):
         for words, telling in (

@@ -1,21 +1,18 @@
 """Calls of the system that fail: each send, read, write and receive in turn, and networks that are gone."""
 
 import errno
-import os
 import re
-import shutil
 import subprocess
 import sys
 
 from expected import runs
 from preload import PreloadTest
-from program import CID, LOOK_ONE, PROGRAM, Outcome, counts, packet, run, text, told
+from program import CID, DEVICE_FAULT, PROGRAM, Outcome, counts, packet, run, text, told
 from test_listen import DATAGRAMS, THREE, Listener
 from test_live import without_moments
-from wire import OPTIONS, SEQUENCE, TERMINATED, ReceiverTest
-from worked import HEADER, S1, keep_alive, plays, rehearsals
+from wire import OPTIONS, SEQUENCE, TERMINATED, ReceiverTest, own_network
+from worked import HEADER, LOOK_ONE, S1, keep_alive, plays, rehearsals
 
-DEVICE_FAULT = b"device fault\n"
 NETWORK_ERRORS = (errno.EAGAIN, errno.ECONNREFUSED, errno.ENETUNREACH, errno.ENOBUFS, errno.EPERM)
 (FADE,) = plays("five_second_fade")
 LINES, PRINTED = (each.decode().splitlines() for each in (FADE.stdin, FADE.out))
@@ -145,7 +142,7 @@ class Prints(FailingCalls):
     def test_each_device_fails(self):
         """`check`, `look`, `slots`, and `rehearse`, which prints through a buffer."""
         self.assertEqual(1, self.assertEachWriteFails(["check", self.show], b"", counts(12, 2, 1, 0, 2)))
-        one = text(*LOOK_ONE)
+        one = LOOK_ONE
         line = packet(1, {1: 64}).hex().encode() + b"\n"
         self.assertEqual(1, self.assertEachWriteFails(["look", "-", "1", "--cid", CID], one, line))
         shown = b"universe 1\nslots 1:64\n"
@@ -289,19 +286,9 @@ print(max(each[126] for each in came), [each[112] for each in came[-3:]])
 
 
 class Network(FailingCalls):
-    def namespace(self):
-        """The words that run others in a network of their own."""
-        unshare, ip = shutil.which("unshare"), shutil.which("ip")
-        if not unshare or not ip:
-            self.skipTest("no tools to make a network namespace")
-        words = [unshare, "--net"] if os.geteuid() == 0 else [unshare, "--user", "--map-root-user", "--net"]
-        if subprocess.run([*words, ip, "link"], capture_output=True).returncode != 0:
-            self.skipTest("no network namespace can be made")
-        return words
-
     def test_no_network(self):
         """The system itself says that the network cannot be reached: no packet that is lost ends the run."""
-        words = [*self.namespace(), PROGRAM, "play", self.show, "--to", "192.0.2.1", "--cid", CID]
+        words = [*own_network(self), PROGRAM, "play", self.show, "--to", "192.0.2.1", "--cid", CID]
         done = subprocess.run(words, input=b"0 tick\n25 tick\n", capture_output=True, timeout=60)
         out = b"0 live 1:x0\n25 live 1:x1\n"
         self.assertEqual((5, out, b"lost 2\n"), (done.returncode, done.stdout, told(done.stderr)))
@@ -310,7 +297,7 @@ class Network(FailingCalls):
         """A night that begins without its network goes on once it is there."""
         words = [PROGRAM, "live", self.show, "--to", "127.0.0.1", "--cid", CID]
         done = subprocess.run(
-            [*self.namespace(), sys.executable, "-c", WITHOUT_NETWORK, *words],
+            [*own_network(self), sys.executable, "-c", WITHOUT_NETWORK, *words],
             capture_output=True,
             text=True,
             timeout=60,

@@ -5,7 +5,6 @@ import os
 import resource
 import shutil
 import stat
-from pathlib import Path
 
 from copied_layout import CopiedLayout
 from program import TOP

@@ -8,13 +8,11 @@ import subprocess
 import time
 from pathlib import Path
 
-from program import CID, PROGRAM, ProgramTest, packet, run, told
+from program import CID, DEVICE_FAULT, PROGRAM, UNFIT, ProgramTest, packet, run, told
 from worked import heard, look_one, with_examples
 
 LOOK_ONE = look_one()
 DATAGRAMS, THREE = heard("listen_three")
-UNFIT = b"words refused\n"
-DEVICE_FAULT = b"device fault\n"
 
 
 def free_port():

@@ -1,13 +1,9 @@
 """`listen` on a network: what another machine sends to a multicast group, in two network namespaces."""
 
-import os
-import shutil
 import subprocess
-import tempfile
-import unittest
-from pathlib import Path
 
-from program import CID, PROGRAM, text
+from program import CID, PROGRAM, FolderTest, text
+from wire import own_network
 
 SHOW = text("CUE 1", "UP 0", "CHAN 1@H80", "PATCH 1 1<1@FL")
 
@@ -39,22 +35,14 @@ wait $listening
 """
 
 
-class Network(unittest.TestCase):
-    def setUp(self):
-        tools = [shutil.which(tool) for tool in ("bash", "unshare", "nsenter", "ip", "timeout")]
-        if None in tools:
-            self.skipTest("no tools to make a network namespace")
-        self.namespace = ["unshare", "--net"] if os.geteuid() == 0 else ["unshare", "--user", "--map-root-user", "--net"]
-        if subprocess.run([*self.namespace, "ip", "link"], capture_output=True).returncode != 0:
-            self.skipTest("no network namespace can be made")
+class Network(FolderTest):
+    SHOW = SHOW
 
     def listen(self, at):
         """What `listen` at this address prints of a console on the other machine."""
-        with tempfile.TemporaryDirectory() as folder:
-            show = Path(folder) / "show.asc"
-            show.write_bytes(SHOW)
-            words = [*self.namespace, "bash", "-c", TWO_MACHINES, "two-machines", PROGRAM, show, CID, at]
-            done = subprocess.run(words, capture_output=True, timeout=90)
+        namespace = own_network(self, "bash", "nsenter", "timeout")
+        words = [*namespace, "bash", "-c", TWO_MACHINES, "two-machines", PROGRAM, self.show, CID, at]
+        done = subprocess.run(words, capture_output=True, timeout=90)
         return done.returncode, done.stdout
 
     def test_joined_group(self):

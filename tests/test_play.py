@@ -2,12 +2,11 @@
 
 import os
 import select
-import shutil
 import subprocess
 import sys
 
-from program import CID, PROGRAM, FolderTest, Outcome, packet, run, text, told
-from wire import address_of, received, receiving
+from program import CID, DEVICE_FAULT, PROGRAM, UNFIT, FolderTest, Outcome, packet, run, text, told
+from wire import address_of, own_network, received, receiving
 from worked import S1, keep_alive, plays, table, with_examples
 
 TWO_UNIVERSES = table("two_universes").show
@@ -61,7 +60,7 @@ class Ends(PlayTest):
             self.assertEqual((status, b"", err), run(*self.words(show, *options), stdin=b"5 jump\n"))
 
     def test_files(self):
-        device = (5, b"", b"device fault\n")
+        device = (5, b"", DEVICE_FAULT)
         for name in (self.folder, self.folder / "missing", "-", ""):
             words = ["play", name, "--to", "127.0.0.1", "--cid", CID]
             self.assertEqual(device, run(*words, stdin=S1, cwd=self.folder))
@@ -70,20 +69,11 @@ class Ends(PlayTest):
         self.assertEqual((0, b"0 live\n", b""), run(*words, stdin=b"0 tick\n", cwd=self.folder))
 
     def test_devices_that_fail(self):
-        fault = (5, b"device fault\n")
         folder = os.open(self.folder, os.O_RDONLY)
         self.addCleanup(os.close, folder)
         done = subprocess.run([PROGRAM, *self.words(S1)], stdin=folder, capture_output=True, timeout=60)
-        self.assertEqual((*fault, b""), (done.returncode, told(done.stderr), done.stdout))
-        with open("/dev/full", "wb") as full:
-            done = subprocess.run(
-                [PROGRAM, *self.words(S1)],
-                input=b"0 go\n",
-                stdout=full,
-                stderr=subprocess.PIPE,
-                timeout=60,
-            )
-        self.assertEqual(fault, (done.returncode, told(done.stderr)))
+        self.assertEqual((5, DEVICE_FAULT, b""), (done.returncode, told(done.stderr), done.stdout))
+        self.assertFullDisk(self.words(S1), b"0 go\n")
 
     def test_lost_packets(self):
         """A broadcast address, which the system refuses to send to without leave."""
@@ -110,7 +100,7 @@ class Ends(PlayTest):
         for option, value in (("--priority", "201"), ("--base", "0"), ("--base", "64000"), ("--to", "1.2.3")):
             words = ["play", "a", "--cid", CID, option, value]
             words += [] if option == "--to" else ["--to", "127.0.0.1"]
-            self.assertEqual((2, b"", b"words refused\n"), run(*words))
+            self.assertEqual((2, b"", UNFIT), run(*words))
 
 
 # Runs in a network of its own: joins the multicast groups of two universes, plays to them, and tells what
@@ -136,15 +126,9 @@ for receiver in groups:
 class Multicast(PlayTest):
     def test_each_universe_to_its_group(self):
         """Universes 255 and 256, in a network namespace where one can be made."""
-        unshare, ip = shutil.which("unshare"), shutil.which("ip")
-        if not unshare or not ip:
-            self.skipTest("no tools to make a network namespace")
-        namespace = [unshare, "--net"] if os.geteuid() == 0 else [unshare, "--user", "--map-root-user", "--net"]
-        if subprocess.run([*namespace, ip, "link"], capture_output=True).returncode != 0:
-            self.skipTest("no network namespace can be made")
         words = [PROGRAM, *self.words(TWO_UNIVERSES, "--base", "255", to="239.255.0.0")]
         done = subprocess.run(
-            [*namespace, sys.executable, "-c", IN_A_NETWORK, *words], capture_output=True, text=True, timeout=60
+            [*own_network(self), sys.executable, "-c", IN_A_NETWORK, *words], capture_output=True, text=True, timeout=60
         )
         out = "0 live 255:s0 256:s0\n" + "".join(packet(u, {}).hex() + "\n" for u in (255, 256))
         self.assertEqual(("", out), (done.stderr, done.stdout))

@@ -1,8 +1,6 @@
 """`rehearse`: its scripts, and what it prints of them."""
 
-import subprocess
-
-from program import CID, PROGRAM, FolderTest, run, text, told
+from program import CID, DEVICE_FAULT, FolderTest, run, text
 from worked import HEADER, S1, codes, rehearsal_of, rehearsals, steps, table, tables, with_examples
 
 OTHER = CID[:-1] + "2"
@@ -71,14 +69,11 @@ class Rehearse(FolderTest):
     def test_missing_files(self):
         words = self.words(text("CUE x"), b"")
         missing = [words[0], words[1], self.folder / "none"]
-        self.assertRuns(missing, b"", status=5, err=b"device fault\n")
+        self.assertRuns(missing, b"", status=5, err=DEVICE_FAULT)
         missing = [words[0], self.folder / "none", words[2]]
-        self.assertRuns(missing, b"", status=5, err=b"device fault\n")
+        self.assertRuns(missing, b"", status=5, err=DEVICE_FAULT)
         # `-` is a file of that name.
-        self.assertRuns([words[0], words[1], "-"], b"", status=5, err=b"device fault\n")
+        self.assertRuns([words[0], words[1], "-"], b"", status=5, err=DEVICE_FAULT)
 
     def test_full_output(self):
-        words = self.words(S1, text(*HEADER, "0 tick 0"))
-        with open("/dev/full", "wb") as full:
-            done = subprocess.run([PROGRAM, *words], stdout=full, stderr=subprocess.PIPE, timeout=60)
-        self.assertEqual((5, b"device fault\n"), (done.returncode, told(done.stderr)))
+        self.assertFullDisk(self.words(S1, text(*HEADER, "0 tick 0")))

@@ -1,13 +1,10 @@
 """`slots`: the levels of a cue, for people."""
 
-import subprocess
-
-from program import CID, LOOK_ONE, PROGRAM, TOP, ProgramTest, run, text, told
+from program import CID, DEVICE_FAULT, TOP, UNFIT, ProgramTest, run, text
 from test_examples import blocks
+from worked import LOOK_ONE as SHOW
 
-SHOW = text(*LOOK_ONE)
 TWO = text("PATCH 1 1<1@FL 2<3@FL 1<513@FL", "CUE 1", "CHAN 1@FL 2@50")
-UNFIT = b"words refused\n"
 BASE = b"base: Universe\n"
 
 
@@ -33,12 +30,8 @@ class Slots(ProgramTest):
         self.assertRuns(words, TWO, status=3, err=b"show: NoCue\n")
 
     def test_devices(self):
-        self.assertRuns(["slots", "/no/such/file", "1"], b"", 5, err=b"device fault\n")
-        with open("/dev/full", "wb") as full:
-            words = [PROGRAM, "slots", "-", "1"]
-            pipe = subprocess.PIPE
-            done = subprocess.run(words, input=SHOW, stdout=full, stderr=pipe, timeout=60)
-        self.assertEqual((5, b"device fault\n"), (done.returncode, told(done.stderr)))
+        self.assertRuns(["slots", "/no/such/file", "1"], b"", 5, err=DEVICE_FAULT)
+        self.assertFullDisk(["slots", "-", "1"], SHOW)
 
     def test_words(self):
         for words in (["x"], ["0"], *(["1", "--base", base] for base in ("0", "64000", "x"))):

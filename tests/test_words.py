@@ -5,12 +5,10 @@ import shutil
 import subprocess
 import tempfile
 
-from program import CID, LOOK_ONE, PROGRAM, ProgramTest, counts, packet, run, text
-from worked import codes, table
+from program import CID, PROGRAM, UNFIT, ProgramTest, counts, packet, run
+from worked import LOOK_ONE as SHOW, codes, table
 
-SHOW = text(*LOOK_ONE)
 LINE = packet(1, {1: 64}).hex().encode() + b"\n"
-UNFIT = b"words refused\n"
 
 
 class Words(ProgramTest):

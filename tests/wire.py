@@ -1,7 +1,10 @@
 """Datagrams on this machine: sockets that receive them, and where a packet has its fields."""
 
+import os
 import select
+import shutil
 import socket
+import subprocess
 
 from program import FolderTest
 
@@ -28,6 +31,16 @@ def received(receiver, wait=0.1):
     while select.select([receiver], [], [], wait)[0]:
         datagrams.append(receiver.recv(65536))
     return datagrams
+
+
+def own_network(test, *tools):
+    """The words that run others in a network of their own; where there cannot be one the test is skipped."""
+    if not all(map(shutil.which, ("unshare", "ip", *tools))):
+        test.skipTest("no tools to make a network namespace")
+    words = ["unshare", "--net"] if os.geteuid() == 0 else ["unshare", "--user", "--map-root-user", "--net"]
+    if subprocess.run([*words, "ip", "link", "set", "lo", "up"], capture_output=True).returncode != 0:
+        test.skipTest("no network namespace can be made")
+    return words
 
 
 class ReceiverTest(FolderTest):

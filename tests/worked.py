@@ -210,6 +210,10 @@ def keep_alive():
     return Play(S1, [], text(*ticks), text(*out), [packet(1, {}, k) for k in range(len(rows))])
 
 
+# The show of row `look_one`.
+(LOOK_ONE,) = texts(table("look_one").rows[0]["Show"])
+
+
 def look_one():
     """The packet of row `look_one`, which stands in the page byte by byte."""
     return bytes.fromhex(re.sub(r"00\*(\d+)", lambda zeros: "00" * int(zeros[1]), block("look_one")))
