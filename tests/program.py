@@ -107,10 +107,10 @@ class ProgramTest(unittest.TestCase):
         self.assertRuns(["check", "-"], show, out=counts(**expected))
 
     def assertFault(self, show, fault):
-        """`check`, `look` and `slots` all refuse the show, with this fault."""
+        """What reads a show refuses it with this fault."""
         err = f"show{fault}\n".encode()
-        for words in (["check", "-"], ["look", "-", "1", "--cid", CID], ["slots", "-", "1"]):
-            self.assertRuns(words, show, status=3, err=err)
+        for job in (["check", "-"], ["explain", "-"], ["look", "-", "1", "--cid", CID], ["slots", "-", "1"]):
+            self.assertRuns(job, show, status=3, err=err)
 
     def assertLooks(self, show, cue, universes):
         """`look` prints one packet a universe, with these slots, and `slots` the slots themselves:
