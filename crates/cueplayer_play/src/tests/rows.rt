@@ -31,6 +31,21 @@ fn five_second_fade(rt: HostRuntime) {
     assert_eq!(rt; run.slot(0), Some(128));
 }
 
+// Where a growth of the console's or the show's is refused, nothing was offered or printed. The
+// output's own growth is the last.
+#[test]
+fn each_growth_refused(rt: HostRuntime) {
+    let mut run = plays(&rt, rt.alloc(), b"0 go\n");
+    if run.answer == Err(RunFault::Memory) {
+        assert!(rt; run.out.bytes.is_empty() && run.link.sends.is_empty());
+        run = plays(&rt, rt.alloc(), b"0 go\n");
+    }
+    if run.out.full {
+        run = plays(&rt, rt.alloc(), b"0 go\n");
+    }
+    assert!(rt; run.is(Ok(()), b"0 ok\n"));
+}
+
 #[test]
 fn play_refusals(rt: HostRuntime) {
     let alloc = rt.alloc();
