@@ -41,7 +41,12 @@ class Call(NamedTuple):
     refuses: str
 
     def may_grow(self):
-        return bool(MAY_GROW.search(self.said)) and not self.said.startswith(OF_DEVICES)
+        """What keeps the allocator for later, and cannot answer want of memory, takes none."""
+        asks = self.can_refuse() and MAY_GROW.search(self.said)
+        return bool(asks) and not self.said.startswith(OF_DEVICES)
+
+    def name(self):
+        return re.split("[(<]", self.said)[0]
 
     def can_refuse(self):
         return bool(re.search("-> (Result|Option)<", self.said))
@@ -217,8 +222,8 @@ class Proved(unittest.TestCase):
                     self.assertEqual(call.can_refuse(), bool(told.get((crate, call.said))))
 
     def test_tests(self):
-        """Each test that the page names is there: as `file.Class.test`, as a file's, or of a crate,
-        as `crate::tests::name`."""
+        """Each test that the page names is there: as `file.Class.test`, as a file's, or as
+        `crate::tests::name`."""
         for crate, name in re.findall(r"`(\w+)::tests::(?:\w+::)*(\w+)`", PAGE.read_text()):
             files = (TOP / "crates" / crate / "src").rglob("*.rt")
             texts = [file.read_text() for file in files if "tests" in file.as_posix()]

@@ -1,0 +1,164 @@
+"""Each growth of the crates' own tests refused in turn, until a run in which none is.
+
+What is right where a growth is refused, the tests of the crates say: those that are listed here
+pass each time. The others do not expect it: such a one passes, or fails as a test does.
+
+The programs of the tests are those that `rt ci` has proved and built. Where a crate has none, as
+after `./cueplayer`, its tests are left out; under GATE, which `.ci/run` sets, that is a failure.
+"""
+
+import functools
+import os
+import re
+import resource
+import signal
+import subprocess
+from typing import NamedTuple
+
+from program import TOP
+from test_proved import all_calls
+from test_refused_growths import Growths
+
+
+class Tested(NamedTuple):
+    """Public calls that may grow, and the tests that pass whichever growth is refused."""
+
+    calls: tuple
+    tests: tuple
+
+
+BUILDERS = ("open_cue", "open_sub", "open_group", "set_patch")
+BUILDERS += ("cue_level", "sub_level", "group_level")
+EACH = ("each_growth_refused",)
+WORDS_OF = ("explain", "listen", "live", "look_one", "play", "rehearse", "slots")
+TESTED = {
+    "show_core": Tested((*(f"Show::{name}" for name in BUILDERS), "Show::clone_in"), EACH),
+    "fade_core": Tested(
+        ("Fader::new",),
+        ("each_growth_of_plain_refused", "each_growth_of_step_refused"),
+    ),
+    "patch_core": Tested(("Rig::new",), EACH),
+    "playback_core": Tested(("Playback::new",), EACH),
+    "sacn_source": Tested(("Sender::open",), EACH),
+    "desk_core": Tested(("Desk::open",), EACH),
+    "wire_world": Tested(("rehearse",), EACH),
+    "show_reader": Tested(
+        ("read_show",),
+        (
+            *("clear_cues", "console_style_file", "follow_faults", "last_follow_on_time"),
+            *("last_rates", "show_faults", "show_texts", "skipped_lines", "top_channel"),
+            "universe_limit",
+        ),
+    ),
+    "script_text": Tested(
+        ("read_script",), ("first_malformed_line", "forms_at_their_limits", "strays")
+    ),
+    "cueplayer_words": Tested(
+        ("read_words",), ("look_words", *(f"words_of_{job}" for job in WORDS_OF))
+    ),
+    "cueplayer_runs": Tested(
+        ("check", "look", "slots"),
+        (
+            *("check_rows", "each_device_fails", "look_missing_cue", "look_rows"),
+            *("look_two_universes", "slots_rows", "listening::each_device_of_listen_fails"),
+            *("listening::every_reply", "listening::listen_three", "listening::long_datagrams"),
+        ),
+    ),
+    "cueplayer_explain": Tested(("explain",), ("faults", "notes", "skipped_lines")),
+    "cueplayer_play": Tested(("play", "Console::open"), ("rows::each_growth_refused",)),
+    "cueplayer_rehearse": Tested(
+        ("rehearse_text",), ("devices_fail::each_device_fails", "rows::rehearse_basic")
+    ),
+}
+# Whose growths are thousands of their own texts, or which take long.
+LEFT_OUT = {
+    "show_reader": ("too_many_cues",),
+    "playback_core": ("every_millisecond",),
+    "cueplayer_play": ("devices_fail::each_send_fails",),
+    "cueplayer_rehearse": ("window::window_edge", "window::window_wrap"),
+}
+# How a test fails: by a failed assertion, or by an error that it answers.
+ABORTED, ANSWERED = -signal.SIGABRT, 101
+WANT_OF_MEMORY = re.compile(r"error: (AllocError|AllocFailed|Memory)\b")
+
+
+def program_of(crate):
+    return TOP / f"crates/{crate}/out/{crate}_tests"
+
+
+@functools.lru_cache(maxsize=None)
+def tests_of(crate):
+    """The tests of a crate, by its program."""
+    words = [program_of(crate), "--list"]
+    listed = subprocess.run(words, stdout=subprocess.PIPE, check=True, text=True).stdout
+    names = [line.partition(": ")[0] for line in listed.splitlines()]
+    return [name.removeprefix("tests::") for name in names if name.startswith("tests::")]
+
+
+def tested_crates():
+    return sorted(file.parents[1].name for file in (TOP / "crates").glob("*/src/tests.rt"))
+
+
+def without_core():
+    # A failed assertion aborts.
+    resource.setrlimit(resource.RLIMIT_CORE, (0, 0))
+
+
+class CrateGrowths(Growths):
+    def run_without(self, crate, test, growth):
+        """How a test ends where the growth of this number is refused, and what it says."""
+        done = subprocess.run(
+            [program_of(crate), f"tests::{test}"],
+            stdin=subprocess.DEVNULL,
+            capture_output=True,
+            timeout=60,
+            env=self.environment(growth),
+            preexec_fn=without_core,
+        )
+        return done.returncode, (done.stdout + done.stderr).decode(errors="replace")
+
+    def assertEachRefused(self, crate, test, may_fail=False):
+        """It passes where no growth is refused, and where one is, or fails as a test does."""
+        passed = self.run_without(crate, test, 0)
+        self.assertEqual(0, passed[0], passed[1])
+        growths, _ = self.growths()
+        for growth in range(1, growths + 1):
+            with self.subTest(crate=crate, test=test, growth=growth):
+                status, told = self.run_without(crate, test, growth)
+                failed = status == ABORTED or status == ANSWERED and WANT_OF_MEMORY.match(told)
+                self.assertTrue(status == 0 or may_fail and failed, f"{status}: {told}")
+        self.assertEqual(passed, self.run_without(crate, test, growths + 1))
+        self.assertEqual(growths, self.growths()[0])
+        return growths
+
+    def programs(self, crates):
+        """Those of the crates whose test program is there."""
+        built = [crate for crate in crates if program_of(crate).is_file()]
+        if "GATE" in os.environ:
+            self.assertEqual(list(crates), built)
+        elif not built:
+            self.skipTest("no test program of a crate was built")
+        return built
+
+    def test_calls(self):
+        """The list has every public call that can answer want of memory."""
+        calls = [call for calls in all_calls().values() for call in calls]
+        growing = [call.name() for call in calls if call.may_grow()]
+        listed = [name for tested in TESTED.values() for name in tested.calls]
+        self.assertEqual(sorted(growing), sorted(listed))
+
+    def test_growths(self):
+        """Where a growth is refused the call answers that, and the test passes."""
+        for crate in self.programs(sorted(TESTED)):
+            for test in TESTED[crate].tests:
+                with self.subTest(crate=crate, test=test):
+                    self.assertIn(test, tests_of(crate))
+                    self.assertGreater(self.assertEachRefused(crate, test), 0)
+
+    def test_other_tests(self):
+        """Nothing falls, and nothing hangs."""
+        for crate in self.programs(tested_crates()):
+            named = TESTED[crate].tests if crate in TESTED else ()
+            for test in sorted(set(tests_of(crate)) - {*named, *LEFT_OUT.get(crate, ())}):
+                with self.subTest(crate=crate, test=test):
+                    self.assertEachRefused(crate, test, may_fail=True)
