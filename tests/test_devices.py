@@ -145,12 +145,30 @@ class Floods(FolderTest):
 
 
 class Outputs(ProgramTest):
+    def jobs(self):
+        """Runs that print, each with its standard input."""
+        folder = tempfile.TemporaryDirectory()
+        self.addCleanup(folder.cleanup)
+        show, script = Path(folder.name, "show.asc"), Path(folder.name, "night.script")
+        show.write_bytes(SHOW)
+        script.write_bytes(text(f"console 1 100 {CID}", "receiver 1", "0 tick 0", "0 slots 0"))
+        to = ("--to", "127.0.0.1:9", "--cid", CID)
+        return (
+            (("check", "-"), SHOW),
+            (LOOK, SHOW),
+            (("slots", "-", "1"), SHOW),
+            (("explain", "-"), b"WHAT\n" + SHOW),
+            (("rehearse", show, script), b""),
+            (("play", show, *to), b"0 tick\n"),
+            (("live", show, *to), b"go\n"),
+        )
+
     def assertOutputFails(self, **options):
-        """Both programs say so on standard error, with status 5, where their output is not taken."""
-        for words in (LOOK, ("check", "-")):
+        """Each run says so on standard error, with status 5, where its output is not taken."""
+        for words, stdin in self.jobs():
             with self.subTest(words):
                 done = subprocess.run(
-                    [PROGRAM, *words], input=SHOW, stderr=subprocess.PIPE, timeout=60, **options
+                    [PROGRAM, *words], input=stdin, stderr=subprocess.PIPE, timeout=60, **options
                 )
                 self.assertEqual((5, DEVICE_FAULT), (done.returncode, told(done.stderr)))
 
