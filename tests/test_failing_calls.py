@@ -77,8 +77,9 @@ class Play(FailingCalls):
         outcome, came = self.plays(LINES[:4], ("read", 2, 2, errno.EIO))
         self.assertEqual(Outcome(5, text(*PRINTED[:4]), DEVICE_FAULT), outcome)
         self.assertEqual(FADE.packets[:3], came)
-        outcome, came = self.plays(LINES, ("read", 1, 1, errno.EIO))
-        self.assertEqual((Outcome(5, b"", DEVICE_FAULT), []), (outcome, came))
+        for error in (errno.EIO, errno.EAGAIN):
+            outcome, came = self.plays(LINES, ("read", 1, 1, error))
+            self.assertEqual((Outcome(5, b"", DEVICE_FAULT), []), (outcome, came))
         for error in (errno.EIO, errno.ENOSPC, errno.EPIPE, errno.EAGAIN):
             for write in range(1, 6):
                 with self.subTest(errno.errorcode[error], write=write):
@@ -161,8 +162,9 @@ class Prints(FailingCalls):
         for read in (1, 2):
             outcome = self.failing(["check", "-"], S1, ("read", read, read + 2, errno.EINTR))
             self.assertEqual(Outcome(0, whole, b""), outcome)
-            outcome = self.failing(["check", "-"], S1, ("read", read, read, errno.EIO))
-            self.assertEqual(Outcome(5, b"", DEVICE_FAULT), outcome)
+            for error in (errno.EIO, errno.EAGAIN):
+                outcome = self.failing(["check", "-"], S1, ("read", read, read, error))
+                self.assertEqual(Outcome(5, b"", DEVICE_FAULT), outcome)
 
     def test_script_cut(self):
         """A script that ends anywhere."""
