@@ -1,6 +1,6 @@
 -- Frames, from the levels that they are made of.
 use Rattle.std.proofs.Common.{◌≡◌, ℕ, ◌+◌, ◌*◌, ◌<◌, Bool, true, false, ◌&&◌, IsTrue}
-use Rattle.std.proofs.Common.{List, [], ◌∷◌, length, Option, Some, None, is_some, refl, sym}
+use Rattle.std.proofs.Common.{List, [], ◌∷◌, length, Option, Some, None, is_some, refl}
 use Rattle.std.proofs.Common.{subst, ap, ◌∙◌, arith}
 use Rattle.std.specs.Prelude.{All, IfSome, max, map, replicate, slice_get}
 use Rattle.std.specs.List.{range_with_len}

@@ -1,8 +1,9 @@
 -- The numbers of the universes of a patch: they rise, and are in their range.
 use Rattle.std.proofs.Common.{◌≡◌, ℕ, ◌+◌, ◌-◌, ◌<◌, ◌≤◌, true, IsTrue, List, length, get_or, sym, subst, ap, arith}
-use Rattle.std.specs.Prelude.{All, Contains, map}
+use Rattle.std.specs.Prelude.{All, Contains, map, Result, Ok, Err, IsOk, OnOk}
 use Rattle.std.specs.List.{range_with_len}
 use Rattle.std.specs.List.Sorted.{IsStrictlyIncreasing}
+use Rattle.std.proofs.lemmas.Bool.{false≢true}
 use Rattle.std.proofs.lemmas.Bool.Decides.{nat_tests}
 use Rattle.std.proofs.lemmas.List.{get_or-map, length-map}
 use Rattle.std.proofs.lemmas.List.Elements.{All-map, All-filter, All-contains}
@@ -37,6 +38,11 @@ number_of patch base number contains =
     All-contains (λ n. (base ≤ n) × (n - base < 16)) (universe_numbers patch base) number
     (All-map (λ n. (base ≤ n) × (n - base < 16)) (λ ordinal. base + ordinal) (universes_of patch)
     (λ k d lt. let few : get_or (universes_of patch) k d < 16 = ordinals_few patch k d lt in (omega arith, omega arith))) contains
+
+-- what a call says of its success, where it succeeds
+pub when_ok : {T E P : Type 0} (result : Result T E) → IsOk result → OnOk result P → P
+when_ok (Ok value) is says = says
+when_ok (Err error) is says = absurd (false≢true is)
 
 rising : (patch : PatchMap) → IsStrictlyIncreasing (universes_of patch)
 rising patch =

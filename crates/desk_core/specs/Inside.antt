@@ -1,15 +1,19 @@
 -- What holds of the fields of every desk.
-use Rattle.std.specs.Prelude.{◌≡◌, ◌≤◌, ℕ, List, All, length}
+use Rattle.std.specs.Prelude.{◌≡◌, ◌≤◌, ℕ, IsTrue, List, All, length}
 use Rattle.show_core.specs.Readers.{IsInRange}
-use Rattle.show_core.specs.Tables.{PatchMap, Tables}
+use Rattle.show_core.specs.Tables.{Tables}
+use Rattle.patch_core.specs.Frame.{Rigging, is_base}
+use Rattle.desk_core.specs.Meaning.{universe_numbers}
 
--- the fader is not ahead of the last call, the rig has the show's patch, the show's numbers are in
--- their ranges, and there is a level and a floor in its range for each channel and a frame for each
--- ordinal
-pub record IsDesk (fader_latest last_moment : ℕ) (patch : PatchMap) (show : Tables)
-    (levels floors : List ℕ) (frames : List (List ℕ)) : Type 0 where
+-- the fader is not ahead of the last call, the rig has the show's patch, the universes have numbers,
+-- which are at hand, the show's numbers are in their ranges, and there is a level and a floor in its
+-- range for each channel and a frame for each ordinal
+pub record IsDesk (fader_latest last_moment : ℕ) (rig : Rigging) (show : Tables)
+    (universes levels floors : List ℕ) (frames : List (List ℕ)) : Type 0 where
   pub not_ahead : fader_latest ≤ last_moment
-  pub patch_is : patch ≡ show.patch
+  pub patch_is : rig.patch ≡ show.patch
+  pub base_in : IsTrue (is_base show.patch rig.base)
+  pub universes_are : universes ≡ universe_numbers show.patch rig.base
   pub in_range : IsInRange show
   pub each_channel : length levels ≡ 4096
   pub full : All (λ level. level ≤ 65025) levels

@@ -60,6 +60,7 @@ pub struct Desk<F: Fader> {
     last_moment: u64,
     last_tick: Option<u64>,
     ended: Option<u8>,
+    universes: ArrayVec<u16, 16>,
     levels: Vec<u16>,
     floors: Vec<u16>,
     are_floors: bool,
@@ -93,8 +94,8 @@ impl<F: Fader> Model for Desk<F> {
 
     ghost use Rattle.desk_core.specs.Inside.{IsDesk};
 
-    ghost invariant = { λ d. IsDesk (F.latest d.playback.fader) d.last_moment d.rig.patch d.show
-        d.levels.items d.floors.items d.frames.items };
+    ghost invariant = { λ d. IsDesk (F.latest d.playback.fader) d.last_moment d.rig d.show
+        d.universes.items d.levels.items d.floors.items d.frames.items };
 }
 
 impl<F: Fader> fmt::Debug for Desk<F> {
@@ -124,6 +125,7 @@ impl<F: Fader> Desk<F> {
     {
         let rig = Rig::new(alloc, show, base)?;
         let show = show.clone_in(alloc)?;
+        let universes = universe_numbers(&show, rig.base());
         let playback = Playback::new(alloc)?;
         let levels = vec![in alloc; 0; usize::from(CHANNELS)]?;
         let floors = vec![in alloc; 0; usize::from(CHANNELS)]?;
@@ -136,6 +138,7 @@ impl<F: Fader> Desk<F> {
             last_moment: 0,
             last_tick: None,
             ended: None,
+            universes,
             levels,
             floors,
             are_floors: false,
@@ -222,9 +225,18 @@ impl<F: Fader> Desk<F> {
             StandsFor F.stands_for show base self.new (act ∷ history) }
     {
         self.keep_floors();
-        match self.few_moving(moment) {
-            Some(channels) => self.tick_few(moment, &channels),
-            None => self.tick_all(moment),
+        let Some(moving) = self.movable(moment) else {
+            self.tick_all(moment);
+            return;
+        };
+        if moving.is_empty() {
+            self.tick_few(moment, &[]);
+            return;
+        }
+        let mut channels = ArrayVec::<u16, FEW>::new();
+        match channels.try_extend_from_slice(moving) {
+            Ok(()) => self.tick_few(moment, &channels),
+            Err(_) => self.tick_all(moment),
         }
     }
 
@@ -243,17 +255,17 @@ impl<F: Fader> Desk<F> {
         }
     }
 
-    // The channels that may move, where those are few and the rest of the frames may be kept, since
-    // no cue follows by itself.
-    fn few_moving(&self, moment: u64) -> Option<ArrayVec<u16, FEW>>
+    // The channels that may move, where the rest of the frames may be kept, since no cue follows by
+    // itself.
+    fn movable(&self, moment: u64) -> Option<&[u16]>
         ensures kept { OnSome result (IsTrue self.now.is_kept) }
         ensures none_due { OnSome result (IsFalse (is_by self.now.playback.due moment)) }
         ensures in_range { IfSome result (λ channels.
-            All (λ channel. IsTrue (is_channel channel)) channels.items) }
+            All (λ channel. IsTrue (is_channel channel)) channels.now) }
         ensures others { IfSome result (λ channels. (show : Tables) (moves : List Move)
             (stopped : Bool) (channel moment : ℕ)
             → playback_stands.StandsFor F.stands_for show self.now.playback moves stopped
-            → IsTrue (is_channel channel) → ¬ Contains channels.items channel
+            → IsTrue (is_channel channel) → ¬ Contains channels.now channel
             → F.latest self.now.playback.fader ≤ moment
             → playback_level show moves channel moment
             ≡ playback_level show moves channel (F.latest self.now.playback.fader)) }
@@ -261,10 +273,7 @@ impl<F: Fader> Desk<F> {
         if !self.is_kept || self.playback.is_due(moment) {
             return None;
         }
-        let moving = self.playback.moving()?;
-        let mut channels = ArrayVec::new();
-        channels.try_extend_from_slice(moving).ok()?;
-        Some(channels)
+        self.playback.moving()
     }
 
     // Draws these channels anew: each other one has the level that it had.
@@ -340,12 +349,8 @@ impl<F: Fader> Desk<F> {
         ensures ascending { IsStrictlyIncreasing result.items }
         ensures range { All (λ number. IsTrue (is_universe number)) result.items }
     {
-        let base = self.rig.base();
-        let ordinals = self.show.universes();
         let mut numbers = ArrayVec::new();
-        for ordinal in ordinals.as_slice() {
-            numbers.push(base + *ordinal);
-        }
+        let _fits = numbers.try_extend_from_slice(self.universes.as_slice());
         numbers
     }
 
@@ -368,6 +373,19 @@ impl<F: Fader> Desk<F> {
     {
         self.playback.current()
     }
+}
+
+// The numbers of the universes that have a patched dimmer, ascending.
+fn universe_numbers(show: &Show, base: u16) -> ArrayVec<u16, 16>
+    requires { IsTrue (is_base show.now.patch base) }
+    ensures { result.items ≡ universe_numbers show.now.patch base }
+{
+    let ordinals = show.universes();
+    let mut numbers = ArrayVec::new();
+    for ordinal in ordinals.as_slice() {
+        numbers.push(base + *ordinal);
+    }
+    numbers
 }
 
 // The lowest refusal that the moment of a call gives.
