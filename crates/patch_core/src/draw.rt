@@ -1,4 +1,4 @@
-ghost use Rattle.std.specs.Prelude.{◌≡◌, ℕ, ◌+◌, ◌*◌, ◌<◌, ◌≤◌, ◌⊎◌};
+ghost use Rattle.std.specs.Prelude.{◌≡◌, ◌≢◌, ℕ, ◌+◌, ◌*◌, ◌<◌, ◌≤◌};
 ghost use Rattle.std.specs.Prelude.{All, length, slice_index, slice_index_or};
 ghost use Rattle.show_core.specs.Readers.{slot_of};
 ghost use Rattle.show_core.specs.Tables.{PatchMap};
@@ -7,7 +7,7 @@ ghost use Rattle.patch_core.specs.Sources.{AreOf, AreSources};
 ghost use Rattle.patch_core.specs.declared.sources.Bytes.TheVariants.{Mixed};
 
 use crate::sources::Bytes;
-use show_core::{SLOTS, slot};
+use show_core::{CHANNELS, SLOTS, slot};
 
 // Writes the slots of each ordinal, from the level at each dimmer's place and from its byte.
 pub fn draw_frames(
@@ -30,11 +30,18 @@ pub fn draw_frames(
     ensures { (patch : PatchMap) → AreSources patch sources.now bytes.now
         → AreDrawn patch (level_in levels.now) grand frames.new }
 {
+    let mut slots = [0; 4096];
+    if grand == 255 {
+        fill_full(&mut slots, levels);
+    } else {
+        fill_dimmed(&mut slots, levels, grand);
+    }
     for ordinal in 0..frames.len() {
         let first = usize::from(SLOTS) * ordinal;
         draw_frame(
             &mut frames[ordinal],
             levels,
+            &slots,
             sources,
             bytes,
             kinds[ordinal],
@@ -44,10 +51,44 @@ pub fn draw_frames(
     }
 }
 
+// The slot of each channel at a byte of 255, where the grand master is full: in sixteen bits, of
+// which a processor has more at a time.
+fn fill_full(slots: &mut [u8; 4096], levels: &[u16])
+    requires each_channel { length levels.now ≡ 4096 }
+    requires full { All (λ level. level ≤ 65025) levels.now }
+    ensures { (c : ℕ) → c < 4096
+        → slice_index slots.new c ≡ slot_of (slice_index levels.now c) 255 255 }
+{
+    for place in 0..usize::from(CHANNELS) {
+        slots[place] = full_slot(levels[place]);
+    }
+}
+
+// The same for any grand master.
+fn fill_dimmed(slots: &mut [u8; 4096], levels: &[u16], grand: u8)
+    requires each_channel { length levels.now ≡ 4096 }
+    requires full { All (λ level. level ≤ 65025) levels.now }
+    ensures { (c : ℕ) → c < 4096
+        → slice_index slots.new c ≡ slot_of (slice_index levels.now c) grand 255 }
+{
+    for place in 0..usize::from(CHANNELS) {
+        slots[place] = slot(u32::from(levels[place]), grand, 255);
+    }
+}
+
+// The slot of a channel at a full grand master and a full byte.
+fn full_slot(level: u16) -> u8
+    requires { level ≤ 65025 }
+    ensures { result ≡ slot_of level 255 255 }
+{
+    ((level + 127) / 255) as u8
+}
+
 // Writes the 512 slots of an ordinal, whose dimmers lie from `first` on.
 fn draw_frame(
     out: &mut [u8; 512],
     levels: &[u16],
+    slots: &[u8; 4096],
     sources: &[u16],
     bytes: &[u8],
     kind: Bytes,
@@ -56,6 +97,8 @@ fn draw_frame(
 )
     requires each_channel { length levels.now ≡ 4096 }
     requires full { All (λ level. level ≤ 65025) levels.now }
+    requires slots { (c : ℕ) → c < 4096
+        → slice_index slots.now c ≡ slot_of (slice_index levels.now c) grand 255 }
     requires sources { first + 512 ≤ length sources.now }
     requires in_range { (p : ℕ) → slice_index sources.now p < 4096 }
     requires bytes { first + 512 ≤ length bytes.now }
@@ -65,21 +108,50 @@ fn draw_frame(
         ≡ slot_of (slice_index levels.now (slice_index sources.now (first + s))) grand
         (slice_index bytes.now (first + s)) }
 {
-    if matches!(kind, Bytes::Dark) {
-        *out = [0; 512];
-        return;
+    match kind {
+        Bytes::Dark => *out = [0; 512],
+        Bytes::Full => {
+            gather_slots(out, slots, sources, first);
+            keep_patched(out, bytes, first);
+        }
+        Bytes::Mixed => {
+            let mut own = [0; 512];
+            gather_levels(&mut own, levels, sources, first);
+            fill_scaled(out, &own, bytes, first, grand);
+        }
     }
-    let mut own = [0; 512];
-    gather(&mut own, levels, sources, first);
-    if matches!(kind, Bytes::Full) && grand == 255 {
-        fill_full(out, &own, bytes, first);
-    } else {
-        fill_scaled(out, &own, bytes, first, grand);
+}
+
+// Brings the slot of the channel of each of 512 dimmers.
+fn gather_slots(out: &mut [u8; 512], slots: &[u8; 4096], sources: &[u16], first: usize)
+    requires sources { first + 512 ≤ length sources.now }
+    requires in_range { (p : ℕ) → slice_index sources.now p < 4096 }
+    ensures size { length out.new ≡ 512 }
+    ensures slots { (s : ℕ) → s < 512 → slice_index out.new s
+        ≡ slice_index slots.now (slice_index sources.now (first + s)) }
+{
+    for place in 0..usize::from(SLOTS) {
+        out[place] = slots[usize::from(sources[first + place])];
+    }
+}
+
+// Puts the slots of 512 dimmers at 0 where their byte is 0.
+fn keep_patched(out: &mut [u8; 512], bytes: &[u8], first: usize)
+    requires bytes { first + 512 ≤ length bytes.now }
+    ensures size { length out.new ≡ 512 }
+    ensures dark { (s : ℕ) → s < 512 → slice_index bytes.now (first + s) ≡ 0
+        → slice_index out.new s ≡ 0 }
+    ensures kept { (s : ℕ) → s < 512 → slice_index bytes.now (first + s) ≢ 0
+        → slice_index out.new s ≡ slice_index out.old s }
+{
+    for place in 0..usize::from(SLOTS) {
+        let kept = out[place];
+        out[place] = if bytes[first + place] == 0 { 0 } else { kept };
     }
 }
 
 // Brings the level of each of 512 dimmers.
-fn gather(own: &mut [u16; 512], levels: &[u16], sources: &[u16], first: usize)
+fn gather_levels(own: &mut [u16; 512], levels: &[u16], sources: &[u16], first: usize)
     requires each_channel { length levels.now ≡ 4096 }
     requires full { All (λ level. level ≤ 65025) levels.now }
     requires sources { first + 512 ≤ length sources.now }
@@ -103,34 +175,5 @@ fn fill_scaled(out: &mut [u8; 512], own: &[u16; 512], bytes: &[u8], first: usize
 {
     for place in 0..usize::from(SLOTS) {
         out[place] = slot(u32::from(own[place]), grand, bytes[first + place]);
-    }
-}
-
-// The same where the grand master and each byte of a patched dimmer are full: in sixteen bits, of
-// which a processor has more at a time.
-fn fill_full(out: &mut [u8; 512], own: &[u16; 512], bytes: &[u8], first: usize)
-    requires full { (s : ℕ) → s < 512 → slice_index own.now s ≤ 65025 }
-    requires bytes { first + 512 ≤ length bytes.now }
-    requires plain { (s : ℕ) → s < 512 → (slice_index bytes.now (first + s) ≡ 0)
-        ⊎ (slice_index bytes.now (first + s) ≡ 255) }
-    ensures size { length out.new ≡ 512 }
-    ensures slots { (s : ℕ) → s < 512 → slice_index out.new s
-        ≡ slot_of (slice_index own.now s) 255 (slice_index bytes.now (first + s)) }
-{
-    for place in 0..usize::from(SLOTS) {
-        out[place] = full_slot(own[place], bytes[first + place]);
-    }
-}
-
-// The slot of a dimmer whose byte is 0 or 255, at a full grand master.
-fn full_slot(level: u16, byte: u8) -> u8
-    requires full { level ≤ 65025 }
-    requires plain { (byte ≡ 0) ⊎ (byte ≡ 255) }
-    ensures { result ≡ slot_of level 255 byte }
-{
-    if byte == 0 {
-        0
-    } else {
-        ((level + 127) / 255) as u8
     }
 }

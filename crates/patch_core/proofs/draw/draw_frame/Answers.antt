@@ -1,20 +1,14 @@
 use Rattle.std.proofs.Common.{◌≡◌, ℕ, ◌+◌, ◌<◌, get_or, sym, subst, ap, ◌∙◌}
 use Rattle.std.proofs.lemmas.List.{get_or-replicate}
-use Rattle.std.proofs.lemmas.Bool.{false≢true}
 use Rattle.show_core.specs.Readers.{slot_of}
 use Rattle.patch_core.specs.Sources.{AreOf}
 use Rattle.patch_core.proofs.Sourced.{slot_dark}
 use Rattle.patch_core.proofs.draw.draw_frame.Goals as goal
-use Rattle.patch_core.proofs.draw.draw_frame.Goals.{in-Dark, in_default}
 
-pub returns-then-matches-clause-slots : goal.returns-then-matches-clause-slots
-returns-then-matches-clause-slots c = λ s lt.
+pub returns-in-Dark-clause-slots : goal.returns-in-Dark-clause-slots
+returns-in-Dark-clause-slots c = λ s lt.
     let level : ℕ = get_or c.args.levels.now (get_or c.args.sources.now (c.args.first + s) 0) 0 in
-    elim c.match-matches.branch [
-      | in-Dark w ↦
-          let dark : (s : ℕ) → s < 512 → get_or c.args.bytes.now (c.args.first + s) 0 ≡ 0 =
-          subst (λ k. AreOf k c.args.bytes.now c.args.first) w.in-Dark.is c.requires.kind in
-          get_or-replicate 512 s 0 0 lt ∙ sym (ap (slot_of level c.args.grand) (dark s lt)
-          ∙ slot_dark level c.args.grand)
-      | in_default w ↦ absurd (false≢true (sym w.matches-is ∙ c.if-matches.true))
-    ]
+    let dark : (s : ℕ) → s < 512 → get_or c.args.bytes.now (c.args.first + s) 0 ≡ 0 =
+    subst (λ k. AreOf k c.args.bytes.now c.args.first) c.in-Dark.is c.requires.kind in
+    get_or-replicate 512 s 0 0 lt
+    ∙ sym (ap (slot_of level c.args.grand) (dark s lt) ∙ slot_dark level c.args.grand)

@@ -1,11 +1,8 @@
-use Rattle.std.proofs.Common.{◌≡◌, ℕ, ◌+◌, ◌<◌, get_or, length}
+use Rattle.std.proofs.Common.{◌≡◌, ℕ, ◌<◌, get_or}
 use Rattle.show_core.specs.Readers.{slot_of}
 use Rattle.patch_core.proofs.draw.fill_full.Given as goal
 
--- the slots so far are those of their dimmers
+-- the slots so far are those of their channels
 abbrev pub invariant-loop-place : goal.invariant-loop-place
-invariant-loop-place l = record {
-  size : length l.out ≡ 512;
-  slots : (s : ℕ) → s < l.place
-      → get_or l.out s 0 ≡ slot_of (get_or l.own s 0) 255 (get_or l.bytes (l.first + s) 0);
-}
+invariant-loop-place l = (c : ℕ) → c < l.place
+    → get_or l.slots c 0 ≡ slot_of (get_or l.levels c 0) 255 255

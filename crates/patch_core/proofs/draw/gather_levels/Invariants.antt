@@ -1,5 +1,5 @@
 use Rattle.std.proofs.Common.{◌≡◌, ℕ, ◌+◌, ◌<◌, get_or}
-use Rattle.patch_core.proofs.draw.gather.Given as goal
+use Rattle.patch_core.proofs.draw.gather_levels.Given as goal
 
 -- the levels so far are those of their dimmers
 abbrev pub invariant-loop-slot : goal.invariant-loop-slot

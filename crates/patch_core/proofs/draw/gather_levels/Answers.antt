@@ -1,6 +1,6 @@
 use Rattle.std.proofs.Common.{ℕ, ◌+◌, ◌≤◌, get_or, sym, subst, arith}
 use Rattle.std.proofs.lemmas.List.Elements.{All-get_or}
-use Rattle.patch_core.proofs.draw.gather.Goals as goal
+use Rattle.patch_core.proofs.draw.gather_levels.Goals as goal
 
 pub returns-clause-full : goal.returns-clause-full
 returns-clause-full c = λ s lt.
