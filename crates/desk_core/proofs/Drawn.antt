@@ -97,6 +97,16 @@ pub drawn_same : (patch other : PatchMap) (level : ℕ → ℕ) (g h : ℕ) (fra
 drawn_same patch other level g h frames others p q r drawn =
     subst (λ x. AreDrawn x level h others) p (subst (λ x. AreDrawn patch level x others) q (subst (AreDrawn patch level g) r drawn))
 
+-- frames that levels make, and others that are equal at each channel
+pub drawn_alike : (patch : PatchMap) → All (λ e. IsTrue (is_channel e.1.0)) (maps.entries patch)
+    → (level other : ℕ → ℕ)
+    → ((channel : ℕ) → IsTrue (is_channel channel) → level channel ≡ other channel)
+    → (grand : ℕ) (frames : List (List ℕ))
+    → AreDrawn patch level grand frames → AreDrawn patch other grand frames
+drawn_alike patch channels level other same grand frames drawn = λ ordinal lt.
+    drawn ordinal lt
+    ∙ ap Some (frame_of-same patch channels level other same grand ordinal)
+
 -- before End, the frame is what the levels make
 pub live_frame_is : (show : Tables) (history : List Act) (moment ordinal : ℕ) → ended history ≡ None
     → frame show history moment ordinal ≡ frame_of show.patch (channel_level show history moment) (grand_after (settings history)) ordinal

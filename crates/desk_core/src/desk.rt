@@ -230,7 +230,7 @@ impl<F: Fader> Desk<F> {
             return;
         };
         if moving.is_empty() {
-            self.tick_few(moment, &[]);
+            self.tick_still(moment);
             return;
         }
         let mut channels = ArrayVec::<u16, FEW>::new();
@@ -274,6 +274,27 @@ impl<F: Fader> Desk<F> {
             return None;
         }
         self.playback.moving()
+    }
+
+    // Keeps the frames, since each channel has the level that it had. The playback need not move on.
+    fn tick_still(&mut self, moment: u64)
+        requires not_before { self.old.last_moment ≤ moment }
+        requires below { moment < 2 ^ 48 }
+        requires live { self.old.ended ≡ None }
+        requires kept { IsTrue self.old.is_kept }
+        requires none_due { IsFalse (is_by self.old.playback.due moment) }
+        requires still { (show : Tables) (moves : List Move) (stopped : Bool) (channel later : ℕ)
+            → playback_stands.StandsFor F.stands_for show self.old.playback moves stopped
+            → IsTrue (is_channel channel) → F.latest self.old.playback.fader ≤ later
+            → playback_level show moves channel later
+            ≡ playback_level show moves channel (F.latest self.old.playback.fader) }
+        ensures { (show : Tables) (base : ℕ) (history : List Act)
+            → StandsFor F.stands_for show base self.old history
+            → let act : Act = record { moment = moment; call = tick } in
+            StandsFor F.stands_for show base self.new (act ∷ history) }
+    {
+        self.last_moment = moment;
+        self.last_tick = Some(moment);
     }
 
     // Draws these channels anew: each other one has the level that it had.
