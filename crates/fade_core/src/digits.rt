@@ -35,6 +35,13 @@ impl Digits {
         self.low == 0
     }
 
+    // Whether it is coarse and no whole way.
+    pub fn is_short(&self) -> bool
+        ensures { IsTrue result ↔ (self.now.low ≡ 0) × (self.now.whole ≡ 0) }
+    {
+        self.low == 0 && self.whole == 0
+    }
+
     // A copy, digit by digit, so that LLVM has each in a number of its own.
     #[inline(always)]
     pub fn copied(&self) -> Self
@@ -59,6 +66,21 @@ impl Digits {
             middle: self.middle,
             high: self.high,
             whole: self.whole,
+        }
+    }
+
+    // The same, where both the lowest digit and the whole are 0.
+    #[inline(always)]
+    pub fn copied_short(&self) -> Self
+        requires low { self.now.low ≡ 0 }
+        requires whole { self.now.whole ≡ 0 }
+        ensures { result ≡ self.now }
+    {
+        Digits {
+            low: 0,
+            middle: self.middle,
+            high: self.high,
+            whole: 0,
         }
     }
 

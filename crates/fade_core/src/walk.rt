@@ -51,7 +51,9 @@ fn bring_all(levels: &mut [u16], from: &[u16], to: &[u16], shares: &Shares)
 {
     let rising = Digits::of(shares.rising);
     let falling = Digits::of(shares.falling);
-    if rising.is_coarse() && falling.is_coarse() {
+    if shares.rising == shares.falling && rising.is_short() {
+        walk_alike(levels, from, to, &rising);
+    } else if rising.is_coarse() && falling.is_coarse() {
         walk_coarse(levels, from, to, &rising, &falling);
     } else {
         walk_fine(levels, from, to, &rising, &falling);
@@ -84,6 +86,19 @@ fn walk_coarse(levels: &mut [u16], from: &[u16], to: &[u16], rising: &Digits, fa
         rising.copied_coarse(),
         falling.copied_coarse(),
     );
+}
+
+// The same where what rises and what falls has gone one share of its way, and no whole one.
+#[inline(never)]
+fn walk_alike(levels: &mut [u16], from: &[u16], to: &[u16], share: &Digits)
+    requires from { length from.now ≡ length levels.old }
+    requires to { length to.now ≡ length levels.old }
+    requires low { share.now.low ≡ 0 }
+    requires whole { share.now.whole ≡ 0 }
+    ensures { AreMoved from.now to.now levels.new (share_by share.now) (share_by share.now) }
+{
+    let share = share.copied_short();
+    walk(levels, from, to, share, share);
 }
 
 #[inline(always)]
