@@ -1,7 +1,7 @@
 -- Why a rehearsal begins, or not.
 use Rattle.std.proofs.Common.{◌≡◌, ◌⊎◌, inl, inr, ℕ, ◌+◌, ◌≤◌, ◌<◌, Bool, true, false, not, List}
-use Rattle.std.proofs.Common.{[], ◌∷◌, ◌++◌, length, Option, Some, None, Result, Ok, Err, IsOkAnd}
-use Rattle.std.proofs.Common.{ap, sym, subst, refl, ◌∙◌, arith}
+use Rattle.std.proofs.Common.{[], ◌∷◌, length, Option, Some, None, Result, Ok, Err, IsOkAnd}
+use Rattle.std.proofs.Common.{ap, sym, subst, ◌∙◌, arith}
 use Rattle.std.specs.Prelude.{◌&&◌, if◌then◌else◌, nat_le, nat_lt, option_map}
 use Rattle.std.specs.List.{list_all, range_with_len}
 use Rattle.std.specs.Option.{option_or}
@@ -172,11 +172,6 @@ refused X show script s p None fault read is answer =
 refused X show script s p (Some first) fault read is answer =
     let same : first ≡ fault = cc in
     refused_for show script s p fault read (is ∙ ap Some same)
-
--- a report is answered where there is no fault
-pub no_fault : {X : Type 0} (o : Option Fault) (x : X) → Answers o (Ok x) → o ≡ None
-no_fault None x answer = refl
-no_fault (Some fault) x answer = cc
 
 -- ---- the rehearsal
 

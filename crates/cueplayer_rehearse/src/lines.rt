@@ -1,17 +1,17 @@
-ghost use Rattle.std.specs.Prelude.{◌≡◌, ◌≤◌, length};
+ghost use Rattle.std.specs.Prelude.{◌≡◌, ◌≤◌, length, map};
+ghost use Rattle.wire_world.specs.Brief.{reply_of};
 ghost use Rattle.cueplayer_rehearse.specs.Texts.{end_lines, event_lines, rehearsal_lines};
 ghost use Rattle.cueplayer_rehearse.specs.Printed.{PrintsLines};
 
 use crate::reply::print_reply;
 use devices::{LinkFault, Output};
 use receiver_text::end_line;
-use wire_laws::Reply;
-use wire_world::Report;
+use wire_world::{BriefReply, BriefReport};
 
 // Prints what came of a script, line by line.
 pub(crate) fn print_lines<W: Output>(
     numbers: &[u32],
-    report: &Report,
+    report: &BriefReport,
     out: &mut W,
 ) -> Result<(), LinkFault>
     requires { length report.now.last ≤ 8 }
@@ -27,13 +27,13 @@ pub(crate) fn print_lines<W: Output>(
 // Prints the replies to the events, each behind the number of its line.
 fn print_replies<W: Output>(
     numbers: &[u32],
-    replies: &[Reply],
+    replies: &[BriefReply],
     out: &mut W,
 ) -> Result<(), LinkFault>
     ensures told { W.tells out.new → W.tells out.old }
     ensures lines { W.tells out.new
-        → PrintsLines result (event_lines numbers.now replies.now) (W.tape out.old)
-        (W.tape out.new) }
+        → PrintsLines result (event_lines numbers.now (map reply_of replies.now))
+        (W.tape out.old) (W.tape out.new) }
 {
     for (number, reply) in numbers.iter().zip(replies) {
         print_reply(*number, reply, out)?;

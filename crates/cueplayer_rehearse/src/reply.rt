@@ -1,6 +1,8 @@
 ghost use Rattle.std.specs.Prelude.{◌≡◌, ◌≤◌, length, OnOk, OnErr};
 ghost use Rattle.devices.specs.Tape.{with_failure, with_more};
 ghost use Rattle.console_text.specs.Texts.{numbered};
+ghost use Rattle.receiver_text.specs.Replies.{slots_text};
+ghost use Rattle.wire_world.specs.Brief.{reply_of};
 ghost use Rattle.cueplayer_rehearse.specs.Texts.{event_line, skip_name, skipped_text};
 
 use arrayvec::ArrayString;
@@ -8,7 +10,8 @@ use console_text::{done_line, refused_line, ticked_line};
 use devices::{LinkFault, Output};
 use itoa::Buffer;
 use receiver_text::{numbered_slots, reply_line};
-use wire_laws::{Reply, Skip};
+use wire_laws::Skip;
+use wire_world::BriefReply;
 
 // There is room for a number of 20 digits, ` skipped NoReceiver` and LF.
 type SkippedLine = ArrayString<40>;
@@ -16,27 +19,44 @@ type SkippedLine = ArrayString<40>;
 // Prints the reply to an event by one write, behind the number of the event's line.
 pub(crate) fn print_reply<W: Output>(
     number: u32,
-    reply: &Reply,
+    reply: &BriefReply,
     out: &mut W,
 ) -> Result<(), LinkFault>
     ensures told { W.tells out.new → W.tells out.old }
     ensures ok { OnOk result (W.tells out.new
-        → W.tape out.new ≡ with_more (W.tape out.old) (event_line (number, reply.now))) }
+        → W.tape out.new ≡ with_more (W.tape out.old) (event_line (number, reply_of reply.now))) }
     ensures err { OnErr result (W.tells out.new
         → W.tape out.new ≡ with_failure (W.tape out.old)) }
 {
     let number = u64::from(number);
     match reply {
-        Reply::Done => out.write(done_line(number).as_str().as_bytes()),
-        Reply::Refused(refused) => out.write(refused_line(number, *refused).as_str().as_bytes()),
-        Reply::Ticked(ticked, offers) => {
+        BriefReply::Done => out.write(done_line(number).as_str().as_bytes()),
+        BriefReply::Refused(refused) => out.write(
+            refused_line(number, *refused).as_str().as_bytes(),
+        ),
+        BriefReply::Ticked(ticked, offers) => {
             out.write(ticked_line(number, *ticked, offers).as_str().as_bytes())
         }
-        Reply::Taken(taken) => out.write(reply_line(number, Ok(*taken)).as_str().as_bytes()),
-        Reply::Ignored(reason) => out.write(reply_line(number, Err(*reason)).as_str().as_bytes()),
-        Reply::Shown(slots) => out.write(numbered_slots(number, slots).as_str().as_bytes()),
-        Reply::Skipped(skip) => out.write(skipped_line(number, *skip).as_str().as_bytes()),
+        BriefReply::Taken(taken) => out.write(reply_line(number, Ok(*taken)).as_str().as_bytes()),
+        BriefReply::Ignored(reason) => out.write(
+            reply_line(number, Err(*reason)).as_str().as_bytes(),
+        ),
+        BriefReply::Shown(slots) => print_slots(number, slots, out),
+        BriefReply::Skipped(skip) => out.write(skipped_line(number, *skip).as_str().as_bytes()),
     }
+}
+
+// Prints the slots of a receiver. It is called, so that no other reply waits until a line of their
+// length is cleared.
+#[inline(never)]
+fn print_slots<W: Output>(number: u64, slots: &[u8; 512], out: &mut W) -> Result<(), LinkFault>
+    ensures told { W.tells out.new → W.tells out.old }
+    ensures ok { OnOk result (W.tells out.new
+        → W.tape out.new ≡ with_more (W.tape out.old) (numbered number (slots_text slots.now))) }
+    ensures err { OnErr result (W.tells out.new
+        → W.tape out.new ≡ with_failure (W.tape out.old)) }
+{
+    out.write(numbered_slots(number, slots).as_str().as_bytes())
 }
 
 fn skipped_line(number: u64, skip: Skip) -> SkippedLine

@@ -1,7 +1,7 @@
 -- The checks of a setup.
 use Rattle.std.proofs.Common.{◌≡◌, ℕ, zero, suc, ◌+◌, ◌<◌, ◌≤◌, Bool, true, false, not, ◌&&◌}
 use Rattle.std.proofs.Common.{refl, ap, sym, subst, ◌∙◌, List, [], ◌∷◌, length, drop, get_or}
-use Rattle.std.proofs.Common.{arith, Option, Some, None}
+use Rattle.std.proofs.Common.{arith, Option, Some, None, Ok}
 use Rattle.std.specs.Prelude.{nat_le, nat_lt, All, if◌then◌else◌, slice_get}
 use Rattle.std.specs.List.{list_all}
 use Rattle.std.specs.Option.{option_map_or}
@@ -10,12 +10,13 @@ use Rattle.std.proofs.lemmas.List.{length-map, get_or-map}
 use Rattle.std.proofs.lemmas.Option.{get_or_from_slice_get}
 use Rattle.show_core.specs.Tables.{Tables}
 use Rattle.patch_core.specs.Frame.{is_base}
+use Rattle.wire_faults.specs.declared.fault.Fault.{Fault}
 use Rattle.wire_faults.specs.declared.fault.Fault.TheVariants.{Consoles, Receivers, NoShow}
 use Rattle.wire_faults.specs.declared.fault.Fault.TheVariants.{Universe}
 use Rattle.wire_laws.specs.declared.setup.Setup.{Setup}
 use Rattle.wire_laws.specs.World.{IsConsole, IsWorld, no_console}
 use Rattle.wire_world.specs.Refusing.{are_consoles, are_receivers, are_universes, is_new_at}
-use Rattle.wire_world.specs.Refusing.{has_base, has_show, setup_fault}
+use Rattle.wire_world.specs.Refusing.{Answers, has_base, has_show, setup_fault}
 use Rattle.wire_laws.specs.declared.event.Event.{Event}
 use Rattle.wire_laws.specs.declared.event.What.{What}
 use Rattle.wire_laws.specs.declared.event.What.TheVariants.{Order, Tick, Deliver, Stray, Show}
@@ -39,6 +40,11 @@ drop_end [] zero h = refl
 drop_end [] (suc i) h = refl
 drop_end (x ∷ xs) zero h = absurd (omega (arith, h))
 drop_end (x ∷ xs) (suc i) h = drop_end xs i (omega (arith, h))
+
+-- a report is answered where there is no fault
+pub no_fault : {X : Type 0} (o : Option Fault) (x : X) → Answers o (Ok x) → o ≡ None
+no_fault None x answer = refl
+no_fault (Some fault) x answer = cc
 
 -- ---- what holds where no reason applies
 

@@ -3,4 +3,5 @@ pub mod Indexed
 pub mod StageStands
 pub mod Stands
 pub mod Reported
+pub mod Brief
 pub mod Refusing

@@ -1,34 +1,43 @@
-ghost use Rattle.std.specs.Prelude.{◌≡◌};
+ghost use Rattle.std.specs.Prelude.{◌≡◌, IfOk};
+ghost use Rattle.wire_world.specs.Brief.{reply_of};
 ghost use Rattle.wire_world.specs.Stands.{order_reply, tick_reply};
 ghost use Rattle.wire_laws.specs.Replies.{taken_reply};
 
+use crate::brief::BriefReply;
 use desk_core::{Refused, Ticked};
 use sacn_receiver::{Ignored, Taken};
-use wire_laws::{Offers, Reply};
+use std::alloc::{AllocError, Global};
+use wire_laws::Offers;
 
-pub(crate) fn ordered(answer: Result<(), Refused>) -> Reply
-    ensures { result ≡ order_reply answer }
+pub(crate) fn ordered(answer: Result<(), Refused>) -> BriefReply
+    ensures { reply_of result ≡ order_reply answer }
 {
     match answer {
-        Ok(()) => Reply::Done,
-        Err(refused) => Reply::Refused(refused),
+        Ok(()) => BriefReply::Done,
+        Err(refused) => BriefReply::Refused(refused),
     }
 }
 
-pub(crate) fn ticked(answer: Result<(Ticked, Offers), Refused>) -> Reply
-    ensures { result ≡ tick_reply answer }
+pub(crate) fn ticked(
+    alloc: Global,
+    answer: Result<(Ticked, Offers), Refused>,
+) -> Result<BriefReply, AllocError>
+    ensures { IfOk result (λ reply. reply_of reply ≡ tick_reply answer) }
 {
     match answer {
-        Ok((ticked, offers)) => Reply::Ticked(ticked, offers),
-        Err(refused) => Reply::Refused(refused),
+        Ok((ticked, offers)) => {
+            let offers = Box::new(alloc, offers)?;
+            Ok(BriefReply::Ticked(ticked, offers))
+        }
+        Err(refused) => Ok(BriefReply::Refused(refused)),
     }
 }
 
-pub(crate) fn taken(answer: Result<Taken, Ignored>) -> Reply
-    ensures { result ≡ taken_reply answer }
+pub(crate) fn taken(answer: Result<Taken, Ignored>) -> BriefReply
+    ensures { reply_of result ≡ taken_reply answer }
 {
     match answer {
-        Ok(taken) => Reply::Taken(taken),
-        Err(ignored) => Reply::Ignored(ignored),
+        Ok(taken) => BriefReply::Taken(taken),
+        Err(ignored) => BriefReply::Ignored(ignored),
     }
 }

@@ -1,3 +1,4 @@
+ghost use Rattle.wire_world.specs.Brief.{reply_of};
 ghost use Rattle.wire_world.specs.StageStands.{StageStands, Tells};
 ghost use Rattle.std.specs.Prelude.{◌≡◌, ℕ, List, length, IfOk, OnOk};
 ghost use Rattle.std.specs.Option.{option_map_or};
@@ -8,21 +9,23 @@ ghost use Rattle.wire_laws.specs.Replies.{missing, replied};
 ghost use Rattle.wire_world.specs.Stands.{AllStand, AllHear, AllTell, AllBy, IsWithin};
 ghost use Rattle.wire_world.specs.Stands.{unless_skipped};
 
+use crate::brief::BriefReply;
 use crate::stage::Stage;
 use crate::steps::{deliver_at, hear_at, order_at, show_at, tick_at};
 use fade_core::Fader;
 use sacn_receiver::Receiver;
-use std::alloc::AllocError;
-use wire_laws::{Reply, What};
+use std::alloc::{AllocError, Global};
+use wire_laws::What;
 
 // What happens at a moment that is not before the last.
 pub(crate) fn happen<F: Fader>(
+    alloc: Global,
     stages: &mut [Stage<F>],
     receivers: &mut [Receiver],
     strays: &[u8],
     moment: u64,
     what: What,
-) -> Result<Reply, AllocError>
+) -> Result<BriefReply, AllocError>
     requires real { (w : World) × (past : List EventData)
         × AllStand (StageStands F.stands_for) stages.old w past }
     requires early { AllBy receivers.old moment }
@@ -31,7 +34,7 @@ pub(crate) fn happen<F: Fader>(
     ensures reply { IfOk result (λ r. (w : World) (past : List EventData)
         → w.strays ≡ strays.now → AllStand (StageStands F.stands_for) stages.old w past
         → AllTell Tells stages.old → AllHear receivers.old w past
-        → r ≡ option_map_or reply.Skipped (missing w past what) (replied w past moment what)) }
+        → reply_of r ≡ option_map_or reply.Skipped (missing w past what) (replied w past moment what)) }
     ensures stands { OnOk result ((w : World) (past : List EventData)
         → AllStand (StageStands F.stands_for) stages.old w past
         → AllStand (StageStands F.stands_for) stages.new w (unless_skipped (missing w past what)
@@ -45,7 +48,7 @@ pub(crate) fn happen<F: Fader>(
     match what {
         What::Order(console, command) => Ok(order_at(stages, console, moment, command)),
         What::Tick(console) => {
-            let reply = tick_at(stages, console, moment)?;
+            let reply = tick_at(alloc, stages, console, moment)?;
             Ok(reply)
         }
         What::Deliver {
@@ -58,6 +61,9 @@ pub(crate) fn happen<F: Fader>(
             let bytes = &strays[from as usize..to as usize];
             Ok(hear_at(receivers, receiver, moment, bytes))
         }
-        What::Show(receiver) => Ok(show_at(receivers, receiver, moment)),
+        What::Show(receiver) => {
+            let reply = show_at(alloc, receivers, receiver, moment)?;
+            Ok(reply)
+        }
     }
 }

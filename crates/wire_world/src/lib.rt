@@ -2,6 +2,7 @@
 #![tactic(auto)]
 
 mod answers;
+mod brief;
 mod happen;
 mod listening;
 mod opening;
@@ -17,8 +18,9 @@ mod stage;
 mod step;
 mod steps;
 
-pub use rehearsal::rehearse;
-pub use report::Report;
+pub use brief::BriefReply;
+pub use rehearsal::{rehearse, rehearse_briefly};
+pub use report::{BriefReport, Report};
 
 #[cfg(test)]
 mod tests;

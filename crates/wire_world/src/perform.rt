@@ -5,7 +5,7 @@ ghost use Rattle.wire_world.specs.Stands.{AreSources, IsWithin, world_of};
 use crate::listening::listen_all;
 use crate::opening::open_all;
 use crate::replay::run;
-use crate::report::Report;
+use crate::report::BriefReport;
 use crate::stage::Stage;
 use fade_core::Fader;
 use show_core::Show;
@@ -20,7 +20,7 @@ pub(crate) fn perform<F: Fader>(
     receivers: &[u16],
     events: &[Event],
     strays: &[u8],
-) -> Result<Report, AllocError>
+) -> Result<BriefReport, AllocError>
     requires shows { All (λ s. s.show < length shows.now) consoles.now }
     requires universes { All (λ u. (1 ≤ u) × (u ≤ 63999)) receivers.now }
     requires within { All (λ e. IsWithin (length strays.now) e.what) events.now }

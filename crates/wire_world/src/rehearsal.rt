@@ -12,10 +12,10 @@ ghost use Rattle.wire_laws.specs.Replies.{AreReplies, done, last_slots, skipped}
 ghost use Rattle.wire_laws.specs.Shows.{IsShown, reply_alone};
 ghost use Rattle.wire_laws.specs.World.{universe_at};
 ghost use Rattle.wire_world.specs.Refusing.{Answers, are_within, setup_fault};
-ghost use Rattle.wire_world.specs.Stands.{world_of};
+ghost use Rattle.wire_world.specs.Stands.{AreSources, world_of};
 
 use crate::perform::perform;
-use crate::report::Report;
+use crate::report::{BriefReport, Report};
 use crate::setup::check;
 use fade_core::Fader;
 use show_core::Show;
@@ -96,6 +96,36 @@ pub fn rehearse<F: Fader>(
         → CidsDiffer w → NoStray w receiver past
         → slice_get report.replies place
         ≡ Some (reply_alone w past moment receiver console universe k)) }
+{
+    let brief = rehearse_briefly::<F>(alloc, shows, consoles, receivers, events, strays)?;
+    match brief.into_report(alloc) {
+        Ok(report) => Ok(report),
+        Err(AllocError) => Err(Fault::Memory),
+    }
+}
+
+/// As [`rehearse`], in little room: a script's replies are a hundred times smaller so.
+///
+/// # Errors
+///
+/// As [`rehearse`].
+pub fn rehearse_briefly<F: Fader>(
+    alloc: Global,
+    shows: &[Show],
+    consoles: &[Setup],
+    receivers: &[u16],
+    events: &[Event],
+    strays: &[u8],
+) -> Result<BriefReport, Fault>
+    requires within { IsTrue (are_within (length strays.now) events.now) }
+    ensures faults { Answers (setup_fault shows.now consoles.now receivers.now) result }
+    ensures replies { IfOk result (λ report.
+        AreReplies (world_of shows.now consoles.now receivers.now strays.now) events.now
+        report.replies) }
+    ensures last { IfOk result (λ report. report.last
+        ≡ last_slots (world_of shows.now consoles.now receivers.now strays.now)
+        (done (world_of shows.now consoles.now receivers.now strays.now) events.now)) }
+    ensures sources { IfOk result (λ _. AreSources shows.now consoles.now) }
 {
     check(shows, consoles, receivers)?;
     match perform::<F>(alloc, shows, consoles, receivers, events, strays) {

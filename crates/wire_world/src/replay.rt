@@ -4,7 +4,7 @@ ghost use Rattle.wire_laws.specs.Replies.{AreReplies, done, last_slots};
 ghost use Rattle.wire_world.specs.StageStands.{StageStands, Tells};
 ghost use Rattle.wire_world.specs.Stands.{AllAre, IsWithin};
 
-use crate::report::Report;
+use crate::report::BriefReport;
 use crate::showing::show_all;
 use crate::stage::Stage;
 use crate::step::step;
@@ -20,7 +20,7 @@ pub(crate) fn run<F: Fader>(
     receivers: &mut [Receiver],
     strays: &[u8],
     events: &[Event],
-) -> Result<Report, AllocError>
+) -> Result<BriefReport, AllocError>
     requires within { All (λ e. IsWithin (length strays.now) e.what) events.now }
     requires begun { (w : World) × (w.strays ≡ strays.now)
         × AllAre (StageStands F.stands_for) Tells stages.old receivers.old w [] }
@@ -31,13 +31,13 @@ pub(crate) fn run<F: Fader>(
         → AllAre (StageStands F.stands_for) Tells stages.old receivers.old w []
         → report.last ≡ last_slots w (done w events.now)) }
 {
-    let mut replies = Vec::new(alloc);
+    let mut replies = Vec::with_capacity(alloc, events.len())?;
     let mut last = 0;
     for i in 0..events.len() {
         let event = events[i];
-        let reply = step(stages, receivers, strays, &mut last, &event)?;
+        let reply = step(alloc, stages, receivers, strays, &mut last, &event)?;
         replies.push(reply)?;
     }
     let last = show_all(alloc, receivers, last)?;
-    Ok(Report { replies, last })
+    Ok(BriefReport { replies, last })
 }

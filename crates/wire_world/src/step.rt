@@ -1,3 +1,4 @@
+ghost use Rattle.wire_world.specs.Brief.{reply_of};
 ghost use Rattle.wire_world.specs.StageStands.{StageStands, Tells};
 ghost use Rattle.std.specs.Prelude.{◌≡◌, ℕ, List, length, IfOk, if◌then◌else◌};
 ghost use Rattle.wire_laws.specs.declared.event.Event.{Event as EventData};
@@ -5,32 +6,34 @@ ghost use Rattle.wire_laws.specs.World.{World};
 ghost use Rattle.wire_laws.specs.Replies.{last_moment};
 ghost use Rattle.wire_world.specs.Stands.{AllAre, AllStand, AllBy, IsStep, IsWithin, is_skip};
 
+use crate::brief::BriefReply;
 use crate::happen::happen;
 use crate::stage::Stage;
 use fade_core::Fader;
 use sacn_receiver::Receiver;
-use std::alloc::AllocError;
-use wire_laws::{Event, Reply, Skip};
+use std::alloc::{AllocError, Global};
+use wire_laws::{Event, Skip};
 
 const MOMENTS: u64 = 0x1_0000_0000_0000;
 
-fn later(last: u64, moment: u64, reply: &Reply) -> u64
-    ensures { result ≡ (if is_skip reply.now then last else moment) }
+fn later(last: u64, moment: u64, reply: &BriefReply) -> u64
+    ensures { result ≡ (if is_skip (reply_of reply.now) then last else moment) }
 {
     match reply {
-        Reply::Skipped(_) => last,
+        BriefReply::Skipped(_) => last,
         _ => moment,
     }
 }
 
 // One event.
 pub(crate) fn step<F: Fader>(
+    alloc: Global,
     stages: &mut [Stage<F>],
     receivers: &mut [Receiver],
     strays: &[u8],
     last: &mut u64,
     event: &Event,
-) -> Result<Reply, AllocError>
+) -> Result<BriefReply, AllocError>
     requires real { (w : World) × (past : List EventData)
         × AllStand (StageStands F.stands_for) stages.old w past }
     requires early { AllBy receivers.old last.old }
@@ -38,16 +41,17 @@ pub(crate) fn step<F: Fader>(
     ensures { IfOk result (λ r. (w : World) (past : List EventData) → w.strays ≡ strays.now
         → last.old ≡ last_moment past
         → AllAre (StageStands F.stands_for) Tells stages.old receivers.old w past
-        → IsStep (StageStands F.stands_for) Tells stages.new receivers.new last.new r w past
+        → IsStep (StageStands F.stands_for) Tells stages.new receivers.new last.new (reply_of r)
+        w past
         event.now) }
 {
     if event.moment < *last {
-        return Ok(Reply::Skipped(Skip::Backwards));
+        return Ok(BriefReply::Skipped(Skip::Backwards));
     }
     if event.moment >= MOMENTS {
-        return Ok(Reply::Skipped(Skip::TooLarge));
+        return Ok(BriefReply::Skipped(Skip::TooLarge));
     }
-    let reply = happen(stages, receivers, strays, event.moment, event.what)?;
+    let reply = happen(alloc, stages, receivers, strays, event.moment, event.what)?;
     *last = later(*last, event.moment, &reply);
     Ok(reply)
 }

@@ -1,3 +1,4 @@
+ghost use Rattle.wire_world.specs.Brief.{reply_of};
 ghost use Rattle.wire_world.specs.StageStands.{StageStands, Tells};
 ghost use Rattle.std.specs.Prelude.{◌≡◌, ◌≤◌, ◌==◌, ℕ, List, ◌∷◌, length, IfOk, OnOk};
 ghost use Rattle.std.specs.Prelude.{if◌then◌else◌, Option, Some, None};
@@ -11,23 +12,24 @@ ghost use Rattle.wire_laws.specs.Replies.{missing, no_receiver_at, replied, take
 ghost use Rattle.wire_world.specs.Stands.{AllStand, AllHear, AllTell, AllBy, unless_skipped};
 
 use crate::answers::{ordered, taken, ticked};
+use crate::brief::BriefReply;
 use crate::stage::Stage;
 use desk_core::Command;
 use fade_core::Fader;
 use sacn_receiver::Receiver;
-use std::alloc::AllocError;
-use wire_laws::{Reply, Skip};
+use std::alloc::{AllocError, Global};
+use wire_laws::Skip;
 
 pub(crate) fn order_at<F: Fader>(
     stages: &mut [Stage<F>],
     console: u16,
     moment: u64,
     command: Command,
-) -> Reply
+) -> BriefReply
     ensures tell { AllTell Tells stages.old → AllTell Tells stages.new }
     ensures reply { (w : World) (past : List EventData) → AllStand
         (StageStands F.stands_for) stages.old w past
-        → result ≡ option_map_or reply.Skipped (missing w past (Order console command))
+        → reply_of result ≡ option_map_or reply.Skipped (missing w past (Order console command))
         (replied w past moment (Order console command)) }
     ensures stands { (w : World) (past : List EventData) → AllStand
         (StageStands F.stands_for) stages.old w past
@@ -36,22 +38,23 @@ pub(crate) fn order_at<F: Fader>(
 {
     let i = usize::from(console);
     if i >= stages.len() {
-        return Reply::Skipped(Skip::NoConsole);
+        return BriefReply::Skipped(Skip::NoConsole);
     }
     ordered(stages[i].order(moment, command))
 }
 
 pub(crate) fn tick_at<F: Fader>(
+    alloc: Global,
     stages: &mut [Stage<F>],
     console: u16,
     moment: u64,
-) -> Result<Reply, AllocError>
+) -> Result<BriefReply, AllocError>
     requires real { (w : World) × (past : List EventData)
         × AllStand (StageStands F.stands_for) stages.old w past }
     ensures tell { OnOk result (AllTell Tells stages.old → AllTell Tells stages.new) }
     ensures reply { IfOk result (λ r. (w : World) (past : List EventData)
         → AllStand (StageStands F.stands_for) stages.old w past
-        → r ≡ option_map_or reply.Skipped (missing w past (Tick console)) (replied w past moment
+        → reply_of r ≡ option_map_or reply.Skipped (missing w past (Tick console)) (replied w past moment
         (Tick console))) }
     ensures stands { OnOk result ((w : World) (past : List EventData)
         → AllStand (StageStands F.stands_for) stages.old w past
@@ -60,14 +63,15 @@ pub(crate) fn tick_at<F: Fader>(
 {
     let i = usize::from(console);
     if i >= stages.len() {
-        return Ok(Reply::Skipped(Skip::NoConsole));
+        return Ok(BriefReply::Skipped(Skip::NoConsole));
     }
     let stage = &mut stages[i];
     let answer = stage.tick(moment);
     if stage.is_full() {
         return Err(AllocError);
     }
-    Ok(ticked(answer))
+    let reply = ticked(alloc, answer)?;
+    Ok(reply)
 }
 
 // A datagram reaches a receiver.
@@ -76,9 +80,9 @@ pub(crate) fn hear_at(
     receiver: u16,
     moment: u64,
     datagram: &[u8],
-) -> Reply
+) -> BriefReply
     ensures reply { (w : World) (past : List EventData) → AllHear receivers.old w past
-        → result ≡ option_map_or reply.Skipped (no_receiver_at w receiver)
+        → reply_of result ≡ option_map_or reply.Skipped (no_receiver_at w receiver)
         (taken_by w receiver past moment datagram.now) }
     ensures hear { (w : World) (past : List EventData) (e : EventData)
         → AllHear receivers.old w past → e.moment ≡ moment
@@ -87,25 +91,32 @@ pub(crate) fn hear_at(
 {
     let r = usize::from(receiver);
     if r >= receivers.len() {
-        return Reply::Skipped(Skip::NoReceiver);
+        return BriefReply::Skipped(Skip::NoReceiver);
     }
     taken(receivers[r].take(moment, datagram))
 }
 
-// The slots of a receiver.
-pub(crate) fn show_at(receivers: &[Receiver], receiver: u16, moment: u64) -> Reply
+// The slots of a receiver. It is called, so that no other event waits for its frame to be cleared.
+#[inline(never)]
+pub(crate) fn show_at(
+    alloc: Global,
+    receivers: &[Receiver],
+    receiver: u16,
+    moment: u64,
+) -> Result<BriefReply, AllocError>
     requires { AllBy receivers.now moment }
-    ensures { (w : World) (past : List EventData) → AllHear receivers.now w past
-        → result ≡ option_map_or reply.Skipped (missing w past (Show receiver))
-        (replied w past moment (Show receiver)) }
+    ensures { IfOk result (λ r. (w : World) (past : List EventData) → AllHear receivers.now w past
+        → reply_of r ≡ option_map_or reply.Skipped (missing w past (Show receiver))
+        (replied w past moment (Show receiver))) }
 {
     let r = usize::from(receiver);
     if r >= receivers.len() {
-        return Reply::Skipped(Skip::NoReceiver);
+        return Ok(BriefReply::Skipped(Skip::NoReceiver));
     }
     let mut slots = [0; 512];
     receivers[r].slots(moment, &mut slots);
-    Reply::Shown(slots)
+    let slots = Box::new(alloc, slots)?;
+    Ok(BriefReply::Shown(slots))
 }
 
 // A packet of a console reaches a receiver.
@@ -117,11 +128,11 @@ pub(crate) fn deliver_at<F: Fader>(
     universe: u16,
     k: u64,
     moment: u64,
-) -> Reply
+) -> BriefReply
     ensures reply { (w : World) (past : List EventData) → AllStand
         (StageStands F.stands_for) stages.now w past → AllTell Tells stages.now
         → AllHear receivers.old w past
-        → result ≡ option_map_or reply.Skipped (missing w past
+        → reply_of result ≡ option_map_or reply.Skipped (missing w past
         (Deliver receiver console universe k)) (replied w past moment
         (Deliver receiver console universe k)) }
     ensures hear { (w : World) (past : List EventData) → AllStand
@@ -133,13 +144,13 @@ pub(crate) fn deliver_at<F: Fader>(
 {
     let i = usize::from(console);
     if i >= stages.len() {
-        return Reply::Skipped(Skip::NoConsole);
+        return BriefReply::Skipped(Skip::NoConsole);
     }
     if usize::from(receiver) >= receivers.len() {
-        return Reply::Skipped(Skip::NoReceiver);
+        return BriefReply::Skipped(Skip::NoReceiver);
     }
     match stages[i].datagram(universe, k) {
-        None => Reply::Skipped(Skip::NotSent),
+        None => BriefReply::Skipped(Skip::NotSent),
         Some(bytes) => hear_at(receivers, receiver, moment, bytes),
     }
 }

@@ -4,8 +4,9 @@ use Rattle.script_text.specs.Script.{Parts, parts}
 use Rattle.wire_world.specs.Refusing.{setup_fault}
 use Rattle.wire_world.specs.Reported.{Reported}
 use Rattle.cueplayer_faults.specs.declared.fault.RunFault.{RunFault}
-use Rattle.cueplayer_rehearse.proofs.Beginning.{IsRead, few_receivers, lines_of, no_fault}
-use Rattle.cueplayer_rehearse.proofs.Beginning.{refused, set_up, unread}
+use Rattle.wire_world.proofs.Refusals.{no_fault}
+use Rattle.cueplayer_rehearse.proofs.Beginning.{IsRead, few_receivers, lines_of, refused}
+use Rattle.cueplayer_rehearse.proofs.Beginning.{set_up, unread}
 use Rattle.cueplayer_rehearse.proofs.rehearsal.rehearse_script.Goals as goal
 
 -- what holds of the fault holds of the answer

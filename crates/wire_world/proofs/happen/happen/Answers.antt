@@ -8,6 +8,7 @@ use Rattle.wire_world.proofs.Receivers.{hear_same}
 use Rattle.wire_world.proofs.Stages.{stand_same}
 use Rattle.wire_laws.specs.Replies.{missing, replied, no_receiver_at, taken_by}
 use Rattle.wire_world.specs.Stands.{AllStand, AllHear, unless_skipped}
+use Rattle.wire_world.specs.Brief.{reply_of}
 use Rattle.wire_world.specs.StageStands.{StageStands}
 use Rattle.wire_world.proofs.happen.happen.Goals as goal
 
@@ -32,7 +33,7 @@ returns-in-Deliver-clause-hear g c = λ w past same all tell hear.
 
 pub returns-in-Stray-clause-reply : goal.returns-in-Stray-clause-reply
 returns-in-Stray-clause-reply g c = λ w past same all tell hear.
-    subst (λ (x : What). c.hear_at.result
+    subst (λ (x : What). reply_of c.hear_at.result
     ≡ option_map_or reply.Skipped (missing w past x) (replied w past c.args.moment x))
     (sym c.in-Stray.is)
     (c.hear_at.ensures.reply w past hear
@@ -68,8 +69,8 @@ returns-in_ok-reply-in-Tick-clause-hear g c = λ w past same all tell hear.
     (hear_same c.args.receivers.now w past (missing w past (Tick c.in-Tick.console))
     (record { moment = c.args.moment; what = Tick c.in-Tick.console }) (λ r. refl) hear)
 
-pub returns-in-Show-clause-hear : goal.returns-in-Show-clause-hear
-returns-in-Show-clause-hear g c = λ w past same all tell hear.
+pub returns-in_ok-reply-in-Show-clause-hear : goal.returns-in_ok-reply-in-Show-clause-hear
+returns-in_ok-reply-in-Show-clause-hear g c = λ w past same all tell hear.
     subst (λ (x : What). AllHear c.args.receivers.now w
     (unless_skipped (missing w past x) (record { moment = c.args.moment; what = x }) past))
     (sym c.in-Show.is)
@@ -78,23 +79,23 @@ returns-in-Show-clause-hear g c = λ w past same all tell hear.
 
 pub returns-in_ok-reply-in-Tick-clause-reply : goal.returns-in_ok-reply-in-Tick-clause-reply
 returns-in_ok-reply-in-Tick-clause-reply g c = λ w past same all tell hear.
-    subst (λ (x : What). c.in_ok-reply-in-Tick.reply
+    subst (λ (x : What). reply_of c.in_ok-reply-in-Tick.reply
     ≡ option_map_or reply.Skipped (missing w past x) (replied w past c.args.moment x))
     (sym c.in-Tick.is)
     (c.in_ok-reply-in-Tick.ensures.reply w past all)
 
 pub returns-in-Deliver-clause-reply : goal.returns-in-Deliver-clause-reply
 returns-in-Deliver-clause-reply g c = λ w past same all tell hear.
-    subst (λ (x : What). c.deliver_at.result
+    subst (λ (x : What). reply_of c.deliver_at.result
     ≡ option_map_or reply.Skipped (missing w past x) (replied w past c.args.moment x))
     (sym c.in-Deliver.is)
     (c.deliver_at.ensures.reply w past all tell hear)
 
-pub returns-in-Show-clause-reply : goal.returns-in-Show-clause-reply
-returns-in-Show-clause-reply g c = λ w past same all tell hear.
-    subst (λ (x : What). c.show_at.result
+pub returns-in_ok-reply-in-Show-clause-reply : goal.returns-in_ok-reply-in-Show-clause-reply
+returns-in_ok-reply-in-Show-clause-reply g c = λ w past same all tell hear.
+    subst (λ (x : What). reply_of c.in_ok-reply-in-Show.reply
     ≡ option_map_or reply.Skipped (missing w past x) (replied w past c.args.moment x))
-    (sym c.in-Show.is) (c.show_at.ensures w past hear)
+    (sym c.in-Show.is) (c.in_ok-reply-in-Show.ensures w past hear)
 
 pub returns-in-Deliver-clause-stands : goal.returns-in-Deliver-clause-stands
 returns-in-Deliver-clause-stands g c = λ w past all.
@@ -115,8 +116,8 @@ returns-in-Stray-clause-stands g c = λ w past all.
     (stand_same (StageStands g.F.Fader.stands_for) c.args.stages.now w past
     (missing w past stray) (record { moment = c.args.moment; what = stray }) (λ j. refl) all)
 
-pub returns-in-Show-clause-stands : goal.returns-in-Show-clause-stands
-returns-in-Show-clause-stands g c = λ w past all.
+pub returns-in_ok-reply-in-Show-clause-stands : goal.returns-in_ok-reply-in-Show-clause-stands
+returns-in_ok-reply-in-Show-clause-stands g c = λ w past all.
     subst (λ (x : What). AllStand (StageStands g.F.Fader.stands_for) c.args.stages.now w
     (unless_skipped (missing w past x) (record { moment = c.args.moment; what = x }) past))
     (sym c.in-Show.is)

@@ -1,5 +1,6 @@
-use Rattle.std.proofs.Common.{◌≡◌, []}
+use Rattle.std.proofs.Common.{◌≡◌, [], map}
 use Rattle.wire_laws.specs.World.{World}
+use Rattle.wire_world.specs.Brief.{reply_of}
 use Rattle.wire_world.specs.Stands.{AllAre, Replayed}
 use Rattle.wire_world.specs.StageStands.{StageStands, Tells}
 use Rattle.wire_world.proofs.replay.run.Given as goal
@@ -8,4 +9,4 @@ abbrev pub invariant-loop-i : goal.invariant-loop-i
 invariant-loop-i g l = (w : World) → w.strays ≡ l.strays
     → AllAre (StageStands g.F.Fader.stands_for) Tells l.fn.stages l.fn.receivers w []
     → Replayed (StageStands g.F.Fader.stands_for) Tells l.stages l.receivers l.last
-    l.replies.items w l.events l.i
+    (map reply_of l.replies.items) w l.events l.i

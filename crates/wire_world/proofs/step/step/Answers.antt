@@ -3,6 +3,7 @@ use Rattle.wire_laws.specs.declared.event.Event.{Event}
 use Rattle.wire_laws.specs.Replies.{last_moment}
 use Rattle.wire_world.proofs.Happened.{timely, step_done, step_skipped, backwards, too_large}
 use Rattle.wire_laws.specs.declared.reply.Skip.TheVariants.{Backwards, TooLarge}
+use Rattle.wire_world.specs.Brief.{reply_of}
 use Rattle.wire_world.specs.StageStands.{StageStands, Tells}
 use Rattle.wire_world.proofs.step.step.Goals as goal
 
@@ -12,7 +13,7 @@ returns g c = λ w past same l are.
     let after : last_moment past ≤ e.moment = omega (arith, l, c.if-event-last.false) in
     let below : e.moment < 2 ^ 48 = omega (arith, c.if-event-ge-MOMENTS.false) in
     step_done (StageStands g.F.Fader.stands_for) Tells c.happen.new.stages c.happen.new.receivers
-    w past e c.in_ok-reply.reply c.args.last.now c.later.result
+    w past e (reply_of c.in_ok-reply.reply) c.args.last.now c.later.result
     (timely (StageStands g.F.Fader.stands_for) Tells c.happen.new.stages c.happen.new.receivers w
     past e after below) l
     (c.in_ok-reply.ensures.reply w past same are.stand are.tell are.hear) c.later.ensures

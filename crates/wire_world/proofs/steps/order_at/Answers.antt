@@ -9,6 +9,7 @@ use Rattle.wire_laws.specs.Happened.{acts}
 use Rattle.wire_laws.specs.Replies.{no_console_at}
 use Rattle.wire_world.proofs.Stages.{left_by, tell_set, err_of, stand_call, stood, no_skip}
 use Rattle.wire_world.proofs.Stages.{order_replied}
+use Rattle.wire_world.specs.Brief.{reply_of}
 use Rattle.wire_world.specs.StageStands.{StageStands, Tells}
 use Rattle.wire_world.proofs.steps.order_at.Goals as goal
 
@@ -23,7 +24,7 @@ pub returns-clause-reply : goal.returns-clause-reply
 returns-clause-reply g c = λ w past all.
     let at = slice_get-get_or c.args.stages.now c.from-i.result c.index-stages-i.result
     c.if-i-stages.false in
-    let P : ℕ → Type 0 = λ k. c.ordered.result
+    let P : ℕ → Type 0 = λ k. reply_of c.ordered.result
     ≡ option_map_or reply.Skipped (no_console_at w k)
     (option_map_or reply.Refused (refusal (console_at w k).show (acts w k past)
     (record { moment = c.args.moment; call = order c.args.command })) reply.Done) in

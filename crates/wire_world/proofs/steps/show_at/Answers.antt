@@ -21,10 +21,10 @@ returns c = λ w past all.
     let at : slice_get c.args.receivers.now c.from-r.result ≡ Some c.index-receivers-r.result =
     slice_get-get_or c.args.receivers.now c.from-r.result c.index-receivers-r.result
     c.if-r-receivers.false ∙ ap Some (sym c.index-receivers-r.is) in
-    let P : ℕ → Type 0 = λ k. reply.Shown c.slots.new.out
+    let P : ℕ → Type 0 = λ k. reply.Shown c.in_ok-slots.slots.value
     ≡ option_map_or reply.Skipped (no_receiver_at w k)
     (reply.Shown (shown_slots (accepted_by w k past) c.args.moment)) in
     subst P c.from-r.ensures
     (rw (no_skip c.args.receivers.now w past all c.from-r.result c.index-receivers-r.result at)
-    (ap reply.Shown (c.slots.ensures (accepted_by w c.from-r.result past)
+    (ap reply.Shown (c.in_ok-slots.ensures.ok ∙ c.slots.ensures (accepted_by w c.from-r.result past)
     (stood c.args.receivers.now w past all c.from-r.result c.index-receivers-r.result at))))

@@ -10,6 +10,7 @@ use Rattle.wire_laws.specs.World.{console_at}
 use Rattle.wire_laws.specs.Happened.{acts}
 use Rattle.wire_laws.specs.Replies.{no_console_at, due_answer}
 use Rattle.wire_world.proofs.Stages.{err_of, no_skip, stand_call, stood, tell_set, tick_replied}
+use Rattle.wire_world.specs.Brief.{reply_of}
 use Rattle.wire_world.specs.StageStands.{StageStands, Tells}
 use Rattle.wire_world.proofs.steps.tick_at.Goals as goal
 
@@ -35,14 +36,14 @@ pub returns-clause-reply : goal.returns-clause-reply
 returns-clause-reply g c = λ w past all.
     let at = slice_get-get_or c.args.stages.now c.from-i.result c.index-stages-i.result
     c.if-i-stages.false in
-    let P : ℕ → Type 0 = λ k. c.ticked.result
+    let P : ℕ → Type 0 = λ k. reply_of c.in_ok-reply.reply
     ≡ option_map_or reply.Skipped (no_console_at w k)
     (option_map_or reply.Refused
     (refusal (console_at w k).show (acts w k past) (tick_at c.args.moment))
     (reply.Ticked (ticked (ended (acts w k past)))
     (map due_answer (dues_at (console_at w k) (acts w k past) c.args.moment)))) in
     subst P c.from-i.ensures
-    (c.ticked.ensures
+    (c.in_ok-reply.ensures
     ∙ tick_replied c.tick-answer.result _ _ _ w c.from-i.result
     (no_skip (StageStands g.F.Fader.stands_for) c.args.stages.now w past all c.from-i.result _
     c.tick-answer.new.self at)
