@@ -1,5 +1,6 @@
 pub mod LaneLemmas
 pub mod PaceLemmas
 pub mod SenderLemmas
+pub mod Places
 pub mod KeepAlive
 mod Rows

@@ -1,3 +1,4 @@
+pub mod Consecutive
 pub mod Identify
 pub mod Identity
 pub mod Inside

@@ -7,6 +7,7 @@ pub mod laws;
 mod offered;
 mod pace;
 mod sender;
+mod universes;
 
 pub use devices::{Link, LinkFault};
 pub use identity::Identity;

@@ -1,6 +1,5 @@
-ghost use Rattle.std.specs.Prelude.{◌≡◌, ◌≢◌, ◌<◌, ◌≤◌, ◌+◌, ◌^◌, ◌==◌, ◌∷◌, [], ℕ, suc};
+ghost use Rattle.std.specs.Prelude.{◌≡◌, ◌≢◌, ◌<◌, ◌≤◌, ◌+◌, ◌^◌, ◌∷◌, [], ℕ, suc};
 ghost use Rattle.std.specs.Prelude.{List, length, All, Contains, IfOk};
-ghost use Rattle.std.specs.List.{position};
 ghost use Rattle.sacn_source.specs.Identity.{Identity as Who};
 ghost use Rattle.sacn_source.specs.Offering.{Answers, Offers};
 ghost use Rattle.sacn_source.specs.Stands.{StandsFor, earliest_of, ended_of, lane_of, universes_of};
@@ -9,6 +8,7 @@ ghost use Rattle.sacn_source.specs.Stream.{Offer, due, last_packet, packets};
 use crate::identity::Identity;
 use crate::lane::Lane;
 use crate::offered::Offered;
+use crate::universes::Universes;
 use devices::Link;
 use std::alloc::{AllocError, Global};
 use std::marker::Model;
@@ -17,7 +17,7 @@ use std::marker::Model;
 #[derive(Debug, Drop)]
 pub struct Sender {
     // Those of the lanes: beside them, a search for one walks no packets.
-    universes: Vec<u16>,
+    universes: Universes,
     lanes: Vec<Lane>,
 }
 
@@ -31,7 +31,7 @@ impl Model for Sender {
 
     ghost view = { λ a. a.lanes.items };
 
-    ghost invariant = { λ a. a.universes.items ≡ universes_of a.lanes.items };
+    ghost invariant = { λ a. a.universes ≡ universes_of a.lanes.items };
 }
 
 impl Sender {
@@ -56,10 +56,8 @@ impl Sender {
         for universe in universes {
             lanes.push(Lane::new(&who, *universe))?;
         }
-        Ok(Sender {
-            universes: Vec::from_slice(alloc, universes)?,
-            lanes,
-        })
+        let universes = Universes::new(alloc, universes)?;
+        Ok(Sender { universes, lanes })
     }
 
     /// Offers a universe of the sender's the frame of a moment, in milliseconds, below 2^48 and
@@ -97,7 +95,7 @@ impl Sender {
         ensures earliest { earliest_of self.new universe ≡ moment + 1 }
         ensures ended { ended_of self.new universe ≡ 0 }
     {
-        let place = place_of(self.universes.as_slice(), universe).unwrap();
+        let place = self.universes.place_of(universe).unwrap();
         self.lanes[place].offer(moment, slots, link)
     }
 
@@ -123,7 +121,7 @@ impl Sender {
         ensures earliest { earliest_of self.new universe ≡ earliest_of self.old universe }
         ensures ended { ended_of self.new universe ≡ ended_of self.old universe + 1 }
     {
-        let place = place_of(self.universes.as_slice(), universe).unwrap();
+        let place = self.universes.place_of(universe).unwrap();
         self.lanes[place].terminate(link)
     }
 
@@ -135,16 +133,9 @@ impl Sender {
         ensures other { (Contains (universes_of self.now) universe → ⊥) → result ≡ 0 }
         ensures below { result < 2 ^ 48 + 4 }
     {
-        match place_of(self.universes.as_slice(), universe) {
+        match self.universes.place_of(universe) {
             Some(place) => self.lanes[place].sent(),
             None => 0,
         }
     }
-}
-
-// The place of a universe among these.
-fn place_of(universes: &[u16], universe: u16) -> Option<usize>
-    ensures { result ≡ position (λ other. other == universe) universes.now }
-{
-    universes.iter().position(|other| *other == universe)
 }

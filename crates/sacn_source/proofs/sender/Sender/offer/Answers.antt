@@ -1,4 +1,4 @@
-use Rattle.std.proofs.Common.{◌≡◌, ◌∙◌, ◌∷◌, List, ℕ, length, sym, ap, subst, arith}
+use Rattle.std.proofs.Common.{◌≡◌, ◌∙◌, refl, ◌∷◌, List, ℕ, length, sym, ap, subst, arith}
 use Rattle.std.specs.Prelude.{Contains, IsSome}
 use Rattle.sacn_source.specs.Offering.{Offers}
 use Rattle.sacn_source.specs.Stands.{universes_of}
@@ -10,29 +10,29 @@ use Rattle.sacn_source.proofs.sender.Sender.offer.Goals as goal
 
 pub unwrap-place-requires : goal.unwrap-place-requires
 unwrap-place-requires g c =
-    let are : c.as_slice.result.now ≡ universes_of c.args.self.now =
-    c.as_slice.ensures.value ∙ c.self.invariant ∙ ap universes_of c.self.view_is in
-    subst IsSome (sym c.place_of.ensures) (is_found c.as_slice.result.now c.args.universe
+    let are : c.self.inside.universes ≡ universes_of c.args.self.now =
+    c.self.invariant ∙ ap universes_of c.self.view_is in
+    subst IsSome (sym c.place_of.ensures) (is_found c.self.inside.universes c.args.universe
     (subst (λ (us : List ℕ). Contains us c.args.universe) (sym are) c.requires.here))
 
 pub offer-requires-clause-later : goal.offer-requires-clause-later
 offer-requires-clause-later g c =
     let p = lane_found c.args.universe _ c.self.view_is c.self.invariant
-    c.as_slice.ensures.value c.place_of.ensures c.unwrap-place.ensures c.index_mut.ensures.value
+    refl c.place_of.ensures c.unwrap-place.ensures c.index_mut.ensures.value
     in
     omega (arith, earliest_at p, c.requires.later)
 
 pub offer-requires-clause-live : goal.offer-requires-clause-live
 offer-requires-clause-live g c =
     let p = lane_found c.args.universe _ c.self.view_is c.self.invariant
-    c.as_slice.ensures.value c.place_of.ensures c.unwrap-place.ensures c.index_mut.ensures.value
+    refl c.place_of.ensures c.unwrap-place.ensures c.index_mut.ensures.value
     in
     sym (ended_at p) ∙ c.requires.live
 
 pub invariant_of-self : goal.invariant_of-self
 invariant_of-self g c =
     let p = lane_found c.args.universe _ c.self.view_is c.self.invariant
-    c.as_slice.ensures.value c.place_of.ensures c.unwrap-place.ensures c.index_mut.ensures.value
+    refl c.place_of.ensures c.unwrap-place.ensures c.index_mut.ensures.value
     in
     let x = changes c.offer.new.self p c.offer.ensures.universe in
     c.self.invariant ∙ sym x.universes
@@ -41,7 +41,7 @@ pub returns : goal.returns
 returns g c =
     let o : Offer = record { moment = c.args.moment; frame = c.args.slots.now } in
     let p = lane_found c.args.universe _ c.self.view_is c.self.invariant
-    c.as_slice.ensures.value c.place_of.ensures c.unwrap-place.ensures c.index_mut.ensures.value
+    refl c.place_of.ensures c.unwrap-place.ensures c.index_mut.ensures.value
     in
     let x = changes c.offer.new.self p c.offer.ensures.universe in
     record {

@@ -21,7 +21,7 @@ pub invariant_of-result : goal.invariant_of-result
 invariant_of-result c =
     let all = take_all c.loop-universe.universe-index c.args.universes.now
     c.loop-universe-test.false in
-    c.in_ok-from_slice.ensures.items ∙ sym all ∙ sym c.loop-universe.invariant.universes
+    c.in_ok-universes.ensures ∙ sym all ∙ sym c.loop-universe.invariant.universes
 
 pub returns-clause-stands : goal.returns-clause-stands
 returns-clause-stands c = λ universe here.

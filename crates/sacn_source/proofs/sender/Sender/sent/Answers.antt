@@ -1,5 +1,5 @@
-use Rattle.std.proofs.Common.{◌≡◌, ◌∙◌, ap, sym}
-use Rattle.std.specs.Prelude.{List, ℕ, ◌==◌, None}
+use Rattle.std.proofs.Common.{◌≡◌, ◌∙◌, refl, sym}
+use Rattle.std.specs.Prelude.{◌==◌, None}
 use Rattle.std.specs.List.{position}
 use Rattle.sacn_source.proofs.SenderLemmas.{is_there, lane_found, lane_stands, no_lane}
 use Rattle.sacn_source.proofs.sender.Sender.sent.Goals as goal
@@ -7,20 +7,19 @@ use Rattle.sacn_source.proofs.sender.Sender.sent.Goals as goal
 pub returns-in-Some-clause-sent : goal.returns-in-Some-clause-sent
 returns-in-Some-clause-sent c = λ who offers n s.
     let p = lane_found c.args.universe _ c.self.view_is c.self.invariant
-    c.as_slice.ensures.value c.place_of.ensures c.in-Some.is c.index.ensures in
+    refl c.place_of.ensures c.in-Some.is c.index.ensures in
     c.sent.ensures.value ∙ (lane_stands who offers n p s).paces.sent_is
 
 pub returns-in-Some-clause-other : goal.returns-in-Some-clause-other
 returns-in-Some-clause-other c = λ other.
     let p = lane_found c.args.universe _ c.self.view_is c.self.invariant
-    c.as_slice.ensures.value c.place_of.ensures c.in-Some.is c.index.ensures in
+    refl c.place_of.ensures c.in-Some.is c.index.ensures in
     absurd (other (is_there p))
 
 pub returns-in-None-clause-sent : goal.returns-in-None-clause-sent
 returns-in-None-clause-sent c = λ who offers n s.
-    let none : position (λ v. v == c.args.universe) c.self.inside.universes.items ≡ None =
-    ap (λ (us : List ℕ). position (λ v. v == c.args.universe) us) (sym c.as_slice.ensures.value)
-    ∙ sym c.place_of.ensures ∙ c.in-None.is in
-    absurd (no_lane who c.self.inside.lanes.items c.args.self.now c.self.inside.universes.items
+    let none : position (λ v. v == c.args.universe) c.self.inside.universes ≡ None =
+    sym c.place_of.ensures ∙ c.in-None.is in
+    absurd (no_lane who c.self.inside.lanes.items c.args.self.now c.self.inside.universes
     c.args.universe
     offers n c.self.view_is c.self.invariant none s)
