@@ -41,7 +41,7 @@ TESTED = {
     "playback_core": Tested(("Playback::new",), EACH),
     "sacn_source": Tested(("Sender::open",), EACH),
     "desk_core": Tested(("Desk::open",), EACH),
-    "wire_world": Tested(("rehearse",), EACH),
+    "wire_world": Tested(("rehearse", "rehearse_briefly"), EACH),
     "show_reader": Tested(
         ("read_show",),
         (

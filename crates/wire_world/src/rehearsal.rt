@@ -104,7 +104,7 @@ pub fn rehearse<F: Fader>(
     }
 }
 
-/// As [`rehearse`], in little room: a script's replies are a hundred times smaller so.
+/// As [`rehearse`], with its replies in little room: what is large in one lies in a box.
 ///
 /// # Errors
 ///
