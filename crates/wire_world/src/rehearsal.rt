@@ -104,7 +104,8 @@ pub fn rehearse<F: Fader>(
     }
 }
 
-/// As [`rehearse`], with its replies in little room: what is large in one lies in a box.
+/// As [`rehearse`], in little room: the replies of a usual script take a tenth of what they take
+/// there.
 ///
 /// # Errors
 ///
