@@ -16,7 +16,7 @@ import subprocess
 from typing import NamedTuple
 
 from program import TOP
-from test_proved import all_calls
+from test_proved import PAGE, all_calls, rows
 from test_refused_growths import Growths
 
 
@@ -141,11 +141,17 @@ class CrateGrowths(Growths):
         return built
 
     def test_calls(self):
-        """The list has every public call that can answer want of memory."""
+        """The list has each public call that can answer want of memory, and docs/PROVED.md names
+        one of its tests beside it."""
         calls = [call for calls in all_calls().values() for call in calls]
-        growing = [call.name() for call in calls if call.may_grow()]
-        listed = [name for tested in TESTED.values() for name in tested.calls]
+        growing = {call.name(): call.said for call in calls if call.may_grow()}
+        listed = {name: crate for crate, tested in TESTED.items() for name in tested.calls}
         self.assertEqual(sorted(growing), sorted(listed))
+        beside = {said: only_tested for _, said, (_, only_tested) in rows(PAGE.read_text())}
+        for name, crate in listed.items():
+            with self.subTest(name):
+                named = re.findall(rf"`{crate}::tests::([\w:]+)`", beside[growing[name]])
+                self.assertTrue(set(named) & set(TESTED[crate].tests), beside[growing[name]])
 
     def test_growths(self):
         """Where a growth is refused the call answers that, and the test passes."""
