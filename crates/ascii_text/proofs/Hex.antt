@@ -6,7 +6,8 @@ use Rattle.ascii_text.specs.Forms.{hex_of, hex_digit_of}
 
 -- H and two hex digits spell a byte
 pub hex_two : (w : List ℕ) (x y : ℕ) → length w ≡ 3 → to_ascii_lowercase (get_or w 0 0) ≡ 104
-    → hex_digit_of (get_or w 1 0) ≡ Some x → hex_digit_of (get_or w 2 0) ≡ Some y → hex_of w ≡ Some (x * 16 + y)
+    → hex_digit_of (get_or w 1 0) ≡ Some x → hex_digit_of (get_or w 2 0) ≡ Some y
+    → hex_of w ≡ Some (x * 16 + y)
 hex_two [] x y e h a b = absurd (omega arith)
 hex_two (g ∷ []) x y e h a b = absurd (omega arith)
 hex_two (g ∷ p ∷ []) x y e h a b = absurd (omega arith)

@@ -36,8 +36,10 @@ zeros : (number_of (codes "000000001") ≡ Some 1)
 zeros = (refl, refl, refl, refl, refl)
 
 -- a byte order mark, VT, FF and NUL belong to words
-words : words_of (239 ∷ 187 ∷ 191 ∷ 65 ∷ 11 ∷ 12 ∷ 0 ∷ codes " 2!3") ≡ (239 ∷ 187 ∷ 191 ∷ 65 ∷ 11 ∷ 12 ∷ 0 ∷ []) ∷ codes "2" ∷ []
+words : words_of (239 ∷ 187 ∷ 191 ∷ 65 ∷ 11 ∷ 12 ∷ 0 ∷ codes " 2!3")
+    ≡ (239 ∷ 187 ∷ 191 ∷ 65 ∷ 11 ∷ 12 ∷ 0 ∷ []) ∷ codes "2" ∷ []
 words = refl
 
-lines : numbered_from 1 (lines_of (codes "A" ++ 13 ∷ 10 ∷ 10 ∷ codes "B")) ≡ (1, codes "A" ++ 13 ∷ []) ∷ (2, []) ∷ (3, codes "B") ∷ []
+lines : numbered_from 1 (lines_of (codes "A" ++ 13 ∷ 10 ∷ 10 ∷ codes "B"))
+    ≡ (1, codes "A" ++ 13 ∷ []) ∷ (2, []) ∷ (3, codes "B") ∷ []
 lines = refl

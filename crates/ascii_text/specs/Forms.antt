@@ -13,11 +13,13 @@ same_word word keyword = bytes_eq (map to_ascii_lowercase word) (map to_ascii_lo
 
 -- least to most bytes, each of which passes the test
 abbrev pub is_run : (ℕ → Bool) → ℕ → ℕ → List ℕ → Bool
-is_run test least most word = (nat_le least (length word) && nat_le (length word) most) && list_all test word
+is_run test least most word = (nat_le least (length word) && nat_le (length word) most)
+    && list_all test word
 
 -- the number that 1 to most digits spell
 abbrev pub digits_of : ℕ → List ℕ → Option ℕ
-digits_of most word = if is_run is_ascii_digit 1 most word then Some (digits_value 10 word) else None
+digits_of most word = if is_run is_ascii_digit 1 most word then Some (digits_value 10 word) else
+    None
 
 -- a number: 1 to 9 digits, zeros in front included
 abbrev pub number_of : List ℕ → Option ℕ
@@ -47,7 +49,8 @@ hex_digit_of b = if is_ascii_hexdigit b then Some (digits_value 16 (b ∷ [])) e
 abbrev pub hex_of : List ℕ → Option ℕ
 hex_of [] = None
 hex_of (h ∷ ds) =
-    if (to_ascii_lowercase h == 104) && is_run is_ascii_hexdigit 1 2 ds then Some (digits_value 16 ds) else None
+    if (to_ascii_lowercase h == 104) && is_run is_ascii_hexdigit 1 2 ds then Some
+    (digits_value 16 ds) else None
 
 -- a level: one of the three spellings, of which a word has one at most
 abbrev pub level_of : List ℕ → Option ℕ
@@ -61,7 +64,8 @@ is_point b = b == 46
 abbrev pub is_colon : ℕ → Bool
 is_colon b = b == 58
 
--- thousandths of the part before a point: none where it has no digits, else those of a number at most max
+-- thousandths of the part before a point: none where it has no digits, else those of a number at
+-- most max
 abbrev pub units_of : ℕ → List ℕ → Option ℕ
 units_of max [] = Some 0
 units_of max (b ∷ bs) = option_map (λ n. n * 1000) (whole_of max (b ∷ bs))
@@ -78,20 +82,23 @@ sum_of a b = option_and_then (λ m. option_map (λ n. m + n) b) a
 abbrev pub scaled_of : ℕ → ℕ → List ℕ → Option ℕ
 scaled_of max places word =
     if list_any is_point word
-    then sum_of (units_of max (before_first is_point word)) (fraction_of places (after_first is_point word))
+    then sum_of (units_of max (before_first is_point word))
+    (fraction_of places (after_first is_point word))
     else option_map (λ n. n * 1000) (whole_of max word)
 
 -- a cue number in thousandths: up to 9999 and three places, and not zero
 abbrev pub cue_number_of : List ℕ → Option ℕ
 cue_number_of word = option_and_then (λ n. if n == 0 then None else Some n) (scaled_of 9999 3 word)
 
--- milliseconds of the seconds behind a colon, `X` or `X.F`, where X has 1 or 2 digits of value at most 59
+-- milliseconds of the seconds behind a colon, `X` or `X.F`, where X has 1 or 2 digits of value at
+-- most 59
 abbrev pub seconds_of : List ℕ → Option ℕ
 seconds_of word =
     let digits = length (before_first is_point word) in
     if nat_le 1 digits && nat_le digits 2 then scaled_of 59 2 word else None
 
--- a time in milliseconds: seconds up to 5999, or minutes up to 99, a colon and seconds; two places at most
+-- a time in milliseconds: seconds up to 5999, or minutes up to 99, a colon and seconds; two places
+-- at most
 abbrev pub time_of : List ℕ → Option ℕ
 time_of word =
     if list_any is_colon word

@@ -1,8 +1,10 @@
-ghost use Rattle.std.specs.Prelude.{◌≡◌, ◌+◌, ◌*◌, ◌<◌, ◌≤◌, ◌^◌, ◌==◌, true, false, length, IfSome, MatchOption};
+ghost use Rattle.std.specs.Prelude.{◌≡◌, ◌+◌, ◌*◌, ◌<◌, ◌≤◌, ◌^◌, ◌==◌, true, false, length};
+ghost use Rattle.std.specs.Prelude.{IfSome, MatchOption};
 ghost use Rattle.std.specs.List.{list_any, before_first, after_first};
 ghost use Rattle.ascii_text.specs.Forms.{same_word, digits_of, number_of, moment_of, whole_of};
 ghost use Rattle.ascii_text.specs.Forms.{level_of, hex_of, hex_digit_of};
-ghost use Rattle.ascii_text.specs.Forms.{units_of, fraction_of, scaled_of, cue_number_of, seconds_of, time_of};
+ghost use Rattle.ascii_text.specs.Forms.{units_of, fraction_of, scaled_of, cue_number_of};
+ghost use Rattle.ascii_text.specs.Forms.{seconds_of, time_of};
 
 use crate::scan::position_or_len;
 

@@ -6,14 +6,14 @@ use crate::scan::{position_or_len, separators, word_end};
 use std::marker::Model;
 
 /// A line of a text: its number from 1, and its bytes without the LF.
-#[derive(Clone, Copy)]
+#[derive(Clone, Copy, Debug)]
 pub struct Line<'a> {
     pub number: u32,
     pub bytes: &'a [u8],
 }
 
 /// The lines of a text that are left: each LF ends one, and bytes after the last LF are one more.
-#[derive(Clone, Drop)]
+#[derive(Clone, Debug, Drop)]
 pub struct Lines<'a> {
     rest: &'a [u8],
     number: u32,
@@ -67,7 +67,7 @@ impl<'a> Iterator for Lines<'a> {
 }
 
 /// The words of a line that are left: the slices between separators, before the first `!`.
-#[derive(Clone, Drop)]
+#[derive(Clone, Debug, Drop)]
 pub struct Words<'a> {
     rest: &'a [u8],
 }

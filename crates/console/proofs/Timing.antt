@@ -1,15 +1,19 @@
 -- When a tick is accepted, and what it offers.
-use Rattle.std.proofs.Common.{◌≡◌, ℕ, suc, add-one, ◌+◌, ◌<◌, ◌≤◌, ◌^◌, Bool, true, false, refl, arith, ◌∙◌}
+use Rattle.std.proofs.Common.{◌≡◌, ℕ, suc, add-one, ◌+◌, ◌<◌, ◌≤◌, ◌^◌, Bool, true, false, refl}
+use Rattle.std.proofs.Common.{arith, ◌∙◌}
 use Rattle.std.proofs.Common.{List, [], ◌∷◌, Some, None}
 use Rattle.std.specs.Prelude.{Option, nat_lt, nat_le, if◌then◌else◌}
 use Rattle.std.specs.Option.{option_or}
 use Rattle.std.proofs.lemmas.Bool.Decides.{nat_tests}
 use Rattle.show_core.specs.Tables.{Tables}
 use Rattle.desk_core.specs.declared.answer.Refused.{Refused}
-use Rattle.desk_core.specs.declared.answer.Refused.TheVariants.{Backwards, MomentTooLarge, Ended, TooSoon}
+use Rattle.desk_core.specs.declared.answer.Refused.TheVariants.{Backwards, MomentTooLarge, Ended}
+use Rattle.desk_core.specs.declared.answer.Refused.TheVariants.{TooSoon}
 use Rattle.desk_core.specs.declared.command.Command.{Command}
-use Rattle.desk_core.specs.declared.command.Command.TheVariants.{Go, Back, Goto, Sub, Group, Master, End}
-use Rattle.desk_core.specs.Played.{Act, Call, order, tick, ended, ended_by, is_over, is_soon, last_moment, last_tick, refusal}
+use Rattle.desk_core.specs.declared.command.Command.TheVariants.{Go, Back, Goto, Sub, Group, Master}
+use Rattle.desk_core.specs.declared.command.Command.TheVariants.{End}
+use Rattle.desk_core.specs.Played.{Act, Call, order, tick, ended, ended_by, is_over, is_soon}
+use Rattle.desk_core.specs.Played.{last_moment, last_tick, refusal}
 use Rattle.sacn_source.specs.Stream.{earliest_after}
 use Rattle.console.specs.Streams.{Production, offers_of, offer_at, terminations_of, tick_at}
 
@@ -33,9 +37,11 @@ timely false false false true rest e = cc
 timely false false false false rest e = (refl, refl, refl, refl)
 
 is_timely : (show : Tables) (older : List Act) (act : Act) → refusal show older act ≡ None
-    → IsTimely (last_moment older) act.moment (is_over (ended older) act.call) (is_soon (last_tick older) act.moment act.call)
+    → IsTimely (last_moment older) act.moment (is_over (ended older) act.call)
+    (is_soon (last_tick older) act.moment act.call)
 is_timely show older act e =
-    let t = timely _ _ (is_over (ended older) act.call) (is_soon (last_tick older) act.moment act.call) _ e in
+    let t = timely _ _ (is_over (ended older) act.call)
+    (is_soon (last_tick older) act.moment act.call) _ e in
     record { not_backwards = t.0; not_too_large = t.1; not_over = t.2; not_soon = t.3 }
 
 not_ended_before : (c : Command) (n : Option ℕ) → ended_by (order c) n ≡ None → n ≡ None
@@ -67,7 +73,8 @@ newest_offer p u [] live = refl
 newest_offer p u (act ∷ older) live =
     newest_at p u act older act.call (ended older) refl refl live (newest_offer p u older)
 
-not_soon : (o : Option ℕ) (moment earliest : ℕ) → NewestIs o earliest → is_soon o moment tick ≡ false
+not_soon : (o : Option ℕ) (moment earliest : ℕ) → NewestIs o earliest
+    → is_soon o moment tick ≡ false
     → earliest ≤ moment
 not_soon None moment earliest e soon = omega (arith, e)
 not_soon (Some t) moment earliest e soon = grind (arith, nat_tests)
@@ -77,7 +84,8 @@ pub offered_before : (p : Production) (u moment : ℕ) (older : List Act)
     → refusal p.show older (tick_at moment) ≡ None → ended older ≡ None
     → earliest_after (offers_of p u older) ≤ moment
 offered_before p u moment older accepted live =
-    not_soon (last_tick older) moment (earliest_after (offers_of p u older)) (newest_offer p u older live)
+    not_soon (last_tick older) moment (earliest_after (offers_of p u older))
+    (newest_offer p u older live)
     (is_timely p.show older (tick_at moment) accepted).not_soon
 
 pub moment_small : (p : Production) (moment : ℕ) (older : List Act)

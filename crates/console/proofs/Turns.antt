@@ -18,7 +18,8 @@ use Rattle.console.specs.Streams.{Production, offers_of, terminations_of, univer
 use Rattle.console.proofs.Partway.{IsPartway}
 
 -- the numbers that the desk gave are the universes
-pub numbers_of : {F : Type 0} (sf : F → List Start → Type 0) (p : Production) (state : DeskState F) (lanes : List Lane)
+pub numbers_of : {F : Type 0} (sf : F → List Start → Type 0) (p : Production) (state : DeskState F)
+    (lanes : List Lane)
     (older : List Act) (moment : ℕ) (us items : List ℕ) → HasTicked sf p state lanes older moment
     → us ≡ items → items ≡ universe_numbers state.show.patch state.base → us ≡ universes_of p
 numbers_of sf p state lanes older moment us items h value numbers =
@@ -42,7 +43,8 @@ module _ (p : Production) (lanes : List Lane) (older : List Act) (moment i u : �
     (partway : IsPartway p lanes older moment i tells pairs before after) where
   -- has had the offers of the calls before
   pub turn_stands : HasStream p lanes older u
-  turn_stands = subst (HasStream p lanes older) (sym turn.is) (partway.left i 0 (omega arith) turn.within)
+  turn_stands = subst (HasStream p lanes older) (sym turn.is)
+      (partway.left i 0 (omega arith) turn.within)
 
   -- is one of the sender's
   pub turn_here : Contains (sender.universes_of lanes) u
@@ -56,4 +58,5 @@ module _ (p : Production) (lanes : List Lane) (older : List Act) (moment i u : �
   turn_ended = ended_is p.source lanes u (offers_of p u older) (terminations_of older) turn_stands
 
   pub turn_earliest : sender.earliest_of lanes u ≡ earliest_after (offers_of p u older)
-  turn_earliest = earliest_is p.source lanes u (offers_of p u older) (terminations_of older) turn_stands
+  turn_earliest = earliest_is p.source lanes u (offers_of p u older) (terminations_of older)
+      turn_stands

@@ -17,6 +17,16 @@ impl Model for Offers {
     ghost view = { λ offers. offers.pairs.items };
 }
 
+impl Default for Offers {
+    ghost use Rattle.std.specs.Prelude.{◌≡◌, []};
+
+    ghost is_default = { λ offers. offers ≡ [] };
+
+    fn default() -> Self {
+        Offers::new()
+    }
+}
+
 impl Offers {
     ghost use Rattle.std.specs.Prelude.{◌≡◌, ◌≤◌, ◌<◌, ◌++◌, ◌∷◌, [], length};
 

@@ -4,6 +4,13 @@
 //! [`read_call`] reads a whole line with its moment; [`command_in`] and [`call_in`] read the words
 //! behind one. [`done_line`], [`refused_line`] and [`ticked_line`] write an answer behind a number,
 //! which is the call's moment, or a script line's own number.
+//!
+//! ```
+//! let reading = read_call(b"25 goto 1.5");
+//! // Reading::At(25, Call::Order(Command::Goto(1500)))
+//! let answer = done_line(25);
+//! // answer.as_str() is "25 ok\n".
+//! ```
 #![tactic(auto)]
 
 mod answer;

@@ -106,7 +106,8 @@ fn script_bytes<R: Read>(alloc: Global, reader: &mut R) -> Result<Vec<u8>, Unrea
     read_most(alloc, reader, LONGEST_SCRIPT + 1)
 }
 
-// What is read of a show: the first 1,048,577 bytes of a reader, one more than the longest show has.
+// What is read of a show: the first 1,048,577 bytes of a reader, one more than the longest show
+// has.
 fn first_bytes<R: Read>(alloc: Global, reader: &mut R) -> Result<Vec<u8>, Unread>
     ensures most { IfOk result (λ bytes. length bytes.items ≤ 1048577) }
     ensures first { IfOk result (λ bytes. IfSome (R.remaining reader.old)
@@ -138,7 +139,8 @@ fn read_most<R: Read>(alloc: Global, reader: &mut R, most: usize) -> Result<Vec<
 /// interrupted is made again.
 pub fn read_some<R: Read>(reader: &mut R, block: &mut [u8]) -> Result<usize, ErrorKind>
     ensures within { IfOk result (λ count. count ≤ length block.old) }
-    ensures bytes { ReadConsumes (R.remaining reader.old) (R.remaining reader.new) result block.new }
+    ensures bytes { ReadConsumes (R.remaining reader.old) (R.remaining reader.new) result
+        block.new }
 {
     for _ in 0..u64::MAX {
         match reader.read(block) {

@@ -10,7 +10,7 @@ use Rattle.show_line.specs.declared.keyword.Keyword.{Keyword}
 use Rattle.show_line.specs.declared.line.Reading.{Reading}
 use Rattle.show_line.specs.declared.statement.Record.{Record}
 use Rattle.show_line.specs.Keywords.{keyword_of}
-use Rattle.show_line.specs.Said.{desk, opened, reading_of, said}
+use Rattle.show_line.specs.Said.{desk_limits, opened, reading_of, said}
 use Rattle.show_reader.specs.Meaning.{is_skipped}
 use Rattle.show_reader.specs.Text.{Words, owner_below, owns, said_under, statement_below}
 use Rattle.cueplayer_explain.specs.declared.heading.Heading.{Heading}
@@ -24,15 +24,16 @@ use Rattle.cueplayer_explain.specs.Skipped.{explained, line_explained, skipped_l
 
 -- what was read of a line
 record IsReading (owner : Option Record) (l : Words) (reading : Reading) : Type 0 where
-  pub statement : reading.statement ≡ said_under desk owner l
+  pub statement : reading.statement ≡ said_under desk_limits owner l
   pub keyword : reading.keyword ≡ keyword_in l
 
 reading_is : (owner : Option Record) (l : Words) (reading : Reading)
-    → Some reading ≡ reading_of desk owner l → IsReading owner l reading
+    → Some reading ≡ reading_of desk_limits owner l → IsReading owner l reading
 reading_is owner [] reading e = cc
 reading_is owner (w ∷ words) reading e =
     let is : reading
-    ≡ record { keyword = keyword_of w; statement = said desk owner (keyword_of w) words } = cc in
+    ≡ record { keyword = keyword_of w; statement = said desk_limits owner (keyword_of w) words } =
+    cc in
     record {
       statement = ap (λ (r : Reading). r.statement) is;
       keyword = ap (λ (r : Reading). r.keyword) is;
@@ -53,16 +54,16 @@ heading_owner None true k = skipped_owner (is_maker k) (is_clear k)
 heading_owner None false k = refl
 
 -- the record that owns the lines below is the one that the reader keeps
-owner_is : (ls : List Words) → owner_of (heading_below ls) ≡ owner_below desk ls
+owner_is : (ls : List Words) → owner_of (heading_below ls) ≡ owner_below desk_limits ls
 owner_is [] = refl
 owner_is (l ∷ above) = go (owns l) (owner_is above)
   where
-    go : (b : Bool) → owner_of (heading_below above) ≡ owner_below desk above
-        → owner_of (cond b (heading_of (keyword_in l) (statement_below desk above l))
+    go : (b : Bool) → owner_of (heading_below above) ≡ owner_below desk_limits above
+        → owner_of (cond b (heading_of (keyword_in l) (statement_below desk_limits above l))
         (heading_below above))
-        ≡ cond b (opened (statement_below desk above l)) (owner_below desk above)
+        ≡ cond b (opened (statement_below desk_limits above l)) (owner_below desk_limits above)
     go true is =
-        let s = statement_below desk above l in
+        let s = statement_below desk_limits above l in
         heading_owner (opened s) (is_skipped s) (keyword_in l)
     go false is = is
 
@@ -73,29 +74,30 @@ module _ (lines : List (List ℕ)) (bytes : List ℕ) (above : Heading)
   abbrev l : Words
   l = words_of bytes
 
-  module _ (reading : Reading) (read : Some reading ≡ reading_of desk (owner_of above) l) where
-    said_is : reading.statement ≡ statement_below desk (words_in lines) l
-    said_is =
-        (reading_is (owner_of above) l reading read).statement
-        ∙ ap (λ o. said_under desk o l) (ap owner_of heads ∙ owner_is (words_in lines))
+  module _ (reading : Reading) (read : Some reading ≡ reading_of desk_limits (owner_of above) l)
+    where
+      said_is : reading.statement ≡ statement_below desk_limits (words_in lines) l
+      said_is =
+          (reading_is (owner_of above) l reading read).statement
+          ∙ ap (λ o. said_under desk_limits o l) (ap owner_of heads ∙ owner_is (words_in lines))
 
-    keyword_is : reading.keyword ≡ keyword_in l
-    keyword_is = (reading_is (owner_of above) l reading read).keyword
+      keyword_is : reading.keyword ≡ keyword_in l
+      keyword_is = (reading_is (owner_of above) l reading read).keyword
 
-    -- what is printed of it
-    pub explained_here : (number : ℕ) (b : Bool) → number ≡ length lines + 1
-        → is_skipped reading.statement ≡ b
-        → cond b (skipped_line number (reason_of above reading.keyword (operands l)) bytes) []
-        ≡ line_explained lines bytes
-    explained_here number b numbered skips =
-        let line : ℕ → Heading → Keyword → List ℕ =
-        λ n h k. skipped_line n (reason_of h k (operands l)) bytes in
-        ap (λ b'. cond b' (line number above reading.keyword) [])
-        (sym skips ∙ ap is_skipped said_is)
-        ∙ ap (λ text. cond (is_skipped (statement_below desk (words_in lines) l)) text [])
-        (ap (λ n. line n above reading.keyword) numbered
-        ∙ ap (line (length lines + 1) above) keyword_is
-        ∙ ap (λ h. line (length lines + 1) h (keyword_in l)) heads)
+      -- what is printed of it
+      pub explained_here : (number : ℕ) (b : Bool) → number ≡ length lines + 1
+          → is_skipped reading.statement ≡ b
+          → cond b (skipped_line number (reason_of above reading.keyword (operands l)) bytes) []
+          ≡ line_explained lines bytes
+      explained_here number b numbered skips =
+          let line : ℕ → Heading → Keyword → List ℕ =
+          λ n h k. skipped_line n (reason_of h k (operands l)) bytes in
+          ap (λ b'. cond b' (line number above reading.keyword) [])
+          (sym skips ∙ ap is_skipped said_is)
+          ∙ ap (λ text. cond (is_skipped (statement_below desk_limits (words_in lines) l)) text [])
+          (ap (λ n. line n above reading.keyword) numbered
+          ∙ ap (line (length lines + 1) above) keyword_is
+          ∙ ap (λ h. line (length lines + 1) h (keyword_in l)) heads)
 
 -- ---- all lines
 

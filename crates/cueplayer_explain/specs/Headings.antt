@@ -6,7 +6,7 @@ use Rattle.show_line.specs.declared.keyword.Keyword.TheVariants as keyword
 use Rattle.show_line.specs.declared.statement.Record.{Record}
 use Rattle.show_line.specs.declared.statement.Statement.{Statement}
 use Rattle.show_line.specs.Keywords.{keyword_of}
-use Rattle.show_line.specs.Said.{desk, opened}
+use Rattle.show_line.specs.Said.{desk_limits, opened}
 use Rattle.show_reader.specs.Meaning.{is_skipped}
 use Rattle.show_reader.specs.Text.{Words, owns, statement_below}
 use Rattle.cueplayer_explain.specs.declared.heading.Heading.{Heading}
@@ -54,4 +54,5 @@ owner_of _ = None
 abbrev pub heading_below : List Words → Heading
 heading_below [] = heading.Nothing
 heading_below (l ∷ above) =
-    if owns l then heading_of (keyword_in l) (statement_below desk above l) else heading_below above
+    if owns l then heading_of (keyword_in l) (statement_below desk_limits above l) else
+    heading_below above

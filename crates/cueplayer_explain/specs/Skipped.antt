@@ -2,7 +2,7 @@
 use Rattle.std.specs.Prelude.{ℕ, ◌+◌, ◌==◌, ◌&&◌, ◌||◌, nat_le, if◌then◌else◌, List, [], ◌∷◌, ◌++◌}
 use Rattle.std.specs.Prelude.{codes, decimal, length, map, reverse, take}
 use Rattle.ascii_text.specs.Text.{lines_of, words_of}
-use Rattle.show_line.specs.Said.{desk}
+use Rattle.show_line.specs.Said.{desk_limits}
 use Rattle.show_reader.specs.Meaning.{is_skipped}
 use Rattle.show_reader.specs.Reading.{lines_read}
 use Rattle.show_reader.specs.Text.{Words, statement_below}
@@ -32,7 +32,7 @@ words_in lines = map words_of lines
 -- what is printed of a line below these: nothing where it is not skipped
 abbrev pub line_explained : List (List ℕ) → List ℕ → List ℕ
 line_explained above line =
-    if is_skipped (statement_below desk (words_in above) (words_of line))
+    if is_skipped (statement_below desk_limits (words_in above) (words_of line))
     then skipped_line (length above + 1) (reason_below (words_in above) (words_of line)) line
     else []
 
@@ -43,4 +43,4 @@ explained (line ∷ above) = explained above ++ line_explained above line
 
 -- what is printed of the lines of a show text that are read
 abbrev pub skipped_text : List ℕ → List ℕ
-skipped_text text = explained (reverse (take (lines_read desk text) (lines_of text)))
+skipped_text text = explained (reverse (take (lines_read desk_limits text) (lines_of text)))

@@ -1,6 +1,6 @@
 ghost use Rattle.std.specs.Prelude.{◌≡◌, ◌<◌, ◌++◌, OnOk, IfErr, None, length, flat_map, map};
 ghost use Rattle.std.specs.Prelude.{string_bytes};
-ghost use Rattle.show_line.specs.Said.{desk};
+ghost use Rattle.show_line.specs.Said.{desk_limits};
 ghost use Rattle.show_reader.specs.declared.fault.ShowFault.TheVariants as show_fault;
 ghost use Rattle.show_reader.specs.Reading.{fault_of, longest_text};
 ghost use Rattle.cueplayer_runs.specs.Faults.{CheckFails};
@@ -29,7 +29,7 @@ pub fn explain<W: Output>(alloc: Global, show: &[u8], out: &mut W) -> Result<(),
     ensures told { W.tells out.new → W.tells out.old }
     ensures text { W.tells out.new → Prints result (IsExplanationOf show.now) (W.tape out.old)
         (W.tape out.new) }
-    ensures faultless { OnOk result (fault_of desk show.now ≡ None) }
+    ensures faultless { OnOk result (fault_of desk_limits show.now ≡ None) }
     ensures fault { IfErr result (CheckFails show.now) }
     ensures too_long { longest_text < length show.now → result ≡ Err
         (RunFault.Show show_fault.TooLong) }

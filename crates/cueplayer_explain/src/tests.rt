@@ -29,13 +29,19 @@ fn skipped_lines(rt: HostRuntime) {
         ),
         (
             "skipped_lines",
-            b"PATCH 1 1<1@FL 2<2@FL\nCUE 1\nCHAN 1@FL\n$$FADE 7\nCHAN 2@50\n$MAKER 9\nCHAN 1@0\nWHAT\nCUE 2 2\nCHAN 3@FL\n",
-            b"line 4: unknown keyword: $$FADE 7\nline 6: of a maker's record: $MAKER 9\nline 7: of a maker's record: CHAN 1@0\nline 8: of a maker's record: WHAT\nline 9: of page 2: CUE 2 2\nline 10: of a record that is skipped: CHAN 3@FL\n",
+            b"PATCH 1 1<1@FL 2<2@FL\nCUE 1\nCHAN 1@FL\n$$FADE 7\nCHAN 2@50\n$MAKER 9\nCHAN 1@0\n\
+                WHAT\nCUE 2 2\nCHAN 3@FL\n",
+            b"line 4: unknown keyword: $$FADE 7\nline 6: of a maker's record: $MAKER 9\n\
+                line 7: of a maker's record: CHAN 1@0\nline 8: of a maker's record: WHAT\n\
+                line 9: of page 2: CUE 2 2\nline 10: of a record that is skipped: CHAN 3@FL\n",
         ),
         (
             "clear_one_record",
-            b"PATCH 1 1<1@FL\nCHAN 1@FL\nCUE 1\nCLEAR x\nCHAN 1@FL\nPATCH 0\nUP 5\nGROUP 1 007\nENDDATA\nWHAT\n",
-            b"line 2: of no record: CHAN 1@FL\nline 4: an unknown CLEAR: CLEAR x\nline 5: of no record: CHAN 1@FL\nline 6: of page 0: PATCH 0\nline 7: of a record that is skipped: UP 5\nline 8: of page 7: GROUP 1 007\n",
+            b"PATCH 1 1<1@FL\nCHAN 1@FL\nCUE 1\nCLEAR x\nCHAN 1@FL\nPATCH 0\nUP 5\nGROUP 1 007\n\
+                ENDDATA\nWHAT\n",
+            b"line 2: of no record: CHAN 1@FL\nline 4: an unknown CLEAR: CLEAR x\n\
+                line 5: of no record: CHAN 1@FL\nline 6: of page 0: PATCH 0\n\
+                line 7: of a record that is skipped: UP 5\nline 8: of page 7: GROUP 1 007\n",
         ),
         (
             "bytes",
@@ -65,14 +71,17 @@ fn faults(rt: HostRuntime) {
 #[test]
 fn notes(rt: HostRuntime) {
     let cues =
-        b"PATCH 1 1<1@FL\nCUE 1\nCHAN 1@FL 2@0\nCUE 1.5\nCHAN 2@FL 7@FL\nCUE 2\nCUE .25\nCHAN 9@1\nCUE 3.125\nCHAN 7@0\nCUE 4.070\nCHAN 7@0\n";
-    let cue_notes =
-        b"note: cues of which no channel is patched: 0.25 1.5 3.125 4.07\nnote: channels of cues that are patched nowhere: 2 7 9\n";
+        b"PATCH 1 1<1@FL\nCUE 1\nCHAN 1@FL 2@0\nCUE 1.5\nCHAN 2@FL 7@FL\nCUE 2\nCUE .25\nCHAN 9@1\n\
+            CUE 3.125\nCHAN 7@0\nCUE 4.070\nCHAN 7@0\n";
+    let cue_notes = b"note: cues of which no channel is patched: 0.25 1.5 3.125 4.07\n\
+            note: channels of cues that are patched nowhere: 2 7 9\n";
     for (show, text) in [
         (cues.as_slice(), cue_notes.as_slice()),
         (
             b"\xef\xbb\xbfPATCH 1 1<1@FL\nPATCH 1 1<1@FL".as_slice(),
-            b"line 1: unknown keyword: ???PATCH 1 1<1@FL\nnote: the file begins with a byte order mark, read as part of its first word: save it as ASCII\n".as_slice(),
+            b"line 1: unknown keyword: ???PATCH 1 1<1@FL\n\
+                note: the file begins with a byte order mark, read as part of its first word: save it as ASCII\n"
+                .as_slice(),
         ),
         (
             b"PATCH 1 1<1@FL\r".as_slice(),
@@ -80,7 +89,9 @@ fn notes(rt: HostRuntime) {
         ),
         (
             b"\xff\xfeC\x00\n\x00".as_slice(),
-            b"line 1: unknown keyword: ??C?\nline 2: unknown keyword: ?\nnote: the file is UTF-16, which is not read as text: save it as ASCII\nnote: no dimmer is patched: no universe is sent\n",
+            b"line 1: unknown keyword: ??C?\nline 2: unknown keyword: ?\n\
+                note: the file is UTF-16, which is not read as text: save it as ASCII\n\
+                note: no dimmer is patched: no universe is sent\n",
         ),
     ] {
         let (answer, out) = end(rt.alloc(), show, 0);

@@ -1,7 +1,8 @@
 -- Reports and statuses, evaluated.
 use Rattle.std.specs.Prelude.{◌≡◌, refl, codes}
 use Rattle.std.specs.Fmt.{digits}
-use Rattle.show_reader.specs.declared.fault.ShowFault.TheVariants.{TooLong, MissingNumber, BadLevel, Memory}
+use Rattle.show_reader.specs.declared.fault.ShowFault.TheVariants.{TooLong, MissingNumber, BadLevel}
+use Rattle.show_reader.specs.declared.fault.ShowFault.TheVariants.{Memory}
 use Rattle.wire_faults.specs.declared.fault.Fault.TheVariants as setup_fault
 use Rattle.cueplayer_faults.specs.declared.fault.RunFault.TheVariants as run
 use Rattle.cueplayer_faults.specs.Status.{fault_text, fault_status}
@@ -27,7 +28,8 @@ play_lost : (fault_text (run.Lost 1) ≡ codes "lost 1") × (fault_status (run.L
 unfolding digits
 play_lost = (refl, refl)
 
-want_of_memory : (fault_text (run.Show Memory) ≡ codes "memory") × (fault_status (run.Show Memory) ≡ 6)
+want_of_memory : (fault_text (run.Show Memory) ≡ codes "memory")
+    × (fault_status (run.Show Memory) ≡ 6)
 want_of_memory = (refl, refl)
 
 setup_faults : (fault_text (run.Setup setup_fault.Consoles) ≡ codes "setup: Consoles")

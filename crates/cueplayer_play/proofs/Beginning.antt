@@ -1,11 +1,12 @@
 -- A play begins, or not.
-use Rattle.std.proofs.Common.{◌≡◌, ◌↔◌, ◌∙◌, ℕ, List, refl, ap, Bool, true, false, Result, Ok, Err, None}
+use Rattle.std.proofs.Common.{◌≡◌, ◌↔◌, ◌∙◌, ℕ, List, refl, ap, Bool, true, false, Result, Ok, Err}
+use Rattle.std.proofs.Common.{None}
 use Rattle.std.specs.Prelude.{IsTrue, IsFalse}
 use Rattle.patch_core.specs.Frame.{is_base}
 use Rattle.patch_core.specs.declared.fault.RigFault.{RigFault}
 use Rattle.patch_core.specs.declared.fault.RigFault.TheVariants.{Universe}
 use Rattle.show_core.specs.Tables.{Tables}
-use Rattle.show_line.specs.Said.{desk}
+use Rattle.show_line.specs.Said.{desk_limits}
 use Rattle.show_reader.specs.Reading.{fault_of}
 use Rattle.show_reader.specs.Shows.{IsShowOf}
 use Rattle.show_reader.specs.Text.{statements_of}
@@ -19,16 +20,18 @@ is_based true r x is iff = refl
 is_based false r x is iff = let e : r ≡ Err Universe = iff.1 refl in cc
 
 -- and one that was refused for them has not
-pub not_based : {X : Type 0} (b : Bool) (r : Result X RigFault) (fault : RigFault) → r ≡ Err fault → fault ≡ Universe
+pub not_based : {X : Type 0} (b : Bool) (r : Result X RigFault) (fault : RigFault) → r ≡ Err fault
+    → fault ≡ Universe
     → (r ≡ Err Universe) ↔ IsFalse b → IsFalse b
 not_based b r fault is e iff = iff.0 (is ∙ ap (λ f. Err f) e)
 
 -- a play begins where its console was opened
 pub began : {X : Type 0} (show : List ℕ) (base : ℕ) (s : Tables) (r : Result X RigFault) (x : X)
-    → fault_of desk show ≡ None → IsShowOf (statements_of desk show) s → r ≡ Ok x
+    → fault_of desk_limits show ≡ None → IsShowOf (statements_of desk_limits show) s → r ≡ Ok x
     → (r ≡ Err Universe) ↔ IsFalse (is_base s.patch base)
-    → (fault_of desk show ≡ None) × OfItsShow show (λ t. IsTrue (is_base t.patch base))
+    → (fault_of desk_limits show ≡ None) × OfItsShow show (λ t. IsTrue (is_base t.patch base))
 began show base s r x faultless is opened iff = (
   faultless,
-  of_its_show show (λ t. IsTrue (is_base t.patch base)) s is (is_based (is_base s.patch base) r x opened iff),
+  of_its_show show (λ t. IsTrue (is_base t.patch base)) s is
+      (is_based (is_base s.patch base) r x opened iff),
 )

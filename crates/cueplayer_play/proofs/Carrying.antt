@@ -1,5 +1,6 @@
 -- A call that is carried out.
-use Rattle.std.proofs.Common.{◌≡◌, ℕ, Bool, true, false, cond, refl, ap, arith, sym, subst, ◌∙◌, List, []}
+use Rattle.std.proofs.Common.{◌≡◌, ℕ, Bool, true, false, cond, refl, ap, arith, sym, subst, ◌∙◌}
+use Rattle.std.proofs.Common.{List, []}
 use Rattle.std.proofs.Common.{Some, None, Ok, Err, Result, append-nil}
 use Rattle.std.specs.Prelude.{Option, count_by}
 use Rattle.std.proofs.lemmas.List.Sums.{sum_by-cons}
@@ -23,11 +24,13 @@ use Rattle.cueplayer_play.specs.Lost.{is_lost}
 use Rattle.cueplayer_play.specs.Run.{IsAnswered, answer_text, due_by}
 
 -- why a call was refused, or that it was not, by its answer
-pub accepted : {X : Type 0} (o : Option Refused) (a b : X) (r : Result X Refused) → r ≡ Ok a → r ≡ outcome o b → o ≡ None
+pub accepted : {X : Type 0} (o : Option Refused) (a b : X) (r : Result X Refused) → r ≡ Ok a
+    → r ≡ outcome o b → o ≡ None
 accepted None a b r is e = refl
 accepted (Some q) a b r is e = cc
 
-pub refused : {X : Type 0} (o : Option Refused) (q : Refused) (b : X) (r : Result X Refused) → r ≡ Err q
+pub refused : {X : Type 0} (o : Option Refused) (q : Refused) (b : X) (r : Result X Refused)
+    → r ≡ Err q
     → r ≡ outcome o b → o ≡ Some q
 refused None q b r is e = cc
 refused (Some w) q b r is e = cc
@@ -55,11 +58,13 @@ lost_offers (sent d p s ds ss ps is rest) = omega (
   arith,
   lost_offers rest,
   one_answer s.failed d.place,
-  sum_by-cons (λ (x : ℕ × Offered). cond (is_lost x.1) 1 0) (d.universe, answer_of s.failed d.place) ps,
+  sum_by-cons (λ (x : ℕ × Offered). cond (is_lost x.1) 1 0) (d.universe, answer_of s.failed d.place)
+      ps,
   sum_by-cons (λ (x : Send). cond x.failed 1 0) s ss,
 )
 
-module _ (p : Production) (history : List Act) (moment : ℕ) (before after : List Send) (text : List ℕ) where
+module _ (p : Production) (history : List Act) (moment : ℕ) (before after : List Send)
+    (text : List ℕ) where
   -- a command that is accepted
   pub answered_order : (c : Command) → refusal p.show history (order_at moment c) ≡ None
       → text ≡ numbered moment done_text → after ≡ before
@@ -67,24 +72,30 @@ module _ (p : Production) (history : List Act) (moment : ℕ) (before after : Li
   answered_order c e written same = record {
     sends = [];
     offers = [];
-    are_offered = subst (λ (o : Option Refused). AreOffered p.source (due_by o (Order c) (dues_at p history moment)) [] [])
+    are_offered = subst (λ (o : Option Refused). AreOffered p.source
+        (due_by o (Order c) (dues_at p history moment)) [] [])
         (sym e) none;
     after_is = same ∙ sym (append-nil before);
-    text_is = written ∙ ap (λ (o : Option Refused). numbered moment (answer_text o (Order c) (ended history) [])) (sym e);
+    text_is = written ∙ ap
+        (λ (o : Option Refused). numbered moment (answer_text o (Order c) (ended history) []))
+        (sym e);
     lost_is = refl;
   }
 
   -- a call that is refused
-  pub answered_refused : (call : Call) (q : Refused) → refusal p.show history (act_of moment call) ≡ Some q
+  pub answered_refused : (call : Call) (q : Refused) → refusal p.show history (act_of moment call)
+      ≡ Some q
       → text ≡ numbered moment (refused_text q) → after ≡ before
       → IsAnswered p history (At moment call) before after text 0
   answered_refused call q e written same = record {
     sends = [];
     offers = [];
-    are_offered = subst (λ (o : Option Refused). AreOffered p.source (due_by o call (dues_at p history moment)) [] [])
+    are_offered = subst (λ (o : Option Refused). AreOffered p.source
+        (due_by o call (dues_at p history moment)) [] [])
         (sym e) none;
     after_is = same ∙ sym (append-nil before);
-    text_is = written ∙ ap (λ (o : Option Refused). numbered moment (answer_text o call (ended history) [])) (sym e);
+    text_is = written ∙ ap
+        (λ (o : Option Refused). numbered moment (answer_text o call (ended history) [])) (sym e);
     lost_is = refl;
   }
 
@@ -97,10 +108,12 @@ module _ (p : Production) (history : List Act) (moment : ℕ) (before after : Li
   answered_tick t pairs lost e is offers written counted = record {
     sends = offers.sends;
     offers = pairs;
-    are_offered = subst (λ (o : Option Refused). AreOffered p.source (due_by o Tick (dues_at p history moment)) offers.sends pairs)
+    are_offered = subst (λ (o : Option Refused). AreOffered p.source
+        (due_by o Tick (dues_at p history moment)) offers.sends pairs)
         (sym e) offers.are_offered;
     after_is = offers.after_is;
     text_is = written ∙ ap (λ (x : Ticked). numbered moment (ticked_text x pairs)) is
-        ∙ ap (λ (o : Option Refused). numbered moment (answer_text o Tick (ended history) pairs)) (sym e);
+        ∙ ap (λ (o : Option Refused). numbered moment (answer_text o Tick (ended history) pairs))
+        (sym e);
     lost_is = counted ∙ lost_offers offers.are_offered;
   }

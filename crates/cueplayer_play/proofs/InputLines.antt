@@ -1,5 +1,6 @@
 -- The lines of a stream are those of its whole text.
-use Rattle.std.proofs.Common.{ℕ, List, [], ◌∷◌, ◌++◌, ◌≡◌, ◌∙◌, ◌==◌, Bool, true, false, cond, refl, sym, ap, length, arith, append-nil, append_assoc}
+use Rattle.std.proofs.Common.{ℕ, List, [], ◌∷◌, ◌++◌, ◌≡◌, ◌∙◌, ◌==◌, Bool, true, false, cond, refl}
+use Rattle.std.proofs.Common.{sym, ap, length, arith, append-nil, append_assoc}
 use Rattle.std.specs.List.{fold, onto_first}
 use Rattle.std.proofs.lemmas.Bool.Decides.{nat_tests}
 use Rattle.std.proofs.lemmas.List.Sums.{fold-append}
@@ -19,7 +20,8 @@ onto_none : (b : ℕ) (r : List ℕ) → onto (b ∷ r) [] ≡ (b ∷ r) ∷ []
 onto_none b [] = refl
 onto_none b (d ∷ r) = ap (onto_first b) (onto_none d r)
 
-onto_more : (r : List ℕ) (b : ℕ) (ls : List (List ℕ)) → onto (r ++ b ∷ []) ls ≡ onto r (onto_first b ls)
+onto_more : (r : List ℕ) (b : ℕ) (ls : List (List ℕ)) →
+    onto (r ++ b ∷ []) ls ≡ onto r (onto_first b ls)
 onto_more [] b ls = refl
 onto_more (d ∷ r) b ls = ap (onto_first d) (onto_more r b ls)
 
@@ -27,24 +29,29 @@ onto_more (d ∷ r) b ls = ap (onto_first d) (onto_more r b ls)
 abbrev lines_with : Cut → List (List ℕ) → List (List ℕ)
 lines_with c ls = in_order c.lines ++ onto c.rest ls
 
-step : (c : Cut) (b : ℕ) (bs : List ℕ) → lines_with (with_byte c b) (lines_of bs) ≡ lines_with c (lines_of (b ∷ bs))
+step : (c : Cut) (b : ℕ) (bs : List ℕ) → lines_with (with_byte c b) (lines_of bs)
+    ≡ lines_with c (lines_of (b ∷ bs))
 step c b bs = go (b == 10)
   where
-    go : (t : Bool) → lines_with (cond t (record { lines = c.rest ∷ c.lines; rest = [] }) (record { lines = c.lines; rest = c.rest ++ b ∷ [] })) (lines_of bs)
+    go : (t : Bool) → lines_with
+        (cond t (record { lines = c.rest ∷ c.lines; rest = [] })
+        (record { lines = c.lines; rest = c.rest ++ b ∷ [] })) (lines_of bs)
         ≡ lines_with c (cond t ([] ∷ lines_of bs) (onto_first b (lines_of bs)))
     go true = append_assoc (in_order c.lines) (c.rest ∷ []) (lines_of bs)
         ∙ ap (λ (l : List ℕ). in_order c.lines ++ l ∷ lines_of bs) (sym (append-nil c.rest))
         ∙ ap (λ ls. in_order c.lines ++ ls) (sym (onto_line c.rest [] (lines_of bs)))
     go false = ap (λ ls. in_order c.lines ++ ls) (onto_more c.rest b (lines_of bs))
 
-lines_from : (c : Cut) (bytes : List ℕ) → lines_with (fold with_byte c bytes) [] ≡ lines_with c (lines_of bytes)
+lines_from : (c : Cut) (bytes : List ℕ) → lines_with (fold with_byte c bytes) []
+    ≡ lines_with c (lines_of bytes)
 lines_from c [] = refl
 lines_from c (b ∷ bs) = lines_from (with_byte c b) bs ∙ step c b bs
 
 not_zero : (b : ℕ) (r : List ℕ) → (length (b ∷ r) == 0) ≡ false
 not_zero b r = grind (arith, nat_tests)
 
-at_end : (c : Cut) (bytes : List ℕ) → cut_of bytes ≡ c → in_order (cut_of (closed bytes)).lines ≡ lines_with c []
+at_end : (c : Cut) (bytes : List ℕ) → cut_of bytes ≡ c →
+    in_order (cut_of (closed bytes)).lines ≡ lines_with c []
 at_end c bytes is = go c.rest refl
   where
     go : (r : List ℕ) → c.rest ≡ r → in_order (cut_of (closed bytes)).lines ≡ lines_with c []

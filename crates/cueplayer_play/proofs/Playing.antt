@@ -1,5 +1,6 @@
 -- A play over the bytes of an input.
-use Rattle.std.proofs.Common.{◌≡◌, ℕ, Bool, false, cond, refl, ap, sym, subst, ◌∙◌, List, [], ◌∷◌, ◌++◌, append_assoc, length, take, fold, ◌⊎◌}
+use Rattle.std.proofs.Common.{◌≡◌, ℕ, Bool, false, cond, refl, ap, sym, subst, ◌∙◌, List, [], ◌∷◌}
+use Rattle.std.proofs.Common.{◌++◌, append_assoc, length, take, fold, ◌⊎◌}
 use Rattle.std.specs.Prelude.{◌==◌}
 use Rattle.std.proofs.lemmas.List.Sums.{fold-append}
 use Rattle.devices.specs.Tape.{Tape, with_more}
@@ -15,36 +16,45 @@ pub joined_is : (bytes more : List ℕ) → fold with_byte (cut_of bytes) more �
 joined_is bytes more = sym (fold-append with_byte no_bytes bytes more)
 
 -- bytes with a rest are closed by LF
-closed_is : (bytes : List ℕ) → (length (cut_of bytes).rest == 0) ≡ false → closed bytes ≡ bytes ++ 10 ∷ []
+closed_is : (bytes : List ℕ) → (length (cut_of bytes).rest == 0) ≡ false → closed bytes ≡ bytes
+    ++ 10 ∷ []
 closed_is bytes e = ap (λ b. cond b bytes (bytes ++ 10 ∷ [])) e
 
-pub read_more : {X : Type 0} (a b c : Tape X) (xs ys : List X) → c ≡ with_more b ys → b ≡ with_more a xs
+pub read_more : {X : Type 0} (a b c : Tape X) (xs ys : List X) → c ≡ with_more b ys
+    → b ≡ with_more a xs
     → c ≡ with_more a (xs ++ ys)
-read_more a b c xs ys later before = later ∙ ap (λ t. with_more t ys) before ∙ with_more-append a xs ys
+read_more a b c xs ys later before = later ∙ ap (λ t. with_more t ys) before
+    ∙ with_more-append a xs ys
 
 -- a read at the end
-pub read_end : {X : Type 0} (a b c : Tape X) (xs buf : List X) (n : ℕ) → n ≡ 0 → c ≡ with_more b (take n buf)
+pub read_end : {X : Type 0} (a b c : Tape X) (xs buf : List X) (n : ℕ) → n ≡ 0
+    → c ≡ with_more b (take n buf)
     → b ≡ with_more a xs → c ≡ with_more a xs
 read_end a b c xs buf n e later before =
     later ∙ ap (λ k. with_more b (take k buf)) e ∙ with_more-nil b ∙ before
 
-not_empty : (xs ys : List ℕ) (b : Bool) → xs ≡ ys → b ≡ false → b ≡ (length xs == 0) → (length ys == 0) ≡ false
+not_empty : (xs ys : List ℕ) (b : Bool) → xs ≡ ys → b ≡ false → b ≡ (length xs == 0)
+    → (length ys == 0) ≡ false
 not_empty xs ys b same e is = ap (λ (l : List ℕ). length l == 0) (sym same) ∙ sym is ∙ e
 
 -- what has come of a line is behind the last LF
 pub closed_with : (bytes pending : List ℕ) (b : Bool) → pending ≡ (cut_of bytes).rest → b ≡ false
     → b ≡ (length pending == 0) → closed bytes ≡ bytes ++ 10 ∷ []
-closed_with bytes pending b same e is = closed_is bytes (not_empty pending (cut_of bytes).rest b same e is)
+closed_with bytes pending b same e is = closed_is bytes
+    (not_empty pending (cut_of bytes).rest b same e is)
 
 -- the byte that ends the play of later bytes ends the play of all
-pub ends_of : (fault : PlayFault) (p : Production) (ended : Type 0) (fed feeds : Tape ℕ) (bytes more all : List ℕ)
+pub ends_of : (fault : PlayFault) (p : Production) (ended : Type 0) (fed feeds : Tape ℕ)
+    (bytes more all : List ℕ)
     (before after : Emitted) → feeds ≡ with_more fed all
     → ((front rest : List ℕ) (byte : ℕ) → more ≡ front ++ byte ∷ rest
-    → (all ≡ (bytes ++ front) ++ byte ∷ rest) ⊎ (ended × (closed all ≡ (bytes ++ front) ++ byte ∷ rest)))
+    → (all ≡ (bytes ++ front) ++ byte ∷ rest)
+    ⊎ (ended × (closed all ≡ (bytes ++ front) ++ byte ∷ rest)))
     → EndsWithin fault p (cut_of bytes) more before after
     → EndsAtByte p fault ended fed feeds before after
 ends_of fault p ended fed feeds bytes more all before after read is e =
-    let joined : fold with_byte (cut_of bytes) e.front ≡ cut_of (bytes ++ e.front) = joined_is bytes e.front in
+    let joined : fold with_byte (cut_of bytes) e.front ≡ cut_of (bytes ++ e.front) =
+    joined_is bytes e.front in
     record {
       bytes = all;
       read = read;
@@ -59,11 +69,14 @@ ends_of fault p ended fed feeds bytes more all before after read is e =
 
 pub behind : (bytes more front rest : List ℕ) (byte : ℕ) → more ≡ front ++ byte ∷ rest
     → bytes ++ more ≡ (bytes ++ front) ++ byte ∷ rest
-behind bytes more front rest byte e = ap (λ xs. bytes ++ xs) e ∙ sym (append_assoc bytes front (byte ∷ rest))
+behind bytes more front rest byte e = ap (λ xs. bytes ++ xs) e
+    ∙ sym (append_assoc bytes front (byte ∷ rest))
 
 -- the play ends at one byte
-pub ends_one : (fault : PlayFault) (p : Production) (cut : Cut) (byte : ℕ) (before after : Emitted) → AreFine cut.lines
-    → Ends fault cut byte → Leaves fault p cut before after → EndsWithin fault p cut (byte ∷ []) before after
+pub ends_one : (fault : PlayFault) (p : Production) (cut : Cut) (byte : ℕ) (before after : Emitted)
+    → AreFine cut.lines
+    → Ends fault cut byte → Leaves fault p cut before after
+    → EndsWithin fault p cut (byte ∷ []) before after
 ends_one fault p cut byte before after fine ends leaves = record {
   front = [];
   byte = byte;

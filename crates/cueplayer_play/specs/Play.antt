@@ -3,7 +3,7 @@ use Rattle.std.specs.Prelude.{◌≡◌, ◌⊎◌, ◌≤◌, ◌++◌, ◌∷�
 use Rattle.std.specs.Prelude.{Err, Some, None, IsTrue, IsFalse}
 use Rattle.ascii_text.specs.Text.{lines_of}
 use Rattle.devices.specs.Tape.{Tape, with_failure, with_more}
-use Rattle.show_line.specs.Said.{desk}
+use Rattle.show_line.specs.Said.{desk_limits}
 use Rattle.show_reader.specs.Reading.{fault_of}
 use Rattle.show_reader.specs.ItsShow.{OfItsShow}
 use Rattle.patch_core.specs.Frame.{is_base}
@@ -85,10 +85,10 @@ has_begun (Err _) = false
 -- whether a play begins: its show has no fault and its universes have numbers; or why not. Want of
 -- memory may come in place of any other reason
 abbrev pub Begins : {X : Type 0} → Result X RunFault → List ℕ → ℕ → Type 0
-Begins (Err (run.Show f)) show base = fault_of desk show ≡ Some f
+Begins (Err (run.Show f)) show base = fault_of desk_limits show ≡ Some f
 Begins (Err run.Base) show base =
-    (fault_of desk show ≡ None) × OfItsShow show (λ s. IsFalse (is_base s.patch base))
+    (fault_of desk_limits show ≡ None) × OfItsShow show (λ s. IsFalse (is_base s.patch base))
 Begins (Err run.Memory) show base = Unit {0}
 Begins (Err run.NoCue) show base = ⊥
 Begins _ show base =
-    (fault_of desk show ≡ None) × OfItsShow show (λ s. IsTrue (is_base s.patch base))
+    (fault_of desk_limits show ≡ None) × OfItsShow show (λ s. IsTrue (is_base s.patch base))

@@ -12,7 +12,7 @@ use Rattle.show_core.specs.Tables.{Tables}
 use Rattle.show_line.specs.declared.fault.LineFault.{LineFault}
 use Rattle.show_line.specs.declared.fault.LineFault.TheVariants as line
 use Rattle.show_line.specs.declared.statement.Statement.{Statement}
-use Rattle.show_line.specs.Said.{desk}
+use Rattle.show_line.specs.Said.{desk_limits}
 use Rattle.show_reader.specs.declared.fault.ShowFault.{ShowFault}
 use Rattle.show_reader.specs.declared.fault.ShowFault.TheVariants as show_fault
 use Rattle.show_reader.specs.Reading.{fault_at, fault_below, fault_of, first_fault, longest_text}
@@ -68,22 +68,22 @@ not_here : (b : Bool) (o : Option ShowFault) → (o ≡ Some show_fault.Memory �
 not_here true o rest e = cc
 not_here false o rest e = rest e
 
-no_memory_fault : (text : List ℕ) → fault_of desk text ≡ Some show_fault.Memory → ⊥
+no_memory_fault : (text : List ℕ) → fault_of desk_limits text ≡ Some show_fault.Memory → ⊥
 no_memory_fault text =
-    not_here (nat_lt longest_text (length text)) (first_fault (statements_of desk text))
-    (not_below (statements_of desk text))
+    not_here (nat_lt longest_text (length text)) (first_fault (statements_of desk_limits text))
+    (not_below (statements_of desk_limits text))
 
 -- the fault that was found, where it is not want of memory
 found : (text : List ℕ) (fault : ShowFault) → (fault ≡ show_fault.Memory → ⊥)
-    → (fault ≡ show_fault.Memory) ⊎ (fault_of desk text ≡ Some fault)
-    → fault_of desk text ≡ Some fault
+    → (fault ≡ show_fault.Memory) ⊎ (fault_of desk_limits text ≡ Some fault)
+    → fault_of desk_limits text ≡ Some fault
 found text fault other (inl memory) = absurd (other memory)
 found text fault other (inr is) = is
 
 -- a show that was not read prevents the rehearsal
 pub unread : (show script : List ℕ) (fault : ShowFault)
-    → (fault ≡ show_fault.Memory) ⊎ (fault_of desk show ≡ Some fault)
-    → (NothingGrows desk show → fault_of desk show ≡ Some fault)
+    → (fault ≡ show_fault.Memory) ⊎ (fault_of desk_limits show ≡ Some fault)
+    → (NothingGrows desk_limits show → fault_of desk_limits show ≡ Some fault)
     → (1048576 < length show → fault ≡ show_fault.TooLong)
     → Prevents show script (of_show fault)
 unread show script show_fault.Memory why sure long =
@@ -128,9 +128,9 @@ no_setup_memory shows setups universes =
 
 -- what was read of a show and of a script
 pub record IsRead (show script : List ℕ) (s : Tables) (p : Parts) : Type 0 where
-  pub faultless : fault_of desk show ≡ None
+  pub faultless : fault_of desk_limits show ≡ None
   pub short : length script ≤ longest_script
-  pub show_is : IsShowOf (statements_of desk show) s
+  pub show_is : IsShowOf (statements_of desk_limits show) s
   pub script_is : script_of script ≡ Ok p
 
 -- of the parts of a script something is known

@@ -97,13 +97,15 @@ no_replies : (numbers : List ℕ) → event_lines numbers [] ≡ []
 no_replies [] = refl
 no_replies (number ∷ numbers) = refl
 
-pub no_line : (s t : Zip (Iter ℕ) (Iter BriefReply)) (r : Option (Bor ℕ × Bor BriefReply)) → r ≡ None
+pub no_line : (s t : Zip (Iter ℕ) (Iter BriefReply)) (r : Option (Bor ℕ × Bor BriefReply))
+    → r ≡ None
     → zips fronts fronts s r t → lines_left s ≡ []
 no_line s t r is step =
     elim (either_empty_from_Zip s t r is step) [
       | inl first ↦ ap (λ numbers. event_lines numbers (map reply_of (iter_rest (zip_second s))))
           first
-      | inr second ↦ ap (λ replies. event_lines (iter_rest (zip_first s)) (map reply_of replies)) second
+      | inr second ↦ ap (λ replies. event_lines (iter_rest (zip_first s)) (map reply_of replies))
+          second
           ∙ no_replies (iter_rest (zip_first s))
     ]
 

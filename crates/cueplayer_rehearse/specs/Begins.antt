@@ -1,7 +1,7 @@
 -- Whether a rehearsal begins, or why not.
 use Rattle.std.specs.Prelude.{◌≡◌, ◌⊎◌, ℕ, ◌<◌, ◌≤◌, List, [], ◌∷◌, length, Result, Ok, Err}
 use Rattle.std.specs.Prelude.{IsOkAnd, Option, Some, None}
-use Rattle.show_line.specs.Said.{desk}
+use Rattle.show_line.specs.Said.{desk_limits}
 use Rattle.show_reader.specs.declared.fault.ShowFault.TheVariants as show_fault
 use Rattle.show_reader.specs.ItsShow.{OfItsShow}
 use Rattle.show_reader.specs.Reading.{fault_of, NothingGrows}
@@ -29,7 +29,7 @@ LeavesScript script _ = ⊥
 -- the show has no fault, and the script is not too long and has no malformed line; and this is the
 -- first fault of its consoles and receivers, or they have none
 pub record IsSetUp (show script : List ℕ) (fault : Option Fault) : Type 0 where
-  pub faultless : fault_of desk show ≡ None
+  pub faultless : fault_of desk_limits show ≡ None
   pub short : length script ≤ longest_script
   pub set_up : OfItsShow show (λ s. IsOkAnd (script_of script) (λ p.
       setup_fault (s ∷ []) p.consoles p.receivers ≡ fault))
@@ -38,8 +38,8 @@ pub record IsSetUp (show script : List ℕ) (fault : Option Fault) : Type 0 wher
 -- grows; while the script is read, if the show has no fault; or at the rehearsal itself
 abbrev pub WantsMemory : List ℕ → List ℕ → Type 0
 WantsMemory show script =
-    ((length show ≤ 1048576) × (NothingGrows desk show → ⊥))
-    ⊎ (((fault_of desk show ≡ None) × LeavesScript script run.Memory)
+    ((length show ≤ 1048576) × (NothingGrows desk_limits show → ⊥))
+    ⊎ (((fault_of desk_limits show ≡ None) × LeavesScript script run.Memory)
     ⊎ IsSetUp show script None)
 
 -- why no rehearsal begins: the show's fault, then the script's size, then its first malformed
@@ -47,10 +47,11 @@ WantsMemory show script =
 -- later one
 abbrev pub Prevents : List ℕ → List ℕ → RunFault → Type 0
 Prevents show script (run.Show show_fault.Memory) = ⊥
-Prevents show script (run.Show fault) = fault_of desk show ≡ Some fault
-Prevents show script run.Script = (fault_of desk show ≡ None) × LeavesScript script run.Script
+Prevents show script (run.Show fault) = fault_of desk_limits show ≡ Some fault
+Prevents show script run.Script = (fault_of desk_limits show ≡ None)
+    × LeavesScript script run.Script
 Prevents show script (run.Line number) =
-    (fault_of desk show ≡ None) × LeavesScript script (run.Line number)
+    (fault_of desk_limits show ≡ None) × LeavesScript script (run.Line number)
 Prevents show script (run.Setup setup.Memory) = ⊥
 Prevents show script (run.Setup fault) = IsSetUp show script (Some fault)
 Prevents show script run.Memory = WantsMemory show script

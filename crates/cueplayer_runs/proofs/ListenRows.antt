@@ -10,7 +10,8 @@ cid = 192 ∷ 255 ∷ 238 ∷ 0 ∷ 0 ∷ 0 ∷ 64 ∷ 0 ∷ 128 ∷ 0 ∷ 0 ∷
 
 -- the packet of the smallest show: slot 1 is at 64
 abbrev look_one : List ℕ
-look_one = root_layer 512 cid ++ framing_layer 512 (look_fields cid 0) ++ dmp_layer 512 0 (64 ∷ replicate 511 0)
+look_one = root_layer 512 cid ++ framing_layer 512 (look_fields cid 0)
+    ++ dmp_layer 512 0 (64 ∷ replicate 511 0)
 
 -- that packet, the same again, and five bytes; the newest stands first
 listen_three : listen_text 1 ((replicate 5 0) ∷ look_one ∷ look_one ∷ [])

@@ -12,7 +12,8 @@ use Rattle.receiver_text.specs.Replies.{slots_line}
 use Rattle.cueplayer_runs.specs.Listening.{GaveAll, Listens, DeviceFailed, SlotsFailed}
 use Rattle.cueplayer_runs.specs.Listening.{history, listen_text, replies, reply_line}
 
--- so many datagrams came, and the receiver stands for them; where the devices tell, the source gave them, and
+-- so many datagrams came, and the receiver stands for them; where the devices tell, the source gave
+-- them, and
 -- the output took the replies to them
 pub record Heard (universe count : ℕ) (receiver : Kept) (source_tells output_tells : Type 0)
     (given gives : Tape (List ℕ)) (before after : Tape ℕ) : Type 0 where
@@ -24,37 +25,44 @@ pub record Heard (universe count : ℕ) (receiver : Kept) (source_tells output_t
 
 -- the source gave one datagram more
 pub gave_more : (datagram : List ℕ) (datagrams : List (List ℕ)) (given mid gives : Tape (List ℕ))
-    → GaveAll datagrams given mid → gives ≡ with_more mid (datagram ∷ []) → GaveAll (datagram ∷ datagrams) given gives
+    → GaveAll datagrams given mid → gives ≡ with_more mid (datagram ∷ [])
+    → GaveAll (datagram ∷ datagrams) given gives
 gave_more datagram datagrams given mid gives so_far more =
     more ∙ ap (λ tape. with_more tape (datagram ∷ [])) so_far
     ∙ with_more-twice given (reverse datagrams) (datagram ∷ [])
     ∙ ap (with_more given) (sym (reverse_onto datagrams datagram []))
 
 -- the output took one line more
-pub took_more : (universe : ℕ) (datagram : List ℕ) (datagrams : List (List ℕ)) (before mid after : Tape ℕ)
+pub took_more : (universe : ℕ) (datagram : List ℕ) (datagrams : List (List ℕ))
+    (before mid after : Tape ℕ)
     → mid ≡ with_more before (replies universe datagrams)
     → after ≡ with_more mid (reply_line universe datagram datagrams)
     → after ≡ with_more before (replies universe (datagram ∷ datagrams))
 took_more universe datagram datagrams before mid after so_far more =
     let line = reply_line universe datagram datagrams in
-    more ∙ ap (λ tape. with_more tape line) so_far ∙ with_more-twice before (replies universe datagrams) line
+    more ∙ ap (λ tape. with_more tape line) so_far ∙ with_more-twice before
+    (replies universe datagrams) line
 
 -- the output took the slots line too
-pub took_all : (universe : ℕ) (datagrams : List (List ℕ)) (line : List ℕ) (before mid after : Tape ℕ)
+pub took_all : (universe : ℕ) (datagrams : List (List ℕ)) (line : List ℕ)
+    (before mid after : Tape ℕ)
     → line ≡ slots_line (shown_slots (history universe datagrams) 0)
     → mid ≡ with_more before (replies universe datagrams) → after ≡ with_more mid line
     → after ≡ with_more before (listen_text universe datagrams)
 took_all universe datagrams line before mid after is so_far more =
-    more ∙ ap (λ tape. with_more tape line) so_far ∙ with_more-twice before (replies universe datagrams) line
+    more ∙ ap (λ tape. with_more tape line) so_far ∙ with_more-twice before
+    (replies universe datagrams) line
     ∙ ap (λ text. with_more before (replies universe datagrams ++ text)) is
 
 -- the run ends with Device where a device failed
 pub ends : {X : Type 0} (r : Result X RunFault) (universe count : ℕ) (given gives : Tape (List ℕ))
     (before after : Tape ℕ) → IsErrAnd r (λ e. e ≡ run.Device)
-    → DeviceFailed universe count given gives before after → Listens r universe count given gives before after
+    → DeviceFailed universe count given gives before after
+    → Listens r universe count given gives before after
 ends {X} (Ok x) universe count given gives before after is why = absurd is
 ends {X} (Err e) universe count given gives before after is why =
-    let P : RunFault → Type 0 = λ f. Listens {X = X} (Err f) universe count given gives before after in
+    let P : RunFault → Type 0 = λ f. Listens {X = X} (Err f) universe count given gives before
+    after in
     subst P (sym is) why
 
 -- the output failed at the slots line

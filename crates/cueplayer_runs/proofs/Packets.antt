@@ -1,6 +1,8 @@
 -- The lines of packets, one after the other.
-use Rattle.std.proofs.Common.{arith, ◌≡◌, ◌∙◌, sym, ap, subst, ℕ, ◌<◌, ◌+◌, Option, Some, None, IfSome}
-use Rattle.std.proofs.Common.{List, [], ◌∷◌, ◌++◌, All, flat_map, take, length, get_or, append_assoc}
+use Rattle.std.proofs.Common.{arith, ◌≡◌, ◌∙◌, sym, ap, subst, ℕ, ◌<◌, ◌+◌, Option, Some, None}
+use Rattle.std.proofs.Common.{IfSome}
+use Rattle.std.proofs.Common.{List, [], ◌∷◌, ◌++◌, All, flat_map, take, length, get_or}
+use Rattle.std.proofs.Common.{append_assoc}
 use Rattle.std.specs.List.{range_with_len, AllZip}
 use Rattle.std.proofs.lemmas.List.Elements.{All-filter}
 use Rattle.std.proofs.lemmas.List.{take_more, flat_map_more}
@@ -37,13 +39,15 @@ one_more_line : (levels : LevelMap) (patch : PatchMap) (cid ordinals text packet
     → IsData packet (look_fields cid k) (look_frame levels patch k)
     → IsLinesOf levels patch cid (ordinals ++ k ∷ []) ((text ++ encode_lower packet) ++ 10 ∷ [])
 one_more_line levels patch cid ordinals text packet k so_far is =
-    let lines : (text ++ encode_lower packet) ++ 10 ∷ [] ≡ flat_map hex_line (so_far.packets ++ packet ∷ []) =
+    let lines : (text ++ encode_lower packet) ++ 10 ∷ []
+    ≡ flat_map hex_line (so_far.packets ++ packet ∷ []) =
     append_assoc text (encode_lower packet) (10 ∷ [])
     ∙ ap (λ front. front ++ hex_line packet) so_far.lines
     ∙ flat_map_more hex_line [] so_far.packets packet in
     record {
       packets = so_far.packets ++ packet ∷ [];
-      each = zip_more (IsLookPacket levels patch cid) ordinals so_far.packets k packet so_far.each is;
+      each = zip_more (IsLookPacket levels patch cid) ordinals so_far.packets k packet so_far.each
+          is;
       lines = lines;
     }
 

@@ -8,11 +8,13 @@ empty_show : counts_line 0 0 0 0 0 0 ≡ codes "lines 0 cues 0 subs 0 groups 0 d
 unfolding digits
 empty_show = refl
 
-skipped_lines : counts_line 8 1 0 0 0 5 ≡ codes "lines 8 cues 1 subs 0 groups 0 dimmers 0 skipped 5\n"
+skipped_lines : counts_line 8 1 0 0 0 5
+    ≡ codes "lines 8 cues 1 subs 0 groups 0 dimmers 0 skipped 5\n"
 unfolding digits
 skipped_lines = refl
 
-console_style_file : counts_line 12 1 0 0 2 1 ≡ codes "lines 12 cues 1 subs 0 groups 0 dimmers 2 skipped 1\n"
+console_style_file : counts_line 12 1 0 0 2 1
+    ≡ codes "lines 12 cues 1 subs 0 groups 0 dimmers 2 skipped 1\n"
 unfolding digits
 console_style_file = refl
 

@@ -1,6 +1,6 @@
 -- Why a run ends with a fault. Want of memory may come in place of any other answer.
 use Rattle.std.specs.Prelude.{◌≡◌, ℕ, true, false, List, Some, None}
-use Rattle.show_line.specs.Said.{desk}
+use Rattle.show_line.specs.Said.{desk_limits}
 use Rattle.show_line.specs.declared.statement.Record.TheVariants.{Cue}
 use Rattle.show_reader.specs.declared.fault.ShowFault.TheVariants as show_fault
 use Rattle.show_reader.specs.Text.{statements_of}
@@ -12,20 +12,22 @@ use Rattle.cueplayer_faults.specs.declared.fault.RunFault.TheVariants as run
 -- the show was not read: its text has this fault
 abbrev pub ReadFails : List ℕ → RunFault → Type 0
 ReadFails show (run.Show show_fault.Memory) = ⊥
-ReadFails show (run.Show fault) = fault_of desk show ≡ Some fault
+ReadFails show (run.Show fault) = fault_of desk_limits show ≡ Some fault
 ReadFails show run.Memory = Unit {0}
 ReadFails show _ = ⊥
 
 -- `check`: the show was not read, or it was, and the output failed
 abbrev pub CheckFails : List ℕ → RunFault → Type 0
-CheckFails show run.Device = fault_of desk show ≡ None
+CheckFails show run.Device = fault_of desk_limits show ≡ None
 CheckFails show fault = ReadFails show fault
 
 -- `look`: the show was not read; or it was, and the cue is not there; or it is there, and the
 -- output failed
 abbrev pub LookFails : List ℕ → ℕ → RunFault → Type 0
 LookFails show cue run.NoCue =
-    (fault_of desk show ≡ None) × (is_there (Cue cue) (statements_of desk show) ≡ false)
+    (fault_of desk_limits show ≡ None)
+    × (is_there (Cue cue) (statements_of desk_limits show) ≡ false)
 LookFails show cue run.Device =
-    (fault_of desk show ≡ None) × (is_there (Cue cue) (statements_of desk show) ≡ true)
+    (fault_of desk_limits show ≡ None)
+    × (is_there (Cue cue) (statements_of desk_limits show) ≡ true)
 LookFails show cue fault = ReadFails show fault

@@ -2,7 +2,7 @@
 use Rattle.std.specs.Prelude.{◌≡◌, ℕ, List, Result, Ok, Err, IsSomeAnd}
 use Rattle.std.specs.FinMap as maps
 use Rattle.devices.specs.Tape.{Tape, with_more, with_failure}
-use Rattle.show_line.specs.Said.{desk}
+use Rattle.show_line.specs.Said.{desk_limits}
 use Rattle.show_reader.specs.ItsShow.{OfItsShow}
 use Rattle.show_reader.specs.Reading.{lines_read, lines_skipped}
 use Rattle.cueplayer_faults.specs.declared.fault.RunFault.{RunFault}
@@ -12,7 +12,7 @@ use Rattle.cueplayer_runs.specs.Texts.{check_text, IsLookText}
 -- what `check` prints of a show text
 abbrev pub IsCheckOf : List ℕ → List ℕ → Type 0
 IsCheckOf show text = OfItsShow show (λ s.
-    text ≡ check_text (lines_read desk show) (lines_skipped desk show) s)
+    text ≡ check_text (lines_read desk_limits show) (lines_skipped desk_limits show) s)
 
 -- what `look` prints of a cue of a show text, with this CID; the cue is there
 abbrev pub IsLookOf : List ℕ → ℕ → List ℕ → List ℕ → Type 0

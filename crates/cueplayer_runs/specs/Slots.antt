@@ -4,7 +4,7 @@ use Rattle.std.specs.Prelude.{IsTrue, IsFalse, IsSomeAnd}
 use Rattle.std.specs.FinMap as maps
 use Rattle.show_core.specs.Tables.{LevelMap, PatchMap}
 use Rattle.show_core.specs.Readers.{universes_of, look_frame}
-use Rattle.show_line.specs.Said.{desk}
+use Rattle.show_line.specs.Said.{desk_limits}
 use Rattle.show_line.specs.declared.statement.Record.TheVariants.{Cue}
 use Rattle.show_reader.specs.ItsShow.{OfItsShow}
 use Rattle.show_reader.specs.Meaning.{is_there}
@@ -46,7 +46,8 @@ LacksNumbers show base = OfItsShow show (λ s. IsFalse (is_base s.patch base))
 -- the show was read, and the cue is there
 abbrev pub HasCue : List ℕ → ℕ → Type 0
 HasCue show cue =
-    (fault_of desk show ≡ None) × (is_there (Cue cue) (statements_of desk show) ≡ true)
+    (fault_of desk_limits show ≡ None)
+    × (is_there (Cue cue) (statements_of desk_limits show) ≡ true)
 
 -- `slots`: it fails as `look` does; or the cue is there, and a universe has no number; or all have
 -- one, and the output failed

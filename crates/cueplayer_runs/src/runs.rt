@@ -1,5 +1,5 @@
 ghost use Rattle.std.specs.Prelude.{◌≡◌, ◌<◌, true, OnOk, IfErr, None, length};
-ghost use Rattle.show_line.specs.Said.{desk};
+ghost use Rattle.show_line.specs.Said.{desk_limits};
 ghost use Rattle.show_line.specs.declared.statement.Record.TheVariants.{Cue};
 ghost use Rattle.show_reader.specs.Meaning.{is_there};
 ghost use Rattle.show_reader.specs.Text.{statements_of};
@@ -26,7 +26,7 @@ pub fn check<W: Output>(alloc: Global, show: &[u8], out: &mut W) -> Result<(), R
     ensures told { W.tells out.new → W.tells out.old }
     ensures text { W.tells out.new → Prints result (IsCheckOf show.now) (W.tape out.old)
         (W.tape out.new) }
-    ensures faultless { OnOk result (fault_of desk show.now ≡ None) }
+    ensures faultless { OnOk result (fault_of desk_limits show.now ≡ None) }
     ensures fault { IfErr result (CheckFails show.now) }
     ensures too_long { longest_text < length show.now → result ≡ Err
         (RunFault.Show show_fault.TooLong) }
@@ -58,8 +58,8 @@ pub fn look<W: Output>(
     ensures told { W.tells out.new → W.tells out.old }
     ensures text { W.tells out.new → Prints result (IsLookOf show.now cue cid) (W.tape out.old)
         (W.tape out.new) }
-    ensures faultless { OnOk result (fault_of desk show.now ≡ None) }
-    ensures there { OnOk result (is_there (Cue cue) (statements_of desk show.now) ≡ true) }
+    ensures faultless { OnOk result (fault_of desk_limits show.now ≡ None) }
+    ensures there { OnOk result (is_there (Cue cue) (statements_of desk_limits show.now) ≡ true) }
     ensures fault { IfErr result (LookFails show.now cue) }
     ensures too_long { longest_text < length show.now → result ≡ Err
         (RunFault.Show show_fault.TooLong) }

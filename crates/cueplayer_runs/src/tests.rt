@@ -51,7 +51,9 @@ fn end(
 #[test]
 fn check_rows(rt: HostRuntime) {
     let console_style_file =
-        b"Ident 3:0\r\nManufacturer Example\r\nConsole Example\r\n$$Format 3.20\r\nClear all\r\nSet Channels 96\r\nPatch 1 1<1@Hff 2<2@Hff\r\nCue 1\r\n  Up 3\r\n  Text Opening ! house\r\n  Chan 1/Hff 2/H80\r\nEndData\r\nCue 9\r\n";
+        b"Ident 3:0\r\nManufacturer Example\r\nConsole Example\r\n$$Format 3.20\r\nClear all\r\n\
+            Set Channels 96\r\nPatch 1 1<1@Hff 2<2@Hff\r\nCue 1\r\n  Up 3\r\n\
+              Text Opening ! house\r\n  Chan 1/Hff 2/H80\r\nEndData\r\nCue 9\r\n";
     for (row, show, text) in [
         (
             "empty_show",

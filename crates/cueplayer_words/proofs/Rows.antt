@@ -42,7 +42,8 @@ explain_passes : Passes (codes "cueplayer" ∷ codes "explain" ∷ codes "-" ∷
 unfolding clap_on_literals
 explain_passes = refl
 
-explain_job : job_of (codes "cueplayer" ∷ codes "explain" ∷ codes "-" ∷ []) ≡ Some (Explain (codes "-"))
+explain_job : job_of (codes "cueplayer" ∷ codes "explain" ∷ codes "-" ∷ [])
+    ≡ Some (Explain (codes "-"))
 unfolding clap_on_literals
 explain_job = refl
 
@@ -130,7 +131,8 @@ play_options : job_of (play_words (codes "10.0.0.9:5000")
 unfolding clap_on_literals uuid_on_literals
 play_options = refl
 
-play_unfit_job : job_of (play_words (codes "127.0.0.1") (codes "--priority" ∷ codes "201" ∷ [])) ≡ None
+play_unfit_job : job_of (play_words (codes "127.0.0.1") (codes "--priority" ∷ codes "201" ∷ []))
+    ≡ None
 unfolding clap_on_literals uuid_on_literals
 play_unfit_job = refl
 

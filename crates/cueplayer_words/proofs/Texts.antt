@@ -6,7 +6,8 @@ use Rattle.clap.specs.declared.parser.matches.Found.{Found}
 use Rattle.clap.proofs.WalkLemmas.{first_value-rows}
 
 -- what `get_str` reads is the text that the rows have
-pub text_is : (text : Option (Bor Text)) (f : Found) (id : Text) → option_map (λ s. s.now) text ≡ first_value f id
+pub text_is : (text : Option (Bor Text)) (f : Found) (id : Text)
+    → option_map (λ s. s.now) text ≡ first_value f id
     → option_map (λ s. s.now) text ≡ first_of id (rows_of f)
 text_is text f id e = e ∙ first_value-rows f id
 

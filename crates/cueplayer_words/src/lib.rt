@@ -1,4 +1,12 @@
 //! The words of the command line, and the job that they ask for.
+//!
+//! [`read_words`] reads the words as `clap` does, and each value by its form; what is refused, what
+//! lacks its form and what is asked for by `--help` are told apart.
+//!
+//! ```
+//! let job = read_words(rt.alloc(), ["cueplayer", "check", "night.asc"].as_slice())?;
+//! // Job::Check, with the name of the file.
+//! ```
 #![tactic(auto)]
 
 mod address;

@@ -32,7 +32,8 @@ use Rattle.desk_core.specs.Played.{Act, order, tick, ended, moves, settings}
 over : (playback floor : ℕ) → max playback (max 0 floor) ≡ max playback floor
 over playback floor = omega arith
 
--- the higher of the playback's level after these moves and of the floor is the level that submasters
+-- the higher of the playback's level after these moves and of the floor is the level that
+-- submasters
 -- and groups make of it
 pub merged_level : (show : Tables) (history : List Act) (made : List Move) (floors : List ℕ)
     (channel moment latest level : ℕ)
@@ -67,35 +68,52 @@ both true b h = (refl, h)
 both false b h = absurd (false≢true h)
 
 -- maps by functions that agree
-map-same : {X Y : Type 0} (f g : X → Y) → ((x : X) → f x ≡ g x) → (xs : List X) → map f xs ≡ map g xs
+map-same : {X Y : Type 0} (f g : X → Y) → ((x : X) → f x ≡ g x) → (xs : List X)
+    → map f xs ≡ map g xs
 map-same f g same [] = refl
-map-same f g same (x ∷ xs) = let here : f x ≡ g x = same x in let rest : map f xs ≡ map g xs = map-same f g same xs in cc
+map-same f g same (x ∷ xs) = let here : f x ≡ g x = same x in let rest : map f xs ≡ map g xs =
+    map-same f g same xs in cc
 
-slot-same : (level other : ℕ → ℕ) (grand : ℕ) → ((channel : ℕ) → IsTrue (is_channel channel) → level channel ≡ other channel) → (patched : Option (ℕ × ℕ))
-    → IfSome patched (λ p. IsTrue (is_channel p.0)) → option_map_or (λ p. slot_of (level p.0) grand p.1) patched 0 ≡ option_map_or (λ p. slot_of (other p.0) grand p.1) patched 0
+slot-same : (level other : ℕ → ℕ) (grand : ℕ)
+    → ((channel : ℕ) → IsTrue (is_channel channel) → level channel ≡ other channel)
+    → (patched : Option (ℕ × ℕ))
+    → IfSome patched (λ p. IsTrue (is_channel p.0))
+    → option_map_or (λ p. slot_of (level p.0) grand p.1) patched 0
+    ≡ option_map_or (λ p. slot_of (other p.0) grand p.1) patched 0
 slot-same level other grand same None is = refl
 slot-same level other grand same (Some p) is = ap (λ l. slot_of l grand p.1) (same p.0 is)
 
 -- the levels of the channels decide the frames
-pub frame_of-same : (patch : PatchMap) → All (λ e. IsTrue (is_channel e.1.0)) (maps.entries patch) → (level other : ℕ → ℕ)
-    → ((channel : ℕ) → IsTrue (is_channel channel) → level channel ≡ other channel) → (grand ordinal : ℕ) → frame_of patch level grand ordinal ≡ frame_of patch other grand ordinal
+pub frame_of-same : (patch : PatchMap) → All (λ e. IsTrue (is_channel e.1.0)) (maps.entries patch)
+    → (level other : ℕ → ℕ)
+    → ((channel : ℕ) → IsTrue (is_channel channel) → level channel ≡ other channel)
+    → (grand ordinal : ℕ) → frame_of patch level grand ordinal ≡ frame_of patch other grand
+    ordinal
 frame_of-same patch channels level other same grand ordinal =
     map-same (dimmer_slot patch level grand) (dimmer_slot patch other grand)
-    (λ dimmer. slot-same level other grand same (maps.get patch dimmer) (value_in (λ p. IsTrue (is_channel p.0)) patch dimmer channels)) (range_with_len (512 * ordinal + 1) 512)
+    (λ dimmer. slot-same level other grand same (maps.get patch dimmer)
+    (value_in (λ p. IsTrue (is_channel p.0)) patch dimmer channels))
+    (range_with_len (512 * ordinal + 1) 512)
 
 -- the frame that a live tick draws
-pub live_frame : (show : Tables) → IsInRange show → (history : List Act) (moment grand : ℕ) (levels : List ℕ) → ended history ≡ None → grand ≡ grand_after (settings history)
-    → ((channel : ℕ) → IsTrue (is_channel channel) → level_in levels channel ≡ channel_level show history moment channel)
-    → (ordinal : ℕ) → frame_of show.patch (level_in levels) grand ordinal ≡ frame show history moment ordinal
+pub live_frame : (show : Tables) → IsInRange show → (history : List Act) (moment grand : ℕ)
+    (levels : List ℕ) → ended history ≡ None → grand ≡ grand_after (settings history)
+    → ((channel : ℕ) → IsTrue (is_channel channel) → level_in levels channel
+    ≡ channel_level show history moment channel)
+    → (ordinal : ℕ) → frame_of show.patch (level_in levels) grand ordinal
+    ≡ frame show history moment ordinal
 unfolding frame
 live_frame show in_range history moment grand levels live is merged ordinal =
-    rw (live, is) (frame_of-same show.patch in_range.patch_channels (level_in levels) (channel_level show history moment) merged (grand_after (settings history)) ordinal)
+    rw (live, is) (frame_of-same show.patch in_range.patch_channels (level_in levels)
+    (channel_level show history moment) merged (grand_after (settings history)) ordinal)
 
 -- equal patches, grand masters and frames
-pub drawn_same : (patch other : PatchMap) (level : ℕ → ℕ) (g h : ℕ) (frames others : List (List ℕ)) → patch ≡ other → g ≡ h → frames ≡ others
+pub drawn_same : (patch other : PatchMap) (level : ℕ → ℕ) (g h : ℕ) (frames others : List (List ℕ))
+    → patch ≡ other → g ≡ h → frames ≡ others
     → AreDrawn patch level g frames → AreDrawn other level h others
 drawn_same patch other level g h frames others p q r drawn =
-    subst (λ x. AreDrawn x level h others) p (subst (λ x. AreDrawn patch level x others) q (subst (AreDrawn patch level g) r drawn))
+    subst (λ x. AreDrawn x level h others) p
+    (subst (λ x. AreDrawn patch level x others) q (subst (AreDrawn patch level g) r drawn))
 
 -- frames that levels make, and others that are equal at each channel
 pub drawn_alike : (patch : PatchMap) → All (λ e. IsTrue (is_channel e.1.0)) (maps.entries patch)
@@ -109,7 +127,8 @@ drawn_alike patch channels level other same grand frames drawn = λ ordinal lt.
 
 -- before End, the frame is what the levels make
 pub live_frame_is : (show : Tables) (history : List Act) (moment ordinal : ℕ) → ended history ≡ None
-    → frame show history moment ordinal ≡ frame_of show.patch (channel_level show history moment) (grand_after (settings history)) ordinal
+    → frame show history moment ordinal ≡ frame_of show.patch (channel_level show history moment)
+    (grand_after (settings history)) ordinal
 unfolding frame
 live_frame_is show history moment ordinal live = rw live refl
 
@@ -128,4 +147,5 @@ pub dark_at : (n ordinal : ℕ) → ordinal < n → slice_get (replicate n dark)
 dark_at n ordinal lt =
     let size : length (replicate n dark) ≡ n = length-replicate n dark in
     let within : ordinal < length (replicate n dark) = omega arith in
-    slice_get-get_or (replicate n dark) ordinal dark within ∙ ap Some (get_or-replicate n ordinal dark dark lt)
+    slice_get-get_or (replicate n dark) ordinal dark within
+    ∙ ap Some (get_or-replicate n ordinal dark dark lt)

@@ -1,5 +1,6 @@
 -- What a console does with a small show, evaluated.
-use Rattle.std.proofs.Common.{◌≡◌, ℕ, ◌+◌, ◌-◌, ◌<◌, List, [], ◌∷◌, Some, None, get_or, refl, ◌∙◌, arith, lit<}
+use Rattle.std.proofs.Common.{◌≡◌, ℕ, ◌+◌, ◌-◌, ◌<◌, List, [], ◌∷◌, Some, None, get_or, refl, ◌∙◌}
+use Rattle.std.proofs.Common.{arith, lit<}
 use Rattle.std.specs.FinMap as map
 use Rattle.std.proofs.lemmas.List.FromFn.{get_or-map-range_with_len}
 use Rattle.show_core.specs.declared.cue.CueData.{CueData}
@@ -8,15 +9,19 @@ use Rattle.show_core.specs.Tables.{LevelMap, Tables}
 use Rattle.fade_core.specs.Level.{split_fade}
 use Rattle.master_core.specs.Settings.{grand_after}
 use Rattle.patch_core.specs.Frame.{dimmer_slot}
-use Rattle.desk_core.specs.declared.command.Command.TheVariants.{Go, Back, Goto, Sub, Group, Master, End}
+use Rattle.desk_core.specs.declared.command.Command.TheVariants.{Go, Back, Goto, Sub, Group, Master}
+use Rattle.desk_core.specs.declared.command.Command.TheVariants.{End}
 use Rattle.desk_core.specs.declared.answer.Ticked.TheVariants.{Live, Ending}
-use Rattle.desk_core.specs.declared.answer.Refused.TheVariants.{Backwards, MomentTooLarge, Ended, TooSoon, AtEnd, AtStart, NoCue, NoSub, NoGroup}
+use Rattle.desk_core.specs.declared.answer.Refused.TheVariants.{Backwards, MomentTooLarge, Ended}
+use Rattle.desk_core.specs.declared.answer.Refused.TheVariants.{TooSoon, AtEnd, AtStart, NoCue}
+use Rattle.desk_core.specs.declared.answer.Refused.TheVariants.{NoSub, NoGroup}
 use Rattle.playback_core.specs.Played.{Move, with_due}
 use Rattle.playback_core.proofs.Due.{with_due-none}
 use Rattle.desk_core.specs.Played.{Call, order, tick, Act, ended, settings, refusal, ticked}
 use Rattle.desk_core.specs.Meaning.{dark, channel_level, frame, latest_frame}
 
--- cue 1 brings channel 1 to full over five seconds; cue 2 brings channel 2 to full over two, and channel 1 out over four;
+-- cue 1 brings channel 1 to full over five seconds; cue 2 brings channel 2 to full over two, and
+-- channel 1 out over four;
 -- submaster 1 has channel 1 at half; dimmers 1 and 2 are patched to channels 1 and 2 at full
 record IsSmall (show : Tables) : Type 0 where
   first : CueData
@@ -43,12 +48,16 @@ at moment call = record { moment = moment; call = call }
 slot : Tables → List Act → ℕ → ℕ → ℕ
 slot show history moment dimmer = get_or (frame show history moment 0) (dimmer - 1) 0
 
-slot_is : (show : Tables) (history : List Act) (moment place dimmer : ℕ) → ended history ≡ None → 1 + place ≡ dimmer → place < 512
-    → slot show history moment dimmer ≡ dimmer_slot show.patch (channel_level show history moment) (grand_after (settings history)) dimmer
+slot_is : (show : Tables) (history : List Act) (moment place dimmer : ℕ) → ended history ≡ None
+    → 1 + place ≡ dimmer → place < 512
+    → slot show history moment dimmer ≡ dimmer_slot show.patch (channel_level show history moment)
+    (grand_after (settings history)) dimmer
 unfolding slot frame
 slot_is show history moment place dimmer live next lt =
     let back : dimmer - 1 ≡ place = omega arith in
-    rw (live, back) (get_or-map-range_with_len (dimmer_slot show.patch (channel_level show history moment) (grand_after (settings history))) 1 512 place dimmer 0 lt next)
+    rw (live, back) (get_or-map-range_with_len
+    (dimmer_slot show.patch (channel_level show history moment) (grand_after (settings history)))
+    1 512 place dimmer 0 lt next)
 
 module _ (show : Tables) (is : IsSmall show) where
   -- ---- no cue follows by itself
@@ -56,22 +65,32 @@ module _ (show : Tables) (is : IsSmall show) where
   no_move : (moment : ℕ) → with_due show moment [] ≡ []
   no_move moment = with_due-none show moment [] tt
 
-  after_first : (moment at : ℕ) (older : List Move) → with_due show moment (record { cue = 1000; moment = at } ∷ older) ≡ record { cue = 1000; moment = at } ∷ older
-  after_first moment at older = with_due-none show moment (record { cue = 1000; moment = at } ∷ older) (simp (map.get-entries show.cues 1000, is.cues_are, is.first_follow) tt)
+  after_first : (moment at : ℕ) (older : List Move)
+      → with_due show moment (record { cue = 1000; moment = at } ∷ older)
+      ≡ record { cue = 1000; moment = at } ∷ older
+  after_first moment at older = with_due-none show moment
+      (record { cue = 1000; moment = at } ∷ older)
+      (simp (map.get-entries show.cues 1000, is.cues_are, is.first_follow) tt)
 
-  after_second : (moment at : ℕ) (older : List Move) → with_due show moment (record { cue = 2000; moment = at } ∷ older) ≡ record { cue = 2000; moment = at } ∷ older
-  after_second moment at older = with_due-none show moment (record { cue = 2000; moment = at } ∷ older) (simp (map.get-entries show.cues 2000, is.cues_are, is.second_follow) tt)
+  after_second : (moment at : ℕ) (older : List Move)
+      → with_due show moment (record { cue = 2000; moment = at } ∷ older)
+      ≡ record { cue = 2000; moment = at } ∷ older
+  after_second moment at older = with_due-none show moment
+      (record { cue = 2000; moment = at } ∷ older)
+      (simp (map.get-entries show.cues 2000, is.cues_are, is.second_follow) tt)
 
   -- ---- refusals
 
   one_tick : List Act
   one_tick = at 100 tick ∷ []
 
-  desk_refusals : (refusal show one_tick (at 99 (order Go)) ≡ Some Backwards) × (refusal show one_tick (at 110 tick) ≡ Some TooSoon)
+  desk_refusals : (refusal show one_tick (at 99 (order Go)) ≡ Some Backwards)
+      × (refusal show one_tick (at 110 tick) ≡ Some TooSoon)
       × (refusal show one_tick (at 281474976710656 tick) ≡ Some MomentTooLarge)
       × (refusal show one_tick (at 281474976710655 tick) ≡ None)
       × (refusal show one_tick (at 100 (order (Goto 3000))) ≡ Some NoCue)
-      × (refusal show one_tick (at 100 (order (Sub 2 1))) ≡ Some NoSub) × (refusal show one_tick (at 100 (order (Group 1 1))) ≡ Some NoGroup)
+      × (refusal show one_tick (at 100 (order (Sub 2 1))) ≡ Some NoSub)
+      × (refusal show one_tick (at 100 (order (Group 1 1))) ≡ Some NoGroup)
       × (refusal show one_tick (at 100 (order Go)) ≡ None)
   unfolding one_tick
   desk_refusals = (
@@ -86,14 +105,16 @@ module _ (show : Tables) (is : IsSmall show) where
   )
 
   -- equal moments pass, and the gap is counted from the last tick
-  tick_gap : (refusal show (at 100 (order Go) ∷ at 90 tick ∷ []) (at 113 tick) ≡ None) × (refusal show (at 100 (order Go) ∷ at 90 tick ∷ []) (at 112 tick) ≡ Some TooSoon)
+  tick_gap : (refusal show (at 100 (order Go) ∷ at 90 tick ∷ []) (at 113 tick) ≡ None)
+      × (refusal show (at 100 (order Go) ∷ at 90 tick ∷ []) (at 112 tick) ≡ Some TooSoon)
       × (refusal show (at 100 (order Go) ∷ []) (at 100 tick) ≡ None)
   tick_gap = (refl, refl, refl)
 
   end_at : ℕ → List Act
   end_at moment = at moment (order End) ∷ []
 
-  after_end : (refusal show (end_at 200) (at 281474976710656 (order Go)) ≡ Some MomentTooLarge) × (refusal show (end_at 200) (at 200 (order Go)) ≡ Some Ended)
+  after_end : (refusal show (end_at 200) (at 281474976710656 (order Go)) ≡ Some MomentTooLarge)
+      × (refusal show (end_at 200) (at 200 (order Go)) ≡ Some Ended)
       × (refusal show (end_at 200) (at 200 (order End)) ≡ Some Ended)
   unfolding end_at
   after_end = (refl, refl, refl)
@@ -101,8 +122,11 @@ module _ (show : Tables) (is : IsSmall show) where
   three_ticks : List Act
   three_ticks = at 46 tick ∷ at 23 tick ∷ at 0 tick ∷ end_at 0
 
-  play_refusals : (refusal show [] (at 0 (order Back)) ≡ Some AtStart) × (refusal show (end_at 0) (at 0 (order Go)) ≡ Some Ended) × (refusal show (end_at 0) (at 0 tick) ≡ None)
-      × (ticked (ended []) ≡ Live) × (ticked (ended (end_at 0)) ≡ Ending 1) × (ticked (ended (at 0 tick ∷ end_at 0)) ≡ Ending 2)
+  play_refusals : (refusal show [] (at 0 (order Back)) ≡ Some AtStart)
+      × (refusal show (end_at 0) (at 0 (order Go)) ≡ Some Ended)
+      × (refusal show (end_at 0) (at 0 tick) ≡ None)
+      × (ticked (ended []) ≡ Live) × (ticked (ended (end_at 0)) ≡ Ending 1)
+      × (ticked (ended (at 0 tick ∷ end_at 0)) ≡ Ending 2)
       × (ticked (ended (at 23 tick ∷ at 0 tick ∷ end_at 0)) ≡ Ending 3)
       × (refusal show (at 23 tick ∷ at 0 tick ∷ end_at 0) (at 46 tick) ≡ None)
       × (refusal show three_ticks (at 69 tick) ≡ Some Ended)
@@ -127,22 +151,40 @@ module _ (show : Tables) (is : IsSmall show) where
   dark_after_end = refl
 
   -- dimmers 1 and 2 at full
-  slot_1 : (history : List Act) (moment level grand : ℕ) → ended history ≡ None → channel_level show history moment 1 ≡ level → grand_after (settings history) ≡ grand
+  slot_1 : (history : List Act) (moment level grand : ℕ) → ended history ≡ None
+      → channel_level show history moment 1 ≡ level → grand_after (settings history) ≡ grand
       → slot show history moment 1 ≡ slot_of level grand 255
   slot_1 history moment level grand live level_is grand_is =
-      slot_is show history moment 0 1 live refl (lit< tt) ∙ rw (map.get-entries show.patch 1, is.patch_is, level_is, grand_is) refl
+      slot_is show history moment 0 1 live refl (lit< tt)
+      ∙ rw (map.get-entries show.patch 1, is.patch_is, level_is, grand_is) refl
 
-  slot_2 : (history : List Act) (moment level grand : ℕ) → ended history ≡ None → channel_level show history moment 2 ≡ level → grand_after (settings history) ≡ grand
+  slot_2 : (history : List Act) (moment level grand : ℕ) → ended history ≡ None
+      → channel_level show history moment 2 ≡ level → grand_after (settings history) ≡ grand
       → slot show history moment 2 ≡ slot_of level grand 255
   slot_2 history moment level grand live level_is grand_is =
-      slot_is show history moment 1 2 live refl (lit< tt) ∙ rw (map.get-entries show.patch 2, is.patch_is, level_is, grand_is) refl
+      slot_is show history moment 1 2 live refl (lit< tt)
+      ∙ rw (map.get-entries show.patch 2, is.patch_is, level_is, grand_is) refl
 
   go_at_0 : List Act
   go_at_0 = at 0 (order Go) ∷ []
 
   five_second_fade-level : channel_level show go_at_0 2500 1 ≡ 32512
   unfolding go_at_0 split_fade
-  five_second_fade-level = simp (no_move, after_first, after_second, map.get-entries show.cues 1000, is.cues_are, is.subs_are, is.groups_are, map.get-entries is.first.levels 1, is.first_is, map.get-entries is.sub 1, is.sub_is, is.first_up, is.first_down) refl
+  five_second_fade-level = simp (
+    no_move,
+    after_first,
+    after_second,
+    map.get-entries show.cues 1000,
+    is.cues_are,
+    is.subs_are,
+    is.groups_are,
+    map.get-entries is.first.levels 1,
+    is.first_is,
+    map.get-entries is.sub 1,
+    is.sub_is,
+    is.first_up,
+    is.first_down,
+  ) refl
 
   five_second_fade : slot show go_at_0 2500 1 ≡ 127
   unfolding go_at_0
@@ -150,7 +192,22 @@ module _ (show : Tables) (is : IsSmall show) where
 
   five_second_fade-2510-level : channel_level show go_at_0 2510 1 ≡ 32642
   unfolding go_at_0 split_fade
-  five_second_fade-2510-level = simp (no_move, after_first, after_second, map.get-entries show.cues 1000, is.cues_are, is.subs_are, is.groups_are, map.get-entries is.first.levels 1, is.first_is, map.get-entries is.sub 1, is.sub_is, is.first_up, is.first_down) refl
+  five_second_fade-2510-level =
+      simp (
+        no_move,
+        after_first,
+        after_second,
+        map.get-entries show.cues 1000,
+        is.cues_are,
+        is.subs_are,
+        is.groups_are,
+        map.get-entries is.first.levels 1,
+        is.first_is,
+        map.get-entries is.sub 1,
+        is.sub_is,
+        is.first_up,
+        is.first_down,
+      ) refl
 
   five_second_fade-2510 : slot show go_at_0 2510 1 ≡ 128
   unfolding go_at_0
@@ -158,7 +215,22 @@ module _ (show : Tables) (is : IsSmall show) where
 
   five_second_fade-5000-level : channel_level show go_at_0 5000 1 ≡ 65025
   unfolding go_at_0 split_fade
-  five_second_fade-5000-level = simp (no_move, after_first, after_second, map.get-entries show.cues 1000, is.cues_are, is.subs_are, is.groups_are, map.get-entries is.first.levels 1, is.first_is, map.get-entries is.sub 1, is.sub_is, is.first_up, is.first_down) refl
+  five_second_fade-5000-level =
+      simp (
+        no_move,
+        after_first,
+        after_second,
+        map.get-entries show.cues 1000,
+        is.cues_are,
+        is.subs_are,
+        is.groups_are,
+        map.get-entries is.first.levels 1,
+        is.first_is,
+        map.get-entries is.sub 1,
+        is.sub_is,
+        is.first_up,
+        is.first_down,
+      ) refl
 
   five_second_fade-5000 : slot show go_at_0 5000 1 ≡ 255
   unfolding go_at_0
@@ -169,7 +241,26 @@ module _ (show : Tables) (is : IsSmall show) where
 
   split_crossfade-level : channel_level show two_goes 11000 1 ≡ 48769
   unfolding two_goes split_fade
-  split_crossfade-level = simp (no_move, after_first, after_second, map.get-entries show.cues 1000, map.get-entries show.cues 2000, is.cues_are, is.subs_are, is.groups_are, map.get-entries is.first.levels 1, is.first_is, map.get-entries is.second.levels 1, is.second_is, map.get-entries is.sub 1, is.sub_is, is.first_up, is.first_down, is.second_up, is.second_down) refl
+  split_crossfade-level = simp (
+    no_move,
+    after_first,
+    after_second,
+    map.get-entries show.cues 1000,
+    map.get-entries show.cues 2000,
+    is.cues_are,
+    is.subs_are,
+    is.groups_are,
+    map.get-entries is.first.levels 1,
+    is.first_is,
+    map.get-entries is.second.levels 1,
+    is.second_is,
+    map.get-entries is.sub 1,
+    is.sub_is,
+    is.first_up,
+    is.first_down,
+    is.second_up,
+    is.second_down,
+  ) refl
 
   split_crossfade : slot show two_goes 11000 1 ≡ 191
   unfolding two_goes
@@ -177,7 +268,27 @@ module _ (show : Tables) (is : IsSmall show) where
 
   split_crossfade-2-level : channel_level show two_goes 11000 2 ≡ 32512
   unfolding two_goes split_fade
-  split_crossfade-2-level = simp (no_move, after_first, after_second, map.get-entries show.cues 1000, map.get-entries show.cues 2000, is.cues_are, is.subs_are, is.groups_are, map.get-entries is.first.levels 2, is.first_is, map.get-entries is.second.levels 2, is.second_is, map.get-entries is.sub 2, is.sub_is, is.first_up, is.first_down, is.second_up, is.second_down) refl
+  split_crossfade-2-level =
+      simp (
+        no_move,
+        after_first,
+        after_second,
+        map.get-entries show.cues 1000,
+        map.get-entries show.cues 2000,
+        is.cues_are,
+        is.subs_are,
+        is.groups_are,
+        map.get-entries is.first.levels 2,
+        is.first_is,
+        map.get-entries is.second.levels 2,
+        is.second_is,
+        map.get-entries is.sub 2,
+        is.sub_is,
+        is.first_up,
+        is.first_down,
+        is.second_up,
+        is.second_down,
+      ) refl
 
   split_crossfade-2 : slot show two_goes 11000 2 ≡ 127
   unfolding two_goes
@@ -188,7 +299,26 @@ module _ (show : Tables) (is : IsSmall show) where
 
   goto_mid_fade-level : channel_level show returned 12000 1 ≡ 52020
   unfolding returned two_goes split_fade
-  goto_mid_fade-level = simp (no_move, after_first, after_second, map.get-entries show.cues 1000, map.get-entries show.cues 2000, is.cues_are, is.subs_are, is.groups_are, map.get-entries is.first.levels 1, is.first_is, map.get-entries is.second.levels 1, is.second_is, map.get-entries is.sub 1, is.sub_is, is.first_up, is.first_down, is.second_up, is.second_down) refl
+  goto_mid_fade-level = simp (
+    no_move,
+    after_first,
+    after_second,
+    map.get-entries show.cues 1000,
+    map.get-entries show.cues 2000,
+    is.cues_are,
+    is.subs_are,
+    is.groups_are,
+    map.get-entries is.first.levels 1,
+    is.first_is,
+    map.get-entries is.second.levels 1,
+    is.second_is,
+    map.get-entries is.sub 1,
+    is.sub_is,
+    is.first_up,
+    is.first_down,
+    is.second_up,
+    is.second_down,
+  ) refl
 
   goto_mid_fade : slot show returned 12000 1 ≡ 204
   unfolding returned two_goes
@@ -196,7 +326,26 @@ module _ (show : Tables) (is : IsSmall show) where
 
   goto_mid_fade-2-level : channel_level show returned 12000 2 ≡ 26010
   unfolding returned two_goes split_fade
-  goto_mid_fade-2-level = simp (no_move, after_first, after_second, map.get-entries show.cues 1000, map.get-entries show.cues 2000, is.cues_are, is.subs_are, is.groups_are, map.get-entries is.first.levels 2, is.first_is, map.get-entries is.second.levels 2, is.second_is, map.get-entries is.sub 2, is.sub_is, is.first_up, is.first_down, is.second_up, is.second_down) refl
+  goto_mid_fade-2-level = simp (
+    no_move,
+    after_first,
+    after_second,
+    map.get-entries show.cues 1000,
+    map.get-entries show.cues 2000,
+    is.cues_are,
+    is.subs_are,
+    is.groups_are,
+    map.get-entries is.first.levels 2,
+    is.first_is,
+    map.get-entries is.second.levels 2,
+    is.second_is,
+    map.get-entries is.sub 2,
+    is.sub_is,
+    is.first_up,
+    is.first_down,
+    is.second_up,
+    is.second_down,
+  ) refl
 
   goto_mid_fade-2 : slot show returned 12000 2 ≡ 102
   unfolding returned two_goes
@@ -207,7 +356,8 @@ module _ (show : Tables) (is : IsSmall show) where
 
   submaster_and_grand-half-level : channel_level show sub_at_half 0 1 ≡ 16384
   unfolding sub_at_half split_fade
-  submaster_and_grand-half-level = simp (no_move, is.subs_are, is.groups_are, map.get-entries is.sub 1, is.sub_is) refl
+  submaster_and_grand-half-level =
+      simp (no_move, is.subs_are, is.groups_are, map.get-entries is.sub 1, is.sub_is) refl
 
   submaster_and_grand-half : slot show sub_at_half 0 1 ≡ 64
   unfolding sub_at_half
@@ -218,18 +368,36 @@ module _ (show : Tables) (is : IsSmall show) where
 
   submaster_and_grand-full-level : channel_level show sub_at_full 25 1 ≡ 32640
   unfolding sub_at_full sub_at_half split_fade
-  submaster_and_grand-full-level = simp (no_move, is.subs_are, is.groups_are, map.get-entries is.sub 1, is.sub_is) refl
+  submaster_and_grand-full-level =
+      simp (no_move, is.subs_are, is.groups_are, map.get-entries is.sub 1, is.sub_is) refl
 
   submaster_and_grand-full : slot show sub_at_full 25 1 ≡ 128
   unfolding sub_at_full sub_at_half
-  submaster_and_grand-full = slot_1 sub_at_full 25 32640 255 refl submaster_and_grand-full-level refl
+  submaster_and_grand-full = slot_1 sub_at_full 25 32640 255 refl submaster_and_grand-full-level
+      refl
 
   grand_at_half : List Act
-  grand_at_half = at 5125 (order (Master 128)) ∷ at 5100 tick ∷ at 100 (order Go) ∷ at 25 tick ∷ sub_at_full
+  grand_at_half = at 5125 (order (Master 128)) ∷ at 5100 tick ∷ at 100 (order Go) ∷ at 25
+      tick ∷ sub_at_full
 
   submaster_and_grand-level : channel_level show grand_at_half 5125 1 ≡ 65025
   unfolding grand_at_half sub_at_full sub_at_half split_fade
-  submaster_and_grand-level = simp (no_move, after_first, after_second, map.get-entries show.cues 1000, is.cues_are, is.subs_are, is.groups_are, map.get-entries is.first.levels 1, is.first_is, map.get-entries is.sub 1, is.sub_is, is.first_up, is.first_down) refl
+  submaster_and_grand-level =
+      simp (
+        no_move,
+        after_first,
+        after_second,
+        map.get-entries show.cues 1000,
+        is.cues_are,
+        is.subs_are,
+        is.groups_are,
+        map.get-entries is.first.levels 1,
+        is.first_is,
+        map.get-entries is.sub 1,
+        is.sub_is,
+        is.first_up,
+        is.first_down,
+      ) refl
 
   submaster_and_grand : slot show grand_at_half 5125 1 ≡ 128
   unfolding grand_at_half sub_at_full sub_at_half

@@ -5,8 +5,10 @@ use Rattle.show_core.specs.Tables.{Tables}
 use Rattle.patch_core.specs.Frame.{Rigging, is_base}
 use Rattle.desk_core.specs.Meaning.{universe_numbers}
 
--- the fader is not ahead of the last call, the rig has the show's patch, the universes have numbers,
--- which are at hand, the show's numbers are in their ranges, and there is a level and a floor in its
+-- the fader is not ahead of the last call, the rig has the show's patch, the universes have
+-- numbers,
+-- which are at hand, the show's numbers are in their ranges, and there is a level and a floor in
+-- its
 -- range for each channel and a frame for each ordinal
 pub record IsDesk (fader_latest last_moment : ℕ) (rig : Rigging) (show : Tables)
     (universes levels floors : List ℕ) (frames : List (List ℕ)) : Type 0 where

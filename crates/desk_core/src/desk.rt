@@ -276,7 +276,8 @@ impl<F: Fader> Desk<F> {
         self.playback.moving()
     }
 
-    // Keeps the frames, since each channel has the level that it had. The playback need not move on.
+    // Keeps the frames, since each channel has the level that it had. The playback need not move
+    // on.
     fn tick_still(&mut self, moment: u64)
         requires not_before { self.old.last_moment ≤ moment }
         requires below { moment < 2 ^ 48 }

@@ -1,4 +1,5 @@
 -- How much of its way a channel has gone, as a number of 2 ^ 48ths.
+-- Of use inside the crate: what its public calls answer is said without these.
 use Rattle.std.specs.Prelude.{◌≡◌, ℕ, ◌+◌, ◌-◌, ◌*◌, ◌/◌, ◌^◌, ◌<◌, ◌≤◌}
 use Rattle.std.specs.Prelude.{nat_le, nat_lt, if◌then◌else◌, List, EachIndex, slice_index}
 use Rattle.show_core.specs.declared.rate.Rate.{Rate}

@@ -2,8 +2,14 @@
 //! moment, and makes the ticks by itself.
 //!
 //! [`LiveInput`] decides, and touches nothing: a device tells it which bytes came, asks it at each
-//! moment of the clock what is next, and carries that out. [`is_shown`] picks the replies of
-//! `play` that an operator sees. [`laws`] has what holds of every night.
+//! moment of the clock what is next, and carries that out. [`is_shown`] picks the replies of `play`
+//! that an operator sees. [`laws`] has what holds of every night.
+//!
+//! ```
+//! let mut live = LiveInput::new();
+//! let first = live.next(0);
+//! // Given::Line: the first tick. Then Given::Until says how long to wait for what is typed.
+//! ```
 #![tactic(auto)]
 
 mod given;

@@ -40,6 +40,17 @@ impl Model for LiveInput {
     ghost invariant = { λ live. live.now < 2 ^ 48 };
 }
 
+impl Default for LiveInput {
+    ghost use Rattle.std.specs.Prelude.{[]};
+    ghost use Rattle.live_input.specs.Stands.{StandsFor};
+
+    ghost is_default = { λ live. StandsFor live [] };
+
+    fn default() -> Self {
+        LiveInput::new()
+    }
+}
+
 impl LiveInput {
     /// The input at the start of a night.
     pub fn new() -> Self

@@ -34,19 +34,25 @@ module _ {V : Type 0} where
   rising es sorted i j d le lt =
       elim (nat_lt i j) as (λ b. nat_lt i j ≡ b → (get_or es i d).0 ≤ (get_or es j d).0) [
         | true ↦ λ b. let less : i < j = grind (arith, nat_tests) in
-            let below : (get_or es i d).0 < (get_or es j d).0 = below_of (get_or es i d).0 (get_or es j d).0 (sorted_at nat_cmp nat_cmp_total es i j d (from_true sorted) less lt) in omega arith
+            let below : (get_or es i d).0 < (get_or es j d).0 =
+            below_of (get_or es i d).0 (get_or es j d).0
+            (sorted_at nat_cmp nat_cmp_total es i j d (from_true sorted) less lt) in omega arith
         | false ↦ λ b. let same : i ≡ j = grind (arith, nat_tests) in
-            let keys : (get_or es i d).0 ≡ (get_or es j d).0 = ap (λ k. (get_or es k d).0) same in omega arith
+            let keys : (get_or es i d).0 ≡ (get_or es j d).0 = ap (λ k. (get_or es k d).0) same in
+            omega arith
       ] refl
 
   -- a key that no entry has is not found
   pub find_outside : (q : ℕ) (es : List (ℕ × V)) → All (λ e. q ≢ e.0) es → find nat_cmp q es ≡ None
   find_outside q [] h = refl
   find_outside q (e ∷ es) h =
-      ap (λ b. cond b (Some e.1) (find nat_cmp q es)) (other_key q e.0 (All-head (λ e. q ≢ e.0) e es h)) ∙ find_outside q es (All-tail (λ e. q ≢ e.0) e es h)
+      ap (λ b. cond b (Some e.1) (find nat_cmp q es))
+      (other_key q e.0 (All-head (λ e. q ≢ e.0) e es h))
+      ∙ find_outside q es (All-tail (λ e. q ≢ e.0) e es h)
 
   -- what stands behind and has other keys is not looked at
-  pub find_front : (q : ℕ) (xs ys : List (ℕ × V)) → All (λ e. q ≢ e.0) ys → find nat_cmp q (xs ++ ys) ≡ find nat_cmp q xs
+  pub find_front : (q : ℕ) (xs ys : List (ℕ × V)) → All (λ e. q ≢ e.0) ys
+      → find nat_cmp q (xs ++ ys) ≡ find nat_cmp q xs
   find_front q [] ys h = find_outside q ys h
   find_front q (x ∷ xs) ys h = ap (cond (eq_by_cmp nat_cmp q x.0) (Some x.1)) (find_front q xs ys h)
 
@@ -63,5 +69,7 @@ module _ {V : Type 0} where
         rw get_or-drop (h (n + i) d (omega arith) within))
 
 -- the map of a map's entries is the map
-pub from_sorted-entries : {V : Type 0} (m : FinMap nat_cmp V) (es : List (ℕ × V)) → es ≡ entries m → from_sorted {R = nat_cmp} es ≡ m
-from_sorted-entries m es is = ap (λ l. from_sorted {R = nat_cmp} l) is ∙ same_entries_map _ _ (entries-from_sorted nat_cmp (entries m) (entries_sorted m))
+pub from_sorted-entries : {V : Type 0} (m : FinMap nat_cmp V) (es : List (ℕ × V)) → es ≡ entries m
+    → from_sorted {R = nat_cmp} es ≡ m
+from_sorted-entries m es is = ap (λ l. from_sorted {R = nat_cmp} l) is
+    ∙ same_entries_map _ _ (entries-from_sorted nat_cmp (entries m) (entries_sorted m))

@@ -1,6 +1,8 @@
 -- The dimmers by their channels: those of a channel lie between two places, and are those that the
 -- patch has.
-use Rattle.std.proofs.Common.{◌≡◌, ℕ, zero, suc, ◌+◌, ◌-◌, ◌<◌, ◌≤◌, ◌⊎◌, inl, inr, Bool, true, false, cond, T, List, [], ◌∷◌, ◌++◌, length, get_or, Some, refl, sym, ap, ◌∙◌, arith}
+use Rattle.std.proofs.Common.{◌≡◌, ℕ, zero, suc, ◌+◌, ◌-◌, ◌<◌, ◌≤◌, ◌⊎◌, inl, inr, Bool, true}
+use Rattle.std.proofs.Common.{false, cond, T, List, [], ◌∷◌, ◌++◌, length, get_or, Some, refl, sym}
+use Rattle.std.proofs.Common.{ap, ◌∙◌, arith}
 use Rattle.std.specs.Prelude.{All, Contains}
 use Rattle.std.specs.Ordering.{nat_cmp, eq_by_cmp}
 use Rattle.std.specs.Cmp.{nat_cmp_total}
@@ -23,16 +25,21 @@ equal_to_itself x = grind (arith, nat_tests)
 
 module _ {V : Type 0} where
   -- each entry is found by its key
-  found_all : (es : List (ℕ × V)) → T (map.is_sorted nat_cmp es) → All (λ e. find nat_cmp e.0 es ≡ Some e.1) es
+  found_all : (es : List (ℕ × V)) → T (map.is_sorted nat_cmp es)
+      → All (λ e. find nat_cmp e.0 es ≡ Some e.1) es
   found_all es sorted = λ k d lt.
       find_at nat_cmp nat_cmp_total es (get_or es k d).0 k d (record {
         in_range = lt;
-        smaller_before = λ j e low. ap (λ x. nat_cmp x.0 (get_or es k d).0) (get_or_default es j e d (omega arith)) ∙ sorted_at nat_cmp nat_cmp_total es j k d sorted low lt;
-        has_key = λ e. ap (λ x. nat_cmp x.0 (get_or es k d).0) (get_or_default es k e d lt) ∙ equal_to_itself (get_or es k d).0;
+        smaller_before = λ j e low. ap (λ x. nat_cmp x.0 (get_or es k d).0)
+            (get_or_default es j e d (omega arith)) ∙ sorted_at nat_cmp nat_cmp_total es j k d sorted
+            low lt;
+        has_key = λ e. ap (λ x. nat_cmp x.0 (get_or es k d).0) (get_or_default es k e d lt)
+            ∙ equal_to_itself (get_or es k d).0;
       })
 
   -- what is found is an entry
-  contains_found : (q : ℕ) (es : List (ℕ × V)) (v : V) → find nat_cmp q es ≡ Some v → Contains es (q, v)
+  contains_found : (q : ℕ) (es : List (ℕ × V)) (v : V) → find nat_cmp q es ≡ Some v
+      → Contains es (q, v)
   contains_found q [] v e = cc
   contains_found q (x ∷ es) v e = go (eq_by_cmp nat_cmp q x.0) refl e (contains_found q es v) where
     go : (b : Bool) → eq_by_cmp nat_cmp q x.0 ≡ b → cond b (Some x.1) (find nat_cmp q es) ≡ Some v
@@ -45,52 +52,81 @@ module _ {V : Type 0} where
         let there = rest found in
         (suc there.0, omega (arith, there.1), there.2)
 
-module _ (patch : PatchMap) (by_channel : List (ℕ × (ℕ × ℕ))) (begins : List ℕ) (index : IsIndex (map.entries patch) by_channel begins)
+module _ (patch : PatchMap) (by_channel : List (ℕ × (ℕ × ℕ))) (begins : List ℕ)
+    (index : IsIndex (map.entries patch) by_channel begins)
     (c : ℕ) (one_up : 1 ≤ c) (few : c ≤ 4096) where
   -- a dimmer that lies there is patched to the channel
-  pub entry : (p : ℕ) → get_or begins (c - 1) 0 ≤ p → p < get_or begins c 0 → map.get patch (dimmer_at by_channel p) ≡ Some (c, byte_at by_channel p)
+  pub entry : (p : ℕ) → get_or begins (c - 1) 0 ≤ p → p < get_or begins c 0
+      → map.get patch (dimmer_at by_channel p) ≡ Some (c, byte_at by_channel p)
   entry p low high =
       let within : p < length by_channel = omega (arith, (index.places c (omega arith)).in_range) in
-      let below : channel_at by_channel p < c + 1 = (index.places c (omega arith)).below p (0, (0, 0)) (omega arith) high in
-      let above : c - 1 + 1 ≤ channel_at by_channel p = (index.places (c - 1) (omega arith)).from_on p (0, (0, 0)) low within in
+      let below : channel_at by_channel p < c + 1 = (index.places c (omega arith)).below p
+      (0, (0, 0)) (omega arith) high in
+      let above : c - 1 + 1 ≤ channel_at by_channel p =
+      (index.places (c - 1) (omega arith)).from_on p (0, (0, 0)) low within in
       let channel : channel_at by_channel p ≡ c = omega arith in
-      let found : find nat_cmp (dimmer_at by_channel p) (map.entries patch) ≡ Some (get_or by_channel p (0, (0, 0))).1 =
-      All-permutation (λ e. find nat_cmp e.0 (map.entries patch) ≡ Some e.1) (map.entries patch) by_channel index.same (found_all (map.entries patch) (map.entries_sorted patch)) p (0, (0, 0)) within in
-      map.get-entries patch (dimmer_at by_channel p) ∙ found ∙ ap (λ n. Some (n, byte_at by_channel p)) channel
+      let found : find nat_cmp (dimmer_at by_channel p) (map.entries patch)
+      ≡ Some (get_or by_channel p (0, (0, 0))).1 =
+      All-permutation (λ e. find nat_cmp e.0 (map.entries patch) ≡ Some e.1) (map.entries patch)
+      by_channel index.same (found_all (map.entries patch) (map.entries_sorted patch)) p
+      (0, (0, 0)) within in
+      map.get-entries patch (dimmer_at by_channel p) ∙ found
+      ∙ ap (λ n. Some (n, byte_at by_channel p)) channel
 
   -- a dimmer that is patched to the channel lies there
   pub complete : (dimmer byte : ℕ) → map.get patch dimmer ≡ Some (c, byte)
-      → (p : ℕ) × (get_or begins (c - 1) 0 ≤ p) × (p < get_or begins c 0) × (dimmer_at by_channel p ≡ dimmer)
+      → (p : ℕ) × (get_or begins (c - 1) 0 ≤ p) × (p < get_or begins c 0)
+      × (dimmer_at by_channel p ≡ dimmer)
   complete dimmer byte is =
       let e : ℕ × (ℕ × ℕ) = (dimmer, (c, byte)) in
-      let there : Contains by_channel e = Contains-permutation (map.entries patch) by_channel e index.same (contains_found dimmer (map.entries patch) (c, byte) (sym (map.get-entries patch dimmer) ∙ is)) in
-      let own : get_or by_channel there.0 (0, (0, 0)) ≡ e = get_or_default by_channel there.0 (0, (0, 0)) e there.1 ∙ there.2 in
-      let channel : channel_at by_channel there.0 ≡ c = ap (λ x. x.1.0) own in
-      (there.0, from (cases_lt there.0 (get_or begins (c - 1) 0)) channel there.1, up (cases_lt there.0 (get_or begins c 0)) channel there.1, ap (λ x. x.0) own) where
-        from : {p : ℕ} → (p < get_or begins (c - 1) 0) ⊎ (get_or begins (c - 1) 0 ≤ p) → channel_at by_channel p ≡ c → p < length by_channel → get_or begins (c - 1) 0 ≤ p
+      let there : Contains by_channel e = Contains-permutation (map.entries patch) by_channel e
+      index.same (contains_found dimmer (map.entries patch) (c, byte)
+      (sym (map.get-entries patch dimmer) ∙ is)) in
+      let own : get_or by_channel there.0 (0, (0, 0)) ≡ e =
+      get_or_default by_channel there.0 (0, (0, 0)) e there.1 ∙ there.2 in
+      let channel : channel_at by_channel there.0 ≡ c = ap (λ x. x.1.0) own in (
+        there.0,
+        from (cases_lt there.0 (get_or begins (c - 1) 0)) channel there.1,
+        up (cases_lt there.0 (get_or begins c 0)) channel there.1,
+        ap (λ x. x.0) own,
+      ) where
+        from : {p : ℕ} → (p < get_or begins (c - 1) 0) ⊎ (get_or begins (c - 1) 0 ≤ p)
+            → channel_at by_channel p ≡ c → p < length by_channel → get_or begins (c - 1) 0 ≤ p
         from {p} (inl lt) channel within =
-            let below : channel_at by_channel p < c - 1 + 1 = (index.places (c - 1) (omega arith)).below p (0, (0, 0)) (omega arith) lt in absurd (omega arith)
+            let below : channel_at by_channel p < c - 1 + 1 =
+            (index.places (c - 1) (omega arith)).below p (0, (0, 0)) (omega arith) lt in
+            absurd (omega arith)
         from (inr le) channel within = le
 
-        up : {p : ℕ} → (p < get_or begins c 0) ⊎ (get_or begins c 0 ≤ p) → channel_at by_channel p ≡ c → p < length by_channel → p < get_or begins c 0
+        up : {p : ℕ} → (p < get_or begins c 0) ⊎ (get_or begins c 0 ≤ p)
+            → channel_at by_channel p ≡ c → p < length by_channel → p < get_or begins c 0
         up (inl lt) channel within = lt
         up {p} (inr le) channel within =
-            let above : c + 1 ≤ channel_at by_channel p = (index.places c (omega arith)).from_on p (0, (0, 0)) le within in absurd (omega arith)
+            let above : c + 1 ≤ channel_at by_channel p =
+            (index.places c (omega arith)).from_on p (0, (0, 0)) le within in absurd (omega arith)
 
 -- the places never fall
-pub begins_rise : (dimmers by_channel : List (ℕ × (ℕ × ℕ))) (begins : List ℕ) → IsIndex dimmers by_channel begins → (c : ℕ) → c < 4096 → get_or begins c 0 ≤ get_or begins (c + 1) 0
-begins_rise dimmers by_channel begins index c few = go (cases_lt (get_or begins (c + 1) 0) (get_or begins c 0)) where
-  go : (get_or begins (c + 1) 0 < get_or begins c 0) ⊎ (get_or begins c 0 ≤ get_or begins (c + 1) 0) → get_or begins c 0 ≤ get_or begins (c + 1) 0
-  go (inr le) = le
-  go (inl lt) =
-      let p : ℕ = get_or begins (c + 1) 0 in
-      let within : p < length by_channel = omega (arith, (index.places c (omega arith)).in_range) in
-      let below : channel_at by_channel p < c + 1 = (index.places c (omega arith)).below p (0, (0, 0)) (omega arith) lt in
-      let above : c + 1 + 1 ≤ channel_at by_channel p = (index.places (c + 1) (omega arith)).from_on p (0, (0, 0)) (omega arith) within in
-      absurd (omega arith)
+pub begins_rise : (dimmers by_channel : List (ℕ × (ℕ × ℕ))) (begins : List ℕ)
+    → IsIndex dimmers by_channel begins → (c : ℕ) → c < 4096
+    → get_or begins c 0 ≤ get_or begins (c + 1) 0
+begins_rise dimmers by_channel begins index c few =
+    go (cases_lt (get_or begins (c + 1) 0) (get_or begins c 0)) where
+      go : (get_or begins (c + 1) 0 < get_or begins c 0)
+          ⊎ (get_or begins c 0 ≤ get_or begins (c + 1) 0)
+          → get_or begins c 0 ≤ get_or begins (c + 1) 0
+      go (inr le) = le
+      go (inl lt) =
+          let p : ℕ = get_or begins (c + 1) 0 in
+          let within : p < length by_channel = omega (arith, (index.places c (omega arith)).in_range) in
+          let below : channel_at by_channel p < c + 1 = (index.places c (omega arith)).below p
+          (0, (0, 0)) (omega arith) lt in
+          let above : c + 1 + 1 ≤ channel_at by_channel p =
+          (index.places (c + 1) (omega arith)).from_on p (0, (0, 0)) (omega arith) within in
+          absurd (omega arith)
 
 -- one place more
-pub places_more : (P : ℕ → ℕ → Type 0) (begins : List ℕ) (n place : ℕ) → length begins + 1 ≡ n → P n place
+pub places_more : (P : ℕ → ℕ → Type 0) (begins : List ℕ) (n place : ℕ) → length begins + 1 ≡ n
+    → P n place
     → ((c : ℕ) → c + 1 < n → P (c + 1) (get_or begins c 0))
     → (c : ℕ) → c + 1 < n + 1 → P (c + 1) (get_or (begins ++ place ∷ []) c 0)
 places_more P begins n place size here so_far c lt = go (cases_lt c (length begins)) where

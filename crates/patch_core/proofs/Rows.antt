@@ -22,11 +22,13 @@ patch_of es = from_sorted es
 -- the channel at half, and a dimmer that is not patched
 frame_half : dimmer_slot (patch_of two_dimmers) (λ _. 32640) 255 1 ≡ 64
 unfolding two_dimmers patch_of
-frame_half = ap (λ o. option_map_or (λ p. slot_of 32640 255 p.1) o 0) (get_is nat_cmp nat_cmp_total two_dimmers refl 1)
+frame_half = ap (λ o. option_map_or (λ p. slot_of 32640 255 p.1) o 0)
+    (get_is nat_cmp nat_cmp_total two_dimmers refl 1)
 
 unpatched_is_dark : dimmer_slot (patch_of two_dimmers) (λ _. 32640) 255 2 ≡ 0
 unfolding two_dimmers patch_of
-unpatched_is_dark = ap (λ o. option_map_or (λ p. slot_of 32640 255 p.1) o 0) (get_is nat_cmp nat_cmp_total two_dimmers refl 2)
+unpatched_is_dark = ap (λ o. option_map_or (λ p. slot_of 32640 255 p.1) o 0)
+    (get_is nat_cmp nat_cmp_total two_dimmers refl 2)
 
 -- whether a base serves a list of dimmers
 serves : ℕ → List (ℕ × (ℕ × ℕ)) → Bool
@@ -35,7 +37,8 @@ serves base es =
     && list_all (λ k. is_universe (base + k))
     (filter (λ k. list_any (λ e. ordinal_of e.0 == k) es) (range_with_len 0 16))
 
-base_serves : (base : ℕ) (es : List (ℕ × (ℕ × ℕ))) → T (is_sorted nat_cmp es) → is_base (patch_of es) base ≡ serves base es
+base_serves : (base : ℕ) (es : List (ℕ × (ℕ × ℕ))) → T (is_sorted nat_cmp es)
+    → is_base (patch_of es) base ≡ serves base es
 unfolding is_base serves patch_of
 base_serves base es sorted = ap (serves base) (entries-from_sorted nat_cmp es sorted)
 

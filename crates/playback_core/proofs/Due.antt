@@ -29,16 +29,19 @@ found_above (k ∷ ks) n found is = at (nat_lt n k) refl is (found_above ks n fo
   at true above is rest = let same : k ≡ found = cc in grind (arith, nat_tests)
   at false above is rest = rest is
 
-count_above-mono : (ks : List ℕ) (low high : ℕ) → low ≤ high → count_above ks high ≤ count_above ks low
+count_above-mono : (ks : List ℕ) (low high : ℕ) → low ≤ high
+    → count_above ks high ≤ count_above ks low
 count_above-mono [] low high le = omega arith
-count_above-mono (k ∷ ks) low high le = at (nat_lt low k) (nat_lt high k) refl refl (count_above-mono ks low high le) where
-  at : (a b : Bool) → nat_lt low k ≡ a → nat_lt high k ≡ b → count_above ks high ≤ count_above ks low
-      → length (cond b (k ∷ filter (nat_lt high) ks) (filter (nat_lt high) ks))
-      ≤ length (cond a (k ∷ filter (nat_lt low) ks) (filter (nat_lt low) ks))
-  at true true p q rest = omega arith
-  at true false p q rest = omega arith
-  at false true p q rest = absurd (grind (arith, nat_tests))
-  at false false p q rest = rest
+count_above-mono (k ∷ ks) low high le = at (nat_lt low k) (nat_lt high k) refl refl
+    (count_above-mono ks low high le) where
+      at : (a b : Bool) → nat_lt low k ≡ a → nat_lt high k ≡ b
+          → count_above ks high ≤ count_above ks low
+          → length (cond b (k ∷ filter (nat_lt high) ks) (filter (nat_lt high) ks))
+          ≤ length (cond a (k ∷ filter (nat_lt low) ks) (filter (nat_lt low) ks))
+      at true true p q rest = omega arith
+      at true false p q rest = omega arith
+      at false true p q rest = absurd (grind (arith, nat_tests))
+      at false false p q rest = rest
 
 -- fewer numbers are above the one that is found
 pub count_above-found : (ks : List ℕ) (n found : ℕ) → find (nat_lt n) ks ≡ Some found
@@ -146,7 +149,8 @@ module _ (show : Tables) (moment : ℕ) where
   with_due-due moves next is le =
       due_first (map.keys show.cues) moves next (room-few show moves) is le
 
-  none_due : (ks : List ℕ) (moves : List Move) → IfSome (due show moves) (λ next. moment < next.moment)
+  none_due : (ks : List ℕ) (moves : List Move) → IfSome (due show moves)
+      (λ next. moment < next.moment)
       → followed show moment ks moves ≡ moves
   none_due [] moves later = refl
   none_due (k ∷ ks) moves later = at (due show moves) later where
@@ -173,7 +177,8 @@ module _ (show : Tables) (moment : ℕ) where
 
         at : (o : Option Move) → due show moves ≡ o
             → ((next : Move) → due show moves ≡ Some next
-            → IfSome (due show (followed show moment ks (next ∷ moves))) (λ next. moment < next.moment))
+            → IfSome (due show (followed show moment ks (next ∷ moves)))
+            (λ next. moment < next.moment))
             → IfSome (due show (go_on ks moves o)) (λ next. moment < next.moment)
         at None is rest = rw is tt
         at (Some next) is rest = pick (nat_le next.moment moment) refl where

@@ -1,5 +1,6 @@
 -- A cue that is found above or below another is there.
-use Rattle.std.proofs.Common.{◌≡◌, ℕ, Bool, true, false, List, [], ◌∷◌, Option, Some, refl, sym, ap, ◌∙◌, arith}
+use Rattle.std.proofs.Common.{◌≡◌, ℕ, Bool, true, false, List, [], ◌∷◌, Option, Some, refl, sym, ap}
+use Rattle.std.proofs.Common.{◌∙◌, arith}
 use Rattle.std.specs.Prelude.{find, reverse, ◌||◌, ◌==◌, unwrap_or, cond}
 use Rattle.std.specs.List.{list_any}
 use Rattle.std.specs.Option.{ok_or}
@@ -28,27 +29,37 @@ or_comm false false = refl
 list_any-reverse : (p : ℕ → Bool) (xs : List ℕ) → list_any p (reverse xs) ≡ list_any p xs
 list_any-reverse p [] = refl
 list_any-reverse p (x ∷ xs) =
-    ap (list_any p) (reverse-append (x ∷ []) xs) ∙ list_any-append p (reverse xs) (x ∷ []) ∙ ap (λ b. b || (p x || false)) (list_any-reverse p xs)
+    ap (list_any p) (reverse-append (x ∷ []) xs) ∙ list_any-append p (reverse xs) (x ∷ [])
+    ∙ ap (λ b. b || (p x || false)) (list_any-reverse p xs)
     ∙ or_comm (list_any p xs) (p x)
 
 tied : (k n : ℕ) → k ≡ n → eq_by_cmp nat_cmp n k ≡ true
 tied k n e = let same : (n == k) ≡ true = grind (arith, nat_tests) in unsigned_tied n k ∙ same
 
 -- what is found is in the list
-list_any-found : (p : ℕ → Bool) (ks : List ℕ) (n : ℕ) → find p ks ≡ Some n → list_any (eq_by_cmp nat_cmp n) ks ≡ true
+list_any-found : (p : ℕ → Bool) (ks : List ℕ) (n : ℕ) → find p ks ≡ Some n
+    → list_any (eq_by_cmp nat_cmp n) ks ≡ true
 list_any-found p [] n e = cc
 list_any-found p (k ∷ ks) n e = go (p k) e (list_any-found p ks n) where
-  go : (b : Bool) → cond b (Some k) (find p ks) ≡ Some n → (find p ks ≡ Some n → list_any (eq_by_cmp nat_cmp n) ks ≡ true) → list_any (eq_by_cmp nat_cmp n) (k ∷ ks) ≡ true
+  go : (b : Bool) → cond b (Some k) (find p ks) ≡ Some n
+      → (find p ks ≡ Some n → list_any (eq_by_cmp nat_cmp n) ks ≡ true)
+      → list_any (eq_by_cmp nat_cmp n) (k ∷ ks) ≡ true
   go true found rest = rw (tied k n (ap (λ o. unwrap_or o k) found)) refl
   go false found rest = rw (rest found) (or_true (eq_by_cmp nat_cmp n k))
 
-pub contains_key-cue_above : (cues : CueMap) (n found : ℕ) → cue_above cues n ≡ Some found → map.contains_key cues found ≡ true
-contains_key-cue_above cues n found e = contains_key-keys cues found ∙ list_any-found _ (map.keys cues) found e
+pub contains_key-cue_above : (cues : CueMap) (n found : ℕ) → cue_above cues n ≡ Some found
+    → map.contains_key cues found ≡ true
+contains_key-cue_above cues n found e = contains_key-keys cues found
+    ∙ list_any-found _ (map.keys cues) found e
 
-pub contains_key-cue_below : (cues : CueMap) (n found : ℕ) → cue_below cues n ≡ Some found → map.contains_key cues found ≡ true
+pub contains_key-cue_below : (cues : CueMap) (n found : ℕ) → cue_below cues n ≡ Some found
+    → map.contains_key cues found ≡ true
 contains_key-cue_below cues n found e =
-    contains_key-keys cues found ∙ sym (list_any-reverse _ (map.keys cues)) ∙ list_any-found _ (reverse (map.keys cues)) found e
+    contains_key-keys cues found ∙ sym (list_any-reverse _ (map.keys cues))
+    ∙ list_any-found _ (reverse (map.keys cues)) found e
 
 -- goto takes a cue that is there, so that it answers as the move that found it
-pub ok_or-goto_target : (cues : CueMap) (found : Option ℕ) (n : ℕ) (absent refused : NoMove) → map.contains_key cues n ≡ true → found ≡ Some n → ok_or (goto_target cues n) absent ≡ ok_or found refused
+pub ok_or-goto_target : (cues : CueMap) (found : Option ℕ) (n : ℕ) (absent refused : NoMove)
+    → map.contains_key cues n ≡ true → found ≡ Some n → ok_or (goto_target cues n) absent
+    ≡ ok_or found refused
 ok_or-goto_target cues found n absent refused there is = rw (there, is) refl

@@ -1,12 +1,14 @@
 -- The place in the cue list, as the moves that are due are made.
-use Rattle.std.proofs.Common.{◌≡◌, ℕ, ◌<◌, ◌≤◌, Bool, true, false, List, [], ◌∷◌, Option, Some, None, refl, sym, subst, ◌∙◌, arith}
+use Rattle.std.proofs.Common.{◌≡◌, ℕ, ◌<◌, ◌≤◌, Bool, true, false, List, [], ◌∷◌, Option, Some}
+use Rattle.std.proofs.Common.{None, refl, sym, subst, ◌∙◌, arith}
 use Rattle.std.specs.Prelude.{unwrap_or, option_map, IfSome}
 use Rattle.std.proofs.lemmas.Bool.Decides.{nat_tests}
 use Rattle.show_core.specs.Readers.{cue_above}
 use Rattle.show_core.specs.Tables.{Tables}
 use Rattle.playback_core.specs.declared.place.Place.{Place}
 use Rattle.playback_core.specs.Placed.{IsAt, cues_above}
-use Rattle.playback_core.specs.Played.{Move, current_after, cue_at, move_after, due, due_moment, with_due, moves_by, is_by}
+use Rattle.playback_core.specs.Played.{Move, current_after, cue_at, move_after, due, due_moment}
+use Rattle.playback_core.specs.Played.{with_due, moves_by, is_by}
 use Rattle.playback_core.proofs.Due.{count_above-found, with_due-due, with_due-none}
 
 abbrev pub move_to : ℕ → ℕ → Move

@@ -9,18 +9,24 @@ use Rattle.playback_core.specs.Played.{Move, go_target, back_target, goto_target
 use Rattle.playback_core.specs.Played.{current_after, with_due}
 
 -- of cues 1, 1.5 and 2, go takes each in turn and then none
-go_back_goto-go : (cues : CueMap) → map.keys cues ≡ 1000 ∷ 1500 ∷ 2000 ∷ [] → (go_target cues None ≡ Some 1000) × (go_target cues (Some 1000) ≡ Some 1500) × (go_target cues (Some 1500) ≡ Some 2000) × (go_target cues (Some 2000) ≡ None)
+go_back_goto-go : (cues : CueMap) → map.keys cues ≡ 1000 ∷ 1500 ∷ 2000 ∷ []
+    → (go_target cues None ≡ Some 1000) × (go_target cues (Some 1000) ≡ Some 1500)
+    × (go_target cues (Some 1500) ≡ Some 2000) × (go_target cues (Some 2000) ≡ None)
 go_back_goto-go cues keys = (rw keys refl, rw keys refl, rw keys refl, rw keys refl)
 
 -- back takes 1.5 after 2, and none after 1 or where none is current
-go_back_goto-back : (cues : CueMap) → map.keys cues ≡ 1000 ∷ 1500 ∷ 2000 ∷ [] → (back_target cues (Some 2000) ≡ Some 1500) × (back_target cues (Some 1000) ≡ None) × (back_target cues None ≡ None)
+go_back_goto-back : (cues : CueMap) → map.keys cues ≡ 1000 ∷ 1500 ∷ 2000 ∷ []
+    → (back_target cues (Some 2000) ≡ Some 1500) × (back_target cues (Some 1000) ≡ None)
+    × (back_target cues None ≡ None)
 go_back_goto-back cues keys = (rw keys refl, rw keys refl, refl)
 
 -- goto takes no cue between
-go_back_goto-goto : (cues : CueMap) → map.keys cues ≡ 1000 ∷ 1500 ∷ 2000 ∷ [] → goto_target cues 1750 ≡ None
+go_back_goto-goto : (cues : CueMap) → map.keys cues ≡ 1000 ∷ 1500 ∷ 2000 ∷ []
+    → goto_target cues 1750 ≡ None
 go_back_goto-goto cues keys = rw (contains_key-keys cues 1750, keys) refl
 
--- cue 1 brings channel 1 to full over five seconds; cue 2 brings channel 2 to full over two, and channel 1 out over four
+-- cue 1 brings channel 1 to full over five seconds; cue 2 brings channel 2 to full over two, and
+-- channel 1 out over four
 record TwoCues (show : Tables) : Type 0 where
   first : CueData
   second : CueData
@@ -41,21 +47,61 @@ first_at moment = record { cue = 1000; moment = moment }
 abbrev second_at : ℕ → Move
 second_at moment = record { cue = 2000; moment = moment }
 
-split_crossfade : (show : Tables) → TwoCues show → playback_level show (second_at 10000 ∷ first_at 0 ∷ []) 1 11000 ≡ 48769
+split_crossfade : (show : Tables) → TwoCues show
+    → playback_level show (second_at 10000 ∷ first_at 0 ∷ []) 1 11000 ≡ 48769
 unfolding split_fade
-split_crossfade show is = simp (is.is_first, is.is_second, is.first_lists_1, is.second_lists_no_1, is.first_up, is.first_down, is.second_up, is.second_down) refl
+split_crossfade show is = simp (
+  is.is_first,
+  is.is_second,
+  is.first_lists_1,
+  is.second_lists_no_1,
+  is.first_up,
+  is.first_down,
+  is.second_up,
+  is.second_down,
+) refl
 
-split_crossfade-2 : (show : Tables) → TwoCues show → playback_level show (second_at 10000 ∷ first_at 0 ∷ []) 2 11000 ≡ 32512
+split_crossfade-2 : (show : Tables) → TwoCues show
+    → playback_level show (second_at 10000 ∷ first_at 0 ∷ []) 2 11000 ≡ 32512
 unfolding split_fade
-split_crossfade-2 show is = simp (is.is_first, is.is_second, is.first_lists_no_2, is.second_lists_2, is.first_up, is.first_down, is.second_up, is.second_down) refl
+split_crossfade-2 show is = simp (
+  is.is_first,
+  is.is_second,
+  is.first_lists_no_2,
+  is.second_lists_2,
+  is.first_up,
+  is.first_down,
+  is.second_up,
+  is.second_down,
+) refl
 
-goto_mid_fade : (show : Tables) → TwoCues show → playback_level show (first_at 11000 ∷ second_at 10000 ∷ first_at 0 ∷ []) 1 12000 ≡ 52020
+goto_mid_fade : (show : Tables) → TwoCues show
+    → playback_level show (first_at 11000 ∷ second_at 10000 ∷ first_at 0 ∷ []) 1 12000 ≡ 52020
 unfolding split_fade
-goto_mid_fade show is = simp (is.is_first, is.is_second, is.first_lists_1, is.second_lists_no_1, is.first_up, is.first_down, is.second_up, is.second_down) refl
+goto_mid_fade show is = simp (
+  is.is_first,
+  is.is_second,
+  is.first_lists_1,
+  is.second_lists_no_1,
+  is.first_up,
+  is.first_down,
+  is.second_up,
+  is.second_down,
+) refl
 
-goto_mid_fade-2 : (show : Tables) → TwoCues show → playback_level show (first_at 11000 ∷ second_at 10000 ∷ first_at 0 ∷ []) 2 12000 ≡ 26010
+goto_mid_fade-2 : (show : Tables) → TwoCues show
+    → playback_level show (first_at 11000 ∷ second_at 10000 ∷ first_at 0 ∷ []) 2 12000 ≡ 26010
 unfolding split_fade
-goto_mid_fade-2 show is = simp (is.is_first, is.is_second, is.first_lists_no_2, is.second_lists_2, is.first_up, is.first_down, is.second_up, is.second_down) refl
+goto_mid_fade-2 show is = simp (
+  is.is_first,
+  is.is_second,
+  is.first_lists_no_2,
+  is.second_lists_2,
+  is.first_up,
+  is.first_down,
+  is.second_up,
+  is.second_down,
+) refl
 
 -- these two cues, and the first is followed so long after
 record Follows (show : Tables) (time : ℕ) : Type 0 where
@@ -63,16 +109,19 @@ record Follows (show : Tables) (time : ℕ) : Type 0 where
   keys : map.keys show.cues ≡ 1000 ∷ 2000 ∷ []
   first_follow : two.first.follow ≡ Some time
 
-follow_at_tick : (show : Tables) → Follows show 10000 → with_due show 11000 (first_at 0 ∷ []) ≡ second_at 10000 ∷ first_at 0 ∷ []
+follow_at_tick : (show : Tables) → Follows show 10000 →
+    with_due show 11000 (first_at 0 ∷ []) ≡ second_at 10000 ∷ first_at 0 ∷ []
 unfolding with_due
 follow_at_tick show is = simp (is.keys, is.two.is_first, is.first_follow) refl
 
-follow_at_tick-before : (show : Tables) → Follows show 10000 → with_due show 9999 (first_at 0 ∷ []) ≡ first_at 0 ∷ []
+follow_at_tick-before : (show : Tables) → Follows show 10000
+    → with_due show 9999 (first_at 0 ∷ []) ≡ first_at 0 ∷ []
 unfolding with_due
 follow_at_tick-before show is = simp (is.keys, is.two.is_first, is.first_follow) refl
 
 -- a go at the due moment comes after the due move
-follow_then_go : (show : Tables) → Follows show 10000 → go_target show.cues (current_after (with_due show 10000 (first_at 0 ∷ []))) ≡ None
+follow_then_go : (show : Tables) → Follows show 10000 →
+    go_target show.cues (current_after (with_due show 10000 (first_at 0 ∷ []))) ≡ None
 unfolding with_due
 follow_then_go show is = simp (is.keys, is.two.is_first, is.first_follow) refl
 
@@ -80,7 +129,10 @@ returned : List Move
 returned = first_at 5000 ∷ first_at 0 ∷ []
 
 -- a goto lets what was due before it fall
-follow_after_goto : (show : Tables) → Follows show 10000 → (with_due show 5000 (first_at 0 ∷ []) ≡ first_at 0 ∷ []) × (with_due show 10000 returned ≡ returned) × (with_due show 15000 returned ≡ second_at 15000 ∷ returned)
+follow_after_goto : (show : Tables) → Follows show 10000
+    → (with_due show 5000 (first_at 0 ∷ []) ≡ first_at 0 ∷ [])
+    × (with_due show 10000 returned ≡ returned)
+    × (with_due show 15000 returned ≡ second_at 15000 ∷ returned)
 unfolding returned with_due
 follow_after_goto show is = (
   simp (is.keys, is.two.is_first, is.first_follow) refl,
@@ -88,6 +140,7 @@ follow_after_goto show is = (
   simp (is.keys, is.two.is_first, is.first_follow) refl,
 )
 
-follow_zero : (show : Tables) → Follows show 0 → with_due show 0 (first_at 0 ∷ []) ≡ second_at 0 ∷ first_at 0 ∷ []
+follow_zero : (show : Tables) → Follows show 0 → with_due show 0 (first_at 0 ∷ [])
+    ≡ second_at 0 ∷ first_at 0 ∷ []
 unfolding with_due
 follow_zero show is = simp (is.keys, is.two.is_first, is.first_follow) refl

@@ -50,7 +50,8 @@ due show [] = None
 due show (move ∷ older) =
     move_after move.moment (cue_above show.cues move.cue) (cue_at show move.cue).follow
 
--- the moves and those that follow them by themselves up to a moment, each at its own moment; at most
+-- the moves and those that follow them by themselves up to a moment, each at its own moment; at
+-- most
 -- one for each number of this list
 abbrev pub followed : Tables → ℕ → List ℕ → List Move → List Move
 followed show moment [] moves = moves
@@ -58,7 +59,8 @@ followed show moment (_ ∷ others) moves =
     option_map_or (λ next. if nat_le next.moment moment
     then followed show moment others (next ∷ moves) else moves) (due show moves) moves
 
--- the moves and all that follow them by themselves up to a moment: each goes to a greater cue number,
+-- the moves and all that follow them by themselves up to a moment: each goes to a greater cue
+-- number,
 -- so there are at most as many as cues
 unfoldable pub with_due : Tables → ℕ → List Move → List Move
 with_due show moment moves = followed show moment (map.keys show.cues) moves

@@ -215,7 +215,8 @@ impl<F: Fader> Playback<F> {
         self.fader.level(channel)
     }
 
-    /// The level of each channel, 0 to 65025, at the latest moment given, channel 1 first, where the
+    /// The level of each channel, 0 to 65025, at the latest moment given, channel 1 first, where
+    /// the
     /// fader has them at hand.
     pub fn levels(&self) -> Option<&[u16]>
         ensures each_channel { IfSome result (λ levels. length levels.now ≡ 4096) }
@@ -229,7 +230,8 @@ impl<F: Fader> Playback<F> {
         self.fader.levels()
     }
 
-    /// The channels that may have another level at a later moment, as long as there is no move, where
+    /// The channels that may have another level at a later moment, as long as there is no move,
+    /// where
     /// the fader lists them. Where it does not, each may.
     pub fn moving(&self) -> Option<&[u16]>
         ensures in_range { IfSome result (λ moving.

@@ -1,10 +1,15 @@
 -- What the ten faults rule out, fault by fault.
-use Rattle.std.proofs.Common.{◌≡◌, ℕ, ◌+◌, ◌≤◌, nat_lt, Bool, true, false, not, cond, List, [], ◌∷◌, length, slice_index, refl, ap, arith}
+use Rattle.std.proofs.Common.{◌≡◌, ℕ, ◌+◌, ◌≤◌, nat_lt, Bool, true, false, not, cond, List, [], ◌∷◌}
+use Rattle.std.proofs.Common.{length, slice_index, refl, ap, arith}
 use Rattle.std.specs.Prelude.{◌==◌, ◌||◌, find, Option, Some, None}
 use Rattle.std.proofs.lemmas.Bool.Decides.{nat_tests}
 use Rattle.std.proofs.lemmas.Slice.Eq.{bytes_eq-Decides}
 use Rattle.byteorder.specs.Endian.{big_bytes}
-use Rattle.sacn_packet.specs.declared.unreadable.Unreadable.TheVariants.{Short, Preamble, Identifier, RootVector, Length, FramingVector, Priority, Universe, Dmp, Count}
+use Rattle.sacn_packet.specs.declared.unreadable.Unreadable.TheVariants.{Short, Preamble}
+use Rattle.sacn_packet.specs.declared.unreadable.Unreadable.TheVariants.{Identifier, RootVector}
+use Rattle.sacn_packet.specs.declared.unreadable.Unreadable.TheVariants.{Length, FramingVector}
+use Rattle.sacn_packet.specs.declared.unreadable.Unreadable.TheVariants.{Priority, Universe, Dmp}
+use Rattle.sacn_packet.specs.declared.unreadable.Unreadable.TheVariants.{Count}
 use Rattle.sacn_packet.specs.Wire.{bytes_at, packet_identifier}
 use Rattle.sacn_packet.specs.Reading.{number_at, flags_at, length_at}
 use Rattle.sacn_packet.specs.Faults.{differs_at, applies, fault_of}
@@ -36,14 +41,16 @@ or_false : (a b : Bool) → (a || b) ≡ false → (a ≡ false) × (b ≡ false
 or_false true b h = cc
 or_false false b h = (refl, h)
 
-cond_none : {X : Type 0} (b : Bool) (x : X) (r : Option X) → cond b (Some x) r ≡ None → (b ≡ false) × (r ≡ None)
+cond_none : {X : Type 0} (b : Bool) (x : X) (r : Option X) → cond b (Some x) r ≡ None → (b ≡ false)
+    × (r ≡ None)
 cond_none true x r h = cc
 cond_none false x r h = (refl, h)
 
 both_false : {a b : Bool} → a ≡ false → b ≡ false → (a || b) ≡ false
 both_false h k = rw (h, k)
 
-none_cond : {X : Type 0} (x : X) {b : Bool} {r : Option X} → b ≡ false → r ≡ None → cond b (Some x) r ≡ None
+none_cond : {X : Type 0} (x : X) {b : Bool} {r : Option X} → b ≡ false → r ≡ None
+    → cond b (Some x) r ≡ None
 none_cond x h k = rw (h, k)
 
 not_false : (b : Bool) → not b ≡ false → b ≡ true
@@ -70,24 +77,41 @@ fails_zero : (n : ℕ) → 1 ≤ n → (n == 0) ≡ false
 fails_zero n h = grind (arith, nat_tests)
 
 -- the test on bytes, both ways
-same_at : (d : List ℕ) (offset : ℕ) (bytes : List ℕ) → differs_at d offset bytes ≡ false → bytes_at d offset (length bytes) ≡ bytes
-same_at d offset bytes h = (bytes_eq-Decides (bytes_at d offset (length bytes)) bytes).0 (not_false _ h)
+same_at : (d : List ℕ) (offset : ℕ) (bytes : List ℕ) → differs_at d offset bytes ≡ false
+    → bytes_at d offset (length bytes) ≡ bytes
+same_at d offset bytes h = (bytes_eq-Decides (bytes_at d offset (length bytes)) bytes).0
+    (not_false _ h)
 
-at_same : (d : List ℕ) (offset : ℕ) (bytes : List ℕ) → bytes_at d offset (length bytes) ≡ bytes → differs_at d offset bytes ≡ false
+at_same : (d : List ℕ) (offset : ℕ) (bytes : List ℕ) → bytes_at d offset (length bytes) ≡ bytes
+    → differs_at d offset bytes ≡ false
 at_same d offset bytes h = ap not ((bytes_eq-Decides (bytes_at d offset (length bytes)) bytes).1 h)
 
 -- a datagram without a fault can be read
 pub readable_from_none : (d : List ℕ) → fault_of d ≡ None → IsReadable d
 readable_from_none d none =
-    let f1 : (applies d Short ≡ false) × (find (applies d) (Preamble ∷ Identifier ∷ RootVector ∷ Length ∷ FramingVector ∷ Priority ∷ Universe ∷ Dmp ∷ Count ∷ []) ≡ None) = cond_none _ _ _ none in
-    let f2 : (applies d Preamble ≡ false) × (find (applies d) (Identifier ∷ RootVector ∷ Length ∷ FramingVector ∷ Priority ∷ Universe ∷ Dmp ∷ Count ∷ []) ≡ None) = cond_none _ _ _ f1.1 in
-    let f3 : (applies d Identifier ≡ false) × (find (applies d) (RootVector ∷ Length ∷ FramingVector ∷ Priority ∷ Universe ∷ Dmp ∷ Count ∷ []) ≡ None) = cond_none _ _ _ f2.1 in
-    let f4 : (applies d RootVector ≡ false) × (find (applies d) (Length ∷ FramingVector ∷ Priority ∷ Universe ∷ Dmp ∷ Count ∷ []) ≡ None) = cond_none _ _ _ f3.1 in
-    let f5 : (applies d Length ≡ false) × (find (applies d) (FramingVector ∷ Priority ∷ Universe ∷ Dmp ∷ Count ∷ []) ≡ None) = cond_none _ _ _ f4.1 in
-    let f6 : (applies d FramingVector ≡ false) × (find (applies d) (Priority ∷ Universe ∷ Dmp ∷ Count ∷ []) ≡ None) = cond_none _ _ _ f5.1 in
-    let f7 : (applies d Priority ≡ false) × (find (applies d) (Universe ∷ Dmp ∷ Count ∷ []) ≡ None) = cond_none _ _ _ f6.1 in
-    let f8 : (applies d Universe ≡ false) × (find (applies d) (Dmp ∷ Count ∷ []) ≡ None) = cond_none _ _ _ f7.1 in
-    let f9 : (applies d Dmp ≡ false) × (find (applies d) (Count ∷ []) ≡ None) = cond_none _ _ _ f8.1 in
+    let f1 : (applies d Short ≡ false)
+    × (find (applies d) (Preamble ∷ Identifier ∷ RootVector ∷ Length ∷ FramingVector ∷ Priority
+    ∷ Universe ∷ Dmp ∷ Count ∷ []) ≡ None) = cond_none _ _ _ none in
+    let f2 : (applies d Preamble ≡ false)
+    × (find (applies d) (Identifier ∷ RootVector ∷ Length ∷ FramingVector ∷ Priority ∷ Universe
+    ∷ Dmp ∷ Count ∷ []) ≡ None) = cond_none _ _ _ f1.1 in
+    let f3 : (applies d Identifier ≡ false)
+    × (find (applies d) (RootVector ∷ Length ∷ FramingVector ∷ Priority ∷ Universe ∷ Dmp ∷ Count
+    ∷ []) ≡ None) = cond_none _ _ _ f2.1 in
+    let f4 : (applies d RootVector ≡ false)
+    × (find (applies d) (Length ∷ FramingVector ∷ Priority ∷ Universe ∷ Dmp ∷ Count ∷ []) ≡ None)
+    = cond_none _ _ _ f3.1 in
+    let f5 : (applies d Length ≡ false)
+    × (find (applies d) (FramingVector ∷ Priority ∷ Universe ∷ Dmp ∷ Count ∷ []) ≡ None) =
+    cond_none _ _ _ f4.1 in
+    let f6 : (applies d FramingVector ≡ false)
+    × (find (applies d) (Priority ∷ Universe ∷ Dmp ∷ Count ∷ []) ≡ None) = cond_none _ _ _ f5.1 in
+    let f7 : (applies d Priority ≡ false)
+    × (find (applies d) (Universe ∷ Dmp ∷ Count ∷ []) ≡ None) = cond_none _ _ _ f6.1 in
+    let f8 : (applies d Universe ≡ false) × (find (applies d) (Dmp ∷ Count ∷ []) ≡ None) =
+    cond_none _ _ _ f7.1 in
+    let f9 : (applies d Dmp ≡ false) × (find (applies d) (Count ∷ []) ≡ None) =
+    cond_none _ _ _ f8.1 in
     let f10 : (applies d Count ≡ false) × (find (applies d) [] ≡ None) = cond_none _ _ _ f9.1 in
     let l7 = or_false _ _ f5.0 in
     let l6 = or_false _ _ l7.0 in
@@ -132,7 +156,8 @@ none_from_readable d r =
     (both_false
     (both_false
     (both_false
-    (both_false (both_false (fails_ne _ _ r.root_flags) (fails_ne _ _ r.framing_flags)) (fails_ne _ _ r.dmp_flags))
+    (both_false (both_false (fails_ne _ _ r.root_flags) (fails_ne _ _ r.framing_flags))
+    (fails_ne _ _ r.dmp_flags))
     (fails_lt _ _ r.root_least))
     (fails_lt _ _ r.root_fits))
     (fails_ne _ _ r.framing_length))
@@ -141,4 +166,5 @@ none_from_readable d r =
     (none_cond _ (fails_lt _ _ r.priority)
     (none_cond _ (both_false (fails_zero _ r.universe_from_1) (fails_lt _ _ r.universe_to_63999))
     (none_cond _ (at_same d 117 (0x02 ∷ 0xa1 ∷ 0 ∷ 0 ∷ 0 ∷ 1 ∷ []) r.dmp)
-    (none_cond _ (both_false (both_false (fails_zero _ r.count_least) (fails_lt _ _ r.count_most)) (fails_ne _ _ r.count_sum)) refl)))))))))
+    (none_cond _ (both_false (both_false (fails_zero _ r.count_least) (fails_lt _ _ r.count_most))
+    (fails_ne _ _ r.count_sum)) refl)))))))))

@@ -1,9 +1,14 @@
 -- Why a datagram holds no data packet: ten faults, of which the first that applies is answered.
-use Rattle.std.specs.Prelude.{ℕ, ◌+◌, ◌==◌, nat_lt, slice_index, Bool, not, ◌||◌, List, [], ◌∷◌, length, find, Option}
+use Rattle.std.specs.Prelude.{ℕ, ◌+◌, ◌==◌, nat_lt, slice_index, Bool, not, ◌||◌, List, [], ◌∷◌}
+use Rattle.std.specs.Prelude.{length, find, Option}
 use Rattle.std.specs.Str.{bytes_eq}
 use Rattle.byteorder.specs.Endian.{big_bytes}
 use Rattle.sacn_packet.specs.declared.unreadable.Unreadable.{Unreadable}
-use Rattle.sacn_packet.specs.declared.unreadable.Unreadable.TheVariants.{Short, Preamble, Identifier, RootVector, Length, FramingVector, Priority, Universe, Dmp, Count}
+use Rattle.sacn_packet.specs.declared.unreadable.Unreadable.TheVariants.{Short, Preamble}
+use Rattle.sacn_packet.specs.declared.unreadable.Unreadable.TheVariants.{Identifier, RootVector}
+use Rattle.sacn_packet.specs.declared.unreadable.Unreadable.TheVariants.{Length, FramingVector}
+use Rattle.sacn_packet.specs.declared.unreadable.Unreadable.TheVariants.{Priority, Universe, Dmp}
+use Rattle.sacn_packet.specs.declared.unreadable.Unreadable.TheVariants.{Count}
 use Rattle.sacn_packet.specs.Wire.{bytes_at, packet_identifier}
 use Rattle.sacn_packet.specs.Reading.{number_at, flags_at, length_at}
 
@@ -15,7 +20,8 @@ differs_at datagram offset bytes = not (bytes_eq (bytes_at datagram offset (leng
 -- than the datagram, or the lengths of the two PDUs in it do not fit its own
 abbrev pub lengths_disagree : List ℕ → Bool
 lengths_disagree datagram =
-    not (flags_at datagram 16 == 7) || not (flags_at datagram 38 == 7) || not (flags_at datagram 115 == 7)
+    not (flags_at datagram 16 == 7) || not (flags_at datagram 38 == 7)
+    || not (flags_at datagram 115 == 7)
     || nat_lt (length_at datagram 16) 110 || nat_lt (length datagram) (16 + length_at datagram 16)
     || not (length_at datagram 38 + 22 == length_at datagram 16)
     || not (length_at datagram 115 + 99 == length_at datagram 16)
@@ -42,7 +48,8 @@ applies datagram Count = count_disagrees datagram
 -- the faults in their order
 abbrev pub all_faults : List Unreadable
 all_faults =
-    Short ∷ Preamble ∷ Identifier ∷ RootVector ∷ Length ∷ FramingVector ∷ Priority ∷ Universe ∷ Dmp ∷ Count ∷ []
+    Short ∷ Preamble ∷ Identifier ∷ RootVector ∷ Length ∷ FramingVector ∷ Priority ∷ Universe ∷ Dmp
+    ∷ Count ∷ []
 
 -- the first that applies
 abbrev pub fault_of : List ℕ → Option Unreadable

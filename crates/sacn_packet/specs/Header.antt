@@ -3,7 +3,8 @@ use Rattle.sacn_packet.specs.declared.writer.Header.{Header}
 use Rattle.sacn_packet.specs.Name.{padded}
 use Rattle.sacn_packet.specs.Wire.{Fields}
 
--- the fields of a source's own packet: levels for dimmers, not held back for a synchronization packet
+-- the fields of a source's own packet: levels for dimmers, not held back for a synchronization
+-- packet
 abbrev pub fields_of : Header → Fields
 fields_of header = record {
   cid = header.cid;

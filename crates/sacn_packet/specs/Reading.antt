@@ -31,6 +31,7 @@ packet_in p = record {
   slots = drop 126 p;
 }
 
--- the packet at the front of a datagram, if there is one: it ends where the root layer's length says
+-- the packet at the front of a datagram, if there is one: it ends where the root layer's length
+-- says
 abbrev pub front_packet : List ℕ → Packet
 front_packet datagram = packet_in (take (16 + length_at datagram 16) datagram)

@@ -69,14 +69,16 @@ impl<'a> DataPacket<'a> {
         number_at(self.bytes, 109)
     }
 
-    /// One more than that of the universe's packet before, modulo 256 (framing layer: sequence number).
+    /// One more than that of the universe's packet before, modulo 256 (framing layer: sequence
+    /// number).
     pub fn sequence(&self) -> u8
         ensures { result ≡ self.now.fields.sequence }
     {
         self.bytes[111]
     }
 
-    /// Bit 0x80 Preview_Data, 0x40 Stream_Terminated, 0x20 Force_Synchronization (framing layer: options).
+    /// Bit 0x80 Preview_Data, 0x40 Stream_Terminated, 0x20 Force_Synchronization (framing layer:
+    /// options).
     pub fn options(&self) -> u8
         ensures { result ≡ self.now.fields.options }
     {

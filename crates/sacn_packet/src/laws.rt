@@ -16,7 +16,8 @@ pub fn only_bytes()
 /// At most one prefix of a datagram is a packet, and it is one packet only.
 pub fn only_prefix()
     ensures { (datagram : List ℕ) (m n : ℕ) (one other : Packet) →
-        IsData (take m datagram) one.fields one.slots → IsData (take n datagram) other.fields other.slots →
+        IsData (take m datagram) one.fields one.slots →
+        IsData (take n datagram) other.fields other.slots →
         (take m datagram ≡ take n datagram) × (one ≡ other) }
 {}
 
@@ -29,7 +30,8 @@ pub fn front()
 /// What was written is read again, also with bytes behind it, and nothing else is.
 pub fn read_back()
     ensures { (bytes behind : List ℕ) (packet : Packet) → IsData bytes packet.fields packet.slots →
-        HasPacket (bytes ++ behind) packet × ((found : Packet) → HasPacket (bytes ++ behind) found → found ≡ packet) }
+        HasPacket (bytes ++ behind) packet
+        × ((found : Packet) → HasPacket (bytes ++ behind) found → found ≡ packet) }
 {}
 
 /// The field of a source name gives the name back.

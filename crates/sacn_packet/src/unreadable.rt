@@ -15,7 +15,8 @@ pub enum Unreadable {
     /// Another vector than VECTOR_ROOT_E131_DATA (root layer).
     #[error("RootVector")]
     RootVector,
-    /// PDU flags other than 7, or lengths that fit neither the datagram nor one another (all layers).
+    /// PDU flags other than 7, or lengths that fit neither the datagram nor one another (all
+    /// layers).
     #[error("Length")]
     Length,
     /// Another vector than VECTOR_E131_DATA_PACKET (framing layer).

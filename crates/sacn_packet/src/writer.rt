@@ -14,9 +14,11 @@ pub struct Header {
     pub name: SourceName,
     /// 0 to 200; of two sources of a universe the greater wins (framing layer: priority).
     pub priority: u8,
-    /// One more than that of the universe's packet before, modulo 256 (framing layer: sequence number).
+    /// One more than that of the universe's packet before, modulo 256 (framing layer: sequence
+    /// number).
     pub sequence: u8,
-    /// Bit 0x80 Preview_Data, 0x40 Stream_Terminated, 0x20 Force_Synchronization (framing layer: options).
+    /// Bit 0x80 Preview_Data, 0x40 Stream_Terminated, 0x20 Force_Synchronization (framing layer:
+    /// options).
     pub options: u8,
     /// 1 to 63999 (framing layer: universe).
     pub universe: u16,

@@ -32,7 +32,8 @@ abbrev pub NeverFall : List Arrival → Type 0
 NeverFall [] = Unit {0}
 NeverFall (a ∷ older) = (last_arrival older ≤ a.moment) × NeverFall older
 
--- why a datagram is not heard on a universe, whatever came before: there is no data packet in it, or
+-- why a datagram is not heard on a universe, whatever came before: there is no data packet in it,
+-- or
 -- one that is not meant for the universe's stage
 abbrev pub not_heard : ℕ → List ℕ → Option Ignored
 not_heard universe datagram =

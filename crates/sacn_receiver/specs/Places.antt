@@ -1,5 +1,6 @@
 -- Where a receiver keeps a new packet: in place of its CID's older one, of one that is gone, or
 -- behind all.
+-- Of use inside the crate: what its public calls answer is said without these.
 use Rattle.std.specs.Prelude.{◌≡◌, ℕ, ◌+◌, ◌<◌, ◌≤◌, true, false, not, ◌||◌, List, [], ◌∷◌, ◌++◌}
 use Rattle.std.specs.Prelude.{length, take, drop, filter, find, None}
 use Rattle.sacn_receiver.specs.Source.{Entry, same_cid, is_there}

@@ -1,4 +1,5 @@
 -- The records of a receiver, seen as entries of its history.
+-- Of use inside the crate: what its public calls answer is said without these.
 use Rattle.std.specs.Prelude.{ℕ, ◌==◌, Bool, not, ◌&&◌, if◌then◌else◌, List, map, filter}
 use Rattle.std.specs.Prelude.{slice_index}
 use Rattle.sacn_receiver.specs.declared.record.Record.{Record}

@@ -1,5 +1,17 @@
 //! A receiver of one E1.31 universe: which packets of its sources it accepts, and the levels that
 //! they make together.
+//!
+//! A [`Receiver`] is handed datagrams at rising moments, and answers that it took one, or the
+//! lowest reason for which it did not. Up to four sources are heard at once, each until 2.5 seconds
+//! of silence or its termination; the slots are the greatest of those of the highest priority.
+//!
+//! ```
+//! let mut receiver = Receiver::new(1);
+//! let taken = receiver.take(0, &datagram);
+//! let mut slots = [0; 512];
+//! receiver.slots(0, &mut slots);
+//! // `slots` are those of the datagram, until it is 2,500 ms old.
+//! ```
 #![tactic(auto)]
 
 mod answer;

@@ -36,7 +36,8 @@ module _ (us : List ℕ) (u : ℕ) (row : AreConsecutive us) where
       → position (λ v. v == u) us ≡ Some place
   there place within is = found us u place
       (prefix_len_is (λ v. not (v == u)) us place 0 (omega (arith, within))
-      (λ k before. other_is _ u (λ e. omega (arith, row k (omega (arith, within, before)), e, is, before)))
+      (λ k before. other_is _ u
+      (λ e. omega (arith, row k (omega (arith, within, before)), e, is, before)))
       (λ l. same_is _ u (let at = row place within in omega (arith, at, is))))
       within
 
@@ -44,5 +45,6 @@ module _ (us : List ℕ) (u : ℕ) (row : AreConsecutive us) where
       → position (λ v. v == u) us ≡ None
   not_there none = missed us u
       (prefix_len_is (λ v. not (v == u)) us (length us) 0 (omega arith)
-      (λ k before. other_is _ u (λ e. none k before (let at = row k before in omega (arith, at, e))))
+      (λ k before. other_is _ u
+      (λ e. none k before (let at = row k before in omega (arith, at, e))))
       (λ l. absurd (omega (arith, l))))

@@ -28,7 +28,8 @@ module _ {V : Type 0} where
   pub ordinals_rise : (es : List (ℕ × V)) → IsTrue (is_sorted nat_cmp es)
       → IsNonDecreasingBy (λ e. ordinal_of e.0) es
   ordinals_rise es sorted i j d le lt =
-      elim (nat_lt i j) as (λ b. nat_lt i j ≡ b → ordinal_of (get_or es i d).0 ≤ ordinal_of (get_or es j d).0) [
+      elim (nat_lt i j) as
+      (λ b. nat_lt i j ≡ b → ordinal_of (get_or es i d).0 ≤ ordinal_of (get_or es j d).0) [
         | true ↦ λ b.
             let less : i < j = grind (arith, nat_tests) in
             let below = below_of (get_or es i d).0 (get_or es j d).0
@@ -42,10 +43,12 @@ module _ {V : Type 0} where
   -- where the entries below this ordinal end, the next entry tells whether one has it
   module _ (es : List (ℕ × V)) (ordinal at : ℕ) (sorted : IsTrue (is_sorted nat_cmp es))
       (below : (k : ℕ) (d : ℕ × V) → 0 ≤ k → k < at → ordinal_of (get_or es k d).0 < ordinal) where
-    none_at : ((k : ℕ) (d : ℕ × V) → at ≤ k → k < length es → ordinal < ordinal_of (get_or es k d).0)
+    none_at : ((k : ℕ) (d : ℕ × V) → at ≤ k → k < length es
+        → ordinal < ordinal_of (get_or es k d).0)
         → list_any (λ e. ordinal_of e.0 == ordinal) es ≡ false
     none_at above = list_any_none (λ e. ordinal_of e.0 == ordinal) es (λ k d lt.
-        elim (nat_lt k at) as (λ b. nat_lt k at ≡ b → (ordinal_of (get_or es k d).0 == ordinal) ≡ false) [
+        elim (nat_lt k at) as (λ b. nat_lt k at ≡ b → (ordinal_of (get_or es k d).0 == ordinal)
+        ≡ false) [
           | true ↦ λ b. let less : k < at = grind (arith, nat_tests) in
               let under = below k d (omega arith) less in
               apart (ordinal_of (get_or es k d).0) ordinal (omega (arith, under))
@@ -62,7 +65,8 @@ module _ {V : Type 0} where
     pub decided : (d : ℕ × V) → at < length es → ordinal ≤ ordinal_of (get_or es at d).0
         → list_any (λ e. ordinal_of e.0 == ordinal) es ≡ (ordinal_of (get_or es at d).0 == ordinal)
     decided d lt from =
-        elim (ordinal_of (get_or es at d).0 == ordinal) as (λ b. (ordinal_of (get_or es at d).0 == ordinal) ≡ b
+        elim (ordinal_of (get_or es at d).0 == ordinal) as
+        (λ b. (ordinal_of (get_or es at d).0 == ordinal) ≡ b
         → list_any (λ e. ordinal_of e.0 == ordinal) es ≡ b) [
           | true ↦ λ is. list_any_at (λ e. ordinal_of e.0 == ordinal) es at d lt is
           | false ↦ λ is.

@@ -2,13 +2,16 @@ ghost use Rattle.std.specs.Prelude.{◌≡◌};
 ghost use Rattle.show_core.specs.declared.fault.BuildFault.TheVariants.{Memory};
 
 use std::alloc::AllocError;
+use thiserror::Error;
 
 /// Why a builder of a show refuses.
-#[derive(Clone, Copy, Debug, PartialEq, Eq)]
+#[derive(Clone, Copy, Debug, PartialEq, Eq, Error)]
 pub enum BuildFault {
     /// A number outside its range, or one cue too many.
+    #[error("a number outside its range, or one cue too many")]
     Limit,
     /// A growth was refused.
+    #[error("out of memory")]
     Memory,
 }
 

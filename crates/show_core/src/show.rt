@@ -310,7 +310,8 @@ impl Show {
         self.cues.before(n)
     }
 
-    /// The submasters that are there, each with its number, 1 to 100, and its levels. The entries of
+    /// The submasters that are there, each with its number, 1 to 100, and its levels. The entries
+    /// of
     /// a map are sorted, so the numbers strictly ascend.
     pub fn subs(&self) -> &[(u16, Levels)]
         ensures entries { result.now ≡ map.entries self.now.subs }

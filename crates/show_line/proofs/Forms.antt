@@ -1,15 +1,18 @@
 -- How large the numbers that words spell can be.
-use Rattle.std.proofs.Common.{◌≡◌, ℕ, suc, zero, ◌+◌, ◌*◌, ◌/◌, ◌^◌, ◌<◌, ◌≤◌, Bool, true, false, List, []}
+use Rattle.std.proofs.Common.{◌≡◌, ℕ, suc, zero, ◌+◌, ◌*◌, ◌/◌, ◌^◌, ◌<◌, ◌≤◌, Bool, true, false}
+use Rattle.std.proofs.Common.{List, []}
 use Rattle.std.proofs.Common.{◌∷◌}
 use Rattle.std.proofs.Common.{length, IsTrue, refl, subst, arith, rules, Option, Some, None}
-use Rattle.std.specs.Prelude.{nat_le, ◌&&◌, ◌==◌, IfSome, option_map, option_and_then, if◌then◌else◌}
+use Rattle.std.specs.Prelude.{nat_le, ◌&&◌, ◌==◌, IfSome, option_map, option_and_then}
+use Rattle.std.specs.Prelude.{if◌then◌else◌}
 use Rattle.std.specs.List.{list_all, list_any, before_first, after_first}
 use Rattle.std.specs.Char.{is_ascii_digit}
 use Rattle.std.specs.Str.Parse.{digits_value}
 use Rattle.std.proofs.Math.Nat.{mul-le-mul_right}
 use Rattle.std.proofs.lemmas.Bool.Decides.{nat_tests}
 use Rattle.std.proofs.lemmas.Str.Parse.{IsNumeralModel, numerals_by_value, digits_value_short}
-use Rattle.ascii_text.specs.Forms.{is_run, digits_of, whole_of, is_point, is_colon, units_of, fraction_of}
+use Rattle.ascii_text.specs.Forms.{is_run, digits_of, whole_of, is_point, is_colon, units_of}
+use Rattle.ascii_text.specs.Forms.{fraction_of}
 use Rattle.ascii_text.specs.Forms.{sum_of}
 use Rattle.ascii_text.specs.Forms.{scaled_of, cue_number_of, seconds_of, time_of}
 use Rattle.show_core.specs.Numbers.{is_cue_number, is_time}
@@ -51,7 +54,8 @@ own = numerals_by_value _ (search rules)
 run_is : (most : ℕ) (word : List ℕ) → is_run is_ascii_digit 1 most word ≡ true
     → (1 ≤ length word) × (length word ≤ most) × (digits_value 10 word < 10 ^ length word)
 run_is most word h =
-    let a = both (nat_le 1 (length word) && nat_le (length word) most) (list_all is_ascii_digit word) h in
+    let a = both (nat_le 1 (length word) && nat_le (length word) most)
+    (list_all is_ascii_digit word) h in
     let b = both (nat_le 1 (length word)) (nat_le (length word) most) a.0 in
     let value = digits_value_short own word (length word) a.1 (omega arith) in
     (le_from_test 1 (length word) b.0, le_from_test (length word) most b.1, value)
@@ -78,7 +82,8 @@ IsUpTo-whole_of : (max scale : ℕ) (word : List ℕ)
 IsUpTo-whole_of max scale word = of_number (digits_of 9 word)
   where
     of_number : (o : Option ℕ) → IsUpTo (max * scale)
-        (option_map (λ n. n * scale) (option_and_then (λ n. if nat_le n max then Some n else None) o))
+        (option_map (λ n. n * scale)
+        (option_and_then (λ n. if nat_le n max then Some n else None) o))
     of_number None = tt
     of_number (Some n) =
         IsUpTo-option_map (λ n. n * scale) (max * scale) n (nat_le n max)
@@ -98,12 +103,14 @@ module _
       IsUpTo-option_map (thousandths l) most d (is_run is_ascii_digit 1 places word)
       (λ e. let r = run_is places word e in small l d r.0 r.1 r.2)
 
-  IsUpTo-scaled_of : (max : ℕ) (word : List ℕ) → IsUpTo (max * 1000 + most) (scaled_of max places word)
+  IsUpTo-scaled_of : (max : ℕ) (word : List ℕ) → IsUpTo (max * 1000 + most)
+      (scaled_of max places word)
   IsUpTo-scaled_of max word =
       let before = before_first is_point word in
       let after = after_first is_point word in
       IsUpTo-if (max * 1000 + most) (list_any is_point word) _ _
-      (IsUpTo-sum_of (max * 1000) most (max * 1000 + most) (units_of max before) (fraction_of places after)
+      (IsUpTo-sum_of (max * 1000) most (max * 1000 + most) (units_of max before)
+      (fraction_of places after)
       (IsUpTo-units_of max before) (IsUpTo-fraction_of after) (omega arith))
       (IsUpTo-le (max * 1000) (max * 1000 + most) _ (IsUpTo-whole_of max 1000 word) (omega arith))
 
@@ -118,7 +125,8 @@ IsUpTo-time_of word =
     let before = before_first is_colon word in
     let after = after_first is_colon word in
     IsUpTo-if 5999990 (list_any is_colon word) _ _
-    (IsUpTo-sum_of 5940000 59990 5999990 (option_map (λ m. m * 60000) (whole_of 99 before)) (seconds_of after)
+    (IsUpTo-sum_of 5940000 59990 5999990 (option_map (λ m. m * 60000) (whole_of 99 before))
+    (seconds_of after)
     (IsUpTo-whole_of 99 60000 before) (IsUpTo-seconds_of after) (omega arith))
     (IsUpTo-scaled_of 2 990 two_places 5999 word)
 
@@ -128,14 +136,18 @@ time_small word t h =
     let le : t ≤ 5999990 = subst (IsUpTo 5999990) h (IsUpTo-time_of word) in
     grind (arith, nat_tests)
 
-not_zero : (k n : ℕ) → k ≤ 9999999 → (if k == 0 then None else Some k) ≡ Some n → IsTrue (is_cue_number n)
+not_zero : (k n : ℕ) → k ≤ 9999999 → (if k == 0 then None else Some k) ≡ Some n
+    → IsTrue (is_cue_number n)
 not_zero k n le e = grind (arith, nat_tests)
 
 -- what is spelt as a cue number is one
-pub cue_number_small : (word : List ℕ) (n : ℕ) → cue_number_of word ≡ Some n → IsTrue (is_cue_number n)
-cue_number_small word n h = of_scaled (scaled_of 9999 3 word) (IsUpTo-scaled_of 3 999 three_places 9999 word) h
+pub cue_number_small : (word : List ℕ) (n : ℕ) → cue_number_of word ≡ Some n
+    → IsTrue (is_cue_number n)
+cue_number_small word n h = of_scaled (scaled_of 9999 3 word)
+    (IsUpTo-scaled_of 3 999 three_places 9999 word) h
   where
     of_scaled : (o : Option ℕ) → IsUpTo 9999999 o
-        → option_and_then (λ k. if k == 0 then None else Some k) o ≡ Some n → IsTrue (is_cue_number n)
+        → option_and_then (λ k. if k == 0 then None else Some k) o ≡ Some n
+        → IsTrue (is_cue_number n)
     of_scaled None le e = cc
     of_scaled (Some k) le e = not_zero k n le e

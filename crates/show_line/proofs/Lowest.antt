@@ -28,7 +28,8 @@ lower_none (Some x) = refl
 -- a fault more, with others left: `all` is the lowest of those before, that one and the others
 pub lower_more : {all now : Option LineFault} (before here left : Option LineFault)
     → all ≡ lower before (lower here left) → now ≡ lower before here → all ≡ lower now left
-lower_more before here left e made = e ∙ sym (lower_assoc before here left) ∙ ap (λ o. lower o left) (sym made)
+lower_more before here left e made = e ∙ sym (lower_assoc before here left)
+    ∙ ap (λ o. lower o left) (sym made)
 
 -- the last fault, with none left
 pub lower_last : {all now left last : Option LineFault}
@@ -36,10 +37,11 @@ pub lower_last : {all now left last : Option LineFault}
 lower_last {now = now} e made none = e ∙ sym made ∙ sym (ap (lower now) none ∙ lower_none now)
 
 some_of_two : (x y : LineFault) → lower (Some x) (Some y) ≡ None → ⊥
-some_of_two x y = elim (nat_lt (rank_of y) (rank_of x)) as (λ b. (if b then Some y else Some x) ≡ None → ⊥) [
-  | true ↦ λ h. none-some y (sym h)
-  | false ↦ λ h. none-some x (sym h)
-]
+some_of_two x y = elim (nat_lt (rank_of y) (rank_of x)) as
+    (λ b. (if b then Some y else Some x) ≡ None → ⊥) [
+      | true ↦ λ h. none-some y (sym h)
+      | false ↦ λ h. none-some x (sym h)
+    ]
 
 -- where the lower of two is none, both are
 pub lower_both : (a b : Option LineFault) → lower a b ≡ None → (a ≡ None) × (b ≡ None)

@@ -30,7 +30,7 @@ use Rattle.show_line.specs.declared.statement.Statement.TheVariants.{Clears, Qui
 use Rattle.show_line.specs.declared.statement.Statement.TheVariants.{Skipped, Faulty}
 use Rattle.show_line.specs.Keywords.{named}
 use Rattle.show_line.specs.Faults.{lower, unless, number_fault, cue_fault, page_fault, time_fault}
-use Rattle.show_line.specs.Pairs.{desk, pair_fault, pairs_in, triple_fault, triples_in}
+use Rattle.show_line.specs.Pairs.{desk_limits, pair_fault, pairs_in, triple_fault, triples_in}
 use Rattle.show_line.specs.Said.{unless_faulty, is_page_1, record_said, cue_named, group_named}
 use Rattle.show_line.specs.Said.{sub_named}
 use Rattle.show_line.specs.Said.{patch_said}
@@ -53,24 +53,24 @@ can_patch-le : (dimmer channel : ℕ) → 1 ≤ dimmer → dimmer ≤ 8192 → c
 can_patch-le dimmer channel a b c = grind (arith, nat_tests)
 
 -- the channels of a CHAN line without a fault
-pub pairs_in_range : (words : List (List ℕ)) → pair_fault desk words ≡ None
+pub pairs_in_range : (words : List (List ℕ)) → pair_fault desk_limits words ≡ None
     → All IsPairInRange (pairs_in words)
 pairs_in_range [] h = All-nil IsPairInRange
 pairs_in_range (channel ∷ []) h = All-nil IsPairInRange
 pairs_in_range (channel ∷ level ∷ words) h =
-    let p = faultless_pair desk channel level words h in
+    let p = faultless_pair desk_limits channel level words h in
     let pair : ℕ × ℕ = (unwrap_or (number_of channel) 0, unwrap_or (level_of level) 0) in
     All-cons IsPairInRange pair (pairs_in words) (is_within-le 4096 _ p.0.above p.0.below)
     (pairs_in_range words p.1)
 
 -- the dimmers and channels of a PATCH line without a fault
-pub triples_in_range : (words : List (List ℕ)) → triple_fault desk words ≡ None
+pub triples_in_range : (words : List (List ℕ)) → triple_fault desk_limits words ≡ None
     → All IsTripleInRange (triples_in words)
 triples_in_range [] h = All-nil IsTripleInRange
 triples_in_range (channel ∷ []) h = All-nil IsTripleInRange
 triples_in_range (channel ∷ dimmer ∷ []) h = All-nil IsTripleInRange
 triples_in_range (channel ∷ dimmer ∷ level ∷ words) h =
-    let p = faultless_triple desk channel dimmer level words h in
+    let p = faultless_triple desk_limits channel dimmer level words h in
     All-cons IsTripleInRange (record {
       channel = unwrap_or (number_of channel) 0;
       dimmer = unwrap_or (number_of dimmer) 0;
@@ -127,14 +127,14 @@ group_in_range word h = let r = number_in_range 1 500 word h in is_within-le 500
 sub_in_range : (word : List ℕ) → number_fault 1 100 word ≡ None → IsRecordInRange (sub_named word)
 sub_in_range word h = let r = number_in_range 1 100 word h in is_within-le 100 _ r.above r.below
 
-IsSound-patch_said : (words : List (List ℕ)) → IsSound (patch_said desk words)
+IsSound-patch_said : (words : List (List ℕ)) → IsSound (patch_said desk_limits words)
 IsSound-patch_said [] = tt
 IsSound-patch_said (page ∷ words) =
-    let triples = unless_faulty (triple_fault desk words) (Patches (triples_in words)) in
+    let triples = unless_faulty (triple_fault desk_limits words) (Patches (triples_in words)) in
     IsSound-unless_faulty (page_fault (page ∷ words))
     (if is_page_1 (page ∷ words) then triples else Skipped)
     (λ _. IsSound-if (is_page_1 (page ∷ words)) triples Skipped
-    (IsSound-unless_faulty (triple_fault desk words) (Patches (triples_in words))
+    (IsSound-unless_faulty (triple_fault desk_limits words) (Patches (triples_in words))
     (triples_in_range words)) tt)
 
 time_in_range : (word : List ℕ) → time_fault word ≡ None
@@ -182,7 +182,7 @@ IsSound-owned_said (Some r) says h = h r
 
 -- the numbers of what a line says are in their ranges
 pub said_in_range : (owner : Option Record) (keyword : Keyword) (words : List (List ℕ))
-    → IsSound (said desk owner keyword words)
+    → IsSound (said desk_limits owner keyword words)
 said_in_range owner Clear words = IsSound-clear_said words
 said_in_range owner Ident words = IsSound-ident_said words
 said_in_range owner Cue words = IsSound-record_said cue_fault cue_named cue_in_range words
@@ -194,8 +194,8 @@ said_in_range owner Patch words = IsSound-patch_said words
 said_in_range owner EndData words = tt
 said_in_range owner Setting words = tt
 said_in_range owner Chan words =
-    IsSound-owned_said owner (levels_said desk words)
-    (λ r. IsSound-unless_faulty (pair_fault desk words) (Levels r (pairs_in words))
+    IsSound-owned_said owner (levels_said desk_limits words)
+    (λ r. IsSound-unless_faulty (pair_fault desk_limits words) (Levels r (pairs_in words))
     (pairs_in_range words))
 said_in_range owner Up words =
     IsSound-owned_said owner (cue_said (λ n. rate_said (Rises n) words)) (IsSound-rises words)

@@ -39,9 +39,11 @@ faultless_pair lim channel level words h =
 -- a triple without a fault, and the others
 pub faultless_triple : (lim : Limits) (channel dimmer level : List ℕ) (words : List (List ℕ))
     → triple_fault lim (channel ∷ dimmer ∷ level ∷ words) ≡ None
-    → IsNumberIn 0 lim.channels channel × IsNumberIn 1 lim.dimmers dimmer × (triple_fault lim words ≡ None)
+    → IsNumberIn 0 lim.channels channel × IsNumberIn 1 lim.dimmers dimmer
+    × (triple_fault lim words ≡ None)
 faultless_triple lim channel dimmer level words h =
     let p = lower_both _ (triple_fault lim words) h in
     let q = lower_both _ (level_fault level) p.0 in
-    let r = lower_both (number_fault 0 lim.channels channel) (number_fault 1 lim.dimmers dimmer) q.0 in
+    let r = lower_both (number_fault 0 lim.channels channel) (number_fault 1 lim.dimmers dimmer)
+    q.0 in
     (number_in_range 0 lim.channels channel r.0, number_in_range 1 lim.dimmers dimmer r.1, p.1)

@@ -1,5 +1,6 @@
 -- What a line says without a fault, it says under wider limits too.
-use Rattle.std.proofs.Common.{◌≡◌, ℕ, ◌≤◌, Bool, true, false, List, [], ◌∷◌, refl, sym, ap, arith, Option}
+use Rattle.std.proofs.Common.{◌≡◌, ℕ, ◌≤◌, Bool, true, false, List, [], ◌∷◌, refl, sym, ap, arith}
+use Rattle.std.proofs.Common.{Option}
 use Rattle.std.proofs.Common.{Some, None}
 use Rattle.std.specs.Prelude.{if◌then◌else◌}
 use Rattle.std.proofs.lemmas.Bool.Decides.{nat_tests}
@@ -9,7 +10,8 @@ use Rattle.ascii_text.specs.Forms.{number_of}
 use Rattle.show_line.specs.declared.fault.LineFault.{LineFault}
 use Rattle.show_line.specs.declared.fault.LineFault.TheVariants.{HalfPair, HalfTriple}
 use Rattle.show_line.specs.declared.keyword.Keyword.{Keyword}
-use Rattle.show_line.specs.declared.keyword.Keyword.TheVariants.{Clear, Ident, Cue, Group, Sub, Patch}
+use Rattle.show_line.specs.declared.keyword.Keyword.TheVariants.{Clear, Ident, Cue, Group, Sub}
+use Rattle.show_line.specs.declared.keyword.Keyword.TheVariants.{Patch}
 use Rattle.show_line.specs.declared.keyword.Keyword.TheVariants.{EndData, Setting, Chan, Up, Down}
 use Rattle.show_line.specs.declared.keyword.Keyword.TheVariants.{FollowOn, Remark, Maker, Unknown}
 use Rattle.show_line.specs.declared.statement.Record.{Record}
@@ -17,7 +19,8 @@ use Rattle.show_line.specs.declared.statement.Statement.{Statement}
 use Rattle.show_line.specs.declared.statement.Statement.TheVariants.{Levels, Patches, Skipped}
 use Rattle.show_line.specs.Faults.{range_fault, number_fault, level_fault, lower, page_fault}
 use Rattle.show_line.specs.Pairs.{Limits, pair_fault, pairs_in, triple_fault, triples_in}
-use Rattle.show_line.specs.Said.{unless_faulty, is_page_1, patch_said, levels_said, owned_said, said}
+use Rattle.show_line.specs.Said.{unless_faulty, is_page_1, patch_said, levels_said, owned_said}
+use Rattle.show_line.specs.Said.{said}
 use Rattle.show_line.specs.Sound.{IsFaultless}
 use Rattle.show_line.proofs.Lowest.{lower_both}
 
@@ -44,7 +47,8 @@ module _
     (more_channels : narrow.channels ≤ wide.channels)
     (more_dimmers : narrow.dimmers ≤ wide.dimmers) where
   -- the pairs of CHAN
-  pub pairs_wider : (words : List (List ℕ)) → pair_fault narrow words ≡ None → pair_fault wide words ≡ None
+  pub pairs_wider : (words : List (List ℕ)) → pair_fault narrow words ≡ None
+      → pair_fault wide words ≡ None
   pairs_wider [] h = refl
   pairs_wider (channel ∷ []) h =
       let of_channel = number_fault 1 narrow.channels channel in
@@ -52,7 +56,8 @@ module _
   pairs_wider (channel ∷ level ∷ words) h =
       let p = lower_both _ (pair_fault narrow words) h in
       let q = lower_both (number_fault 1 narrow.channels channel) (level_fault level) p.0 in
-      let wider = range_wider 1 narrow.channels wide.channels (number_of channel) more_channels q.0 in
+      let wider = range_wider 1 narrow.channels wide.channels (number_of channel) more_channels
+      q.0 in
       rw (wider, q.1) (pairs_wider words p.1)
 
   -- the triples of PATCH
@@ -65,14 +70,16 @@ module _
   triples_wider (channel ∷ dimmer ∷ []) h =
       let of_channel = number_fault 0 narrow.channels channel in
       let of_dimmer = number_fault 1 narrow.dimmers dimmer in
-      absurd (none-some HalfTriple (sym (lower_both (lower of_channel of_dimmer) (Some HalfTriple) h).1))
+      absurd (none-some HalfTriple
+      (sym (lower_both (lower of_channel of_dimmer) (Some HalfTriple) h).1))
   triples_wider (channel ∷ dimmer ∷ level ∷ words) h =
       let of_channel = number_fault 0 narrow.channels channel in
       let of_dimmer = number_fault 1 narrow.dimmers dimmer in
       let p = lower_both _ (triple_fault narrow words) h in
       let q = lower_both _ (level_fault level) p.0 in
       let r = lower_both of_channel of_dimmer q.0 in
-      let channels = range_wider 0 narrow.channels wide.channels (number_of channel) more_channels r.0 in
+      let channels = range_wider 0 narrow.channels wide.channels (number_of channel) more_channels
+      r.0 in
       let dimmers = range_wider 1 narrow.dimmers wide.dimmers (number_of dimmer) more_dimmers r.1 in
       rw (channels, dimmers, q.1) (triples_wider words p.1)
 
@@ -81,7 +88,8 @@ module _
   patch_wider [] fine = refl
   patch_wider (page ∷ words) fine =
       page_wider (page_fault (page ∷ words)) (is_page_1 (page ∷ words)) _ _
-      (unless_wider (triple_fault narrow words) (triple_fault wide words) (Patches (triples_in words))
+      (unless_wider (triple_fault narrow words) (triple_fault wide words)
+      (Patches (triples_in words))
       (triples_wider words)) fine
 
   chan_wider : (owner : Option Record) (words : List (List ℕ))

@@ -24,7 +24,10 @@ primary_keywords =
 abbrev pub secondary_keywords : List (List ℕ × Keyword)
 secondary_keywords =
     (codes "chan", Chan) ∷ (codes "down", Down) ∷ (codes "followon", FollowOn)
-    ∷ (codes "link", Remark) ∷ (codes "part", Remark) ∷ (codes "text", Remark) ∷ (codes "up", Up) ∷ []
+    ∷ (codes "link", Remark) ∷ (codes "part", Remark) ∷ (codes "text", Remark) ∷ (
+      codes "up",
+      Up,
+    ) ∷ []
 
 -- the value of the first entry that is this word
 abbrev pub named : {X : Type 0} → List (List ℕ × X) → List ℕ → Option X

@@ -12,8 +12,8 @@ pub record Limits : Type 0 where
   pub dimmers : ℕ
 
 -- the room of this desk: 4,096 channels and 8,192 dimmers
-abbrev pub desk : Limits
-desk = record { channels = 4096; dimmers = 8192 }
+abbrev pub desk_limits : Limits
+desk_limits = record { channels = 4096; dimmers = 8192 }
 
 -- the lowest fault of the words of CHAN: channel, level, channel, level ..
 abbrev pub pair_fault : Limits → List (List ℕ) → Option LineFault

@@ -27,7 +27,7 @@ use Rattle.show_line.specs.declared.statement.Statement.TheVariants.{Clears, Qui
 use Rattle.show_line.specs.Keywords.{named, keyword_of}
 use Rattle.show_line.specs.Faults.{lower, number_fault, cue_fault, page_fault, time_fault}
 use Rattle.show_line.specs.Faults.{delay_fault}
-pub use Rattle.show_line.specs.Pairs.{desk}
+pub use Rattle.show_line.specs.Pairs.{desk_limits}
 use Rattle.show_line.specs.Pairs.{Limits, pair_fault, pairs_in, triple_fault, triples_in}
 
 -- the statement, or the fault where there is one

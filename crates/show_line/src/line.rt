@@ -4,7 +4,7 @@ ghost use Rattle.ascii_text.specs.Text.{words_of};
 ghost use Rattle.show_line.specs.declared.statement.Record.{Record};
 ghost use Rattle.show_line.specs.Faults.{number_fault, cue_fault};
 ghost use Rattle.show_line.specs.Keywords.{named};
-ghost use Rattle.show_line.specs.Pairs.{desk};
+ghost use Rattle.show_line.specs.Pairs.{desk_limits};
 ghost use Rattle.show_line.specs.Said.{cleared_names, clear_said, ident_said, record_said, on_page};
 ghost use Rattle.show_line.specs.Said.{cue_named, group_named, sub_named, patch_said, owned_said};
 ghost use Rattle.show_line.specs.Said.{levels_said, cue_said, rate_said, rate_fault, rate_in};
@@ -31,7 +31,7 @@ pub struct Reading<'a> {
 /// the nearest line above whose keyword may own opened, if it opened one. `None` where the line has
 /// no words. The numbers of what it says are in the ranges of a show.
 pub fn read_line<'a>(owner: Option<Record>, line: &'a [u8]) -> Option<Reading<'a>>
-    ensures means { result ≡ reading_of desk owner (words_of line.now) }
+    ensures means { result ≡ reading_of desk_limits owner (words_of line.now) }
     ensures sound { IfSome result (λ reading. IsSound reading.statement) }
 {
     let mut words = Words::new(line);
@@ -44,7 +44,7 @@ pub fn read_line<'a>(owner: Option<Record>, line: &'a [u8]) -> Option<Reading<'a
 
 // What a line says that has this keyword, and these bytes behind it.
 fn statement<'a>(owner: Option<Record>, keyword: Keyword, operands: &'a [u8]) -> Statement<'a>
-    ensures { result ≡ said desk owner keyword (words_of operands.now) }
+    ensures { result ≡ said desk_limits owner keyword (words_of operands.now) }
 {
     match keyword {
         Keyword::Clear => clear_statement(operands),
@@ -156,7 +156,7 @@ fn on_page<'a>(named: Result<Record, LineFault>, mut words: Words<'a>) -> Statem
 }
 
 fn patch_statement<'a>(operands: &'a [u8]) -> Statement<'a>
-    ensures { result ≡ patch_said desk (words_of operands.now) }
+    ensures { result ≡ patch_said desk_limits (words_of operands.now) }
 {
     let mut words = Words::new(operands);
     let Some(page) = words.next() else {
@@ -173,7 +173,7 @@ fn patch_statement<'a>(operands: &'a [u8]) -> Statement<'a>
 }
 
 fn chan_statement<'a>(owner: Option<Record>, operands: &'a [u8]) -> Statement<'a>
-    ensures { result ≡ owned_said owner (levels_said desk (words_of operands.now)) }
+    ensures { result ≡ owned_said owner (levels_said desk_limits (words_of operands.now)) }
 {
     let Some(record) = owner else {
         return Statement::Skipped;

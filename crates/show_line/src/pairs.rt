@@ -3,7 +3,7 @@ ghost use Rattle.std.specs.Iterator.{YieldsFirst, item_count};
 ghost use Rattle.ascii_text.specs.LinesLeft.{words_left};
 ghost use Rattle.ascii_text.specs.Text.{words_of};
 ghost use Rattle.show_line.specs.Faults.{lower};
-ghost use Rattle.show_line.specs.Pairs.{desk, pair_fault, pairs_in};
+ghost use Rattle.show_line.specs.Pairs.{desk_limits, pair_fault, pairs_in};
 
 use crate::fault::{LineFault, level_fault, lower, number_fault, number_in};
 use arrayvec::ArrayVec;
@@ -29,23 +29,23 @@ pub struct Pairs<'a> {
 impl<'a> Model for Pairs<'a> {
     ghost use Rattle.std.specs.Prelude.{◌≡◌, ◌++◌, ℕ, List, None, drop};
     ghost use Rattle.ascii_text.specs.LinesLeft.{words_left};
-    ghost use Rattle.show_line.specs.Pairs.{desk, pair_fault, pairs_in};
+    ghost use Rattle.show_line.specs.Pairs.{desk_limits, pair_fault, pairs_in};
 
     ghost Value = { List (ℕ × ℕ) };
 
     ghost view = { λ pairs.
         drop pairs.given pairs.kept.items ++ pairs_in (words_left pairs.words) };
 
-    ghost invariant = { λ pairs. pair_fault desk (words_left pairs.words) ≡ None };
+    ghost invariant = { λ pairs. pair_fault desk_limits (words_left pairs.words) ≡ None };
 }
 
 impl<'a> Pairs<'a> {
     /// The pairs of the words behind CHAN, or the lowest fault of these.
     pub(crate) fn new(operands: &'a [u8]) -> Result<Pairs<'a>, LineFault>
         ensures { MatchResult result
-            (λ pairs. (pair_fault desk (words_of operands.now) ≡ None)
+            (λ pairs. (pair_fault desk_limits (words_of operands.now) ≡ None)
             × (pairs ≡ pairs_in (words_of operands.now)))
-            (λ fault. pair_fault desk (words_of operands.now) ≡ Some fault) }
+            (λ fault. pair_fault desk_limits (words_of operands.now) ≡ Some fault) }
     {
         let mut words = Words::new(operands);
         let mut kept = ArrayVec::new();
@@ -87,8 +87,8 @@ impl<'a> Iterator for Pairs<'a> {
 // words behind are left.
 fn keep_pairs(words: &mut Words<'_>, kept: &mut ArrayVec<(u16, u8), KEPT>) -> Option<LineFault>
     requires { kept.old.items ≡ [] }
-    ensures fault { pair_fault desk (words_left words.old)
-        ≡ lower result (pair_fault desk (words_left words.new)) }
+    ensures fault { pair_fault desk_limits (words_left words.old)
+        ≡ lower result (pair_fault desk_limits (words_left words.new)) }
     ensures pairs { result ≡ None
         → pairs_in (words_left words.old) ≡ kept.new.items ++ pairs_in (words_left words.new) }
 {
@@ -114,7 +114,7 @@ fn keep_pairs(words: &mut Words<'_>, kept: &mut ArrayVec<(u16, u8), KEPT>) -> Op
 
 // The lowest fault of the words of CHAN.
 fn pair_fault(mut words: Words<'_>) -> Option<LineFault>
-    ensures { result ≡ pair_fault desk (words_left words.entry) }
+    ensures { result ≡ pair_fault desk_limits (words_left words.entry) }
 {
     let mut lowest = None;
     while let Some(channel) = words.next() {

@@ -2,7 +2,7 @@ ghost use Rattle.std.specs.Prelude.{◌≡◌, MatchResult};
 ghost use Rattle.std.specs.Iterator.{YieldsFirst, item_count};
 ghost use Rattle.ascii_text.specs.LinesLeft.{words_left};
 ghost use Rattle.ascii_text.specs.Text.{words_of};
-ghost use Rattle.show_line.specs.Pairs.{desk, triple_fault, triples_in};
+ghost use Rattle.show_line.specs.Pairs.{desk_limits, triple_fault, triples_in};
 
 use crate::fault::{LineFault, level_fault, lower, number_fault};
 use ascii_text::{Words, level, number};
@@ -30,22 +30,22 @@ impl<'a> Model for Triples<'a> {
     ghost use Rattle.std.specs.Prelude.{◌≡◌, List, None};
     ghost use Rattle.ascii_text.specs.LinesLeft.{words_left};
     ghost use Rattle.show_line.specs.declared.triples.Triple.{Triple};
-    ghost use Rattle.show_line.specs.Pairs.{desk, triple_fault, triples_in};
+    ghost use Rattle.show_line.specs.Pairs.{desk_limits, triple_fault, triples_in};
 
     ghost Value = { List Triple };
 
     ghost view = { λ triples. triples_in (words_left triples.words) };
 
-    ghost invariant = { λ triples. triple_fault desk (words_left triples.words) ≡ None };
+    ghost invariant = { λ triples. triple_fault desk_limits (words_left triples.words) ≡ None };
 }
 
 impl<'a> Triples<'a> {
     /// The triples of the words behind PATCH and its page, or the lowest fault of these.
     pub(crate) fn new(operands: &'a [u8]) -> Result<Triples<'a>, LineFault>
         ensures { MatchResult result
-            (λ triples. (triple_fault desk (words_of operands.now) ≡ None)
+            (λ triples. (triple_fault desk_limits (words_of operands.now) ≡ None)
             × (triples ≡ triples_in (words_of operands.now)))
-            (λ fault. triple_fault desk (words_of operands.now) ≡ Some fault) }
+            (λ fault. triple_fault desk_limits (words_of operands.now) ≡ Some fault) }
     {
         match triple_fault(Words::new(operands)) {
             Some(fault) => Err(fault),
@@ -77,7 +77,7 @@ impl<'a> Iterator for Triples<'a> {
 
 // The lowest fault of the words behind the page.
 fn triple_fault(mut words: Words<'_>) -> Option<LineFault>
-    ensures { result ≡ triple_fault desk (words_left words.entry) }
+    ensures { result ≡ triple_fault desk_limits (words_left words.entry) }
 {
     let mut lowest = None;
     while let Some(channel) = words.next() {

@@ -28,7 +28,7 @@ use Rattle.show_line.specs.declared.statement.Statement.TheVariants.{Skipped, Fa
 use Rattle.show_line.specs.Keywords.{keyword_of, may_own, named}
 use Rattle.show_line.specs.Faults.{lower, cue_fault, number_fault, page_fault}
 use Rattle.show_line.specs.Pairs.{pair_fault, pairs_in, triple_fault, triples_in}
-use Rattle.show_line.specs.Said.{desk, said, opened, unless_faulty, record_said, patch_said}
+use Rattle.show_line.specs.Said.{desk_limits, said, opened, unless_faulty, record_said, patch_said}
 use Rattle.show_line.specs.Said.{rate_fault, rate_in, follow_fault, follow_in, ident_said}
 use Rattle.show_line.specs.Said.{clear_said, is_page_1, cue_named}
 use Rattle.show_line.specs.Said.{group_named, sub_named, cleared_names, reading_of}
@@ -74,14 +74,14 @@ module _ (owner : Option Record) (own : Bool) where
       (cond (is_page_1 words) (Opens (which n)) Skipped)
       (if_belongs (is_page_1 words) (Opens (which n)) Skipped tt tt)
 
-  patch_belongs : (words : Words) → Belongs owner own (patch_said desk words)
+  patch_belongs : (words : Words) → Belongs owner own (patch_said desk_limits words)
   patch_belongs [] = tt
   patch_belongs (page ∷ words) =
-      let patches = unless_faulty (triple_fault desk words) (Patches (triples_in words)) in
+      let patches = unless_faulty (triple_fault desk_limits words) (Patches (triples_in words)) in
       unless_belongs (page_fault (page ∷ words))
       (cond (is_page_1 (page ∷ words)) patches Skipped)
       (if_belongs (is_page_1 (page ∷ words)) patches Skipped
-      (unless_belongs (triple_fault desk words) (Patches (triples_in words)) tt) tt)
+      (unless_belongs (triple_fault desk_limits words) (Patches (triples_in words)) tt) tt)
 
   ident_belongs : (words : Words) → Belongs owner own (ident_said words)
   ident_belongs [] = tt
@@ -98,7 +98,7 @@ clear_belongs owner (what ∷ []) = go (named cleared_names what)
 clear_belongs owner (what ∷ w ∷ words) = tt
 
 said_belongs : (owner : Option Record) (keyword : Keyword) (words : Words)
-    → Belongs owner (may_own keyword) (said desk owner keyword words)
+    → Belongs owner (may_own keyword) (said desk_limits owner keyword words)
 said_belongs owner word.Clear words = clear_belongs owner words
 said_belongs owner word.Ident words = ident_belongs owner true words
 said_belongs owner word.Cue words = record_belongs owner true cue_fault cue_named words
@@ -107,7 +107,7 @@ said_belongs owner word.Group words =
 said_belongs owner word.Sub words = record_belongs owner true (number_fault 1 100) sub_named words
 said_belongs owner word.Patch words = patch_belongs owner true words
 said_belongs (Some r) word.Chan words =
-    unless_belongs (Some r) false (pair_fault desk words) (Levels r (pairs_in words)) refl
+    unless_belongs (Some r) false (pair_fault desk_limits words) (Levels r (pairs_in words)) refl
 said_belongs (Some (Cue n)) word.Up words =
     unless_belongs (Some (Cue n)) false (rate_fault words) (Rises n (rate_in words)) refl
 said_belongs (Some (Cue n)) word.Down words =
@@ -118,7 +118,7 @@ said_belongs None word.Remark words = tt
 said_belongs owner keyword words = tt
 
 line_belongs : (owner : Option Record) (l : Words)
-    → Belongs owner (owns l) (said_under desk owner l)
+    → Belongs owner (owns l) (said_under desk_limits owner l)
 line_belongs owner [] = tt
 line_belongs owner (w ∷ words) = said_belongs owner (keyword_of w) words
 
@@ -201,15 +201,15 @@ refused_is ss s show numbered h count = refl
 
 -- what was read of a line with words, in the words of its meaning
 pub record IsReading (owner : Option Record) (l : Words) (reading : Reading) : Type 0 where
-  pub statement : reading.statement ≡ said_under desk owner l
+  pub statement : reading.statement ≡ said_under desk_limits owner l
   pub owns : may_own reading.keyword ≡ owns l
 
 pub reading_is : (owner : Option Record) (l : Words) (reading : Reading)
-    → Some reading ≡ reading_of desk owner l → IsReading owner l reading
+    → Some reading ≡ reading_of desk_limits owner l → IsReading owner l reading
 reading_is owner [] reading e = absurd (none-some reading (sym e))
 reading_is owner (w ∷ words) reading e =
     let is : reading
-    ≡ record { keyword = keyword_of w; statement = said desk owner (keyword_of w) words }
+    ≡ record { keyword = keyword_of w; statement = said desk_limits owner (keyword_of w) words }
     = cc in
     record {
       statement = ap (λ (r : Reading). r.statement) is;
@@ -218,9 +218,9 @@ reading_is owner (w ∷ words) reading e =
 
 -- a line that says s
 module _ (lines : List Words) (l : Words) (r : Reader) (h : Reads lines r) (s : Statement)
-    (is : s ≡ said_under desk r.owner l) where
+    (is : s ≡ said_under desk_limits r.owner l) where
   more : said_by (l ∷ lines) ≡ s ∷ said_by lines
-  more = ap (λ t. t ∷ said_by lines) (ap (λ o. said_under desk o l) (sym h.owner) ∙ sym is)
+  more = ap (λ t. t ∷ said_by lines) (ap (λ o. said_under desk_limits o l) (sym h.owner) ∙ sym is)
 
   of_owner : Belongs r.owner (owns l) s
   of_owner = subst (Belongs r.owner (owns l)) (sym is) (line_belongs r.owner l)
@@ -255,7 +255,7 @@ module _ (lines : List Words) (l : Words) (r : Reader) (h : Reads lines r) (s : 
         faultless = fault_here sound ∙ ap (option_map (fault_at (r.lines + 1))) fine;
         owner =
             owner ∙ ap (λ t. cond (owns l) (opened t) r.owner) is
-            ∙ ap (owner_after desk l) h.owner;
+            ∙ ap (owner_after desk_limits l) h.owner;
         present =
             subst (λ t. IsHere t r'.owner) (sym show)
             (subst (IsHere (applied s r.show)) (sym owner)

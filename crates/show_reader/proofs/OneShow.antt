@@ -10,7 +10,7 @@ use Rattle.show_core.specs.declared.rate.Rate.{Rate}
 use Rattle.show_line.specs.declared.statement.Record.{Record}
 use Rattle.show_line.specs.declared.statement.Record.TheVariants.{Cue, Group, Sub}
 use Rattle.show_line.specs.declared.statement.Statement.{Statement}
-use Rattle.show_line.specs.Said.{desk}
+use Rattle.show_line.specs.Said.{desk_limits}
 use Rattle.show_reader.specs.Text.{statements_of}
 use Rattle.show_reader.specs.ItsShow.{OfItsShow}
 use Rattle.show_reader.specs.Keys.{Key, There, Level, Up, Down, Follow, Dimmer, has_record, found}
@@ -76,6 +76,6 @@ same_show ss s t a b =
 
 -- what holds of one show that a text means holds of each
 pub of_its_show : (text : List ℕ) (P : Tables → Type 0) (s : Tables)
-    → IsShowOf (statements_of desk text) s → P s → OfItsShow text P
+    → IsShowOf (statements_of desk_limits text) s → P s → OfItsShow text P
 of_its_show text P s is p =
-    ((s, is), λ t it. subst P (same_show (statements_of desk text) s t is it) p)
+    ((s, is), λ t it. subst P (same_show (statements_of desk_limits text) s t is it) p)

@@ -5,7 +5,7 @@ use Rattle.show_line.specs.declared.fault.LineFault.TheVariants as line_fault
 use Rattle.show_line.specs.declared.statement.Record.TheVariants.{Cue, Group}
 use Rattle.show_line.specs.declared.statement.Statement.{Statement}
 use Rattle.show_line.specs.declared.statement.Statement.TheVariants.{Opens}
-use Rattle.show_line.specs.Said.{desk}
+use Rattle.show_line.specs.Said.{desk_limits}
 use Rattle.show_reader.specs.declared.fault.ShowFault.{ShowFault}
 use Rattle.show_reader.specs.declared.fault.ShowFault.TheVariants.{Ident, MissingNumber, BadNumber}
 use Rattle.show_reader.specs.declared.fault.ShowFault.TheVariants.{BadLevel, BadTime, HalfPair}
@@ -25,20 +25,20 @@ carriage_text_of lines = flat_map (λ line. line ++ 13 ∷ 10 ∷ []) lines
 
 -- the fault of a text of one, two and three lines
 abbrev fault_1 : List ℕ → Option ShowFault
-fault_1 a = fault_of desk (text_of (a ∷ []))
+fault_1 a = fault_of desk_limits (text_of (a ∷ []))
 
 abbrev fault_2 : List ℕ → List ℕ → Option ShowFault
-fault_2 a b = fault_of desk (text_of (a ∷ b ∷ []))
+fault_2 a b = fault_of desk_limits (text_of (a ∷ b ∷ []))
 
 abbrev fault_3 : List ℕ → List ℕ → List ℕ → Option ShowFault
-fault_3 a b c = fault_of desk (text_of (a ∷ b ∷ c ∷ []))
+fault_3 a b c = fault_of desk_limits (text_of (a ∷ b ∷ c ∷ []))
 
 -- how many lines of such a text are skipped
 abbrev skipped_1 : List ℕ → ℕ
-skipped_1 a = lines_skipped desk (text_of (a ∷ []))
+skipped_1 a = lines_skipped desk_limits (text_of (a ∷ []))
 
 abbrev skipped_3 : List ℕ → List ℕ → List ℕ → ℕ
-skipped_3 a b c = lines_skipped desk (text_of (a ∷ b ∷ c ∷ []))
+skipped_3 a b c = lines_skipped desk_limits (text_of (a ∷ b ∷ c ∷ []))
 
 -- ---- faults
 
@@ -118,7 +118,7 @@ cue_again above n count there = rw (count, there) refl
 
 -- which of the lines above the first faulty one grow the show, the last one first
 abbrev growing : List (List ℕ) → List Bool
-growing lines = map grows (faultless_front (statements_of desk (text_of lines)))
+growing lines = map grows (faultless_front (statements_of desk_limits (text_of lines)))
 
 what_grows : (growing [] ≡ [])
     × (growing (codes "! c" ∷ codes "UP 5" ∷ codes "CHAN 1@FL" ∷ []) ≡ false ∷ false ∷ false ∷ [])
@@ -149,9 +149,10 @@ ownerless : (fault_3 (codes "CUE 1") (codes "IDENT 3:0") (codes "CHAN 1@x") ≡ 
 ownerless = (refl, refl, refl, refl, refl)
 
 -- ENDDATA ends a maker's record too, and lines without words are not counted in one
-makers_records : (lines_read desk (text_of (codes "$X" ∷ codes "ENDDATA" ∷ codes "CUE 1" ∷ [])) ≡ 2)
+makers_records : (lines_read desk_limits
+    (text_of (codes "$X" ∷ codes "ENDDATA" ∷ codes "CUE 1" ∷ [])) ≡ 2)
     × (skipped_3 (codes "$X") (codes "ENDDATA") (codes "CUE 1") ≡ 1)
-    × (lines_skipped desk (text_of (codes "$X" ∷ [] ∷ codes "! c" ∷ codes "CUE 1" ∷ [])) ≡ 1)
+    × (lines_skipped desk_limits (text_of (codes "$X" ∷ [] ∷ codes "! c" ∷ codes "CUE 1" ∷ [])) ≡ 1)
 makers_records = (refl, refl, refl)
 
 -- a page's value counts
@@ -166,15 +167,15 @@ skipping = text_of (
     ∷ codes "$MAKER 9" ∷ codes "CHAN 1@0" ∷ codes "CUE 2 2" ∷ codes "CHAN 3@FL" ∷ []
     )
 
-skipped_lines : (fault_of desk skipping ≡ None)
-    × (lines_read desk skipping ≡ 8)
-    × (lines_skipped desk skipping ≡ 5)
-    × (cue_count (statements_of desk skipping) ≡ 1)
-    × (is_there (Cue 1000) (statements_of desk skipping) ≡ true)
-    × (is_there (Cue 2000) (statements_of desk skipping) ≡ false)
-    × (meaning (statements_of desk skipping) (Level (Cue 1000) 1) ≡ Some 255)
-    × (meaning (statements_of desk skipping) (Level (Cue 1000) 2) ≡ Some 128)
-    × (meaning (statements_of desk skipping) (Level (Cue 1000) 3) ≡ None)
+skipped_lines : (fault_of desk_limits skipping ≡ None)
+    × (lines_read desk_limits skipping ≡ 8)
+    × (lines_skipped desk_limits skipping ≡ 5)
+    × (cue_count (statements_of desk_limits skipping) ≡ 1)
+    × (is_there (Cue 1000) (statements_of desk_limits skipping) ≡ true)
+    × (is_there (Cue 2000) (statements_of desk_limits skipping) ≡ false)
+    × (meaning (statements_of desk_limits skipping) (Level (Cue 1000) 1) ≡ Some 255)
+    × (meaning (statements_of desk_limits skipping) (Level (Cue 1000) 2) ≡ Some 128)
+    × (meaning (statements_of desk_limits skipping) (Level (Cue 1000) 3) ≡ None)
 skipped_lines = (refl, refl, refl, refl, refl, refl, refl, refl, refl)
 
 abbrev clearing : List ℕ
@@ -183,17 +184,17 @@ clearing = text_of (
     ∷ codes "CLEAR CUE 2" ∷ []
     )
 
-clear_cues : (fault_of desk clearing ≡ None)
-    × (lines_read desk clearing ≡ 6)
-    × (lines_skipped desk clearing ≡ 2)
-    × (cue_count (statements_of desk clearing) ≡ 1)
-    × (is_there (Cue 1000) (statements_of desk clearing) ≡ false)
-    × (is_there (Cue 2000) (statements_of desk clearing) ≡ true)
+clear_cues : (fault_of desk_limits clearing ≡ None)
+    × (lines_read desk_limits clearing ≡ 6)
+    × (lines_skipped desk_limits clearing ≡ 2)
+    × (cue_count (statements_of desk_limits clearing) ≡ 1)
+    × (is_there (Cue 1000) (statements_of desk_limits clearing) ≡ false)
+    × (is_there (Cue 2000) (statements_of desk_limits clearing) ≡ true)
 clear_cues = (refl, refl, refl, refl, refl, refl)
 
 -- CLEAR leaves what is in other tables
 abbrev cleared_cues : List Statement
-cleared_cues = statements_of desk (text_of (
+cleared_cues = statements_of desk_limits (text_of (
     codes "GROUP 1" ∷ codes "CHAN 1@FL" ∷ codes "CUE 1" ∷ codes "UP 5" ∷ codes "DOWN 4"
     ∷ codes "CHAN 1@FL" ∷ codes "PATCH 1 1<1@FL" ∷ codes "CLEAR CUE" ∷ []
     ))
@@ -218,11 +219,11 @@ console_text = carriage_text_of (
     )
 
 abbrev console_statements : List Statement
-console_statements = statements_of desk console_text
+console_statements = statements_of desk_limits console_text
 
-console_style_file : (fault_of desk console_text ≡ None)
-    × (lines_read desk console_text ≡ 12)
-    × (lines_skipped desk console_text ≡ 1)
+console_style_file : (fault_of desk_limits console_text ≡ None)
+    × (lines_read desk_limits console_text ≡ 12)
+    × (lines_skipped desk_limits console_text ≡ 1)
     × (is_there (Cue 1000) console_statements ≡ true)
     × (is_there (Cue 9000) console_statements ≡ false)
     × (meaning console_statements (Level (Cue 1000) 1) ≡ Some 255)
@@ -234,7 +235,7 @@ console_style_file : (fault_of desk console_text ≡ None)
 console_style_file = (refl, refl, refl, refl, refl, refl, refl, refl, refl, refl, refl)
 
 abbrev top_statements : List Statement
-top_statements = statements_of desk
+top_statements = statements_of desk_limits
     (text_of (codes "CUE 1" ∷ codes "CHAN 4096@FL" ∷ codes "PATCH 1 4096<8192@FL" ∷ []))
 
 top_channel : (meaning top_statements (Level (Cue 1000) 4096) ≡ Some 255)
@@ -243,12 +244,13 @@ top_channel = (refl, refl)
 
 -- channel 0 leaves a dimmer unpatched
 unpatched :
-    meaning (statements_of desk (text_of (codes "PATCH 1 1<1@FL 0<1@FL" ∷ []))) (Dimmer 1) ≡ None
+    meaning (statements_of desk_limits (text_of (codes "PATCH 1 1<1@FL 0<1@FL" ∷ []))) (Dimmer 1)
+    ≡ None
 unpatched = refl
 
 -- the last UP line wins whole; the lines of a cue that is opened twice count together
 abbrev twice_opened : List Statement
-twice_opened = statements_of desk (text_of (
+twice_opened = statements_of desk_limits (text_of (
     codes "CUE 1" ∷ codes "UP 5 3" ∷ codes "CHAN 1@FL" ∷ codes "UP 5" ∷ codes "GROUP 1"
     ∷ codes "CUE 1"
     ∷ codes "DOWN 4 1" ∷ codes "CHAN 7@HF" ∷ []
@@ -264,13 +266,13 @@ last_rates = (refl, refl, refl, refl, refl, refl)
 
 -- the last FOLLOWON line of a cue wins, and CLEAR takes it away
 abbrev followed : List Statement
-followed = statements_of desk (text_of (
+followed = statements_of desk_limits (text_of (
     codes "CUE 1" ∷ codes "FOLLOWON 10" ∷ codes "CUE 2" ∷ codes "FOLLOWON 3" ∷ codes "CUE 1"
     ∷ codes "FollowOn 1:30 x" ∷ codes "GROUP 1" ∷ codes "FOLLOWON 7" ∷ codes "CUE 3" ∷ []
     ))
 
 abbrev followed_no_more : List Statement
-followed_no_more = statements_of desk
+followed_no_more = statements_of desk_limits
     (text_of (codes "CUE 1" ∷ codes "FOLLOWON 10" ∷ codes "CLEAR CUES" ∷ codes "CUE 1" ∷ []))
 
 last_follow : (meaning followed (Follow 1000) ≡ Some 90000)

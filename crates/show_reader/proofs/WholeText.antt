@@ -14,7 +14,7 @@ use Rattle.ascii_text.specs.Text.{words_of, numbered_from}
 use Rattle.show_core.specs.declared.cue.CueData.{CueData}
 use Rattle.show_core.specs.Tables.{Tables}
 use Rattle.show_line.specs.declared.statement.Statement.{Statement}
-use Rattle.show_line.specs.Said.{desk}
+use Rattle.show_line.specs.Said.{desk_limits}
 use Rattle.show_reader.specs.declared.fault.ShowFault.{ShowFault}
 use Rattle.show_reader.specs.declared.fault.ShowFault.TheVariants as show_fault
 use Rattle.show_reader.specs.declared.read.Reader.{Reader}
@@ -100,7 +100,7 @@ fault_stays : (more lines : List Words) (f : ShowFault) → first_fault (said_by
     → first_fault (said_by (reverse_aux more lines)) ≡ Some f
 fault_stays [] lines f h = h
 fault_stays (m ∷ more) lines f h =
-    let here = fault_below (said_by lines) (statement_below desk lines m) in
+    let here = fault_below (said_by lines) (statement_below desk_limits lines m) in
     fault_stays more (m ∷ lines) f
     (ap (λ o. option_or o (option_map (fault_at (length (said_by lines) + 1)) here)) h)
 
@@ -113,7 +113,8 @@ front_stays P (m ∷ more) lines h =
     go (is_some (first_fault (said_by (m ∷ lines)))) (front_stays P more (m ∷ lines) h)
   where
     go : (b : Bool)
-        → All P (cond b [] (statement_below desk lines m ∷ []) ++ faultless_front (said_by lines))
+        → All P (cond b [] (statement_below desk_limits lines m ∷ [])
+        ++ faultless_front (said_by lines))
         → All P (faultless_front (said_by lines))
     go true all = all
     go false all = All-rest P _ _ _ refl all
@@ -135,17 +136,18 @@ module _ {text : List ℕ} {lines : List Words} {r : Reader} {number : ℕ} {byt
 
   -- its fault is the text's
   pub fault_found : (f : ShowFault) → nat_lt longest_text (length text) ≡ false
-      → first_fault (said_by (words_of bytes ∷ lines)) ≡ Some f → fault_of desk text ≡ Some f
+      → first_fault (said_by (words_of bytes ∷ lines)) ≡ Some f → fault_of desk_limits text ≡ Some f
   fault_found f short fault =
-      ap (λ b. cond b (Some show_fault.TooLong) (first_fault (statements_of desk text))) short
+      ap (λ b. cond b (Some show_fault.TooLong) (first_fault (statements_of desk_limits text)))
+      short
       ∙ ap (λ ms. first_fault (said_by ms)) next.all
       ∙ fault_stays below (words_of bytes ∷ lines) f fault
 
   -- where memory may run out at it, something grows
-  pub something_grows : MayLackMemory lines (words_of bytes) → NothingGrows desk text → ⊥
+  pub something_grows : MayLackMemory lines (words_of bytes) → NothingGrows desk_limits text → ⊥
   something_grows lacks nothing =
       let P : Statement → Type 0 = λ s. grows s ≡ false in
-      let s = statement_below desk lines (words_of bytes) in
+      let s = statement_below desk_limits lines (words_of bytes) in
       let front
       = front_stays P below (words_of bytes ∷ lines)
       (subst (λ ms. All P (faultless_front (said_by ms))) next.all nothing) in
@@ -158,10 +160,10 @@ module _ {text : List ℕ} {lines : List Words} {r : Reader} {number : ℕ} {byt
 
 -- the reader stands behind the whole text: what it answers
 pub record IsRead (text : List ℕ) (r : Reader) : Type 0 where
-  pub faultless : fault_of desk text ≡ None
-  pub show : IsShowOf (statements_of desk text) r.show
-  pub lines : r.lines ≡ lines_read desk text
-  pub skipped : r.skipped ≡ lines_skipped desk text
+  pub faultless : fault_of desk_limits text ≡ None
+  pub show : IsShowOf (statements_of desk_limits text) r.show
+  pub lines : r.lines ≡ lines_read desk_limits text
+  pub skipped : r.skipped ≡ lines_skipped desk_limits text
 
 -- a reader behind all lines answers for the text
 pub all_read : (text : List ℕ) (lines : List Words) (r : Reader)
@@ -169,7 +171,8 @@ pub all_read : (text : List ℕ) (lines : List Words) (r : Reader)
     → IsRead text r
 all_read text lines r short all h = record {
   faultless =
-      ap (λ b. cond b (Some show_fault.TooLong) (first_fault (statements_of desk text))) short
+      ap (λ b. cond b (Some show_fault.TooLong) (first_fault (statements_of desk_limits text)))
+      short
       ∙ ap (λ ls. first_fault (said_by ls)) all ∙ h.faultless;
   show = subst (λ ls. IsShowOf (said_by ls) r.show) (sym all) h.shows;
   lines = h.number ∙ ap (λ ls. length (said_by ls)) (sym all);

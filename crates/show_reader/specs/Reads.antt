@@ -1,9 +1,10 @@
 -- What a reader has made of the lines so far.
+-- Of use inside the crate: what its public calls answer is said without these.
 use Rattle.std.specs.Prelude.{◌≡◌, ◌⊎◌, ℕ, true, IsTrue, List, ◌∷◌, length, count_by, Some, None}
 use Rattle.std.specs.Prelude.{IfSome}
 use Rattle.std.specs.FinMap as maps
 use Rattle.show_line.specs.declared.statement.Statement.{Statement}
-use Rattle.show_line.specs.Said.{desk}
+use Rattle.show_line.specs.Said.{desk_limits}
 use Rattle.show_reader.specs.declared.read.Reader.{Reader}
 use Rattle.show_reader.specs.declared.fault.ShowFault.{ShowFault}
 use Rattle.show_reader.specs.declared.fault.ShowFault.TheVariants as show_fault
@@ -17,13 +18,13 @@ use Rattle.show_reader.specs.Reading.{fault_at, first_fault, grows}
 
 -- what lines say to this desk, the last line first
 abbrev pub said_by : List Words → List Statement
-said_by lines = statements desk lines
+said_by lines = statements desk_limits lines
 
 -- the reader stands behind these lines, of which none has a fault
 pub record Reads (lines : List Words) (r : Reader) : Type 0 where
   pub shows : IsShowOf (said_by lines) r.show
   pub faultless : first_fault (said_by lines) ≡ None
-  pub owner : r.owner ≡ owner_below desk lines
+  pub owner : r.owner ≡ owner_below desk_limits lines
   pub present : IfSome r.owner (λ q. IsTrue (has_record r.show q))
   pub count : cue_count (said_by lines) ≡ maps.len r.show.cues
   pub number : r.lines ≡ length (said_by lines)
@@ -32,7 +33,7 @@ pub record Reads (lines : List Words) (r : Reader) : Type 0 where
 -- memory may run out at a line below these: none has a fault, and it grows the show
 pub record MayLackMemory (lines : List Words) (l : Words) : Type 0 where
   pub faultless : first_fault (said_by (l ∷ lines)) ≡ None
-  pub grows : grows (statement_below desk lines l) ≡ true
+  pub grows : grows (statement_below desk_limits lines l) ≡ true
 
 -- why reading ended at the line below these: its fault, or want of memory
 abbrev pub EndsAt : List Words → Words → ShowFault → Type 0

@@ -1,7 +1,7 @@
 ghost use Rattle.std.specs.Prelude.{◌≡◌, ◌⊎◌, ◌+◌, ◌≤◌, ◌<◌, ◌^◌, List, ◌∷◌, length};
 ghost use Rattle.std.specs.Prelude.{IfOk, IfErr, OnOk, None, Some};
 ghost use Rattle.ascii_text.specs.Text.{words_of};
-ghost use Rattle.show_line.specs.Said.{desk};
+ghost use Rattle.show_line.specs.Said.{desk_limits};
 ghost use Rattle.show_reader.specs.declared.fault.ShowFault.TheVariants as show_fault;
 ghost use Rattle.show_reader.specs.Text.{Words, ends, statements_of};
 ghost use Rattle.show_reader.specs.Meaning.{is_skipped};
@@ -121,14 +121,15 @@ impl Reader {
 /// but a text of which no line above its first faulty one opens a record, lists a channel or
 /// patches a dimmer is never answered so; that a reading at ample memory ends well is tested.
 pub fn read_show(alloc: Global, text: &[u8]) -> Result<Loaded, ShowFault>
-    ensures faultless { OnOk result (fault_of desk text.now ≡ None) }
-    ensures show { IfOk result (λ loaded. IsShowOf (statements_of desk text.now) loaded.show) }
-    ensures lines { IfOk result (λ loaded. loaded.lines ≡ lines_read desk text.now) }
-    ensures skipped { IfOk result (λ loaded. loaded.skipped ≡ lines_skipped desk text.now) }
+    ensures faultless { OnOk result (fault_of desk_limits text.now ≡ None) }
+    ensures show { IfOk result (λ loaded.
+        IsShowOf (statements_of desk_limits text.now) loaded.show) }
+    ensures lines { IfOk result (λ loaded. loaded.lines ≡ lines_read desk_limits text.now) }
+    ensures skipped { IfOk result (λ loaded. loaded.skipped ≡ lines_skipped desk_limits text.now) }
     ensures fault { IfErr result
-        (λ fault. (fault ≡ show_fault.Memory) ⊎ (fault_of desk text.now ≡ Some fault)) }
-    ensures sure { NothingGrows desk text.now
-        → IfErr result (λ fault. fault_of desk text.now ≡ Some fault) }
+        (λ fault. (fault ≡ show_fault.Memory) ⊎ (fault_of desk_limits text.now ≡ Some fault)) }
+    ensures sure { NothingGrows desk_limits text.now
+        → IfErr result (λ fault. fault_of desk_limits text.now ≡ Some fault) }
     ensures too_long { 1048576 < length text.now → result ≡ Err show_fault.TooLong }
 {
     if text.len() > LONGEST_TEXT {

@@ -126,7 +126,8 @@ alone (suc j) l f = omega (arith, l)
 hears : HearsOne w 0 0 (done w with_deliveries)
 hears = record {
   alone = λ j l f. absurd (alone j l f);
-  no_stray = simp (no_move, after_first, cues, numbers, frame_1000, frame_2000) (tt, (tt, (tt, (tt, (tt, (tt, tt))))));
+  no_stray = simp (no_move, after_first, cues, numbers, frame_1000, frame_2000)
+      (tt, (tt, (tt, (tt, (tt, (tt, tt))))));
   window = simp (no_move, after_first, cues, numbers, frame_1000, frame_2000)
       (omega arith, omega arith, (omega arith, omega arith, tt));
 }

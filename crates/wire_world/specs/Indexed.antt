@@ -1,4 +1,5 @@
 -- Where the packets of each universe stand among all.
+-- Of use inside the crate: what its public calls answer is said without these.
 use Rattle.std.specs.Prelude.{◌≡◌, ℕ, suc, ◌==◌, List, [], ◌∷◌, find, if◌then◌else◌}
 use Rattle.std.specs.Option.{option_map_or}
 use Rattle.wire_world.specs.declared.row.Row.{Row}

@@ -1,4 +1,5 @@
 -- What the consoles and receivers of a rehearsal keep, against the events so far.
+-- Of use inside the crate: what its public calls answer is said without these.
 use Rattle.console.specs.Streams.{Production}
 use Rattle.show_core.specs.Tables.{Tables}
 use Rattle.wire_laws.specs.declared.setup.Setup.{Setup}

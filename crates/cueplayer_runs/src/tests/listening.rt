@@ -114,6 +114,7 @@ fn every_reply(rt: HostRuntime) {
     let (answer, out) = end(rt.alloc(), datagrams.as_slice(), 8, (0, 0), (0, 0));
     assert_eq!(rt; answer, Ok(()));
     let text =
-        b"1 taken 255 terminated\n2 ignored Preview\n3 ignored AltStart\n4 ignored OtherUniverse\n5 taken 0\n6 taken 0\n7 taken 0\n8 ignored SourcesFull\nslots 1:64\n";
+        b"1 taken 255 terminated\n2 ignored Preview\n3 ignored AltStart\n4 ignored OtherUniverse\n\
+            5 taken 0\n6 taken 0\n7 taken 0\n8 ignored SourcesFull\nslots 1:64\n";
     assert!(rt; out.bytes.as_slice() == text.as_slice());
 }

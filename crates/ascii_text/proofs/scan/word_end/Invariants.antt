@@ -6,7 +6,8 @@ use Rattle.ascii_text.proofs.scan.word_end.Given as goal
 abbrev pub invariant-loop-end : goal.invariant-loop-end
 invariant-loop-end l = record {
   within : l.end ≤ length l.bytes;
-  passed : l.end + position_or_len is_word_end (drop l.end l.bytes) ≡ position_or_len is_word_end l.bytes;
+  passed : l.end + position_or_len is_word_end (drop l.end l.bytes) ≡ position_or_len is_word_end
+      l.bytes;
 }
 
 abbrev pub decreases-loop-end : goal.decreases-loop-end

@@ -11,7 +11,8 @@ invariant-loop-i g l = record {
   told : g.L.Link.tells l.link → g.L.Link.tells l.fn.link;
   count : length l.offers ≡ l.i;
   so_far : (p : Production) (older : List Act) (ticks : ℕ)
-      → HasTicked g.F.Fader.stands_for p l.desk l.fn.sender older l.moment → ended older ≡ Some ticks
+      → HasTicked g.F.Fader.stands_for p l.desk l.fn.sender older l.moment
+      → ended older ≡ Some ticks
       → IsPartway p l.sender older l.moment l.i (g.L.Link.tells l.link) l.offers
       (g.L.Link.offered l.fn.link) (g.L.Link.offered l.link);
 }

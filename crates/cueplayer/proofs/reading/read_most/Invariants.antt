@@ -7,7 +7,8 @@ abbrev pub invariant-loop-block : goal.invariant-loop-block
 invariant-loop-block g l = record {
   within : length l.bytes.items ≤ l.most;
   same : l.most ≡ l.fn.most;
-  first : Consumes (g.R.Read.remaining l.initial.reader) (g.R.Read.remaining l.reader) l.bytes.items;
+  first : Consumes (g.R.Read.remaining l.initial.reader) (g.R.Read.remaining l.reader)
+      l.bytes.items;
 }
 
 abbrev pub decreases-loop-block : goal.decreases-loop-block

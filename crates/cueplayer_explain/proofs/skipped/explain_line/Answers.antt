@@ -1,7 +1,7 @@
 use Rattle.std.proofs.Common.{◌≡◌, ◌∙◌, ◌++◌, List, ℕ, true, false, Some, sym, ap}
 use Rattle.std.proofs.lemmas.List.{append-nil}
 use Rattle.ascii_text.specs.Text.{words_of}
-use Rattle.show_line.specs.Said.{desk, reading_of}
+use Rattle.show_line.specs.Said.{desk_limits, reading_of}
 use Rattle.cueplayer_explain.specs.Headings.{owner_of}
 use Rattle.cueplayer_explain.specs.Reasons.{reason_of}
 use Rattle.cueplayer_explain.specs.Skipped.{skipped_line}
@@ -16,8 +16,8 @@ returns-then-may_own-clause-text c = λ lines heads numbered.
     let bytes : List ℕ = c.args.line.bytes.now in
     let l = words_of bytes in
     let reading = c.in-Some.reading in
-    let read : Some reading ≡ reading_of desk (owner_of c.args.above) l =
-    c.in-Some.ensures.means ∙ ap (λ o. reading_of desk o l) c.owner.ensures in
+    let read : Some reading ≡ reading_of desk_limits (owner_of c.args.above) l =
+    c.in-Some.ensures.means ∙ ap (λ o. reading_of desk_limits o l) c.owner.ensures in
     let here = explained_here lines bytes c.args.above heads reading read c.args.line.number in
     elim c.if-is_skipped.branch [
       | then-is_skipped+in_ok-push_skipped w ↦
@@ -39,8 +39,8 @@ returns-else-may_own-clause-text c = λ lines heads numbered.
     let bytes : List ℕ = c.args.line.bytes.now in
     let l = words_of bytes in
     let reading = c.in-Some.reading in
-    let read : Some reading ≡ reading_of desk (owner_of c.args.above) l =
-    c.in-Some.ensures.means ∙ ap (λ o. reading_of desk o l) c.owner.ensures in
+    let read : Some reading ≡ reading_of desk_limits (owner_of c.args.above) l =
+    c.in-Some.ensures.means ∙ ap (λ o. reading_of desk_limits o l) c.owner.ensures in
     let here = explained_here lines bytes c.args.above heads reading read c.args.line.number in
     elim c.if-is_skipped.branch [
       | then-is_skipped+in_ok-push_skipped w ↦

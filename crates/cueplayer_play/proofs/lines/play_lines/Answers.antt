@@ -1,9 +1,11 @@
-use Rattle.std.proofs.Common.{◌≡◌, ◌∙◌, ◌∷◌, ◌++◌, [], ℕ, List, take, refl, sym, ap, subst, inl, inr, arith}
+use Rattle.std.proofs.Common.{◌≡◌, ◌∙◌, ◌∷◌, ◌++◌, [], ℕ, List, take, refl, sym, ap, subst, inl}
+use Rattle.std.proofs.Common.{inr, arith}
 use Rattle.std.proofs.lemmas.Result.{err_from_is_err_and}
 use Rattle.cueplayer_play.specs.Lines.{AreFine, Cut, closed, cut_of, with_byte}
 use Rattle.cueplayer_play.specs.Run.{Emitted, Ran, emitted}
 use Rattle.cueplayer_play.specs.Stage.{StandsFor}
-use Rattle.cueplayer_play.proofs.Playing.{behind, closed_with, ends_of, ends_one, joined_is, read_end, read_more}
+use Rattle.cueplayer_play.proofs.Playing.{behind, closed_with, ends_of, ends_one, joined_is}
+use Rattle.cueplayer_play.proofs.Playing.{read_end, read_more}
 use Rattle.cueplayer_play.proofs.Running.{fine_none, ran_none, with_more-nil}
 use Rattle.cueplayer_play.proofs.lines.play_lines.Goals as goal
 
@@ -22,7 +24,8 @@ loop-stage-init g c = record {
       fine = fine_none;
       short = omega arith;
     },
-    λ p s tells_link tells_out. ran_none p (emitted (g.L.Link.offered c.args.link.now) (g.W.Output.tape c.args.out.now)),
+    λ p s tells_link tells_out. ran_none p
+        (emitted (g.L.Link.offered c.args.link.now) (g.W.Output.tape c.args.out.now)),
   );
 }
 
@@ -48,13 +51,17 @@ loop-stage-preserved g c =
       told_output = λ t. so_far.told_output (next.told_output t);
       so_far = (
         run.0 ++ chunk,
-        λ t. read_more (g.R.Feed.tape c.args.input.now) (g.R.Feed.tape c.loop-stage.input) (g.R.Feed.tape c.read.new.self)
+        λ t. read_more (g.R.Feed.tape c.args.input.now) (g.R.Feed.tape c.loop-stage.input)
+            (g.R.Feed.tape c.read.new.self)
             run.0 chunk (c.in_ok-count.ensures.ok t) (run.1 (c.in_ok-count.ensures.told t)),
-        λ p s. subst (λ (x : Cut). StandsFor g.F.Fader.stands_for p c.take_bytes.new.self x) (joined_is run.0 chunk)
+        λ p s. subst (λ (x : Cut). StandsFor g.F.Fader.stands_for p c.take_bytes.new.self x)
+            (joined_is run.0 chunk)
             (next.stands p (cut_of run.0) (run.2 p s)),
         λ p s tells_link tells_out.
-            subst (λ (x : Cut). Ran p x.lines (emitted (g.L.Link.offered c.args.link.now) (g.W.Output.tape c.args.out.now))
-            (emitted (g.L.Link.offered c.take_bytes.new.link) (g.W.Output.tape c.take_bytes.new.out)) c.take_bytes.new.self.lost)
+            subst (λ (x : Cut). Ran p x.lines
+            (emitted (g.L.Link.offered c.args.link.now) (g.W.Output.tape c.args.out.now))
+            (emitted (g.L.Link.offered c.take_bytes.new.link)
+            (g.W.Output.tape c.take_bytes.new.out)) c.take_bytes.new.self.lost)
             (joined_is run.0 chunk)
             (next.ran p (cut_of run.0) _ (run.2 p s) tells_link tells_out
             (run.3 p s (next.told_link tells_link) (next.told_output tells_out))),
@@ -63,16 +70,20 @@ loop-stage-preserved g c =
 
 pub returns-in_err-take_bytes-clause-ends : goal.returns-in_err-take_bytes-clause-ends
 returns-in_err-take_bytes-clause-ends g c =
-    let q = err_from_is_err_and c.from_residual-in_err-take_bytes.result c.from_residual-in_err-take_bytes.ensures.1 in
+    let q = err_from_is_err_and c.from_residual-in_err-take_bytes.result
+    c.from_residual-in_err-take_bytes.ensures.1 in
     rw (q.1, q.2) (λ p s tells_in tells_link tells_out.
     let run = c.loop-stage.invariant.so_far in
     let chunk : List ℕ = take c.in_ok-count.count c.read.new.buf in
     let next = c.in_err-take_bytes.ensures in
-    let before : Emitted = emitted (g.L.Link.offered c.args.link.now) (g.W.Output.tape c.args.out.now) in
+    let before : Emitted = emitted (g.L.Link.offered c.args.link.now)
+    (g.W.Output.tape c.args.out.now) in
     inr (ends_of c.in_err-take_bytes.field-0.0 p (g.R.Feed.ended c.read.new.self)
-    (g.R.Feed.tape c.args.input.now) (g.R.Feed.tape c.read.new.self) run.0 chunk (run.0 ++ chunk) before
+    (g.R.Feed.tape c.args.input.now) (g.R.Feed.tape c.read.new.self) run.0 chunk (run.0 ++ chunk)
+    before
     (emitted (g.L.Link.offered c.take_bytes.new.link) (g.W.Output.tape c.take_bytes.new.out))
-    (read_more (g.R.Feed.tape c.args.input.now) (g.R.Feed.tape c.loop-stage.input) (g.R.Feed.tape c.read.new.self)
+    (read_more (g.R.Feed.tape c.args.input.now) (g.R.Feed.tape c.loop-stage.input)
+    (g.R.Feed.tape c.read.new.self)
     run.0 chunk (c.in_ok-count.ensures.ok tells_in) (run.1 (c.in_ok-count.ensures.told tells_in)))
     (λ front rest byte e. inl (behind run.0 chunk front rest byte e))
     (next.ends p (cut_of run.0) (run.2 p s) tells_link tells_out before
@@ -80,21 +91,33 @@ returns-in_err-take_bytes-clause-ends g c =
 
 pub returns-in_err-take_byte-clause-ends : goal.returns-in_err-take_byte-clause-ends
 returns-in_err-take_byte-clause-ends g c =
-    let q = err_from_is_err_and c.from_residual-in_err-take_byte.result c.from_residual-in_err-take_byte.ensures.1 in
+    let q = err_from_is_err_and c.from_residual-in_err-take_byte.result
+    c.from_residual-in_err-take_byte.ensures.1 in
     rw (q.1, q.2) (λ p s tells_in tells_link tells_out.
     let run = c.loop-stage.invariant.so_far in
     let next = c.in_err-take_byte.ensures in
-    let before : Emitted = emitted (g.L.Link.offered c.args.link.now) (g.W.Output.tape c.args.out.now) in
-    let after : Emitted = emitted (g.L.Link.offered c.take_byte.new.link) (g.W.Output.tape c.take_byte.new.out) in
+    let before : Emitted = emitted (g.L.Link.offered c.args.link.now)
+    (g.W.Output.tape c.args.out.now) in
+    let after : Emitted = emitted (g.L.Link.offered c.take_byte.new.link)
+    (g.W.Output.tape c.take_byte.new.out) in
     let stands = run.2 p s in
     let more : closed run.0 ≡ run.0 ++ 10 ∷ [] =
-    closed_with run.0 c.loop-stage.stage.pending.items c.is_empty.result stands.pending_is c.if-is_empty.false c.is_empty.ensures in
+    closed_with run.0 c.loop-stage.stage.pending.items c.is_empty.result stands.pending_is
+    c.if-is_empty.false c.is_empty.ensures in
     inr (ends_of c.in_err-take_byte.field-0.0 p (g.R.Feed.ended c.read.new.self)
-    (g.R.Feed.tape c.args.input.now) (g.R.Feed.tape c.read.new.self) run.0 (10 ∷ []) run.0 before after
-    (read_end (g.R.Feed.tape c.args.input.now) (g.R.Feed.tape c.loop-stage.input) (g.R.Feed.tape c.read.new.self) run.0
-    c.read.new.buf c.in_ok-count.count c.if-count-eq0.true (c.in_ok-count.ensures.ok tells_in) (run.1 (c.in_ok-count.ensures.told tells_in)))
-    (λ front rest byte e. inr (c.in_ok-count.ensures.end c.if-count-eq0.true tells_in, more ∙ behind run.0 (10 ∷ []) front rest byte e))
-    (ends_one c.in_err-take_byte.field-0.0 p (cut_of run.0) 10 before after stands.fine (next.ends p (cut_of run.0) stands)
+    (g.R.Feed.tape c.args.input.now) (g.R.Feed.tape c.read.new.self) run.0 (10 ∷ []) run.0 before
+    after
+    (read_end (g.R.Feed.tape c.args.input.now) (g.R.Feed.tape c.loop-stage.input)
+    (g.R.Feed.tape c.read.new.self) run.0
+    c.read.new.buf c.in_ok-count.count c.if-count-eq0.true (c.in_ok-count.ensures.ok tells_in)
+    (run.1 (c.in_ok-count.ensures.told tells_in)))
+    (λ front rest byte e. inr (
+      c.in_ok-count.ensures.end c.if-count-eq0.true tells_in,
+      more
+          ∙ behind run.0 (10 ∷ []) front rest byte e,
+    ))
+    (ends_one c.in_err-take_byte.field-0.0 p (cut_of run.0) 10 before after stands.fine
+    (next.ends p (cut_of run.0) stands)
     (next.leaves p (cut_of run.0) before stands tells_link tells_out
     (run.3 p s (next.told_link tells_link) (next.told_output tells_out))))))
 
@@ -104,18 +127,22 @@ returns-clause-all g c = λ p s tells_in tells_link tells_out.
     let next = c.in_ok-take_byte.ensures in
     let stands = run.2 p s in
     let more : closed run.0 ≡ run.0 ++ 10 ∷ [] =
-    closed_with run.0 c.loop-stage.stage.pending.items c.is_empty.result stands.pending_is c.if-is_empty.false c.is_empty.ensures in
+    closed_with run.0 c.loop-stage.stage.pending.items c.is_empty.result stands.pending_is
+    c.if-is_empty.false c.is_empty.ensures in
     let joined : with_byte (cut_of run.0) 10 ≡ cut_of (closed run.0) =
     joined_is run.0 (10 ∷ []) ∙ ap cut_of (sym more) in
     record {
       bytes = run.0;
-      read = read_end (g.R.Feed.tape c.args.input.now) (g.R.Feed.tape c.loop-stage.input) (g.R.Feed.tape c.read.new.self) run.0
+      read = read_end (g.R.Feed.tape c.args.input.now) (g.R.Feed.tape c.loop-stage.input)
+          (g.R.Feed.tape c.read.new.self) run.0
           c.read.new.buf c.in_ok-count.count c.if-count-eq0.true (c.in_ok-count.ensures.ok tells_in)
           (run.1 (c.in_ok-count.ensures.told tells_in));
       at_end = c.in_ok-count.ensures.end c.if-count-eq0.true tells_in;
       fine = subst (λ (x : Cut). AreFine x.lines) joined (next.stands p (cut_of run.0) stands).fine;
-      ran = subst (λ (x : Cut). Ran p x.lines (emitted (g.L.Link.offered c.args.link.now) (g.W.Output.tape c.args.out.now))
-          (emitted (g.L.Link.offered c.take_byte.new.link) (g.W.Output.tape c.take_byte.new.out)) c.take_byte.new.self.lost) joined
+      ran = subst (λ (x : Cut). Ran p x.lines
+          (emitted (g.L.Link.offered c.args.link.now) (g.W.Output.tape c.args.out.now))
+          (emitted (g.L.Link.offered c.take_byte.new.link) (g.W.Output.tape c.take_byte.new.out))
+          c.take_byte.new.self.lost) joined
           (next.ran p (cut_of run.0) _ stands tells_link tells_out
           (run.3 p s (next.told_link tells_link) (next.told_output tells_out)));
     }

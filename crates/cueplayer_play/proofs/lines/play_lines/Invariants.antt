@@ -20,8 +20,10 @@ invariant-loop-stage g l =
       told_output : W.tells l.out → W.tells l.fn.out;
       so_far : (bytes : List ℕ)
           × (R.tells l.input → R.tape l.input ≡ with_more (R.tape l.fn.input) bytes)
-          × ((p : Production) → console.StandsFor sf p l.fn.console [] → StandsFor sf p l.stage (cut_of bytes))
-          × ((p : Production) → console.StandsFor sf p l.fn.console [] → L.tells l.link → W.tells l.out
+          × ((p : Production) → console.StandsFor sf p l.fn.console []
+          → StandsFor sf p l.stage (cut_of bytes))
+          × ((p : Production) → console.StandsFor sf p l.fn.console [] → L.tells l.link
+          → W.tells l.out
           → Ran p (cut_of bytes).lines (emitted (L.offered l.fn.link) (W.tape l.fn.out))
           (emitted (L.offered l.link) (W.tape l.out)) l.stage.lost);
     }

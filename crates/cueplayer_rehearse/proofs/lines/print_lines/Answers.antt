@@ -12,7 +12,8 @@ returns-clause-lines g c = λ tells.
     let replies = ap (map reply_of) c.as_slice.ensures.value
     ∙ ap (λ r. r.replies) c.report.view_is in
     let last = c.as_slice-2.ensures.value ∙ ap (λ r. r.last) c.report.view_is in
-    let lines : event_lines numbers (map reply_of c.as_slice.result.now) ++ end_lines c.as_slice-2.result.now
+    let lines : event_lines numbers (map reply_of c.as_slice.result.now)
+    ++ end_lines c.as_slice-2.result.now
     ≡ rehearsal_lines numbers report.replies report.last =
     ap (λ rs. event_lines numbers rs ++ end_lines c.as_slice-2.result.now) replies
     ∙ ap (λ ss. event_lines numbers report.replies ++ end_lines ss) last in

@@ -7,6 +7,7 @@ use Rattle.cueplayer_rehearse.proofs.lines.print_replies.Given as goal
 abbrev pub invariant-loop-number : goal.invariant-loop-number
 invariant-loop-number g l = record {
   told : g.W.Output.tells l.out → g.W.Output.tells l.fn.out;
-  printing : Printing (event_lines l.numbers (map reply_of l.replies)) (lines_left l.number-iterator)
+  printing : Printing (event_lines l.numbers (map reply_of l.replies))
+      (lines_left l.number-iterator)
       (g.W.Output.tells l.out) (g.W.Output.tape l.fn.out) (g.W.Output.tape l.out);
 }

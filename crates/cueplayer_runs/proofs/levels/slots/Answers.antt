@@ -4,7 +4,7 @@ use Rattle.std.specs.Prelude.{IsTrue, IsFalse}
 use Rattle.std.specs.FinMap as maps
 use Rattle.patch_core.specs.Frame.{is_base}
 use Rattle.show_core.specs.Tables.{Tables}
-use Rattle.show_line.specs.Said.{desk}
+use Rattle.show_line.specs.Said.{desk_limits}
 use Rattle.show_reader.specs.Text.{statements_of}
 use Rattle.show_reader.proofs.OneShow.{of_its_show}
 use Rattle.cueplayer_faults.specs.declared.fault.RunFault.{RunFault}
@@ -25,12 +25,16 @@ output_failed (Err e) show cue base is there numbers =
 pub returns-then-not-has_numbers-clause-fault : goal.returns-then-not-has_numbers-clause-fault
 returns-then-not-has_numbers-clause-fault g c =
     let show = c.in_ok-loaded.loaded.show in
-    let ss = statements_of desk c.args.show.now in
+    let ss = statements_of desk_limits c.args.show.now in
     let there : is_some (maps.get show.cues c.args.cue) ≡ true =
     ap is_some (sym c.cue.ensures) ∙ c.is_none.ensures ∙ ap not c.if-is_none.false in
     let lacks : IsFalse (is_base show.patch c.args.base) =
     sym c.has_numbers.ensures ∙ c.if-not-has_numbers.true in (
-      (c.in_ok-loaded.ensures.faultless, cue_is_there ss show c.args.cue c.in_ok-loaded.ensures.show ∙ there),
+      (
+        c.in_ok-loaded.ensures.faultless,
+        cue_is_there ss show c.args.cue c.in_ok-loaded.ensures.show
+            ∙ there,
+      ),
       of_its_show c.args.show.now (λ (s : Tables). IsFalse (is_base s.patch c.args.base)) show
           c.in_ok-loaded.ensures.show lacks,
     )
@@ -38,14 +42,17 @@ returns-then-not-has_numbers-clause-fault g c =
 pub returns-in_err-write-clause-fault : goal.returns-in_err-write-clause-fault
 returns-in_err-write-clause-fault g c =
     let show = c.in_ok-loaded.loaded.show in
-    let ss = statements_of desk c.args.show.now in
+    let ss = statements_of desk_limits c.args.show.now in
     let there : is_some (maps.get show.cues c.args.cue) ≡ true =
     ap is_some (sym c.cue.ensures) ∙ c.is_none.ensures ∙ ap not c.if-is_none.false in
     let numbers : IsTrue (is_base show.patch c.args.base) =
     sym c.has_numbers.ensures ∙ c.if-not-has_numbers.false in
     output_failed c.from_residual-in_err-write.result c.args.show.now c.args.cue c.args.base
-    c.from_residual-in_err-write.ensures.1
-    (c.in_ok-loaded.ensures.faultless, cue_is_there ss show c.args.cue c.in_ok-loaded.ensures.show ∙ there)
+    c.from_residual-in_err-write.ensures.1 (
+      c.in_ok-loaded.ensures.faultless,
+      cue_is_there ss show c.args.cue c.in_ok-loaded.ensures.show
+          ∙ there,
+    )
     (of_its_show c.args.show.now (λ (s : Tables). IsTrue (is_base s.patch c.args.base)) show
     c.in_ok-loaded.ensures.show numbers)
 
@@ -56,10 +63,12 @@ returns-clause-text g c = λ tells.
     let there : is_some (maps.get show.cues c.args.cue) ≡ true =
     ap is_some (sym c.cue.ensures) ∙ c.is_none.ensures ∙ ap not c.if-is_none.false in
     let P : List ℕ → Type 0 = λ t.
-    IfSome (maps.get show.cues c.args.cue) (λ look. t ≡ slots_text look.levels show.patch c.args.base) in
+    IfSome (maps.get show.cues c.args.cue)
+    (λ look. t ≡ slots_text look.levels show.patch c.args.base) in
     let lines : P text = subst P (sym c.as_slice.ensures.value) c.in_ok-text.ensures in (
       text,
-      slots_of c.args.show.now c.args.cue c.args.base text show c.in_ok-loaded.ensures.show there lines,
+      slots_of c.args.show.now c.args.cue c.args.base text show c.in_ok-loaded.ensures.show there
+          lines,
       c.in_ok-write.ensures.ok tells,
     )
 

@@ -9,7 +9,8 @@ loop-ordinal-preserved c =
     let text = c.loop-ordinal.text.items in
     let k = get_or c.args.ordinals.now c.loop-ordinal.ordinal-index 0 in
     let slots = c.look_slots.result in
-    let numbered : c.from.result + c.from-in-loop-ordinal.result ≡ c.args.base + k = cc (c.from.ensures, c.from-in-loop-ordinal.ensures) in
+    let numbered : c.from.result + c.from-in-loop-ordinal.result ≡ c.args.base + k =
+    cc (c.from.ensures, c.from-in-loop-ordinal.ensures) in
     let added : c.push_universe.new.text.items ≡ text ++ universe_lines (c.args.base + k) slots =
     c.in_ok-push_universe.ensures ∙ ap (λ n. text ++ universe_lines n slots) numbered in
     universe_added (maps.get c.args.show.now.cues c.args.cue) c.args.show.now.patch c.args.base

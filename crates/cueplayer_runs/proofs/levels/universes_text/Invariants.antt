@@ -6,4 +6,5 @@ use Rattle.cueplayer_runs.proofs.levels.universes_text.Given as goal
 -- the lines so far are those of the universes so far
 abbrev pub invariant-loop-ordinal : goal.invariant-loop-ordinal
 invariant-loop-ordinal l = IfSome (maps.get l.show.cues l.cue) (λ look.
-    l.text.items ≡ flat_map (ordinal_lines look.levels l.show.patch l.base) (take l.ordinal-index l.ordinals))
+    l.text.items ≡ flat_map (ordinal_lines look.levels l.show.patch l.base)
+    (take l.ordinal-index l.ordinals))

@@ -10,7 +10,8 @@ loop-older-preserved g c =
     let so_far = c.loop-older.invariant in
     let heard = so_far.heard in
     let next = c.in_ok-reply_to_next.ensures in
-    let more = next.ok c.args.universe heard.datagrams so_far.universe (ap (λ n. n + 1) (sym heard.count_is)) heard.stands in
+    let more = next.ok c.args.universe heard.datagrams so_far.universe
+    (ap (λ n. n + 1) (sym heard.count_is)) heard.stands in
     record {
       universe = next.universe ∙ so_far.universe;
       told_source = λ tells. so_far.told_source (next.told_source tells);
@@ -19,8 +20,10 @@ loop-older-preserved g c =
         datagrams = more.0 ∷ heard.datagrams;
         count_is = omega (arith, heard.count_is);
         stands = more.1;
-        gave = λ tells. gave_more more.0 heard.datagrams _ _ _ (heard.gave (next.told_source tells)) (more.2 tells);
-        took = λ tells. took_more c.args.universe more.0 heard.datagrams _ _ _ (heard.took (next.told_output tells)) (more.3 tells);
+        gave = λ tells. gave_more more.0 heard.datagrams _ _ _ (heard.gave (next.told_source tells))
+            (more.2 tells);
+        took = λ tells. took_more c.args.universe more.0 heard.datagrams _ _ _
+            (heard.took (next.told_output tells)) (more.3 tells);
       };
     }
 
@@ -32,13 +35,17 @@ slots-requires g c =
 pub returns-in_err-write-clause-text : goal.returns-in_err-write-clause-text
 returns-in_err-write-clause-text g c = λ source_tells output_tells.
     let heard = c.loop-older.invariant.heard in
-    let all : length heard.datagrams ≡ c.args.count = omega (arith, heard.count_is, c.loop-older-test.false, c.loop-older.auto.older-end) in
-    ends c.from_residual-in_err-write.result c.args.universe c.args.count _ _ _ _ c.from_residual-in_err-write.ensures.1
-    (inr (inr (slots_failed c.args.universe c.args.count heard.datagrams _ _ _ _ _ all (heard.gave source_tells)
+    let all : length heard.datagrams ≡ c.args.count =
+    omega (arith, heard.count_is, c.loop-older-test.false, c.loop-older.auto.older-end) in
+    ends c.from_residual-in_err-write.result c.args.universe c.args.count _ _ _ _
+    c.from_residual-in_err-write.ensures.1
+    (inr (inr (slots_failed c.args.universe c.args.count heard.datagrams _ _ _ _ _ all
+    (heard.gave source_tells)
     (heard.took (c.write.ensures.told output_tells)) (c.in_err-write.ensures.err output_tells))))
 
 pub returns-clause-told_output : goal.returns-clause-told_output
-returns-clause-told_output g c = λ tells. c.loop-older.invariant.told_output (c.write.ensures.told tells)
+returns-clause-told_output g c = λ tells. c.loop-older.invariant.told_output
+    (c.write.ensures.told tells)
 
 pub returns-clause-text : goal.returns-clause-text
 returns-clause-text g c = λ source_tells output_tells.

@@ -1,4 +1,5 @@
-use Rattle.std.proofs.Common.{subst, ℕ, ◌+◌, ◌≡◌, List, ◌++◌, length, take, codes, Result, Ok, Err, OnErr, ap, ◌∙◌, inr}
+use Rattle.std.proofs.Common.{subst, ℕ, ◌+◌, ◌≡◌, List, ◌++◌, length, take, codes, Result, Ok, Err}
+use Rattle.std.proofs.Common.{OnErr, ap, ◌∙◌, inr}
 use Rattle.std.specs.Prelude.{decimal}
 use Rattle.devices.specs.Tape.{with_more}
 use Rattle.sacn_receiver.specs.declared.answer.Taken.{Taken}
@@ -17,19 +18,23 @@ on_err P (Err e) p = p
 -- the reply, where the receiver is one of the universe
 answered_at : (u universe : ℕ) (h : List Entry) (datagram : List ℕ) (reply : Result Taken Ignored)
     → u ≡ universe → reply ≡ answer 4 u h 0 datagram → reply ≡ answer 4 universe h 0 datagram
-answered_at u universe h datagram reply is answered = answered ∙ ap (λ v. answer 4 v h 0 datagram) is
+answered_at u universe h datagram reply is answered = answered
+    ∙ ap (λ v. answer 4 v h 0 datagram) is
 
 -- the line that was written is that of the datagram
-line_is : (universe : ℕ) (datagram : List ℕ) (older : List (List ℕ)) (number : ℕ) (reply : Result Taken Ignored) (line : List ℕ)
+line_is : (universe : ℕ) (datagram : List ℕ) (older : List (List ℕ)) (number : ℕ)
+    (reply : Result Taken Ignored) (line : List ℕ)
     → number ≡ length older + 1 → reply ≡ answer 4 universe (history universe older) 0 datagram
-    → line ≡ decimal number ++ codes " " ++ reply_text reply ++ codes "\n" → line ≡ reply_line universe datagram older
+    → line ≡ decimal number ++ codes " " ++ reply_text reply ++ codes "\n"
+    → line ≡ reply_line universe datagram older
 line_is universe datagram older number reply line numbered answered is =
     is ∙ ap (λ n. decimal n ++ codes " " ++ reply_text reply ++ codes "\n") numbered
     ∙ ap (λ r. decimal (length older + 1) ++ codes " " ++ reply_text r ++ codes "\n") answered
 
 pub returns-in_err-write-clause-err : goal.returns-in_err-write-clause-err
 returns-in_err-write-clause-err g c =
-    let fails : g.D.Datagrams.tells c.receive.new.self → g.W.Output.tells c.write.new.self → NextFails
+    let fails : g.D.Datagrams.tells c.receive.new.self → g.W.Output.tells c.write.new.self
+    → NextFails
     (g.D.Datagrams.tape c.args.source.now) (g.D.Datagrams.tape c.receive.new.self)
     (g.W.Output.tape c.args.out.now) (g.W.Output.tape c.write.new.self)
     = λ source_tells output_tells. inr (
@@ -41,10 +46,12 @@ returns-in_err-write-clause-err g c =
 pub returns-clause-ok : goal.returns-clause-ok
 returns-clause-ok g c = λ universe older universe_is numbered stands.
     let datagram = take c.in_ok-length.length c.receive.new.buf in
-    let answered = answered_at c.args.receiver.now.universe universe (history universe older) datagram c.take-reply.result
+    let answered = answered_at c.args.receiver.now.universe universe (history universe older)
+    datagram c.take-reply.result
     universe_is (c.take-reply.ensures.answer (history universe older) stands) in (
       datagram,
-      subst (λ (u : ℕ). StandsFor c.take-reply.new.self (heard 4 u (history universe older) 0 datagram))
+      subst (λ (u : ℕ). StandsFor c.take-reply.new.self
+          (heard 4 u (history universe older) 0 datagram))
           universe_is (c.take-reply.ensures.heard (history universe older) stands),
       λ tells. c.in_ok-length.ensures.ok tells,
       λ tells.

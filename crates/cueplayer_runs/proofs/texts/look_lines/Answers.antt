@@ -17,4 +17,5 @@ loop-ordinal-preserved c =
     ) in
     line_added (maps.get c.args.show.now.cues c.args.cue) c.args.show.now.patch c.args.cid
     c.args.ordinals.now c.loop-ordinal.ordinal-index text packet c.look_slots.result longer
-    c.loop-ordinal-test.true c.loop-ordinal.invariant c.look_packet-packet.ensures c.look_slots.ensures added
+    c.loop-ordinal-test.true c.loop-ordinal.invariant c.look_packet-packet.ensures
+    c.look_slots.ensures added

@@ -13,7 +13,8 @@ returns-in-Ok-Some-clause-ok g c =
     let parse = c.in-Ok-try_get_matches_from in
     let words = map g.S.AsStr.text c.args.words.now in (
       passes_words (app_of c.in-Ok.program) words c.in-Ok.ensures parse.ensures.kinds,
-      job_of_words (app_of c.in-Ok.program) words parse.matches (Some c.in-Ok-Some.job) c.in-Ok.ensures
+      job_of_words (app_of c.in-Ok.program) words parse.matches (Some c.in-Ok-Some.job)
+          c.in-Ok.ensures
           parse.ensures.matches (sym c.in-Ok-Some.field-0-is ∙ c.in-Ok-Some.ensures.job),
     )
 

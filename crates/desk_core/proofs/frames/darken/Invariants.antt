@@ -4,4 +4,5 @@ use Rattle.desk_core.proofs.frames.darken.Given as goal
 
 -- the frames so far are dark
 abbrev pub invariant-loop-frame : goal.invariant-loop-frame
-invariant-loop-frame l = (ordinal : ℕ) → ordinal < l.frame-index → slice_get l.frames ordinal ≡ Some dark
+invariant-loop-frame l = (ordinal : ℕ) → ordinal < l.frame-index
+    → slice_get l.frames ordinal ≡ Some dark

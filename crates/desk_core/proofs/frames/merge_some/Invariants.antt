@@ -9,7 +9,8 @@ use Rattle.desk_core.proofs.frames.merge_some.Given as goal
 -- the levels of the channels so far are merged, and all are in their range
 abbrev pub invariant-loop-channel : goal.invariant-loop-channel
 invariant-loop-channel g l = record {
-  merged : (show : Tables) (moves : List Move) (stopped : Bool) → playback.StandsFor g.F.Fader.stands_for
+  merged : (show : Tables) (moves : List Move) (stopped : Bool)
+      → playback.StandsFor g.F.Fader.stands_for
       show l.playback moves stopped → (k : ℕ) → k < l.channel-index
       → level_in l.levels (get_or l.channels k 0) ≡ max (playback_level show moves (get_or
       l.channels k 0) (g.F.Fader.latest l.playback.fader)) (level_in l.floors (get_or

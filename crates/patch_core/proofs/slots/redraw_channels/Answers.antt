@@ -8,7 +8,8 @@ pub loop-channel-init : goal.loop-channel-init
 loop-channel-init c = record {
   frames = c.requires.frames;
   slots = λ patch before after index in_range holds agree listed dimmer is unlisted.
-      holds dimmer is ∙ same_slot patch before after c.args.grand c.args.channels.now dimmer in_range agree unlisted;
+      holds dimmer is ∙ same_slot patch before after c.args.grand c.args.channels.now dimmer
+      in_range agree unlisted;
 }
 
 pub loop-channel-preserved : goal.loop-channel-preserved
@@ -18,20 +19,29 @@ loop-channel-preserved c = record {
       let k : ℕ = c.from-place.result in
       let j : ℕ = c.loop-channel.channel-index in
       let here : get_or c.args.channels.now j 0 ≡ k = omega (arith, c.from-place.ensures) in
-      let range = channel_range (get_or c.args.channels.now j 0) (c.requires.channels j 0 c.loop-channel-test.true) in
+      let range = channel_range (get_or c.args.channels.now j 0)
+      (c.requires.channels j 0 c.loop-channel-test.true) in
       let one_up : 1 ≤ k = omega (arith, range.0) in
       let few : k ≤ 4096 = omega (arith, range.1) in
       let level_is : get_or c.args.levels.now (k - 1) 0 ≡ after k =
-      ap (level_in c.args.levels.now) (omega (arith, here)) ∙ listed j 0 c.loop-channel-test.true ∙ ap after here in
+      ap (level_in c.args.levels.now) (omega (arith, here)) ∙ listed j 0 c.loop-channel-test.true
+      ∙ ap after here in
       let old : ℕ → ℕ = slot_at c.loop-channel.frames in
-      c.redraw_run.ensures.slots (want patch c.args.by_channel.now c.args.begins.now index after c.args.grand k one_up few old)
-      (λ at at_is unlisted. kept patch c.args.by_channel.now c.args.begins.now index after c.args.grand k one_up few old at unlisted)
-      (λ p low high. drawn patch c.args.by_channel.now c.args.begins.now index after c.args.grand k one_up few old c.from-level.result p (c.from-level.ensures ∙ level_is) low high)
+      c.redraw_run.ensures.slots
+      (want patch c.args.by_channel.now c.args.begins.now index after c.args.grand k one_up few
+      old)
+      (λ at at_is unlisted. kept patch c.args.by_channel.now c.args.begins.now index after
+      c.args.grand k one_up few old at unlisted)
+      (λ p low high. drawn patch c.args.by_channel.now c.args.begins.now index after c.args.grand k
+      one_up few old c.from-level.result p (c.from-level.ensures ∙ level_is) low high)
       dimmer is
-      ∙ next patch c.args.by_channel.now c.args.begins.now index after c.args.grand k one_up few old c.args.channels.now j dimmer here
-      (λ left. c.loop-channel.invariant.slots patch before after index in_range holds agree listed dimmer is left) rest;
+      ∙ next patch c.args.by_channel.now c.args.begins.now index after c.args.grand k one_up few old
+      c.args.channels.now j dimmer here
+      (λ left. c.loop-channel.invariant.slots patch before after index in_range holds agree listed
+      dimmer is left) rest;
 }
 
 pub returns-clause-slots : goal.returns-clause-slots
 returns-clause-slots c = λ patch before after index in_range holds agree listed dimmer is.
-    c.loop-channel.invariant.slots patch before after index in_range holds agree listed dimmer is (λ channel byte m found low high. absurd (omega arith))
+    c.loop-channel.invariant.slots patch before after index in_range holds agree listed dimmer is
+    (λ channel byte m found low high. absurd (omega arith))

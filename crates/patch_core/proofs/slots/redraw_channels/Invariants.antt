@@ -11,12 +11,17 @@ use Rattle.patch_core.proofs.slots.redraw_channels.Given as goal
 abbrev pub invariant-loop-channel : goal.invariant-loop-channel
 invariant-loop-channel l = record {
   frames : AreFrames l.frames;
-  slots : (patch : PatchMap) (before after : ℕ → ℕ) → IsIndex (map.entries patch) l.by_channel l.begins
+  slots : (patch : PatchMap) (before after : ℕ → ℕ) → IsIndex (map.entries patch) l.by_channel
+      l.begins
       → All (λ e. IsTrue (is_channel e.1.0)) (map.entries patch)
-      → ((dimmer : ℕ) → IsTrue (is_dimmer dimmer) → slot_at l.fn.frames dimmer ≡ dimmer_slot patch before l.grand dimmer)
-      → ((channel : ℕ) → IsTrue (is_channel channel) → ((m : ℕ) → m < length l.channels → get_or l.channels m 0 ≢ channel) → before channel ≡ after channel)
+      → ((dimmer : ℕ) → IsTrue (is_dimmer dimmer) → slot_at l.fn.frames dimmer
+      ≡ dimmer_slot patch before l.grand dimmer)
+      → ((channel : ℕ) → IsTrue (is_channel channel)
+      → ((m : ℕ) → m < length l.channels → get_or l.channels m 0 ≢ channel)
+      → before channel ≡ after channel)
       → All (λ channel. level_in l.levels channel ≡ after channel) l.channels
       → (dimmer : ℕ) → IsTrue (is_dimmer dimmer)
-      → ((channel byte m : ℕ) → map.get patch dimmer ≡ Some (channel, byte) → l.channel-index ≤ m → m < length l.channels → get_or l.channels m 0 ≢ channel)
+      → ((channel byte m : ℕ) → map.get patch dimmer ≡ Some (channel, byte) → l.channel-index ≤ m
+      → m < length l.channels → get_or l.channels m 0 ≢ channel)
       → slot_at l.frames dimmer ≡ dimmer_slot patch after l.grand dimmer;
 }

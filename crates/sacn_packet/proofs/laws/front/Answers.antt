@@ -4,5 +4,8 @@ use Rattle.sacn_packet.proofs.laws.front.Goals as goal
 
 pub returns : goal.returns
 returns c =
-    λ datagram packet h.
-    (none_from_readable datagram (readable_from_packet datagram h.0 packet.fields packet.slots h.1), packet_ends datagram packet h)
+    λ datagram packet h. (
+      none_from_readable datagram
+          (readable_from_packet datagram h.0 packet.fields packet.slots h.1),
+      packet_ends datagram packet h,
+    )

@@ -4,5 +4,8 @@ use Rattle.sacn_packet.proofs.laws.read_back.Goals as goal
 
 pub returns : goal.returns
 returns c =
-    λ bytes behind packet h.
-    (packet_front bytes behind packet h, λ found k. same_packets (bytes ++ behind) found packet k (packet_front bytes behind packet h))
+    λ bytes behind packet h. (
+      packet_front bytes behind packet h,
+      λ found k. same_packets (bytes ++ behind) found packet k
+          (packet_front bytes behind packet h),
+    )

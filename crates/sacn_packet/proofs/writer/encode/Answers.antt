@@ -10,7 +10,13 @@ returns c =
     let size : length c.args.slots.now ≡ 512 = search rules in
     let cid : length c.args.header.now.cid ≡ 16 = search rules in
     let name : length (padded c.args.header.now.name) ≡ 64 =
-    omega (arith, c.write_framing.auto.out, ap length c.write_framing.ensures, length-append (padded c.args.header.now.name) (framing_tail (fields_of c.args.header.now)))
+    omega (
+      arith,
+      c.write_framing.auto.out,
+      ap length c.write_framing.ensures,
+      length-append (padded c.args.header.now.name) (framing_tail (fields_of c.args.header.now)),
+    )
     in
     rw (c.write_root.ensures, c.write_framing.ensures, c.write_dmp.ensures)
-    (layers_are_data 512 (fields_of c.args.header.now) c.args.slots.now cid name size (omega arith) c.requires.priority (omega arith) c.requires.universe_from_1 c.requires.universe_to_63999)
+    (layers_are_data 512 (fields_of c.args.header.now) c.args.slots.now cid name size (omega arith)
+    c.requires.priority (omega arith) c.requires.universe_from_1 c.requires.universe_to_63999)

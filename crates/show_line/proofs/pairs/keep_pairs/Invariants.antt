@@ -1,13 +1,14 @@
 use Rattle.std.proofs.Common.{◌≡◌, ◌-◌, ◌++◌}
 use Rattle.arrayvec.specs.ArrayVec.{array_vec_len}
 use Rattle.ascii_text.specs.LinesLeft.{words_left}
-use Rattle.show_line.specs.Pairs.{desk, pair_fault, pairs_in}
+use Rattle.show_line.specs.Pairs.{desk_limits, pair_fault, pairs_in}
 use Rattle.show_line.proofs.pairs.keep_pairs.Given as goal
 
 -- the pairs so far have no fault, and are kept
 abbrev pub invariant-loop-words : goal.invariant-loop-words
 invariant-loop-words l = record {
-  fault : pair_fault desk (words_left l.initial.words) ≡ pair_fault desk (words_left l.words);
+  fault : pair_fault desk_limits (words_left l.initial.words) ≡ pair_fault desk_limits
+      (words_left l.words);
   pairs : pairs_in (words_left l.initial.words) ≡ l.kept.items ++ pairs_in (words_left l.words);
 }
 

@@ -34,7 +34,8 @@ loop-i-preserved g c = λ w same are.
     )
     (replayed_more (StageStands g.F.Fader.stands_for) Tells w c.args.events.now c.loop-i.i _
     c.loop-i-test.true c.step.new.stages c.step.new.receivers c.loop-i.last c.step.new.last
-    (map reply_of c.loop-i.replies.items) (reply_of c.in_ok-reply.reply) c.loop-i.stages c.loop-i.receivers all s)
+    (map reply_of c.loop-i.replies.items) (reply_of c.in_ok-reply.reply) c.loop-i.stages
+    c.loop-i.receivers all s)
 
 pub returns-clause-replies : goal.returns-clause-replies
 returns-clause-replies g c = λ w same are.

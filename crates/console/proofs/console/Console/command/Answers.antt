@@ -12,5 +12,6 @@ returns-clause-stands g c = on_ok_more _ _ c.command.result
     let s = opened g.F.Fader.stands_for p _ _ history c.self.view_is stands in
     record {
       desk_stands = desk p.show p.base history s.desk_stands;
-      streams_stand = streams_ordered p c.self.inside.sender c.args.moment c.args.command history s.streams_stand;
+      streams_stand = streams_ordered p c.self.inside.sender c.args.moment c.args.command history
+          s.streams_stand;
     }) c.command.ensures.stands

@@ -10,7 +10,8 @@ offer_all-offers-requires g c =
     let r = c.requires.real in
     let s = opened g.F.Fader.stands_for r.0 _ _ r.1 c.self.view_is r.2 in
     let is : c.tick.result ≡ Ok Live = c.in-Ok-Live.is ∙ ap Ok c.in-Ok-Live.field-0-is in
-    let t = live_tick g.F.Fader.stands_for r.0 _ c.tick.new.self r.1 c.args.moment c.tick.result is s
+    let t = live_tick g.F.Fader.stands_for r.0 _ c.tick.new.self r.1 c.args.moment c.tick.result is
+    s
     (c.tick.ensures.answer r.0.show r.0.base r.1 s.desk_stands)
     (c.in-Ok-Live.ensures.stands r.0.show r.0.base r.1 s.desk_stands) in
     record { real = (r.0, r.1, t.has, t.kind) }
@@ -19,7 +20,8 @@ pub terminate_all-offers-requires : goal.terminate_all-offers-requires
 terminate_all-offers-requires g c =
     let r = c.requires.real in
     let s = opened g.F.Fader.stands_for r.0 _ _ r.1 c.self.view_is r.2 in
-    let is : c.tick.result ≡ Ok (Ending c.in-Ok-Ending.number) = c.in-Ok-Ending.is ∙ ap Ok c.in-Ok-Ending.field-0-is in
+    let is : c.tick.result ≡ Ok (Ending c.in-Ok-Ending.number) = c.in-Ok-Ending.is
+    ∙ ap Ok c.in-Ok-Ending.field-0-is in
     let t = ending_tick g.F.Fader.stands_for r.0 _ c.tick.new.self r.1 c.args.moment
     c.in-Ok-Ending.number c.tick.result is s
     (c.tick.ensures.answer r.0.show r.0.base r.1 s.desk_stands)
@@ -29,13 +31,15 @@ terminate_all-offers-requires g c =
 pub returns-in-Err-clause-answer : goal.returns-in-Err-clause-answer
 returns-in-Err-clause-answer g c = λ p history stands.
     let s = opened g.F.Fader.stands_for p _ _ history c.self.view_is stands in
-    refused_by (refusal p.show history (tick_at c.args.moment)) c.in-Err.refused (ticked (ended history))
+    refused_by (refusal p.show history (tick_at c.args.moment)) c.in-Err.refused
+    (ticked (ended history))
     (sym c.in-Err.is ∙ c.tick.ensures.answer p.show p.base history s.desk_stands)
 
 pub returns-in-Ok-Live-clause-answer : goal.returns-in-Ok-Live-clause-answer
 returns-in-Ok-Live-clause-answer g c = λ p history stands.
     let s = opened g.F.Fader.stands_for p _ _ history c.self.view_is stands in
-    accepted_tick p history c.args.moment Live c.tick.result (c.in-Ok-Live.is ∙ ap Ok c.in-Ok-Live.field-0-is)
+    accepted_tick p history c.args.moment Live c.tick.result
+    (c.in-Ok-Live.is ∙ ap Ok c.in-Ok-Live.field-0-is)
     (c.tick.ensures.answer p.show p.base history s.desk_stands)
 
 pub returns-in-Ok-Ending-clause-answer : goal.returns-in-Ok-Ending-clause-answer
@@ -49,7 +53,8 @@ pub returns-in-Ok-Live-clause-stands : goal.returns-in-Ok-Live-clause-stands
 returns-in-Ok-Live-clause-stands g c = λ p history stands.
     let s = opened g.F.Fader.stands_for p _ _ history c.self.view_is stands in
     let t = live_tick g.F.Fader.stands_for p _ c.tick.new.self history c.args.moment c.tick.result
-    (c.in-Ok-Live.is ∙ ap Ok c.in-Ok-Live.field-0-is) s (c.tick.ensures.answer p.show p.base history s.desk_stands)
+    (c.in-Ok-Live.is ∙ ap Ok c.in-Ok-Live.field-0-is) s
+    (c.tick.ensures.answer p.show p.base history s.desk_stands)
     (c.in-Ok-Live.ensures.stands p.show p.base history s.desk_stands) in
     record {
       desk_stands = c.in-Ok-Live.ensures.stands p.show p.base history s.desk_stands;
@@ -72,7 +77,8 @@ pub returns-in-Ok-Live-clause-offered : goal.returns-in-Ok-Live-clause-offered
 returns-in-Ok-Live-clause-offered g c = λ p history stands tells.
     let s = opened g.F.Fader.stands_for p _ _ history c.self.view_is stands in
     let t = live_tick g.F.Fader.stands_for p _ c.tick.new.self history c.args.moment c.tick.result
-    (c.in-Ok-Live.is ∙ ap Ok c.in-Ok-Live.field-0-is) s (c.tick.ensures.answer p.show p.base history s.desk_stands)
+    (c.in-Ok-Live.is ∙ ap Ok c.in-Ok-Live.field-0-is) s
+    (c.tick.ensures.answer p.show p.base history s.desk_stands)
     (c.in-Ok-Live.ensures.stands p.show p.base history s.desk_stands) in
     c.offer_all-offers.ensures.offered p history t.has t.kind tells
 

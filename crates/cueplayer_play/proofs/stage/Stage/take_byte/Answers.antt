@@ -9,8 +9,10 @@ returns-clause-ran g c = λ p cut before stands tells_link tells_out ran.
     ran_ended p cut c.args.byte c.as_slice.result.now before
     (emitted (g.L.Link.offered c.args.link.now) (g.W.Output.tape c.args.out.now))
     (emitted (g.L.Link.offered c.take_line.new.link) (g.W.Output.tape c.take_line.new.out))
-    c.args.self.now.lost c.in_ok-lost.lost c.if-byte-ne10.false (c.as_slice.ensures.value ∙ stands.pending_is) ran
-    (c.in_ok-lost.ensures.carried_out p (history_of p.show cut.lines) stands.console_stands tells_link tells_out)
+    c.args.self.now.lost c.in_ok-lost.lost c.if-byte-ne10.false
+    (c.as_slice.ensures.value ∙ stands.pending_is) ran
+    (c.in_ok-lost.ensures.carried_out p (history_of p.show cut.lines) stands.console_stands
+    tells_link tells_out)
 
 pub returns-in_err-lost-clause-leaves : goal.returns-in_err-lost-clause-leaves
 returns-in_err-lost-clause-leaves g c =

@@ -10,7 +10,11 @@ pub take_byte-requires : goal.take_byte-requires
 take_byte-requires g c =
     let r = c.requires.real in
     record {
-      real = (r.0, fold with_byte r.1 (take c.loop-byte.byte-index c.args.bytes.now), c.loop-byte.invariant.stands r.0 r.1 r.2);
+      real = (
+        r.0,
+        fold with_byte r.1 (take c.loop-byte.byte-index c.args.bytes.now),
+        c.loop-byte.invariant.stands r.0 r.1 r.2,
+      );
     }
 
 pub returns-in_err-take_byte-clause-ends : goal.returns-in_err-take_byte-clause-ends
@@ -43,9 +47,12 @@ loop-byte-preserved g c =
           (next.stands p (fold with_byte cut (take i xs)) (so_far.stands p cut stands));
       ran = λ p cut before stands tells_link tells_out ran.
           subst (λ (x : Cut). Ran p x.lines before
-          (emitted (g.L.Link.offered c.take_byte.new.link) (g.W.Output.tape c.take_byte.new.out)) c.take_byte.new.self.lost)
+          (emitted (g.L.Link.offered c.take_byte.new.link) (g.W.Output.tape c.take_byte.new.out))
+          c.take_byte.new.self.lost)
           (fold_more cut xs i _ c.loop-byte-test.true)
-          (next.ran p (fold with_byte cut (take i xs)) before (so_far.stands p cut stands) tells_link tells_out
-          (so_far.ran p cut before stands (next.told_link tells_link) (next.told_output tells_out) ran));
+          (next.ran p (fold with_byte cut (take i xs)) before (so_far.stands p cut stands)
+          tells_link tells_out
+          (so_far.ran p cut before stands (next.told_link tells_link) (next.told_output tells_out)
+          ran));
       room = omega (arith, next.room, so_far.room);
     }

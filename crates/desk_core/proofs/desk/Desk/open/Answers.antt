@@ -12,7 +12,8 @@ returns-clause-stands g c = record {
   moment_is = refl;
   tick_is = refl;
   ended_is = refl;
-  frames_are = λ ordinal lt. ap (λ fs. slice_get fs ordinal) c.in_ok-frames.ensures ∙ dark_at 16 ordinal lt;
+  frames_are = λ ordinal lt. ap (λ fs. slice_get fs ordinal) c.in_ok-frames.ensures
+      ∙ dark_at 16 ordinal lt;
   floors_are = λ kept. cc;
   kept = λ kept. cc;
 }

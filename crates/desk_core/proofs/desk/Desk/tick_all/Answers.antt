@@ -1,4 +1,5 @@
-use Rattle.std.proofs.Common.{◌≡◌, ℕ, ◌<◌, List, None, Some, false, is_some, refl, sym, subst, ap, ◌∙◌, IsTrue, length, arith}
+use Rattle.std.proofs.Common.{◌≡◌, ℕ, ◌<◌, List, None, Some, false, is_some, refl, sym, subst, ap}
+use Rattle.std.proofs.Common.{◌∙◌, IsTrue, length, arith}
 use Rattle.std.specs.Prelude.{slice_get}
 use Rattle.std.specs.Vec.{with_items}
 use Rattle.std.proofs.lemmas.List.{with_items_is}
@@ -15,13 +16,18 @@ use Rattle.desk_core.proofs.desk.Desk.tick_all.Goals as goal
 
 pub returns : goal.returns
 returns g c = rw (← c.self.view_is) (λ show base history stands.
-    let none : ended history ≡ None = sym stands.ended_is ∙ ap (λ d. d.ended) c.self.view_is ∙ c.requires.live in
+    let none : ended history ≡ None = sym stands.ended_is ∙ ap (λ d. d.ended) c.self.view_is
+    ∙ c.requires.live in
     let now : List Move = with_due show c.args.moment (moves show history) in
-    let before : playback.StandsFor g.F.Fader.stands_for show c.self.inside.playback (moves show history) false =
-    subst (λ e. playback.StandsFor g.F.Fader.stands_for show c.self.inside.playback (moves show history) (is_some e)) none stands.playback_stands in
+    let before : playback.StandsFor g.F.Fader.stands_for show c.self.inside.playback
+    (moves show history) false =
+    subst (λ e. playback.StandsFor g.F.Fader.stands_for show c.self.inside.playback
+    (moves show history) (is_some e)) none stands.playback_stands in
     let moved : playback.StandsFor g.F.Fader.stands_for show c.advance.new.self now false =
-    subst (λ s. playback.StandsFor g.F.Fader.stands_for s c.self.inside.playback (moves show history) false
-    → playback.StandsFor g.F.Fader.stands_for s c.advance.new.self (with_due s c.args.moment (moves show history)) false) stands.show_is
+    subst (λ s. playback.StandsFor g.F.Fader.stands_for s c.self.inside.playback
+    (moves show history) false
+    → playback.StandsFor g.F.Fader.stands_for s c.advance.new.self
+    (with_due s c.args.moment (moves show history)) false) stands.show_is
     (c.advance.ensures.stands (moves show history) false) before in
     let levels : List ℕ = c.deref-2.result.now in
     let written : levels ≡ c.merge_levels.new.levels = c.deref-2.ensures.value
@@ -31,7 +37,8 @@ returns g c = rw (← c.self.view_is) (λ show base history stands.
       c.deref_mut.ensures.len,
       c.self.inside.levels.ok.0,
     )) in
-    let merged : (channel : ℕ) → IsTrue (is_channel channel) → level_in levels channel ≡ channel_level show history c.args.moment channel = λ channel is.
+    let merged : (channel : ℕ) → IsTrue (is_channel channel)
+    → level_in levels channel ≡ channel_level show history c.args.moment channel = λ channel is.
     merged_level show history now c.deref.result.now channel c.args.moment (g.F.Fader.latest
     c.advance.new.self.fader) (level_in levels channel)
     (ap (λ ls. level_in ls channel) written ∙ c.merge_levels.ensures.merged show now false moved
@@ -39,16 +46,21 @@ returns g c = rw (← c.self.view_is) (λ show base history stands.
     (ap (λ fs. level_in fs channel) c.deref.ensures.value
     ∙ stands.floors_are (subst (λ d. IsTrue d.are_floors) (sym c.self.view_is)
     c.requires.floors) channel is) in
-    let size : length c.draw.new.frames ≡ c.self.inside.frames.len = omega (arith, c.draw.auto.frames, c.deref_mut-2.ensures.len, c.self.inside.frames.ok.0) in
-    let patch_is : c.self.inside.rig.patch ≡ show.patch = c.self.invariant.patch_is ∙ ap (λ s. s.patch) stands.show_is in
+    let size : length c.draw.new.frames ≡ c.self.inside.frames.len =
+    omega (arith, c.draw.auto.frames, c.deref_mut-2.ensures.len, c.self.inside.frames.ok.0) in
+    let patch_is : c.self.inside.rig.patch ≡ show.patch = c.self.invariant.patch_is
+    ∙ ap (λ s. s.patch) stands.show_is in
     let in_range : IsInRange show = subst IsInRange stands.show_is c.self.invariant.in_range in
     let drawn : (ordinal : ℕ) → frame_of c.self.inside.rig.patch (level_in levels)
     c.grand-grand.result ordinal ≡ frame show history c.args.moment ordinal = λ ordinal.
     ap (λ p. frame_of p (level_in levels) c.grand-grand.result ordinal) patch_is
     ∙ live_frame show in_range history c.args.moment c.grand-grand.result levels none
     (c.grand-grand.ensures (settings history) stands.masters_stand) merged ordinal in
-    let frames_are : (ordinal : ℕ) → ordinal < 16 → slice_get (with_items c.self.inside.frames c.draw.new.frames).items ordinal ≡ Some (frame show history c.args.moment ordinal) = λ ordinal lt.
-    ap (λ fs. slice_get fs ordinal) (with_items_is c.self.inside.frames c.draw.new.frames size) ∙ c.draw.ensures ordinal lt ∙ ap Some (drawn ordinal) in
+    let frames_are : (ordinal : ℕ) → ordinal < 16
+    → slice_get (with_items c.self.inside.frames c.draw.new.frames).items ordinal
+    ≡ Some (frame show history c.args.moment ordinal) = λ ordinal lt.
+    ap (λ fs. slice_get fs ordinal) (with_items_is c.self.inside.frames c.draw.new.frames size)
+    ∙ c.draw.ensures ordinal lt ∙ ap Some (drawn ordinal) in
     record {
       show_is = stands.show_is;
       base_is = stands.base_is;
@@ -59,6 +71,10 @@ returns g c = rw (← c.self.view_is) (λ show base history stands.
       ended_is = rw (stands.ended_is, none) refl;
       frames_are = frames_are;
       floors_are = stands.floors_are;
-      kept = λ kept. subst (λ level. AreDrawn show.patch level (grand_after (settings history)) (with_items c.self.inside.frames c.draw.new.frames).items) (sym (channel_level-tick show history c.args.moment none))
-          (λ ordinal lt. frames_are ordinal lt ∙ ap Some (live_frame_is show history c.args.moment ordinal none));
+      kept = λ kept. subst
+          (λ level. AreDrawn show.patch level (grand_after (settings history))
+          (with_items c.self.inside.frames c.draw.new.frames).items)
+          (sym (channel_level-tick show history c.args.moment none))
+          (λ ordinal lt. frames_are ordinal lt
+          ∙ ap Some (live_frame_is show history c.args.moment ordinal none));
     })

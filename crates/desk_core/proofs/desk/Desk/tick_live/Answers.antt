@@ -14,4 +14,5 @@ returns-in-Ok g c = λ show base history stands.
 
 pub returns-in-Err : goal.returns-in-Err
 returns-in-Err g c = λ show base history stands.
-    c.tick_all-in-Err.ensures show base history (c.keep_floors.ensures.stands show base history stands)
+    c.tick_all-in-Err.ensures show base history
+    (c.keep_floors.ensures.stands show base history stands)

@@ -23,9 +23,11 @@ returns-clause-numbers g c =
     ∙ given ∙ ap (λ d. universe_numbers d.show.patch d.base) c.self.view_is
 
 pub returns-clause-ascending : goal.returns-clause-ascending
-returns-clause-ascending g c = subst IsStrictlyIncreasing (sym (returns-clause-numbers g c)) (numbers_rise c.args.self.now.show.patch c.args.self.now.base)
+returns-clause-ascending g c = subst IsStrictlyIncreasing (sym (returns-clause-numbers g c))
+    (numbers_rise c.args.self.now.show.patch c.args.self.now.base)
 
 pub returns-clause-range : goal.returns-clause-range
 returns-clause-range g c =
     subst (All (λ number. IsTrue (is_universe number))) (sym (returns-clause-numbers g c))
-    (numbers_in c.args.self.now.show.patch c.args.self.now.base (subst (λ d. IsTrue (is_base d.show.patch d.base)) c.self.view_is c.self.invariant.base_in))
+    (numbers_in c.args.self.now.show.patch c.args.self.now.base
+    (subst (λ d. IsTrue (is_base d.show.patch d.base)) c.self.view_is c.self.invariant.base_in))

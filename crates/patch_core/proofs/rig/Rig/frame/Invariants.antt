@@ -11,5 +11,6 @@ abbrev pub invariant-loop-i : goal.invariant-loop-i
 invariant-loop-i l = record {
   size : length l.out ≡ 512;
   so_far : (s : ℕ) → s < 512 → get_or l.out s 0
-      ≡ option_map_or (λ p. slot_of (level_in l.levels p.0) l.grand p.1) (find nat_cmp (l.first + s) (take l.i l.dimmers)) 0;
+      ≡ option_map_or (λ p. slot_of (level_in l.levels p.0) l.grand p.1)
+      (find nat_cmp (l.first + s) (take l.i l.dimmers)) 0;
 }

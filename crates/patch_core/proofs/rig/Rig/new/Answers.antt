@@ -72,9 +72,11 @@ invariant_of-result c =
       numbers_in = subst (λ es. All (λ e. IsTrue (is_dimmer e.0)) es)
           (sym c.in_ok-dimmers.ensures.items) (λ k d lt. (c.patch.ensures.range k d lt).0);
       index = record {
-        same = subst (λ es. IsPermutation es c.in_ok-by_channel.by_channel.items) c.deref.ensures.value c.in_ok-by_channel.ensures.same;
+        same = subst (λ es. IsPermutation es c.in_ok-by_channel.by_channel.items)
+            c.deref.ensures.value c.in_ok-by_channel.ensures.same;
         each = c.in_ok-begins.ensures.each;
-        places = subst (λ es. (k : ℕ) → k < 4097 → IsBegin es (k + 1) (get_or c.in_ok-begins.begins.items k 0))
+        places = subst (λ es. (k : ℕ) → k < 4097
+            → IsBegin es (k + 1) (get_or c.in_ok-begins.begins.items k 0))
             c.deref-2.ensures.value c.in_ok-begins.ensures.places;
       };
       sources = subst (λ s. AreSources (map.from_sorted {R = nat_cmp} dimmers) s (with_items

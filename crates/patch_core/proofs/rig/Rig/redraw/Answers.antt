@@ -16,20 +16,30 @@ use Rattle.patch_core.proofs.rig.Rig.redraw.Goals as goal
 pub redraw_channels-requires-clause-numbers : goal.redraw_channels-requires-clause-numbers
 redraw_channels-requires-clause-numbers c =
     subst (All (λ e. IsTrue (is_dimmer e.0))) (sym c.deref.ensures.value)
-    (All-permutation (λ e. IsTrue (is_dimmer e.0)) c.self.inside.dimmers.items c.self.inside.by_channel.items c.self.invariant.index.same c.self.invariant.numbers_in)
+    (All-permutation (λ e. IsTrue (is_dimmer e.0)) c.self.inside.dimmers.items
+    c.self.inside.by_channel.items c.self.invariant.index.same c.self.invariant.numbers_in)
 
 pub redraw_channels-requires-clause-bounds : goal.redraw_channels-requires-clause-bounds
 redraw_channels-requires-clause-bounds c =
-    rw c.deref-2.ensures.value (begins_rise c.self.inside.dimmers.items c.self.inside.by_channel.items c.self.inside.begins.items c.self.invariant.index)
+    rw c.deref-2.ensures.value
+    (begins_rise c.self.inside.dimmers.items c.self.inside.by_channel.items
+    c.self.inside.begins.items c.self.invariant.index)
 
 pub returns : goal.returns
 returns c = λ before after drawn agree listed.
     let dimmers : List (ℕ × (ℕ × ℕ)) = c.self.inside.dimmers.items in
     let patch : PatchMap = c.args.self.now.patch in
-    let same : dimmers ≡ map.entries patch = sym (entries_are nat_cmp nat_cmp_total dimmers c.self.invariant.sorted) ∙ ap (λ r. map.entries r.patch) c.self.view_is in
+    let same : dimmers ≡ map.entries patch =
+    sym (entries_are nat_cmp nat_cmp_total dimmers c.self.invariant.sorted)
+    ∙ ap (λ r. map.entries r.patch) c.self.view_is in
     let index : IsIndex (map.entries patch) c.deref.result.now c.deref-2.result.now =
     rw (← same, c.deref.ensures.value, c.deref-2.ensures.value) c.self.invariant.index in
-    let in_range : All (λ e. IsTrue (is_channel e.1.0)) (map.entries patch) = subst (All (λ e. IsTrue (is_channel e.1.0))) same c.self.invariant.channels_in in
-    drawn_from_slots patch after c.args.grand c.redraw_channels.new.frames c.redraw_channels.ensures.frames
-    (c.redraw_channels.ensures.slots patch before after index in_range (slots_from_drawn patch before c.args.grand c.args.frames.now drawn)
-    (λ channel is unlisted. agree channel is (λ there. unlisted there.0 there.1 (get_or_default c.args.channels.now there.0 0 channel there.1 ∙ there.2))) listed)
+    let in_range : All (λ e. IsTrue (is_channel e.1.0)) (map.entries patch) =
+    subst (All (λ e. IsTrue (is_channel e.1.0))) same c.self.invariant.channels_in in
+    drawn_from_slots patch after c.args.grand c.redraw_channels.new.frames
+    c.redraw_channels.ensures.frames
+    (c.redraw_channels.ensures.slots patch before after index in_range
+    (slots_from_drawn patch before c.args.grand c.args.frames.now drawn)
+    (λ channel is unlisted. agree channel is
+    (λ there. unlisted there.0 there.1
+    (get_or_default c.args.channels.now there.0 0 channel there.1 ∙ there.2))) listed)

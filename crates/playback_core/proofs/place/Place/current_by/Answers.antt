@@ -10,6 +10,7 @@ on_none (Some x) is h = cc
 pub returns : goal.returns
 returns c = λ moves stopped is.
     let some = c.loop.invariant moves stopped is in
-    let none = on_none c.follow.result (sym c.is_some.ensures ∙ c.loop-test.false) c.follow.ensures.stays in
+    let none = on_none c.follow.result (sym c.is_some.ensures ∙ c.loop-test.false)
+    c.follow.ensures.stays in
     let all = none some.0 stopped some.1 in
     all.0.current ∙ ap current_after (sym all.1 ∙ some.2)

@@ -12,4 +12,5 @@ returns-clause-answer g c =
     rw (← c.self.view_is) (λ moves stopped stands.
     c.goto.ensures.answer ∙ ok_or-goto_target _ _ _ _ _ (contains_key-cue_above _ _ _ found) found
     ∙ ap (λ current. ok_or (go_target c.args.show.now.cues current) AtEnd)
-    (c.current_by-current.ensures moves stopped (record { current = stands.current; due = stands.due })))
+    (c.current_by-current.ensures moves stopped
+    (record { current = stands.current; due = stands.due })))

@@ -6,7 +6,8 @@ use Rattle.sacn_packet.proofs.source_name.SourceName.new.Goals as goal
 pub invariant_of-result : goal.invariant_of-result
 invariant_of-result c =
     let fits : IsSourceName c.as_bytes-text.result.now = search rules in
-    c.write_name.ensures ∙ ap padded (sym (name_in-padded _ fits)) ∙ ap (λ field. padded (name_in field)) (sym c.write_name.ensures)
+    c.write_name.ensures ∙ ap padded (sym (name_in-padded _ fits))
+    ∙ ap (λ field. padded (name_in field)) (sym c.write_name.ensures)
 
 pub returns : goal.returns
 returns c =

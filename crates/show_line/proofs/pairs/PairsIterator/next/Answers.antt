@@ -3,7 +3,7 @@ use Rattle.std.specs.Prelude.{unwrap_or}
 use Rattle.std.proofs.lemmas.Grind.{common_steps}
 use Rattle.ascii_text.specs.Forms.{number_of}
 use Rattle.ascii_text.specs.LinesLeft.{words_left}
-use Rattle.show_line.specs.Pairs.{desk, pair_fault}
+use Rattle.show_line.specs.Pairs.{desk_limits, pair_fault}
 use Rattle.show_line.proofs.Ranges.{faultless_pair}
 use Rattle.show_line.proofs.pairs.PairsIterator.next.Goals as goal
 
@@ -12,9 +12,10 @@ overflow_cast-result c =
     let left = words_left c.next-2.new.self in
     let channel = c.in_ok-channel.channel.now in
     let byte = c.in_ok-byte.byte.now in
-    let two : words_left c.self.inside.words ≡ channel ∷ byte ∷ left = grind (arith, common_steps) in
-    let none = subst (λ ws. pair_fault desk ws ≡ None) two c.self.invariant in
-    let fine = faultless_pair desk channel byte left none in
+    let two : words_left c.self.inside.words ≡ channel ∷ byte ∷ left =
+    grind (arith, common_steps) in
+    let none = subst (λ ws. pair_fault desk_limits ws ≡ None) two c.self.invariant in
+    let fine = faultless_pair desk_limits channel byte left none in
     let is : c.unwrap_or.result ≡ unwrap_or (number_of channel) 0 = grind (arith, common_steps) in
     omega (arith, fine.0.below, is)
 
@@ -23,6 +24,7 @@ invariant_of-self-2 c =
     let left = words_left c.next-2.new.self in
     let channel = c.in_ok-channel.channel.now in
     let byte = c.in_ok-byte.byte.now in
-    let two : words_left c.self.inside.words ≡ channel ∷ byte ∷ left = grind (arith, common_steps) in
-    let none = subst (λ ws. pair_fault desk ws ≡ None) two c.self.invariant in
-    (faultless_pair desk channel byte left none).1
+    let two : words_left c.self.inside.words ≡ channel ∷ byte ∷ left =
+    grind (arith, common_steps) in
+    let none = subst (λ ws. pair_fault desk_limits ws ≡ None) two c.self.invariant in
+    (faultless_pair desk_limits channel byte left none).1

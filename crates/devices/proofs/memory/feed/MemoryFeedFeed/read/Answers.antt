@@ -15,9 +15,11 @@ given_more : (bytes front behind : List ℕ) (next count : ℕ)
 given_more bytes front behind next count long is =
     let much : (next + count) - next ≡ count = omega arith in
     take-add next count bytes
-    ∙ ap (λ xs. take next bytes ++ xs) (sym (take_at front behind count long ∙ is ∙ ap (λ n. take n (drop next bytes)) much))
+    ∙ ap (λ xs. take next bytes ++ xs)
+    (sym (take_at front behind count long ∙ is ∙ ap (λ n. take n (drop next bytes)) much))
 
-tapes_same : {items more : List ℕ} {failures fails : ℕ} → items ≡ more → failures ≡ fails → tape_of items failures ≡ tape_of more fails
+tapes_same : {items more : List ℕ} {failures fails : ℕ} → items ≡ more → failures ≡ fails
+    → tape_of items failures ≡ tape_of more fails
 tapes_same {items} {more} {failures} {fails} same counted = cc
 
 pub returns-clause-ok : goal.returns-clause-ok
@@ -25,5 +27,6 @@ returns-clause-ok c = λ _.
     let n = c.min-count.result in
     let copied = c.copy_from_slice.ensures in
     let long : length c.copy_from_slice.new.self ≡ n = grind (arith, common_steps) in
-    tapes_same (given_more c.args.self.now.bytes.now c.copy_from_slice.new.self _ c.args.self.now.next n long copied.after)
+    tapes_same (given_more c.args.self.now.bytes.now c.copy_from_slice.new.self _
+    c.args.self.now.next n long copied.after)
     c.in_ok-count.ensures.passes.1
