@@ -99,12 +99,15 @@ def tested_crates():
     return sorted(file.parents[1].name for file in (TOP / "crates").glob("*/src/tests.rt"))
 
 
-def without_core():
-    # A failed assertion aborts.
-    resource.setrlimit(resource.RLIMIT_CORE, (0, 0))
-
-
 class CrateGrowths(Growths):
+    @classmethod
+    def setUpClass(cls):
+        """A failed assertion aborts, and would leave a core file."""
+        super().setUpClass()
+        limits = resource.getrlimit(resource.RLIMIT_CORE)
+        cls.addClassCleanup(resource.setrlimit, resource.RLIMIT_CORE, limits)
+        resource.setrlimit(resource.RLIMIT_CORE, (0, limits[1]))
+
     def run_without(self, crate, test, growth):
         """How a test ends where the growth of this number is refused, and what it says."""
         done = subprocess.run(
@@ -113,7 +116,6 @@ class CrateGrowths(Growths):
             capture_output=True,
             timeout=60,
             env=self.environment(growth),
-            preexec_fn=without_core,
         )
         return done.returncode, (done.stdout + done.stderr).decode(errors="replace")
 
