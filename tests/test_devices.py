@@ -8,6 +8,7 @@ import subprocess
 import tempfile
 import time
 import unittest
+from pathlib import Path
 
 from program import CID, DEVICE_FAULT, PROGRAM, FolderTest, ProgramTest, counts, packet, run, text, told
 from worked import LOOK_ONE as SHOW
