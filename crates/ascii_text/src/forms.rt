@@ -174,10 +174,11 @@ fn hex(word: &[u8]) -> Option<u8>
 fn hex_digit(byte: u8) -> Option<u8>
     ensures { result ≡ hex_digit_of byte }
 {
-    match byte {
-        b'0'..=b'9' => Some(byte - b'0'),
-        b'a'..=b'f' => Some(byte - b'a' + 10),
-        b'A'..=b'F' => Some(byte - b'A' + 10),
-        _ => None,
+    // Of hex digits no processor foresees which is a letter, so there is no branch for it: a letter
+    // has bit 6, and 1 to 6 below.
+    if byte.is_ascii_hexdigit() {
+        Some((byte & 0xf) + 9 * (byte >> 6))
+    } else {
+        None
     }
 }

@@ -3,241 +3,84 @@ use clap::error::ErrorKind;
 use std::alloc::Global;
 use std::test::Fail;
 
-const CID: &str = "c0ffee00-0000-4000-8000-00000000e131";
-
-const CID_BYTES: [u8; 16] = [
+const CID: [u8; 16] = [
     0xc0, 0xff, 0xee, 0x00, 0x00, 0x00, 0x40, 0x00, 0x80, 0x00, 0x00, 0x00, 0x00, 0x00, 0xe1, 0x31,
 ];
 
+// Reads the words of a line.
+fn read_line(alloc: Global, line: &str) -> Result<Job, WordsFault> {
+    let mut words = Vec::new(alloc);
+    for word in line.split(' ') {
+        if words.push(word).is_err() {
+            return Err(WordsFault::Memory);
+        }
+    }
+    read_words(alloc, &words)
+}
+
 // Where the one growth that a run lets fail was refused here, the second reading has all it needs.
-fn read(alloc: Global, words: &[&str]) -> Result<Job, WordsFault> {
-    match read_words(alloc, words) {
-        Err(WordsFault::Memory) => read_words(alloc, words),
+fn read(alloc: Global, line: &str) -> Result<Job, WordsFault> {
+    match read_line(alloc, line) {
+        Err(WordsFault::Memory) => read_line(alloc, line),
         answer => answer,
     }
 }
 
-#[test]
-fn look_words(rt: HostRuntime) {
-    let unfit = [
-        ["cueplayer", "look", "-", "x", "--cid", CID],
-        ["cueplayer", "look", "-", "0", "--cid", CID],
-        ["cueplayer", "look", "-", "1", "--cid", "c0ffee00"],
-    ];
-    for words in unfit {
-        assert!(rt;
-            matches!(read(rt.alloc(), words.as_slice()), Err(WordsFault::Unfit)),
-            "{words:?}"
-        );
-    }
-    let refused = [
-        (
-            ["cueplayer", "look", "-", "1"].as_slice(),
-            ErrorKind::MissingRequiredArgument,
-        ),
-        (
-            ["cueplayer", "look", "-", "x"].as_slice(),
-            ErrorKind::MissingRequiredArgument,
-        ),
-        (
-            ["cueplayer", "look", "-", "--cid", CID].as_slice(),
-            ErrorKind::MissingRequiredArgument,
-        ),
-        (
-            ["cueplayer", "look", "-", "1", "--cid", CID, "--cid", CID].as_slice(),
-            ErrorKind::ArgumentConflict,
-        ),
-        (
-            ["cueplayer", "check"].as_slice(),
-            ErrorKind::MissingRequiredArgument,
-        ),
-        (
-            ["cueplayer", "check", "a", "b"].as_slice(),
-            ErrorKind::UnknownArgument,
-        ),
-        (
-            ["cueplayer", "listen", "127.0.0.1", "1"].as_slice(),
-            ErrorKind::MissingRequiredArgument,
-        ),
-        (
-            ["cueplayer", "open", "a"].as_slice(),
-            ErrorKind::InvalidSubcommand,
-        ),
-        (["cueplayer"].as_slice(), ErrorKind::MissingSubcommand),
-        (["cueplayer", "-h"].as_slice(), ErrorKind::DisplayHelp),
-        (["cueplayer", "--help"].as_slice(), ErrorKind::DisplayHelp),
-        (["cueplayer", "help"].as_slice(), ErrorKind::DisplayHelp),
-    ];
-    for (words, kind) in refused {
-        let answer = read(rt.alloc(), words);
-        assert!(rt;
-            matches!(&answer, Err(WordsFault::Refused(error)) if error.kind() == kind),
-            "{words:?}"
-        );
+fn is_unfit(alloc: Global, line: &str) -> bool {
+    matches!(read(alloc, line), Err(WordsFault::Unfit))
+}
+
+// Why no line of the program takes the words.
+fn refused(alloc: Global, line: &str) -> Option<ErrorKind> {
+    match read(alloc, line) {
+        Err(WordsFault::Refused(error)) => Some(error.kind()),
+        _ => None,
     }
 }
 
-#[test]
-fn words_of_look_one(rt: HostRuntime) -> Result<(), Fail> {
-    let spellings = [
-        CID,
-        "C0FFEE00-0000-4000-8000-00000000E131",
-        "c0ffee0000004000800000000000e131",
-        "{c0ffee00-0000-4000-8000-00000000e131}",
-        "urn:uuid:c0ffee00-0000-4000-8000-00000000e131",
-    ];
-    for spelling in spellings {
-        let words = ["cueplayer", "look", "-", "1", "--cid", spelling];
-        let Ok(Job::Look { show, cue, cid }) = read(rt.alloc(), words.as_slice()) else {
-            return Err(Fail::from("no look"));
-        };
-        assert!(rt;
-            show.as_str() == "-" && cue == 1000 && cid == CID_BYTES,
-            "{spelling}"
-        );
+// Whether the job is to check, or to explain, this show.
+fn reads_only(alloc: Global, line: &str, name: &str) -> bool {
+    match read(alloc, line) {
+        Ok(Job::Check { show }) => line.starts_with("cueplayer check") && show.as_str() == name,
+        Ok(Job::Explain { show }) => line.starts_with("cueplayer explain") && show.as_str() == name,
+        _ => false,
     }
-    let Ok(Job::Check { show }) = read(rt.alloc(), ["cueplayer", "check", "a.asc"].as_slice())
-    else {
-        return Err(Fail::from("no check"));
-    };
-    assert!(rt; show.as_str() == "a.asc");
-    Ok(())
 }
 
-#[test]
-fn words_of_explain(rt: HostRuntime) -> Result<(), Fail> {
-    let words = ["cueplayer", "explain", "a.asc"];
-    let Ok(Job::Explain { show }) = read(rt.alloc(), words.as_slice()) else {
-        return Err(Fail::from("no explain"));
-    };
-    assert!(rt; show.as_str() == "a.asc");
-    for words in [
-        ["cueplayer", "explain"].as_slice(),
-        ["cueplayer", "explain", "a", "b"].as_slice(),
-    ] {
-        assert!(rt;
-            matches!(read(rt.alloc(), words), Err(WordsFault::Refused(_))),
-            "{words:?}"
-        );
+// The cue and the CID of a look at the show of standard input.
+fn looked(alloc: Global, line: &str) -> Option<(u32, [u8; 16])> {
+    match read(alloc, line) {
+        Ok(Job::Look { show, cue, cid }) if show.as_str() == "-" => Some((cue, cid)),
+        _ => None,
     }
-    Ok(())
 }
 
-#[test]
-fn words_of_slots(rt: HostRuntime) -> Result<(), Fail> {
-    for (words, number, first) in [
-        (["cueplayer", "slots", "a.asc", "1.5"].as_slice(), 1500, 1),
-        (
-            ["cueplayer", "slots", "--base", "63999", "a.asc", ".25"].as_slice(),
-            250,
-            63999,
-        ),
-    ] {
-        let Ok(Job::Slots { show, cue, base }) = read(rt.alloc(), words) else {
-            return Err(Fail::from("no slots"));
-        };
-        assert!(rt;
-            show.as_str() == "a.asc" && cue == number && base == first,
-            "{words:?}"
-        );
+// The cue and the base.
+fn slotted(alloc: Global, line: &str) -> Option<(u32, u16)> {
+    match read(alloc, line) {
+        Ok(Job::Slots { show, cue, base }) if show.as_str() == "a.asc" => Some((cue, base)),
+        _ => None,
     }
-    for words in [
-        ["cueplayer", "slots", "a.asc", "x", "--base", "1"],
-        ["cueplayer", "slots", "a.asc", "1", "--base", "0"],
-        ["cueplayer", "slots", "a.asc", "1", "--base", "64000"],
-    ] {
-        assert!(rt;
-            matches!(read(rt.alloc(), words.as_slice()), Err(WordsFault::Unfit)),
-            "{words:?}"
-        );
-    }
-    Ok(())
 }
 
-#[test]
-fn words_of_listen(rt: HostRuntime) -> Result<(), Fail> {
-    for (spelling, host, port) in [
-        ("127.0.0.1:5000", [127, 0, 0, 1], 5000),
-        ("127.000.000.001:0", [127, 0, 0, 1], 0),
-        ("10.255.3.4", [10, 255, 3, 4], 5568),
-        ("239.255.0.1:65535", [239, 255, 0, 1], 65535),
-    ] {
-        let words = ["cueplayer", "listen", spelling, "63999", "1000000"];
-        let Ok(
+// The address, the universe and the count.
+fn listened(alloc: Global, line: &str) -> Option<(([u8; 4], u16), u16, u32)> {
+    match read(alloc, line) {
+        Ok(
             Job::Listen {
                 at,
                 universe,
                 count,
             },
-        ) = read(rt.alloc(), words.as_slice())
-        else {
-            return Err(Fail::from("no listen"));
-        };
-        assert!(rt; at.0 == host && at.1 == port, "{spelling}");
-        assert!(rt; universe == 63999 && count == 1_000_000, "{spelling}");
+        ) => Some((at, universe, count)),
+        _ => None,
     }
-    for words in [
-        ["127.0.0.1:", "1", "1"],
-        ["127.0.0.1:65536", "1", "1"],
-        ["127.0.0.256", "1", "1"],
-        ["127.0.0", "1", "1"],
-        ["127.0.0.1.1", "1", "1"],
-        ["localhost", "1", "1"],
-        ["127.0.0.1", "0", "1"],
-        ["127.0.0.1", "64000", "1"],
-        ["127.0.0.1", "1", "0"],
-        ["127.0.0.1", "1", "1000001"],
-        ["127.0.0.1", "1", "0000000001"],
-    ] {
-        let [address, universe, count] = words;
-        let words = ["cueplayer", "listen", address, universe, count];
-        assert!(rt;
-            matches!(read(rt.alloc(), words.as_slice()), Err(WordsFault::Unfit)),
-            "{words:?}"
-        );
-    }
-    Ok(())
 }
 
-#[test]
-fn words_of_play(rt: HostRuntime) -> Result<(), Fail> {
-    let spellings = [
-        (
-            [
-                "cueplayer",
-                "play",
-                "a.asc",
-                "--to",
-                "127.0.0.1",
-                "--cid",
-                CID,
-            ]
-            .as_slice(),
-            5568,
-            100,
-            1,
-        ),
-        (
-            &[
-                "cueplayer",
-                "play",
-                "--base",
-                "63999",
-                "--priority",
-                "0",
-                "--cid",
-                CID,
-                "--to",
-                "127.0.0.1:9",
-                "a.asc",
-            ],
-            9,
-            0,
-            63999,
-        ),
-    ];
-    for (words, port, its_priority, its_base) in spellings {
-        let Ok(
+// The address, the priority and the base of a play of the source.
+fn played(alloc: Global, line: &str) -> Option<(([u8; 4], u16), u8, u16)> {
+    match read(alloc, line) {
+        Ok(
             Job::Play {
                 show,
                 to,
@@ -245,79 +88,15 @@ fn words_of_play(rt: HostRuntime) -> Result<(), Fail> {
                 priority,
                 base,
             },
-        ) = read(rt.alloc(), words)
-        else {
-            return Err(Fail::from("no play"));
-        };
-        assert!(rt; show.as_str() == "a.asc" && cid == CID_BYTES);
-        assert!(rt; to.0 == [127, 0, 0, 1] && to.1 == port);
-        assert!(rt; priority == its_priority && base == its_base);
+        ) if show.as_str() == "a.asc" && cid == CID => Some((to, priority, base)),
+        _ => None,
     }
-    for (option, value) in [
-        ("--priority", "201"),
-        ("--priority", "x"),
-        ("--base", "0"),
-        ("--base", "64000"),
-        ("--priority", "0000000100"),
-    ] {
-        let words = [
-            "cueplayer",
-            "play",
-            "a.asc",
-            "--to",
-            "127.0.0.1",
-            "--cid",
-            CID,
-            option,
-            value,
-        ];
-        assert!(rt;
-            matches!(read(rt.alloc(), words.as_slice()), Err(WordsFault::Unfit)),
-            "{words:?}"
-        );
-    }
-    for words in [
-        ["cueplayer", "play", "a.asc", "--cid", CID].as_slice(),
-        &["cueplayer", "play", "a.asc", "--to", "127.0.0.1"],
-        &["cueplayer", "play", "--to", "127.0.0.1", "--cid", CID],
-        &[
-            "cueplayer",
-            "play",
-            "a.asc",
-            "--to",
-            "127.0.0.1",
-            "--cid",
-            CID,
-            "--base",
-            "1",
-            "--base",
-            "2",
-        ],
-    ] {
-        assert!(rt;
-            matches!(read(rt.alloc(), words), Err(WordsFault::Refused(_))),
-            "{words:?}"
-        );
-    }
-    Ok(())
 }
 
-#[test]
-fn words_of_live(rt: HostRuntime) -> Result<(), Fail> {
-    for (option, name) in [("--record=b.play", Some("b.play")), ("--base=7", None)] {
-        let words = [
-            "cueplayer",
-            "live",
-            "a.asc",
-            "--to",
-            "10.0.0.9",
-            "--cid",
-            CID,
-            "--priority",
-            "150",
-            option,
-        ];
-        let Ok(
+// The same of a live night, and whether the record has this name; none where none is named.
+fn lived(alloc: Global, line: &str, name: Option<&str>) -> Option<(([u8; 4], u16), u8, u16)> {
+    match read(alloc, line) {
+        Ok(
             Job::Live {
                 show,
                 to,
@@ -326,59 +105,205 @@ fn words_of_live(rt: HostRuntime) -> Result<(), Fail> {
                 base,
                 record_file,
             },
-        ) = read(rt.alloc(), words.as_slice())
-        else {
-            return Err(Fail::from("no live"));
-        };
-        assert!(rt; show.as_str() == "a.asc" && cid == CID_BYTES, "{option}");
-        assert!(rt;
-            to.0 == [10, 0, 0, 9] && to.1 == 5568 && priority == 150,
-            "{option}"
-        );
-        assert_eq!(rt; base, if name.is_some() { 1 } else { 7 }, "{option}");
-        assert!(rt;
-            match (record_file, name) {
-                (Some(file), Some(name)) => file.as_str() == name,
-                (None, None) => true,
-                _ => false,
-            },
-            "{option}"
-        );
+        ) if show.as_str() == "a.asc" && cid == CID => match (record_file, name) {
+            (Some(file), Some(name)) if file.as_str() == name => Some((to, priority, base)),
+            (None, None) => Some((to, priority, base)),
+            _ => None,
+        },
+        _ => None,
     }
-    let words = [
-        "cueplayer",
-        "live",
-        "a.asc",
-        "--to",
-        "10.0.0.9",
-        "--cid",
-        "c0ffee00",
-    ];
-    assert!(rt; matches!(read(rt.alloc(), words.as_slice()), Err(WordsFault::Unfit)));
-    Ok(())
 }
 
 #[test]
-fn words_of_rehearse(rt: HostRuntime) -> Result<(), Fail> {
-    let words = ["cueplayer", "rehearse", "a.asc", "-"];
-    let Ok(Job::Rehearse { show, script }) = read(rt.alloc(), words.as_slice()) else {
-        return Err(Fail::from("no rehearse"));
-    };
-    assert!(rt; show.as_str() == "a.asc" && script.as_str() == "-");
-    let words = ["cueplayer", "rehearse", "a.asc"];
+fn look_words(rt: HostRuntime) {
+    for line in [
+        "cueplayer look - x --cid c0ffee00-0000-4000-8000-00000000e131",
+        "cueplayer look - 0 --cid c0ffee00-0000-4000-8000-00000000e131",
+        "cueplayer look - 1 --cid c0ffee00",
+    ] {
+        assert!(rt; is_unfit(rt.alloc(), line), "{line}");
+    }
+    for (line, kind) in [
+        ("cueplayer look - 1", ErrorKind::MissingRequiredArgument),
+        ("cueplayer look - x", ErrorKind::MissingRequiredArgument),
+        (
+            "cueplayer look - --cid c0ffee00",
+            ErrorKind::MissingRequiredArgument,
+        ),
+        (
+            "cueplayer look - 1 --cid x --cid x",
+            ErrorKind::ArgumentConflict,
+        ),
+        ("cueplayer check", ErrorKind::MissingRequiredArgument),
+        ("cueplayer check a b", ErrorKind::UnknownArgument),
+        (
+            "cueplayer listen 127.0.0.1 1",
+            ErrorKind::MissingRequiredArgument,
+        ),
+        ("cueplayer open a", ErrorKind::InvalidSubcommand),
+        ("cueplayer", ErrorKind::MissingSubcommand),
+        ("cueplayer -h", ErrorKind::DisplayHelp),
+        ("cueplayer --help", ErrorKind::DisplayHelp),
+        ("cueplayer help", ErrorKind::DisplayHelp),
+    ] {
+        assert!(rt; refused(rt.alloc(), line) == Some(kind), "{line}");
+    }
+}
+
+#[test]
+fn words_of_look_one(rt: HostRuntime) {
+    for line in [
+        "cueplayer look - 1 --cid c0ffee00-0000-4000-8000-00000000e131",
+        "cueplayer look - 1 --cid C0FFEE00-0000-4000-8000-00000000E131",
+        "cueplayer look - 1 --cid c0ffee0000004000800000000000e131",
+        "cueplayer look - 1 --cid {c0ffee00-0000-4000-8000-00000000e131}",
+        "cueplayer look - 1 --cid urn:uuid:c0ffee00-0000-4000-8000-00000000e131",
+    ] {
+        assert_eq!(rt; looked(rt.alloc(), line), Some((1000, CID)), "{line}");
+    }
+    assert!(rt; reads_only(rt.alloc(), "cueplayer check a.asc", "a.asc"));
+}
+
+#[test]
+fn words_of_explain(rt: HostRuntime) {
+    assert!(rt; reads_only(rt.alloc(), "cueplayer explain a.asc", "a.asc"));
+    for line in ["cueplayer explain", "cueplayer explain a b"] {
+        assert!(rt; refused(rt.alloc(), line).is_some(), "{line}");
+    }
+}
+
+#[test]
+fn words_of_slots(rt: HostRuntime) {
+    for (line, answer) in [
+        ("cueplayer slots a.asc 1.5", (1500, 1)),
+        ("cueplayer slots --base 63999 a.asc .25", (250, 63999)),
+    ] {
+        assert_eq!(rt; slotted(rt.alloc(), line), Some(answer), "{line}");
+    }
+    for line in [
+        "cueplayer slots a.asc x --base 1",
+        "cueplayer slots a.asc 1 --base 0",
+        "cueplayer slots a.asc 1 --base 64000",
+    ] {
+        assert!(rt; is_unfit(rt.alloc(), line), "{line}");
+    }
+}
+
+#[test]
+fn words_of_listen(rt: HostRuntime) {
+    for (line, at) in [
+        (
+            "cueplayer listen 127.0.0.1:5000 63999 1000000",
+            ([127, 0, 0, 1], 5000),
+        ),
+        (
+            "cueplayer listen 127.000.000.001:0 63999 1000000",
+            ([127, 0, 0, 1], 0),
+        ),
+        (
+            "cueplayer listen 10.255.3.4 63999 1000000",
+            ([10, 255, 3, 4], 5568),
+        ),
+        (
+            "cueplayer listen 239.255.0.1:65535 63999 1000000",
+            ([239, 255, 0, 1], 65535),
+        ),
+    ] {
+        assert_eq!(rt;
+            listened(rt.alloc(), line),
+            Some((at, 63999, 1_000_000)),
+            "{line}"
+        );
+    }
+    for line in [
+        "cueplayer listen 127.0.0.1: 1 1",
+        "cueplayer listen 127.0.0.1:65536 1 1",
+        "cueplayer listen 127.0.0.256 1 1",
+        "cueplayer listen 127.0.0 1 1",
+        "cueplayer listen 127.0.0.1.1 1 1",
+        "cueplayer listen localhost 1 1",
+        "cueplayer listen 127.0.0.1 0 1",
+        "cueplayer listen 127.0.0.1 64000 1",
+        "cueplayer listen 127.0.0.1 1 0",
+        "cueplayer listen 127.0.0.1 1 1000001",
+        "cueplayer listen 127.0.0.1 1 0000000001",
+    ] {
+        assert!(rt; is_unfit(rt.alloc(), line), "{line}");
+    }
+}
+
+#[test]
+fn words_of_play(rt: HostRuntime) {
+    for (line, answer) in [
+        (
+            "cueplayer play a.asc --to 127.0.0.1 --cid c0ffee00-0000-4000-8000-00000000e131",
+            (([127, 0, 0, 1], 5568), 100, 1),
+        ),
+        (
+            "cueplayer play --base 63999 --priority 0 --cid c0ffee00-0000-4000-8000-00000000e131 \
+             --to 127.0.0.1:9 a.asc",
+            (([127, 0, 0, 1], 9), 0, 63999),
+        ),
+    ] {
+        assert_eq!(rt; played(rt.alloc(), line), Some(answer), "{line}");
+    }
+    for line in [
+        "cueplayer play a.asc --to 1.2.3.4 --cid c0ffee0000004000800000000000e131 --priority 201",
+        "cueplayer play a.asc --to 1.2.3.4 --cid c0ffee0000004000800000000000e131 --priority x",
+        "cueplayer play a.asc --to 1.2.3.4 --cid c0ffee0000004000800000000000e131 --base 0",
+        "cueplayer play a.asc --to 1.2.3.4 --cid c0ffee0000004000800000000000e131 --base 64000",
+        "cueplayer play a.asc --to 1.2.3.4 --cid c0ffee0000004000800000000000e131 \
+         --priority 0000000100",
+    ] {
+        assert!(rt; is_unfit(rt.alloc(), line), "{line}");
+    }
+    for line in [
+        "cueplayer play a.asc --cid c0ffee0000004000800000000000e131",
+        "cueplayer play a.asc --to 127.0.0.1",
+        "cueplayer play --to 127.0.0.1 --cid c0ffee0000004000800000000000e131",
+        "cueplayer play a.asc --to 127.0.0.1 --cid c0ffee0000004000800000000000e131 --base 1 \
+         --base 2",
+    ] {
+        assert!(rt; refused(rt.alloc(), line).is_some(), "{line}");
+    }
+}
+
+#[test]
+fn words_of_live(rt: HostRuntime) {
+    for (line, name, base) in [
+        (
+            "cueplayer live a.asc --to 10.0.0.9 --cid c0ffee00-0000-4000-8000-00000000e131 \
+             --priority 150 --record=b.play",
+            Some("b.play"),
+            1,
+        ),
+        (
+            "cueplayer live a.asc --to 10.0.0.9 --cid c0ffee00-0000-4000-8000-00000000e131 \
+             --priority 150 --base=7",
+            None,
+            7,
+        ),
+    ] {
+        let answer = Some((([10, 0, 0, 9], 5568), 150, base));
+        assert_eq!(rt; lived(rt.alloc(), line, name), answer, "{line}");
+    }
+    let line = "cueplayer live a.asc --to 10.0.0.9 --cid c0ffee00";
+    assert!(rt; is_unfit(rt.alloc(), line));
+}
+
+#[test]
+fn words_of_rehearse(rt: HostRuntime) {
+    let job = read(rt.alloc(), "cueplayer rehearse a.asc -");
     assert!(rt;
-        matches!(
-            read(rt.alloc(), words.as_slice()),
-            Err(WordsFault::Refused(_))
-        )
+        matches!(&job, Ok(Job::Rehearse { show, script })
+            if show.as_str() == "a.asc" && script.as_str() == "-")
     );
-    Ok(())
+    assert!(rt; refused(rt.alloc(), "cueplayer rehearse a.asc").is_some());
 }
 
 #[test]
 fn refusal_text(rt: HostRuntime) -> Result<(), Fail> {
-    let words = ["bin/other", "look", "-", "1"];
-    let Err(WordsFault::Refused(error)) = read(rt.alloc(), words.as_slice()) else {
+    let Err(WordsFault::Refused(error)) = read(rt.alloc(), "bin/other look - 1") else {
         return Err(Fail::from("no refusal"));
     };
     let text = format!(in rt.alloc(); "{error}")?;

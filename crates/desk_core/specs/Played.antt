@@ -1,7 +1,7 @@
 -- What a console does: its calls, why one is refused, and the moves and settings that the accepted
 -- ones make.
 use Rattle.std.specs.Prelude.{ℕ, ◌+◌, ◌^◌, nat_lt, nat_le, Bool, true, false, if◌then◌else◌}
-use Rattle.std.specs.Prelude.{List, [], ◌∷◌, Option, Some, None, is_some, Result, Ok, Err}
+use Rattle.std.specs.Prelude.{List, [], ◌∷◌, find, Option, Some, None, is_some, Result, Ok, Err}
 use Rattle.std.specs.Option.{option_or}
 use Rattle.std.specs.FinMap as map
 use Rattle.show_core.specs.Tables.{Tables}
@@ -103,14 +103,18 @@ is_soon None moment call = false
 is_soon (Some last) moment (order command) = false
 is_soon (Some last) moment tick = nat_lt moment (last + 23)
 
--- the lowest refusal that the moment of a call gives
+-- what stands against the moment of a call, refusal by refusal
+abbrev pub is_untimely : ℕ → ℕ → Bool → Bool → Refused → Bool
+is_untimely last moment over soon Backwards = nat_lt moment last
+is_untimely last moment over soon MomentTooLarge = nat_le (2 ^ 48) moment
+is_untimely last moment over soon Ended = over
+is_untimely last moment over soon TooSoon = soon
+is_untimely last moment over soon _ = false
+
+-- the first of them that applies, in their order
 abbrev pub untimely : ℕ → ℕ → Bool → Bool → Option Refused
 untimely last moment over soon =
-    if nat_lt moment last then Some Backwards
-    else (if nat_le (2 ^ 48) moment then Some MomentTooLarge
-    else (if over then Some Ended
-    else (if soon then Some TooSoon
-    else None)))
+    find (is_untimely last moment over soon) (Backwards ∷ MomentTooLarge ∷ Ended ∷ TooSoon ∷ [])
 
 -- the refusal of a command whose cue, submaster or group the show does not have
 abbrev pub lacking : Tables → Option ℕ → Call → Option Refused

@@ -31,7 +31,7 @@ mod writer;
 
 pub use data_packet::DataPacket;
 pub use kept::{refill, renumber, slots_in};
-pub use reader::parse;
+pub use reader::{TOP_UNIVERSE, parse};
 pub use source_name::SourceName;
 pub use unreadable::Unreadable;
 pub use writer::{Header, encode};

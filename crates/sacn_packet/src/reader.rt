@@ -7,6 +7,9 @@ use crate::bytes::{differs_from, length_at, number_at};
 use crate::data_packet::DataPacket;
 use crate::unreadable::Unreadable;
 
+/// The greatest number of a universe; the least is 1 (framing layer: universe).
+pub const TOP_UNIVERSE: u16 = 63_999;
+
 // Preamble size and post-amble size.
 const PREAMBLE: u32 = 0x0010_0000;
 
@@ -76,7 +79,7 @@ fn fault_in(datagram: &[u8]) -> Option<Unreadable>
         Some(Unreadable::FramingVector)
     } else if datagram[108] > 200 {
         Some(Unreadable::Priority)
-    } else if !(1..=63_999).contains(&number_at(datagram, 113)) {
+    } else if !(1..=TOP_UNIVERSE).contains(&number_at(datagram, 113)) {
         Some(Unreadable::Universe)
     } else if has_other_form(datagram) {
         Some(Unreadable::Dmp)

@@ -1,6 +1,7 @@
 -- What a receiver makes of a datagram: the packet in it, whether it is accepted, and why not.
-use Rattle.std.specs.Prelude.{ℕ, ◌-◌, ◌==◌, Bool, not, ◌&&◌, List, ◌∷◌, ◌++◌, length, replicate}
-use Rattle.std.specs.Prelude.{nat_lt, bit_and, if◌then◌else◌, Option, Some, None, Result, Ok, Err}
+use Rattle.std.specs.Prelude.{ℕ, ◌-◌, ◌==◌, Bool, false, not, ◌&&◌, List, [], ◌∷◌, ◌++◌, length}
+use Rattle.std.specs.Prelude.{replicate, find, nat_lt, bit_and, if◌then◌else◌, Option, Some, None}
+use Rattle.std.specs.Prelude.{Result, Ok, Err}
 use Rattle.std.specs.Option.{option_or, option_map, option_map_or}
 use Rattle.sacn_packet.specs.Wire.{Packet}
 use Rattle.sacn_packet.specs.Reading.{front_packet}
@@ -47,13 +48,17 @@ abbrev pub refusal : ℕ → List Entry → ℕ → List ℕ → ℕ → Option 
 refusal room h t cid number =
     if is_accepted room h t cid number then None else Some (reason_of (record_of h t cid))
 
--- why a packet is not heard on a universe: it is of another, or is no data for the stage
+-- what keeps a packet from being heard on a universe, reason by reason: it is of another, or is no
+-- data for the stage
+abbrev pub keeps_off : ℕ → Packet → Ignored → Bool
+keeps_off universe p OtherUniverse = not (p.fields.universe == universe)
+keeps_off universe p Preview = is_preview p
+keeps_off universe p AltStart = is_alternate p
+keeps_off universe p _ = false
+
+-- why a packet is not heard on a universe: the first of these reasons that applies
 abbrev pub unheard : ℕ → Packet → Option Ignored
-unheard universe p =
-    if not (p.fields.universe == universe) then Some OtherUniverse
-    else (if is_preview p then Some Preview
-    else (if is_alternate p then Some AltStart
-    else None))
+unheard universe p = find (keeps_off universe p) (OtherUniverse ∷ Preview ∷ AltStart ∷ [])
 
 -- why a packet is ignored
 abbrev pub ignored_packet : ℕ → ℕ → List Entry → ℕ → Packet → Option Ignored

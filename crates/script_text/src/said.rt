@@ -9,7 +9,7 @@ ghost use Rattle.script_text.specs.Said.{slots_with, event_with, spelled, said, 
 use crate::hex_bytes::HexBytes;
 use ascii_text::{Words, moment, same_word, whole};
 use console_text::command_in;
-use sacn_packet::SourceName;
+use sacn_packet::{SourceName, TOP_UNIVERSE};
 use sacn_source::Identity;
 use uuid::Uuid;
 use wire_laws::{Event, Setup, What};
@@ -222,7 +222,7 @@ fn slots<'a>(moment: u64, operands: &'a [u8]) -> Option<Said<'a>>
 fn universe(word: &[u8]) -> Option<u16>
     ensures { result ≡ universe_of word.now }
 {
-    let number = whole(word, 63999)?;
+    let number = whole(word, u32::from(TOP_UNIVERSE))?;
     if number == 0 {
         return None;
     }

@@ -1,7 +1,7 @@
 -- Why nothing is rehearsed: the first reason that applies.
 use Rattle.std.specs.Prelude.{◌≡◌, ℕ, ◌==◌, Bool, not, ◌&&◌, List, [], ◌∷◌, length, nat_lt}
 use Rattle.std.specs.Prelude.{nat_le}
-use Rattle.std.specs.Prelude.{if◌then◌else◌, slice_get, Option, Some, None, Result, Err, IfErr}
+use Rattle.std.specs.Prelude.{find, slice_get, Option, Some, None, Result, Err, IfErr}
 use Rattle.std.specs.Prelude.{true, false}
 use Rattle.std.specs.List.{list_all, list_any}
 use Rattle.std.specs.Option.{option_map_or}
@@ -42,14 +42,18 @@ abbrev pub has_base : List Tables → Setup → Bool
 has_base shows setup =
     option_map_or (λ show. is_base show.patch setup.base) (slice_get shows setup.show) false
 
--- the first reason that applies, where one does
+-- what is wrong with a setup, fault by fault
+abbrev pub applies : List Tables → List Setup → List ℕ → Fault → Bool
+applies shows setups universes Consoles = not (are_consoles (length setups))
+applies shows setups universes Receivers = not (are_receivers universes)
+applies shows setups universes NoShow = not (list_all (has_show shows) setups)
+applies shows setups universes Universe = not (list_all (has_base shows) setups)
+applies shows setups universes Memory = false
+
+-- the first that applies, in their order
 abbrev pub setup_fault : List Tables → List Setup → List ℕ → Option Fault
 setup_fault shows setups universes =
-    if not (are_consoles (length setups)) then Some Consoles
-    else (if not (are_receivers universes) then Some Receivers
-    else (if not (list_all (has_show shows) setups) then Some NoShow
-    else (if not (list_all (has_base shows) setups) then Some Universe
-    else None)))
+    find (applies shows setups universes) (Consoles ∷ Receivers ∷ NoShow ∷ Universe ∷ [])
 
 -- the setup is refused for its first fault; where it has none, there may be no memory
 abbrev pub Answers : {X : Type 0} → Option Fault → Result X Fault → Type 0

@@ -6,10 +6,9 @@ ghost use Rattle.wire_world.specs.Refusing.{setup_fault};
 ghost use Rattle.std.specs.Result.{result_err};
 
 use patch_core::has_numbers;
+use sacn_packet::TOP_UNIVERSE;
 use show_core::Show;
 use wire_laws::{Fault, Setup};
-
-const TOP_UNIVERSE: u16 = 63_999;
 
 // Why nothing is rehearsed, where a reason applies: the first of them.
 pub(crate) fn check(shows: &[Show], setups: &[Setup], universes: &[u16]) -> Result<(), Fault>
@@ -53,7 +52,7 @@ fn has_universes(universes: &[u16]) -> bool
 fn is_new(universe: u16, others: &[u16]) -> bool
     ensures { result ≡ is_new_at universe others.now }
 {
-    1 <= universe && universe <= TOP_UNIVERSE && !is_among(others, universe)
+    (1..=TOP_UNIVERSE).contains(&universe) && !is_among(others, universe)
 }
 
 fn is_among(others: &[u16], universe: u16) -> bool
