@@ -1,8 +1,9 @@
 -- Each builder keeps the numbers of a show in their ranges.
 use Rattle.std.proofs.Common.{◌≡◌, ℕ, ◌+◌, ◌<◌, ◌≤◌, ◌==◌, true, false, cond, IsTrue, Option, Some}
-use Rattle.std.proofs.Common.{None, is_some, refl, ap, ◌∙◌, arith}
+use Rattle.std.proofs.Common.{None, is_some, List, [], ◌∷◌, refl, ap, ◌∙◌, arith}
 use Rattle.std.specs.Prelude.{All, IfSome, option_map}
-use Rattle.std.specs.Option.{OnSome}
+use Rattle.std.specs.List.{list_all}
+use Rattle.std.specs.Option.{OnSome, option_map_or}
 use Rattle.std.specs.Ordering.{nat_cmp}
 use Rattle.std.specs.Cmp.{nat_cmp_total}
 use Rattle.std.specs.FinMap as map
@@ -11,10 +12,10 @@ use Rattle.show_core.specs.declared.cue.CueData.{CueData}
 use Rattle.show_core.specs.declared.rate.Rate.{Rate}
 use Rattle.show_core.specs.Numbers.{is_channel, is_dimmer, is_sub, is_group, is_cue_number, is_time}
 use Rattle.show_core.specs.Tables.{Tables, LevelMap, CueMap, MasterMap, PatchMap}
-use Rattle.show_core.specs.Builders.{blank, opened, can_open, changed, opened_in, with_listed}
-use Rattle.show_core.specs.Builders.{can_patch, patched_with}
+use Rattle.show_core.specs.Builders.{blank, opened, can_open, changed, opened_in}
+use Rattle.show_core.specs.Builders.{can_patch, patched_with, all_patched}
 use Rattle.show_core.specs.Readers.{IsInRange, IsRateInRange, HasTimes, rate_of}
-use Rattle.show_core.proofs.Sorted.{and_left, from_true, to_true}
+use Rattle.show_core.proofs.Sorted.{and_left, and_right, from_true, to_true}
 use Rattle.show_core.proofs.Ranges.{keys-insert, keys-changed, keys-remove, key_in, len-changed}
 use Rattle.show_core.proofs.Ranges.{values-insert, values-remove, values-changed, value_in, none_in}
 use Rattle.show_core.proofs.Ranges.{no_values}
@@ -67,6 +68,10 @@ empty_in_range = record {
   dimmers_in = none_in (ℕ × ℕ) (λ d. IsTrue (is_dimmer d));
   patch_channels = no_values (ℕ × ℕ) (λ e. IsTrue (is_channel e.1.0));
 }
+
+abbrev pub changed_in : MasterMap → ℕ → (LevelMap → LevelMap) → MasterMap
+changed_in masters n change =
+    option_map_or (λ levels. map.insert masters n (change levels)) (map.get masters n) masters
 
 module _ (t : Tables) (h : IsInRange t) where
   -- one table is replaced
@@ -163,12 +168,11 @@ module _ (t : Tables) (h : IsInRange t) where
       subs_in_range (opened_in t.subs n)
       (opened_in_range (λ k. IsTrue (is_sub k)) t.subs n h.subs_in number)
 
-  pub changed_sub_in_range : (n channel byte : ℕ)
-      → IsInRange (record t { subs = with_listed t.subs n channel byte })
-  changed_sub_in_range n channel byte =
-      subs_in_range (with_listed t.subs n channel byte)
-      (keys-changed (λ k. IsTrue (is_sub k)) t.subs n
-      (λ levels. map.insert levels channel byte) h.subs_in)
+  pub changed_sub_in_range : (n : ℕ) (change : LevelMap → LevelMap)
+      → IsInRange (record t { subs = changed_in t.subs n change })
+  changed_sub_in_range n change =
+      subs_in_range (changed_in t.subs n change)
+      (keys-changed (λ k. IsTrue (is_sub k)) t.subs n change h.subs_in)
 
   pub no_subs_in_range : IsInRange (record t { subs = map.empty })
   no_subs_in_range = subs_in_range map.empty (none_in LevelMap (λ n. IsTrue (is_sub n)))
@@ -179,12 +183,11 @@ module _ (t : Tables) (h : IsInRange t) where
       groups_in_range (opened_in t.groups n)
       (opened_in_range (λ k. IsTrue (is_group k)) t.groups n h.groups_in number)
 
-  pub changed_group_in_range : (n channel byte : ℕ)
-      → IsInRange (record t { groups = with_listed t.groups n channel byte })
-  changed_group_in_range n channel byte =
-      groups_in_range (with_listed t.groups n channel byte)
-      (keys-changed (λ k. IsTrue (is_group k)) t.groups n
-      (λ levels. map.insert levels channel byte) h.groups_in)
+  pub changed_group_in_range : (n : ℕ) (change : LevelMap → LevelMap)
+      → IsInRange (record t { groups = changed_in t.groups n change })
+  changed_group_in_range n change =
+      groups_in_range (changed_in t.groups n change)
+      (keys-changed (λ k. IsTrue (is_group k)) t.groups n change h.groups_in)
 
   pub no_groups_in_range : IsInRange (record t { groups = map.empty })
   no_groups_in_range = groups_in_range map.empty (none_in LevelMap (λ n. IsTrue (is_group n)))
@@ -248,6 +251,17 @@ module _ (t : Tables) (h : IsInRange t) where
         | Some levels ↦ λ is. key_in (λ k. IsTrue (is_group k)) t.groups n h.groups_in
             (ap is_some is)
       ] refl
+
+pub patches_in_range : (t : Tables) → IsInRange t → (entries : List (ℕ × (ℕ × ℕ)))
+    → IsTrue (list_all (λ e. can_patch e.0 e.1.0) entries)
+    → IsInRange (record t { patch = all_patched t.patch entries })
+patches_in_range t h [] can = h
+patches_in_range t h (e ∷ entries) can =
+    let rest = list_all (λ (x : ℕ × (ℕ × ℕ)). can_patch x.0 x.1.0) entries in
+    patches_in_range (record t { patch = patched_with t.patch e.0 e.1.0 e.1.1 })
+    (patched_in_range t h e.0 e.1.0 e.1.1
+    (to_true (and_left (can_patch e.0 e.1.0) rest (from_true can))))
+    entries (to_true (and_right (can_patch e.0 e.1.0) rest (from_true can)))
 
 -- what is said of both or of neither
 pub on_some_both : {A B C : Type 0} (f : A → C) (g : B → C) (a : Option A) (b : Option B)

@@ -2,6 +2,7 @@ pub mod Sorted
 pub mod Removed
 pub mod Changes
 pub mod Ranges
+pub mod Entries
 pub mod InRange
 pub mod Ordinals
 mod Rows

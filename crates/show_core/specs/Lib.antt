@@ -5,4 +5,5 @@ pub mod Codes
 pub mod Builders
 pub mod Readers
 pub mod Place
+pub mod Many
 pub mod Inside

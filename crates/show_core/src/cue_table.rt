@@ -1,8 +1,10 @@
-ghost use Rattle.std.specs.Prelude.{◌≡◌, IsTrue, IsOk, IfOk, OnOk, OnErr, IfSome};
+ghost use Rattle.std.specs.Prelude.{◌≡◌, IsTrue, IsOk, IfOk, OnOk, OnErr, IfSome, []};
+ghost use Rattle.std.specs.List.{list_all};
 ghost use Rattle.std.specs.Prelude.{find, reverse, nat_lt, map as map_list};
 ghost use Rattle.std.specs.FinMap as map;
 ghost use Rattle.show_core.specs.Numbers.{is_channel};
-ghost use Rattle.show_core.specs.Builders.{opened, with_level, with_up, with_down, with_follow};
+ghost use Rattle.show_core.specs.Builders.{opened, with_level, with_levels, with_up, with_down};
+ghost use Rattle.show_core.specs.Builders.{with_follow};
 ghost use Rattle.show_core.specs.Readers.{HasTimes, cue_above, cue_below};
 
 use crate::cue::{Cue, CueData};
@@ -86,6 +88,20 @@ impl CueTable {
         if let Ok(at) = place(&self.entries, n) {
             let cue = &mut self.entries[at].1;
             cue.levels.set(channel, byte)?;
+        }
+        Ok(())
+    }
+
+    // Sets each of the levels, one after the other.
+    pub fn set_levels(&mut self, n: u32, pairs: &[(u16, u8)]) -> Result<(), AllocError>
+        requires { IsTrue (list_all (λ pair. is_channel pair.0) pairs.now) }
+        ensures set { OnOk result (self.new ≡ with_levels self.old n pairs.now) }
+        ensures unchanged { OnErr result (self.new ≡ self.old) }
+        ensures sure { pairs.now ≡ [] → IsOk result }
+    {
+        if let Ok(at) = place(&self.entries, n) {
+            let cue = &mut self.entries[at].1;
+            cue.levels.set_all(pairs)?;
         }
         Ok(())
     }

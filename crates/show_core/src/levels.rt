@@ -1,8 +1,11 @@
-ghost use Rattle.std.specs.Prelude.{◌≡◌, IfOk, OnOk, OnErr, IsOk, IsTrue};
+ghost use Rattle.std.specs.Prelude.{◌≡◌, IfOk, OnOk, OnErr, IsOk, IsTrue, []};
+ghost use Rattle.std.specs.List.{list_all};
 ghost use Rattle.std.specs.FinMap as map;
 ghost use Rattle.show_core.specs.Numbers.{is_channel};
+ghost use Rattle.show_core.specs.Builders.{with_bytes};
 ghost use Rattle.show_core.specs.Readers.{HasChannels, level_in};
 
+use crate::many::put_all;
 use crate::place::{place, put};
 use std::alloc::{AllocError, Global};
 use std::marker::Model;
@@ -74,6 +77,16 @@ impl Levels {
         ensures sure { IsTrue (map.contains_key self.old channel) → IsOk result }
     {
         put(&mut self.pairs, channel, byte)?;
+        Ok(())
+    }
+
+    pub(crate) fn set_all(&mut self, pairs: &[(u16, u8)]) -> Result<(), AllocError>
+        requires { IsTrue (list_all (λ pair. is_channel pair.0) pairs.now) }
+        ensures ok { OnOk result (self.new ≡ with_bytes self.old pairs.now) }
+        ensures err { OnErr result (self.new ≡ self.old) }
+        ensures sure { pairs.now ≡ [] → IsOk result }
+    {
+        put_all(&mut self.pairs, pairs)?;
         Ok(())
     }
 }

@@ -21,6 +21,7 @@ mod cue_table;
 mod fault;
 mod levels;
 mod limits;
+mod many;
 mod master_table;
 mod patch_table;
 mod place;

@@ -1,7 +1,8 @@
-ghost use Rattle.std.specs.Prelude.{◌≡◌, IsTrue, IsOk, IfOk, OnOk, OnErr, IfSome, All, option_map};
+ghost use Rattle.std.specs.Prelude.{◌≡◌, IsTrue, IsOk, IfOk, OnOk, OnErr, IfSome, All, option_map, []};
+ghost use Rattle.std.specs.List.{list_all};
 ghost use Rattle.std.specs.FinMap as map;
 ghost use Rattle.show_core.specs.Numbers.{is_channel};
-ghost use Rattle.show_core.specs.Builders.{opened_in, with_listed};
+ghost use Rattle.show_core.specs.Builders.{opened_in, with_listed, with_all_listed};
 
 use crate::levels::Levels;
 use crate::place::{place, put};
@@ -74,6 +75,20 @@ impl MasterTable {
         if let Ok(at) = place(&self.entries, n) {
             let levels = &mut self.entries[at].1;
             levels.set(channel, byte)?;
+        }
+        Ok(())
+    }
+
+    // Sets each of the levels, one after the other.
+    pub fn set_levels(&mut self, n: u16, pairs: &[(u16, u8)]) -> Result<(), AllocError>
+        requires { IsTrue (list_all (λ pair. is_channel pair.0) pairs.now) }
+        ensures set { OnOk result (self.new ≡ with_all_listed self.old n pairs.now) }
+        ensures unchanged { OnErr result (self.new ≡ self.old) }
+        ensures sure { pairs.now ≡ [] → IsOk result }
+    {
+        if let Ok(at) = place(&self.entries, n) {
+            let levels = &mut self.entries[at].1;
+            levels.set_all(pairs)?;
         }
         Ok(())
     }

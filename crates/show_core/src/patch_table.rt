@@ -1,12 +1,13 @@
-ghost use Rattle.std.specs.List.{AllWithin, list_any};
+ghost use Rattle.std.specs.List.{AllWithin, list_any, list_all};
 ghost use Rattle.std.specs.Ordering.{nat_cmp};
 ghost use Rattle.std.specs.Prelude.{◌≡◌, ◌==◌, ◌||◌, ◌<◌, ◌≤◌, length};
 ghost use Rattle.std.specs.Prelude.{IsTrue, IsOk, IfOk, OnOk, OnErr};
 ghost use Rattle.std.specs.FinMap as map;
-ghost use Rattle.show_core.specs.Builders.{patched_with};
+ghost use Rattle.show_core.specs.Builders.{patched_with, all_patched};
 ghost use Rattle.show_core.specs.Readers.{has_dimmer_in, ordinal_of};
 
 use crate::limits::SLOTS;
+use crate::many::put_all;
 use crate::place::{place, put, take_out};
 use std::alloc::{AllocError, Global};
 use std::marker::Model;
@@ -59,6 +60,16 @@ impl PatchTable {
         } else {
             put(&mut self.entries, dimmer, (channel, byte))?;
         }
+        Ok(())
+    }
+
+    // Patches each of the dimmers, one after the other.
+    pub fn set_all(&mut self, entries: &[(u16, (u16, u8))]) -> Result<(), AllocError>
+        ensures set { OnOk result (self.new ≡ all_patched self.old entries.now) }
+        ensures unchanged { OnErr result (self.new ≡ self.old) }
+        ensures sure { IsTrue (list_all (λ e. e.1.0 == 0) entries.now) → IsOk result }
+    {
+        put_all(&mut self.entries, entries)?;
         Ok(())
     }
 

@@ -1,4 +1,5 @@
-ghost use Rattle.std.specs.Prelude.{◌≡◌, IsTrue, IsSome, IsOk, IfOk, IfErr, OnOk, OnErr};
+ghost use Rattle.std.specs.Prelude.{◌≡◌, ◌+◌, ◌<◌, ◌≤◌, IsTrue, IsSome, IsOk, IfOk, IfErr};
+ghost use Rattle.std.specs.Prelude.{OnOk, OnErr, vec_len, vec_capacity};
 ghost use Rattle.std.specs.FinMap as map;
 ghost use Rattle.show_core.specs.Place.{IsAt, IsGap, without};
 
@@ -33,6 +34,9 @@ pub fn put<K: Ord + Copy, V: Drop>(
     ensures ok { OnOk result (entries.new.items ≡ map.put K.cmp key value entries.old.items) }
     ensures err { OnErr result (entries.new.items ≡ entries.old.items) }
     ensures sure { IsSome (map.find K.cmp key entries.old.items) → IsOk result }
+    ensures room { vec_len entries.old < vec_capacity entries.old → IsOk result }
+    ensures len { vec_len entries.new ≤ vec_len entries.old + 1 }
+    ensures capacity { vec_capacity entries.old ≤ vec_capacity entries.new }
 {
     match place(entries, key) {
         Ok(at) => {
@@ -47,7 +51,9 @@ pub fn put<K: Ord + Copy, V: Drop>(
 // Takes the key out, if it is there.
 pub fn take_out<K: Ord + Copy, V: Drop>(entries: &mut Vec<(K, V)>, key: K)
     requires { IsTrue (map.is_sorted K.cmp entries.old.items) }
-    ensures { entries.new.items ≡ without K.cmp key entries.old.items }
+    ensures items { entries.new.items ≡ without K.cmp key entries.old.items }
+    ensures len { vec_len entries.new ≤ vec_len entries.old }
+    ensures capacity { vec_capacity entries.old ≤ vec_capacity entries.new }
 {
     if let Ok(at) = place(entries, key) {
         entries.remove(at);

@@ -1,11 +1,13 @@
 ghost use Rattle.std.specs.Prelude.{◌≡◌, ◌*◌, ◌<◌, ◌↔◌, ◌==◌, ◌||◌, IsTrue, IsFalse, IsOk, IfOk};
-ghost use Rattle.std.specs.Prelude.{OnOk, OnErr, IfSome, Some, Err, All, option_map};
+ghost use Rattle.std.specs.Prelude.{OnOk, OnErr, IfSome, Some, Err, All, option_map, []};
+ghost use Rattle.std.specs.List.{list_all};
 ghost use Rattle.std.specs.Option.{OnSome};
 ghost use Rattle.std.specs.FinMap as map;
 ghost use Rattle.show_core.specs.Numbers.{is_channel, is_dimmer, is_sub, is_group, is_time};
-ghost use Rattle.show_core.specs.Builders.{opened, can_open, with_level, with_up, with_down};
-ghost use Rattle.show_core.specs.Builders.{with_follow, opened_in, with_listed};
-ghost use Rattle.show_core.specs.Builders.{can_patch, patched_with};
+ghost use Rattle.show_core.specs.Builders.{opened, can_open, with_level, with_levels};
+ghost use Rattle.show_core.specs.Builders.{with_up, with_down, with_follow};
+ghost use Rattle.show_core.specs.Builders.{opened_in, with_listed, with_all_listed};
+ghost use Rattle.show_core.specs.Builders.{can_patch, patched_with, all_patched};
 ghost use Rattle.show_core.specs.Readers.{cue_above, cue_below, universes_of};
 ghost use Rattle.show_core.specs.Readers.{look_slot, look_frame, IsInRange};
 ghost use Rattle.show_core.specs.declared.fault.BuildFault.TheVariants.{Limit, Memory};
@@ -165,6 +167,28 @@ impl Show {
         Ok(())
     }
 
+    /// Sets the level bytes of channels in cue `n`, one after the other: the last one of a
+    /// channel counts. It is done for all of them or for none.
+    ///
+    /// # Errors
+    ///
+    /// `Limit` where a channel is not 1 to 4096; `Memory` where a growth was refused.
+    pub fn cue_levels(&mut self, n: u32, pairs: &[(u16, u8)]) -> Result<(), BuildFault>
+        requires { IsTrue (map.contains_key self.old.cues n) }
+        ensures set { OnOk result (self.new
+            ≡ record self.old { cues = with_levels self.old.cues n pairs.now }) }
+        ensures unchanged { OnErr result (self.new ≡ self.old) }
+        ensures limit { (result ≡ Err Limit)
+            ↔ IsFalse (list_all (λ pair. is_channel pair.0) pairs.now) }
+        ensures sure { pairs.now ≡ [] → IsOk result }
+    {
+        if !are_channels(pairs) {
+            return Err(BuildFault::Limit);
+        }
+        self.cues.set_levels(n, pairs)?;
+        Ok(())
+    }
+
     /// Sets the level byte of a channel in submaster `n`. The last one set counts.
     ///
     /// # Errors
@@ -183,6 +207,28 @@ impl Show {
             return Err(BuildFault::Limit);
         }
         self.subs.set_level(n, channel, byte)?;
+        Ok(())
+    }
+
+    /// Sets the level bytes of channels in submaster `n`, one after the other: the last one of a
+    /// channel counts. It is done for all of them or for none.
+    ///
+    /// # Errors
+    ///
+    /// `Limit` where a channel is not 1 to 4096; `Memory` where a growth was refused.
+    pub fn sub_levels(&mut self, n: u16, pairs: &[(u16, u8)]) -> Result<(), BuildFault>
+        requires { IsTrue (map.contains_key self.old.subs n) }
+        ensures set { OnOk result (self.new
+            ≡ record self.old { subs = with_all_listed self.old.subs n pairs.now }) }
+        ensures unchanged { OnErr result (self.new ≡ self.old) }
+        ensures limit { (result ≡ Err Limit)
+            ↔ IsFalse (list_all (λ pair. is_channel pair.0) pairs.now) }
+        ensures sure { pairs.now ≡ [] → IsOk result }
+    {
+        if !are_channels(pairs) {
+            return Err(BuildFault::Limit);
+        }
+        self.subs.set_levels(n, pairs)?;
         Ok(())
     }
 
@@ -207,6 +253,28 @@ impl Show {
         Ok(())
     }
 
+    /// Sets the level bytes of channels in group `n`, one after the other: the last one of a
+    /// channel counts. It is done for all of them or for none.
+    ///
+    /// # Errors
+    ///
+    /// `Limit` where a channel is not 1 to 4096; `Memory` where a growth was refused.
+    pub fn group_levels(&mut self, n: u16, pairs: &[(u16, u8)]) -> Result<(), BuildFault>
+        requires { IsTrue (map.contains_key self.old.groups n) }
+        ensures set { OnOk result (self.new
+            ≡ record self.old { groups = with_all_listed self.old.groups n pairs.now }) }
+        ensures unchanged { OnErr result (self.new ≡ self.old) }
+        ensures limit { (result ≡ Err Limit)
+            ↔ IsFalse (list_all (λ pair. is_channel pair.0) pairs.now) }
+        ensures sure { pairs.now ≡ [] → IsOk result }
+    {
+        if !are_channels(pairs) {
+            return Err(BuildFault::Limit);
+        }
+        self.groups.set_levels(n, pairs)?;
+        Ok(())
+    }
+
     /// Patches a dimmer to a channel at a level byte, or leaves it unpatched at channel 0. The last
     /// patch of a dimmer counts.
     ///
@@ -226,6 +294,30 @@ impl Show {
             return Err(BuildFault::Limit);
         }
         self.patch.set(dimmer, channel, byte)?;
+        Ok(())
+    }
+
+    /// Patches each dimmer to its channel at its level byte, or leaves it unpatched at channel 0,
+    /// one after the other: the last patch of a dimmer counts. It is done for all of them or for
+    /// none.
+    ///
+    /// # Errors
+    ///
+    /// `Limit` where a dimmer is not 1 to 8192 or a channel above 4096; `Memory` where a growth was
+    /// refused.
+    pub fn set_patches(&mut self, entries: &[(u16, (u16, u8))]) -> Result<(), BuildFault>
+        ensures set { OnOk result (self.new
+            ≡ record self.old { patch = all_patched self.old.patch entries.now }) }
+        ensures unchanged { OnErr result (self.new ≡ self.old) }
+        ensures limit { (result ≡ Err Limit)
+            ↔ IsFalse (list_all (λ e. can_patch e.0 e.1.0) entries.now) }
+        ensures sure { IsTrue (list_all (λ e. can_patch e.0 e.1.0) entries.now)
+            → IsTrue (list_all (λ e. e.1.0 == 0) entries.now) → IsOk result }
+    {
+        if !can_all_patch(entries) {
+            return Err(BuildFault::Limit);
+        }
+        self.patch.set_all(entries)?;
         Ok(())
     }
 
@@ -454,4 +546,16 @@ fn can_patch(dimmer: u16, channel: u16) -> bool
     ensures { result ≡ can_patch dimmer channel }
 {
     is_dimmer(dimmer) && channel <= CHANNELS
+}
+
+fn are_channels(pairs: &[(u16, u8)]) -> bool
+    ensures { result ≡ list_all (λ pair. is_channel pair.0) pairs.now }
+{
+    pairs.iter().all(|pair| is_channel(pair.0))
+}
+
+fn can_all_patch(entries: &[(u16, (u16, u8))]) -> bool
+    ensures { result ≡ list_all (λ e. can_patch e.0 e.1.0) entries.now }
+{
+    entries.iter().all(|entry| can_patch(entry.0, entry.1.0))
 }

@@ -1,0 +1,52 @@
+use Rattle.std.proofs.Common.{◌≡◌, ◌+◌, true, false, ◌∷◌, drop, sym, ap, ◌∙◌, arith}
+use Rattle.std.specs.Ordering.{nat_cmp}
+use Rattle.std.specs.Cmp.{nat_cmp_total}
+use Rattle.std.proofs.lemmas.List.{drop_more}
+use Rattle.show_core.proofs.Sorted.{sorted_put}
+use Rattle.show_core.proofs.Removed.{sorted_without}
+use Rattle.show_core.proofs.Entries.{with_next, count_next}
+use Rattle.show_core.proofs.many.put_all.Goals as goal
+use Rattle.show_core.proofs.many.put_all.Goals.{then-stays+in_ok-put, else-stays}
+
+pub loop-entry-preserved : goal.loop-entry-preserved
+loop-entry-preserved g c =
+    let es = c.loop-entry.entries.items in
+    let ps = c.args.new.now in
+    let p = c.entry-item.result in
+    let rest = drop (c.loop-entry.entry-index + 1) ps in
+    let more : drop c.loop-entry.entry-index ps ≡ p ∷ rest =
+    drop_more ps c.loop-entry.entry-index p c.loop-entry-test.true
+    ∙ ap (λ x. x ∷ rest) (sym c.entry-item.is) in
+    let invariant = c.loop-entry.invariant in
+    elim c.if-stays.branch [
+      | then-stays+in_ok-put w ↦
+          let says = sym c.stays.ensures ∙ w.if-stays.true in
+          let is = ap (λ v. v.items) w.entries-is ∙ w.in_ok-put.ensures.ok in
+          record {
+            sorted = rw is (sorted_put nat_cmp nat_cmp_total es invariant.sorted p.0 p.1);
+            so_far = with_next g.V.Kept.stays es c.if-stays.entries.items rest _ p true says is more
+                ∙ invariant.so_far;
+            room = rw w.entries-is (omega (
+              arith,
+              w.in_ok-put.ensures.len,
+              w.in_ok-put.ensures.capacity,
+              invariant.room,
+              count_next g.V.Kept.stays rest _ p true says more,
+            ));
+          }
+      | else-stays w ↦
+          let says = sym c.stays.ensures ∙ w.if-stays.false in
+          let is = ap (λ v. v.items) w.entries-is ∙ w.take_out.ensures.items in
+          record {
+            sorted = rw is (sorted_without nat_cmp nat_cmp_total p.0 es invariant.sorted);
+            so_far = with_next g.V.Kept.stays es c.if-stays.entries.items rest _ p false says is more
+                ∙ invariant.so_far;
+            room = rw w.entries-is (omega (
+              arith,
+              w.take_out.ensures.len,
+              w.take_out.ensures.capacity,
+              invariant.room,
+              count_next g.V.Kept.stays rest _ p false says more,
+            ));
+          }
+    ]

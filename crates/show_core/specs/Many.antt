@@ -1,0 +1,15 @@
+-- Many entries that are put into sorted ones.
+use Rattle.std.specs.Prelude.{ℕ, Bool, List, [], ◌∷◌, if◌then◌else◌}
+use Rattle.std.specs.Ordering.{nat_cmp}
+use Rattle.std.specs.FinMap as map
+use Rattle.show_core.specs.Place.{without}
+
+-- with the value at the key, or without the key where such a value does not stay
+abbrev pub with_entry : {V : Type 0} → (V → Bool) → List (ℕ × V) → ℕ × V → List (ℕ × V)
+with_entry stays es p =
+    if stays p.1 then map.put nat_cmp p.0 p.1 es else without nat_cmp p.0 es
+
+-- with each of them, one after the other
+abbrev pub with_entries : {V : Type 0} → (V → Bool) → List (ℕ × V) → List (ℕ × V) → List (ℕ × V)
+with_entries stays es [] = es
+with_entries stays es (p ∷ ps) = with_entries stays (with_entry stays es p) ps
