@@ -17,7 +17,7 @@ use Rattle.show_core.proofs.Sorted.{from_true, sorted_at}
 ordinal_mono : (a b : ℕ) → a ≤ b → ordinal_of a ≤ ordinal_of b
 ordinal_mono a b le = omega arith
 
-below_of : (x y : ℕ) → nat_cmp x y ≡ Less → x < y
+pub below_of : (x y : ℕ) → nat_cmp x y ≡ Less → x < y
 below_of x y h = grind (arith, nat_tests)
 
 apart : (x y : ℕ) → x ≢ y → (x == y) ≡ false

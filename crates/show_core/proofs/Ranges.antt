@@ -19,7 +19,7 @@ use Rattle.show_core.proofs.Sorted.{and_left, and_right, to_true, from_sorted-ni
 use Rattle.show_core.proofs.Removed.{entries-remove}
 
 module _ {V : Type 0} (P : ℕ → Type 0) where
-  keys-put : (k : ℕ) (v : V) (es : List (ℕ × V)) → All P (map_list (λ e. e.0) es) → P k
+  pub keys-put : (k : ℕ) (v : V) (es : List (ℕ × V)) → All P (map_list (λ e. e.0) es) → P k
       → All P (map_list (λ e. e.0) (map.put nat_cmp k v es))
   keys-put k v [] h p = All-cons P k [] p (All-nil P)
   keys-put k v (e ∷ es) h p =
@@ -34,7 +34,7 @@ module _ {V : Type 0} (P : ℕ → Type 0) where
             (All-head P e.0 rest h) (keys-put k v es (All-tail P e.0 rest h) p)
       ]
 
-  keys-without : (k : ℕ) (es : List (ℕ × V)) → All P (map_list (λ e. e.0) es)
+  pub keys-without : (k : ℕ) (es : List (ℕ × V)) → All P (map_list (λ e. e.0) es)
       → All P (map_list (λ e. e.0) (without nat_cmp k es))
   keys-without k [] h = h
   keys-without k (e ∷ es) h =

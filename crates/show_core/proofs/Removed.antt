@@ -54,23 +54,27 @@ module _ {K V : Type 0} (R : K → K → Ordering) (o : IsTotalOrder R) (key : K
   sorted_without es s =
       to_true (is_sorted-where_key R (λ x. not (eq_by_cmp R key x)) es (from_true s))
 
+  pub find-without : (es : List (K × V)) (q : K)
+      → map.find R q (without R key es) ≡ cond (eq_by_cmp R q key) None (map.find R q es)
+  find-without es q =
+      find-where_key R (λ x. not (eq_by_cmp R key x)) q
+      (λ x t. ap (λ r. not (is_eq r)) (sym (alike_right o q x key t))) es
+      ∙ turn (eq_by_cmp R key q) (map.find R q es) None
+      ∙ ap (λ b. cond b None (map.find R q es)) ((eq_by_cmp_equiv o).symm key q)
+    where
+      turn : (b : Bool) (x y : Option V) → cond (not b) x y ≡ cond b y x
+      turn true x y = refl
+      turn false x y = refl
+
   -- their map has lost the key
   pub from_sorted-without : map.IsAntisymmetric R → (es : List (K × V))
       → IsTrue (map.is_sorted R es)
       → map.from_sorted {R = R} (without R key es) ≡ map.remove (map.from_sorted es) key
   from_sorted-without same es s = map.same_map o same _ _ (λ q.
       map.get-from_sorted R (without R key es) q (from_true (sorted_without es s))
-      ∙ find-where_key R (λ x. not (eq_by_cmp R key x)) q
-      (λ x t. ap (λ r. not (is_eq r)) (sym (alike_right o q x key t))) es
-      ∙ turn (eq_by_cmp R key q) (map.find R q es) None
+      ∙ find-without es q
       ∙ sym (map.get-remove o (map.from_sorted es) key q
-      ∙ ap (λ b. cond b None (map.get (map.from_sorted {R = R} es) q))
-      ((eq_by_cmp_equiv o).symm q key)
-      ∙ ap (cond (eq_by_cmp R key q) None) (map.get-from_sorted R es q (from_true s))))
-    where
-      turn : (b : Bool) (x y : Option V) → cond (not b) x y ≡ cond b y x
-      turn true x y = refl
-      turn false x y = refl
+      ∙ ap (cond (eq_by_cmp R q key) None) (map.get-from_sorted R es q (from_true s))))
 
 pub entries-remove : {K V : Type 0} (R : K → K → Ordering) → IsTotalOrder R → map.IsAntisymmetric R
     → (m : map.FinMap R V) (key : K)

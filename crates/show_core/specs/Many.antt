@@ -1,5 +1,6 @@
 -- Many entries that are put into sorted ones.
-use Rattle.std.specs.Prelude.{ℕ, Bool, List, [], ◌∷◌, if◌then◌else◌}
+use Rattle.std.specs.Prelude.{◌≡◌, ℕ, ◌<◌, Bool, Option, None, List, [], ◌∷◌, if◌then◌else◌}
+use Rattle.std.specs.Prelude.{length, slice_index_or}
 use Rattle.std.specs.Ordering.{nat_cmp}
 use Rattle.std.specs.FinMap as map
 use Rattle.show_core.specs.Place.{without}
@@ -13,3 +14,8 @@ with_entry stays es p =
 abbrev pub with_entries : {V : Type 0} → (V → Bool) → List (ℕ × V) → List (ℕ × V) → List (ℕ × V)
 with_entries stays es [] = es
 with_entries stays es (p ∷ ps) = with_entries stays (with_entry stays es p) ps
+
+-- a table with a place for each key has there what the entries have
+abbrev pub IsTableOf : {V : Type 0} → List (Option V) → List (ℕ × V) → Type 0
+IsTableOf table es =
+    (k : ℕ) → k < length table → slice_index_or table k None ≡ map.find nat_cmp k es

@@ -2,7 +2,7 @@ use Rattle.std.proofs.Common.{◌≡◌, IsTrue, ◌+◌, ◌≤◌, drop, count
 use Rattle.std.specs.Ordering.{nat_cmp}
 use Rattle.std.specs.FinMap as map
 use Rattle.show_core.specs.Many.{with_entries}
-use Rattle.show_core.proofs.many.put_all.Given as goal
+use Rattle.show_core.proofs.many.put_each.Given as goal
 
 abbrev pub invariant-loop-entry : goal.invariant-loop-entry
 invariant-loop-entry g l = record {

@@ -5,8 +5,8 @@ use Rattle.std.proofs.lemmas.List.{drop_more}
 use Rattle.show_core.proofs.Sorted.{sorted_put}
 use Rattle.show_core.proofs.Removed.{sorted_without}
 use Rattle.show_core.proofs.Entries.{with_next, count_next}
-use Rattle.show_core.proofs.many.put_all.Goals as goal
-use Rattle.show_core.proofs.many.put_all.Goals.{then-stays+in_ok-put, else-stays}
+use Rattle.show_core.proofs.many.put_each.Goals as goal
+use Rattle.show_core.proofs.many.put_each.Goals.{then-stays+in_ok-put, else-stays}
 
 pub loop-entry-preserved : goal.loop-entry-preserved
 loop-entry-preserved g c =

@@ -1,0 +1,15 @@
+use Rattle.std.proofs.Common.{◌+◌, ◌<◌, length, arith, take, Some}
+use Rattle.show_core.proofs.Entries.{table_set, read_of, find_more}
+use Rattle.show_core.proofs.many.fill.Goals as goal
+
+pub loop-entry-preserved : goal.loop-entry-preserved
+loop-entry-preserved g c =
+    let es = c.args.entries.now in
+    let i = c.loop-entry.entry-index in
+    let p = c.entry-item.result in
+    let lt = c.loop-entry-test.true in
+    let fits : p.0 < length c.loop-entry.table =
+    omega (arith, read_of (λ e. e.0 < length c.args.table.now) es i p c.requires.fit lt c.entry-item.is, c.loop-entry.auto.table) in
+    rw c.from.ensures
+    (table_set c.loop-entry.table (take i es) (take (i + 1) es) p.0 (Some p.1)
+    c.loop-entry.invariant fits (find_more es i p c.requires.sorted lt c.entry-item.is))
