@@ -12,7 +12,6 @@ use Rattle.show_core.specs.Numbers.{is_channel}
 use Rattle.show_core.specs.Readers.{slot_of}
 use Rattle.show_core.specs.Tables.{PatchMap}
 use Rattle.show_core.proofs.Ranges.{value_in}
-use Rattle.show_core.specs.Readers.{IsInRange}
 use Rattle.show_core.specs.Tables.{Tables}
 use Rattle.playback_core.specs.Played.{playback_level}
 use Rattle.master_core.specs.Merged.{greatest_in, level_after}
@@ -94,18 +93,6 @@ frame_of-same patch channels level other same grand ordinal =
     (λ dimmer. slot-same level other grand same (maps.get patch dimmer)
     (value_in (λ p. IsTrue (is_channel p.0)) patch dimmer channels))
     (range_with_len (512 * ordinal + 1) 512)
-
--- the frame that a live tick draws
-pub live_frame : (show : Tables) → IsInRange show → (history : List Act) (moment grand : ℕ)
-    (levels : List ℕ) → ended history ≡ None → grand ≡ grand_after (settings history)
-    → ((channel : ℕ) → IsTrue (is_channel channel) → level_in levels channel
-    ≡ channel_level show history moment channel)
-    → (ordinal : ℕ) → frame_of show.patch (level_in levels) grand ordinal
-    ≡ frame show history moment ordinal
-unfolding frame
-live_frame show in_range history moment grand levels live is merged ordinal =
-    rw (live, is) (frame_of-same show.patch in_range.patch_channels (level_in levels)
-    (channel_level show history moment) merged (grand_after (settings history)) ordinal)
 
 -- equal patches, grand masters and frames
 pub drawn_same : (patch other : PatchMap) (level : ℕ → ℕ) (g h : ℕ) (frames others : List (List ℕ))

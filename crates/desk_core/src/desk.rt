@@ -19,7 +19,7 @@ ghost use Rattle.desk_core.specs.Stands.{StandsFor, keeps_floors};
 
 use crate::answer::{Refused, Ticked};
 use crate::command::Command;
-use crate::frames::{dark_frames, darken, merge_levels, merge_some};
+use crate::frames::{dark_frames, darken, draw_merged, has_floors, merge_some};
 use arrayvec::ArrayVec;
 use fade_core::Fader;
 use master_core::Masters;
@@ -64,6 +64,8 @@ pub struct Desk<F: Fader> {
     levels: Vec<u16>,
     floors: Vec<u16>,
     are_floors: bool,
+    // Whether a floor may be above 0.
+    has_floors: bool,
     frames: Vec<[u8; 512]>,
     is_kept: bool,
 }
@@ -95,7 +97,7 @@ impl<F: Fader> Model for Desk<F> {
     ghost use Rattle.desk_core.specs.Inside.{IsDesk};
 
     ghost invariant = { λ d. IsDesk (F.latest d.playback.fader) d.last_moment d.rig d.show
-        d.universes.items d.levels.items d.floors.items d.frames.items };
+        d.universes.items d.levels.items d.floors.items d.has_floors d.frames.items };
 }
 
 impl<F: Fader> fmt::Debug for Desk<F> {
@@ -142,6 +144,7 @@ impl<F: Fader> Desk<F> {
             levels,
             floors,
             are_floors: false,
+            has_floors: false,
             frames,
             is_kept: false,
         })
@@ -252,6 +255,7 @@ impl<F: Fader> Desk<F> {
         if !self.are_floors {
             self.masters.write_floors(&self.show, &mut self.floors);
             self.are_floors = true;
+            self.has_floors = has_floors(&self.floors);
         }
     }
 
@@ -339,9 +343,16 @@ impl<F: Fader> Desk<F> {
             StandsFor F.stands_for show base self.new (act ∷ history) }
     {
         self.playback.advance(&self.show, moment);
-        merge_levels(&mut self.levels, &self.playback, &self.floors);
         let grand = self.masters.grand();
-        self.rig.draw(&mut self.frames, &self.levels, grand);
+        draw_merged(
+            &mut self.frames,
+            &mut self.levels,
+            &self.rig,
+            &self.playback,
+            &self.floors,
+            self.has_floors,
+            grand,
+        );
         self.is_kept = true;
         self.last_moment = moment;
         self.last_tick = Some(moment);

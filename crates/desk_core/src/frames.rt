@@ -1,14 +1,16 @@
 ghost use Rattle.std.specs.Prelude.{◌≡◌, ◌<◌, ◌≤◌, ℕ, Bool, List, Some, All, EachIndex};
-ghost use Rattle.std.specs.Prelude.{IsTrue, IfOk};
+ghost use Rattle.std.specs.Prelude.{IsTrue, IsFalse, IfOk};
 ghost use Rattle.std.specs.Prelude.{length, max, replicate, slice_get, slice_index};
+ghost use Rattle.std.specs.FinMap as maps;
 ghost use Rattle.show_core.specs.Numbers.{is_channel};
 ghost use Rattle.show_core.specs.Tables.{Tables};
 ghost use Rattle.playback_core.specs.Played.{Move, playback_level};
 ghost use Rattle.playback_core.specs.Stands as playback_stands;
-ghost use Rattle.patch_core.specs.Frame.{level_in};
+ghost use Rattle.patch_core.specs.Frame.{level_in, AreDrawn};
 ghost use Rattle.desk_core.specs.Meaning.{dark};
 
 use fade_core::Fader;
+use patch_core::Rig;
 use playback_core::Playback;
 use show_core::{CHANNELS, UNIVERSES};
 use std::alloc::{AllocError, Global};
@@ -24,9 +26,52 @@ pub fn dark_frames(alloc: Global) -> Result<Vec<[u8; 512]>, AllocError>
     Ok(frames)
 }
 
+// Whether a floor is above 0.
+pub fn has_floors(floors: &[u16]) -> bool
+    ensures { IsFalse result → All (λ floor. floor ≡ 0) floors.now }
+{
+    floors.iter().any(|floor| *floor > 0)
+}
+
+// Draws the frames of levels that are each the higher of the channel's floor and of the playback's
+// level at the latest moment that the playback was given. Where no floor is above 0 there is
+// nothing to merge.
+pub fn draw_merged<F: Fader>(
+    frames: &mut [[u8; 512]],
+    levels: &mut [u16],
+    rig: &Rig,
+    playback: &Playback<F>,
+    floors: &[u16],
+    has_floors: bool,
+    grand: u8,
+)
+    requires each_ordinal { length frames.old ≡ 16 }
+    requires levels { length levels.old ≡ 4096 }
+    requires levels_full { All (λ level. level ≤ 65025) levels.old }
+    requires floors { length floors.now ≡ 4096 }
+    requires full { All (λ floor. floor ≤ 65025) floors.now }
+    requires no_floors { IsFalse has_floors → All (λ floor. floor ≡ 0) floors.now }
+    ensures drawn { (show : Tables) (moves : List Move) (stopped : Bool) (level : ℕ → ℕ)
+        → All (λ e. IsTrue (is_channel e.1.0)) (maps.entries rig.now.patch)
+        → playback_stands.StandsFor F.stands_for show playback.now moves stopped
+        → ((channel : ℕ) → IsTrue (is_channel channel)
+        → max (playback_level show moves channel (F.latest playback.now.fader))
+        (level_in floors.now channel) ≡ level channel)
+        → AreDrawn rig.now.patch level grand frames.new }
+    ensures full { All (λ level. level ≤ 65025) levels.new }
+{
+    match playback.levels() {
+        Some(playing) if !has_floors => rig.draw(frames, playing, grand),
+        _ => {
+            merge_levels(levels, playback, floors);
+            rig.draw(frames, levels, grand);
+        }
+    }
+}
+
 // Writes the level of each channel: the higher of its floor and of the playback's level at the
 // latest moment that the playback was given.
-pub fn merge_levels<F: Fader>(levels: &mut [u16], playback: &Playback<F>, floors: &[u16])
+fn merge_levels<F: Fader>(levels: &mut [u16], playback: &Playback<F>, floors: &[u16])
     requires levels { length levels.old ≡ 4096 }
     requires floors { length floors.now ≡ 4096 }
     requires full { All (λ floor. floor ≤ 65025) floors.now }

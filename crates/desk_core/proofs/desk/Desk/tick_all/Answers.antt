@@ -1,17 +1,18 @@
-use Rattle.std.proofs.Common.{◌≡◌, ℕ, ◌<◌, List, None, Some, false, is_some, refl, sym, subst, ap}
+use Rattle.std.proofs.Common.{◌≡◌, ℕ, List, None, Some, false, is_some, refl, sym, subst, ap}
 use Rattle.std.proofs.Common.{◌∙◌, IsTrue, length, arith}
-use Rattle.std.specs.Prelude.{slice_get}
+use Rattle.std.specs.Prelude.{All, max}
+use Rattle.std.specs.FinMap as maps
 use Rattle.std.specs.Vec.{with_items}
 use Rattle.std.proofs.lemmas.List.{with_items_is}
 use Rattle.show_core.specs.Numbers.{is_channel}
 use Rattle.show_core.specs.Readers.{IsInRange}
-use Rattle.playback_core.specs.Played.{Move, with_due}
+use Rattle.playback_core.specs.Played.{Move, with_due, playback_level}
 use Rattle.playback_core.specs.Stands as playback
 use Rattle.master_core.specs.Settings.{grand_after}
-use Rattle.patch_core.specs.Frame.{level_in, frame_of, AreDrawn}
+use Rattle.patch_core.specs.Frame.{level_in, AreDrawn}
 use Rattle.desk_core.specs.Played.{ended, moves, settings}
-use Rattle.desk_core.specs.Meaning.{channel_level, frame}
-use Rattle.desk_core.proofs.Drawn.{merged_level, live_frame, live_frame_is, channel_level-tick}
+use Rattle.desk_core.specs.Meaning.{channel_level}
+use Rattle.desk_core.proofs.Drawn.{merged_level, drawn_same, live_frame_is, channel_level-tick}
 use Rattle.desk_core.proofs.desk.Desk.tick_all.Goals as goal
 
 pub returns : goal.returns
@@ -29,38 +30,32 @@ returns g c = rw (← c.self.view_is) (λ show base history stands.
     → playback.StandsFor g.F.Fader.stands_for s c.advance.new.self
     (with_due s c.args.moment (moves show history)) false) stands.show_is
     (c.advance.ensures.stands (moves show history) false) before in
-    let levels : List ℕ = c.deref-2.result.now in
-    let written : levels ≡ c.merge_levels.new.levels = c.deref-2.ensures.value
-    ∙ with_items_is c.self.inside.levels c.merge_levels.new.levels (omega (
-      arith,
-      c.merge_levels.auto.levels,
-      c.deref_mut.ensures.len,
-      c.self.inside.levels.ok.0,
-    )) in
+    let level : ℕ → ℕ = channel_level show history c.args.moment in
     let merged : (channel : ℕ) → IsTrue (is_channel channel)
-    → level_in levels channel ≡ channel_level show history c.args.moment channel = λ channel is.
-    merged_level show history now c.deref.result.now channel c.args.moment (g.F.Fader.latest
-    c.advance.new.self.fader) (level_in levels channel)
-    (ap (λ ls. level_in ls channel) written ∙ c.merge_levels.ensures.merged show now false moved
-    channel is) c.advance.ensures.latest
+    → max (playback_level show now channel (g.F.Fader.latest c.advance.new.self.fader))
+    (level_in c.deref.result.now channel) ≡ level channel = λ channel is.
+    merged_level show history now c.deref.result.now channel c.args.moment
+    (g.F.Fader.latest c.advance.new.self.fader)
+    (max (playback_level show now channel (g.F.Fader.latest c.advance.new.self.fader))
+    (level_in c.deref.result.now channel)) refl c.advance.ensures.latest
     (ap (λ fs. level_in fs channel) c.deref.ensures.value
     ∙ stands.floors_are (subst (λ d. IsTrue d.are_floors) (sym c.self.view_is)
     c.requires.floors) channel is) in
-    let size : length c.draw.new.frames ≡ c.self.inside.frames.len =
-    omega (arith, c.draw.auto.frames, c.deref_mut-2.ensures.len, c.self.inside.frames.ok.0) in
+    let size : length c.draw_merged.new.frames ≡ c.self.inside.frames.len =
+    omega (arith, c.draw_merged.auto.frames, c.deref_mut.ensures.len, c.self.inside.frames.ok.0) in
     let patch_is : c.self.inside.rig.patch ≡ show.patch = c.self.invariant.patch_is
     ∙ ap (λ s. s.patch) stands.show_is in
     let in_range : IsInRange show = subst IsInRange stands.show_is c.self.invariant.in_range in
-    let drawn : (ordinal : ℕ) → frame_of c.self.inside.rig.patch (level_in levels)
-    c.grand-grand.result ordinal ≡ frame show history c.args.moment ordinal = λ ordinal.
-    ap (λ p. frame_of p (level_in levels) c.grand-grand.result ordinal) patch_is
-    ∙ live_frame show in_range history c.args.moment c.grand-grand.result levels none
-    (c.grand-grand.ensures (settings history) stands.masters_stand) merged ordinal in
-    let frames_are : (ordinal : ℕ) → ordinal < 16
-    → slice_get (with_items c.self.inside.frames c.draw.new.frames).items ordinal
-    ≡ Some (frame show history c.args.moment ordinal) = λ ordinal lt.
-    ap (λ fs. slice_get fs ordinal) (with_items_is c.self.inside.frames c.draw.new.frames size)
-    ∙ c.draw.ensures ordinal lt ∙ ap Some (drawn ordinal) in
+    let channels : All (λ e. IsTrue (is_channel e.1.0)) (maps.entries c.self.inside.rig.patch) =
+    rw patch_is in_range.patch_channels in
+    let kept : AreDrawn show.patch level (grand_after (settings history))
+    (with_items c.self.inside.frames c.draw_merged.new.frames).items =
+    drawn_same c.self.inside.rig.patch show.patch level c.grand-grand.result
+    (grand_after (settings history)) c.draw_merged.new.frames
+    (with_items c.self.inside.frames c.draw_merged.new.frames).items patch_is
+    (c.grand-grand.ensures (settings history) stands.masters_stand)
+    (sym (with_items_is c.self.inside.frames c.draw_merged.new.frames size))
+    (c.draw_merged.ensures.drawn show now false level channels moved merged) in
     record {
       show_is = stands.show_is;
       base_is = stands.base_is;
@@ -69,12 +64,11 @@ returns g c = rw (← c.self.view_is) (λ show base history stands.
       moment_is = refl;
       tick_is = refl;
       ended_is = rw (stands.ended_is, none) refl;
-      frames_are = frames_are;
+      frames_are = λ ordinal lt. kept ordinal lt
+          ∙ ap Some (sym (live_frame_is show history c.args.moment ordinal none));
       floors_are = stands.floors_are;
-      kept = λ kept. subst
+      kept = λ _. subst
           (λ level. AreDrawn show.patch level (grand_after (settings history))
-          (with_items c.self.inside.frames c.draw.new.frames).items)
-          (sym (channel_level-tick show history c.args.moment none))
-          (λ ordinal lt. frames_are ordinal lt
-          ∙ ap Some (live_frame_is show history c.args.moment ordinal none));
+          (with_items c.self.inside.frames c.draw_merged.new.frames).items)
+          (sym (channel_level-tick show history c.args.moment none)) kept;
     })
