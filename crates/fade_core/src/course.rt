@@ -48,9 +48,11 @@ impl Course {
     {
         let at_once = Rate { time: 0, delay: 0 };
         Ok(Course {
+            // The levels first: a processor mistakes a read for one of what was just written where
+            // their addresses differ by so many 4096ths, and so it must not be a little ahead.
+            levels: vec![in alloc; 0; usize::from(channel_count)]?,
             from: vec![in alloc; 0; usize::from(channel_count)]?,
             to: vec![in alloc; 0; usize::from(channel_count)]?,
-            levels: vec![in alloc; 0; usize::from(channel_count)]?,
             moving: vec![in alloc; 0; usize::from(channel_count)]?,
             count: 0,
             up: at_once,

@@ -90,8 +90,14 @@ impl Digits {
         ensures { result ≡ moved a b (share_by rising) (share_by falling) }
     {
         let rises = a < b;
-        let step = Digits::picked(rises, rising, falling).part_of(a.abs_diff(b));
-        if rises { a + step } else { a - step }
+        let lower = a.min(b);
+        let way = a.max(b) - lower;
+        let gone = Digits::picked(rises, rising, falling).part_of(way);
+        if rises {
+            lower + gone
+        } else {
+            lower + (way - gone)
+        }
     }
 
     #[inline(always)]
