@@ -4,7 +4,7 @@ use Rattle.show_core.specs.Readers.{slot_of}
 use Rattle.show_core.specs.Tables.{PatchMap}
 use Rattle.patch_core.specs.Frame.{dimmer_slot}
 use Rattle.patch_core.specs.declared.sources.Bytes.{Bytes}
-use Rattle.patch_core.specs.declared.sources.Bytes.TheVariants.{Dark, Full, Mixed}
+use Rattle.patch_core.specs.declared.sources.Bytes.TheVariants.{Dark, Full, FullOrDark, Mixed}
 
 -- for each dimmer the place of its channel's level, channel 1 first, and its byte: the two make its
 -- slot, whatever the levels are. A dimmer that is not patched has the byte 0
@@ -16,9 +16,10 @@ pub record AreSources (patch : PatchMap) (sources bytes : List ℕ) : Type 0 whe
       → slot_of (level (slice_index sources p + 1)) grand (slice_index bytes p)
       ≡ dimmer_slot patch level grand (p + 1)
 
--- the 512 bytes from a place on are all 0, are each 0 or 255, or are any
+-- the 512 bytes from a place on are all 0, are all 255, are each 0 or 255, or are any
 abbrev pub AreOf : Bytes → List ℕ → ℕ → Type 0
 AreOf Dark bytes first = (s : ℕ) → s < 512 → slice_index bytes (first + s) ≡ 0
-AreOf Full bytes first = (s : ℕ) → s < 512
+AreOf Full bytes first = (s : ℕ) → s < 512 → slice_index bytes (first + s) ≡ 255
+AreOf FullOrDark bytes first = (s : ℕ) → s < 512
     → (slice_index bytes (first + s) ≡ 0) ⊎ (slice_index bytes (first + s) ≡ 255)
 AreOf Mixed bytes first = Unit {0}

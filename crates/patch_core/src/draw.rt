@@ -110,7 +110,8 @@ fn draw_frame(
 {
     match kind {
         Bytes::Dark => *out = [0; 512],
-        Bytes::Full => {
+        Bytes::Full => gather_slots(out, slots, sources, first),
+        Bytes::FullOrDark => {
             gather_slots(out, slots, sources, first);
             keep_patched(out, bytes, first);
         }

@@ -16,8 +16,10 @@ use std::alloc::{AllocError, Global};
 pub enum Bytes {
     // None is patched.
     Dark,
-    // Each that is patched is at full.
+    // Each is patched, at full.
     Full,
+    // Each that is patched is at full.
+    FullOrDark,
     Mixed,
 }
 
@@ -63,15 +65,19 @@ fn kind_of(bytes: &[u8], first: usize) -> Bytes
 {
     let mut dark = true;
     let mut full = true;
+    let mut full_or_dark = true;
     for slot in 0..usize::from(SLOTS) {
         let byte = bytes[first + slot];
         dark = dark && byte == 0;
-        full = full && (byte == 0 || byte == 255);
+        full = full && byte == 255;
+        full_or_dark = full_or_dark && (byte == 0 || byte == 255);
     }
     if dark {
         Bytes::Dark
     } else if full {
         Bytes::Full
+    } else if full_or_dark {
+        Bytes::FullOrDark
     } else {
         Bytes::Mixed
     }

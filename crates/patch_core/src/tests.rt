@@ -135,6 +135,30 @@ fn frame_half(rt: HostRuntime) -> Result<(), Fail> {
     Ok(())
 }
 
+// Each dimmer of the second universe is patched, at full, and all but one of the third.
+#[test]
+fn whole_universe(rt: HostRuntime) -> Result<(), Fail> {
+    let mut show = Show::new(rt.alloc());
+    for place in 0..512 {
+        show.set_patch(513 + place, 4096 - 8 * place, 255)?;
+        show.set_patch(1025 + place, 1 + place, 255)?;
+    }
+    show.set_patch(1100, 0, 255)?;
+    let rig = Rig::new(rt.alloc(), &show, 1).expect(&rt, "a rig");
+    let mut levels = vec![in rt.alloc(); 0; 4096]?;
+    for place in 0..4096 {
+        levels[place] = 255 * (place % 256) as u16;
+    }
+    let frames = drawn(&rt, &rig, &levels, 255);
+    for place in 0..512 {
+        let whole = (255 - 8 * place % 256) as u8;
+        let other = if place == 75 { 0 } else { (place % 256) as u8 };
+        assert!(rt; frames[1][place] == whole, "place {place} of 1");
+        assert!(rt; frames[2][place] == other, "place {place} of 2");
+    }
+    Ok(())
+}
+
 // Puts some channels to a level, and tells whether the frames that are drawn anew for them alone
 // are those that are drawn as a whole.
 fn redraws(
