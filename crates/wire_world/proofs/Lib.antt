@@ -1,10 +1,13 @@
-pub mod Index
+pub mod Rests
+pub mod Shelved
 pub mod Linked
 pub mod Ticks
 pub mod Stages
 pub mod Receivers
 pub mod Happened
 pub mod Replays
+pub mod Wants
+pub mod Least
 pub mod Openings
 pub mod Sources
 pub mod Refusals

@@ -1,5 +1,5 @@
 -- What a link keeps of a universe is its stream, packet by packet.
-use Rattle.std.proofs.Common.{◌≡◌, ℕ, zero, suc, ◌+◌, ◌-◌, ◌%◌, ◌<◌, Bool, true, false, refl}
+use Rattle.std.proofs.Common.{◌≡◌, ℕ, zero, suc, ◌+◌, ◌-◌, ◌%◌, ◌<◌, ◌≤◌, Bool, true, false, refl}
 use Rattle.std.proofs.Common.{ap, sym}
 use Rattle.std.proofs.Common.{subst, ◌∙◌, List, [], ◌∷◌, ◌++◌, length, map, Option}
 use Rattle.std.proofs.Common.{Some, None}
@@ -35,6 +35,8 @@ use Rattle.wire_laws.proofs.Full.{frame_full}
 use Rattle.wire_laws.proofs.Wire.{bytes_are}
 use Rattle.wire_world.specs.declared.row.Row.{Row}
 use Rattle.wire_world.specs.Sends.{send_of, sent_to, numbered}
+use Rattle.wire_world.specs.Shelves.{IsRest}
+use Rattle.wire_world.proofs.Rests.{none_gone, rest_at, rest_more}
 use Rattle.wire_world.proofs.Sources.{source_of}
 use Rattle.wire_world.proofs.Stages.{neq_false}
 
@@ -159,7 +161,7 @@ sent_ordered p h m c u =
 
 -- ---- the sends of a tick
 
-sent_more : (u : ℕ) (xs ys : List Send) → sent_to u (xs ++ ys) ≡ sent_to u xs ++ sent_to u ys
+pub sent_more : (u : ℕ) (xs ys : List Send) → sent_to u (xs ++ ys) ≡ sent_to u xs ++ sent_to u ys
 sent_more u [] ys = refl
 sent_more u (x ∷ xs) ys = go (nat_eq x.universe u) refl (sent_more u xs ys)
   where
@@ -317,22 +319,29 @@ due_added p h m u = go (plays p u)
     go true = ap (λ n. numbered p.source u n (due_list (due_at p h m u).packet)) (z _)
     go false = refl
 
--- so one tick more leaves, of each universe, the bytes of its longer stream
-pub kept_ticked : (p : Production) (h : List Act) (m : ℕ) (before after : List Send)
-    (pairs : List (ℕ × Offered)) → Offers p.source (dues_at p h m) pairs before after
-    → ((u : ℕ) → sent_to u before ≡ numbered p.source u 0 (packets_of p h u))
-    → (u : ℕ) → sent_to u after ≡ numbered p.source u 0 (packets_of p (tick_at m ∷ h) u)
-kept_ticked p h m before after pairs o old u =
+-- what a tick sends to a universe
+sent_ticked : (p : Production) (h : List Act) (m : ℕ) (sends : List Send)
+    (pairs : List (ℕ × Offered)) → Offers p.source (dues_at p h m) pairs [] sends → (u : ℕ)
+    → sent_to u sends ≡ numbered p.source u (0 + length (packets_of p h u)) (added p h m u)
+sent_ticked p h m sends pairs o u =
     ap (sent_to u) o.after_is
-    ∙ sent_more u before o.sends
-    ∙ ap (λ l. l ++ sent_to u o.sends) (old u)
-    ∙ ap (λ l. numbered p.source u 0 (packets_of p h u) ++ l)
-    (sent_due u (dues_full p h m (universes_of p)) o.are_offered
+    ∙ sent_due u (dues_full p h m (universes_of p)) o.are_offered
     ∙ own_due p.source p h m u (universes_of p)
     (AllPairs-from_increasing (universes_of p) (numbers_rise p.show.patch p.base))
-    ∙ due_added p h m u)
+    ∙ due_added p h m u
+
+-- so with it behind, what is kept of a universe is the rest of its longer stream
+pub kept_ticked : (p : Production) (h : List Act) (m : ℕ) (sends : List Send)
+    (pairs : List (ℕ × Offered)) → Offers p.source (dues_at p h m) pairs [] sends → (u gone : ℕ)
+    (kept : List (List ℕ)) → IsRest gone kept (numbered p.source u 0 (packets_of p h u))
+    → IsRest gone (kept ++ sent_to u sends)
+    (numbered p.source u 0 (packets_of p (tick_at m ∷ h) u))
+kept_ticked p h m sends pairs o u gone kept rest =
+    subst (IsRest gone (kept ++ sent_to u sends))
+    (ap (λ l. numbered p.source u 0 (packets_of p h u) ++ l) (sent_ticked p h m sends pairs o u)
     ∙ sym (numbered_more p.source u 0 (packets_of p h u) (added p h m u))
-    ∙ ap (numbered p.source u 0) (sym (sent_added p h m u))
+    ∙ ap (numbered p.source u 0) (sym (sent_added p h m u)))
+    (rest_more gone kept (numbered p.source u 0 (packets_of p h u)) (sent_to u sends) rest)
 
 -- and its answers are the numbers of what is due
 pub answers_ticked : (p : Production) (h : List Act) (m : ℕ) (rows : List Row)
@@ -342,11 +351,34 @@ pub answers_ticked : (p : Production) (h : List Act) (m : ℕ) (rows : List Row)
 answers_ticked p h m rows before pairs o =
     answers_due (unfailed_end rows before o.sends o.after_is) o.are_offered
 
--- the packets that are kept are those of the streams
-pub datagram_is : (p : Production) (h : List Act) (u k : ℕ) (xs : List Send)
-    → sent_to u xs ≡ numbered p.source u 0 (packets_of p h u)
-    → slice_get (sent_to u xs) k ≡ bytes_of p h u k
-datagram_is p h u k xs e =
-    ap (λ l. slice_get l k) e ∙ numbered_at p.source u 0 (packets_of p h u) k
+-- before the first tick there is none
+pub first_packets : (p : Production) (u : ℕ) → packets_of p [] u ≡ []
+first_packets p u = go (plays p u)
+  where
+    go : (b : Bool) → (if b then stream p u [] else []) ≡ []
+    go true = refl
+    go false = refl
+
+pub first_rest : (p : Production) (u : ℕ)
+    → IsRest 0 [] (numbered p.source u 0 (packets_of p [] u))
+first_rest p u = record {
+  before = [];
+  parts = ap (numbered p.source u 0) (first_packets p u);
+  count = refl;
+}
+
+pub first_gone : (p : Production) (u gone : ℕ) (kept : List (List ℕ))
+    → IsRest gone kept (numbered p.source u 0 (packets_of p [] u)) → gone ≡ 0
+first_gone p u gone kept rest =
+    none_gone gone kept
+    (subst (IsRest gone kept) (ap (numbered p.source u 0) (first_packets p u)) rest)
+
+-- packet k is that of the stream
+pub datagram_is : (p : Production) (h : List Act) (u k gone : ℕ) (kept : List (List ℕ))
+    → IsRest gone kept (numbered p.source u 0 (packets_of p h u)) → gone ≤ k
+    → slice_get kept (k - gone) ≡ bytes_of p h u k
+datagram_is p h u k gone kept rest l =
+    rest_at gone kept (numbered p.source u 0 (packets_of p h u)) k rest l
+    ∙ numbered_at p.source u 0 (packets_of p h u) k
     ∙ (let z : 0 + k ≡ k = omega arith in
     ap (λ n. option_map (packet_bytes p.source u n) (slice_get (packets_of p h u) k)) z)

@@ -1,6 +1,7 @@
 -- A tick of a console with its link.
-use Rattle.std.proofs.Common.{◌≡◌, ℕ, refl, ap, List, ◌∷◌, Option, Some, None, Result, Ok, Err}
-use Rattle.std.specs.Prelude.{IfOk, OnOk, MatchResult}
+use Rattle.std.proofs.Common.{◌≡◌, ℕ, refl, ap, sym, subst, ◌∙◌, false, List, [], ◌∷◌, ◌++◌, map}
+use Rattle.std.proofs.Common.{append-nil, Option, Some, None, Result, Ok, Err}
+use Rattle.std.specs.Prelude.{IfOk, OnErr, OnOk, MatchResult}
 use Rattle.fade_core.specs.Level.{Start}
 use Rattle.desk_core.specs.declared.answer.Refused.{Refused}
 use Rattle.desk_core.specs.declared.answer.Ticked.{Ticked}
@@ -10,9 +11,12 @@ use Rattle.console.specs.Offering.{Offers}
 use Rattle.console.specs.Stands.{StandsFor}
 use Rattle.console.specs.Streams.{Production, dues_at, tick_at}
 use Rattle.wire_world.specs.declared.stage.Stage.{Stage}
-use Rattle.wire_world.specs.Sends.{sends_of}
+use Rattle.wire_laws.specs.Replies.{due_answer}
+use Rattle.wire_world.specs.declared.row.Row.{Row}
+use Rattle.wire_world.specs.Sends.{Kept, send_of, sends_of, sent_to}
+use Rattle.wire_world.specs.Shelves.{gone_of, kept_of}
 use Rattle.wire_world.specs.StageStands.{StageStands, Tells}
-use Rattle.wire_world.proofs.Linked.{kept_ticked}
+use Rattle.wire_world.proofs.Linked.{answers_ticked, kept_ticked}
 
 -- the answer, from its parts
 pub answer_is : (r : Result (Ticked × List (ℕ × Offered)) Refused) (o : Option Refused)
@@ -29,18 +33,75 @@ pub if_ok : {A E : Type 0} (r : Result A E) (P Q : A → Type 0) → ((a : A) �
 if_ok (Ok a) P Q f p = f a p
 if_ok (Err e) P Q f p = tt
 
-pub stands_ticked : {F : Type 0} (sf : F → List Start → Type 0) (old new : Stage F) (m : ℕ)
-    (r : Result (Ticked × List (ℕ × Offered)) Refused)
-    → OnOk r ((p : Production) (h : List Act) → StandsFor sf p old.console h
-    → StandsFor sf p new.console (tick_at m ∷ h))
-    → IfOk r (λ a. (p : Production) (h : List Act) → StandsFor sf p old.console h → Tells new
-    → Offers p.source (dues_at p h m) a.1 (sends_of old.link) (sends_of new.link))
-    → (Tells new → Tells old)
-    → OnOk r ((p : Production) (h : List Act) → StageStands sf old p h
-    → StageStands sf new p (tick_at m ∷ h))
-stands_ticked sf old new m (Ok a) stands offered told = λ p h s. record {
-  console_stands = stands p h s.console_stands;
-  packets_kept = λ tells. kept_ticked p h m (sends_of old.link) (sends_of new.link) a.1
-      (offered p h s.console_stands tells) (s.packets_kept (told tells));
-}
-stands_ticked sf old new m (Err e) stands offered told = tt
+-- what a tick leaves of a console, its link emptied first and its packets then put on the shelves
+module _ {F : Type 0} (sf : F → List Start → Type 0) (old new : Stage F) (m : ℕ)
+    (r : Result (Ticked × List (ℕ × Offered)) Refused) (empty sent : Kept)
+    (is_empty : empty.rows ≡ []) (told : sent.full ≡ false → old.link.full ≡ false)
+    (tells : new.link.full ≡ false → sent.full ≡ false)
+    (kept : new.link.full ≡ false → (u : ℕ) → kept_of new.shelves.items u
+    ≡ kept_of old.shelves.items u ++ sent_to u (sends_of sent))
+    (gone : new.link.full ≡ false → (u : ℕ) → gone_of new.shelves.items u
+    ≡ gone_of old.shelves.items u) where
+  emptied : (p : Production) (h : List Act) (pairs : List (ℕ × Offered))
+      → Offers p.source (dues_at p h m) pairs (sends_of empty) (sends_of sent)
+      → Offers p.source (dues_at p h m) pairs [] (sends_of sent)
+  emptied p h pairs o =
+      subst (λ (rows : List Row). Offers p.source (dues_at p h m) pairs (map send_of rows)
+      (sends_of sent)) is_empty o
+
+  pub answers : IfOk r (λ a. (p : Production) (h : List Act) → StandsFor sf p old.console h
+      → sent.full ≡ false
+      → Offers p.source (dues_at p h m) a.1 (sends_of empty) (sends_of sent))
+      → (p : Production) (h : List Act) → StandsFor sf p old.console h → Tells new
+      → IfOk r (λ a. a.1 ≡ map due_answer (dues_at p h m))
+  answers offered p h s t = if_ok r _ _ (λ a o.
+      answers_ticked p h m sent.rows [] a.1 (emptied p h a.1 (o p h s (tells t)))) offered
+
+  pub stands_ticked : OnOk r ((p : Production) (h : List Act) → StandsFor sf p old.console h
+      → StandsFor sf p new.console (tick_at m ∷ h))
+      → IfOk r (λ a. (p : Production) (h : List Act) → StandsFor sf p old.console h
+      → sent.full ≡ false
+      → Offers p.source (dues_at p h m) a.1 (sends_of empty) (sends_of sent))
+      → OnOk r ((p : Production) (h : List Act) → StageStands sf old p h
+      → StageStands sf new p (tick_at m ∷ h))
+  stands_ticked stands offered = go r stands offered
+    where
+      go : (r : Result (Ticked × List (ℕ × Offered)) Refused)
+          → OnOk r ((p : Production) (h : List Act) → StandsFor sf p old.console h
+          → StandsFor sf p new.console (tick_at m ∷ h))
+          → IfOk r (λ a. (p : Production) (h : List Act) → StandsFor sf p old.console h
+          → sent.full ≡ false
+          → Offers p.source (dues_at p h m) a.1 (sends_of empty) (sends_of sent))
+          → OnOk r ((p : Production) (h : List Act) → StageStands sf old p h
+          → StageStands sf new p (tick_at m ∷ h))
+      go (Ok a) stands offered = λ p h s. record {
+        console_stands = stands p h s.console_stands;
+        packets_kept = λ t u. rw (kept t u, gone t u)
+            (kept_ticked p h m (sends_of sent) a.1
+            (emptied p h a.1 (offered p h s.console_stands (tells t))) u _ _
+            (s.packets_kept (told (tells t)) u));
+      }
+      go (Err e) stands offered = tt
+
+  pub stands_refused : OnErr r (new.console ≡ old.console)
+      → OnErr r (sent.full ≡ false → sends_of sent ≡ sends_of empty)
+      → OnErr r ((p : Production) (h : List Act) → StageStands sf old p h
+      → StageStands sf new p h)
+  stands_refused same quiet = go r same quiet
+    where
+      nothing : (u : ℕ) → sends_of sent ≡ sends_of empty → (xs : List (List ℕ))
+          → xs ++ sent_to u (sends_of sent) ≡ xs
+      nothing u e xs =
+          ap (λ l. xs ++ sent_to u l) (e ∙ ap (map send_of) is_empty) ∙ append-nil xs
+
+      go : (r : Result (Ticked × List (ℕ × Offered)) Refused)
+          → OnErr r (new.console ≡ old.console)
+          → OnErr r (sent.full ≡ false → sends_of sent ≡ sends_of empty)
+          → OnErr r ((p : Production) (h : List Act) → StageStands sf old p h
+          → StageStands sf new p h)
+      go (Ok a) same quiet = tt
+      go (Err e) same quiet = λ p h s. record {
+        console_stands = subst (λ c. StandsFor sf p c h) (sym same) s.console_stands;
+        packets_kept = λ t u. rw (kept t u, gone t u, nothing u (quiet (tells t)) _)
+            (s.packets_kept (told (tells t)) u);
+      }

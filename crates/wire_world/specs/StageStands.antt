@@ -7,17 +7,18 @@ use Rattle.console.specs.Stands as console
 use Rattle.console.specs.Streams.{Production}
 use Rattle.wire_laws.specs.Happened.{packets_of}
 use Rattle.wire_world.specs.declared.stage.Stage.{Stage}
-use Rattle.wire_world.specs.Sends.{sends_of, sent_to, numbered}
+use Rattle.wire_world.specs.Sends.{numbered}
+use Rattle.wire_world.specs.Shelves.{IsRest, gone_of, kept_of}
 
 -- the link tells: it had room for each packet
 abbrev pub Tells : {F : Type 0} → Stage F → Type 0
 Tells {F} stage = stage.link.full ≡ false
 
--- the console stands for its history, and where the link tells, it keeps of each universe the
--- packets of its stream
+-- the console stands for its history, and where the link tells, what is kept of each universe is
+-- the rest of the packets of its stream
 pub record StageStands {F : Type 0} (fader_stands_for : F → List Start → Type 0) (stage : Stage F)
     (p : Production) (history : List Act) : Type 0 where
   pub console_stands : console.StandsFor fader_stands_for p stage.console history
   pub packets_kept : Tells stage → (universe : ℕ)
-      → sent_to universe (sends_of stage.link)
-      ≡ numbered p.source universe 0 (packets_of p history universe)
+      → IsRest (gone_of stage.shelves.items universe) (kept_of stage.shelves.items universe)
+      (numbered p.source universe 0 (packets_of p history universe))

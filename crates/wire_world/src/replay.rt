@@ -4,6 +4,8 @@ ghost use Rattle.wire_laws.specs.Replies.{AreReplies, done, last_slots};
 ghost use Rattle.wire_world.specs.StageStands.{StageStands, Tells};
 ghost use Rattle.wire_world.specs.Stands.{AllAre, IsWithin};
 
+use crate::lows::lows;
+use crate::releasing::release;
 use crate::report::BriefReport;
 use crate::showing::show_all;
 use crate::stage::Stage;
@@ -31,11 +33,13 @@ pub(crate) fn run<F: Fader>(
         → AllAre (StageStands F.stands_for) Tells stages.old receivers.old w []
         → report.last ≡ last_slots w (done w events.now)) }
 {
+    let lows = lows(alloc, events)?;
     let mut replies = Vec::with_capacity(alloc, events.len())?;
     let mut last = 0;
     for i in 0..events.len() {
         let event = events[i];
         let reply = step(alloc, stages, receivers, strays, &mut last, &event)?;
+        release(stages, event.what, lows[i]);
         replies.push(reply)?;
     }
     let last = show_all(alloc, receivers, last)?;

@@ -1,5 +1,5 @@
 ghost use Rattle.std.specs.Prelude.{◌≡◌, ◌↔◌, ℕ, List, [], ◌∷◌, map, IfOk, OnOk, OnErr, Err, None};
-ghost use Rattle.std.specs.Prelude.{IsFalse, MatchResult, Some};
+ghost use Rattle.std.specs.Prelude.{IsFalse, MatchResult, Some, ◌≤◌, ◌++◌, false};
 ghost use Rattle.std.specs.Option.{option_map};
 ghost use Rattle.patch_core.specs.Frame.{is_base};
 ghost use Rattle.patch_core.specs.declared.fault.RigFault.TheVariants.{Universe};
@@ -7,8 +7,12 @@ ghost use Rattle.desk_core.specs.Played.{Act, ended, outcome, refusal, ticked};
 ghost use Rattle.console.specs.Streams.{Production, dues_at, order_at, tick_at};
 ghost use Rattle.wire_laws.specs.Happened.{bytes_of};
 ghost use Rattle.wire_laws.specs.Replies.{due_answer};
+ghost use Rattle.wire_world.specs.Sends.{sends_of, sent_to};
+ghost use Rattle.wire_world.specs.Shelves.{gone_of, kept_of};
 
 use crate::packets::Packets;
+use crate::shelf::Shelf;
+use crate::shelves::{keep_all, packet, release};
 use console::Console;
 use desk_core::{Command, Refused, Ticked};
 use fade_core::Fader;
@@ -18,11 +22,27 @@ use show_core::Show;
 use std::alloc::Global;
 use wire_laws::Offers;
 
-// A console of a rehearsal, with the packets that it sent.
+// A console of a rehearsal, the packets of its latest tick, and those that an event to come may
+// deliver.
 #[derive(Drop)]
 pub struct Stage<F: Fader> {
     pub console: Console<F>,
     pub link: Packets,
+    // One for each universe of which a packet was sent.
+    pub shelves: Vec<Shelf>,
+}
+
+// Puts the packets of a tick on their shelves.
+fn shelve(alloc: Global, shelves: &mut Vec<Shelf>, link: &mut Packets)
+    ensures tells { link.new.full ≡ false → link.old.full ≡ false }
+    ensures kept { link.new.full ≡ false → (u : ℕ) → kept_of shelves.new.items u
+        ≡ kept_of shelves.old.items u ++ sent_to u (sends_of link.old) }
+    ensures gone { link.new.full ≡ false → (u : ℕ)
+        → gone_of shelves.new.items u ≡ gone_of shelves.old.items u }
+{
+    if keep_all(alloc, shelves, link.rows()).is_err() {
+        link.fill();
+    }
 }
 
 impl<F: Fader> Stage<F> {
@@ -39,6 +59,7 @@ impl<F: Fader> Stage<F> {
         Ok(Stage {
             console,
             link: Packets::new(alloc),
+            shelves: Vec::new(alloc),
         })
     }
 
@@ -51,13 +72,15 @@ impl<F: Fader> Stage<F> {
         ensures stands { OnOk result ((p : Production) (history : List Act)
             → StageStands F.stands_for self.old p history
             → StageStands F.stands_for self.new p (order_at moment command ∷ history)) }
+        ensures gone { (u : ℕ)
+            → gone_of self.new.shelves.items u ≡ gone_of self.old.shelves.items u }
         ensures unchanged { OnErr result (self.new ≡ self.old) }
     {
         self.console.command(moment, command)
     }
 
     // Shows every universe anew, and sends what is due.
-    pub fn tick(&mut self, moment: u64) -> Result<(Ticked, Offers), Refused>
+    pub fn tick(&mut self, alloc: Global, moment: u64) -> Result<(Ticked, Offers), Refused>
         requires real { (p : Production) × (history : List Act)
             × StageStands F.stands_for self.old p history }
         ensures answer { (p : Production) (history : List Act)
@@ -70,8 +93,13 @@ impl<F: Fader> Stage<F> {
         ensures kept { OnErr result ((p : Production) (history : List Act)
             → StageStands F.stands_for self.old p history
             → StageStands F.stands_for self.new p history) }
+        ensures gone { Tells self.new → (u : ℕ)
+            → gone_of self.new.shelves.items u ≡ gone_of self.old.shelves.items u }
     {
-        self.console.tick(moment, &mut self.link)
+        self.link.clear();
+        let answer = self.console.tick(moment, &mut self.link);
+        shelve(alloc, &mut self.shelves, &mut self.link);
+        answer
     }
 
     // Memory for a packet was refused.
@@ -83,10 +111,23 @@ impl<F: Fader> Stage<F> {
 
     // Packet k of a universe, where it was sent.
     pub fn datagram(&self, universe: u16, k: u64) -> Option<&[u8]>
+        requires { gone_of self.now.shelves.items universe ≤ k }
         ensures { (p : Production) (history : List Act)
             → StageStands F.stands_for self.now p history → Tells self.now
             → option_map (λ bytes. bytes.now) result ≡ bytes_of p history universe k }
     {
-        self.link.packet(universe, k)
+        packet(self.shelves.as_slice(), universe, k)
+    }
+
+    // Lets the packets of a universe go that are before packet `low`.
+    pub fn release(&mut self, universe: u16, low: u64)
+        ensures tells { Tells self.old → Tells self.new }
+        ensures stands { (p : Production) (history : List Act)
+            → StageStands F.stands_for self.old p history
+            → StageStands F.stands_for self.new p history }
+        ensures gone { (u k : ℕ) → gone_of self.old.shelves.items u ≤ k → (universe ≡ u → low ≤ k)
+            → gone_of self.new.shelves.items u ≤ k }
+    {
+        release(self.shelves.as_mut_slice(), universe, low);
     }
 }

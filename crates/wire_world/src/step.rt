@@ -1,10 +1,11 @@
 ghost use Rattle.wire_world.specs.Brief.{reply_of};
 ghost use Rattle.wire_world.specs.StageStands.{StageStands, Tells};
-ghost use Rattle.std.specs.Prelude.{◌≡◌, ℕ, List, length, IfOk, if◌then◌else◌};
+ghost use Rattle.std.specs.Prelude.{◌≡◌, ℕ, List, length, IfOk, OnOk, if◌then◌else◌};
 ghost use Rattle.wire_laws.specs.declared.event.Event.{Event as EventData};
 ghost use Rattle.wire_laws.specs.World.{World};
 ghost use Rattle.wire_laws.specs.Replies.{last_moment};
 ghost use Rattle.wire_world.specs.Stands.{AllAre, AllStand, AllBy, IsStep, IsWithin, is_skip};
+ghost use Rattle.wire_world.specs.Wanted.{Holds, gone_at};
 
 use crate::brief::BriefReply;
 use crate::happen::happen;
@@ -38,7 +39,9 @@ pub(crate) fn step<F: Fader>(
         × AllStand (StageStands F.stands_for) stages.old w past }
     requires early { AllBy receivers.old last.old }
     requires within { IsWithin (length strays.now) event.now.what }
-    ensures { IfOk result (λ r. (w : World) (past : List EventData) → w.strays ≡ strays.now
+    requires holds { Holds stages.old event.now.what }
+    ensures gone { OnOk result ((i u : ℕ) → gone_at stages.new i u ≡ gone_at stages.old i u) }
+    ensures step { IfOk result (λ r. (w : World) (past : List EventData) → w.strays ≡ strays.now
         → last.old ≡ last_moment past
         → AllAre (StageStands F.stands_for) Tells stages.old receivers.old w past
         → IsStep (StageStands F.stands_for) Tells stages.new receivers.new last.new (reply_of r)

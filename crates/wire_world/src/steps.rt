@@ -10,6 +10,7 @@ ghost use Rattle.wire_laws.specs.World.{World};
 ghost use Rattle.wire_laws.specs.Happened.{handed};
 ghost use Rattle.wire_laws.specs.Replies.{missing, no_receiver_at, replied, taken_by};
 ghost use Rattle.wire_world.specs.Stands.{AllStand, AllHear, AllTell, AllBy, unless_skipped};
+ghost use Rattle.wire_world.specs.Wanted.{gone_at};
 
 use crate::answers::{ordered, taken, ticked};
 use crate::brief::BriefReply;
@@ -27,6 +28,7 @@ pub(crate) fn order_at<F: Fader>(
     command: Command,
 ) -> BriefReply
     ensures tell { AllTell Tells stages.old → AllTell Tells stages.new }
+    ensures gone { (i u : ℕ) → gone_at stages.new i u ≡ gone_at stages.old i u }
     ensures reply { (w : World) (past : List EventData) → AllStand
         (StageStands F.stands_for) stages.old w past
         → reply_of result ≡ option_map_or reply.Skipped (missing w past (Order console command))
@@ -52,6 +54,7 @@ pub(crate) fn tick_at<F: Fader>(
     requires real { (w : World) × (past : List EventData)
         × AllStand (StageStands F.stands_for) stages.old w past }
     ensures tell { OnOk result (AllTell Tells stages.old → AllTell Tells stages.new) }
+    ensures gone { OnOk result ((i u : ℕ) → gone_at stages.new i u ≡ gone_at stages.old i u) }
     ensures reply { IfOk result (λ r. (w : World) (past : List EventData)
         → AllStand (StageStands F.stands_for) stages.old w past
         → reply_of r ≡ option_map_or reply.Skipped (missing w past (Tick console)) (replied w past moment
@@ -66,7 +69,7 @@ pub(crate) fn tick_at<F: Fader>(
         return Ok(BriefReply::Skipped(Skip::NoConsole));
     }
     let stage = &mut stages[i];
-    let answer = stage.tick(moment);
+    let answer = stage.tick(alloc, moment);
     if stage.is_full() {
         return Err(AllocError);
     }
@@ -129,6 +132,7 @@ pub(crate) fn deliver_at<F: Fader>(
     k: u64,
     moment: u64,
 ) -> BriefReply
+    requires { gone_at stages.now console universe ≤ k }
     ensures reply { (w : World) (past : List EventData) → AllStand
         (StageStands F.stands_for) stages.now w past → AllTell Tells stages.now
         → AllHear receivers.old w past

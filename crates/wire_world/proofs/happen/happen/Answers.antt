@@ -10,6 +10,7 @@ use Rattle.wire_laws.specs.Replies.{missing, replied, no_receiver_at, taken_by}
 use Rattle.wire_world.specs.Stands.{AllStand, AllHear, unless_skipped}
 use Rattle.wire_world.specs.Brief.{reply_of}
 use Rattle.wire_world.specs.StageStands.{StageStands}
+use Rattle.wire_world.specs.Wanted.{Holds}
 use Rattle.wire_world.proofs.happen.happen.Goals as goal
 
 pub returns-in-Order-clause-stands : goal.returns-in-Order-clause-stands
@@ -124,3 +125,7 @@ returns-in_ok-reply-in-Show-clause-stands g c = λ w past all.
     (stand_same (StageStands g.F.Fader.stands_for) c.args.stages.now w past
     (missing w past (Show c.in-Show.receiver))
     (record { moment = c.args.moment; what = Show c.in-Show.receiver }) (λ j. refl) all)
+
+pub deliver_at-requires : goal.deliver_at-requires
+deliver_at-requires g c =
+    subst (λ (x : What). Holds c.args.stages.now x) c.in-Deliver.is c.requires.holds

@@ -1,4 +1,4 @@
-use Rattle.std.proofs.Common.{◌≡◌, ◌<◌, length, Some, sym, subst, refl}
+use Rattle.std.proofs.Common.{◌≡◌, ◌<◌, length, Some, sym, subst, refl, rules}
 use Rattle.std.specs.Prelude.{slice_get}
 use Rattle.std.proofs.lemmas.Option.{slice_get_read}
 use Rattle.wire_laws.specs.declared.setup.Setup.{Setup}
@@ -22,3 +22,20 @@ loop-i-preserved g c =
     (opened_more (StageStands g.F.Fader.stands_for) Tells c.loop-i.stages.items c.args.shows.now
     c.args.setups.now c.loop-i.i c.in_ok-stage.stage setup c.index-shows-setup.result
     c.loop-i.invariant here show c.in_ok-stage.ensures)
+
+pub loop-i-init : goal.loop-i-init
+loop-i-init g c = rw c.new-stages.ensures.items (record {
+  long = refl;
+  each = λ i s d e f. cc;
+})
+
+pub bounds-shows-setup : goal.bounds-shows-setup
+bounds-shows-setup g c =
+    subst (λ (x : Setup). x.show < length c.args.shows.now) (sym c.index-setups-i.is)
+    (c.requires c.loop-i.i c.index-setups-i.result c.loop-i-test.true)
+
+pub offset_bounds-shows-setup : goal.offset_bounds-shows-setup
+offset_bounds-shows-setup g c =
+    let within : c.index-setups-i.result.show < length c.args.shows.now =
+    subst (λ (x : Setup). x.show < length c.args.shows.now) (sym c.index-setups-i.is)
+    (c.requires c.loop-i.i c.index-setups-i.result c.loop-i-test.true) in search rules

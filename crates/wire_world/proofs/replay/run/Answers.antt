@@ -1,11 +1,16 @@
-use Rattle.std.proofs.Common.{◌≡◌, ◌<◌, ◌≤◌, ◌∙◌, length, map, take, ap, arith, refl, List}
-use Rattle.std.proofs.lemmas.Option.{slice_get_within}
+use Rattle.std.proofs.Common.{◌≡◌, ◌<◌, ◌≤◌, ◌∙◌, length, map, get_or, take, ap, arith, refl, List, ℕ, subst, sym}
+use Rattle.std.specs.Prelude.{slice_index}
+use Rattle.std.proofs.lemmas.Option.{slice_get-get_or, slice_get_within}
 use Rattle.wire_laws.specs.Replies.{done, last_slots}
+use Rattle.desk_core.specs.declared.command.Command.TheVariants.{Go}
 use Rattle.wire_laws.specs.declared.event.Event.{Event}
-use Rattle.std.proofs.lemmas.List.{map_push, take_all}
+use Rattle.wire_laws.specs.declared.event.What.TheVariants.{Order}
+use Rattle.std.proofs.lemmas.List.{get_or_default, map_push, take_all}
 use Rattle.wire_world.proofs.Replays.{early, replayed_more}
+use Rattle.wire_world.proofs.Wants.{hold_first, hold_next, step_released}
 use Rattle.wire_world.specs.Brief.{reply_of}
 use Rattle.wire_world.specs.StageStands.{StageStands, Tells}
+use Rattle.wire_world.specs.Wanted.{Spares}
 use Rattle.wire_world.proofs.replay.run.Goals as goal
 
 pub step-requires-clause-early : goal.step-requires-clause-early
@@ -13,33 +18,55 @@ step-requires-clause-early g c =
     let b = c.requires.begun in
     early (StageStands g.F.Fader.stands_for) Tells c.loop-i.stages c.loop-i.receivers
     c.loop-i.last (map reply_of c.loop-i.replies.items) b.0 c.args.events.now c.loop-i.i
-    (c.loop-i.invariant b.0 b.1 b.2)
+    (c.loop-i.invariant.1 b.0 b.1 b.2)
 
 pub loop-i-init : goal.loop-i-init
-loop-i-init g c = λ w same are. rw c.in_ok-replies.ensures.items (record {
-  long = refl;
-  last_is = refl;
-  are = are;
-  below = λ j e l. absurd (omega (arith, l));
-})
+loop-i-init g c =
+    let b = c.requires.begun in (
+      hold_first g.F.Fader.stands_for c.args.stages.now b.0 c.args.events.now b.2.stand b.2.tell,
+      λ w same are. rw c.in_ok-replies.ensures.items (record {
+        long = refl;
+        last_is = refl;
+        are = are;
+        below = λ j e l. absurd (omega (arith, l));
+      }),
+    )
 
 pub loop-i-preserved : goal.loop-i-preserved
-loop-i-preserved g c = λ w same are.
-    let all = c.loop-i.invariant w same are in
-    let s = c.in_ok-reply.ensures w (done w (take c.loop-i.i c.args.events.now)) same all.last_is
-    all.are in
-    rw (
-      c.in_ok-push.ensures.items,
-      map_push reply_of c.loop-i.replies.items c.in_ok-reply.reply,
-    )
-    (replayed_more (StageStands g.F.Fader.stands_for) Tells w c.args.events.now c.loop-i.i _
-    c.loop-i-test.true c.step.new.stages c.step.new.receivers c.loop-i.last c.step.new.last
-    (map reply_of c.loop-i.replies.items) (reply_of c.in_ok-reply.reply) c.loop-i.stages
-    c.loop-i.receivers all s)
+loop-i-preserved g c = (
+  (let none : Event = record { moment = 0; what = Order 0 Go } in
+      let event : Event = get_or c.args.events.now c.loop-i.i none in
+      let low : c.index.result.now ≡ slice_index c.in_ok-lows.lows.items c.loop-i.i =
+      c.index.ensures ∙ get_or_default c.in_ok-lows.lows.items c.loop-i.i c.index.result.now 0
+      (omega (arith, c.in_ok-lows.ensures.each, c.loop-i-test.true)) in
+      hold_next c.loop-i.stages c.step.new.stages c.release.new.stages c.args.events.now
+      c.in_ok-lows.lows.items c.loop-i.i event
+      (slice_get-get_or c.args.events.now c.loop-i.i none c.loop-i-test.true)
+      c.in_ok-lows.ensures.lows c.in_ok-reply.ensures.gone
+      (λ later h s. c.release.ensures.holds later h
+      (subst (λ (n : ℕ). Spares event.what n later) (sym low) s))
+      c.loop-i.invariant.0),
+  λ w same are.
+      let all = c.loop-i.invariant.1 w same are in
+      let s = c.in_ok-reply.ensures.step w (done w (take c.loop-i.i c.args.events.now)) same
+      all.last_is all.are in
+      rw (
+        c.in_ok-push.ensures.items,
+        map_push reply_of c.loop-i.replies.items c.in_ok-reply.reply,
+      )
+      (replayed_more (StageStands g.F.Fader.stands_for) Tells w c.args.events.now c.loop-i.i _
+      c.loop-i-test.true c.release.new.stages c.step.new.receivers c.loop-i.last c.step.new.last
+      (map reply_of c.loop-i.replies.items) (reply_of c.in_ok-reply.reply) c.loop-i.stages
+      c.loop-i.receivers all
+      (step_released (StageStands g.F.Fader.stands_for) Tells c.step.new.stages
+      c.release.new.stages c.step.new.receivers c.step.new.last (reply_of c.in_ok-reply.reply) w
+      (done w (take c.loop-i.i c.args.events.now)) _ c.release.ensures.stand
+      c.release.ensures.tell s)),
+)
 
 pub returns-clause-replies : goal.returns-clause-replies
 returns-clause-replies g c = λ w same are.
-    let all = c.loop-i.invariant w same are in
+    let all = c.loop-i.invariant.1 w same are in
     let end : c.loop-i.i ≡ length c.args.events.now =
     omega (arith, c.loop-i-test.false, c.loop-i.auto.i-end) in (
       omega (arith, all.long, end),
@@ -53,7 +80,7 @@ step-requires-clause-real g c =
     let b = c.requires.begun in (
       b.0,
       done b.0 (take c.loop-i.i c.args.events.now),
-      (c.loop-i.invariant b.0 b.1 b.2).are.stand,
+      (c.loop-i.invariant.1 b.0 b.1 b.2).are.stand,
     )
 
 pub show_all-requires : goal.show_all-requires
@@ -61,12 +88,17 @@ show_all-requires g c =
     let b = c.requires.begun in
     early (StageStands g.F.Fader.stands_for) Tells c.loop-i.stages c.loop-i.receivers
     c.loop-i.last (map reply_of c.loop-i.replies.items) b.0 c.args.events.now c.loop-i.i
-    (c.loop-i.invariant b.0 b.1 b.2)
+    (c.loop-i.invariant.1 b.0 b.1 b.2)
 
 pub returns-clause-last : goal.returns-clause-last
 returns-clause-last g c = λ w same are.
-    let all = c.loop-i.invariant w same are in
+    let all = c.loop-i.invariant.1 w same are in
     let end : length c.args.events.now ≤ c.loop-i.i = c.loop-i-test.false in
     c.in_ok-last.ensures w (done w (take c.loop-i.i c.args.events.now)) all.are.hear all.last_is
     ∙ ap (λ (es : List Event). last_slots w (done w es))
     (take_all c.loop-i.i c.args.events.now end)
+
+pub step-requires-clause-holds : goal.step-requires-clause-holds
+step-requires-clause-holds g c =
+    c.loop-i.invariant.0 c.loop-i.i _ (omega arith)
+    (slice_get-get_or c.args.events.now c.loop-i.i _ c.loop-i-test.true)

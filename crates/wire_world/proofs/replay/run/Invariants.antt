@@ -3,10 +3,12 @@ use Rattle.wire_laws.specs.World.{World}
 use Rattle.wire_world.specs.Brief.{reply_of}
 use Rattle.wire_world.specs.Stands.{AllAre, Replayed}
 use Rattle.wire_world.specs.StageStands.{StageStands, Tells}
+use Rattle.wire_world.proofs.Wants.{AllHold}
 use Rattle.wire_world.proofs.replay.run.Given as goal
 
 abbrev pub invariant-loop-i : goal.invariant-loop-i
-invariant-loop-i g l = (w : World) → w.strays ≡ l.strays
+invariant-loop-i g l = AllHold l.stages l.events l.i
+    × ((w : World) → w.strays ≡ l.strays
     → AllAre (StageStands g.F.Fader.stands_for) Tells l.fn.stages l.fn.receivers w []
     → Replayed (StageStands g.F.Fader.stands_for) Tells l.stages l.receivers l.last
-    (map reply_of l.replies.items) w l.events l.i
+    (map reply_of l.replies.items) w l.events l.i)

@@ -7,8 +7,8 @@ use Rattle.wire_world.specs.Brief.{reply_of}
 use Rattle.wire_world.specs.StageStands.{StageStands, Tells}
 use Rattle.wire_world.proofs.step.step.Goals as goal
 
-pub returns : goal.returns
-returns g c = λ w past same l are.
+pub returns-clause-step : goal.returns-clause-step
+returns-clause-step g c = λ w past same l are.
     let e : Event = c.args.event.now in
     let after : last_moment past ≤ e.moment = omega (arith, l, c.if-event-last.false) in
     let below : e.moment < 2 ^ 48 = omega (arith, c.if-event-ge-MOMENTS.false) in
@@ -20,15 +20,15 @@ returns g c = λ w past same l are.
     (c.in_ok-reply.ensures.stands w past are.stand) (c.in_ok-reply.ensures.tell are.tell)
     (c.in_ok-reply.ensures.hear w past same are.stand are.tell are.hear)
 
-pub returns-then-event-last : goal.returns-then-event-last
-returns-then-event-last g c = λ w past same l are.
+pub returns-then-event-last-clause-step : goal.returns-then-event-last-clause-step
+returns-then-event-last-clause-step g c = λ w past same l are.
     step_skipped (StageStands g.F.Fader.stands_for) Tells c.args.stages.now c.args.receivers.now
     w past c.args.event.now Backwards c.args.last.now
     (backwards (StageStands g.F.Fader.stands_for) Tells c.args.stages.now c.args.receivers.now w
     past c.args.event.now (omega (arith, l, c.if-event-last.true))) l are
 
-pub returns-then-event-ge-MOMENTS : goal.returns-then-event-ge-MOMENTS
-returns-then-event-ge-MOMENTS g c = λ w past same l are.
+pub returns-then-event-ge-MOMENTS-clause-step : goal.returns-then-event-ge-MOMENTS-clause-step
+returns-then-event-ge-MOMENTS-clause-step g c = λ w past same l are.
     step_skipped (StageStands g.F.Fader.stands_for) Tells c.args.stages.now c.args.receivers.now
     w past c.args.event.now TooLarge c.args.last.now
     (too_large (StageStands g.F.Fader.stands_for) Tells c.args.stages.now c.args.receivers.now w

@@ -1,0 +1,156 @@
+-- The least numbers of the packets that later events deliver.
+use Rattle.std.proofs.Common.{◌≡◌, ◌⊎◌, ℕ, zero, suc, ◌+◌, ◌<◌, ◌≤◌, refl, ap, sym, subst, ◌∙◌}
+use Rattle.std.proofs.Common.{List, [], ◌∷◌, length, set, Some, inl, inr, arith}
+use Rattle.std.specs.Prelude.{slice_get, slice_index}
+use Rattle.std.proofs.lemmas.Bool.{cases_eq}
+use Rattle.std.proofs.Math.ListN.{length-set}
+use Rattle.wire_laws.specs.declared.event.Event.{Event}
+use Rattle.wire_laws.specs.declared.event.What.{What}
+use Rattle.wire_laws.specs.declared.event.What.TheVariants.{Order, Tick, Deliver, Stray, Show}
+use Rattle.wire_world.specs.Wanted.{Spares, row_of}
+
+-- a delivery is of no packet before the least of its row
+abbrev pub IsLeast : List ℕ → What → Type 0
+IsLeast least (Deliver r i u k) = slice_index least (row_of i u) ≤ k
+IsLeast least _ = Unit {0}
+
+-- so for the events from event n on
+pub record AreLowsFrom (events : List Event) (lows least : List ℕ) (n : ℕ) : Type 0 where
+  pub long : length lows ≡ length events
+  pub wide : length least ≡ 64
+  pub least_are : (j : ℕ) (f : Event) → n ≤ j → slice_get events j ≡ Some f → IsLeast least f.what
+  pub lows_are : (i j : ℕ) (e f : Event) → n ≤ i → i < j → slice_get events i ≡ Some e
+      → slice_get events j ≡ Some f → Spares e.what (slice_index lows i) f.what
+
+index_set : (xs : List ℕ) (i y : ℕ) → i < length xs → slice_index (set xs i y) i ≡ y
+index_set [] i y l = absurd (omega (arith, l))
+index_set (x ∷ xs) zero y l = refl
+index_set (x ∷ xs) (suc i) y l = index_set xs i y (omega (arith, l))
+
+index_past : (xs : List ℕ) (i j y : ℕ) → i < j → slice_index (set xs i y) j ≡ slice_index xs j
+index_past [] i j y l = refl
+index_past (x ∷ xs) i zero y l = absurd (omega (arith, l))
+index_past (x ∷ xs) zero (suc j) y l = refl
+index_past (x ∷ xs) (suc i) (suc j) y l = index_past xs i j y (omega (arith, l))
+
+-- a lower one in its place
+index_less : (xs : List ℕ) (i j y : ℕ) → y ≤ slice_index xs i
+    → slice_index (set xs i y) j ≤ slice_index xs j
+index_less [] i j y l = omega arith
+index_less (x ∷ xs) zero zero y l = l
+index_less (x ∷ xs) zero (suc j) y l = omega arith
+index_less (x ∷ xs) (suc i) zero y l = omega arith
+index_less (x ∷ xs) (suc i) (suc j) y l = index_less xs i j y l
+
+least_less : (least : List ℕ) (row y : ℕ) → y ≤ slice_index least row → (what : What)
+    → IsLeast least what → IsLeast (set least row y) what
+least_less least row y l (Order i c) h = tt
+least_less least row y l (Tick i) h = tt
+least_less least row y l (Stray r from to) h = tt
+least_less least row y l (Show r) h = tt
+least_less least row y l (Deliver r i u k) h =
+    omega (arith, index_less least row (row_of i u) y l, h)
+
+-- what is no delivery
+no_least : (least : List ℕ) (what : What) → ((r i u k : ℕ) → what ≡ Deliver r i u k → ⊥)
+    → IsLeast least what
+no_least least (Order i c) other = tt
+no_least least (Tick i) other = tt
+no_least least (Stray r from to) other = tt
+no_least least (Show r) other = tt
+no_least least (Deliver r i u k) other = absurd (other r i u k refl)
+
+no_spares : (what : What) → ((r i u k : ℕ) → what ≡ Deliver r i u k → ⊥) → (low : ℕ)
+    (later : What) → Spares what low later
+no_spares (Order i c) other low later = tt
+no_spares (Tick i) other low later = tt
+no_spares (Stray r from to) other low later = tt
+no_spares (Show r) other low later = tt
+no_spares (Deliver r i u k) other low later = absurd (other r i u k refl)
+
+-- an event before these that is no delivery
+pub lows_still : (events : List Event) (lows least : List ℕ) (n : ℕ) (e : Event)
+    → slice_get events n ≡ Some e
+    → ((r i u k : ℕ) → e.what ≡ Deliver r i u k → ⊥)
+    → AreLowsFrom events lows least (n + 1) → AreLowsFrom events lows least n
+lows_still events lows least n e at other all = record {
+  long = all.long;
+  wide = all.wide;
+  least_are = λ j f l g. here j f g (cases_eq n j) l;
+  lows_are = λ i j d f l m a b. there i j d f a b m (cases_eq n i) l;
+}
+  where
+    here : (j : ℕ) (f : Event) → slice_get events j ≡ Some f → (n ≡ j) ⊎ (n ≡ j → ⊥) → n ≤ j
+        → IsLeast least f.what
+    here j f g (inl q) l =
+        let h : Some e ≡ Some f = sym at ∙ ap (slice_get events) q ∙ g in
+        let same : e ≡ f = cc in
+        subst (λ (d : Event). IsLeast least d.what) same (no_least least e.what other)
+    here j f g (inr q) l = all.least_are j f (omega (arith, l, q)) g
+
+    there : (i j : ℕ) (d f : Event) → slice_get events i ≡ Some d → slice_get events j ≡ Some f
+        → i < j → (n ≡ i) ⊎ (n ≡ i → ⊥) → n ≤ i → Spares d.what (slice_index lows i) f.what
+    there i j d f a b m (inl q) l =
+        let h : Some e ≡ Some d = sym at ∙ ap (slice_get events) q ∙ a in
+        let same : e ≡ d = cc in
+        subst (λ (x : Event). Spares x.what (slice_index lows i) f.what) same
+        (no_spares e.what other (slice_index lows i) f.what)
+    there i j d f a b m (inr q) l = all.lows_are i j d f (omega (arith, l, q)) m a b
+
+-- a delivery before these
+pub lows_more : (events : List Event) (lows least : List ℕ) (n r c u k y : ℕ) (e : Event)
+    → slice_get events n ≡ Some e → e.what ≡ Deliver r c u k → n < length events
+    → row_of c u < length least → y ≤ slice_index least (row_of c u) → y ≤ k
+    → AreLowsFrom events lows least (n + 1)
+    → AreLowsFrom events (set lows n (slice_index least (row_of c u)))
+    (set least (row_of c u) y) n
+lows_more events lows least n r c u k y e at is within inside less low all = record {
+  long = length-set lows n (slice_index least (row_of c u)) ∙ all.long;
+  wide = length-set least (row_of c u) y ∙ all.wide;
+  least_are = λ j f l g. here j f g (cases_eq n j) l;
+  lows_are = λ i j d f l m a b. there i j d f a b m (cases_eq n i) l;
+}
+  where
+    first : IsLeast (set least (row_of c u) y) (Deliver r c u k)
+    first = omega (arith, index_set least (row_of c u) y inside, low)
+
+    here : (j : ℕ) (f : Event) → slice_get events j ≡ Some f → (n ≡ j) ⊎ (n ≡ j → ⊥) → n ≤ j
+        → IsLeast (set least (row_of c u) y) f.what
+    here j f g (inl q) l =
+        let h : Some e ≡ Some f = sym at ∙ ap (slice_get events) q ∙ g in
+        let same : e ≡ f = cc in
+        subst (λ (d : Event). IsLeast (set least (row_of c u) y) d.what) same
+        (subst (IsLeast (set least (row_of c u) y)) (sym is) first)
+    here j f g (inr q) l =
+        least_less least (row_of c u) y less f.what (all.least_are j f (omega (arith, l, q)) g)
+
+    spared : (j : ℕ) (later : What) → IsLeast least later
+        → Spares (Deliver r c u k) (slice_index least (row_of c u)) later
+    spared j (Order i x) h = tt
+    spared j (Tick i) h = tt
+    spared j (Stray i from to) h = tt
+    spared j (Show i) h = tt
+    spared j (Deliver q d v m) h = λ a b.
+        let same : row_of c u ≡ row_of d v = ap (λ x. row_of x u) a ∙ ap (row_of d) b in
+        omega (arith, ap (slice_index least) same, h)
+
+    there : (i j : ℕ) (d f : Event) → slice_get events i ≡ Some d → slice_get events j ≡ Some f
+        → i < j → (n ≡ i) ⊎ (n ≡ i → ⊥) → n ≤ i
+        → Spares d.what (slice_index (set lows n (slice_index least (row_of c u))) i) f.what
+    there i j d f a b m (inl q) l =
+        let h : Some e ≡ Some d = sym at ∙ ap (slice_get events) q ∙ a in
+        let same : e ≡ d = cc in
+        let low_is : slice_index (set lows n (slice_index least (row_of c u))) i
+        ≡ slice_index least (row_of c u) =
+        ap (slice_index (set lows n (slice_index least (row_of c u)))) (sym q)
+        ∙ index_set lows n (slice_index least (row_of c u)) (omega (arith, within, all.long)) in
+        subst (λ (x : What). Spares x
+        (slice_index (set lows n (slice_index least (row_of c u))) i) f.what)
+        (sym is ∙ ap (λ (x : Event). x.what) same)
+        (subst (λ (x : ℕ). Spares (Deliver r c u k) x f.what) (sym low_is)
+        (spared j f.what (all.least_are j f (omega (arith, l, m, q)) b)))
+    there i j d f a b m (inr q) l =
+        let past : n < i = omega (arith, l, q) in
+        subst (λ (x : ℕ). Spares d.what x f.what)
+        (sym (index_past lows n i (slice_index least (row_of c u)) past))
+        (all.lows_are i j d f (omega (arith, past)) m a b)

@@ -1,0 +1,14 @@
+use Rattle.std.proofs.Common.{refl, arith, sym, not, ap, ◌∙◌}
+use Rattle.wire_world.proofs.Rests.{rest_popped}
+use Rattle.wire_world.proofs.shelf.Shelf.release.Goals as goal
+
+pub loop-gone-preserved : goal.loop-gone-preserved
+loop-gone-preserved c = (
+  refl,
+  c.loop-gone.invariant.1,
+  λ k a b. omega (arith, c.loop-gone-test.true, b),
+  λ all r. rest_popped c.loop-gone.gone c.pop_front.result c.loop-gone.self.packets.items
+      c.pop_front.new.self.items all c.pop_front.ensures.items
+      (c.is_none.ensures ∙ ap not c.if-is_none.false)
+      (rw (sym c.loop-gone.invariant.0) (c.loop-gone.invariant.3 all r)),
+)

@@ -1,0 +1,22 @@
+-- Which packets of each universe are kept.
+-- Of use inside the crate: what its public calls answer is said without these.
+use Rattle.std.specs.Prelude.{◌≡◌, ℕ, ◌==◌, List, [], ◌++◌, length, find}
+use Rattle.std.specs.Option.{option_map_or}
+use Rattle.wire_world.specs.declared.shelf.Shelf.{Shelf}
+
+-- the packets of a universe that are kept
+abbrev pub kept_of : List Shelf → ℕ → List (List ℕ)
+kept_of shelves universe =
+    option_map_or (λ shelf. shelf.packets.items)
+    (find (λ shelf. shelf.universe == universe) shelves) []
+
+-- how many packets of a universe are gone, the first ones
+abbrev pub gone_of : List Shelf → ℕ → ℕ
+gone_of shelves universe =
+    option_map_or (λ shelf. shelf.gone) (find (λ shelf. shelf.universe == universe) shelves) 0
+
+-- these packets are all but the first ones, so many of which are gone
+pub record IsRest (gone : ℕ) (kept all : List (List ℕ)) : Type 0 where
+  pub before : List (List ℕ)
+  pub parts : all ≡ before ++ kept
+  pub count : length before ≡ gone

@@ -1,0 +1,33 @@
+-- Which packets the events to come want.
+-- Of use inside the crate: what its public calls answer is said without these.
+use Rattle.std.specs.Prelude.{◌≡◌, ℕ, ◌+◌, ◌*◌, ◌%◌, ◌<◌, ◌≤◌, List, Some, slice_get, slice_index}
+use Rattle.std.specs.Option.{option_map_or}
+use Rattle.wire_laws.specs.declared.event.Event.{Event}
+use Rattle.wire_laws.specs.declared.event.What.{What}
+use Rattle.wire_laws.specs.declared.event.What.TheVariants.{Deliver}
+use Rattle.wire_world.specs.declared.stage.Stage.{Stage}
+use Rattle.wire_world.specs.Shelves.{gone_of}
+
+-- how many packets of a universe of a console are gone
+abbrev pub gone_at : {F : Type 0} → List (Stage F) → ℕ → ℕ → ℕ
+gone_at stages console universe =
+    option_map_or (λ stage. gone_of stage.shelves.items universe) (slice_get stages console) 0
+
+-- a packet that an event delivers is not gone
+abbrev pub Holds : {F : Type 0} → List (Stage F) → What → Type 0
+Holds stages (Deliver receiver console universe k) = gone_at stages console universe ≤ k
+Holds stages _ = Unit {0}
+
+-- the later of two deliveries of one universe is of no packet before packet `low`
+abbrev pub Spares : What → ℕ → What → Type 0
+Spares (Deliver r i u k) low (Deliver q j v n) = i ≡ j → u ≡ v → low ≤ n
+Spares _ low _ = Unit {0}
+
+-- the row of a universe of a console in a table of 64
+abbrev pub row_of : ℕ → ℕ → ℕ
+row_of console universe = console % 4 * 16 + universe % 16
+
+-- each event has the number of a packet, before which no later delivery of its universe is
+abbrev pub AreLows : List Event → List ℕ → Type 0
+AreLows events lows = (i j : ℕ) (e f : Event) → i < j → slice_get events i ≡ Some e
+    → slice_get events j ≡ Some f → Spares e.what (slice_index lows i) f.what

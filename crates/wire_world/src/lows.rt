@@ -1,0 +1,38 @@
+ghost use Rattle.std.specs.Prelude.{◌≡◌, ◌<◌, IfOk, length};
+ghost use Rattle.wire_world.specs.Wanted.{AreLows, row_of};
+
+use std::alloc::{AllocError, Global};
+use wire_laws::{Event, What};
+
+// Of each delivery the number of a packet of its universe, before which no later event delivers
+// one: such packets need not be kept.
+pub(crate) fn lows(alloc: Global, events: &[Event]) -> Result<Vec<u64>, AllocError>
+    ensures each { IfOk result (λ lows. length lows.items ≡ length events.now) }
+    ensures lows { IfOk result (λ lows. AreLows events.now lows.items) }
+{
+    let mut lows = vec![in alloc; 0; events.len()]?;
+    // Four consoles have at most sixteen universes each, in a row.
+    let mut least = [u64::MAX; 64];
+    for i in (0..events.len()).rev() {
+        if let What::Deliver {
+            console,
+            universe,
+            k,
+            ..
+        } = events[i].what
+        {
+            let row = row_of(console, universe);
+            lows[i] = least[row];
+            least[row] = least[row].min(k);
+        }
+    }
+    Ok(lows)
+}
+
+// The row of a universe of a console in a table of 64.
+fn row_of(console: u16, universe: u16) -> usize
+    ensures row { result ≡ row_of console universe }
+    ensures within { result < 64 }
+{
+    usize::from(console % 4) * 16 + usize::from(universe % 16)
+}

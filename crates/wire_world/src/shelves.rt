@@ -1,0 +1,107 @@
+ghost use Rattle.std.specs.Prelude.{◌≡◌, ◌==◌, ◌++◌, ◌∷◌, [], ◌-◌, ◌≤◌, ℕ, List, OnOk, slice_get};
+ghost use Rattle.std.specs.Prelude.{if◌then◌else◌, find, map};
+ghost use Rattle.std.specs.List.{position};
+ghost use Rattle.std.specs.Option.{option_map};
+ghost use Rattle.wire_world.specs.Sends.{send_of, sent_to};
+ghost use Rattle.wire_world.specs.Shelves.{IsRest, gone_of, kept_of};
+
+use crate::row::Row;
+use crate::shelf::Shelf;
+use std::alloc::{AllocError, Global};
+use std::collections::VecDeque;
+
+// Puts packets on the shelves of their universes.
+pub(crate) fn keep_all(
+    alloc: Global,
+    shelves: &mut Vec<Shelf>,
+    rows: &[Row],
+) -> Result<(), AllocError>
+    ensures kept { OnOk result ((u : ℕ) → kept_of shelves.new.items u
+        ≡ kept_of shelves.old.items u ++ sent_to u (map send_of rows.now)) }
+    ensures gone { OnOk result ((u : ℕ) → gone_of shelves.new.items u
+        ≡ gone_of shelves.old.items u) }
+{
+    for i in 0..rows.len() {
+        keep(alloc, shelves, rows[i])?;
+    }
+    Ok(())
+}
+
+// Puts a packet on the shelf of its universe.
+fn keep(alloc: Global, shelves: &mut Vec<Shelf>, row: Row) -> Result<(), AllocError>
+    ensures kept { OnOk result ((u : ℕ) → kept_of shelves.new.items u
+        ≡ (if row.universe == u then kept_of shelves.old.items u ++ row.bytes ∷ []
+        else kept_of shelves.old.items u)) }
+    ensures gone { OnOk result ((u : ℕ) → gone_of shelves.new.items u
+        ≡ gone_of shelves.old.items u) }
+{
+    match place_of(shelves.as_slice(), row.universe) {
+        Some(i) => shelves[i].packets.push_back(row.bytes)?,
+        None => {
+            let mut packets = VecDeque::new(alloc);
+            packets.push_back(row.bytes)?;
+            shelves.push(Shelf {
+                universe: row.universe,
+                gone: 0,
+                packets,
+            })?;
+        }
+    }
+    Ok(())
+}
+
+// Packet k of a universe, where it was sent.
+pub(crate) fn packet(shelves: &[Shelf], universe: u16, k: u64) -> Option<&[u8]>
+    requires { gone_of shelves.now universe ≤ k }
+    ensures { option_map (λ bytes. bytes.now) result
+        ≡ slice_get (kept_of shelves.now universe) (k - gone_of shelves.now universe) }
+{
+    let shelf = shelf_at(shelves, universe)?;
+    let packet = shelf.packets.get((k - shelf.gone) as usize)?;
+    Some(packet)
+}
+
+// Lets the packets of a universe go that are before packet `low`.
+pub(crate) fn release(shelves: &mut [Shelf], universe: u16, low: u64)
+    ensures rest { (u : ℕ) (all : List (List ℕ))
+        → IsRest (gone_of shelves.old u) (kept_of shelves.old u) all
+        → IsRest (gone_of shelves.new u) (kept_of shelves.new u) all }
+    ensures gone { (u k : ℕ) → gone_of shelves.old u ≤ k → (universe ≡ u → low ≤ k)
+        → gone_of shelves.new u ≤ k }
+{
+    if let Some(i) = place_of(shelves, universe) {
+        shelves[i].release(low);
+    }
+}
+
+// The shelf of a universe.
+fn shelf_at(shelves: &[Shelf], universe: u16) -> Option<&Shelf>
+    ensures { option_map (λ shelf. shelf.now) result
+        ≡ find (λ shelf. shelf.universe == universe) shelves.now }
+{
+    shelves.iter().find(|shelf| shelf.universe == universe)
+}
+
+// Where the shelf of a universe stands.
+fn place_of(shelves: &[Shelf], universe: u16) -> Option<usize>
+    ensures { result ≡ position (λ shelf. shelf.universe == universe) shelves.now }
+{
+    shelves.iter().position(|shelf| shelf.universe == universe)
+}
+
+impl Shelf {
+    // Lets the packets before packet `low` go.
+    fn release(&mut self, low: u64)
+        ensures universe { self.new.universe ≡ self.old.universe }
+        ensures rest { (all : List (List ℕ)) → IsRest self.old.gone self.old.packets.items all
+            → IsRest self.new.gone self.new.packets.items all }
+        ensures gone { (k : ℕ) → self.old.gone ≤ k → low ≤ k → self.new.gone ≤ k }
+    {
+        for gone in self.gone..low {
+            if self.packets.pop_front().is_none() {
+                return;
+            }
+            self.gone = gone + 1;
+        }
+    }
+}
