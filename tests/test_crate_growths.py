@@ -45,9 +45,9 @@ TESTED = {
     "show_reader": Tested(
         ("read_show",),
         (
-            *("clear_cues", "console_style_file", "follow_faults", "last_follow_on_time"),
-            *("last_rates", "show_faults", "show_texts", "skipped_lines", "top_channel"),
-            "universe_limit",
+            *("any_order", "clear_cues", "console_style_file", "follow_faults"),
+            *("last_follow_on_time", "last_rates", "lines_between", "show_faults", "show_texts"),
+            *("skipped_lines", "top_channel", "universe_limit"),
         ),
     ),
     "script_text": Tested(

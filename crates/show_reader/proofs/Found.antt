@@ -27,7 +27,7 @@ use Rattle.show_reader.specs.Keys.{Key, There, Level, Up, Down, Follow, Dimmer, 
 use Rattle.show_reader.specs.Meaning.{News, Is, Gone, Silent, after, newer, pair_says, triple_says}
 use Rattle.show_reader.specs.Meaning.{says, cue_count, is_there}
 use Rattle.show_reader.specs.Shows.{IsShowOf}
-use Rattle.show_reader.specs.Applied.{with_record, with_channel, with_pairs, with_triples, without}
+use Rattle.show_reader.specs.Applied.{with_record, with_pairs, with_triples, without}
 use Rattle.show_reader.specs.Applied.{applied, HasOwner}
 
 -- ---- news
@@ -167,8 +167,18 @@ level_news : (p : ℕ × ℕ) (c : ℕ) (b : Bool) (o : Option ℕ)
 level_news p c true o = after_if (c == p.0) (Is p.1) o
 level_news p c false o = refl
 
+-- the first pair, and then the others
+abbrev with_pair : Tables → Record → ℕ × ℕ → Tables
+with_pair show r p = with_pairs show r (p ∷ [])
+
+one_by_one : (show : Tables) (r : Record) (p : ℕ × ℕ) (ps : List (ℕ × ℕ))
+    → with_pairs show r (p ∷ ps) ≡ with_pairs (with_pair show r p) r ps
+one_by_one show (Cue n) p ps = refl
+one_by_one show (Group n) p ps = refl
+one_by_one show (Sub n) p ps = refl
+
 pair_found : (show : Tables) (r : Record) (p : ℕ × ℕ) → IsTrue (has_record show r) → (k : Key)
-    → found (with_channel show r p.0 p.1) k ≡ after (pair_says r p k) (found show k)
+    → found (with_pair show r p) k ≡ after (pair_says r p k) (found show k)
 pair_found show (Cue n) p there (There (Cue m)) =
     changed_keeps show.cues n _ m there_at (λ cue. refl)
 pair_found show (Cue n) p there (Level (Cue m) c) =
@@ -202,16 +212,19 @@ record_is show r = some_if (has_record show r)
 
 -- a pair leaves the records
 pub pair_there : (show : Tables) (r : Record) (p : ℕ × ℕ) → IsTrue (has_record show r)
-    → (q : Record) → has_record (with_channel show r p.0 p.1) q ≡ has_record show q
+    → (q : Record) → has_record (with_pair show r p) q ≡ has_record show q
 pair_there show r p there q =
-    sym (record_is (with_channel show r p.0 p.1) q)
+    sym (record_is (with_pair show r p) q)
     ∙ ap is_some (pair_found show r p there (There q)) ∙ record_is show q
 
 pairs_found : (show : Tables) (r : Record) (ps : List (ℕ × ℕ)) → IsTrue (has_record show r)
     → (k : Key) → found (with_pairs show r ps) k ≡ after (says (Levels r ps) k) (found show k)
-pairs_found show r [] there k = refl
+pairs_found show (Cue n) [] there k = refl
+pairs_found show (Group n) [] there k = refl
+pairs_found show (Sub n) [] there k = refl
 pairs_found show r (p ∷ ps) there k =
-    pairs_found (with_channel show r p.0 p.1) r ps (pair_there show r p there r ∙ there) k
+    ap (λ s. found s k) (one_by_one show r p ps)
+    ∙ pairs_found (with_pair show r p) r ps (pair_there show r p there r ∙ there) k
     ∙ ap (after (says (Levels r ps) k)) (pair_found show r p there k)
     ∙ after_newer (says (Levels r ps) k) (pair_says r p k) (found show k)
 
@@ -353,13 +366,10 @@ record_there ss show r h = sym (record_is show r) ∙ ap is_some (h (There r))
 
 len-with_pairs : (show : Tables) (r : Record) (ps : List (ℕ × ℕ))
     → maps.len (with_pairs show r ps).cues ≡ maps.len show.cues
-len-with_pairs show r [] = refl
+len-with_pairs show (Cue n) [] = refl
 len-with_pairs show (Cue n) (p ∷ ps) =
-    len-with_pairs (with_channel show (Cue n) p.0 p.1) (Cue n) ps ∙ len-changed show.cues n _
-len-with_pairs show (Group n) (p ∷ ps) =
-    len-with_pairs (with_channel show (Group n) p.0 p.1) (Group n) ps
-len-with_pairs show (Sub n) (p ∷ ps) =
-    len-with_pairs (with_channel show (Sub n) p.0 p.1) (Sub n) ps
+    len-with_pairs (with_pair show (Cue n) p) (Cue n) ps ∙ len-changed show.cues n _
+len-with_pairs show r ps = refl
 
 pub count_step : (ss : List Statement) (s : Statement) (show : Tables) → IsShowOf ss show
     → cue_count ss ≡ maps.len show.cues → cue_count (s ∷ ss) ≡ maps.len (applied s show).cues

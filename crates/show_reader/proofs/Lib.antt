@@ -1,4 +1,5 @@
 pub mod Found
+pub mod Meant
 pub mod OneLine
 pub mod WholeText
 pub mod Limits

@@ -1,12 +1,13 @@
 -- What a reader has made of the lines so far, with one line more.
 use Rattle.std.proofs.Common.{◌≡◌, ℕ, ◌+◌, Bool, true, false, cond, not, ◌||◌, ◌&&◌, List, [], ◌∷◌}
 use Rattle.std.proofs.Common.{IsTrue, length, refl, sym, ap, subst, ◌∙◌, arith, Option, Some, None}
-use Rattle.std.proofs.Common.{is_some}
+use Rattle.std.proofs.Common.{All, ◌++◌, is_some, inl, inr, add-zero}
 use Rattle.std.specs.Prelude.{IfSome, nat_le, nat_lt, count_by, codes, option_map}
 use Rattle.std.specs.Option.{option_map_or, option_or}
 use Rattle.std.specs.FinMap as maps
 use Rattle.std.proofs.lemmas.Bool.{eq-eqb}
 use Rattle.std.proofs.lemmas.Bool.Decides.{nat_tests}
+use Rattle.std.proofs.lemmas.List.Elements.{All-head, All-rest}
 use Rattle.std.proofs.lemmas.List.Sums.{sum_by-cons}
 use Rattle.std.proofs.lemmas.Option.{none-some}
 use mathlib.Core.Bool.{false≢true}
@@ -33,15 +34,18 @@ use Rattle.show_line.specs.Said.{rate_fault, rate_in, follow_fault, follow_in, i
 use Rattle.show_line.specs.Said.{clear_said, is_page_1, cue_named}
 use Rattle.show_line.specs.Said.{group_named, sub_named, cleared_names, reading_of}
 use Rattle.show_line.specs.Sound.{IsSound}
+use Rattle.show_reader.specs.declared.apply.Refusal.{Refusal}
+use Rattle.show_reader.specs.declared.apply.Refusal.TheVariants as refusal
 use Rattle.show_reader.specs.declared.read.Reader.{Reader}
 use Rattle.show_reader.specs.Text.{Words, owns, said_under, owner_after}
 use Rattle.show_reader.specs.Keys.{There, has_record, found}
 use Rattle.show_reader.specs.Meaning.{Is, Silent, after, newer, last_news, says, same_record}
 use Rattle.show_reader.specs.Meaning.{meaning, cue_count, is_skipped}
 use Rattle.show_reader.specs.Shows.{IsShowOf}
-use Rattle.show_reader.specs.Reading.{fault_at, fault_below, first_fault}
+use Rattle.show_reader.specs.Reading.{fault_at, fault_below, first_fault, faultless_front, grows}
 use Rattle.show_reader.specs.Applied.{applied, refused_by, HasOwner}
-use Rattle.show_reader.specs.Reads.{said_by, Reads}
+use Rattle.show_reader.specs.Drafts.{meant, IsDraft, IsSettled, Explains}
+use Rattle.show_reader.specs.Reads.{said_by, NoneGrows, Reads, EndsAt, refusal_at}
 use Rattle.show_reader.proofs.Found.{after_if, both, applied_found, record_is}
 use Rattle.show_reader.proofs.Found.{record_there, step, count_step}
 
@@ -216,6 +220,27 @@ reading_is owner (w ∷ words) reading e =
       owns = ap (λ (r : Reading). may_own r.keyword) is;
     }
 
+-- ---- what grows
+
+-- where no statement grows a show, none does above the last one
+pub none_above : (s : Statement) (ss : List Statement) → NoneGrows (s ∷ ss) → NoneGrows ss
+none_above s ss h = go (is_some (first_fault (s ∷ ss))) h
+  where
+    go : (b : Bool) → All (λ t. grows t ≡ false) (cond b [] (s ∷ []) ++ faultless_front ss)
+        → NoneGrows ss
+    go true all = all
+    go false all = All-rest (λ t. grows t ≡ false) s (faultless_front ss) _ refl all
+
+-- nor does that one, where it has no fault
+none_here : (s : Statement) (ss : List Statement) → first_fault (s ∷ ss) ≡ None
+    → NoneGrows (s ∷ ss) → grows s ≡ false
+none_here s ss fine h =
+    let P : Statement → Type 0 = λ t. grows t ≡ false in
+    All-head P s (faultless_front ss)
+    (subst (λ o. All P (cond (is_some o) [] (s ∷ []) ++ faultless_front ss)) fine h)
+
+-- ---- one line more
+
 -- a line that says s
 module _ (lines : List Words) (l : Words) (r : Reader) (h : Reads lines r) (s : Statement)
     (is : s ≡ said_under desk_limits r.owner l) where
@@ -226,42 +251,52 @@ module _ (lines : List Words) (l : Words) (r : Reader) (h : Reads lines r) (s : 
   of_owner = subst (Belongs r.owner (owns l)) (sym is) (line_belongs r.owner l)
 
   -- it has the owner that it needs
-  pub owner_here : HasOwner r.show s
-  owner_here = owned r.owner (owns l) s r.show of_owner h.present
+  pub owner_here : HasOwner (meant r.draft) s
+  owner_here = owned r.owner (owns l) s (meant r.draft) of_owner h.present
 
   -- the fault is the line's where the show refuses what it says
   fault_here : IsSound s
       → first_fault (said_by (l ∷ lines))
-      ≡ option_map (fault_at (r.lines + 1)) (refused_by r.show s)
+      ≡ option_map (fault_at (r.lines + 1)) (refused_by (meant r.draft) s)
   fault_here sound =
       let ss = said_by lines in
       ap first_fault more
       ∙ ap (λ o. option_or o (option_map (fault_at (length ss + 1)) (fault_below ss s))) h.faultless
       ∙ ap (λ n. option_map (fault_at (n + 1)) (fault_below ss s)) (sym h.number)
       ∙ ap (option_map (fault_at (r.lines + 1)))
-      (sym (refused_is ss s r.show sound h.shows h.count))
+      (sym (refused_is ss s (meant r.draft) sound h.shows h.count))
+
+  no_fault : IsSound s → refused_by (meant r.draft) s ≡ None → first_fault (s ∷ said_by lines) ≡ None
+  no_fault sound fine =
+      ap first_fault (sym more) ∙ fault_here sound
+      ∙ ap (option_map (fault_at (r.lines + 1))) fine
 
   -- the reader behind it
-  pub line_read : (r' : Reader) → IsSound s → refused_by r.show s ≡ None
-      → r'.show ≡ applied s r.show → r'.owner ≡ cond (owns l) (opened s) r.owner
+  pub line_read : (r' : Reader) → IsSound s → refused_by (meant r.draft) s ≡ None
+      → IsDraft r'.draft → meant r'.draft ≡ applied s (meant r.draft)
+      → (IsSettled r.draft → grows s ≡ false → IsSettled r'.draft) → r'.owner ≡ cond (owns l) (opened s) r.owner
       → r'.lines ≡ r.lines + 1 → r'.skipped ≡ r.skipped + cond (is_skipped s) 1 0
       → Reads (l ∷ lines) r'
-  line_read r' sound fine show owner number skipped =
+  line_read r' sound fine drafted show settled owner number skipped =
       let ss = said_by lines in
       record {
         shows =
-            λ k. ap (λ t. found t k) show ∙ step ss s r.show owner_here h.shows k
+            λ k. ap (λ t. found t k) show ∙ step ss s (meant r.draft) owner_here h.shows k
             ∙ ap (λ ts. meaning ts k) (sym more);
+        drafted = drafted;
+        settled = λ none.
+            let none' = subst NoneGrows more none in
+            settled (h.settled (none_above s ss none')) (none_here s ss (no_fault sound fine) none');
         faultless = fault_here sound ∙ ap (option_map (fault_at (r.lines + 1))) fine;
         owner =
             owner ∙ ap (λ t. cond (owns l) (opened t) r.owner) is
             ∙ ap (owner_after desk_limits l) h.owner;
         present =
             subst (λ t. IsHere t r'.owner) (sym show)
-            (subst (IsHere (applied s r.show)) (sym owner)
-            (present_below r.owner (owns l) s r.show of_owner owner_here h.present));
+            (subst (IsHere (applied s (meant r.draft))) (sym owner)
+            (present_below r.owner (owns l) s (meant r.draft) of_owner owner_here h.present));
         count =
-            ap cue_count more ∙ count_step ss s r.show h.shows h.count
+            ap cue_count more ∙ count_step ss s (meant r.draft) h.shows h.count
             ∙ ap (λ t. maps.len t.cues) (sym show);
         number = number ∙ omega (arith, h.number);
         skipped =
@@ -270,3 +305,26 @@ module _ (lines : List Words) (l : Words) (r : Reader) (h : Reads lines r) (s : 
             = omega (arith, skipped, h.skipped, counted) in
             all ∙ ap (count_by is_skipped) (sym more);
       }
+
+  -- why reading ends at it
+  pub line_ends : IsSound s → (e : Refusal) → Explains r.draft s e
+      → EndsAt lines l (refusal_at (r.lines + 1) e)
+  line_ends sound (refusal.Fault f) is =
+      inr (fault_here sound ∙ ap (option_map (fault_at (r.lines + 1))) is)
+  line_ends sound refusal.Memory is =
+      inl (
+        refl,
+        λ none.
+            let none' = subst NoneGrows more none in
+            let why = is (h.settled (none_above s (said_by lines) none')) in
+            why.1 (none_here s (said_by lines) (no_fault sound why.0) none'),
+      )
+
+-- a line without words says nothing
+pub quiet_line : (lines : List Words) (l : Words) (r : Reader) (n : ℕ) → Reads lines r
+    → n ≡ r.lines + 1 → None ≡ reading_of desk_limits r.owner l
+    → Reads (l ∷ lines) (record r { lines = n })
+quiet_line lines [] r n h next none =
+    line_read lines [] r h Quiet refl (record r { lines = n }) tt refl h.drafted refl
+    (λ settled grown. settled) refl next (sym (add-zero r.skipped))
+quiet_line lines (w ∷ words) r n h next none = absurd (none-some _ none)

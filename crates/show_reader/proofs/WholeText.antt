@@ -1,33 +1,29 @@
 -- What a reader has made of the lines of a text, and what it answers in the end.
-use Rattle.std.proofs.Common.{◌≡◌, ℕ, ◌+◌, ◌≤◌, Bool, true, false, cond, List, [], ◌∷◌, ◌++◌}
-use Rattle.std.proofs.Common.{length, All, map, refl, sym, ap, subst, ◌∙◌, arith, Some, None}
-use Rattle.std.proofs.Common.{is_some}
-use Rattle.std.specs.Prelude.{nat_lt, count_by, option_map}
+use Rattle.std.proofs.Common.{◌≡◌, ℕ, ◌+◌, ◌≤◌, Bool, false, cond, List, [], ◌∷◌}
+use Rattle.std.proofs.Common.{length, map, refl, sym, ap, subst, ◌∙◌, arith, Some, None}
+use Rattle.std.specs.Prelude.{nat_lt, option_map}
 use Rattle.std.specs.Option.{option_or}
 use Rattle.std.specs.FinMap as maps
 use Rattle.std.specs.Ordering.{nat_cmp}
 use Rattle.std.proofs.lemmas.Bool.Decides.{nat_tests}
-use Rattle.std.proofs.lemmas.List.Elements.{All-head, All-rest}
-use mathlib.Core.Bool.{false≢true}
 use mathlib.Core.List.{reverse_aux, cons-ne-nil}
 use Rattle.ascii_text.specs.Text.{words_of, numbered_from}
 use Rattle.show_core.specs.declared.cue.CueData.{CueData}
-use Rattle.show_core.specs.Tables.{Tables}
-use Rattle.show_line.specs.declared.statement.Statement.{Statement}
 use Rattle.show_line.specs.Said.{desk_limits}
 use Rattle.show_reader.specs.declared.fault.ShowFault.{ShowFault}
 use Rattle.show_reader.specs.declared.fault.ShowFault.TheVariants as show_fault
+use Rattle.show_reader.specs.declared.draft.Draft.{Draft}
 use Rattle.show_reader.specs.declared.read.Reader.{Reader}
 use Rattle.show_reader.specs.Text.{Words, ends, up_to_end, lines_in, statement_below}
 use Rattle.show_reader.specs.Text.{statements_of}
 use Rattle.show_reader.specs.Keys.{found}
-use Rattle.show_reader.specs.Meaning.{is_skipped}
-use Rattle.show_reader.specs.Shows.{IsShowOf}
-use Rattle.show_reader.specs.Reading.{fault_below, fault_at, first_fault, fault_of, lines_read}
-use Rattle.show_reader.specs.Reading.{lines_skipped, longest_text, grows, faultless_front}
+use Rattle.show_reader.specs.Reading.{fault_below, fault_at, first_fault, fault_of}
+use Rattle.show_reader.specs.Reading.{longest_text}
 use Rattle.show_reader.specs.Reading.{NothingGrows}
-use Rattle.show_reader.specs.Reads.{said_by, Reads, MayLackMemory}
+use Rattle.show_reader.specs.Drafts.{meant, IsDraft, IsSettled}
+use Rattle.show_reader.specs.Reads.{said_by, NoneGrows, Reads}
 use Rattle.show_reader.proofs.Found.{nothing, nothing_found}
+use Rattle.show_reader.proofs.OneLine.{none_above}
 use Rattle.show_reader.proofs.OneShow.{same_tables}
 
 -- a reader stands behind these lines of a text, and these are left, with their numbers
@@ -38,13 +34,15 @@ pub record StandsBehind (text : List ℕ) (lines : List Words) (left : List (Lis
   pub all : lines_in text ≡ reverse_aux (up_to_end (map words_of left)) lines
 
 -- a new reader stands behind no line
-pub nothing_read : (show : Tables) → show.cues ≡ maps.empty → show.subs ≡ maps.empty
-    → show.groups ≡ maps.empty → show.patch ≡ maps.empty
-    → Reads [] (record { show = show; owner = None; lines = 0; skipped = 0 })
-nothing_read show cues subs groups patch = record {
+pub nothing_read : (d : Draft) → (meant d).cues ≡ maps.empty → (meant d).subs ≡ maps.empty
+    → (meant d).groups ≡ maps.empty → (meant d).patch ≡ maps.empty → IsDraft d → IsSettled d
+    → Reads [] (record { draft = d; owner = None; lines = 0; skipped = 0 })
+nothing_read d cues subs groups patch drafted settled = record {
   shows =
-      λ k. ap (λ s. found s k) (same_tables show nothing cues subs groups patch)
+      λ k. ap (λ s. found s k) (same_tables (meant d) nothing cues subs groups patch)
       ∙ nothing_found k;
+  drafted = drafted;
+  settled = λ none. settled;
   faultless = refl;
   owner = refl;
   present = tt;
@@ -104,20 +102,13 @@ fault_stays (m ∷ more) lines f h =
     fault_stays more (m ∷ lines) f
     (ap (λ o. option_or o (option_map (fault_at (length (said_by lines) + 1)) here)) h)
 
--- what holds of the statements above the first fault holds of those of the first lines
-front_stays : (P : Statement → Type 0) (more lines : List Words)
-    → All P (faultless_front (said_by (reverse_aux more lines)))
-    → All P (faultless_front (said_by lines))
-front_stays P [] lines h = h
-front_stays P (m ∷ more) lines h =
-    go (is_some (first_fault (said_by (m ∷ lines)))) (front_stays P more (m ∷ lines) h)
-  where
-    go : (b : Bool)
-        → All P (cond b [] (statement_below desk_limits lines m ∷ [])
-        ++ faultless_front (said_by lines))
-        → All P (faultless_front (said_by lines))
-    go true all = all
-    go false all = All-rest P _ _ _ refl all
+-- where no statement grows a show, none does in the first lines
+none_before : (more lines : List Words) → NoneGrows (said_by (reverse_aux more lines))
+    → NoneGrows (said_by lines)
+none_before [] lines h = h
+none_before (m ∷ more) lines h =
+    none_above (statement_below desk_limits lines m) (said_by lines)
+    (none_before more (m ∷ lines) h)
 
 module _ {text : List ℕ} {lines : List Words} {r : Reader} {number : ℕ} {bytes : List ℕ}
     {behind : List (ℕ × List ℕ)} (next : Next text lines r number bytes behind) where
@@ -143,41 +134,10 @@ module _ {text : List ℕ} {lines : List Words} {r : Reader} {number : ℕ} {byt
       ∙ ap (λ ms. first_fault (said_by ms)) next.all
       ∙ fault_stays below (words_of bytes ∷ lines) f fault
 
-  -- where memory may run out at it, something grows
-  pub something_grows : MayLackMemory lines (words_of bytes) → NothingGrows desk_limits text → ⊥
-  something_grows lacks nothing =
-      let P : Statement → Type 0 = λ s. grows s ≡ false in
-      let s = statement_below desk_limits lines (words_of bytes) in
-      let front
-      = front_stays P below (words_of bytes ∷ lines)
-      (subst (λ ms. All P (faultless_front (said_by ms))) next.all nothing) in
-      let here
-      = subst (λ o. All P (cond (is_some o) [] (s ∷ []) ++ faultless_front (said_by lines)))
-      lacks.faultless front in
-      false≢true (sym (All-head P s (faultless_front (said_by lines)) here) ∙ lacks.grows)
-
--- ---- the last line
-
--- the reader stands behind the whole text: what it answers
-pub record IsRead (text : List ℕ) (r : Reader) : Type 0 where
-  pub faultless : fault_of desk_limits text ≡ None
-  pub show : IsShowOf (statements_of desk_limits text) r.show
-  pub lines : r.lines ≡ lines_read desk_limits text
-  pub skipped : r.skipped ≡ lines_skipped desk_limits text
-
--- a reader behind all lines answers for the text
-pub all_read : (text : List ℕ) (lines : List Words) (r : Reader)
-    → nat_lt longest_text (length text) ≡ false → lines_in text ≡ lines → Reads lines r
-    → IsRead text r
-all_read text lines r short all h = record {
-  faultless =
-      ap (λ b. cond b (Some show_fault.TooLong) (first_fault (statements_of desk_limits text)))
-      short
-      ∙ ap (λ ls. first_fault (said_by ls)) all ∙ h.faultless;
-  show = subst (λ ls. IsShowOf (said_by ls) r.show) (sym all) h.shows;
-  lines = h.number ∙ ap (λ ls. length (said_by ls)) (sym all);
-  skipped = h.skipped ∙ ap (λ ls. count_by is_skipped (said_by ls)) (sym all);
-}
+  -- where nothing grows in the text, nothing does down to it
+  pub none_so_far : NothingGrows desk_limits text → NoneGrows (said_by (words_of bytes ∷ lines))
+  none_so_far nothing =
+      none_before below (words_of bytes ∷ lines) (subst (λ ms. NoneGrows (said_by ms)) next.all nothing)
 
 -- a number that is at most another is not above it
 pub not_longer : (a b : ℕ) → b ≤ a → nat_lt a b ≡ false

@@ -1,9 +1,9 @@
 -- What a statement does to a show, by the effects of the builders.
-use Rattle.std.specs.Prelude.{◌≡◌, ℕ, true, if◌then◌else◌, IsTrue, List, [], ◌∷◌, Option, Some}
+use Rattle.std.specs.Prelude.{ℕ, if◌then◌else◌, IsTrue, List, [], ◌∷◌, Option, Some}
 use Rattle.std.specs.Prelude.{None}
 use Rattle.std.specs.FinMap as maps
 use Rattle.show_core.specs.Tables.{PatchMap, Tables}
-use Rattle.show_core.specs.Builders.{opened, opened_in, with_level, with_listed, with_up}
+use Rattle.show_core.specs.Builders.{opened, opened_in, with_levels, with_all_listed, with_up}
 use Rattle.show_core.specs.Builders.{with_down, with_follow, patched_with, can_open}
 use Rattle.show_line.specs.declared.fault.LineFault.{LineFault}
 use Rattle.show_line.specs.declared.fault.LineFault.TheVariants.{Limit}
@@ -17,10 +17,7 @@ use Rattle.show_line.specs.declared.statement.Statement.TheVariants.{Opens, Leve
 use Rattle.show_line.specs.declared.statement.Statement.TheVariants.{Follows, Patches}
 use Rattle.show_line.specs.declared.statement.Statement.TheVariants.{Clears, Faulty}
 use Rattle.show_line.specs.declared.triples.Triple.{Triple}
-use Rattle.show_reader.specs.declared.apply.Refusal.{Refusal}
-use Rattle.show_reader.specs.declared.apply.Refusal.TheVariants as refusal
 use Rattle.show_reader.specs.Keys.{has_record}
-use Rattle.show_reader.specs.Reading.{grows}
 
 -- with the record opened
 abbrev pub with_record : Tables → Record → Tables
@@ -28,17 +25,11 @@ with_record show (Cue n) = record show { cues = opened show.cues n }
 with_record show (Group n) = record show { groups = opened_in show.groups n }
 with_record show (Sub n) = record show { subs = opened_in show.subs n }
 
--- with a level of the record
-abbrev pub with_channel : Tables → Record → ℕ → ℕ → Tables
-with_channel show (Cue n) channel byte = record show { cues = with_level show.cues n channel byte }
-with_channel show (Group n) channel byte =
-    record show { groups = with_listed show.groups n channel byte }
-with_channel show (Sub n) channel byte = record show { subs = with_listed show.subs n channel byte }
-
--- with the levels of pairs, one after the other
+-- with the levels of pairs in the record, one after the other
 abbrev pub with_pairs : Tables → Record → List (ℕ × ℕ) → Tables
-with_pairs show r [] = show
-with_pairs show r (pair ∷ pairs) = with_pairs (with_channel show r pair.0 pair.1) r pairs
+with_pairs show (Cue n) pairs = record show { cues = with_levels show.cues n pairs }
+with_pairs show (Group n) pairs = record show { groups = with_all_listed show.groups n pairs }
+with_pairs show (Sub n) pairs = record show { subs = with_all_listed show.subs n pairs }
 
 -- with the dimmers of triples, one after the other
 abbrev pub with_triples : PatchMap → List Triple → PatchMap
@@ -79,9 +70,3 @@ HasOwner show (Rises n rate) = IsTrue (has_record show (Cue n))
 HasOwner show (Falls n rate) = IsTrue (has_record show (Cue n))
 HasOwner show (Follows n time) = IsTrue (has_record show (Cue n))
 HasOwner show _ = Unit {0}
-
--- why a statement was not carried out: the fault that the show has with it; or want of memory,
--- where it has none and the statement grows it
-abbrev pub Explains : Tables → Statement → Refusal → Type 0
-Explains show s (refusal.Fault f) = refused_by show s ≡ Some f
-Explains show s refusal.Memory = (refused_by show s ≡ None) × (grows s ≡ true)

@@ -4,5 +4,6 @@ pub mod Meaning
 pub mod Shows
 pub mod Reading
 pub mod Applied
+pub mod Drafts
 pub mod Reads
 pub mod ItsShow

@@ -12,6 +12,7 @@
 #![tactic(auto)]
 
 mod apply;
+mod draft;
 mod fault;
 mod law;
 mod read;

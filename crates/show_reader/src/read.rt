@@ -3,7 +3,7 @@ ghost use Rattle.std.specs.Prelude.{IfOk, IfErr, OnOk, None, Some};
 ghost use Rattle.ascii_text.specs.Text.{words_of};
 ghost use Rattle.show_line.specs.Said.{desk_limits};
 ghost use Rattle.show_reader.specs.declared.fault.ShowFault.TheVariants as show_fault;
-ghost use Rattle.show_reader.specs.Text.{Words, ends, statements_of};
+ghost use Rattle.show_reader.specs.Text.{Words, ends, lines_in, statements_of};
 ghost use Rattle.show_reader.specs.Meaning.{is_skipped};
 ghost use Rattle.show_reader.specs.Shows.{IsShowOf};
 ghost use Rattle.show_reader.specs.Reading.{fault_at, fault_of, lines_read, lines_skipped};
@@ -11,6 +11,7 @@ ghost use Rattle.show_reader.specs.Reading.{NothingGrows};
 ghost use Rattle.show_reader.specs.Reads.{Reads, EndsAt, refusal_at};
 
 use crate::apply::{Refusal, apply};
+use crate::draft::Draft;
 use crate::fault::{LONGEST_TEXT, ShowFault};
 use ascii_text::{Line, Lines};
 use show_core::Show;
@@ -33,7 +34,7 @@ pub struct Loaded {
 /// What has been made of the lines so far.
 #[derive(Drop)]
 pub struct Reader {
-    pub show: Show,
+    pub draft: Draft,
     pub owner: Option<Record>,
     pub lines: u32,
     pub skipped: u32,
@@ -95,7 +96,7 @@ impl Reader {
             self.owner
         };
         let skipped = is_skipped(&reading.statement);
-        if let Err(refusal) = apply(&mut self.show, reading.statement) {
+        if let Err(refusal) = apply(&mut self.draft, reading.statement) {
             return Err(refusal.at(number));
         }
         self.owner = owner;
@@ -105,6 +106,31 @@ impl Reader {
         }
         Ok(keyword.is_end())
     }
+}
+
+// Reads the lines of a text that is not too long, up to ENDDATA.
+fn read_lines(alloc: Global, text: &[u8]) -> Result<Reader, ShowFault>
+    requires { length text.now ≤ 1048576 }
+    ensures ok { IfOk result (Reads (lines_in text.now)) }
+    ensures fault { IfErr result
+        (λ fault. (fault ≡ show_fault.Memory) ⊎ (fault_of desk_limits text.now ≡ Some fault)) }
+    ensures sure { NothingGrows desk_limits text.now
+        → IfErr result (λ fault. fault_of desk_limits text.now ≡ Some fault) }
+{
+    let mut reader = Reader {
+        draft: Draft::new(alloc),
+        owner: None,
+        lines: 0,
+        skipped: 0,
+    };
+    for line in Lines::new(text) {
+        match reader.take(line) {
+            Ok(false) => {}
+            Ok(true) => break,
+            Err(fault) => return Err(fault),
+        }
+    }
+    Ok(reader)
 }
 
 /// Reads a show text: the show that it means, and how many lines were read and skipped; or its
@@ -135,21 +161,12 @@ pub fn read_show(alloc: Global, text: &[u8]) -> Result<Loaded, ShowFault>
     if text.len() > LONGEST_TEXT {
         return Err(ShowFault::TooLong);
     }
-    let mut reader = Reader {
-        show: Show::new(alloc),
-        owner: None,
-        lines: 0,
-        skipped: 0,
+    let reader = read_lines(alloc, text)?;
+    let Ok(show) = reader.draft.finish() else {
+        return Err(ShowFault::Memory);
     };
-    for line in Lines::new(text) {
-        match reader.take(line) {
-            Ok(false) => {}
-            Ok(true) => break,
-            Err(fault) => return Err(fault),
-        }
-    }
     Ok(Loaded {
-        show: reader.show,
+        show,
         lines: reader.lines,
         skipped: reader.skipped,
     })

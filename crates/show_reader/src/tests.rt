@@ -336,3 +336,69 @@ fn last_follow_on_time(rt: HostRuntime) -> Result<(), Fail> {
     }
     Ok(())
 }
+
+// Levels and patches in any order, over several lines; the last one of a channel or a dimmer counts.
+#[test]
+fn any_order(rt: HostRuntime) -> Result<(), Fail> {
+    let text = b"GROUP 7\nCHAN 3@H3 2@H2\nCUE 1\nCHAN 9@H1 5@H5\nCHAN 7@H7 1@H1 9@H9\nCHAN\n\
+        CHAN 3@H3 3@0 2@H2\nSUB 4\nCHAN 8@H8\nCHAN 4@H4 8@H7\nPATCH 1 2<9@H1 1<3@H2 4<9@H3\n\
+        PATCH 1 3<1@H4 0<3@FL 5<2@H5 0<7@FL";
+    let loaded = read(rt.alloc(), text)?;
+    let show = &loaded.show;
+    let cue = show.cue(1000).expect(&rt, "cue 1");
+    let levels = [(1, 1), (2, 2), (3, 0), (5, 5), (7, 7), (9, 9)];
+    assert_eq!(rt; cue.pairs(), levels.as_slice());
+    assert_eq!(rt; show.group(7), Some([(2, 2), (3, 3)].as_slice()));
+    assert_eq!(rt; show.sub(4), Some([(4, 4), (8, 7)].as_slice()));
+    let patch = [(1, (3, 4)), (2, (5, 5)), (9, (4, 3))];
+    assert_eq!(rt; show.patch(), patch.as_slice());
+    Ok(())
+}
+
+// The lines of a record that is opened again add to it, whatever stands between them.
+#[test]
+fn lines_between(rt: HostRuntime) -> Result<(), Fail> {
+    let text = b"CUE 2\nCHAN 4@H4 2@H2\nUP 5\nCHAN 3@H3\nPATCH 1 1<8@H1\nCUE 1\nCHAN 2@FL\n\
+        CUE 2\nCHAN 1@H1 4@H5\nDOWN 6\nPATCH 1 2<7@H2 0<8@0\nGROUP 1\nCUE 2\nFOLLOWON 7\nCHAN 3@H4\n";
+    let loaded = read(rt.alloc(), text)?;
+    let cue = loaded.show.cue(2000).expect(&rt, "cue 2");
+    assert_eq!(rt; cue.pairs(), [(1, 1), (2, 2), (3, 4), (4, 5)].as_slice());
+    assert_eq!(rt; (cue.up().time, cue.down().time), (5000, 6000));
+    assert_eq!(rt; cue.follow(), Some(7000));
+    let first = loaded.show.cue(1000).expect(&rt, "cue 1");
+    assert_eq!(rt; first.pairs(), [(2, 255)].as_slice());
+    assert_eq!(rt; loaded.show.patch(), [(7, (2, 2))].as_slice());
+    Ok(())
+}
+
+// CLEAR takes away what was said so far of its tables, and of no other.
+#[test]
+fn cleared_tables(rt: HostRuntime) -> Result<(), Fail> {
+    for (cleared, cues, dimmers) in [
+        (
+            "CUES",
+            [].as_slice(),
+            [(1, (3, 3)), (2, (2, 2)), (8, (1, 1))].as_slice(),
+        ),
+        (
+            "PATCH",
+            [(1, 1), (4, 4)].as_slice(),
+            [(1, (3, 3))].as_slice(),
+        ),
+        (
+            "GROUPS",
+            [(1, 1), (4, 4)].as_slice(),
+            [(1, (3, 3)), (2, (2, 2)), (8, (1, 1))].as_slice(),
+        ),
+        ("ALL", [].as_slice(), [(1, (3, 3))].as_slice()),
+    ] {
+        let text = format!(in rt.alloc();
+            "PATCH 1 1<8@H1 2<2@H2\nCUE 1\nCHAN 4@H4 1@H1\nCLEAR {cleared}\nCUE 1\nPATCH 1 3<1@H3\n"
+        )?;
+        let loaded = read(rt.alloc(), text.as_bytes())?;
+        let cue = loaded.show.cue(1000).expect(&rt, "cue 1");
+        assert_eq!(rt; cue.pairs(), cues, "{cleared}");
+        assert_eq!(rt; loaded.show.patch(), dimmers, "{cleared}");
+    }
+    Ok(())
+}

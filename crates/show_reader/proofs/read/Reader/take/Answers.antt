@@ -1,11 +1,14 @@
 -- One line: what was read of it is what it says, and where the show refuses that, it is the line's
 -- fault.
-use Rattle.std.proofs.Common.{◌≡◌, ◌+◌, cond, sym, ap, ◌∙◌, add-zero}
+use Rattle.std.proofs.Common.{◌≡◌, ◌+◌, cond, sym, ap, subst, ◌∙◌, add-zero}
 use Rattle.ascii_text.specs.Text.{words_of}
 use Rattle.show_line.specs.Said.{opened}
 use Rattle.show_reader.specs.declared.read.Reader.{Reader}
 use Rattle.show_reader.specs.Text.{owns}
+use Rattle.show_reader.specs.Drafts.{meant, IsDraft, IsSettled}
+use Rattle.show_reader.specs.Reads.{EndsAt, refusal_at}
 use Rattle.show_reader.proofs.OneLine.{reading_is, owner_here, line_read}
+use Rattle.show_reader.proofs.OneLine.{line_ends, quiet_line}
 use Rattle.show_reader.proofs.read.Reader.take.Goals as goal
 use Rattle.show_reader.proofs.read.Reader.take.Goals.{then-may_own, else-may_own, then-skipped}
 use Rattle.show_reader.proofs.read.Reader.take.Goals.{else-skipped}
@@ -38,16 +41,36 @@ returns-clause-more c = λ lines h.
     c.in_default-apply.ensures.fine in
     elim c.if-skipped.branch [
       | then-skipped w ↦
-          read (ap (λ (t : Reader). t.show) w.self-is ∙ c.in_default-apply.ensures.ok)
+          read (subst (λ (t : Reader). IsDraft t.draft) (sym w.self-is) c.in_default-apply.ensures.drafted)
+          (ap (λ (t : Reader). meant t.draft) w.self-is ∙ c.in_default-apply.ensures.ok)
+          (λ settled none. subst (λ (t : Reader). IsSettled t.draft) (sym w.self-is) (c.in_default-apply.ensures.settled settled none))
           (ap (λ (t : Reader). t.owner) w.self-is ∙ owner)
           (ap (λ (t : Reader). t.lines) w.self-is ∙ c.requires.next)
           (ap (λ (t : Reader). t.skipped) w.self-is
           ∙ ap (λ b. r.skipped + cond b 1 0) (sym w.if-skipped.true ∙ c.is_skipped-skipped.ensures))
       | else-skipped w ↦
-          read (ap (λ (t : Reader). t.show) w.self-is ∙ c.in_default-apply.ensures.ok)
+          read (subst (λ (t : Reader). IsDraft t.draft) (sym w.self-is) c.in_default-apply.ensures.drafted)
+          (ap (λ (t : Reader). meant t.draft) w.self-is ∙ c.in_default-apply.ensures.ok)
+          (λ settled none. subst (λ (t : Reader). IsSettled t.draft) (sym w.self-is) (c.in_default-apply.ensures.settled settled none))
           (ap (λ (t : Reader). t.owner) w.self-is ∙ owner)
           (ap (λ (t : Reader). t.lines) w.self-is ∙ c.requires.next)
           (ap (λ (t : Reader). t.skipped) w.self-is ∙ sym (add-zero r.skipped)
           ∙ ap (λ b. r.skipped + cond b 1 0)
           (sym w.if-skipped.false ∙ c.is_skipped-skipped.ensures))
     ]
+
+pub returns-in_default-clause-more : goal.returns-in_default-clause-more
+returns-in_default-clause-more c = λ lines h.
+    quiet_line lines (words_of c.args.line.bytes.now) c.args.self.now c.args.line.number h
+    c.requires.next c.in_default.ensures.means
+
+pub returns-in-Err-clause-fault : goal.returns-in-Err-clause-fault
+returns-in-Err-clause-fault c = λ lines h.
+    let l = words_of c.args.line.bytes.now in
+    let r = c.args.self.now in
+    let reading = c.in-Some.reading in
+    let is = reading_is r.owner l reading c.in-Some.ensures.means in
+    subst (EndsAt lines l)
+    (sym (c.at.ensures ∙ ap (λ n. refusal_at n c.in-Err.refusal) c.requires.next))
+    (line_ends lines l r h reading.statement is.statement c.in-Some.ensures.sound c.in-Err.refusal
+    c.in-Err.ensures.err)

@@ -5,11 +5,12 @@ use Rattle.std.proofs.Common.{arith, inl, inr}
 use Rattle.std.proofs.lemmas.Grind.{common_steps}
 use Rattle.ascii_text.specs.Text.{lines_of, words_of, numbered_from}
 use Rattle.show_reader.specs.Text.{ends}
+use Rattle.show_reader.specs.Reads.{Reads}
 use Rattle.show_reader.proofs.WholeText.{nothing_read, next_line, last_line, go_on}
-use Rattle.show_reader.proofs.WholeText.{fault_found, something_grows, IsRead, all_read}
+use Rattle.show_reader.proofs.WholeText.{fault_found, none_so_far}
 use Rattle.show_reader.proofs.WholeText.{not_longer}
-use Rattle.show_reader.proofs.read.read_show.Goals as goal
-use Rattle.show_reader.proofs.read.read_show.Goals.{in-None, in-Some+in-Ok-true}
+use Rattle.show_reader.proofs.read.read_lines.Goals as goal
+use Rattle.show_reader.proofs.read.read_lines.Goals.{in-None, in-Some+in-Ok-true}
 
 pub loop-line-init : goal.loop-line-init
 loop-line-init c =
@@ -19,7 +20,8 @@ loop-line-init c =
       [],
       lines_of c.args.text.now,
       record {
-        reads = nothing_read c.new.result new.cues new.subs new.groups new.patch;
+        reads = nothing_read c.new.result new.cues new.subs new.groups new.patch new.drafted
+            new.settled;
         numbered = given;
         all = refl;
       },
@@ -56,7 +58,7 @@ returns-in-Err-clause-fault c =
     elim (c.in-Err.ensures.fault before.0 before.2.reads) [
       | inl memory ↦ inl memory.0
       | inr fault ↦
-          inr (fault_found next c.in-Err.fault (not_longer _ _ c.if-text-gt-LONGEST_TEXT.false)
+          inr (fault_found next c.in-Err.fault (not_longer _ _ c.requires)
           fault)
     ]
 
@@ -65,40 +67,25 @@ returns-in-Err-clause-sure c = λ none_grows.
     let before = c.loop-line.invariant in
     let next = next_line before.2 c.in-Some.ensures.steps in
     elim (c.in-Err.ensures.fault before.0 before.2.reads) [
-      | inl memory ↦ absurd (something_grows next memory.1 none_grows)
+      | inl memory ↦ absurd (memory.1 (none_so_far next none_grows))
       | inr fault ↦
-          fault_found next c.in-Err.fault (not_longer _ _ c.if-text-gt-LONGEST_TEXT.false) fault
+          fault_found next c.in-Err.fault (not_longer _ _ c.requires) fault
     ]
 
--- at the end of the lines, or behind ENDDATA, the whole text is read
-finished : (c : goal.Joined-next) → IsRead c.args.text.now c.match-next.reader
-finished c =
-    let text = c.args.text.now in
+pub returns-clause-ok : goal.returns-clause-ok
+returns-clause-ok c =
     let before = c.loop-line.invariant in
     let lines = before.0 in
-    let short = not_longer _ _ c.if-text-gt-LONGEST_TEXT.false in
     elim c.match-next.branch [
       | in-None w ↦
           let all = last_line before.2 w.in-None.ensures.steps.0 in
-          subst (IsRead text) (sym w.reader-is)
-          (all_read text lines c.loop-line.reader short all before.2.reads)
+          subst (λ ls. Reads ls c.match-next.reader) (sym all)
+          (subst (Reads lines) (sym w.reader-is) before.2.reads)
       | in-Some+in-Ok-true w ↦
           let l = words_of w.in-Some.line.bytes.now in
           let next = next_line before.2 w.in-Some.ensures.steps in
           let end : ends l ≡ true = sym w.in-Ok-true.ensures.last ∙ w.in-Ok-true.field-0-test in
-          subst (IsRead text) (sym w.reader-is)
-          (all_read text (l ∷ lines) w.take.new.self short (go_on next true end)
+          subst (λ ls. Reads ls c.match-next.reader) (sym (go_on next true end))
+          (subst (Reads (l ∷ lines)) (sym w.reader-is)
           (w.in-Ok-true.ensures.more lines before.2.reads))
     ]
-
-pub returns-clause-faultless : goal.returns-clause-faultless
-returns-clause-faultless c = (finished c).faultless
-
-pub returns-clause-show : goal.returns-clause-show
-returns-clause-show c = (finished c).show
-
-pub returns-clause-lines : goal.returns-clause-lines
-returns-clause-lines c = (finished c).lines
-
-pub returns-clause-skipped : goal.returns-clause-skipped
-returns-clause-skipped c = (finished c).skipped

@@ -2,7 +2,7 @@ use Rattle.std.proofs.Common.{ℕ, List}
 use Rattle.ascii_text.specs.LinesLeft.{lines_left}
 use Rattle.show_reader.specs.Text.{Words}
 use Rattle.show_reader.proofs.WholeText.{StandsBehind}
-use Rattle.show_reader.proofs.read.read_show.Given as goal
+use Rattle.show_reader.proofs.read.read_lines.Given as goal
 
 abbrev pub invariant-loop-line : goal.invariant-loop-line
 invariant-loop-line l = (lines : List Words) × (left : List (List ℕ))
