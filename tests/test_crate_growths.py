@@ -29,6 +29,7 @@ class Tested(NamedTuple):
 
 BUILDERS = ("open_cue", "open_sub", "open_group", "set_patch")
 BUILDERS += ("cue_level", "sub_level", "group_level")
+BUILDERS += ("cue_levels", "sub_levels", "group_levels", "set_patches")
 EACH = ("each_growth_refused",)
 WORDS_OF = ("explain", "listen", "live", "look_one", "play", "rehearse", "slots")
 TESTED = {

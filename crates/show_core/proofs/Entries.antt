@@ -1,7 +1,8 @@
 -- Many entries put into sorted ones, and what that is to their map.
-use Rattle.std.proofs.Common.{◌≡◌, ◌≢◌, ℕ, zero, suc, ◌+◌, ◌-◌, ◌<◌, ◌≤◌, ◌==◌, true, false, Bool, not}
-use Rattle.std.proofs.Common.{cond, IsTrue, T, List, [], ◌∷◌, ◌++◌, length, get_or, set, take, count_by}
-use Rattle.std.proofs.Common.{Option, Some, None, refl, sym, ap, ◌∙◌, arith, inl, inr, append_assoc, subst}
+use Rattle.std.proofs.Common.{◌≡◌, ◌≢◌, ℕ, zero, suc, ◌+◌, ◌-◌, ◌<◌, ◌≤◌, ◌==◌, true, false, Bool}
+use Rattle.std.proofs.Common.{not, cond, IsTrue, T, List, [], ◌∷◌, ◌++◌, length, get_or, set, take}
+use Rattle.std.proofs.Common.{count_by, Option, Some, None, refl, sym, ap, ◌∙◌, arith, inl, inr}
+use Rattle.std.proofs.Common.{append_assoc, subst}
 use Rattle.std.specs.Prelude.{All, filter, nat_lt, option_map, map as map_list}
 use Rattle.std.specs.List.{list_all}
 use Rattle.std.specs.Option.{option_to_list}
@@ -180,7 +181,8 @@ below_end es k sorted last i d lt =
 
 apart : (k q : ℕ) → eq_by_cmp nat_cmp k q ≡ false → k ≢ q
 apart k q differ same =
-    not_so (sym differ ∙ ap (eq_by_cmp nat_cmp k) (sym same) ∙ ap is_eq (tied_itself nat_cmp_total k))
+    not_so
+    (sym differ ∙ ap (eq_by_cmp nat_cmp k) (sym same) ∙ ap is_eq (tied_itself nat_cmp_total k))
 
 -- a write at a key
 pub table_set : {V : Type 0} (table : List (Option V)) (es fs : List (ℕ × V)) (key : ℕ)
@@ -248,7 +250,8 @@ module _ {V : Type 0} where
       → filter (λ e. nat_lt e.0 n) es ≡ []
   none_below x n [] below le = refl
   none_below x n (e ∷ es) below le =
-      let less = below_of x e.0 (less (nat_cmp x e.0) (and_left _ (below_all nat_cmp x es) below)) in
+      let less =
+      below_of x e.0 (less (nat_cmp x e.0) (and_left _ (below_all nat_cmp x es) below)) in
       let not_below : nat_lt e.0 n ≡ false = grind (arith, nat_tests) in
       rw not_below (none_below x n es (and_right (is_lt (nat_cmp x e.0)) _ below) le)
 
@@ -263,7 +266,8 @@ module _ {V : Type 0} where
       elim (nat_cmp k e.0)
       as (λ r. nat_cmp k e.0 ≡ r → filter (λ x. nat_lt x.0 (k + 1)) (e ∷ es)
       ≡ filter (λ x. nat_lt x.0 k) (e ∷ es)
-      ++ option_to_list (option_map (λ v. (k, v)) (cond (is_eq r) (Some e.1) (map.find nat_cmp k es)))) [
+      ++ option_to_list
+      (option_map (λ v. (k, v)) (cond (is_eq r) (Some e.1) (map.find nat_cmp k es)))) [
         | Less ↦ λ is. let tests = below_next e.0 k is in rw (tests.0, tests.1) more
         | Equal ↦ λ is.
             let tests = at_next e.0 k is in

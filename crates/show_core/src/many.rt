@@ -1,5 +1,5 @@
-ghost use Rattle.std.specs.Prelude.{◌≡◌, ◌+◌, ◌==◌, ◌<◌, ◌≤◌, ℕ, Bool, true, not, List, [], ◌++◌, length};
-ghost use Rattle.std.specs.Prelude.{All, count_by, IsTrue, IsOk, IfOk, OnOk, OnErr};
+ghost use Rattle.std.specs.Prelude.{◌≡◌, ◌+◌, ◌==◌, ◌<◌, ◌≤◌, ℕ, Bool, true, not, List, [], ◌++◌};
+ghost use Rattle.std.specs.Prelude.{length, All, count_by, IsTrue, IsOk, IfOk, OnOk, OnErr};
 ghost use Rattle.std.specs.Ordering.{nat_cmp};
 ghost use Rattle.std.specs.FinMap as map;
 ghost use Rattle.show_core.specs.Many.{with_entries, IsTableOf};
@@ -35,7 +35,7 @@ impl Kept for (u16, u8) {
 }
 
 // Fewer than these are put one by one.
-const FEW: usize = 64;
+const FEW: usize = 128;
 
 // Puts each of the new entries at its key, one after the other.
 pub fn put_all<V: Kept>(entries: &mut Vec<(u16, V)>, new: &[(u16, V)]) -> Result<(), AllocError>

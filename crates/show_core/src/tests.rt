@@ -1,4 +1,7 @@
+mod many;
+
 use crate::{BuildFault, Counts, LONGEST_TIME, Rate, Show};
+use many::{falling, falling_dimmers, list_in_cue, list_in_group, list_in_sub, rising};
 use std::process::Abort;
 use std::test::Fail;
 
@@ -357,6 +360,10 @@ enum Growth {
     Group,
     GroupLevel,
     Patch,
+    CueLevels,
+    SubLevels,
+    GroupLevels,
+    Patches,
 }
 
 fn grow(rt: &impl Abort, show: &mut Show, growth: Growth) -> Result<(), BuildFault> {
@@ -368,6 +375,10 @@ fn grow(rt: &impl Abort, show: &mut Show, growth: Growth) -> Result<(), BuildFau
         Growth::Group => show.open_group(1),
         Growth::GroupLevel => light_group(rt, show, 1, 1, 255),
         Growth::Patch => show.set_patch(1, 1, 255),
+        Growth::CueLevels => list_in_cue(rt, show, 1000, &[(7, 255), (6, 255), (5, 255), (4, 255)]),
+        Growth::SubLevels => list_in_sub(rt, show, 1, &falling(255)),
+        Growth::GroupLevels => list_in_group(rt, show, 1, &rising(255)),
+        Growth::Patches => show.set_patches(&falling_dimmers(9)),
     }
 }
 
@@ -379,7 +390,7 @@ fn sizes(show: &Show) -> (Counts, Option<usize>, Option<usize>, Option<usize>) {
     (show.counts(), cue, sub, group)
 }
 
-// `rt try --test --fail-alloc N` refuses the Nth growth: N from 1 to 14 refuses each growth of this
+// `rt try --test --fail-alloc N` refuses the Nth growth: N from 1 to 20 refuses each growth of this
 // test in turn, and it passes each time. The other tests then answer their error.
 #[test]
 fn each_growth_refused(rt: HostRuntime) {
@@ -392,6 +403,10 @@ fn each_growth_refused(rt: HostRuntime) {
         Growth::Group,
         Growth::GroupLevel,
         Growth::Patch,
+        Growth::CueLevels,
+        Growth::SubLevels,
+        Growth::GroupLevels,
+        Growth::Patches,
     ] {
         let before = sizes(&show);
         let answer = grow(&rt, &mut show, growth);
@@ -409,8 +424,8 @@ fn each_growth_refused(rt: HostRuntime) {
         cues: 1,
         subs: 1,
         groups: 1,
-        dimmers: 1,
+        dimmers: 300,
     };
-    assert!(rt; sizes(&show) == (one, Some(1), Some(1), Some(1)));
+    assert!(rt; sizes(&show) == (one, Some(5), Some(300), Some(300)));
     assert!(rt; sizes(&copy) == sizes(&show));
 }

@@ -8,8 +8,10 @@ loop-entry-preserved g c =
     let i = c.loop-entry.entry-index in
     let p = c.entry-item.result in
     let lt = c.loop-entry-test.true in
+    let here =
+    read_of (λ e. e.0 < length c.args.table.now) es i p c.requires.fit lt c.entry-item.is in
     let fits : p.0 < length c.loop-entry.table =
-    omega (arith, read_of (λ e. e.0 < length c.args.table.now) es i p c.requires.fit lt c.entry-item.is, c.loop-entry.auto.table) in
+    omega (arith, here, c.loop-entry.auto.table) in
     rw c.from.ensures
     (table_set c.loop-entry.table (take i es) (take (i + 1) es) p.0 (Some p.1)
     c.loop-entry.invariant fits (find_more es i p c.requires.sorted lt c.entry-item.is))

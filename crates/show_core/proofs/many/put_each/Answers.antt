@@ -10,6 +10,7 @@ use Rattle.show_core.proofs.many.put_each.Goals.{then-stays+in_ok-put, else-stay
 
 pub loop-entry-preserved : goal.loop-entry-preserved
 loop-entry-preserved g c =
+    let stays = g.V.Kept.stays in
     let es = c.loop-entry.entries.items in
     let ps = c.args.new.now in
     let p = c.entry-item.result in
@@ -24,14 +25,14 @@ loop-entry-preserved g c =
           let is = ap (λ v. v.items) w.entries-is ∙ w.in_ok-put.ensures.ok in
           record {
             sorted = rw is (sorted_put nat_cmp nat_cmp_total es invariant.sorted p.0 p.1);
-            so_far = with_next g.V.Kept.stays es c.if-stays.entries.items rest _ p true says is more
+            so_far = with_next stays es c.if-stays.entries.items rest _ p true says is more
                 ∙ invariant.so_far;
             room = rw w.entries-is (omega (
               arith,
               w.in_ok-put.ensures.len,
               w.in_ok-put.ensures.capacity,
               invariant.room,
-              count_next g.V.Kept.stays rest _ p true says more,
+              count_next stays rest _ p true says more,
             ));
           }
       | else-stays w ↦
@@ -39,14 +40,14 @@ loop-entry-preserved g c =
           let is = ap (λ v. v.items) w.entries-is ∙ w.take_out.ensures.items in
           record {
             sorted = rw is (sorted_without nat_cmp nat_cmp_total p.0 es invariant.sorted);
-            so_far = with_next g.V.Kept.stays es c.if-stays.entries.items rest _ p false says is more
+            so_far = with_next stays es c.if-stays.entries.items rest _ p false says is more
                 ∙ invariant.so_far;
             room = rw w.entries-is (omega (
               arith,
               w.take_out.ensures.len,
               w.take_out.ensures.capacity,
               invariant.room,
-              count_next g.V.Kept.stays rest _ p false says more,
+              count_next stays rest _ p false says more,
             ));
           }
     ]

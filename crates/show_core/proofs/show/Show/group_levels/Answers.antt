@@ -6,6 +6,9 @@ use Rattle.show_core.proofs.show.Show.group_levels.Goals as goal
 
 pub invariant_of-self-2 : goal.invariant_of-self-2
 invariant_of-self-2 c =
-    rw (c.in_ok-set_levels.ensures.set, changed_listed c.self.inside.groups c.args.n c.args.pairs.now)
+    rw (
+      c.in_ok-set_levels.ensures.set,
+      changed_listed c.self.inside.groups c.args.n c.args.pairs.now,
+    )
     (changed_group_in_range (show_view c.self.inside) c.self.invariant c.args.n
     (λ levels. with_bytes levels c.args.pairs.now))
