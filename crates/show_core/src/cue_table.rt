@@ -8,6 +8,7 @@ ghost use Rattle.show_core.specs.Builders.{with_follow};
 ghost use Rattle.show_core.specs.Readers.{HasTimes, cue_above, cue_below};
 
 use crate::cue::{Cue, CueData};
+use crate::heap_cue::HeapCue;
 use crate::levels::Levels;
 use crate::place::{place, put};
 use crate::rate::Rate;
@@ -17,7 +18,7 @@ use std::marker::Model;
 /// The cues, by their numbers in thousandths.
 #[derive(Debug, Drop)]
 pub struct CueTable {
-    entries: Vec<(u32, CueData)>,
+    entries: Vec<(u32, HeapCue)>,
 }
 
 impl Model for CueTable {
@@ -72,7 +73,7 @@ impl CueTable {
                 down: None,
                 follow: None,
             };
-            put(&mut self.entries, n, blank)?;
+            put(&mut self.entries, n, HeapCue::new(alloc, blank)?)?;
         }
         Ok(())
     }
@@ -87,7 +88,7 @@ impl CueTable {
     {
         if let Ok(at) = place(&self.entries, n) {
             let cue = &mut self.entries[at].1;
-            cue.levels.set(channel, byte)?;
+            cue.set_level(channel, byte)?;
         }
         Ok(())
     }
@@ -101,7 +102,7 @@ impl CueTable {
     {
         if let Ok(at) = place(&self.entries, n) {
             let cue = &mut self.entries[at].1;
-            cue.levels.set_all(pairs)?;
+            cue.set_levels(pairs)?;
         }
         Ok(())
     }
@@ -110,7 +111,8 @@ impl CueTable {
         ensures { self.new ≡ with_up self.old n rate }
     {
         if let Ok(at) = place(&self.entries, n) {
-            self.entries[at].1.up = Some(rate);
+            let cue = &mut self.entries[at].1;
+            cue.set_up(rate);
         }
     }
 
@@ -118,7 +120,8 @@ impl CueTable {
         ensures { self.new ≡ with_down self.old n rate }
     {
         if let Ok(at) = place(&self.entries, n) {
-            self.entries[at].1.down = Some(rate);
+            let cue = &mut self.entries[at].1;
+            cue.set_down(rate);
         }
     }
 
@@ -126,7 +129,8 @@ impl CueTable {
         ensures { self.new ≡ with_follow self.old n time }
     {
         if let Ok(at) = place(&self.entries, n) {
-            self.entries[at].1.follow = Some(time);
+            let cue = &mut self.entries[at].1;
+            cue.set_follow(time);
         }
     }
 
@@ -141,7 +145,7 @@ impl CueTable {
         ensures { result ≡ map.get self.now n }
     {
         match place(&self.entries, n) {
-            Ok(at) => Some(Cue::of(&self.entries[at].1)),
+            Ok(at) => Some(Cue::of(self.entries[at].1.data())),
             Err(_) => None,
         }
     }
@@ -168,7 +172,7 @@ impl CueTable {
     }
 }
 
-fn first_above(entries: &[(u32, CueData)], n: u32) -> Option<u32>
+fn first_above(entries: &[(u32, HeapCue)], n: u32) -> Option<u32>
     ensures { result ≡ find (λ k. nat_lt n k) (map_list (λ e. e.0) entries.now) }
 {
     entries
@@ -177,7 +181,7 @@ fn first_above(entries: &[(u32, CueData)], n: u32) -> Option<u32>
         .find(|number| *number > n)
 }
 
-fn last_below(entries: &[(u32, CueData)], n: u32) -> Option<u32>
+fn last_below(entries: &[(u32, HeapCue)], n: u32) -> Option<u32>
     ensures { result ≡ find (λ k. nat_lt k n) (map_list (λ e. e.0) (reverse entries.now)) }
 {
     entries
@@ -189,14 +193,14 @@ fn last_below(entries: &[(u32, CueData)], n: u32) -> Option<u32>
 
 fn clone_entries(
     alloc: Global,
-    entries: &[(u32, CueData)],
-) -> Result<Vec<(u32, CueData)>, AllocError>
+    entries: &[(u32, HeapCue)],
+) -> Result<Vec<(u32, HeapCue)>, AllocError>
     ensures { IfOk result (λ copy. copy.items ≡ entries.now) }
 {
     let mut copy = Vec::new(alloc);
     for entry in entries {
-        let data = entry.1.clone_in(alloc)?;
-        copy.push((entry.0, data))?;
+        let data = entry.1.data().clone_in(alloc)?;
+        copy.push((entry.0, HeapCue::new(alloc, data)?))?;
     }
     Ok(copy)
 }

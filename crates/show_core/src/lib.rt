@@ -19,6 +19,7 @@
 mod cue;
 mod cue_table;
 mod fault;
+mod heap_cue;
 mod levels;
 mod limits;
 mod many;

@@ -15,11 +15,11 @@ of-requires c =
     = rw (← c.self.view_is)
     (lookup_at nat_cmp nat_cmp_total c.self.inside.entries.items c.self.invariant c.args.n
     c.in-Ok.at c.index.result.now at c.index.ensures) in
-    subst (λ o. IfSome o HasTimes) (sym is) c.requires
+    rw c.data.ensures (subst (λ o. IfSome o HasTimes) (sym is) c.requires)
 
 pub returns-in-Ok : goal.returns-in-Ok
 returns-in-Ok c =
-    rw (c.of.ensures, ← c.self.view_is)
+    rw (c.of.ensures, c.data.ensures, ← c.self.view_is)
     (lookup_at nat_cmp nat_cmp_total c.self.inside.entries.items c.self.invariant c.args.n
     c.in-Ok.at c.index.result.now
     (rw c.deref.ensures.value at c.in-Ok.ensures.found) c.index.ensures)

@@ -7,14 +7,14 @@ use Rattle.show_core.proofs.Sorted.{sorted_put, from_sorted-put}
 use Rattle.show_core.specs.Builders.{blank}
 use Rattle.show_core.proofs.cue_table.CueTable.open.Goals as goal
 
-pub invariant_of-self : goal.invariant_of-self
-invariant_of-self c =
+pub invariant_of-self-in_ok-put : goal.invariant_of-self-in_ok-put
+invariant_of-self-in_ok-put c =
     rw c.in_ok-put.ensures.ok
     (sorted_put nat_cmp nat_cmp_total c.self.inside.entries.items c.self.invariant c.args.n _)
 
 pub returns-in_ok-put-clause-opened : goal.returns-in_ok-put-clause-opened
 returns-in_ok-put-clause-opened c =
     let absent : map.contains_key c.args.self.now c.args.n ≡ false = grind (arith, common_steps) in
-    rw (c.in_ok-put.ensures.ok, c.new.ensures)
+    rw (c.in_ok-put.ensures.ok, c.in_ok-new.ensures, c.new.ensures)
     (from_sorted-put nat_cmp nat_cmp_total c.self.inside.entries.items c.self.invariant c.args.n
     blank ∙ rw (c.self.view_is, absent) refl)

@@ -10,16 +10,17 @@ invariant_of-self c =
     let at = rw c.deref.ensures.value at c.in-Ok.ensures.found in
     rw (set_at nat_cmp nat_cmp_total c.self.inside.entries.items c.self.invariant c.args.n
     c.in-Ok.at c.index_mut.result.now
-    (record c.index_mut.result.now.1 { follow = Some c.args.time }) at c.index_mut.ensures.value)
+    c.set_follow.new.self at c.index_mut.ensures.value)
     (sorted_put nat_cmp nat_cmp_total c.self.inside.entries.items c.self.invariant c.args.n
-    (record c.index_mut.result.now.1 { follow = Some c.args.time }))
+    c.set_follow.new.self)
 
 pub returns-in-Ok : goal.returns-in-Ok
 returns-in-Ok c =
     let at = rw c.deref.ensures.value at c.in-Ok.ensures.found in
-    changed_at c.self.inside.entries.items c.self.invariant c.args.self.now c.self.view_is c.args.n
+    rw c.set_follow.ensures
+    (changed_at c.self.inside.entries.items c.self.invariant c.args.self.now c.self.view_is c.args.n
     (λ cue. record cue { follow = Some c.args.time }) c.in-Ok.at c.index_mut.result.now at
-    c.index_mut.ensures.value
+    c.index_mut.ensures.value)
 
 pub returns-in_default : goal.returns-in_default
 returns-in_default c =

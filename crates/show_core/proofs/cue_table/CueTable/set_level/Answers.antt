@@ -12,14 +12,14 @@ invariant_of-self c =
     let at = rw c.deref.ensures.value at c.in-Ok.ensures.found in
     rw (set_at nat_cmp nat_cmp_total c.self.inside.entries.items c.self.invariant c.args.n
     c.in-Ok.at c.index_mut.result.now
-    (record c.index_mut.result.now.1 { levels = c.set.new.self }) at c.index_mut.ensures.value)
+    c.set_level.new.self at c.index_mut.ensures.value)
     (sorted_put nat_cmp nat_cmp_total c.self.inside.entries.items c.self.invariant c.args.n
-    (record c.index_mut.result.now.1 { levels = c.set.new.self }))
+    c.set_level.new.self)
 
-pub returns-in_ok-set-clause-set : goal.returns-in_ok-set-clause-set
-returns-in_ok-set-clause-set c =
+pub returns-in_ok-set_level-clause-set : goal.returns-in_ok-set_level-clause-set
+returns-in_ok-set_level-clause-set c =
     let at = rw c.deref.ensures.value at c.in-Ok.ensures.found in
-    rw c.in_ok-set.ensures.ok
+    rw c.in_ok-set_level.ensures.ok
     (changed_at c.self.inside.entries.items c.self.invariant c.args.self.now c.self.view_is
     c.args.n (λ cue. record cue { levels = map.insert cue.levels c.args.channel c.args.byte })
     c.in-Ok.at c.index_mut.result.now at c.index_mut.ensures.value)
@@ -30,12 +30,12 @@ returns-in_default-clause-set c =
     c.args.n c.in_default.field-0 (rw c.deref.ensures.value at c.in_default.ensures.absent) in
     absurd (grind (arith, common_steps, gap ∙ ap (λ m. map.contains_key m c.args.n) c.self.view_is))
 
-pub returns-in_err-set-clause-sure : goal.returns-in_err-set-clause-sure
-returns-in_err-set-clause-sure c =
+pub returns-in_err-set_level-clause-sure : goal.returns-in_err-set_level-clause-sure
+returns-in_err-set_level-clause-sure c =
     let at = rw c.deref.ensures.value at c.in-Ok.ensures.found in
     rw (
       ← c.self.view_is,
       ← lookup_at nat_cmp nat_cmp_total c.self.inside.entries.items
           c.self.invariant c.args.n c.in-Ok.at c.index_mut.result.now at c.index_mut.ensures.value,
     )
-    (λ there. not_so (c.in_err-set.ensures.sure there))
+    (λ there. not_so (c.in_err-set_level.ensures.sure there))

@@ -11,14 +11,14 @@ invariant_of-self c =
     let at = rw c.deref.ensures.value at c.in-Ok.ensures.found in
     rw (set_at nat_cmp nat_cmp_total c.self.inside.entries.items c.self.invariant c.args.n
     c.in-Ok.at c.index_mut.result.now
-    (record c.index_mut.result.now.1 { levels = c.set_all.new.self }) at c.index_mut.ensures.value)
+    c.set_levels.new.self at c.index_mut.ensures.value)
     (sorted_put nat_cmp nat_cmp_total c.self.inside.entries.items c.self.invariant c.args.n
-    (record c.index_mut.result.now.1 { levels = c.set_all.new.self }))
+    c.set_levels.new.self)
 
-pub returns-in_ok-set_all-clause-set : goal.returns-in_ok-set_all-clause-set
-returns-in_ok-set_all-clause-set c =
+pub returns-in_ok-set_levels-clause-set : goal.returns-in_ok-set_levels-clause-set
+returns-in_ok-set_levels-clause-set c =
     let at = rw c.deref.ensures.value at c.in-Ok.ensures.found in
-    rw c.in_ok-set_all.ensures.ok
+    rw c.in_ok-set_levels.ensures.ok
     (changed_at c.self.inside.entries.items c.self.invariant c.args.self.now c.self.view_is
     c.args.n (λ cue. record cue { levels = with_bytes cue.levels c.args.pairs.now })
     c.in-Ok.at c.index_mut.result.now at c.index_mut.ensures.value)
