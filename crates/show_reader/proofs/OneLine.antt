@@ -36,6 +36,7 @@ use Rattle.show_line.specs.Said.{group_named, sub_named, cleared_names, reading_
 use Rattle.show_line.specs.Sound.{IsSound}
 use Rattle.show_reader.specs.declared.apply.Refusal.{Refusal}
 use Rattle.show_reader.specs.declared.apply.Refusal.TheVariants as refusal
+use Rattle.show_reader.specs.declared.draft.Draft.{Draft}
 use Rattle.show_reader.specs.declared.read.Reader.{Reader}
 use Rattle.show_reader.specs.Text.{Words, owns, said_under, owner_after}
 use Rattle.show_reader.specs.Keys.{There, has_record, found}
@@ -266,27 +267,32 @@ module _ (lines : List Words) (l : Words) (r : Reader) (h : Reads lines r) (s : 
       ∙ ap (option_map (fault_at (r.lines + 1)))
       (sym (refused_is ss s (meant r.draft) sound h.shows h.count))
 
-  no_fault : IsSound s → refused_by (meant r.draft) s ≡ None → first_fault (s ∷ said_by lines) ≡ None
+  no_fault : IsSound s → refused_by (meant r.draft) s ≡ None
+      → first_fault (s ∷ said_by lines) ≡ None
   no_fault sound fine =
       ap first_fault (sym more) ∙ fault_here sound
       ∙ ap (option_map (fault_at (r.lines + 1))) fine
 
   -- the reader behind it
-  pub line_read : (r' : Reader) → IsSound s → refused_by (meant r.draft) s ≡ None
-      → IsDraft r'.draft → meant r'.draft ≡ applied s (meant r.draft)
-      → (IsSettled r.draft → grows s ≡ false → IsSettled r'.draft) → r'.owner ≡ cond (owns l) (opened s) r.owner
-      → r'.lines ≡ r.lines + 1 → r'.skipped ≡ r.skipped + cond (is_skipped s) 1 0
+  pub line_read : (r' : Reader) (d : Draft) → IsSound s → refused_by (meant r.draft) s ≡ None
+      → IsDraft d → meant d ≡ applied s (meant r.draft)
+      → (IsSettled r.draft → grows s ≡ false → IsSettled d) → r'.draft ≡ d
+      → r'.owner ≡ cond (owns l) (opened s) r.owner → r'.lines ≡ r.lines + 1
+      → r'.skipped ≡ r.skipped + cond (is_skipped s) 1 0
       → Reads (l ∷ lines) r'
-  line_read r' sound fine drafted show settled owner number skipped =
+  line_read r' d sound fine drafted ok settled draft owner number skipped =
       let ss = said_by lines in
+      let show = ap meant draft ∙ ok in
       record {
         shows =
             λ k. ap (λ t. found t k) show ∙ step ss s (meant r.draft) owner_here h.shows k
             ∙ ap (λ ts. meaning ts k) (sym more);
-        drafted = drafted;
+        drafted = subst IsDraft (sym draft) drafted;
         settled = λ none.
             let none' = subst NoneGrows more none in
-            settled (h.settled (none_above s ss none')) (none_here s ss (no_fault sound fine) none');
+            subst IsSettled (sym draft)
+            (settled (h.settled (none_above s ss none'))
+            (none_here s ss (no_fault sound fine) none'));
         faultless = fault_here sound ∙ ap (option_map (fault_at (r.lines + 1))) fine;
         owner =
             owner ∙ ap (λ t. cond (owns l) (opened t) r.owner) is
@@ -325,6 +331,6 @@ pub quiet_line : (lines : List Words) (l : Words) (r : Reader) (n : ℕ) → Rea
     → n ≡ r.lines + 1 → None ≡ reading_of desk_limits r.owner l
     → Reads (l ∷ lines) (record r { lines = n })
 quiet_line lines [] r n h next none =
-    line_read lines [] r h Quiet refl (record r { lines = n }) tt refl h.drafted refl
-    (λ settled grown. settled) refl next (sym (add-zero r.skipped))
+    line_read lines [] r h Quiet refl (record r { lines = n }) r.draft tt refl h.drafted refl
+    (λ settled none. settled) refl refl next (sym (add-zero r.skipped))
 quiet_line lines (w ∷ words) r n h next none = absurd (none-some _ none)

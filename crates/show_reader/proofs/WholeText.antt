@@ -137,7 +137,8 @@ module _ {text : List ℕ} {lines : List Words} {r : Reader} {number : ℕ} {byt
   -- where nothing grows in the text, nothing does down to it
   pub none_so_far : NothingGrows desk_limits text → NoneGrows (said_by (words_of bytes ∷ lines))
   none_so_far nothing =
-      none_before below (words_of bytes ∷ lines) (subst (λ ms. NoneGrows (said_by ms)) next.all nothing)
+      none_before below (words_of bytes ∷ lines)
+      (subst (λ ms. NoneGrows (said_by ms)) next.all nothing)
 
 -- a number that is at most another is not above it
 pub not_longer : (a b : ℕ) → b ≤ a → nat_lt a b ≡ false

@@ -5,7 +5,7 @@ ghost use Rattle.show_line.specs.Sound.{IsTripleInRange};
 ghost use Rattle.show_line.specs.declared.statement.Statement.TheVariants as statement;
 ghost use Rattle.show_reader.specs.Keys.{has_record};
 ghost use Rattle.show_reader.specs.Reading.{grows};
-ghost use Rattle.show_reader.specs.Applied.{with_pairs, with_triples};
+ghost use Rattle.show_reader.specs.Applied.{applied, with_pairs};
 ghost use Rattle.show_reader.specs.Drafts.{meant, IsDraft, IsSettled};
 
 use show_core::{BuildFault, Show};
@@ -82,8 +82,8 @@ impl Draft {
         requires drafted { IsDraft self.old }
         requires sound { All IsTripleInRange triples }
         ensures drafted { OnOk result (IsDraft self.new) }
-        ensures ok { OnOk result (meant self.new
-            ≡ record (meant self.old) { patch = with_triples (meant self.old).patch triples.entry }) }
+        ensures ok { OnOk result
+            (meant self.new ≡ applied (statement.Patches triples.entry) (meant self.old)) }
         ensures settled { OnOk result
             (IsSettled self.old → grows (statement.Patches triples.entry) ≡ false
             → IsSettled self.new) }
@@ -101,8 +101,8 @@ impl Draft {
         requires drafted { IsDraft self.old }
         requires sound { IsTripleInRange triple }
         ensures drafted { OnOk result (IsDraft self.new) }
-        ensures ok { OnOk result (meant self.new
-            ≡ record (meant self.old) { patch = with_triples (meant self.old).patch (triple ∷ []) }) }
+        ensures ok { OnOk result
+            (meant self.new ≡ applied (statement.Patches (triple ∷ [])) (meant self.old)) }
         ensures settled { OnOk result
             (IsSettled self.old → IsTrue (triple.channel == 0) → IsSettled self.new) }
         ensures sure { IsSettled self.old → IsTrue (triple.channel == 0) → IsOk result }

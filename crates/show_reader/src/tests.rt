@@ -337,7 +337,7 @@ fn last_follow_on_time(rt: HostRuntime) -> Result<(), Fail> {
     Ok(())
 }
 
-// Levels and patches in any order, over several lines; the last one of a channel or a dimmer counts.
+// Levels and patches in any order, over several lines: the last of a channel or a dimmer counts.
 #[test]
 fn any_order(rt: HostRuntime) -> Result<(), Fail> {
     let text = b"GROUP 7\nCHAN 3@H3 2@H2\nCUE 1\nCHAN 9@H1 5@H5\nCHAN 7@H7 1@H1 9@H9\nCHAN\n\
@@ -359,7 +359,8 @@ fn any_order(rt: HostRuntime) -> Result<(), Fail> {
 #[test]
 fn lines_between(rt: HostRuntime) -> Result<(), Fail> {
     let text = b"CUE 2\nCHAN 4@H4 2@H2\nUP 5\nCHAN 3@H3\nPATCH 1 1<8@H1\nCUE 1\nCHAN 2@FL\n\
-        CUE 2\nCHAN 1@H1 4@H5\nDOWN 6\nPATCH 1 2<7@H2 0<8@0\nGROUP 1\nCUE 2\nFOLLOWON 7\nCHAN 3@H4\n";
+        CUE 2\nCHAN 1@H1 4@H5\nDOWN 6\nPATCH 1 2<7@H2 0<8@0\nGROUP 1\nCUE 2\nFOLLOWON 7\n\
+        CHAN 3@H4\n";
     let loaded = read(rt.alloc(), text)?;
     let cue = loaded.show.cue(2000).expect(&rt, "cue 2");
     assert_eq!(rt; cue.pairs(), [(1, 1), (2, 2), (3, 4), (4, 5)].as_slice());

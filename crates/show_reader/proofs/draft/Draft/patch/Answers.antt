@@ -1,4 +1,4 @@
-use Rattle.std.proofs.Common.{◌≡◌, ◌∷◌, ◌||◌, Bool, true, false, not, refl, sym, ap, ◌∙◌}
+use Rattle.std.proofs.Common.{◌≡◌, ◌==◌, ◌∷◌, ◌||◌, Bool, true, false, not, refl, sym, ap, ◌∙◌}
 use Rattle.std.proofs.lemmas.List.Elements.{All-rest}
 use Rattle.show_line.specs.Sound.{IsTripleInRange}
 use Rattle.show_line.specs.declared.statement.Statement.TheVariants.{Patches}
@@ -17,12 +17,17 @@ loop-triple-preserved c =
     let t = c.in-Some.triple in
     let front : c.loop-triple.triple-iterator ≡ t ∷ c.next.new.self = c.in-Some.ensures.steps in
     let before = c.loop-triple.invariant in
+    let unpatched = λ (none : grows (Patches c.args.triples) ≡ false).
+    neither (t.channel == 0) (grows (Patches c.next.new.self))
+    (sym (ap (λ ts. grows (Patches ts)) front) ∙ before.left none) in
     record {
       drafted = c.in_ok-patch_dimmer.ensures.drafted;
-      sound = All-rest IsTripleInRange t c.next.new.self c.loop-triple.triple-iterator front before.sound;
-      left = λ none. (neither _ _ (sym (ap (λ ts. grows (Patches ts)) front) ∙ before.left none)).1;
-      settled = λ settled none. c.in_ok-patch_dimmer.ensures.settled (before.settled settled none)
-          (neither _ _ (sym (ap (λ ts. grows (Patches ts)) front) ∙ before.left none)).0;
+      sound =
+          All-rest IsTripleInRange t c.next.new.self c.loop-triple.triple-iterator front
+          before.sound;
+      left = λ none. (unpatched none).1;
+      settled = λ settled none.
+          c.in_ok-patch_dimmer.ensures.settled (before.settled settled none) (unpatched none).0;
       put =
           before.put ∙ ap (λ ts. applied (Patches ts) (meant c.loop-triple.self)) front
           ∙ ap (applied (Patches c.next.new.self)) (sym c.in_ok-patch_dimmer.ensures.ok);

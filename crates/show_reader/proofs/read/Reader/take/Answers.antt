@@ -5,7 +5,6 @@ use Rattle.ascii_text.specs.Text.{words_of}
 use Rattle.show_line.specs.Said.{opened}
 use Rattle.show_reader.specs.declared.read.Reader.{Reader}
 use Rattle.show_reader.specs.Text.{owns}
-use Rattle.show_reader.specs.Drafts.{meant, IsDraft, IsSettled}
 use Rattle.show_reader.specs.Reads.{EndsAt, refusal_at}
 use Rattle.show_reader.proofs.OneLine.{reading_is, owner_here, line_read}
 use Rattle.show_reader.proofs.OneLine.{line_ends, quiet_line}
@@ -36,22 +35,19 @@ returns-clause-more c = λ lines h.
       | else-may_own w ↦
           w.owner-is ∙ ap (λ b. cond b (opened s) r.owner) (sym w.if-may_own.false ∙ owns_is)
     ] in
+    let applied = c.in_default-apply.ensures in
     let read
-    = line_read lines l r h s is.statement r' c.in-Some.ensures.sound
-    c.in_default-apply.ensures.fine in
+    = line_read lines l r h s is.statement r' c.apply.new.draft c.in-Some.ensures.sound applied.fine
+    applied.drafted applied.ok applied.settled in
     elim c.if-skipped.branch [
       | then-skipped w ↦
-          read (subst (λ (t : Reader). IsDraft t.draft) (sym w.self-is) c.in_default-apply.ensures.drafted)
-          (ap (λ (t : Reader). meant t.draft) w.self-is ∙ c.in_default-apply.ensures.ok)
-          (λ settled none. subst (λ (t : Reader). IsSettled t.draft) (sym w.self-is) (c.in_default-apply.ensures.settled settled none))
+          read (ap (λ (t : Reader). t.draft) w.self-is)
           (ap (λ (t : Reader). t.owner) w.self-is ∙ owner)
           (ap (λ (t : Reader). t.lines) w.self-is ∙ c.requires.next)
           (ap (λ (t : Reader). t.skipped) w.self-is
           ∙ ap (λ b. r.skipped + cond b 1 0) (sym w.if-skipped.true ∙ c.is_skipped-skipped.ensures))
       | else-skipped w ↦
-          read (subst (λ (t : Reader). IsDraft t.draft) (sym w.self-is) c.in_default-apply.ensures.drafted)
-          (ap (λ (t : Reader). meant t.draft) w.self-is ∙ c.in_default-apply.ensures.ok)
-          (λ settled none. subst (λ (t : Reader). IsSettled t.draft) (sym w.self-is) (c.in_default-apply.ensures.settled settled none))
+          read (ap (λ (t : Reader). t.draft) w.self-is)
           (ap (λ (t : Reader). t.owner) w.self-is ∙ owner)
           (ap (λ (t : Reader). t.lines) w.self-is ∙ c.requires.next)
           (ap (λ (t : Reader). t.skipped) w.self-is ∙ sym (add-zero r.skipped)
