@@ -41,7 +41,7 @@ const SHORTEST_GAP: u64 = 23;
 const ENDING_TICKS: u8 = 3;
 
 /// More channels than this are quicker drawn with all others than one by one.
-const FEW: usize = 1023;
+const FEW: usize = 700;
 
 /// A console: a show, its playback and masters, and the frames of its universes as the latest tick
 /// showed them.
