@@ -37,7 +37,8 @@ pub(crate) fn happen<F: Fader>(
     ensures reply { IfOk result (λ r. (w : World) (past : List EventData)
         → w.strays ≡ strays.now → AllStand (StageStands F.stands_for) stages.old w past
         → AllTell Tells stages.old → AllHear receivers.old w past
-        → reply_of r ≡ option_map_or reply.Skipped (missing w past what) (replied w past moment what)) }
+        → reply_of r ≡ option_map_or reply.Skipped (missing w past what)
+        (replied w past moment what)) }
     ensures stands { OnOk result ((w : World) (past : List EventData)
         → AllStand (StageStands F.stands_for) stages.old w past
         → AllStand (StageStands F.stands_for) stages.new w (unless_skipped (missing w past what)

@@ -57,8 +57,8 @@ pub(crate) fn tick_at<F: Fader>(
     ensures gone { OnOk result ((i u : ℕ) → gone_at stages.new i u ≡ gone_at stages.old i u) }
     ensures reply { IfOk result (λ r. (w : World) (past : List EventData)
         → AllStand (StageStands F.stands_for) stages.old w past
-        → reply_of r ≡ option_map_or reply.Skipped (missing w past (Tick console)) (replied w past moment
-        (Tick console))) }
+        → reply_of r ≡ option_map_or reply.Skipped (missing w past (Tick console))
+        (replied w past moment (Tick console))) }
     ensures stands { OnOk result ((w : World) (past : List EventData)
         → AllStand (StageStands F.stands_for) stages.old w past
         → AllStand (StageStands F.stands_for) stages.new w (unless_skipped (missing w past

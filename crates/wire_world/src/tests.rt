@@ -189,6 +189,37 @@ fn rehearse_basic(rt: HostRuntime) -> Result<(), Fail> {
     Ok(())
 }
 
+// Each packet is there for as long as an event to come delivers it, also one of long ago.
+#[test]
+fn deliveries_in_any_order(rt: HostRuntime) -> Result<(), Fail> {
+    let consoles = [console(&rt, 0x31, 100)];
+    let elsewhere = What::Deliver {
+        receiver: 0,
+        console: 0,
+        universe: 17,
+        k: 0,
+    };
+    let steps = [
+        (0, GO, Told::Done),
+        (1000, What::Tick(0), Told::Live(0)),
+        (2000, What::Tick(0), Told::Live(1)),
+        (3000, What::Tick(0), Told::Live(2)),
+        (3000, deliver(0, 2), Told::Taken(2, false)),
+        (3000, deliver(0, 1), Told::Ignored(Ignored::OutOfSequence)),
+        (3000, deliver(0, 3), Told::Skipped(Skip::NotSent)),
+        (3000, elsewhere, Told::Skipped(Skip::NotSent)),
+        (4000, What::Tick(0), Told::Live(3)),
+        (4000, deliver(0, 3), Told::Taken(3, false)),
+        (4000, deliver(0, 0), Told::Ignored(Ignored::OutOfSequence)),
+        (5000, What::Tick(0), Told::Live(4)),
+        (5000, deliver(0, 4), Told::Taken(4, false)),
+        (5000, SHOW, Told::Shown(255)),
+        (5000, deliver(0, 4), Told::Ignored(Ignored::OutOfSequence)),
+    ];
+    assert!(rt; plays(&rt, rt.alloc(), &consoles, &steps, 255)?);
+    Ok(())
+}
+
 #[test]
 fn rehearse_termination(rt: HostRuntime) -> Result<(), Fail> {
     let consoles = [console(&rt, 0x31, 100)];
