@@ -13,8 +13,7 @@ pub(crate) fn position_or_len(bytes: &[u8], mark: u8) -> usize
 }
 
 // Which bytes end a word: the separators, and the `!` of a comment. A text is mostly words, and
-// each of its bytes is
-// looked up.
+// each of its bytes is looked up.
 const WORD_ENDS: [bool; 256] = [
     false, false, false, false, false, false, false, false, false, true, false, false, false, true,
     false, false, false, false, false, false, false, false, false, false, false, false, true,

@@ -9,8 +9,7 @@ use live_input::{Given, LiveInput};
 use std::time::Instant;
 
 /// The input of a live night: what is typed, each line at its moment, and the ticks. It does not
-/// tell
-/// what it gave.
+/// tell what it gave.
 #[derive(Drop)]
 pub struct LiveFeed<'a> {
     rt: &'a HostRuntime,

@@ -15,8 +15,7 @@ type Report = ArrayString<66>;
 
 /// Reports how a run ended, and answers the program's exit status: 0 done, 2 base refused, 3 show
 /// refused, 4 input line or script refused, 5 device fault or lost packets, 6 want of memory. It
-/// takes no
-/// memory.
+/// takes no memory.
 ///
 /// The report of a fault is one line on the output, and there is none for a run that ended well.
 /// The status is the same where that write fails.

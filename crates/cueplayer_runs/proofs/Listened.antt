@@ -13,8 +13,7 @@ use Rattle.cueplayer_runs.specs.Listening.{GaveAll, Listens, DeviceFailed, Slots
 use Rattle.cueplayer_runs.specs.Listening.{history, listen_text, replies, reply_line}
 
 -- so many datagrams came, and the receiver stands for them; where the devices tell, the source gave
--- them, and
--- the output took the replies to them
+-- them, and the output took the replies to them
 pub record Heard (universe count : ℕ) (receiver : Kept) (source_tells output_tells : Type 0)
     (given gives : Tape (List ℕ)) (before after : Tape ℕ) : Type 0 where
   pub datagrams : List (List ℕ)

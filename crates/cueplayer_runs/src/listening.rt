@@ -9,8 +9,7 @@ use receiver_text::{reply_line, slots_line};
 use sacn_receiver::Receiver;
 
 /// Receives so many datagrams as a receiver of the universe, and prints the reply to each and,
-/// after
-/// the last one, the slots.
+/// after the last one, the slots.
 ///
 /// The universe is 1 to 63,999. Every datagram is taken at moment 0, so that no source is lost by
 /// silence. Each line goes out by one write, before the next datagram is waited for. No memory is

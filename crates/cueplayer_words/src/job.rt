@@ -57,8 +57,7 @@ pub enum Job {
 
     /// `slots SHOW CUE [--base U]`: print the levels of one cue at full, for people. The cue number
     /// is in thousandths, 1 to 9,999,999, and the base the number of the first universe, 1 to
-    /// 63,999
-    /// (1 where it is absent).
+    /// 63,999 (1 where it is absent).
     Slots {
         show: Name,
         cue: u32,
@@ -78,9 +77,8 @@ pub enum Job {
     },
 
     /// `live SHOW --to ADDR --cid UUID [--priority P] [--base U] [--record FILE]`: play by the
-    /// clock
-    /// what is typed. The values are those of `play`; `record_file` is where the lines that were
-    /// played are written to, where a file is named.
+    /// clock what is typed. The values are those of `play`; `record_file` is where the lines that
+    /// were played are written to, where a file is named.
     Live {
         show: Name,
         to: ([u8; 4], u16),

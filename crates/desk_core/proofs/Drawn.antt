@@ -32,8 +32,7 @@ over : (playback floor : ℕ) → max playback (max 0 floor) ≡ max playback fl
 over playback floor = omega arith
 
 -- the higher of the playback's level after these moves and of the floor is the level that
--- submasters
--- and groups make of it
+-- submasters and groups make of it
 pub merged_level : (show : Tables) (history : List Act) (made : List Move) (floors : List ℕ)
     (channel moment latest level : ℕ)
     → level ≡ max (playback_level show made channel latest) (level_in floors channel)

@@ -1,6 +1,5 @@
 //! Devices over memory: they tell what they did, and some of their calls fail. Tests run the
-//! program
-//! over them.
+//! program over them.
 
 mod datagrams;
 mod faults;

@@ -31,8 +31,8 @@ module _ {V : Type 0} where
       find_at nat_cmp nat_cmp_total es (get_or es k d).0 k d (record {
         in_range = lt;
         smaller_before = λ j e low. ap (λ x. nat_cmp x.0 (get_or es k d).0)
-            (get_or_default es j e d (omega arith)) ∙ sorted_at nat_cmp nat_cmp_total es j k d sorted
-            low lt;
+            (get_or_default es j e d (omega arith))
+            ∙ sorted_at nat_cmp nat_cmp_total es j k d sorted low lt;
         has_key = λ e. ap (λ x. nat_cmp x.0 (get_or es k d).0) (get_or_default es k e d lt)
             ∙ equal_to_itself (get_or es k d).0;
       })
@@ -117,7 +117,8 @@ begins_rise dimmers by_channel begins index c few =
       go (inr le) = le
       go (inl lt) =
           let p : ℕ = get_or begins (c + 1) 0 in
-          let within : p < length by_channel = omega (arith, (index.places c (omega arith)).in_range) in
+          let within : p < length by_channel =
+          omega (arith, (index.places c (omega arith)).in_range) in
           let below : channel_at by_channel p < c + 1 = (index.places c (omega arith)).below p
           (0, (0, 0)) (omega arith) lt in
           let above : c + 1 + 1 ≤ channel_at by_channel p =

@@ -51,8 +51,7 @@ due show (move ∷ older) =
     move_after move.moment (cue_above show.cues move.cue) (cue_at show move.cue).follow
 
 -- the moves and those that follow them by themselves up to a moment, each at its own moment; at
--- most
--- one for each number of this list
+-- most one for each number of this list
 abbrev pub followed : Tables → ℕ → List ℕ → List Move → List Move
 followed show moment [] moves = moves
 followed show moment (_ ∷ others) moves =
@@ -60,8 +59,7 @@ followed show moment (_ ∷ others) moves =
     then followed show moment others (next ∷ moves) else moves) (due show moves) moves
 
 -- the moves and all that follow them by themselves up to a moment: each goes to a greater cue
--- number,
--- so there are at most as many as cues
+-- number, so there are at most as many as cues
 unfoldable pub with_due : Tables → ℕ → List Move → List Move
 with_due show moment moves = followed show moment (map.keys show.cues) moves
 

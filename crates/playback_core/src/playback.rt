@@ -216,8 +216,7 @@ impl<F: Fader> Playback<F> {
     }
 
     /// The level of each channel, 0 to 65025, at the latest moment given, channel 1 first, where
-    /// the
-    /// fader has them at hand.
+    /// the fader has them at hand.
     pub fn levels(&self) -> Option<&[u16]>
         ensures each_channel { IfSome result (λ levels. length levels.now ≡ 4096) }
         ensures levels { IfSome result (λ levels. (show : Tables) (moves : List Move)
@@ -231,8 +230,7 @@ impl<F: Fader> Playback<F> {
     }
 
     /// The channels that may have another level at a later moment, as long as there is no move,
-    /// where
-    /// the fader lists them. Where it does not, each may.
+    /// where the fader lists them. Where it does not, each may.
     pub fn moving(&self) -> Option<&[u16]>
         ensures in_range { IfSome result (λ moving.
             All (λ channel. IsTrue (is_channel channel)) moving.now) }

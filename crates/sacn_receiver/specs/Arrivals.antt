@@ -33,8 +33,7 @@ NeverFall [] = Unit {0}
 NeverFall (a ∷ older) = (last_arrival older ≤ a.moment) × NeverFall older
 
 -- why a datagram is not heard on a universe, whatever came before: there is no data packet in it,
--- or
--- one that is not meant for the universe's stage
+-- or one that is not meant for the universe's stage
 abbrev pub not_heard : ℕ → List ℕ → Option Ignored
 not_heard universe datagram =
     option_or (option_map Unreadable (fault_of datagram)) (unheard universe (front_packet datagram))

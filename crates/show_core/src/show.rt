@@ -403,8 +403,7 @@ impl Show {
     }
 
     /// The submasters that are there, each with its number, 1 to 100, and its levels. The entries
-    /// of
-    /// a map are sorted, so the numbers strictly ascend.
+    /// of a map are sorted, so the numbers strictly ascend.
     pub fn subs(&self) -> &[(u16, Levels)]
         ensures entries { result.now ≡ map.entries self.now.subs }
         ensures range { All (λ e. IsTrue (is_sub e.0)) result.now }

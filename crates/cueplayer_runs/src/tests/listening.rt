@@ -6,8 +6,7 @@ use sacn_packet::{Header, SourceName, encode};
 use std::alloc::Global;
 
 // A data packet whose first slot is at 64: that of row `look_one`, with its sequence number,
-// options
-// and universe, and the last byte of its CID.
+// options and universe, and the last byte of its CID.
 fn packet(sequence: u8, options: u8, last_of_cid: u8) -> [u8; 638] {
     let mut cid = CID;
     cid[15] = last_of_cid;
@@ -28,8 +27,7 @@ fn packet(sequence: u8, options: u8, last_of_cid: u8) -> [u8; 638] {
 
 // The answer of a run over so many datagrams of universe 1, and its output. Of the receives and of
 // the writes some pass at first, and some then fail. Where the growth of the output was refused,
-// the
-// run is made again.
+// the run is made again.
 fn end<'a>(
     alloc: Global,
     datagrams: &'a [&'a [u8]],
