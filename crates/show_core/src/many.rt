@@ -46,11 +46,11 @@ pub fn put_all<V: Kept>(entries: &mut Vec<(u16, V)>, new: &[(u16, V)]) -> Result
     ensures sure { count_by (λ e. V.stays e.1) new.now ≡ 0 → IsOk result }
 {
     let staying = new.iter().filter(|entry| entry.1.stays()).count();
+    if staying > 0 && go_behind(entries, new) {
+        return entries.extend_from_slice(new);
+    }
     if staying < FEW {
         return put_each(entries, new, staying);
-    }
-    if go_behind(entries, new) {
-        return entries.extend_from_slice(new);
     }
     let alloc = *entries.allocator();
     *entries = merged(alloc, entries, new)?;
