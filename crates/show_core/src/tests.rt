@@ -390,7 +390,7 @@ fn sizes(show: &Show) -> (Counts, Option<usize>, Option<usize>, Option<usize>) {
     (show.counts(), cue, sub, group)
 }
 
-// `rt try --test --fail-alloc N` refuses the Nth growth: N from 1 to 22 refuses each growth of this
+// `rt try --test --fail-alloc N` refuses the Nth growth: N from 1 on refuses each growth of this
 // test in turn, and it passes each time. The other tests then answer their error.
 #[test]
 fn each_growth_refused(rt: HostRuntime) {
