@@ -48,8 +48,8 @@ impl Course {
     {
         let at_once = Rate { time: 0, delay: 0 };
         Ok(Course {
-            // The levels first: a processor mistakes a read for one of what was just written where
-            // their addresses differ by so many 4096ths, and so it must not be a little ahead.
+            // The levels first, so that a walk never reads a little ahead of what it writes, modulo
+            // 4096: there a processor takes the read for one of what was written, and waits.
             levels: vec![in alloc; 0; usize::from(channel_count)]?,
             from: vec![in alloc; 0; usize::from(channel_count)]?,
             to: vec![in alloc; 0; usize::from(channel_count)]?,
