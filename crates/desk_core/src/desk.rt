@@ -19,7 +19,7 @@ ghost use Rattle.desk_core.specs.Stands.{StandsFor, keeps_floors};
 
 use crate::answer::{Refused, Ticked};
 use crate::command::Command;
-use crate::frames::{dark_frames, darken, draw_merged, has_floors, merge_some};
+use crate::frames::{dark_frames, darken, draw_merged, has_floors, redraw_merged};
 use arrayvec::ArrayVec;
 use fade_core::Fader;
 use master_core::Masters;
@@ -323,10 +323,17 @@ impl<F: Fader> Desk<F> {
             StandsFor F.stands_for show base self.new (act ∷ history) }
     {
         self.playback.advance(&self.show, moment);
-        merge_some(&mut self.levels, channels, &self.playback, &self.floors);
         let grand = self.masters.grand();
-        self.rig
-            .redraw(&mut self.frames, channels, &self.levels, grand);
+        redraw_merged(
+            &mut self.frames,
+            &mut self.levels,
+            &self.rig,
+            channels,
+            &self.playback,
+            &self.floors,
+            self.has_floors,
+            grand,
+        );
         self.last_moment = moment;
         self.last_tick = Some(moment);
     }

@@ -1,5 +1,5 @@
 ghost use Rattle.std.specs.Prelude.{◌≡◌, ◌<◌, ◌≤◌, ℕ, Bool, List, Some, All, EachIndex};
-ghost use Rattle.std.specs.Prelude.{IsTrue, IsFalse, IfOk};
+ghost use Rattle.std.specs.Prelude.{IsTrue, IsFalse, IfOk, Contains};
 ghost use Rattle.std.specs.Prelude.{length, max, replicate, slice_get, slice_index};
 ghost use Rattle.std.specs.FinMap as maps;
 ghost use Rattle.show_core.specs.Numbers.{is_channel};
@@ -124,8 +124,47 @@ fn merge_each<F: Fader>(levels: &mut [u16], playback: &Playback<F>, floors: &[u1
     }
 }
 
+// Draws these channels anew, at levels that are each the higher of the channel's floor and of the
+// playback's level at the latest moment that the playback was given.
+pub fn redraw_merged<F: Fader>(
+    frames: &mut [[u8; 512]],
+    levels: &mut [u16],
+    rig: &Rig,
+    channels: &[u16],
+    playback: &Playback<F>,
+    floors: &[u16],
+    has_floors: bool,
+    grand: u8,
+)
+    requires each_ordinal { length frames.old ≡ 16 }
+    requires levels { length levels.old ≡ 4096 }
+    requires levels_full { All (λ level. level ≤ 65025) levels.old }
+    requires in_range { All (λ channel. IsTrue (is_channel channel)) channels.now }
+    requires floors { length floors.now ≡ 4096 }
+    requires full { All (λ floor. floor ≤ 65025) floors.now }
+    requires no_floors { IsFalse has_floors → All (λ floor. floor ≡ 0) floors.now }
+    ensures drawn { (show : Tables) (moves : List Move) (stopped : Bool) (before after : ℕ → ℕ)
+        → AreDrawn rig.now.patch before grand frames.old
+        → ((channel : ℕ) → IsTrue (is_channel channel) → ¬ Contains channels.now channel
+        → before channel ≡ after channel)
+        → playback_stands.StandsFor F.stands_for show playback.now moves stopped
+        → All (λ channel.
+        max (playback_level show moves channel (F.latest playback.now.fader))
+        (level_in floors.now channel) ≡ after channel) channels.now
+        → AreDrawn rig.now.patch after grand frames.new }
+    ensures full { All (λ level. level ≤ 65025) levels.new }
+{
+    match playback.levels() {
+        Some(playing) if !has_floors => rig.redraw(frames, channels, playing, grand),
+        _ => {
+            merge_some(levels, channels, playback, floors);
+            rig.redraw(frames, channels, levels, grand);
+        }
+    }
+}
+
 // Writes the levels of these channels, at the latest moment that the playback was given.
-pub fn merge_some<F: Fader>(
+fn merge_some<F: Fader>(
     levels: &mut [u16],
     channels: &[u16],
     playback: &Playback<F>,

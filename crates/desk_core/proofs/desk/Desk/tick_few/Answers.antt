@@ -1,6 +1,6 @@
 use Rattle.std.proofs.Common.{◌≡◌, ℕ, ◌≤◌, List, None, Some, Bool, false, is_some, IsFalse, refl}
 use Rattle.std.proofs.Common.{sym, subst, ap, ◌∙◌, IsTrue, length, get_or, arith}
-use Rattle.std.specs.Prelude.{All, Contains}
+use Rattle.std.specs.Prelude.{All, Contains, max}
 use Rattle.std.specs.Vec.{with_items}
 use Rattle.std.proofs.lemmas.List.{with_items_is}
 use Rattle.show_core.specs.Numbers.{is_channel}
@@ -36,21 +36,13 @@ returns g c = rw (← c.self.view_is) (λ show base history stands.
     c.grand-grand.ensures (settings history) stands.masters_stand in
     let before : ℕ → ℕ = channel_level show history inside.last_moment in
     let after : ℕ → ℕ = channel_level show history c.args.moment in
-    let levels : List ℕ = c.deref-2.result.now in
-    let written : levels ≡ c.merge_some.new.levels = c.deref-2.ensures.value
-    ∙ with_items_is inside.levels c.merge_some.new.levels (omega (
-      arith,
-      c.merge_some.auto.levels,
-      c.deref_mut.ensures.len,
-      inside.levels.ok.0,
-    )) in
-    let listed : All (λ channel. level_in levels channel ≡ after channel) c.args.channels.now =
+    let listed : All (λ channel.
+    max (playback_level show now channel (g.F.Fader.latest c.advance.new.self.fader))
+    (level_in c.deref.result.now channel) ≡ after channel) c.args.channels.now =
     λ k d lt.
     let channel : ℕ = get_or c.args.channels.now k d in
     merged_level show history now c.deref.result.now channel c.args.moment (g.F.Fader.latest
-    c.advance.new.self.fader) (level_in levels channel)
-    (ap (λ ls. level_in ls channel) written ∙ c.merge_some.ensures.merged show now false moved k d
-    lt) c.advance.ensures.latest
+    c.advance.new.self.fader) _ refl c.advance.ensures.latest
     (ap (λ fs. level_in fs channel) c.deref.ensures.value
     ∙ stands.floors_are (subst (λ d. IsTrue d.are_floors) (sym c.self.view_is)
     c.requires.floors) channel (c.requires.in_range k d lt)) in
@@ -88,19 +80,20 @@ returns g c = rw (← c.self.view_is) (λ show base history stands.
     (playback_level show ms channel c.args.moment)) (sym same_now) in
     let patch_is : inside.rig.patch ≡ show.patch = c.self.invariant.patch_is
     ∙ ap (λ s. s.patch) stands.show_is in
-    let old : AreDrawn inside.rig.patch before grand c.deref_mut-2.result.now =
+    let old : AreDrawn inside.rig.patch before grand c.deref_mut.result.now =
     drawn_same show.patch inside.rig.patch before (grand_after (settings history)) grand
-    inside.frames.items c.deref_mut-2.result.now (sym patch_is) (sym grand_is)
-    (sym c.deref_mut-2.ensures.value)
+    inside.frames.items c.deref_mut.result.now (sym patch_is) (sym grand_is)
+    (sym c.deref_mut.ensures.value)
     (stands.kept (subst (λ d. IsTrue d.is_kept) (sym c.self.view_is) c.requires.kept)) in
-    let size : length c.redraw.new.frames ≡ inside.frames.len =
-    omega (arith, c.redraw.auto.frames, c.deref_mut-2.ensures.len, inside.frames.ok.0) in
+    let size : length c.redraw_merged.new.frames ≡ inside.frames.len =
+    omega (arith, c.redraw_merged.auto.frames, c.deref_mut.ensures.len, inside.frames.ok.0) in
     let drawn : AreDrawn show.patch after (grand_after (settings history))
-    (with_items inside.frames c.redraw.new.frames).items =
+    (with_items inside.frames c.redraw_merged.new.frames).items =
     drawn_same inside.rig.patch show.patch after grand (grand_after (settings history))
-    c.redraw.new.frames (with_items inside.frames c.redraw.new.frames).items patch_is grand_is
-    (sym (with_items_is inside.frames c.redraw.new.frames size))
-    (c.redraw.ensures before after old agree listed) in
+    c.redraw_merged.new.frames (with_items inside.frames c.redraw_merged.new.frames).items patch_is
+    grand_is
+    (sym (with_items_is inside.frames c.redraw_merged.new.frames size))
+    (c.redraw_merged.ensures.drawn show now false before after old agree moved listed) in
     record {
       show_is = stands.show_is;
       base_is = stands.base_is;
@@ -114,6 +107,6 @@ returns g c = rw (← c.self.view_is) (λ show base history stands.
       floors_are = stands.floors_are;
       kept = λ kept. subst
           (λ level. AreDrawn show.patch level (grand_after (settings history))
-          (with_items inside.frames c.redraw.new.frames).items)
+          (with_items inside.frames c.redraw_merged.new.frames).items)
           (sym (channel_level-tick show history c.args.moment none)) drawn;
     })
