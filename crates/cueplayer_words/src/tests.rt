@@ -1,4 +1,4 @@
-use crate::{Job, WordsFault, read_words};
+use crate::{Job, Name, WordsFault, read_words};
 use clap::error::ErrorKind;
 use std::alloc::Global;
 use std::test::Fail;
@@ -50,7 +50,7 @@ fn reads_only(alloc: Global, line: &str, name: &str) -> bool {
 // The cue and the CID of a look at the show of standard input.
 fn looked(alloc: Global, line: &str) -> Option<(u32, [u8; 16])> {
     match read(alloc, line) {
-        Ok(Job::Look { show, cue, cid }) if show.as_str() == "-" => Some((cue, cid)),
+        Ok(Job::Look { show, cue, cid }) => (show.as_str() == "-").then_some((cue, cid)),
         _ => None,
     }
 }
@@ -58,7 +58,7 @@ fn looked(alloc: Global, line: &str) -> Option<(u32, [u8; 16])> {
 // The cue and the base.
 fn slotted(alloc: Global, line: &str) -> Option<(u32, u16)> {
     match read(alloc, line) {
-        Ok(Job::Slots { show, cue, base }) if show.as_str() == "a.asc" => Some((cue, base)),
+        Ok(Job::Slots { show, cue, base }) => (show.as_str() == "a.asc").then_some((cue, base)),
         _ => None,
     }
 }
@@ -88,12 +88,15 @@ fn played(alloc: Global, line: &str) -> Option<(([u8; 4], u16), u8, u16)> {
                 priority,
                 base,
             },
-        ) if show.as_str() == "a.asc" && cid == CID => Some((to, priority, base)),
+        ) => {
+            let is_wanted = show.as_str() == "a.asc" && cid == CID;
+            is_wanted.then_some((to, priority, base))
+        }
         _ => None,
     }
 }
 
-// The same of a live night, and whether the record has this name; none where none is named.
+// The same of a live night whose record has this name, or none.
 fn lived(alloc: Global, line: &str, name: Option<&str>) -> Option<(([u8; 4], u16), u8, u16)> {
     match read(alloc, line) {
         Ok(
@@ -105,11 +108,11 @@ fn lived(alloc: Global, line: &str, name: Option<&str>) -> Option<(([u8; 4], u16
                 base,
                 record_file,
             },
-        ) if show.as_str() == "a.asc" && cid == CID => match (record_file, name) {
-            (Some(file), Some(name)) if file.as_str() == name => Some((to, priority, base)),
-            (None, None) => Some((to, priority, base)),
-            _ => None,
-        },
+        ) => {
+            let is_wanted = show.as_str() == "a.asc" && cid == CID;
+            let is_named = record_file.as_ref().map(Name::as_str) == name;
+            (is_wanted && is_named).then_some((to, priority, base))
+        }
         _ => None,
     }
 }
