@@ -70,15 +70,15 @@ fn keep(rows: &mut Vec<Row>, universe: u16, bytes: &[u8]) -> Result<(), AllocErr
     ensures { OnOk result (rows.new.items ≡ rows.old.items
         ++ record { universe = universe; bytes = bytes.now } ∷ []) }
 {
-    let mut packet = [0; 638];
-    if bytes.len() != packet.len() {
+    let mut row = Row {
+        universe,
+        bytes: [0; 638],
+    };
+    if bytes.len() != row.bytes.len() {
         return Err(AllocError);
     }
-    packet.copy_from_slice(bytes);
-    rows.push(Row {
-        universe,
-        bytes: packet,
-    })?;
+    row.bytes.copy_from_slice(bytes);
+    rows.push(row)?;
     Ok(())
 }
 

@@ -22,15 +22,15 @@ pub(crate) fn keep_all(
         ≡ gone_of shelves.old.items u) }
 {
     for i in 0..rows.len() {
-        keep(alloc, shelves, rows[i])?;
+        keep(alloc, shelves, &rows[i])?;
     }
     Ok(())
 }
 
 // Puts a packet on the shelf of its universe.
-fn keep(alloc: Global, shelves: &mut Vec<Shelf>, row: Row) -> Result<(), AllocError>
+fn keep(alloc: Global, shelves: &mut Vec<Shelf>, row: &Row) -> Result<(), AllocError>
     ensures kept { OnOk result ((u : ℕ) → kept_of shelves.new.items u
-        ≡ (if row.universe == u then kept_of shelves.old.items u ++ row.bytes ∷ []
+        ≡ (if row.now.universe == u then kept_of shelves.old.items u ++ row.now.bytes ∷ []
         else kept_of shelves.old.items u)) }
     ensures gone { OnOk result ((u : ℕ) → gone_of shelves.new.items u
         ≡ gone_of shelves.old.items u) }
