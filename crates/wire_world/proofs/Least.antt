@@ -7,7 +7,7 @@ use Rattle.std.proofs.Math.ListN.{length-set}
 use Rattle.wire_laws.specs.declared.event.Event.{Event}
 use Rattle.wire_laws.specs.declared.event.What.{What}
 use Rattle.wire_laws.specs.declared.event.What.TheVariants.{Order, Tick, Deliver, Stray, Show}
-use Rattle.wire_world.specs.Wanted.{Spares, row_of}
+use Rattle.wire_world.specs.Wanted.{IsUpTo, Spares, row_of}
 
 -- a delivery is of no packet before the least of its row
 abbrev pub IsLeast : List ℕ → What → Type 0
@@ -154,3 +154,29 @@ lows_more events lows least n r c u k y e at is within inside less low all = rec
         subst (λ (x : ℕ). Spares d.what x f.what)
         (sym (index_past lows n i (slice_index least (row_of c u)) past))
         (all.lows_are i j d f (omega (arith, past)) m a b)
+
+-- ---- the last packet of all
+
+-- of the events before event n
+abbrev pub AreUpToBefore : List Event → ℕ → ℕ → Type 0
+AreUpToBefore events last n = (j : ℕ) (e : Event) → j < n → slice_get events j ≡ Some e
+    → IsUpTo last e.what
+
+pub up_to_more : (last new : ℕ) → last ≤ new → (what : What) → IsUpTo last what → IsUpTo new what
+up_to_more last new l (Order i x) h = tt
+up_to_more last new l (Tick i) h = tt
+up_to_more last new l (Stray r from to) h = tt
+up_to_more last new l (Show r) h = tt
+up_to_more last new l (Deliver r i u k) h = omega (arith, l, h)
+
+-- one event more
+pub up_to_next : (events : List Event) (last new n : ℕ) (e : Event) → slice_get events n ≡ Some e
+    → last ≤ new → IsUpTo new e.what → AreUpToBefore events last n
+    → AreUpToBefore events new (n + 1)
+up_to_next events last new n e at l first all j f m g = here (cases_eq n j)
+  where
+    here : (n ≡ j) ⊎ (n ≡ j → ⊥) → IsUpTo new f.what
+    here (inl q) =
+        let h : Some e ≡ Some f = sym at ∙ ap (slice_get events) q ∙ g in
+        let same : e ≡ f = cc in subst (λ (x : Event). IsUpTo new x.what) same first
+    here (inr q) = up_to_more last new l f.what (all j f (omega (arith, m, q)) g)

@@ -2,7 +2,8 @@
 use Rattle.std.proofs.Common.{◌≡◌, ℕ, zero, suc, ◌+◌, ◌-◌, ◌%◌, ◌<◌, ◌≤◌, Bool, true, false, refl}
 use Rattle.std.proofs.Common.{ap, sym}
 use Rattle.std.proofs.Common.{subst, ◌∙◌, List, [], ◌∷◌, ◌++◌, length, map, Option}
-use Rattle.std.proofs.Common.{Some, None}
+use Rattle.std.proofs.Common.{Some, None, take}
+use Rattle.std.proofs.lemmas.List.{take_all}
 use Rattle.std.proofs.Common.{arith, append-nil, add-one}
 use Rattle.std.specs.Prelude.{slice_get, if◌then◌else◌, nat_eq, unwrap_or, get_or, ◌≢◌}
 use Rattle.std.specs.Prelude.{◌||◌}
@@ -36,7 +37,7 @@ use Rattle.wire_laws.proofs.Wire.{bytes_are}
 use Rattle.wire_world.specs.declared.row.Row.{Row}
 use Rattle.wire_world.specs.Sends.{send_of, sent_to, numbered}
 use Rattle.wire_world.specs.Shelves.{IsRest}
-use Rattle.wire_world.proofs.Rests.{none_gone, rest_at, rest_more}
+use Rattle.wire_world.proofs.Rests.{get_taken, none_gone, rest_at}
 use Rattle.wire_world.proofs.Sources.{source_of}
 use Rattle.wire_world.proofs.Stages.{neq_false}
 
@@ -330,18 +331,15 @@ sent_ticked p h m sends pairs o u =
     (AllPairs-from_increasing (universes_of p) (numbers_rise p.show.patch p.base))
     ∙ due_added p h m u
 
--- so with it behind, what is kept of a universe is the rest of its longer stream
-pub kept_ticked : (p : Production) (h : List Act) (m : ℕ) (sends : List Send)
-    (pairs : List (ℕ × Offered)) → Offers p.source (dues_at p h m) pairs [] sends → (u gone : ℕ)
-    (kept : List (List ℕ)) → IsRest gone kept (numbered p.source u 0 (packets_of p h u))
-    → IsRest gone (kept ++ sent_to u sends)
-    (numbered p.source u 0 (packets_of p (tick_at m ∷ h) u))
-kept_ticked p h m sends pairs o u gone kept rest =
-    subst (IsRest gone (kept ++ sent_to u sends))
-    (ap (λ l. numbered p.source u 0 (packets_of p h u) ++ l) (sent_ticked p h m sends pairs o u)
+-- so with it behind, the packets of a universe are its longer stream
+pub stream_ticked : (p : Production) (h : List Act) (m : ℕ) (sends : List Send)
+    (pairs : List (ℕ × Offered)) → Offers p.source (dues_at p h m) pairs [] sends → (u : ℕ)
+    → numbered p.source u 0 (packets_of p h u) ++ sent_to u sends
+    ≡ numbered p.source u 0 (packets_of p (tick_at m ∷ h) u)
+stream_ticked p h m sends pairs o u =
+    ap (λ l. numbered p.source u 0 (packets_of p h u) ++ l) (sent_ticked p h m sends pairs o u)
     ∙ sym (numbered_more p.source u 0 (packets_of p h u) (added p h m u))
-    ∙ ap (numbered p.source u 0) (sym (sent_added p h m u)))
-    (rest_more gone kept (numbered p.source u 0 (packets_of p h u)) (sent_to u sends) rest)
+    ∙ ap (numbered p.source u 0) (sym (sent_added p h m u))
 
 -- and its answers are the numbers of what is due
 pub answers_ticked : (p : Production) (h : List Act) (m : ℕ) (rows : List Row)
@@ -359,26 +357,27 @@ first_packets p u = go (plays p u)
     go true = refl
     go false = refl
 
-pub first_rest : (p : Production) (u : ℕ)
-    → IsRest 0 [] (numbered p.source u 0 (packets_of p [] u))
-first_rest p u = record {
-  before = [];
-  parts = ap (numbered p.source u 0) (first_packets p u);
-  count = refl;
-}
+none_at_first : (p : Production) (u n : ℕ)
+    → take n (numbered p.source u 0 (packets_of p [] u)) ≡ []
+none_at_first p u n =
+    ap (λ ps. take n (numbered p.source u 0 ps)) (first_packets p u) ∙ take_all n [] (omega arith)
 
-pub first_gone : (p : Production) (u gone : ℕ) (kept : List (List ℕ))
-    → IsRest gone kept (numbered p.source u 0 (packets_of p [] u)) → gone ≡ 0
-first_gone p u gone kept rest =
-    none_gone gone kept
-    (subst (IsRest gone kept) (ap (numbered p.source u 0) (first_packets p u)) rest)
+pub first_rest : (p : Production) (u n : ℕ)
+    → IsRest 0 [] (take n (numbered p.source u 0 (packets_of p [] u)))
+first_rest p u n = record { before = []; parts = none_at_first p u n; count = refl }
+
+pub first_gone : (p : Production) (u n gone : ℕ) (kept : List (List ℕ))
+    → IsRest gone kept (take n (numbered p.source u 0 (packets_of p [] u))) → gone ≡ 0
+first_gone p u n gone kept rest =
+    none_gone gone kept (subst (IsRest gone kept) (none_at_first p u n) rest)
 
 -- packet k is that of the stream
-pub datagram_is : (p : Production) (h : List Act) (u k gone : ℕ) (kept : List (List ℕ))
-    → IsRest gone kept (numbered p.source u 0 (packets_of p h u)) → gone ≤ k
-    → slice_get kept (k - gone) ≡ bytes_of p h u k
-datagram_is p h u k gone kept rest l =
-    rest_at gone kept (numbered p.source u 0 (packets_of p h u)) k rest l
+pub datagram_is : (p : Production) (h : List Act) (u k last gone : ℕ) (kept : List (List ℕ))
+    → IsRest gone kept (take (last + 1) (numbered p.source u 0 (packets_of p h u))) → gone ≤ k
+    → k ≤ last → slice_get kept (k - gone) ≡ bytes_of p h u k
+datagram_is p h u k last gone kept rest l m =
+    rest_at gone kept (take (last + 1) (numbered p.source u 0 (packets_of p h u))) k rest l
+    ∙ get_taken (numbered p.source u 0 (packets_of p h u)) (last + 1) k (omega (arith, m))
     ∙ numbered_at p.source u 0 (packets_of p h u) k
     ∙ (let z : 0 + k ≡ k = omega arith in
     ap (λ n. option_map (packet_bytes p.source u n) (slice_get (packets_of p h u) k)) z)

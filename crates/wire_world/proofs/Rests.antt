@@ -1,10 +1,10 @@
 -- All packets but the first ones.
 use Rattle.std.proofs.Common.{◌≡◌, ℕ, zero, suc, ◌+◌, ◌-◌, ◌≤◌, ap, sym, ◌∙◌, refl}
-use Rattle.std.proofs.Common.{List, [], ◌∷◌, ◌++◌, length, length-append, arith}
-use Rattle.std.proofs.Common.{subst, true, Option, Some, None}
+use Rattle.std.proofs.Common.{List, [], ◌∷◌, ◌++◌, length, length-append, arith, take}
+use Rattle.std.proofs.Common.{◌<◌, subst, true, Option, Some, None}
 use Rattle.std.specs.Prelude.{slice_get, is_some}
 use Rattle.std.specs.Option.{option_to_list}
-use Rattle.std.proofs.lemmas.List.{append_assoc}
+use Rattle.std.proofs.lemmas.List.{append_assoc, length-take, take-append-le, take_all}
 use Rattle.wire_world.specs.Shelves.{IsRest}
 
 -- with more behind
@@ -15,6 +15,49 @@ rest_more gone kept all more r = record {
   parts = ap (λ l. l ++ more) r.parts ∙ append_assoc r.before kept more;
   count = r.count;
 }
+
+-- so many as are kept and gone
+rest_length : (gone : ℕ) (kept all : List (List ℕ)) → IsRest gone kept all
+    → length all ≡ gone + length kept
+rest_length gone kept all r =
+    ap length r.parts ∙ length-append r.before kept ∙ ap (λ n. n + length kept) r.count
+
+-- with one more behind, which is not behind the last
+pub rest_kept : (last gone : ℕ) (kept all : List (List ℕ)) (packet : List ℕ)
+    → gone + length kept ≤ last → IsRest gone kept (take (last + 1) all)
+    → IsRest gone (kept ++ packet ∷ []) (take (last + 1) (all ++ packet ∷ []))
+rest_kept last gone kept all packet l r =
+    let whole : take (last + 1) all ≡ all =
+    take_all (last + 1) all (omega (
+      arith,
+      length-take (last + 1) all,
+      rest_length gone kept _ r,
+      l,
+    )) in
+    rw (take_all (last + 1) (all ++ packet ∷ [])
+    (omega (
+      arith,
+      length-append all (packet ∷ []),
+      length-take (last + 1) all,
+      rest_length gone kept _ r,
+      l,
+    )))
+    (rest_more gone kept all (packet ∷ []) (subst (IsRest gone kept) whole r))
+
+-- or which is behind it
+pub rest_passed : (last gone : ℕ) (kept all : List (List ℕ)) (packet : List ℕ)
+    → last < gone + length kept → IsRest gone kept (take (last + 1) all)
+    → IsRest gone kept (take (last + 1) (all ++ packet ∷ []))
+rest_passed last gone kept all packet l r =
+    rw (take-append-le (last + 1) all (packet ∷ [])
+    (omega (arith, length-take (last + 1) all, rest_length gone kept _ r, l)))
+    r
+
+-- the first of all
+pub rest_first : (last : ℕ) (all : List (List ℕ)) (packet : List ℕ)
+    → IsRest 0 [] (take (last + 1) all)
+    → IsRest 0 (packet ∷ []) (take (last + 1) (all ++ packet ∷ []))
+rest_first last all packet r = rest_kept last 0 [] all packet (omega arith) r
 
 -- with its first one gone
 pub rest_less : (gone : ℕ) (packet : List ℕ) (kept all : List (List ℕ))
@@ -47,6 +90,14 @@ rest_at gone kept all k r l =
     ap (λ n. slice_get kept (k - n)) (sym r.count)
     ∙ behind r.before kept k (omega (arith, l, r.count))
     ∙ ap (λ xs. slice_get xs k) (sym r.parts)
+
+-- and where it is among the first of all
+pub get_taken : {A : Type 0} (xs : List A) (n k : ℕ) → k < n
+    → slice_get (take n xs) k ≡ slice_get xs k
+get_taken xs zero k l = absurd (omega (arith, l))
+get_taken [] (suc n) k l = refl
+get_taken (x ∷ xs) (suc n) zero l = refl
+get_taken (x ∷ xs) (suc n) (suc k) l = get_taken xs n k (omega (arith, l))
 
 -- none is gone where there are none
 pub none_gone : (gone : ℕ) (kept : List (List ℕ)) → IsRest gone kept [] → gone ≡ 0

@@ -19,6 +19,7 @@ use Rattle.wire_world.specs.declared.shelf.Shelf.{Shelf}
 use Rattle.wire_world.specs.Sends.{send_of, sent_to}
 use Rattle.wire_world.specs.Shelves.{IsRest, gone_of, kept_of}
 use Rattle.wire_world.proofs.Linked.{sent_more}
+use Rattle.wire_world.proofs.Rests.{rest_first}
 
 -- ---- the shelf of a universe
 
@@ -146,26 +147,6 @@ module _ (shelves : List Shelf) (u : ℕ) (new : Shelf)
 
 -- ---- a packet more
 
--- on the shelf of its universe
-pub kept_more : (shelves : List Shelf) (u i : ℕ) (was d new : Shelf) (bytes : List ℕ)
-    → position (λ (s : Shelf). s.universe == u) shelves ≡ Some i → was ≡ get_or shelves i d
-    → new.universe ≡ was.universe → new.packets.items ≡ was.packets.items ++ bytes ∷ []
-    → (v : ℕ)
-    → kept_of (slice_set shelves i new) v
-    ≡ (if nat_eq u v then kept_of shelves v ++ bytes ∷ [] else kept_of shelves v)
-kept_more shelves u i was d new bytes found is name more v =
-    content shelves u i was d found is (λ (s : Shelf). s.packets.items) [] new v name
-    ∙ go (nat_eq u v) refl
-  where
-    go : (b : Bool) → nat_eq u v ≡ b
-        → (if b then new.packets.items else kept_of shelves v)
-        ≡ (if b then kept_of shelves v ++ bytes ∷ [] else kept_of shelves v)
-    go true q =
-        more
-        ∙ ap (λ l. l ++ bytes ∷ [])
-        (sym (had shelves u i was d found is (λ (s : Shelf). s.packets.items) [] v q))
-    go false q = refl
-
 -- as many are gone as were
 pub gone_same : (shelves : List Shelf) (u i : ℕ) (was d new : Shelf)
     → position (λ (s : Shelf). s.universe == u) shelves ≡ Some i → was ≡ get_or shelves i d
@@ -182,46 +163,53 @@ gone_same shelves u i was d new found is name same v =
     go false q = refl
 
 -- on a new shelf
-pub kept_first : (shelves : List Shelf) (u : ℕ) (new : Shelf) (bytes : List ℕ)
-    → position (λ (s : Shelf). s.universe == u) shelves ≡ None → new.universe ≡ u
-    → new.packets.items ≡ bytes ∷ []
-    → (v : ℕ)
-    → kept_of (shelves ++ new ∷ []) v
-    ≡ (if nat_eq u v then kept_of shelves v ++ bytes ∷ [] else kept_of shelves v)
-kept_first shelves u new bytes missed name one v =
-    added shelves u new missed name (λ (s : Shelf). s.packets.items) [] v ∙ go (nat_eq u v) refl
-  where
-    go : (b : Bool) → nat_eq u v ≡ b
-        → (if b then new.packets.items else kept_of shelves v)
-        ≡ (if b then kept_of shelves v ++ bytes ∷ [] else kept_of shelves v)
-    go true q =
-        one
-        ∙ ap (λ l. l ++ bytes ∷ [])
-        (sym (none_had shelves u new missed name (λ (s : Shelf). s.packets.items) [] v q))
-    go false q = refl
+module _ (shelves : List Shelf) (u : ℕ) (new : Shelf)
+    (missed : position (λ (s : Shelf). s.universe == u) shelves ≡ None)
+    (name : new.universe ≡ u) (none : new.gone ≡ 0) where
+  pub gone_none : (v : ℕ) → gone_of (shelves ++ new ∷ []) v ≡ gone_of shelves v
+  gone_none v =
+      added shelves u new missed name (λ (s : Shelf). s.gone) 0 v ∙ go (nat_eq u v) refl
+    where
+      go : (b : Bool) → nat_eq u v ≡ b
+          → (if b then new.gone else gone_of shelves v) ≡ gone_of shelves v
+      go true q =
+          none ∙ sym (none_had shelves u new missed name (λ (s : Shelf). s.gone) 0 v q)
+      go false q = refl
 
-pub gone_none : (shelves : List Shelf) (u : ℕ) (new : Shelf)
-    → position (λ (s : Shelf). s.universe == u) shelves ≡ None → new.universe ≡ u
-    → new.gone ≡ 0 → (v : ℕ) → gone_of (shelves ++ new ∷ []) v ≡ gone_of shelves v
-gone_none shelves u new missed name zero_gone v =
-    added shelves u new missed name (λ (s : Shelf). s.gone) 0 v ∙ go (nat_eq u v) refl
-  where
-    go : (b : Bool) → nat_eq u v ≡ b
-        → (if b then new.gone else gone_of shelves v) ≡ gone_of shelves v
-    go true q =
-        zero_gone ∙ sym (none_had shelves u new missed name (λ (s : Shelf). s.gone) 0 v q)
-    go false q = refl
+  pub kept_first : (last : ℕ) (bytes : List ℕ) → new.packets.items ≡ bytes ∷ []
+      → (v : ℕ) (all : List (List ℕ))
+      → IsRest (gone_of shelves v) (kept_of shelves v) (take (last + 1) all)
+      → IsRest (gone_of (shelves ++ new ∷ []) v) (kept_of (shelves ++ new ∷ []) v)
+      (take (last + 1) (if nat_eq u v then all ++ bytes ∷ [] else all))
+  kept_first last bytes one v all r =
+      rw (gone_none v, added shelves u new missed name (λ (s : Shelf). s.packets.items) [] v)
+      (go (nat_eq u v) refl)
+    where
+      go : (b : Bool) → nat_eq u v ≡ b
+          → IsRest (gone_of shelves v) (if b then new.packets.items else kept_of shelves v)
+          (take (last + 1) (if b then all ++ bytes ∷ [] else all))
+      go true q =
+          let no_gone = none_had shelves u new missed name (λ (s : Shelf). s.gone) 0 v q in
+          let no_kept = none_had shelves u new missed name (λ (s : Shelf). s.packets.items) [] v q
+          in
+          rw (no_gone, one)
+          (rest_first last all bytes
+          (subst (λ n. IsRest n [] (take (last + 1) all)) no_gone
+          (subst (λ xs. IsRest (gone_of shelves v) xs (take (last + 1) all)) no_kept r)))
+      go false q = r
 
 -- ---- packets that are let go
 
 module _ (shelves : List Shelf) (u i low : ℕ) (was d new : Shelf)
     (found : position (λ (s : Shelf). s.universe == u) shelves ≡ Some i)
     (is : was ≡ get_or shelves i d) (name : new.universe ≡ was.universe) where
-  pub rest_released : ((all : List (List ℕ)) → IsRest was.gone was.packets.items all
-      → IsRest new.gone new.packets.items all)
-      → (v : ℕ) (all : List (List ℕ)) → IsRest (gone_of shelves v) (kept_of shelves v) all
-      → IsRest (gone_of (slice_set shelves i new) v) (kept_of (slice_set shelves i new) v) all
-  rest_released rests v all r =
+  -- what its shelf keeps is the rest of others
+  pub rest_changed : (v : ℕ) (xs : List (List ℕ)) (ys : Bool → List (List ℕ)) → ys false ≡ xs
+      → (IsRest was.gone was.packets.items xs → IsRest new.gone new.packets.items (ys true))
+      → IsRest (gone_of shelves v) (kept_of shelves v) xs
+      → IsRest (gone_of (slice_set shelves i new) v) (kept_of (slice_set shelves i new) v)
+      (ys (nat_eq u v))
+  rest_changed v xs ys same rests r =
       rw (
         content shelves u i was d found is (λ (s : Shelf). s.gone) 0 new v name,
         content shelves u i was d found is (λ (s : Shelf). s.packets.items) [] new v name,
@@ -230,14 +218,14 @@ module _ (shelves : List Shelf) (u i low : ℕ) (was d new : Shelf)
     where
       go : (b : Bool) → nat_eq u v ≡ b
           → IsRest (if b then new.gone else gone_of shelves v)
-          (if b then new.packets.items else kept_of shelves v) all
+          (if b then new.packets.items else kept_of shelves v) (ys b)
       go true q =
-          rests all
-          (subst (λ n. IsRest n was.packets.items all)
+          rests
+          (subst (λ n. IsRest n was.packets.items xs)
           (had shelves u i was d found is (λ (s : Shelf). s.gone) 0 v q)
-          (subst (λ xs. IsRest (gone_of shelves v) xs all)
+          (subst (λ kept. IsRest (gone_of shelves v) kept xs)
           (had shelves u i was d found is (λ (s : Shelf). s.packets.items) [] v q) r))
-      go false q = r
+      go false q = rw same r
 
   pub gone_released : ((k : ℕ) → was.gone ≤ k → low ≤ k → new.gone ≤ k)
       → (v k : ℕ) → gone_of shelves v ≤ k → (u ≡ v → low ≤ k)
@@ -254,20 +242,23 @@ module _ (shelves : List Shelf) (u i low : ℕ) (was d new : Shelf)
       go false q = l
 
 -- one row more of those that are kept
-pub sent_row : (u : ℕ) (rows : List Row) (i : ℕ) (row : Row) → i < length rows
-    → row ≡ get_or rows i row → (kept : List (List ℕ))
-    → (if nat_eq row.universe u
-    then (kept ++ sent_to u (map send_of (take i rows))) ++ row.bytes ∷ []
+pub sent_row : (u : ℕ) (rows : List Row) (i : ℕ) (d : Row) → i < length rows
+    → (kept : List (List ℕ))
+    → (if nat_eq (get_or rows i d).universe u
+    then (kept ++ sent_to u (map send_of (take i rows))) ++ (get_or rows i d).bytes ∷ []
     else kept ++ sent_to u (map send_of (take i rows)))
     ≡ kept ++ sent_to u (map send_of (take (i + 1) rows))
-sent_row u rows i row l is kept =
+sent_row u rows i d l kept =
     go (nat_eq row.universe u) refl
     ∙ ap (λ xs. kept ++ xs)
     (sym (sent_more u (map send_of (take i rows)) (send_of row ∷ []))
     ∙ ap (sent_to u)
     (sym (map-append send_of (take i rows) (row ∷ []))
-    ∙ ap (map send_of) (ap (λ r. take i rows ++ r ∷ []) is ∙ sym (take_more rows i row l))))
+    ∙ ap (map send_of) (sym (take_more rows i d l))))
   where
+    row : Row
+    row = get_or rows i d
+
     go : (b : Bool) → nat_eq row.universe u ≡ b
         → (if b then (kept ++ sent_to u (map send_of (take i rows))) ++ row.bytes ∷ []
         else kept ++ sent_to u (map send_of (take i rows)))

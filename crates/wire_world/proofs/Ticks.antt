@@ -1,6 +1,6 @@
 -- A tick of a console with its link.
 use Rattle.std.proofs.Common.{◌≡◌, ℕ, refl, ap, sym, subst, ◌∙◌, false, List, [], ◌∷◌, ◌++◌, map}
-use Rattle.std.proofs.Common.{append-nil, Option, Some, None, Result, Ok, Err}
+use Rattle.std.proofs.Common.{append-nil, Option, Some, None, Result, Ok, Err, ◌+◌, take}
 use Rattle.std.specs.Prelude.{IfOk, OnErr, OnOk, MatchResult}
 use Rattle.fade_core.specs.Level.{Start}
 use Rattle.desk_core.specs.declared.answer.Refused.{Refused}
@@ -14,9 +14,9 @@ use Rattle.wire_world.specs.declared.stage.Stage.{Stage}
 use Rattle.wire_laws.specs.Replies.{due_answer}
 use Rattle.wire_world.specs.declared.row.Row.{Row}
 use Rattle.wire_world.specs.Sends.{Kept, send_of, sends_of, sent_to}
-use Rattle.wire_world.specs.Shelves.{gone_of, kept_of}
+use Rattle.wire_world.specs.Shelves.{IsRest, gone_of, kept_of}
 use Rattle.wire_world.specs.StageStands.{StageStands, Tells}
-use Rattle.wire_world.proofs.Linked.{answers_ticked, kept_ticked}
+use Rattle.wire_world.proofs.Linked.{answers_ticked, stream_ticked}
 
 -- the answer, from its parts
 pub answer_is : (r : Result (Ticked × List (ℕ × Offered)) Refused) (o : Option Refused)
@@ -38,10 +38,11 @@ module _ {F : Type 0} (sf : F → List Start → Type 0) (old new : Stage F) (m 
     (r : Result (Ticked × List (ℕ × Offered)) Refused) (empty sent : Kept)
     (is_empty : empty.rows ≡ []) (told : sent.full ≡ false → old.link.full ≡ false)
     (tells : new.link.full ≡ false → sent.full ≡ false)
-    (kept : new.link.full ≡ false → (u : ℕ) → kept_of new.shelves.items u
-    ≡ kept_of old.shelves.items u ++ sent_to u (sends_of sent))
-    (gone : new.link.full ≡ false → (u : ℕ) → gone_of new.shelves.items u
-    ≡ gone_of old.shelves.items u) where
+    (last : new.last ≡ old.last)
+    (rest : new.link.full ≡ false → (u : ℕ) (all : List (List ℕ))
+    → IsRest (gone_of old.shelves.items u) (kept_of old.shelves.items u) (take (old.last + 1) all)
+    → IsRest (gone_of new.shelves.items u) (kept_of new.shelves.items u)
+    (take (old.last + 1) (all ++ sent_to u (sends_of sent)))) where
   emptied : (p : Production) (h : List Act) (pairs : List (ℕ × Offered))
       → Offers p.source (dues_at p h m) pairs (sends_of empty) (sends_of sent)
       → Offers p.source (dues_at p h m) pairs [] (sends_of sent)
@@ -76,10 +77,12 @@ module _ {F : Type 0} (sf : F → List Start → Type 0) (old new : Stage F) (m 
           → StageStands sf new p (tick_at m ∷ h))
       go (Ok a) stands offered = λ p h s. record {
         console_stands = stands p h s.console_stands;
-        packets_kept = λ t u. rw (kept t u, gone t u)
-            (kept_ticked p h m (sends_of sent) a.1
-            (emptied p h a.1 (offered p h s.console_stands (tells t))) u _ _
-            (s.packets_kept (told (tells t)) u));
+        packets_kept = λ t u. rw (
+          last,
+          sym (stream_ticked p h m (sends_of sent) a.1
+              (emptied p h a.1 (offered p h s.console_stands (tells t))) u),
+        )
+            (rest t u _ (s.packets_kept (told (tells t)) u));
       }
       go (Err e) stands offered = tt
 
@@ -102,6 +105,8 @@ module _ {F : Type 0} (sf : F → List Start → Type 0) (old new : Stage F) (m 
       go (Ok a) same quiet = tt
       go (Err e) same quiet = λ p h s. record {
         console_stands = subst (λ c. StandsFor sf p c h) (sym same) s.console_stands;
-        packets_kept = λ t u. rw (kept t u, gone t u, nothing u (quiet (tells t)) _)
-            (s.packets_kept (told (tells t)) u);
+        packets_kept = λ t u. rw last
+            (subst (λ (xs : List (List ℕ)). IsRest (gone_of new.shelves.items u)
+            (kept_of new.shelves.items u) (take (old.last + 1) xs)) (nothing u (quiet (tells t)) _)
+            (rest t u _ (s.packets_kept (told (tells t)) u)));
       }

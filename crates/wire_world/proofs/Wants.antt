@@ -2,7 +2,9 @@
 use Rattle.std.proofs.Common.{◌≡◌, ◌⊎◌, ℕ, zero, suc, ◌+◌, ◌≤◌, refl, ap, sym, subst, ◌∙◌}
 use Rattle.std.proofs.Common.{List, [], ◌∷◌, set, Option, Some, None, inl, inr, arith}
 use Rattle.std.specs.Prelude.{slice_get, slice_index}
-use Rattle.std.specs.Option.{option_map_or}
+use Rattle.std.specs.Option.{option_map}
+use Rattle.std.specs.Prelude.{All, IfSome}
+use Rattle.std.proofs.lemmas.Option.{get_or_from_slice_get, slice_get_within}
 use Rattle.std.proofs.Math.ListN.{length-set}
 use Rattle.fade_core.specs.Level.{Start}
 use Rattle.console.specs.Streams.{Production}
@@ -19,54 +21,67 @@ use Rattle.wire_world.specs.Stands.{AllStand, AllTell, IsStep}
 use Rattle.wire_laws.specs.declared.reply.Reply.{Reply}
 use Rattle.wire_laws.specs.Replies.{done_one}
 use Rattle.sacn_receiver.specs.Kept.{Kept}
-use Rattle.wire_world.specs.Wanted.{AreLows, Holds, Spares, gone_at}
+use Rattle.wire_world.specs.Wanted.{AreLows, AreUpTo, Holds, IsUpTo, Spares, span_at}
 use Rattle.wire_world.proofs.Linked.{first_gone}
 use Rattle.wire_world.proofs.Stages.{get_set}
 
 -- a console whose packets are as they were
-pub gone_set : {F : Type 0} (stages : List (Stage F)) (i : ℕ) (was is : Stage F)
+pub spans_set : {F : Type 0} (stages : List (Stage F)) (i : ℕ) (was is : Stage F)
     → slice_get stages i ≡ Some was
     → ((u : ℕ) → gone_of is.shelves.items u ≡ gone_of was.shelves.items u)
-    → (j u : ℕ) → gone_at (set stages i is) j u ≡ gone_at stages j u
-gone_set [] i was is at same j u = cc
-gone_set (s ∷ stages) zero was is at same zero u =
-    let e : was ≡ s = cc in same u ∙ ap (λ s. gone_of s.shelves.items u) e
-gone_set (s ∷ stages) zero was is at same (suc j) u = refl
-gone_set (s ∷ stages) (suc i) was is at same zero u = refl
-gone_set (s ∷ stages) (suc i) was is at same (suc j) u = gone_set stages i was is at same j u
+    → is.last ≡ was.last → (j u : ℕ) → span_at (set stages i is) j u ≡ span_at stages j u
+spans_set [] i was is at same last j u = cc
+spans_set (s ∷ stages) zero was is at same last zero u =
+    let e : was ≡ s = cc in
+    rw (same u, last) (ap (λ s. Some (gone_of s.shelves.items u, s.last)) e)
+spans_set (s ∷ stages) zero was is at same last (suc j) u = refl
+spans_set (s ∷ stages) (suc i) was is at same last zero u = refl
+spans_set (s ∷ stages) (suc i) was is at same last (suc j) u =
+    spans_set stages i was is at same last j u
 
 -- one that lets some of them go
 gone_less : {F : Type 0} (stages : List (Stage F)) (i universe low : ℕ) (was is : Stage F)
     → slice_get stages i ≡ Some was
     → ((u k : ℕ) → gone_of was.shelves.items u ≤ k → (universe ≡ u → low ≤ k)
     → gone_of is.shelves.items u ≤ k)
-    → (j u k : ℕ) → gone_at stages j u ≤ k → (i ≡ j → universe ≡ u → low ≤ k)
-    → gone_at (set stages i is) j u ≤ k
-gone_less [] i universe low was is at less j u k l h = cc
-gone_less (s ∷ stages) zero universe low was is at less zero u k l h =
-    let e : s ≡ was = cc in
-    less u k (subst (λ s. gone_of s.shelves.items u ≤ k) e l) (h refl)
-gone_less (s ∷ stages) zero universe low was is at less (suc j) u k l h = l
-gone_less (s ∷ stages) (suc i) universe low was is at less zero u k l h = l
-gone_less (s ∷ stages) (suc i) universe low was is at less (suc j) u k l h =
-    gone_less stages i universe low was is at less j u k l (λ e. h (ap suc e))
+    → is.last ≡ was.last
+    → (r j u k : ℕ) → Holds stages (Deliver r j u k) → (i ≡ j → universe ≡ u → low ≤ k)
+    → Holds (set stages i is) (Deliver r j u k)
+gone_less [] i universe low was is at less last r j u k l h = cc
+gone_less (s ∷ stages) zero universe low was is at less last r zero u k l h =
+    let e : s ≡ was = cc in (
+      less u k (subst (λ s. gone_of s.shelves.items u ≤ k) e l.0) (h refl),
+      omega (arith, last, ap (λ s. s.last) e, l.1),
+    )
+gone_less (s ∷ stages) zero universe low was is at less last r (suc j) u k l h = l
+gone_less (s ∷ stages) (suc i) universe low was is at less last r zero u k l h = l
+gone_less (s ∷ stages) (suc i) universe low was is at less last r (suc j) u k l h =
+    gone_less stages i universe low was is at less last r j u k l (λ e. h (ap suc e))
 
 pub holds_less : {F : Type 0} (stages : List (Stage F)) (receiver i universe k low : ℕ)
     (was is : Stage F) → slice_get stages i ≡ Some was
     → ((u k : ℕ) → gone_of was.shelves.items u ≤ k → (universe ≡ u → low ≤ k)
     → gone_of is.shelves.items u ≤ k)
-    → (later : What) → Holds stages later → Spares (Deliver receiver i universe k) low later
+    → is.last ≡ was.last → (later : What) → Holds stages later → Spares (Deliver receiver i universe k) low later
     → Holds (set stages i is) later
-holds_less stages receiver i universe k low was is at less (Order j c) h s = tt
-holds_less stages receiver i universe k low was is at less (Tick j) h s = tt
-holds_less stages receiver i universe k low was is at less (Stray r from to) h s = tt
-holds_less stages receiver i universe k low was is at less (Show r) h s = tt
-holds_less stages receiver i universe k low was is at less (Deliver r j u n) h s =
-    gone_less stages i universe low was is at less j u n h s
+holds_less stages receiver i universe k low was is at less last (Order j c) h s = tt
+holds_less stages receiver i universe k low was is at less last (Tick j) h s = tt
+holds_less stages receiver i universe k low was is at less last (Stray r from to) h s = tt
+holds_less stages receiver i universe k low was is at less last (Show r) h s = tt
+holds_less stages receiver i universe k low was is at less last (Deliver r j u n) h s =
+    gone_less stages i universe low was is at less last r j u n h s
+
+-- the packet of an event is between those that are gone and the last
+pub kept_at : {F : Type 0} (stages : List (Stage F)) (i receiver universe k : ℕ) (s : Stage F)
+    → slice_get stages i ≡ Some s → Holds stages (Deliver receiver i universe k)
+    → (gone_of s.shelves.items universe ≤ k) × (k ≤ s.last)
+kept_at stages i receiver universe k s at h =
+    subst (λ o. IfSome {T = ℕ × ℕ} (option_map (λ s. (gone_of s.shelves.items universe, s.last)) o)
+    (λ span. (span.0 ≤ k) × (k ≤ span.1))) at h
 
 -- what stands where as many are gone
 pub holds_same : {F : Type 0} (old new : List (Stage F))
-    → ((i u : ℕ) → gone_at new i u ≡ gone_at old i u) → (what : What) → Holds old what
+    → ((i u : ℕ) → span_at new i u ≡ span_at old i u) → (what : What) → Holds old what
     → Holds new what
 holds_same old new same (Order j c) h = tt
 holds_same old new same (Tick j) h = tt
@@ -103,26 +118,41 @@ AllHold stages events i = (j : ℕ) (e : Event) → i ≤ j → slice_get events
 -- at the beginning none is gone
 pub hold_first : {F : Type 0} (sf : F → List Start → Type 0) (stages : List (Stage F)) (w : World)
     (events : List Event) → AllStand (StageStands sf) stages w [] → AllTell Tells stages
-    → AllHold stages events 0
-hold_first {F} sf stages w events all tell j e l g = go e.what
+    → All (λ stage. AreUpTo events stage.last) stages → AllHold stages events 0
+hold_first {F} sf stages w events all tell wanted j e l g =
+    go e.what (λ i s q. up_to i s q j e g)
   where
-    none : (i u : ℕ) (o : Option (Stage F)) → slice_get stages i ≡ o → gone_at stages i u ≡ 0
-    none i u None q = ap (λ o. option_map_or (λ s. gone_of s.shelves.items u) o 0) q
-    none i u (Some s) q =
-        ap (λ o. option_map_or (λ s. gone_of s.shelves.items u) o 0) q
-        ∙ first_gone (console_at w i) u _ _ ((all.stand i s q).packets_kept (tell i s q) u)
+    up_to : (i : ℕ) (s : Stage F) → slice_get stages i ≡ Some s → AreUpTo events s.last
+    up_to i s q =
+        subst (λ (s : Stage F). AreUpTo events s.last) (get_or_from_slice_get stages i s s q)
+        (wanted i s (slice_get_within stages i s q))
 
-    go : (what : What) → Holds stages what
-    go (Order i c) = tt
-    go (Tick i) = tt
-    go (Stray r from to) = tt
-    go (Show r) = tt
-    go (Deliver r i u n) = omega (arith, none i u (slice_get stages i) refl)
+    span : (u n : ℕ) (i : ℕ) (o : Option (Stage F)) → slice_get stages i ≡ o
+        → ((s : Stage F) → slice_get stages i ≡ Some s → n ≤ s.last)
+        → IfSome {T = ℕ × ℕ} (option_map (λ stage. (gone_of stage.shelves.items u, stage.last)) o)
+        (λ s. (s.0 ≤ n) × (n ≤ s.1))
+    span u n i None q up = tt
+    span u n i (Some s) q up = (
+      omega (
+        arith,
+        first_gone (console_at w i) u _ _ _
+            ((all.stand i s q).packets_kept (tell i s q) u),
+      ),
+      up s q,
+    )
+
+    go : (what : What) → ((i : ℕ) (s : Stage F) → slice_get stages i ≡ Some s
+        → IsUpTo s.last what) → Holds stages what
+    go (Order i c) up = tt
+    go (Tick i) up = tt
+    go (Stray r from to) up = tt
+    go (Show r) up = tt
+    go (Deliver r i u n) up = span u n i (slice_get stages i) refl (up i)
 
 -- one event later
 pub hold_next : {F : Type 0} (old stepped new : List (Stage F)) (events : List Event)
     (lows : List ℕ) (i : ℕ) (e : Event) → slice_get events i ≡ Some e → AreLows events lows
-    → ((i u : ℕ) → gone_at stepped i u ≡ gone_at old i u)
+    → ((i u : ℕ) → span_at stepped i u ≡ span_at old i u)
     → ((later : What) → Holds stepped later → Spares e.what (slice_index lows i) later
     → Holds new later)
     → AllHold old events i → AllHold new events (i + 1)

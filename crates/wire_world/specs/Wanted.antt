@@ -1,22 +1,33 @@
 -- Which packets the events to come want.
 -- Of use inside the crate: what its public calls answer is said without these.
 use Rattle.std.specs.Prelude.{◌≡◌, ℕ, ◌+◌, ◌*◌, ◌%◌, ◌<◌, ◌≤◌, List, Some, slice_get, slice_index}
-use Rattle.std.specs.Option.{option_map_or}
+use Rattle.std.specs.Prelude.{Option, IfSome}
+use Rattle.std.specs.Option.{option_map}
 use Rattle.wire_laws.specs.declared.event.Event.{Event}
 use Rattle.wire_laws.specs.declared.event.What.{What}
 use Rattle.wire_laws.specs.declared.event.What.TheVariants.{Deliver}
 use Rattle.wire_world.specs.declared.stage.Stage.{Stage}
 use Rattle.wire_world.specs.Shelves.{gone_of}
 
--- how many packets of a universe of a console are gone
-abbrev pub gone_at : {F : Type 0} → List (Stage F) → ℕ → ℕ → ℕ
-gone_at stages console universe =
-    option_map_or (λ stage. gone_of stage.shelves.items universe) (slice_get stages console) 0
+-- how many packets of a universe of a console are gone, and the last that would be kept
+abbrev pub span_at : {F : Type 0} → List (Stage F) → ℕ → ℕ → Option (ℕ × ℕ)
+span_at stages console universe = option_map
+    (λ stage. (gone_of stage.shelves.items universe, stage.last)) (slice_get stages console)
 
--- a packet that an event delivers is not gone
+-- a packet that an event delivers is not gone, and will be kept
 abbrev pub Holds : {F : Type 0} → List (Stage F) → What → Type 0
-Holds stages (Deliver receiver console universe k) = gone_at stages console universe ≤ k
+Holds stages (Deliver receiver console universe k) =
+    IfSome (span_at stages console universe) (λ span. (span.0 ≤ k) × (k ≤ span.1))
 Holds stages _ = Unit {0}
+
+-- an event delivers no packet behind packet `last`
+abbrev pub IsUpTo : ℕ → What → Type 0
+IsUpTo last (Deliver receiver console universe k) = k ≤ last
+IsUpTo last _ = Unit {0}
+
+-- none of them does
+abbrev pub AreUpTo : List Event → ℕ → Type 0
+AreUpTo events last = (i : ℕ) (e : Event) → slice_get events i ≡ Some e → IsUpTo last e.what
 
 -- the later of two deliveries of one universe is of no packet before packet `low`
 abbrev pub Spares : What → ℕ → What → Type 0

@@ -8,7 +8,7 @@ ghost use Rattle.wire_laws.specs.World.{World};
 ghost use Rattle.wire_laws.specs.Replies.{missing, replied};
 ghost use Rattle.wire_world.specs.Stands.{AllStand, AllHear, AllTell, AllBy, IsWithin};
 ghost use Rattle.wire_world.specs.Stands.{unless_skipped};
-ghost use Rattle.wire_world.specs.Wanted.{Holds, gone_at};
+ghost use Rattle.wire_world.specs.Wanted.{Holds, span_at};
 
 use crate::brief::BriefReply;
 use crate::stage::Stage;
@@ -33,7 +33,7 @@ pub(crate) fn happen<F: Fader>(
     requires within { IsWithin (length strays.now) what }
     requires holds { Holds stages.old what }
     ensures tell { OnOk result (AllTell Tells stages.old → AllTell Tells stages.new) }
-    ensures gone { OnOk result ((i u : ℕ) → gone_at stages.new i u ≡ gone_at stages.old i u) }
+    ensures spans { OnOk result ((i u : ℕ) → span_at stages.new i u ≡ span_at stages.old i u) }
     ensures reply { IfOk result (λ r. (w : World) (past : List EventData)
         → w.strays ≡ strays.now → AllStand (StageStands F.stands_for) stages.old w past
         → AllTell Tells stages.old → AllHear receivers.old w past

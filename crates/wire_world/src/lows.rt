@@ -1,5 +1,5 @@
 ghost use Rattle.std.specs.Prelude.{◌≡◌, ◌<◌, IfOk, length};
-ghost use Rattle.wire_world.specs.Wanted.{AreLows, row_of};
+ghost use Rattle.wire_world.specs.Wanted.{AreLows, AreUpTo, IsUpTo, row_of};
 
 use std::alloc::{AllocError, Global};
 use wire_laws::{Event, What};
@@ -35,4 +35,25 @@ fn row_of(console: u16, universe: u16) -> usize
     ensures within { result < 64 }
 {
     usize::from(console % 4) * 16 + usize::from(universe % 16)
+}
+
+// The greatest number of a packet that an event delivers: those behind it need not be kept.
+pub(crate) fn last_wanted(events: &[Event]) -> u64
+    ensures { AreUpTo events.now result }
+{
+    let mut last = 0u64;
+    for i in 0..events.len() {
+        last = last.max(wanted(events[i].what));
+    }
+    last
+}
+
+// The number of the packet that an event delivers, 0 where it delivers none.
+fn wanted(what: What) -> u64
+    ensures { IsUpTo result what }
+{
+    match what {
+        What::Deliver { k, .. } => k,
+        _ => 0,
+    }
 }

@@ -3,6 +3,7 @@ ghost use Rattle.wire_laws.specs.Replies.{AreReplies, done, last_slots};
 ghost use Rattle.wire_world.specs.Stands.{AreSources, IsWithin, world_of};
 
 use crate::listening::listen_all;
+use crate::lows::last_wanted;
 use crate::opening::open_all;
 use crate::replay::run;
 use crate::report::BriefReport;
@@ -32,7 +33,7 @@ pub(crate) fn perform<F: Fader>(
         (done (world_of shows.now consoles.now receivers.now strays.now) events.now)) }
     ensures sources { IfOk result (λ _. AreSources shows.now consoles.now) }
 {
-    let mut stages: Vec<Stage<F>> = open_all(alloc, shows, consoles)?;
+    let mut stages: Vec<Stage<F>> = open_all(alloc, shows, consoles, last_wanted(events))?;
     let mut listeners = listen_all(alloc, receivers)?;
     run(
         alloc,

@@ -3,6 +3,7 @@ ghost use Rattle.wire_laws.specs.World.{World};
 ghost use Rattle.wire_laws.specs.Replies.{AreReplies, done, last_slots};
 ghost use Rattle.wire_world.specs.StageStands.{StageStands, Tells};
 ghost use Rattle.wire_world.specs.Stands.{AllAre, IsWithin};
+ghost use Rattle.wire_world.specs.Wanted.{AreUpTo};
 
 use crate::lows::lows;
 use crate::releasing::release;
@@ -24,6 +25,7 @@ pub(crate) fn run<F: Fader>(
     events: &[Event],
 ) -> Result<BriefReport, AllocError>
     requires within { All (λ e. IsWithin (length strays.now) e.what) events.now }
+    requires wanted { All (λ stage. AreUpTo events.now stage.last) stages.old }
     requires begun { (w : World) × (w.strays ≡ strays.now)
         × AllAre (StageStands F.stands_for) Tells stages.old receivers.old w [] }
     ensures replies { IfOk result (λ report. (w : World) → w.strays ≡ strays.now

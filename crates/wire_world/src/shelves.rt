@@ -1,5 +1,5 @@
-ghost use Rattle.std.specs.Prelude.{◌≡◌, ◌==◌, ◌++◌, ◌∷◌, [], ◌-◌, ◌≤◌, ℕ, List, OnOk, slice_get};
-ghost use Rattle.std.specs.Prelude.{if◌then◌else◌, find, map};
+ghost use Rattle.std.specs.Prelude.{◌≡◌, ◌==◌, ◌++◌, ◌∷◌, [], ◌+◌, ◌-◌, ◌≤◌, ℕ, List, OnOk};
+ghost use Rattle.std.specs.Prelude.{if◌then◌else◌, find, map, slice_get, take};
 ghost use Rattle.std.specs.List.{position};
 ghost use Rattle.std.specs.Option.{option_map};
 ghost use Rattle.wire_world.specs.Sends.{send_of, sent_to};
@@ -10,33 +10,37 @@ use crate::shelf::Shelf;
 use std::alloc::{AllocError, Global};
 use std::collections::VecDeque;
 
-// Puts packets on the shelves of their universes.
+// Puts packets on the shelves of their universes, of each universe none behind packet `last`.
 pub(crate) fn keep_all(
     alloc: Global,
     shelves: &mut Vec<Shelf>,
+    last: u64,
     rows: &[Row],
 ) -> Result<(), AllocError>
-    ensures kept { OnOk result ((u : ℕ) → kept_of shelves.new.items u
-        ≡ kept_of shelves.old.items u ++ sent_to u (map send_of rows.now)) }
+    ensures rest { OnOk result ((u : ℕ) (all : List (List ℕ))
+        → IsRest (gone_of shelves.old.items u) (kept_of shelves.old.items u) (take (last + 1) all)
+        → IsRest (gone_of shelves.new.items u) (kept_of shelves.new.items u)
+        (take (last + 1) (all ++ sent_to u (map send_of rows.now)))) }
     ensures gone { OnOk result ((u : ℕ) → gone_of shelves.new.items u
         ≡ gone_of shelves.old.items u) }
 {
     for i in 0..rows.len() {
-        keep(alloc, shelves, &rows[i])?;
+        keep(alloc, shelves, last, &rows[i])?;
     }
     Ok(())
 }
 
-// Puts a packet on the shelf of its universe.
-fn keep(alloc: Global, shelves: &mut Vec<Shelf>, row: &Row) -> Result<(), AllocError>
-    ensures kept { OnOk result ((u : ℕ) → kept_of shelves.new.items u
-        ≡ (if row.now.universe == u then kept_of shelves.old.items u ++ row.now.bytes ∷ []
-        else kept_of shelves.old.items u)) }
+// Puts a packet on the shelf of its universe, where it is none behind packet `last`.
+fn keep(alloc: Global, shelves: &mut Vec<Shelf>, last: u64, row: &Row) -> Result<(), AllocError>
+    ensures rest { OnOk result ((u : ℕ) (all : List (List ℕ))
+        → IsRest (gone_of shelves.old.items u) (kept_of shelves.old.items u) (take (last + 1) all)
+        → IsRest (gone_of shelves.new.items u) (kept_of shelves.new.items u)
+        (take (last + 1) (if row.now.universe == u then all ++ row.now.bytes ∷ [] else all))) }
     ensures gone { OnOk result ((u : ℕ) → gone_of shelves.new.items u
         ≡ gone_of shelves.old.items u) }
 {
     match place_of(shelves.as_slice(), row.universe) {
-        Some(i) => shelves[i].packets.push_back(row.bytes)?,
+        Some(i) => shelves[i].keep(last, &row.bytes)?,
         None => {
             let mut packets = VecDeque::new(alloc);
             packets.push_back(row.bytes)?;
@@ -90,6 +94,22 @@ fn place_of(shelves: &[Shelf], universe: u16) -> Option<usize>
 }
 
 impl Shelf {
+    // Keeps a packet more, where it is none behind packet `last`.
+    fn keep(&mut self, last: u64, packet: &[u8; 638]) -> Result<(), AllocError>
+        ensures universe { OnOk result (self.new.universe ≡ self.old.universe) }
+        ensures gone { OnOk result (self.new.gone ≡ self.old.gone) }
+        ensures rest { OnOk result ((all : List (List ℕ))
+            → IsRest self.old.gone self.old.packets.items (take (last + 1) all)
+            → IsRest self.new.gone self.new.packets.items
+            (take (last + 1) (all ++ packet.now ∷ []))) }
+    {
+        let kept = self.packets.len() as u64;
+        if self.gone <= last && kept <= last - self.gone {
+            self.packets.push_back(*packet)?;
+        }
+        Ok(())
+    }
+
     // Lets the packets before packet `low` go.
     fn release(&mut self, low: u64)
         ensures universe { self.new.universe ≡ self.old.universe }

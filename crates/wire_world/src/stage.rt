@@ -1,5 +1,5 @@
 ghost use Rattle.std.specs.Prelude.{◌≡◌, ◌↔◌, ℕ, List, [], ◌∷◌, map, IfOk, OnOk, OnErr, Err, None};
-ghost use Rattle.std.specs.Prelude.{IsFalse, MatchResult, Some, ◌≤◌, ◌++◌, false};
+ghost use Rattle.std.specs.Prelude.{IsFalse, MatchResult, Some, ◌+◌, ◌≤◌, ◌++◌, false, take};
 ghost use Rattle.std.specs.Option.{option_map};
 ghost use Rattle.patch_core.specs.Frame.{is_base};
 ghost use Rattle.patch_core.specs.declared.fault.RigFault.TheVariants.{Universe};
@@ -8,7 +8,7 @@ ghost use Rattle.console.specs.Streams.{Production, dues_at, order_at, tick_at};
 ghost use Rattle.wire_laws.specs.Happened.{bytes_of};
 ghost use Rattle.wire_laws.specs.Replies.{due_answer};
 ghost use Rattle.wire_world.specs.Sends.{sends_of, sent_to};
-ghost use Rattle.wire_world.specs.Shelves.{gone_of, kept_of};
+ghost use Rattle.wire_world.specs.Shelves.{IsRest, gone_of, kept_of};
 
 use crate::packets::Packets;
 use crate::shelf::Shelf;
@@ -30,17 +30,21 @@ pub struct Stage<F: Fader> {
     pub link: Packets,
     // One for each universe of which a packet was sent.
     pub shelves: Vec<Shelf>,
+    // No event delivers a packet behind this one of any universe.
+    pub last: u64,
 }
 
 // Puts the packets of a tick on their shelves.
-fn shelve(alloc: Global, shelves: &mut Vec<Shelf>, link: &mut Packets)
+fn shelve(alloc: Global, shelves: &mut Vec<Shelf>, last: u64, link: &mut Packets)
     ensures tells { link.new.full ≡ false → link.old.full ≡ false }
-    ensures kept { link.new.full ≡ false → (u : ℕ) → kept_of shelves.new.items u
-        ≡ kept_of shelves.old.items u ++ sent_to u (sends_of link.old) }
+    ensures rest { link.new.full ≡ false → (u : ℕ) (all : List (List ℕ))
+        → IsRest (gone_of shelves.old.items u) (kept_of shelves.old.items u) (take (last + 1) all)
+        → IsRest (gone_of shelves.new.items u) (kept_of shelves.new.items u)
+        (take (last + 1) (all ++ sent_to u (sends_of link.old))) }
     ensures gone { link.new.full ≡ false → (u : ℕ)
         → gone_of shelves.new.items u ≡ gone_of shelves.old.items u }
 {
-    if keep_all(alloc, shelves, link.rows()).is_err() {
+    if keep_all(alloc, shelves, last, link.rows()).is_err() {
         link.fill();
     }
 }
@@ -48,11 +52,19 @@ fn shelve(alloc: Global, shelves: &mut Vec<Shelf>, link: &mut Packets)
 impl<F: Fader> Stage<F> {
     ghost use Rattle.wire_world.specs.StageStands.{StageStands, Tells};
 
-    // A console that has sent nothing yet.
-    pub fn open(alloc: Global, show: &Show, base: u16, source: Identity) -> Result<Self, RigFault>
+    // A console that has sent nothing yet, of whose universes no event delivers a packet behind
+    // packet `last`.
+    pub fn open(
+        alloc: Global,
+        show: &Show,
+        base: u16,
+        source: Identity,
+        last: u64,
+    ) -> Result<Self, RigFault>
         ensures stands { IfOk result (λ stage. StageStands F.stands_for stage
             (record { show = show.now; base = base; source = source }) []) }
         ensures tells { IfOk result (λ stage. Tells stage) }
+        ensures last { IfOk result (λ stage. stage.last ≡ last) }
         ensures universe { (result ≡ Err Universe) ↔ IsFalse (is_base show.now.patch base) }
     {
         let console = Console::open(alloc, show, base, source)?;
@@ -60,6 +72,7 @@ impl<F: Fader> Stage<F> {
             console,
             link: Packets::new(alloc),
             shelves: Vec::new(alloc),
+            last,
         })
     }
 
@@ -74,6 +87,7 @@ impl<F: Fader> Stage<F> {
             → StageStands F.stands_for self.new p (order_at moment command ∷ history)) }
         ensures gone { (u : ℕ)
             → gone_of self.new.shelves.items u ≡ gone_of self.old.shelves.items u }
+        ensures last { self.new.last ≡ self.old.last }
         ensures unchanged { OnErr result (self.new ≡ self.old) }
     {
         self.console.command(moment, command)
@@ -95,10 +109,11 @@ impl<F: Fader> Stage<F> {
             → StageStands F.stands_for self.new p history) }
         ensures gone { Tells self.new → (u : ℕ)
             → gone_of self.new.shelves.items u ≡ gone_of self.old.shelves.items u }
+        ensures last { self.new.last ≡ self.old.last }
     {
         self.link.clear();
         let answer = self.console.tick(moment, &mut self.link);
-        shelve(alloc, &mut self.shelves, &mut self.link);
+        shelve(alloc, &mut self.shelves, self.last, &mut self.link);
         answer
     }
 
@@ -111,7 +126,8 @@ impl<F: Fader> Stage<F> {
 
     // Packet k of a universe, where it was sent.
     pub fn datagram(&self, universe: u16, k: u64) -> Option<&[u8]>
-        requires { gone_of self.now.shelves.items universe ≤ k }
+        requires here { gone_of self.now.shelves.items universe ≤ k }
+        requires wanted { k ≤ self.now.last }
         ensures { (p : Production) (history : List Act)
             → StageStands F.stands_for self.now p history → Tells self.now
             → option_map (λ bytes. bytes.now) result ≡ bytes_of p history universe k }
@@ -127,6 +143,7 @@ impl<F: Fader> Stage<F> {
             → StageStands F.stands_for self.new p history }
         ensures gone { (u k : ℕ) → gone_of self.old.shelves.items u ≤ k → (universe ≡ u → low ≤ k)
             → gone_of self.new.shelves.items u ≤ k }
+        ensures last { self.new.last ≡ self.old.last }
     {
         release(self.shelves.as_mut_slice(), universe, low);
     }

@@ -5,7 +5,7 @@ ghost use Rattle.wire_laws.specs.declared.event.Event.{Event as EventData};
 ghost use Rattle.wire_laws.specs.World.{World};
 ghost use Rattle.wire_laws.specs.Replies.{last_moment};
 ghost use Rattle.wire_world.specs.Stands.{AllAre, AllStand, AllBy, IsStep, IsWithin, is_skip};
-ghost use Rattle.wire_world.specs.Wanted.{Holds, gone_at};
+ghost use Rattle.wire_world.specs.Wanted.{Holds, span_at};
 
 use crate::brief::BriefReply;
 use crate::happen::happen;
@@ -40,7 +40,7 @@ pub(crate) fn step<F: Fader>(
     requires early { AllBy receivers.old last.old }
     requires within { IsWithin (length strays.now) event.now.what }
     requires holds { Holds stages.old event.now.what }
-    ensures gone { OnOk result ((i u : ℕ) → gone_at stages.new i u ≡ gone_at stages.old i u) }
+    ensures spans { OnOk result ((i u : ℕ) → span_at stages.new i u ≡ span_at stages.old i u) }
     ensures step { IfOk result (λ r. (w : World) (past : List EventData) → w.strays ≡ strays.now
         → last.old ≡ last_moment past
         → AllAre (StageStands F.stands_for) Tells stages.old receivers.old w past

@@ -10,7 +10,7 @@ ghost use Rattle.wire_laws.specs.World.{World};
 ghost use Rattle.wire_laws.specs.Happened.{handed};
 ghost use Rattle.wire_laws.specs.Replies.{missing, no_receiver_at, replied, taken_by};
 ghost use Rattle.wire_world.specs.Stands.{AllStand, AllHear, AllTell, AllBy, unless_skipped};
-ghost use Rattle.wire_world.specs.Wanted.{gone_at};
+ghost use Rattle.wire_world.specs.Wanted.{Holds, span_at};
 
 use crate::answers::{ordered, taken, ticked};
 use crate::brief::BriefReply;
@@ -28,7 +28,7 @@ pub(crate) fn order_at<F: Fader>(
     command: Command,
 ) -> BriefReply
     ensures tell { AllTell Tells stages.old → AllTell Tells stages.new }
-    ensures gone { (i u : ℕ) → gone_at stages.new i u ≡ gone_at stages.old i u }
+    ensures spans { (i u : ℕ) → span_at stages.new i u ≡ span_at stages.old i u }
     ensures reply { (w : World) (past : List EventData) → AllStand
         (StageStands F.stands_for) stages.old w past
         → reply_of result ≡ option_map_or reply.Skipped (missing w past (Order console command))
@@ -54,7 +54,7 @@ pub(crate) fn tick_at<F: Fader>(
     requires real { (w : World) × (past : List EventData)
         × AllStand (StageStands F.stands_for) stages.old w past }
     ensures tell { OnOk result (AllTell Tells stages.old → AllTell Tells stages.new) }
-    ensures gone { OnOk result ((i u : ℕ) → gone_at stages.new i u ≡ gone_at stages.old i u) }
+    ensures spans { OnOk result ((i u : ℕ) → span_at stages.new i u ≡ span_at stages.old i u) }
     ensures reply { IfOk result (λ r. (w : World) (past : List EventData)
         → AllStand (StageStands F.stands_for) stages.old w past
         → reply_of r ≡ option_map_or reply.Skipped (missing w past (Tick console))
@@ -132,7 +132,7 @@ pub(crate) fn deliver_at<F: Fader>(
     k: u64,
     moment: u64,
 ) -> BriefReply
-    requires { gone_at stages.now console universe ≤ k }
+    requires { Holds stages.now (Deliver receiver console universe k) }
     ensures reply { (w : World) (past : List EventData) → AllStand
         (StageStands F.stands_for) stages.now w past → AllTell Tells stages.now
         → AllHear receivers.old w past

@@ -1,9 +1,11 @@
-use Rattle.std.proofs.Common.{◌≡◌, ◌<◌, length, Some, sym, subst, refl, rules}
+use Rattle.std.proofs.Common.{◌≡◌, ◌<◌, ℕ, length, Some, sym, subst, refl, rules, arith}
 use Rattle.std.specs.Prelude.{slice_get}
+use Rattle.std.proofs.lemmas.List.Elements.{All-nil, All-push}
 use Rattle.std.proofs.lemmas.Option.{slice_get_read}
 use Rattle.wire_laws.specs.declared.setup.Setup.{Setup}
 use Rattle.wire_world.proofs.Openings.{opened_more}
 use Rattle.wire_world.specs.StageStands.{StageStands, Tells}
+use Rattle.wire_world.specs.Stands.{Opened}
 use Rattle.wire_world.proofs.opening.open_all.Goals as goal
 
 pub loop-i-preserved : goal.loop-i-preserved
@@ -18,16 +20,26 @@ loop-i-preserved g c =
     let show : slice_get c.args.shows.now setup.show ≡ Some c.index-shows-setup.result =
     slice_get_read c.args.shows.now (length c.args.shows.now) setup.show
     c.index-shows-setup.result refl within c.index-shows-setup.is in
-    rw c.in_ok-push.ensures.items
-    (opened_more (StageStands g.F.Fader.stands_for) Tells c.loop-i.stages.items c.args.shows.now
-    c.args.setups.now c.loop-i.i c.in_ok-stage.stage setup c.index-shows-setup.result
-    c.loop-i.invariant here show c.in_ok-stage.ensures)
+    rw c.in_ok-push.ensures.items (
+      opened_more (StageStands g.F.Fader.stands_for) Tells c.loop-i.stages.items c.args.shows.now
+          c.args.setups.now c.loop-i.i c.in_ok-stage.stage setup c.index-shows-setup.result
+          c.loop-i.invariant.0 here show c.in_ok-stage.ensures.stands,
+      All-push (λ stage. stage.last ≡ c.args.last) c.loop-i.stages.items c.in_ok-stage.stage
+          c.loop-i.invariant.1 c.in_ok-stage.ensures.last,
+    )
+
+pub returns-clause-opened : goal.returns-clause-opened
+returns-clause-opened g c =
+    let end : c.loop-i.i ≡ length c.args.setups.now =
+    omega (arith, c.loop-i-test.false, c.loop-i.auto.i-end) in
+    subst (λ (n : ℕ). Opened (StageStands g.F.Fader.stands_for) Tells c.loop-i.stages.items
+    c.args.shows.now c.args.setups.now n) end c.loop-i.invariant.0
 
 pub loop-i-init : goal.loop-i-init
-loop-i-init g c = rw c.new-stages.ensures.items (record {
-  long = refl;
-  each = λ i s d e f. cc;
-})
+loop-i-init g c = rw c.new-stages.ensures.items (
+  record { long = refl; each = λ i s d e f. cc },
+  All-nil _,
+)
 
 pub bounds-shows-setup : goal.bounds-shows-setup
 bounds-shows-setup g c =

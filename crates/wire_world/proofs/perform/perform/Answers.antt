@@ -1,8 +1,9 @@
-use Rattle.std.proofs.Common.{refl}
+use Rattle.std.proofs.Common.{refl, subst, sym}
 use Rattle.wire_world.specs.Stands.{world_of}
 use Rattle.wire_world.proofs.Openings.{begun}
 use Rattle.wire_world.proofs.Sources.{sources}
 use Rattle.wire_world.proofs.Ticks.{if_ok}
+use Rattle.wire_world.specs.Wanted.{AreUpTo}
 use Rattle.wire_world.specs.StageStands.{StageStands, Tells}
 use Rattle.wire_world.proofs.perform.perform.Goals as goal
 
@@ -13,7 +14,7 @@ run-requires-clause-begun g c = (
   rw (c.as_mut_slice.ensures.value, c.as_mut_slice-2.ensures.value)
       (begun (StageStands g.F.Fader.stands_for) Tells c.in_ok-stages.stages.items
       c.in_ok-listeners.listeners.items c.args.shows.now c.args.consoles.now c.args.receivers.now
-      c.args.strays.now c.in_ok-stages.ensures c.in_ok-listeners.ensures),
+      c.args.strays.now c.in_ok-stages.ensures.opened c.in_ok-listeners.ensures),
 )
 
 pub returns-clause-replies : goal.returns-clause-replies
@@ -24,7 +25,7 @@ returns-clause-replies g c =
     (rw (c.as_mut_slice.ensures.value, c.as_mut_slice-2.ensures.value)
     (begun (StageStands g.F.Fader.stands_for) Tells c.in_ok-stages.stages.items
     c.in_ok-listeners.listeners.items c.args.shows.now c.args.consoles.now c.args.receivers.now
-    c.args.strays.now c.in_ok-stages.ensures c.in_ok-listeners.ensures)))
+    c.args.strays.now c.in_ok-stages.ensures.opened c.in_ok-listeners.ensures)))
     c.run.ensures.replies
 
 pub returns-clause-last : goal.returns-clause-last
@@ -35,12 +36,18 @@ returns-clause-last g c =
     (rw (c.as_mut_slice.ensures.value, c.as_mut_slice-2.ensures.value)
     (begun (StageStands g.F.Fader.stands_for) Tells c.in_ok-stages.stages.items
     c.in_ok-listeners.listeners.items c.args.shows.now c.args.consoles.now c.args.receivers.now
-    c.args.strays.now c.in_ok-stages.ensures c.in_ok-listeners.ensures)))
+    c.args.strays.now c.in_ok-stages.ensures.opened c.in_ok-listeners.ensures)))
     c.run.ensures.last
 
 pub returns-clause-sources : goal.returns-clause-sources
 returns-clause-sources g c =
     if_ok c.run.result _ _
     (λ report h. sources g.F.Fader.stands_for c.in_ok-stages.stages.items c.args.shows.now
-    c.args.consoles.now c.in_ok-stages.ensures)
+    c.args.consoles.now c.in_ok-stages.ensures.opened)
     c.run.ensures.last
+
+pub run-requires-clause-wanted : goal.run-requires-clause-wanted
+run-requires-clause-wanted g c =
+    rw c.as_mut_slice.ensures.value (λ i d l.
+    subst (AreUpTo c.args.events.now) (sym (c.in_ok-stages.ensures.last i d l))
+    c.last_wanted.ensures)

@@ -27,7 +27,7 @@ returns-then-i-stages-clause-holds g c = λ later h s.
     let at = slice_get-get_or c.args.stages.now c.from-i.result c.index-stages-i.result
     c.if-i-stages.true in
     holds_less c.args.stages.now c.in-Deliver.receiver c.from-i.result c.in-Deliver.universe
-    c.in-Deliver.k c.args.low _ c.release.new.self at c.release.ensures.gone later h
+    c.in-Deliver.k c.args.low _ c.release.new.self at c.release.ensures.gone c.release.ensures.last later h
     (subst (λ (i : ℕ). Spares (Deliver c.in-Deliver.receiver i c.in-Deliver.universe
     c.in-Deliver.k) c.args.low later) (sym c.from-i.ensures)
     (subst (λ (x : What). Spares x c.args.low later) c.in-Deliver.is s))

@@ -24,7 +24,8 @@ step-requires-clause-early g c =
 pub loop-i-init : goal.loop-i-init
 loop-i-init g c =
     let b = c.requires.begun in (
-      hold_first g.F.Fader.stands_for c.args.stages.now b.0 c.args.events.now b.2.stand b.2.tell,
+      hold_first g.F.Fader.stands_for c.args.stages.now b.0 c.args.events.now b.2.stand b.2.tell
+          c.requires.wanted,
       λ w same are. rw c.in_ok-replies.ensures.items (record {
         long = refl;
         last_is = refl;
@@ -43,7 +44,7 @@ loop-i-preserved g c = (
       hold_next c.loop-i.stages c.step.new.stages c.release.new.stages c.args.events.now
       c.in_ok-lows.lows.items c.loop-i.i event
       (slice_get-get_or c.args.events.now c.loop-i.i none c.loop-i-test.true)
-      c.in_ok-lows.ensures.lows c.in_ok-reply.ensures.gone
+      c.in_ok-lows.ensures.lows c.in_ok-reply.ensures.spans
       (λ later h s. c.release.ensures.holds later h
       (subst (λ (n : ℕ). Spares event.what n later) (sym low) s))
       c.loop-i.invariant.0),

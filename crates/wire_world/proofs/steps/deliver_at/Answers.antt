@@ -1,4 +1,4 @@
-use Rattle.std.proofs.Common.{arith, ◌≡◌, ap, sym, subst, ◌∙◌, refl, None, Some, Option}
+use Rattle.std.proofs.Common.{◌≡◌, ap, sym, subst, ◌∙◌, refl, None, Some, Option}
 use Rattle.std.specs.Prelude.{slice_get}
 use Rattle.std.specs.Option.{option_map, option_map_or}
 use Rattle.std.proofs.lemmas.Option.{slice_get-get_or}
@@ -13,8 +13,7 @@ use Rattle.wire_world.specs.Stands.{AllHear, unless_skipped}
 use Rattle.wire_world.proofs.Stages.{stood_at, not_sent, delivered_replied, delivered_handed}
 use Rattle.wire_world.proofs.Stages.{delivered_skip, few_receivers, is_among, is_not_among}
 use Rattle.wire_world.specs.StageStands.{StageStands}
-use Rattle.wire_world.specs.Shelves.{gone_of}
-use Rattle.wire_world.specs.Wanted.{gone_at}
+use Rattle.wire_world.proofs.Wants.{kept_at}
 use Rattle.wire_world.proofs.steps.deliver_at.Goals as goal
 
 pub returns-in-None-clause-reply : goal.returns-in-None-clause-reply
@@ -130,14 +129,18 @@ returns-then-from-receivers-clause-hear g c = λ w past all tell hear.
     )
     hear
 
-pub datagram-requires : goal.datagram-requires
-datagram-requires g c =
+pub datagram-requires-clause-here : goal.datagram-requires-clause-here
+datagram-requires-clause-here g c =
     let at : slice_get c.args.stages.now c.from-i.result ≡ Some c.index-stages-i.result =
     slice_get-get_or c.args.stages.now c.from-i.result c.index-stages-i.result
     c.if-i-stages.false ∙ ap Some (sym c.index-stages-i.is) in
-    omega (
-      arith,
-      ap (λ o. option_map_or (λ s. gone_of s.shelves.items c.args.universe) o 0) at,
-      ap (λ i. gone_at c.args.stages.now i c.args.universe) c.from-i.ensures,
-      c.requires,
-    )
+    (kept_at c.args.stages.now c.args.console c.args.receiver c.args.universe c.args.k _
+    (ap (slice_get c.args.stages.now) (sym c.from-i.ensures) ∙ at) c.requires).0
+
+pub datagram-requires-clause-wanted : goal.datagram-requires-clause-wanted
+datagram-requires-clause-wanted g c =
+    let at : slice_get c.args.stages.now c.from-i.result ≡ Some c.index-stages-i.result =
+    slice_get-get_or c.args.stages.now c.from-i.result c.index-stages-i.result
+    c.if-i-stages.false ∙ ap Some (sym c.index-stages-i.is) in
+    (kept_at c.args.stages.now c.args.console c.args.receiver c.args.universe c.args.k _
+    (ap (slice_get c.args.stages.now) (sym c.from-i.ensures) ∙ at) c.requires).1

@@ -9,7 +9,7 @@ use Rattle.wire_laws.specs.Happened.{acts}
 use Rattle.wire_laws.specs.Replies.{no_console_at}
 use Rattle.wire_world.proofs.Stages.{left_by, tell_set, err_of, stand_call, stood, no_skip}
 use Rattle.wire_world.proofs.Stages.{order_replied}
-use Rattle.wire_world.proofs.Wants.{gone_set}
+use Rattle.wire_world.proofs.Wants.{spans_set}
 use Rattle.wire_world.specs.Brief.{reply_of}
 use Rattle.wire_world.specs.StageStands.{StageStands, Tells}
 use Rattle.wire_world.proofs.steps.order_at.Goals as goal
@@ -50,8 +50,8 @@ returns-clause-stands g c = λ w past all.
     (left_by (StageStands g.F.Fader.stands_for) _ c.order.new.self c.order.result
     c.order.ensures.unchanged)
 
-pub returns-clause-gone : goal.returns-clause-gone
-returns-clause-gone g c =
-    gone_set c.args.stages.now c.from-i.result _ c.order.new.self
+pub returns-clause-spans : goal.returns-clause-spans
+returns-clause-spans g c =
+    spans_set c.args.stages.now c.from-i.result _ c.order.new.self
     (slice_get-get_or c.args.stages.now c.from-i.result c.index-stages-i.result
-    c.if-i-stages.false) c.order.ensures.gone
+    c.if-i-stages.false) c.order.ensures.gone c.order.ensures.last

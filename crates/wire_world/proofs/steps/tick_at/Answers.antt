@@ -10,7 +10,7 @@ use Rattle.wire_laws.specs.World.{console_at}
 use Rattle.wire_laws.specs.Happened.{acts}
 use Rattle.wire_laws.specs.Replies.{no_console_at, due_answer}
 use Rattle.wire_world.proofs.Stages.{err_of, no_skip, stand_call, stood, tell_set, tick_replied}
-use Rattle.wire_world.proofs.Wants.{gone_set}
+use Rattle.wire_world.proofs.Wants.{spans_set}
 use Rattle.wire_world.specs.Brief.{reply_of}
 use Rattle.wire_world.specs.StageStands.{StageStands, Tells}
 use Rattle.wire_world.proofs.steps.tick_at.Goals as goal
@@ -65,8 +65,8 @@ returns-clause-stands g c = λ w past all.
     ∙ err_of _ _)
     c.tick-answer.ensures.stands c.tick-answer.ensures.kept
 
-pub returns-clause-gone : goal.returns-clause-gone
-returns-clause-gone g c =
-    gone_set c.args.stages.now c.from-i.result _ c.tick-answer.new.self
+pub returns-clause-spans : goal.returns-clause-spans
+returns-clause-spans g c =
+    spans_set c.args.stages.now c.from-i.result _ c.tick-answer.new.self
     (slice_get-get_or c.args.stages.now c.from-i.result c.index-stages-i.result
-    c.if-i-stages.false) (c.tick-answer.ensures.gone (sym c.if-is_full.ensures))
+    c.if-i-stages.false) (c.tick-answer.ensures.gone (sym c.if-is_full.ensures)) c.tick-answer.ensures.last

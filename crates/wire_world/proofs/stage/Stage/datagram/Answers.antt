@@ -10,5 +10,5 @@ returns g c = λ p h s tells.
     c.packet.ensures
     ∙ ap (λ (shelves : List Shelf). slice_get (kept_of shelves c.args.universe)
     (c.args.k - gone_of shelves c.args.universe)) c.as_slice.ensures.value
-    ∙ datagram_is p h c.args.universe c.args.k _ _ (s.packets_kept tells c.args.universe)
-    c.requires
+    ∙ datagram_is p h c.args.universe c.args.k _ _ _ (s.packets_kept tells c.args.universe)
+    c.requires.here c.requires.wanted

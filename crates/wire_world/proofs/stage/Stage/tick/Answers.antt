@@ -1,4 +1,4 @@
-use Rattle.std.proofs.Common.{◌∙◌, sym}
+use Rattle.std.proofs.Common.{◌∙◌, refl, sym}
 use Rattle.wire_world.proofs.Ticks.{answer_is, answers, stands_refused, stands_ticked}
 use Rattle.wire_world.proofs.stage.Stage.tick.Goals as goal
 
@@ -10,11 +10,12 @@ returns-clause-answer g c = λ p h s tells.
       console = c.tick-answer.new.self;
       link = c.shelve.new.link;
       shelves = c.shelve.new.shelves;
+      last = c.args.self.now.last;
     })
     c.args.moment c.tick-answer.result c.clear.new.self c.tick-answer.new.link
     c.clear.ensures.rows
     (λ t. sym c.clear.ensures.full ∙ c.tick-answer.ensures.told t)
-    c.shelve.ensures.tells c.shelve.ensures.kept c.shelve.ensures.gone
+    c.shelve.ensures.tells refl c.shelve.ensures.rest
     c.tick-answer.ensures.offered p h s.console_stands tells)
 
 pub returns-clause-stands : goal.returns-clause-stands
@@ -24,11 +25,12 @@ returns-clause-stands g c =
       console = c.tick-answer.new.self;
       link = c.shelve.new.link;
       shelves = c.shelve.new.shelves;
+      last = c.args.self.now.last;
     })
     c.args.moment c.tick-answer.result c.clear.new.self c.tick-answer.new.link
     c.clear.ensures.rows
     (λ t. sym c.clear.ensures.full ∙ c.tick-answer.ensures.told t)
-    c.shelve.ensures.tells c.shelve.ensures.kept c.shelve.ensures.gone
+    c.shelve.ensures.tells refl c.shelve.ensures.rest
     c.tick-answer.ensures.stands c.tick-answer.ensures.offered
 
 pub returns-clause-kept : goal.returns-clause-kept
@@ -38,9 +40,10 @@ returns-clause-kept g c =
       console = c.tick-answer.new.self;
       link = c.shelve.new.link;
       shelves = c.shelve.new.shelves;
+      last = c.args.self.now.last;
     })
     c.args.moment c.tick-answer.result c.clear.new.self c.tick-answer.new.link
     c.clear.ensures.rows
     (λ t. sym c.clear.ensures.full ∙ c.tick-answer.ensures.told t)
-    c.shelve.ensures.tells c.shelve.ensures.kept c.shelve.ensures.gone
+    c.shelve.ensures.tells refl c.shelve.ensures.rest
     c.tick-answer.ensures.unchanged c.tick-answer.ensures.quiet
