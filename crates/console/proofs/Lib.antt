@@ -1,5 +1,1 @@
-pub mod Timing
-pub mod OfferingLemmas
-pub mod Partway
-pub mod Turns
-pub mod Consoles
+pub mod Ticks

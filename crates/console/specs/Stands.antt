@@ -2,7 +2,8 @@
 use Rattle.std.specs.Prelude.{◌≡◌, List, ◌∷◌, None, All, ℕ}
 use Rattle.fade_core.specs.Level.{Start}
 use Rattle.desk_core.specs.DeskState.{DeskState}
-use Rattle.desk_core.specs.Played.{Act, refusal}
+use Rattle.desk_core.specs.declared.answer.Ticked.{Ticked}
+use Rattle.desk_core.specs.Played.{Act, ended, refusal, ticked}
 use Rattle.desk_core.specs.Stands as desk
 use Rattle.sacn_source.specs.Kept.{Lane}
 use Rattle.sacn_source.specs.Stands as sender
@@ -28,11 +29,11 @@ pub record StandsFor {F : Type 0} (fader_stands_for : F → List Start → Type 
       console.desk history
   pub streams_stand : HasStreams production console.sender history
 
--- in the middle of an accepted tick: the desk has taken it, and the sender has not
-pub record HasTicked {F : Type 0} (fader_stands_for : F → List Start → Type 0)
+-- in the middle of an accepted tick that the desk answered so: it has taken it
+pub record IsTick {F : Type 0} (fader_stands_for : F → List Start → Type 0)
     (production : Production)
-    (state : DeskState F) (lanes : List Lane) (older : List Act) (moment : ℕ) : Type 0 where
+    (state : DeskState F) (older : List Act) (moment : ℕ) (answer : Ticked) : Type 0 where
   pub desk_stands : desk.StandsFor fader_stands_for production.show production.base state
       (tick_at moment ∷ older)
-  pub streams_stand : HasStreams production lanes older
   pub accepted : refusal production.show older (tick_at moment) ≡ None
+  pub answer_is : answer ≡ ticked (ended older)

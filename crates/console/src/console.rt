@@ -8,7 +8,7 @@ ghost use Rattle.console.specs.Stands.{StandsFor};
 ghost use Rattle.console.specs.Streams.{Production, dues_at, order_at, tick_at};
 
 use crate::offers::Offers;
-use crate::tick::{offer_all, terminate_all};
+use crate::tick::offer_all;
 use desk_core::{Command, Desk, Refused, Ticked};
 use fade_core::Fader;
 use patch_core::RigFault;
@@ -119,16 +119,8 @@ impl<F: Fader> Console<F> {
         ensures unchanged { OnErr result (self.new ≡ self.old) }
         ensures quiet { OnErr result (L.tells link.new → L.offered link.new ≡ L.offered link.old) }
     {
-        match self.desk.tick(moment) {
-            Err(refused) => Err(refused),
-            Ok(Ticked::Live) => {
-                let offers = offer_all(&self.desk, &mut self.sender, moment, link);
-                Ok((Ticked::Live, offers))
-            }
-            Ok(Ticked::Ending(number)) => {
-                let offers = terminate_all(&self.desk, &mut self.sender, moment, link);
-                Ok((Ticked::Ending(number), offers))
-            }
-        }
+        let answer = self.desk.tick(moment)?;
+        let offers = offer_all(&self.desk, &mut self.sender, moment, answer, link);
+        Ok((answer, offers))
     }
 }

@@ -1,70 +1,79 @@
-ghost use Rattle.std.specs.Prelude.{◌≡◌, ℕ, None, Some, List, ◌∷◌};
-ghost use Rattle.desk_core.specs.Played.{Act, ended};
+ghost use Rattle.std.specs.Prelude.{◌≡◌, ◌≢◌, ℕ, List, ◌∷◌, Contains};
+ghost use Rattle.desk_core.specs.Meaning.{universe_numbers};
+ghost use Rattle.desk_core.specs.Played.{Act};
+ghost use Rattle.sacn_source.specs.Offering.{Offers as OffersOne};
+ghost use Rattle.sacn_source.specs.Stands.{lane_of, universes_of};
 ghost use Rattle.console.specs.Offering.{Offers as OffersTo};
-ghost use Rattle.console.specs.Stands.{HasStreams, HasTicked};
-ghost use Rattle.console.specs.Streams.{Production, dues_at, tick_at};
+ghost use Rattle.console.specs.Stands.{HasStream, HasStreams, IsTick};
+ghost use Rattle.console.specs.Streams.{Due, Production, due_at, dues_at, tick_at};
 
 use crate::offers::Offers;
-use desk_core::Desk;
+use desk_core::{Desk, Ticked};
 use fade_core::Fader;
-use sacn_source::{Link, Sender};
+use sacn_source::{Link, Offered, Sender};
 
-// Offers the frame of each universe, at a tick before any End.
+// Offers each universe what is due on it, at a tick that the desk answered so.
 pub fn offer_all<F: Fader, L: Link>(
     desk: &Desk<F>,
     sender: &mut Sender,
     moment: u64,
+    answer: Ticked,
     link: &mut L,
 ) -> Offers
     requires real { (production : Production) × (older : List Act)
-        × HasTicked F.stands_for production desk.now sender.old older moment
-        × (ended older ≡ None) }
+        × IsTick F.stands_for production desk.now older moment answer
+        × HasStreams production sender.old older }
     ensures stands { (production : Production) (older : List Act)
-        → HasTicked F.stands_for production desk.now sender.old older moment → ended older ≡ None
+        → IsTick F.stands_for production desk.now older moment answer
+        → HasStreams production sender.old older
         → HasStreams production sender.new (tick_at moment ∷ older) }
     ensures told { L.tells link.new → L.tells link.old }
     ensures offered { (production : Production) (older : List Act)
-        → HasTicked F.stands_for production desk.now sender.old older moment → ended older ≡ None
+        → IsTick F.stands_for production desk.now older moment answer
+        → HasStreams production sender.old older
         → L.tells link.new → OffersTo production.source (dues_at production older moment) result
         (L.offered link.old) (L.offered link.new) }
 {
     let universes = desk.universes();
     let mut offers = Offers::new();
-    for i in 0..universes.len() {
-        let universe = universes.as_slice()[i];
-        let offered = sender.offer(moment, universe, desk.slots(universe), link);
-        offers.push(universe, offered);
+    for universe in universes.as_slice() {
+        let offered = offer(desk, sender, moment, answer, *universe, link);
+        offers.push(*universe, offered);
     }
     offers
 }
 
-// Ends the stream of each universe, at a tick after End.
-pub fn terminate_all<F: Fader, L: Link>(
+// Offers a universe its frame, or ends its stream.
+fn offer<F: Fader, L: Link>(
     desk: &Desk<F>,
     sender: &mut Sender,
     moment: u64,
+    answer: Ticked,
+    universe: u16,
     link: &mut L,
-) -> Offers
+) -> Offered
+    requires patched { Contains (universe_numbers desk.now.show.patch desk.now.base) universe }
+    requires here { Contains (universes_of sender.old) universe }
     requires real { (production : Production) × (older : List Act)
-        × HasTicked F.stands_for production desk.now sender.old older moment
-        × ((ticks : ℕ) × (ended older ≡ Some ticks)) }
-    ensures stands { (production : Production) (older : List Act) (ticks : ℕ)
-        → HasTicked F.stands_for production desk.now sender.old older moment
-        → ended older ≡ Some ticks
-        → HasStreams production sender.new (tick_at moment ∷ older) }
+        × IsTick F.stands_for production desk.now older moment answer
+        × HasStream production sender.old older universe }
+    ensures universes { universes_of sender.new ≡ universes_of sender.old }
+    ensures others { (other : ℕ) → other ≢ universe
+        → lane_of sender.new other ≡ lane_of sender.old other }
+    ensures stands { (production : Production) (older : List Act)
+        → IsTick F.stands_for production desk.now older moment answer
+        → HasStream production sender.old older universe
+        → HasStream production sender.new (tick_at moment ∷ older) universe }
     ensures told { L.tells link.new → L.tells link.old }
-    ensures offered { (production : Production) (older : List Act) (ticks : ℕ)
-        → HasTicked F.stands_for production desk.now sender.old older moment
-        → ended older ≡ Some ticks
-        → L.tells link.new → OffersTo production.source (dues_at production older moment) result
+    ensures offered { (production : Production) (older : List Act)
+        → IsTick F.stands_for production desk.now older moment answer
+        → HasStream production sender.old older universe → L.tells link.new
+        → let due : Due = due_at production older moment universe in
+        OffersOne production.source universe due.place due.packet result
         (L.offered link.old) (L.offered link.new) }
 {
-    let universes = desk.universes();
-    let mut offers = Offers::new();
-    for i in 0..universes.len() {
-        let universe = universes.as_slice()[i];
-        let offered = sender.terminate(universe, link);
-        offers.push(universe, offered);
+    match answer {
+        Ticked::Live => sender.offer(moment, universe, desk.slots(universe), link),
+        Ticked::Ending(_) => sender.terminate(universe, link),
     }
-    offers
 }
