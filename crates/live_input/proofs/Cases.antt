@@ -1,56 +1,54 @@
--- The answers that there are.
-use Rattle.std.proofs.Common.{◌≡◌, ◌≤◌, ℕ, Bool, true, false, cond, refl, arith, List, [], ◌∷◌}
+-- The answers that there are, and what holds through a night.
+use Rattle.std.proofs.Common.{◌≡◌, ◌≤◌, ◌<◌, ◌^◌, ℕ, true, false, refl, arith, List, [], ◌∷◌}
 use Rattle.std.specs.Prelude.{nat_le}
+use Rattle.std.proofs.lemmas.Bool.{cond_both}
 use Rattle.std.proofs.lemmas.Bool.Decides.{nat_tests}
 use Rattle.live_input.specs.Night.{Answer, Happening, answer_to, answers, asked, due, is_closed}
-use Rattle.live_input.specs.Night.{is_over, is_taken, lines_left, now, owes_end, to_lines}
-use Rattle.live_input.specs.Night.{order, close, tick, refusal, wait, over}
+use Rattle.live_input.specs.Night.{is_over, is_taken, lines_left, now, owes_end, to_lines, order}
+use Rattle.live_input.specs.Night.{close, tick, refusal, wait, over}
 
--- each answer after those given, with these lines left, at a moment, and when it comes
-pub data Next (given : List Answer) (left : List (List ℕ)) (c : Bool) (n : ℕ)
-    : Answer → Type 0 where
-  nothing : is_over given ≡ true → Next given left c n over
-  takes : (line : List ℕ) (later : List (List ℕ)) → is_over given ≡ false → left ≡ line ∷ later
-      → is_taken given n line ≡ true → Next given left c n (order n line)
-  refuses : (line : List ℕ) (later : List (List ℕ)) → is_over given ≡ false
-      → left ≡ line ∷ later → is_taken given n line ≡ false → Next given left c n (refusal line)
-  closes : is_over given ≡ false → left ≡ [] → owes_end given c ≡ true
-      → Next given left c n (close n)
-  ticks : is_over given ≡ false → left ≡ [] → owes_end given c ≡ false → due given ≤ n
-      → Next given left c n (tick n)
-  waits : is_over given ≡ false → left ≡ [] → owes_end given c ≡ false
-      → Next given left c n (wait (due given))
+-- each answer at a moment after these happenings, and when it comes
+pub data Next (h : List Happening) (n : ℕ) : Answer → Type 0 where
+  nothing : is_over (answers h) ≡ true → Next h n over
+  takes : (line : List ℕ) (later : List (List ℕ)) → lines_left (answers h) h ≡ line ∷ later
+      → is_taken (answers h) n line ≡ true → Next h n (order n line)
+  refuses : (line : List ℕ) (later : List (List ℕ)) → lines_left (answers h) h ≡ line ∷ later
+      → Next h n (refusal line)
+  closes : lines_left (answers h) h ≡ [] → owes_end (answers h) (is_closed h) ≡ true
+      → Next h n (close n)
+  ticks : is_over (answers h) ≡ false → lines_left (answers h) h ≡ []
+      → owes_end (answers h) (is_closed h) ≡ false → due (answers h) ≤ n → Next h n (tick n)
+  waits : lines_left (answers h) h ≡ [] → Next h n (wait (due (answers h)))
 
-line_is : (given : List Answer) (line : List ℕ) (later : List (List ℕ)) (c : Bool) (n : ℕ)
-    → is_over given ≡ false → (b : Bool) → is_taken given n line ≡ b
-    → Next given (line ∷ later) c n (cond b (order n line) (refusal line))
-line_is given line later c n on true e = takes line later on refl e
-line_is given line later c n on false e = refuses line later on refl e
-
-tick_is : (given : List Answer) (c : Bool) (n : ℕ) → is_over given ≡ false
-    → owes_end given c ≡ false → (b : Bool) → nat_le (due given) n ≡ b
-    → Next given [] c n (cond b (tick n) (wait (due given)))
-tick_is given c n on no_end true e = ticks on refl no_end (grind (arith, nat_tests))
-tick_is given c n on no_end false e = waits on refl no_end
-
-end_is : (given : List Answer) (c : Bool) (n : ℕ) → is_over given ≡ false
-    → (b : Bool) → owes_end given c ≡ b → Next given [] c n
-    (cond b (close n) (cond (nat_le (due given) n) (tick n) (wait (due given))))
-end_is given c n on true e = closes on refl e
-end_is given c n on false e = tick_is given c n on e (nat_le (due given) n) refl
-
-lines_are : (given : List Answer) (left : List (List ℕ)) (c : Bool) (n : ℕ)
-    → is_over given ≡ false → Next given left c n (to_lines left given c n)
-lines_are given [] c n on = end_is given c n on (owes_end given c) refl
-lines_are given (line ∷ later) c n on =
-    line_is given line later c n on (is_taken given n line) refl
-
-next_is : (given : List Answer) (left : List (List ℕ)) (c : Bool) (n : ℕ) (b : Bool)
-    → is_over given ≡ b → Next given left c n (cond b over (to_lines left given c n))
-next_is given left c n true e = nothing e
-next_is given left c n false e = lines_are given left c n e
+lines_are : (h : List Happening) (n : ℕ) → is_over (answers h) ≡ false → (left : List (List ℕ))
+    → lines_left (answers h) h ≡ left → Next h n (to_lines left (answers h) (is_closed h) n)
+lines_are h n on [] is =
+    cond_both (owes_end (answers h) (is_closed h)) _ _ (Next h n) (λ owed. closes is owed)
+    (λ none. cond_both (nat_le (due (answers h)) n) _ _ (Next h n)
+    (λ late. ticks on is none (grind (arith, nat_tests))) (λ early. waits is))
+lines_are h n on (line ∷ later) is =
+    cond_both (is_taken (answers h) n line) _ _ (Next h n) (λ fit. takes line later is fit)
+    (λ unfit. refuses line later is)
 
 pub answer_is_next : (h : List Happening) (moment : ℕ)
-    → Next (answers h) (lines_left (answers h) h) (is_closed h) (now (asked moment ∷ h))
-    (answer_to h moment)
-answer_is_next h moment = next_is (answers h) _ _ _ (is_over (answers h)) refl
+    → Next h (now (asked moment ∷ h)) (answer_to h moment)
+answer_is_next h moment =
+    let n = now (asked moment ∷ h) in
+    cond_both (is_over (answers h)) _ _ (Next h n) (λ e. nothing e)
+    (λ on. lines_are h n on (lines_left (answers h) h) refl)
+
+pub clock_below : (h : List Happening) → now h < 2 ^ 48
+clock_below [] = omega arith
+clock_below (asked moment ∷ h) = omega (arith, clock_below h)
+clock_below (_ ∷ h) = clock_below h
+
+-- what holds at first, and after each answer, holds at any moment
+pub through : (P : List Answer → ℕ → Type 0) → P [] 0
+    → ((h : List Happening) (n : ℕ) (answer : Answer) → Next h n answer → now h ≤ n
+    → n < 2 ^ 48 → P (answers h) (now h) → P (answer ∷ answers h) n)
+    → (h : List Happening) → P (answers h) (now h)
+through P none more [] = none
+through P none more (asked moment ∷ h) =
+    more h _ _ (answer_is_next h moment) (omega arith) (clock_below (asked moment ∷ h))
+    (through P none more h)
+through P none more (_ ∷ h) = through P none more h

@@ -1,81 +1,55 @@
 -- How many lines there are, and the ticks after `end`.
-use Rattle.std.proofs.Common.{◌≡◌, ◌≤◌, ◌<◌, ℕ, suc, ◌+◌, Bool, true, false, cond, refl, arith}
-use Rattle.std.proofs.Common.{List, [], ◌∷◌, length, Option, Some, None}
+use Rattle.std.proofs.Common.{◌≡◌, ◌≤◌, ◌<◌, ◌^◌, ℕ, suc, ◌+◌, Bool, true, false, ap, arith, List}
+use Rattle.std.proofs.Common.{◌∷◌, length, Option, Some, None}
 use Rattle.std.specs.Prelude.{◌&&◌, ◌||◌, not, nat_lt, is_none}
+use Rattle.std.proofs.lemmas.Bool.{and_parts, cond_both}
 use Rattle.std.proofs.lemmas.Bool.Decides.{nat_tests}
 use Rattle.ascii_text.specs.Text.{words_of}
 use Rattle.console_text.specs.Spelling.{command_of}
-use Rattle.live_input.specs.Night.{Answer, Happening, answer_to, answers, asked, came, closed}
-use Rattle.live_input.specs.Night.{ended, ended_by, has_room, is_end, lines_given, were_three}
-use Rattle.live_input.specs.Night.{order, close, tick}
-use Rattle.live_input.proofs.Cases.{Next, answer_is_next, nothing, takes, refuses}
-use Rattle.live_input.proofs.Cases.{closes, ticks, waits}
+use Rattle.live_input.specs.Night.{Answer, Happening, answers, close, ended, ended_by, is_closed}
+use Rattle.live_input.specs.Night.{is_end, lines_given, now, order, tick, were_three}
+use Rattle.live_input.proofs.Cases.{Next, closes, takes, through, ticks}
 
-pub both : (a b : Bool) → (a && b) ≡ true → (a ≡ true) × (b ≡ true)
-both true b h = (refl, h)
-both false b h = cc
+-- an `end` and its ticks took of the last four
+abbrev AreFew : ℕ → Option ℕ → Type 0
+AreFew count None = count ≤ 9999996
+AreFew count (Some after) = (count ≤ 9999997 + after) × (after ≤ 3)
 
--- the lines that an `end` and its ticks took of the last four
-abbrev used : Option ℕ → ℕ
-used None = 0
-used (Some after) = after + 1
-
-abbrev pub AtMostThree : Option ℕ → Type 0
-AtMostThree None = Unit {0}
-AtMostThree (Some after) = after ≤ 3
-
-record AreFew (count : ℕ) (since : Option ℕ) : Type 0 where
-  few : count ≤ 9999996 + used since
-  three : AtMostThree since
-
-one_order : (count n : ℕ) (line : List ℕ) (since : Option ℕ) → count < 9999996
+one_order : (count n : ℕ) (line : List ℕ) (since : Option ℕ) → nat_lt count 9999996 ≡ true
     → AreFew count since → AreFew (suc count) (ended_by (order n line) since)
-one_order count n line None room h =
-    elim (is_end (command_of (words_of line)))
-    as (λ b. AreFew (suc count) (cond b (Some 0) None)) [
-      | true ↦ record { few = omega arith; three = omega arith }
-      | false ↦ record { few = omega arith; three = tt }
-    ]
-one_order count n line (Some after) room h = record { few = omega arith; three = h.three }
+one_order count n line None room few =
+    let below : count < 9999996 = grind (arith, nat_tests) in
+    cond_both (is_end (command_of (words_of line))) _ _ (AreFew (suc count))
+    (λ e. (omega arith, omega arith)) (λ e. omega arith)
+one_order count n line (Some after) room few =
+    let below : count < 9999996 = grind (arith, nat_tests) in (omega (arith, few.0), few.1)
 
-one_end : (count n : ℕ) (since : Option ℕ) → is_none since ≡ true → AreFew count since
-    → AreFew (suc count) (ended_by (close n) since)
-one_end count n None none h = record { few = omega (arith, h.few); three = omega arith }
-one_end count n (Some after) none h = cc
+one_end : (count n : ℕ) (since : Option ℕ) (c : Bool) → (is_none since && c) ≡ true
+    → AreFew count since → AreFew (suc count) (ended_by (close n) since)
+one_end count n None c owed few = (omega (arith, few), omega arith)
+one_end count n (Some after) c owed few = cc
 
 one_tick : (count n : ℕ) (since : Option ℕ) (c : Bool) → were_three since ≡ false
     → (is_none since && (c || not (nat_lt count 9999996))) ≡ false → AreFew count since
     → AreFew (suc count) (ended_by (tick n) since)
-one_tick count n None c on no_end h =
-    let room : count < 9999996 = grind (arith, nat_tests) in
-    record { few = omega arith; three = tt }
-one_tick count n (Some after) c on no_end h =
-    let more : after < 3 = grind (arith, nat_tests) in
-    record { few = omega (arith, h.few); three = omega arith }
+one_tick count n None c on none few =
+    let room : count < 9999996 = grind (arith, nat_tests) in omega arith
+one_tick count n (Some after) c on none few =
+    let more : after < 3 = grind (arith, nat_tests) in (omega (arith, few.0), omega arith)
 
-abbrev IsCounted : List Answer → Type 0
-IsCounted given = AreFew (length (lines_given given)) (ended given)
+counted_by : (h : List Happening) (n : ℕ) (answer : Answer) → Next h n answer → now h ≤ n
+    → n < 2 ^ 48 → AreFew (length (lines_given (answers h))) (ended (answers h))
+    → AreFew (length (lines_given (answer ∷ answers h))) (ended (answer ∷ answers h))
+counted_by h n _ (takes line later is fit) le below few =
+    one_order _ n line (ended (answers h)) (and_parts _ _ fit).0 few
+counted_by h n _ (closes is owed) le below few = one_end _ n (ended (answers h)) _ owed few
+counted_by h n _ (ticks on is none late) le below few =
+    one_tick _ n (ended (answers h)) (is_closed h) on none few
+counted_by h n _ _ le below few = few
 
-counted_by : (given : List Answer) (left : List (List ℕ)) (c : Bool) (n : ℕ) (answer : Answer)
-    → Next given left c n answer → IsCounted given → IsCounted (answer ∷ given)
-counted_by given left c n _ (nothing e) h = h
-counted_by given left c n _ (takes line later on is taken) h =
-    let has : has_room given ≡ true = (both _ (has_room given) taken).1 in
-    let room : length (lines_given given) < 9999996 = grind (arith, nat_tests) in
-    one_order (length (lines_given given)) n line (ended given) room h
-counted_by given left c n _ (refuses line later on is refused) h = h
-counted_by given left c n _ (closes on is owed) h =
-    one_end (length (lines_given given)) n (ended given) (both (is_none (ended given)) _ owed).0 h
-counted_by given left c n _ (ticks on is not_owed due) h =
-    one_tick (length (lines_given given)) n (ended given) c on not_owed h
-counted_by given left c n _ (waits on is not_owed) h = h
-
-counted : (h : List Happening) → IsCounted (answers h)
-counted [] = record { few = omega arith; three = tt }
-counted (asked moment ∷ h) =
-    counted_by (answers h) _ _ _ (answer_to h moment) (answer_is_next h moment) (counted h)
-counted (came bytes ∷ h) = counted h
-counted (closed ∷ h) = counted h
+counted : (h : List Happening) → AreFew (length (lines_given (answers h))) (ended (answers h))
+counted = through (λ given n. AreFew (length (lines_given given)) (ended given)) (omega arith)
+    counted_by
 
 -- there is room for all of them
 pub few_lines : (h : List Happening) → length (lines_given (answers h)) ≤ 10000000
@@ -83,8 +57,16 @@ few_lines h = go (ended (answers h)) (counted h)
   where
     go : (since : Option ℕ) → AreFew (length (lines_given (answers h))) since
         → length (lines_given (answers h)) ≤ 10000000
-    go None c = omega (arith, c.few)
-    go (Some after) c = omega (arith, c.few, c.three)
+    go None few = omega (arith, few)
+    go (Some after) few = omega (arith, few.0, few.1)
 
-pub three_ticks : (h : List Happening) → AtMostThree (ended (answers h))
-three_ticks h = (counted h).three
+pub just_three : (h : List Happening) → were_three (ended (answers h)) ≡ true
+    → ended (answers h) ≡ Some 3
+just_three h = go (ended (answers h)) (counted h)
+  where
+    go : (since : Option ℕ) → AreFew (length (lines_given (answers h))) since
+        → were_three since ≡ true → since ≡ Some 3
+    go None few enough = cc
+    go (Some after) few enough =
+        let le : 3 ≤ after = grind (arith, nat_tests) in
+        let same : after ≡ 3 = omega (arith, few.1) in ap Some same

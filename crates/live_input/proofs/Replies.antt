@@ -1,11 +1,11 @@
 -- What stands in replies.
-use Rattle.std.proofs.Common.{◌≡◌, ℕ, suc, ◌+◌, Bool, true, false, not, refl, ap, ◌∙◌, arith}
-use Rattle.std.proofs.Common.{List, [], ◌∷◌, ◌++◌, append_assoc}
-use Rattle.std.specs.Prelude.{◌||◌, ◌==◌, nat_eq, codes, decimal, flat_map}
-use Rattle.std.specs.Char.{is_ascii_digit}
-use Rattle.std.specs.List.{after_first, list_all, list_any, position_or_len, starts_with}
+use Rattle.std.proofs.Common.{◌≡◌, ℕ, suc, ◌+◌, Bool, true, false, not, refl, ap, ◌∙◌, arith, List}
+use Rattle.std.proofs.Common.{[], ◌∷◌, ◌++◌, append_assoc}
+use Rattle.std.specs.Prelude.{All, ◌||◌, ◌==◌, nat_eq, codes, decimal, flat_map}
+use Rattle.std.specs.List.{after_first, list_any, position_or_len, starts_with}
 use Rattle.std.proofs.lemmas.Bool.Decides.{nat_tests}
-use Rattle.std.proofs.lemmas.List.Folds.{list_any-append}
+use Rattle.std.proofs.lemmas.List.Elements.{All-head, All-tail}
+use Rattle.std.proofs.lemmas.List.Folds.{list_any-append, list_any_none}
 use Rattle.desk_core.specs.declared.answer.Ticked.{Ticked}
 use Rattle.desk_core.specs.declared.answer.Ticked.TheVariants.{Live, Ending}
 use Rattle.sacn_source.specs.declared.offered.Offered.{Offered}
@@ -13,29 +13,25 @@ use Rattle.sacn_source.specs.declared.offered.Offered.TheVariants.{Sent, Lost, Q
 use Rattle.console_text.specs.Texts.{done_text, numbered, outcome_text, pair_text, refused_text}
 use Rattle.console_text.specs.Texts.{ticked_text}
 use Rattle.live_input.specs.Shown.{IsShown, is_lost}
-use Rattle.live_input.proofs.Counting.{both}
-use Rattle.live_input.proofs.Digits.{decimal_digits, digit_range}
+use Rattle.live_input.proofs.Digits.{no_digit}
 
 -- what stands behind a number and a space
-behind_digits : (ds rest : List ℕ) → list_all is_ascii_digit ds ≡ true
+behind_digits : (ds rest : List ℕ) → All (λ b. (b == 32) ≡ false) ds
     → after_first (λ b. b == 32) (ds ++ 32 ∷ rest) ≡ rest
 behind_digits [] rest h = refl
 behind_digits (d ∷ ds) rest h =
-    let each = both (is_ascii_digit d) (list_all is_ascii_digit ds) h in
-    let range = digit_range d each.0 in
-    let other : (d == 32) ≡ false = grind (arith, nat_tests) in
-    rw (other, two_more (position_or_len (λ b. b == 32) (ds ++ 32 ∷ rest)))
-    (behind_digits ds rest each.1)
-  where
-    two_more : (n : ℕ) → 1 + n + 1 ≡ suc (n + 1)
-    two_more n = omega arith
+    let n : ℕ = position_or_len (λ b. b == 32) (ds ++ 32 ∷ rest) in
+    let two_more : 1 + n + 1 ≡ suc (n + 1) = omega arith in
+    rw (All-head (λ b. (b == 32) ≡ false) d ds h, two_more)
+    (behind_digits ds rest (All-tail (λ b. (b == 32) ≡ false) d ds h))
 
 behind : (moment : ℕ) (text : List ℕ)
     → after_first (λ b. b == 32) (numbered moment text) ≡ text ++ codes "\n"
 behind moment text =
     ap (after_first (λ b. b == 32)) (append_assoc (decimal moment ++ codes " ") text (codes "\n")
     ∙ append_assoc (decimal moment) (codes " ") (text ++ codes "\n"))
-    ∙ behind_digits (decimal moment) (text ++ codes "\n") (decimal_digits moment)
+    ∙ behind_digits (decimal moment) (text ++ codes "\n")
+    (no_digit (λ b. b == 32) (λ b low high. grind (arith, nat_tests)) moment)
 
 -- ---- an x stands where a packet was lost
 
@@ -45,16 +41,9 @@ has_x text = list_any (λ y. y == 120) text
 x-append : (a b : List ℕ) → has_x (a ++ b) ≡ (has_x a || has_x b)
 x-append a b = list_any-append (λ y. y == 120) a b
 
-x-digits : (ds : List ℕ) → list_all is_ascii_digit ds ≡ true → has_x ds ≡ false
-x-digits [] h = refl
-x-digits (d ∷ ds) h =
-    let each = both (is_ascii_digit d) (list_all is_ascii_digit ds) h in
-    let range = digit_range d each.0 in
-    let other : (d == 120) ≡ false = grind (arith, nat_tests) in
-    rw other (x-digits ds each.1)
-
 x-decimal : (n : ℕ) → has_x (decimal n) ≡ false
-x-decimal n = x-digits (decimal n) (decimal_digits n)
+x-decimal n = list_any_none (λ y. y == 120) (decimal n)
+    (no_digit (λ y. y == 120) (λ b low high. grind (arith, nat_tests)) n)
 
 or_false : (b : Bool) → (b || false) ≡ b
 or_false true = refl

@@ -1,6 +1,6 @@
 -- Laws over all nights: whatever bytes came, and whatever the clock said.
 use Rattle.std.specs.Prelude.{◌≡◌, ◌↔◌, ◌≤◌, ◌+◌, ◌++◌, ℕ, false, List, [], ◌∷◌, Option, Some}
-use Rattle.std.specs.Prelude.{None, All, length, codes}
+use Rattle.std.specs.Prelude.{None, All, length, codes, flat_map, reverse}
 use Rattle.std.specs.Prelude.{is_none, option_map, if◌then◌else◌}
 use Rattle.ascii_text.specs.Text.{lines_of, words_of}
 use Rattle.show_core.specs.Tables.{Tables}
@@ -20,8 +20,7 @@ use Rattle.live_input.specs.Typed.{typed_of}
 
 -- the bytes that were given, in their order: each line with its LF
 abbrev pub text_of : List (List ℕ) → List ℕ
-text_of [] = []
-text_of (line ∷ older) = text_of older ++ (line ++ 10 ∷ [])
+text_of lines = flat_map (λ line. line ++ 10 ∷ []) (reverse lines)
 
 -- `play` takes these lines: none is malformed or has more than 200 bytes, and there are at most
 -- 10,000,000

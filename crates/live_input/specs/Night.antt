@@ -92,8 +92,8 @@ has_room given = nat_lt (length (lines_given given)) 9999996
 -- there is no room for one line more it is refused too
 abbrev pub is_taken : List Answer → ℕ → List ℕ → Bool
 is_taken given moment line =
-    (nat_le (length (at_moment moment line)) 200 && is_some (command_of (words_of line)))
-    && has_room given
+    has_room given
+    && (nat_le (length (at_moment moment line)) 200 && is_some (command_of (words_of line)))
 
 abbrev pub to_line : List Answer → ℕ → List ℕ → Answer
 to_line given moment line =
@@ -133,15 +133,13 @@ bytes_come (asked moment ∷ older) = bytes_come older
 abbrev pub is_closed : List Happening → Bool
 is_closed [] = false
 is_closed (closed ∷ older) = true
-is_closed (came bytes ∷ older) = is_closed older
-is_closed (asked moment ∷ older) = is_closed older
+is_closed (_ ∷ older) = is_closed older
 
 -- the clock, which never falls; 0 at first, and below 2^48 as a console's moments are
 abbrev pub now : List Happening → ℕ
 now [] = 0
 now (asked moment ∷ older) = max (now older) (min moment 281474976710655)
-now (came bytes ∷ older) = now older
-now (closed ∷ older) = now older
+now (_ ∷ older) = now older
 
 -- the typed lines that were not answered
 abbrev pub lines_left : List Answer → List Happening → List (List ℕ)
@@ -158,8 +156,7 @@ answer_after given older moment =
 abbrev pub answers : List Happening → List Answer
 answers [] = []
 answers (asked moment ∷ older) = answer_after (answers older) older moment ∷ answers older
-answers (came bytes ∷ older) = answers older
-answers (closed ∷ older) = answers older
+answers (_ ∷ older) = answers older
 
 -- the answer to what is asked now
 abbrev pub answer_to : List Happening → ℕ → Answer

@@ -18,7 +18,7 @@ pub struct TypedLines {
 }
 
 impl TypedLines {
-    ghost use Rattle.std.specs.Prelude.{◌≡◌, ◌≤◌, ◌<◌, ◌+◌, ℕ, [], List, length};
+    ghost use Rattle.std.specs.Prelude.{◌≡◌, ◌≤◌, ◌<◌, ◌+◌, ◌++◌, ◌∷◌, ℕ, [], List, length};
     ghost use Rattle.std.specs.Prelude.{IfNone, IfSome};
     ghost use Rattle.live_input.specs.Stands.{IsNext, TypedStands};
     ghost use Rattle.live_input.specs.TypedView.{typed_kept};
@@ -48,14 +48,14 @@ impl TypedLines {
     // bytes that came were taken.
     pub fn next_line(&mut self) -> Option<Line>
         ensures none { IfNone result ((typed_kept self.new).unread ≡ []) }
-        ensures stands { IfNone result ((bytes : List ℕ) (count : ℕ)
-            → TypedStands (typed_kept self.old) bytes count
-            → TypedStands (typed_kept self.new) bytes count) }
-        ensures next { IfSome result (λ line. (bytes : List ℕ) (count : ℕ)
-            → TypedStands (typed_kept self.old) bytes count → IsNext line.items bytes count) }
-        ensures taken { IfSome result (λ line. (bytes : List ℕ) (count : ℕ)
-            → TypedStands (typed_kept self.old) bytes count
-            → TypedStands (typed_kept self.new) bytes (count + 1)) }
+        ensures stands { IfNone result ((bytes : List ℕ) (taken : List (List ℕ))
+            → TypedStands (typed_kept self.old) bytes taken
+            → TypedStands (typed_kept self.new) bytes taken) }
+        ensures next { IfSome result (λ line. (bytes : List ℕ) (taken : List (List ℕ))
+            → TypedStands (typed_kept self.old) bytes taken → IsNext line.items bytes taken) }
+        ensures taken { IfSome result (λ line. (bytes : List ℕ) (taken : List (List ℕ))
+            → TypedStands (typed_kept self.old) bytes taken
+            → TypedStands (typed_kept self.new) bytes (taken ++ line.items ∷ [])) }
     {
         while self.taken < self.came.len() {
             if let Some(line) = self.take_byte() {
@@ -68,14 +68,14 @@ impl TypedLines {
     // Takes a byte, and answers the line that it ends, where that says something.
     fn take_byte(&mut self) -> Option<Line>
         requires { self.old.taken < length self.old.came.items }
-        ensures stands { IfNone result ((bytes : List ℕ) (count : ℕ)
-            → TypedStands (typed_kept self.old) bytes count
-            → TypedStands (typed_kept self.new) bytes count) }
-        ensures next { IfSome result (λ line. (bytes : List ℕ) (count : ℕ)
-            → TypedStands (typed_kept self.old) bytes count → IsNext line.items bytes count) }
-        ensures taken { IfSome result (λ line. (bytes : List ℕ) (count : ℕ)
-            → TypedStands (typed_kept self.old) bytes count
-            → TypedStands (typed_kept self.new) bytes (count + 1)) }
+        ensures stands { IfNone result ((bytes : List ℕ) (taken : List (List ℕ))
+            → TypedStands (typed_kept self.old) bytes taken
+            → TypedStands (typed_kept self.new) bytes taken) }
+        ensures next { IfSome result (λ line. (bytes : List ℕ) (taken : List (List ℕ))
+            → TypedStands (typed_kept self.old) bytes taken → IsNext line.items bytes taken) }
+        ensures taken { IfSome result (λ line. (bytes : List ℕ) (taken : List (List ℕ))
+            → TypedStands (typed_kept self.old) bytes taken
+            → TypedStands (typed_kept self.new) bytes (taken ++ line.items ∷ [])) }
         ensures same { self.new.came ≡ self.old.came }
         ensures one_more { self.new.taken ≡ self.old.taken + 1 }
     {

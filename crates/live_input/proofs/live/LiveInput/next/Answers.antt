@@ -1,10 +1,11 @@
-use Rattle.std.proofs.Common.{◌∷◌, [], ℕ, List, length, subst}
+use Rattle.std.proofs.Common.{List, subst}
 use Rattle.live_input.specs.Inside.{live_view}
-use Rattle.live_input.specs.Night.{Happening, answers, bytes_come, is_closed, lines_answered}
-use Rattle.live_input.specs.Stands.{StandsFor, TypedStands}
-use Rattle.live_input.specs.Told.{Leaves}
+use Rattle.live_input.specs.Night.{Happening, answers, bytes_come}
+use Rattle.live_input.specs.Stands.{StandsFor}
+use Rattle.live_input.specs.Told.{Leaves, Tells}
 use Rattle.live_input.specs.TypedView.{typed_kept}
-use Rattle.live_input.proofs.Answering.{asked_now, none_more, one_more, stands_then, tells_it}
+use Rattle.live_input.proofs.Answering.{asked_now, line_is, none_is, none_more, one_more}
+use Rattle.live_input.proofs.Answering.{stands_then}
 use Rattle.live_input.proofs.TypedLemmas.{none_left}
 use Rattle.live_input.proofs.live.LiveInput.next.Goals as goal
 
@@ -13,55 +14,41 @@ leaves_of : (inside : _) (h : List Happening) → StandsFor (live_view inside) h
 leaves_of inside h s = record { due_is = s.due_is; room_is = s.room_is; ended_is = s.ended_is }
 
 pub returns-in-Some-clause-tells : goal.returns-in-Some-clause-tells
-returns-in-Some-clause-tells c = λ h stands.
-    let inside = c.self.inside in
-    let a = asked_now (live_view inside) c.args.self.now h c.args.moment _ _ _ c.self.view_is
-    c.is_over.ensures c.if-is_over.false c.min.ensures c.max-self-inside.ensures stands in
-    let next = c.in-Some.ensures.next (bytes_come h) (length (lines_answered (answers h)))
-    a.stands.typed_stands in
-    let tells = c.answer.ensures.tells (answers h) (leaves_of inside h a.stands) in
-    tells_it (live_view inside) h c.args.moment _ (c.in-Some.line.items ∷ next.0) c.answer.result
-    a next.1 (rw (← c.as_slice.ensures.value) tells)
+returns-in-Some-clause-tells c = rw (← c.self.view_is) (λ h s.
+    let a = asked_now c.args.moment s c.is_over.ensures c.if-is_over.false c.min.ensures
+    c.max-self-inside.ensures in
+    let next = c.in-Some.ensures.next (bytes_come h) _ s.typed_stands in
+    subst (Tells c.answer.result) (line_is h c.args.moment _ _ next.0 a next.1)
+    (rw c.as_slice.ensures.value at (c.answer.ensures.tells _ (leaves_of c.self.inside h s))))
 
 pub returns-in-Some-clause-stands : goal.returns-in-Some-clause-stands
-returns-in-Some-clause-stands c = λ h stands.
-    let inside = c.self.inside in
-    let a = asked_now (live_view inside) c.args.self.now h c.args.moment _ _ _ c.self.view_is
-    c.is_over.ensures c.if-is_over.false c.min.ensures c.max-self-inside.ensures stands in
-    let n : ℕ = length (lines_answered (answers h)) in
-    let next = c.in-Some.ensures.next (bytes_come h) n a.stands.typed_stands in
-    let line : List ℕ = c.in-Some.line.items in
-    let typed = typed_kept c.next_line.new.self in
-    let leaves = c.answer.ensures.leaves (answers h) (leaves_of inside h a.stands) in
-    stands_then (live_view inside) h c.args.moment _ (line ∷ next.0) typed c.answer.new.self
-    a next.1
-    (subst (TypedStands typed (bytes_come h)) (one_more (answers h) c.max-self-inside.result line)
-    (c.in-Some.ensures.taken (bytes_come h) n a.stands.typed_stands))
-    (rw (← c.as_slice.ensures.value) leaves)
+returns-in-Some-clause-stands c = rw (← c.self.view_is) (λ h s.
+    let a = asked_now c.args.moment s c.is_over.ensures c.if-is_over.false c.min.ensures
+    c.max-self-inside.ensures in
+    let next = c.in-Some.ensures.next (bytes_come h) _ s.typed_stands in
+    stands_then c.args.moment _ _ (typed_kept c.next_line.new.self) c.answer.new.self s a.1
+    (line_is h c.args.moment c.max-self-inside.result c.in-Some.line.items next.0 a next.1)
+    (rw (one_more (answers h) c.max-self-inside.result c.in-Some.line.items)
+    (c.in-Some.ensures.taken (bytes_come h) _ s.typed_stands))
+    (rw c.as_slice.ensures.value at (c.answer.ensures.leaves _ (leaves_of c.self.inside h s))))
 
 pub returns-in-None-clause-tells : goal.returns-in-None-clause-tells
-returns-in-None-clause-tells c = λ h stands.
-    let inside = c.self.inside in
-    let a = asked_now (live_view inside) c.args.self.now h c.args.moment _ _ _ c.self.view_is
-    c.is_over.ensures c.if-is_over.false c.min.ensures c.max-self-inside.ensures stands in
-    let n : ℕ = length (lines_answered (answers h)) in
-    let after = c.in-None.ensures.stands (bytes_come h) n a.stands.typed_stands in
-    let tells = c.by_itself.ensures.tells (answers h) (leaves_of inside h a.stands) in
-    tells_it (live_view inside) h c.args.moment _ [] c.by_itself.result a
-    (none_left (typed_kept c.next_line.new.self) (bytes_come h) n after c.in-None.ensures.none)
-    (rw (← a.stands.closed_is) tells)
+returns-in-None-clause-tells c = rw (← c.self.view_is) (λ h s.
+    let a = asked_now c.args.moment s c.is_over.ensures c.if-is_over.false c.min.ensures
+    c.max-self-inside.ensures in
+    let typed = c.in-None.ensures.stands (bytes_come h) _ s.typed_stands in
+    subst (Tells c.by_itself.result) (none_is h c.args.moment _ _ a s.closed_is
+    (none_left _ (bytes_come h) _ typed c.in-None.ensures.none))
+    (c.by_itself.ensures.tells _ (leaves_of c.self.inside h s)))
 
 pub returns-in-None-clause-stands : goal.returns-in-None-clause-stands
-returns-in-None-clause-stands c = λ h stands.
-    let inside = c.self.inside in
-    let a = asked_now (live_view inside) c.args.self.now h c.args.moment _ _ _ c.self.view_is
-    c.is_over.ensures c.if-is_over.false c.min.ensures c.max-self-inside.ensures stands in
-    let n : ℕ = length (lines_answered (answers h)) in
-    let after = c.in-None.ensures.stands (bytes_come h) n a.stands.typed_stands in
-    let typed = typed_kept c.next_line.new.self in
-    let leaves = c.by_itself.ensures.leaves (answers h) (leaves_of inside h a.stands) in
-    stands_then (live_view inside) h c.args.moment _ [] typed c.by_itself.new.self a
-    (none_left typed (bytes_come h) n after c.in-None.ensures.none)
-    (subst (TypedStands typed (bytes_come h))
-    (none_more (answers h) (is_closed h) c.max-self-inside.result) after)
-    (rw (← a.stands.closed_is) leaves)
+returns-in-None-clause-stands c = rw (← c.self.view_is) (λ h s.
+    let a = asked_now c.args.moment s c.is_over.ensures c.if-is_over.false c.min.ensures
+    c.max-self-inside.ensures in
+    let kept = typed_kept c.next_line.new.self in
+    let typed = c.in-None.ensures.stands (bytes_come h) _ s.typed_stands in
+    stands_then c.args.moment _ _ kept c.by_itself.new.self s a.1
+    (none_is h c.args.moment c.max-self-inside.result c.self.inside.closed a s.closed_is
+    (none_left kept (bytes_come h) _ typed c.in-None.ensures.none))
+    (rw (none_more (answers h) c.self.inside.closed c.max-self-inside.result) typed)
+    (c.by_itself.ensures.leaves _ (leaves_of c.self.inside h s)))
