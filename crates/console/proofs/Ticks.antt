@@ -113,7 +113,8 @@ pub numbers_are : {F : Type 0} {sf : F → List Start → Type 0} {p : Productio
     {state : DeskState F} {older : List Act} {moment : ℕ} {answer : Ticked} {us items : List ℕ}
     → IsTick sf p state older moment answer → us ≡ items
     → items ≡ universe_numbers state.show.patch state.base → us ≡ universes_of p
-numbers_are t value numbers = rw (← t.desk_stands.show_is, ← t.desk_stands.base_is) (value ∙ numbers)
+numbers_are t value numbers =
+    rw (← t.desk_stands.show_is, ← t.desk_stands.base_is) (value ∙ numbers)
 
 accepted_by : (o : Option Refused) (a b : Ticked) → Ok a ≡ outcome o b → (o ≡ None) × (a ≡ b)
 accepted_by None a b e = (refl, cc)

@@ -1,21 +1,20 @@
 -- What a desk accepts of a night.
 use Rattle.std.proofs.Common.{◌≡◌, ◌≤◌, ◌<◌, ◌^◌, ℕ, ◌+◌, Bool, true, false, cond, refl, sym, ap}
 use Rattle.std.proofs.Common.{◌∙◌, arith, List, ◌∷◌, Option, Some, None}
-use Rattle.std.specs.Prelude.{option_map, is_none, nat_lt, nat_le}
-use Rattle.std.specs.Option.{option_or, option_map_or}
+use Rattle.std.specs.Prelude.{option_map, is_none}
+use Rattle.std.specs.Option.{option_map_or}
 use Rattle.std.proofs.lemmas.Bool.{and_parts}
 use Rattle.std.proofs.lemmas.Bool.Decides.{nat_tests}
 use Rattle.ascii_text.specs.Text.{words_of}
 use Rattle.show_core.specs.Tables.{Tables}
-use Rattle.desk_core.specs.declared.answer.Refused.{Refused}
 use Rattle.desk_core.specs.declared.command.Command.{Command}
 use Rattle.desk_core.specs.declared.command.Command.TheVariants.{End}
 use Rattle.desk_core.specs.Played as desk
-use Rattle.desk_core.specs.Played.{Act, last_moment, last_tick, refusal, untimely}
+use Rattle.desk_core.specs.Played.{Act, last_moment, last_tick, refusal}
 use Rattle.console_text.specs.Spelling.{command_of}
 use Rattle.live_input.specs.Laws.{accepted, act_of, taken}
 use Rattle.live_input.specs.Night.{Answer, Happening, answer_to, answers, asked, due, ended}
-use Rattle.live_input.specs.Night.{ended_by, is_over, now, order, close, tick, were_three}
+use Rattle.live_input.specs.Night.{ended_by, is_over, now, order, close, tick}
 use Rattle.live_input.proofs.Cases.{Next, answer_is_next, clock_below, closes, takes, through}
 use Rattle.live_input.proofs.Cases.{ticks}
 
@@ -29,43 +28,17 @@ record Agrees (history : List Act) (given : List Answer) (n : ℕ) : Type 0 wher
 abbrev act : ℕ → desk.Call → Act
 act n call = record { moment = n; call = call }
 
--- a call in time, not after the end and not too soon, is refused only for what the show lacks
-timely : (last n : ℕ) (over soon : Bool) (lack : Option Refused) → last ≤ n → n < 2 ^ 48
-    → over ≡ false → soon ≡ false → option_or (untimely last n over soon) lack ≡ lack
-timely last n over soon lack le below on calm =
-    let a : nat_lt n last ≡ false = grind (arith, nat_tests) in
-    let b : nat_le (2 ^ 48) n ≡ false = grind (arith, nat_tests) in
-    rw (a, b, on, calm) refl
-
-not_over : (since : Option ℕ) → were_three since ≡ false → desk.is_over since desk.tick ≡ false
-not_over None on = refl
-not_over (Some after) on = on
-
-not_soon : (due n : ℕ) (last : Option ℕ) → due ≤ n → option_map_or (λ t. t + 23) last 0 ≤ due
-    → desk.is_soon last n desk.tick ≡ false
-not_soon due n None le past = refl
-not_soon due n (Some last) le past = grind (arith, nat_tests)
-
-never_soon : (n : ℕ) (last : Option ℕ) (c : Command) → desk.is_soon last n (desk.order c) ≡ false
-never_soon n None c = refl
-never_soon n (Some last) c = refl
-
 -- a tick that is due is accepted, and so is the first `end`
 tick_accepted : (show : Tables) (history : List Act) (given : List Answer) (n : ℕ) → n < 2 ^ 48
     → Agrees history given n → is_over given ≡ false → due given ≤ n
     → refusal show history (act n desk.tick) ≡ None
 tick_accepted show history given n below a on late =
-    timely (last_moment history) n _ _ None a.moment below
-    (ap (λ e. desk.is_over e desk.tick) a.since ∙ not_over (ended given) on)
-    (not_soon (due given) n (last_tick history) late a.past)
+    grind (arith, nat_tests, a.moment, a.since, a.past)
 
 end_accepted : (show : Tables) (history : List Act) (given : List Answer) (n : ℕ) → n < 2 ^ 48
     → Agrees history given n → ended given ≡ None
     → refusal show history (act n (desk.order End)) ≡ None
-end_accepted show history given n below a none =
-    timely (last_moment history) n _ _ None a.moment below
-    (ap (λ e. desk.is_over e (desk.order End)) (a.since ∙ none))
-    (never_soon n (last_tick history) End)
+end_accepted show history given n below a none = grind (arith, nat_tests, a.moment, a.since, a.past)
 
 -- ---- one answer more
 

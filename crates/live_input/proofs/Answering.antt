@@ -27,10 +27,11 @@ none_more given closed n =
 
 -- the night is not over, and the clock was set
 pub asked_now : {kept : Kept} {h : List Happening} {low clock : ℕ} {is_last : Bool} (moment : ℕ)
-    → StandsFor kept h → is_last ≡ were_three kept.ended → is_last ≡ false
+    → StandsFor kept h → is_last ≡ were_three kept.progress.ended → is_last ≡ false
     → low ≡ min moment 281474976710655 → clock ≡ max kept.now low
     → (is_over (answers h) ≡ false) × (clock ≡ max (now h) (min moment 281474976710655))
-asked_now moment s last on low clock = (rw s.ended_is at (sym last ∙ on), rw (← low, ← s.now_is) clock)
+asked_now moment s last on low clock =
+    (rw s.leaves.ended_is at (sym last ∙ on), rw (← low, ← s.now_is) clock)
 
 pub line_is : (h : List Happening) (moment clock : ℕ) (line : List ℕ) (later : List (List ℕ))
     → (is_over (answers h) ≡ false) × (clock ≡ now (asked moment ∷ h))
@@ -53,18 +54,13 @@ pub stands_then : {kept : Kept} {h : List Happening} (moment clock : ℕ) (answe
       typed = typed;
       closed = kept.closed;
       now = clock;
-      due = progress.due;
-      room = progress.room;
-      ended = progress.ended;
+      progress = progress;
     }) (asked moment ∷ h)
 stands_then {kept} {h} moment clock answer typed progress s clock_is is stands leaves =
-    let l = subst (λ a. Leaves progress (a ∷ answers h)) is leaves in
     record {
       typed_stands = subst (λ a. TypedStands typed (bytes_come h)
           (lines_answered (a ∷ answers h))) is stands;
       closed_is = s.closed_is;
       now_is = clock_is;
-      due_is = l.due_is;
-      room_is = l.room_is;
-      ended_is = l.ended_is;
+      leaves = subst (λ a. Leaves progress (a ∷ answers h)) is leaves;
     }

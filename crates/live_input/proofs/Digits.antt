@@ -13,7 +13,8 @@ IsDigit b = (48 ≤ b) × (b ≤ 57)
 glyph_is : (d : ℕ) → d < 10 → IsDigit (digit_glyph false d)
 glyph_is d below = (grind (arith, nat_tests), grind (arith, nat_tests))
 
-onto_digits : (k n : ℕ) (acc : List ℕ) → All IsDigit acc → All IsDigit (digits_onto k 10 false n acc)
+onto_digits : (k n : ℕ) (acc : List ℕ) → All IsDigit acc
+    → All IsDigit (digits_onto k 10 false n acc)
 onto_digits zero n acc h = h
 onto_digits (suc k) n acc h =
     let last : List ℕ = digit_glyph false (n % 10) ∷ acc in

@@ -21,7 +21,7 @@ use Rattle.live_input.specs.Night.{bytes_come, has_room, lines_given, lines_left
 use Rattle.live_input.specs.Typed.{Typed, no_bytes, says_nothing, typed_of, with_byte}
 use Rattle.live_input.proofs.Cases.{Next, answer_is_next, clock_below, closes, takes, through}
 use Rattle.live_input.proofs.Cases.{ticks}
-use Rattle.live_input.proofs.Counting.{few_lines}
+use Rattle.live_input.proofs.Nights.{few_lines}
 use Rattle.live_input.proofs.Digits.{no_digit}
 use Rattle.live_input.proofs.Spelled.{call_is, reading_is}
 
@@ -94,7 +94,8 @@ good_order n line None s = absurd s
 good_order n line (Some command) s = ap is_malformed s
 
 good_by : (h : List Happening) (n : ℕ) (answer : Answer) → Next h n answer → now h ≤ n
-    → n < 2 ^ 48 → All IsGood (lines_given (answers h)) → All IsGood (lines_given (answer ∷ answers h))
+    → n < 2 ^ 48 → All IsGood (lines_given (answers h))
+    → All IsGood (lines_given (answer ∷ answers h))
 good_by h n _ (takes line later is fit) le below g =
     let fits : nat_le (length (at_moment n line)) 200 ≡ true =
     (and_parts _ _ (and_parts (has_room (answers h)) _ fit).1).0 in
@@ -120,7 +121,8 @@ line_first : (line rest : List ℕ) → All NotLf line
     → lines_of (line ++ 10 ∷ rest) ≡ line ∷ lines_of rest
 line_first [] rest h = refl
 line_first (b ∷ line) rest h =
-    rw (All-head NotLf b line h) (ap (onto_first b) (line_first line rest (All-tail NotLf b line h)))
+    rw (All-head NotLf b line h)
+    (ap (onto_first b) (line_first line rest (All-tail NotLf b line h)))
 
 lines_of-text : (lines : List (List ℕ)) → All IsGood lines
     → lines_of (flat_map (λ line. line ++ 10 ∷ []) lines) ≡ lines

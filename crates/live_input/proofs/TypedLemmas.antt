@@ -80,9 +80,6 @@ none_left kept bytes taken stands none =
     ap (λ t. drop (length taken) t.lines) (sym (rw none at stands)) ∙ drop-length taken
 
 -- and more bytes come
-pub more_come : (kept : TypedKept) (bytes more : List ℕ) (taken : List (List ℕ))
-    → kept.unread ≡ [] → TypedStands kept bytes taken
-    → TypedStands (record kept { unread = more }) (bytes ++ more) taken
-more_come kept bytes more taken none stands =
-    ap (λ t. fold with_byte t more) (rw none at stands)
-    ∙ sym (fold-append with_byte no_bytes bytes more)
+pub more_typed : (bytes more : List ℕ)
+    → typed_of (bytes ++ more) ≡ fold with_byte (typed_of bytes) more
+more_typed bytes more = fold-append with_byte no_bytes bytes more

@@ -8,7 +8,5 @@ live_view live = record {
   typed = typed_kept live.typed;
   closed = live.closed;
   now = live.now;
-  due = live.progress.due;
-  room = live.progress.room;
-  ended = live.progress.ended;
+  progress = live.progress;
 }

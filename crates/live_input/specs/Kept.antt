@@ -1,17 +1,15 @@
 -- What a live input keeps.
-use Rattle.std.specs.Prelude.{ℕ, Bool, List, Option}
+use Rattle.std.specs.Prelude.{ℕ, Bool, List}
+use Rattle.live_input.specs.declared.progress.Progress.{Progress}
 
 -- the bytes that came and were not taken yet, and those of the next line that were taken
 pub record TypedKept : Type 0 where
   pub unread : List ℕ
   pub line : List ℕ
 
--- what was typed; whether the input ended; the clock; when the next tick is due; how many lines it
--- may give besides an `end` and three ticks; and the ticks since the first `end`, if there was one
+-- what was typed; whether the input ended; the clock; and what the answers so far leave
 pub record Kept : Type 0 where
   pub typed : TypedKept
   pub closed : Bool
   pub now : ℕ
-  pub due : ℕ
-  pub room : ℕ
-  pub ended : Option ℕ
+  pub progress : Progress

@@ -1,8 +1,8 @@
 -- What a live input keeps, against what happened to it.
-use Rattle.std.specs.Prelude.{◌≡◌, ◌-◌, ◌∷◌, ℕ, List, length, drop, fold}
+use Rattle.std.specs.Prelude.{◌≡◌, ◌∷◌, ℕ, List, length, drop, fold}
 use Rattle.live_input.specs.Kept.{Kept, TypedKept}
-use Rattle.live_input.specs.Night.{Happening, answers, bytes_come, due, ended, is_closed}
-use Rattle.live_input.specs.Night.{lines_answered, lines_given, now}
+use Rattle.live_input.specs.Night.{Happening, answers, bytes_come, is_closed, lines_answered, now}
+use Rattle.live_input.specs.Told.{Leaves}
 use Rattle.live_input.specs.Typed.{typed_of, with_byte}
 
 -- these bytes came, and these lines were taken: what was not taken yet makes of them what all bytes
@@ -22,6 +22,4 @@ pub record StandsFor (kept : Kept) (happenings : List Happening) : Type 0 where
       (lines_answered (answers happenings))
   pub closed_is : kept.closed ≡ is_closed happenings
   pub now_is : kept.now ≡ now happenings
-  pub due_is : kept.due ≡ due (answers happenings)
-  pub room_is : kept.room ≡ 9999996 - length (lines_given (answers happenings))
-  pub ended_is : kept.ended ≡ ended (answers happenings)
+  pub leaves : Leaves kept.progress (answers happenings)

@@ -19,31 +19,31 @@ pub fn answers_are_spelled()
 {}
 
 /// The moments of the lines that are given never fall.
-#[tactic(auto, using(crate::proofs::Timely::moments_rise))]
+#[tactic(auto, using(crate::proofs::Nights::moments_rise))]
 pub fn moments_never_fall()
     ensures { MomentsNeverFall }
 {}
 
 /// Ticks are at least 23 ms apart.
-#[tactic(auto, using(crate::proofs::Timely::ticks_rise))]
+#[tactic(auto, using(crate::proofs::Nights::ticks_rise))]
 pub fn ticks_are_apart()
     ensures { TicksAreApart }
 {}
 
 /// The lines that were typed are answered each once, whole and in order.
-#[tactic(auto, using(crate::proofs::InOrder::begins))]
+#[tactic(auto, using(crate::proofs::Nights::begins))]
 pub fn lines_come_in_order()
     ensures { LinesComeInOrder }
 {}
 
 /// A tick, or an `end` that nobody typed, comes only where each line that was typed was answered.
-#[tactic(auto, using(crate::proofs::InOrder::lines_first))]
+#[tactic(auto, using(crate::proofs::Nights::lines_first))]
 pub fn lines_go_first()
     ensures { LinesGoFirst }
 {}
 
 /// Nothing comes any more exactly where three ticks came after the first `end`.
-#[tactic(auto, using(crate::proofs::InOrder::over_is))]
+#[tactic(auto, using(crate::proofs::Nights::over_is))]
 pub fn nights_end()
     ensures { NightsEnd }
 {}

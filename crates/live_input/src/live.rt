@@ -67,6 +67,7 @@ impl LiveInput {
 
     /// Takes bytes that came, at most 4,096. The condition holds at first, and wherever the last
     /// answer was `Until`.
+    #[tactic(auto, using(crate::proofs::TypedLemmas::more_typed))]
     pub fn take_bytes(&mut self, bytes: &[u8])
         requires taken { self.old.typed.unread ≡ [] }
         requires short { length bytes.now ≤ 4096 }
@@ -77,6 +78,7 @@ impl LiveInput {
     }
 
     /// Takes the end of the input: a last line without LF is a line too.
+    #[tactic(auto, using(crate::proofs::TypedLemmas::more_typed))]
     pub fn close(&mut self)
         requires taken { self.old.typed.unread ≡ [] }
         ensures { (happenings : List Happening) → StandsFor self.old happenings

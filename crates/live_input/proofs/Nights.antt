@@ -1,0 +1,183 @@
+-- What holds through a night.
+use Rattle.std.proofs.Common.{◌≤◌, ◌<◌, ◌^◌, ℕ, List, [], ◌∷◌, arith, ◌≡◌, suc, ◌+◌, Bool, true}
+use Rattle.std.proofs.Common.{false, ap, length, Option, Some, None, ◌↔◌, cond, refl, sym, ◌∙◌}
+use Rattle.std.proofs.Common.{◌++◌, drop, append_assoc, append-nil}
+use Rattle.std.specs.Prelude.{◌&&◌, ◌||◌, not, nat_lt, is_none}
+use Rattle.std.proofs.lemmas.Bool.{and_parts, cond_both}
+use Rattle.std.proofs.lemmas.Bool.Decides.{nat_tests}
+use Rattle.std.proofs.Math.Seq.{drop-append_seam}
+use Rattle.ascii_text.specs.Text.{words_of}
+use Rattle.console_text.specs.Spelling.{command_of}
+use Rattle.live_input.specs.Laws.{Rise, moments, IsAfterLines}
+use Rattle.live_input.specs.Laws as laws
+use Rattle.live_input.specs.Night.{Answer, Happening, answers, due, now, close, ended, ended_by}
+use Rattle.live_input.specs.Night.{is_closed, is_end, lines_given, order, tick, were_three}
+use Rattle.live_input.specs.Night.{answer_to, asked, bytes_come, came, closed, is_over}
+use Rattle.live_input.specs.Night.{lines_answered, lines_left, over, to_lines}
+use Rattle.live_input.specs.Typed.{typed_of}
+use Rattle.live_input.proofs.Cases.{Next, closes, takes, through, ticks, answer_is_next, nothing}
+use Rattle.live_input.proofs.Cases.{refuses, waits}
+use Rattle.live_input.proofs.TypedLemmas.{Adds, adds_on, grows}
+
+-- ---- the moments of lines and of ticks
+
+later : (gap m n : ℕ) (ms : List ℕ) → m ≤ n → Rise gap (m ∷ ms) → Rise gap (n ∷ ms)
+later gap m n [] le rise = tt
+later gap m n (newest ∷ older) le rise = (omega (arith, rise.0), rise.1)
+
+without : (gap n : ℕ) (ms : List ℕ) → Rise gap (n ∷ ms) → Rise gap ms
+without gap n [] rise = tt
+without gap n (newest ∷ older) rise = rise.1
+
+moment_by : (h : List Happening) (n : ℕ) (answer : Answer) → Next h n answer → now h ≤ n
+    → n < 2 ^ 48 → Rise 0 (now h ∷ moments (answers h)) → Rise 0 (n ∷ moments (answer ∷ answers h))
+moment_by h n _ (takes line left is fit) le below rise =
+    (omega arith, later 0 (now h) n (moments (answers h)) le rise)
+moment_by h n _ (closes is owed) le below rise =
+    (omega arith, later 0 (now h) n (moments (answers h)) le rise)
+moment_by h n _ (ticks on is none late) le below rise =
+    (omega arith, later 0 (now h) n (moments (answers h)) le rise)
+moment_by h n _ _ le below rise = later 0 (now h) n (moments (answers h)) le rise
+
+pub moments_rise : (h : List Happening) → Rise 0 (moments (answers h))
+moments_rise h = without 0 (now h) (moments (answers h))
+    (through (λ given n. Rise 0 (n ∷ moments given)) tt moment_by h)
+
+tick_by : (h : List Happening) (n : ℕ) (answer : Answer) → Next h n answer → now h ≤ n
+    → n < 2 ^ 48 → Rise 23 (due (answers h) ∷ laws.ticks (answers h))
+    → Rise 23 (due (answer ∷ answers h) ∷ laws.ticks (answer ∷ answers h))
+tick_by h n _ (ticks on is none late) le below rise =
+    (omega arith, later 23 (due (answers h)) n (laws.ticks (answers h)) late rise)
+tick_by h n _ _ le below rise = rise
+
+pub ticks_rise : (h : List Happening) → Rise 23 (laws.ticks (answers h))
+ticks_rise h = without 23 (due (answers h)) (laws.ticks (answers h))
+    (through (λ given n. Rise 23 (due given ∷ laws.ticks given)) tt tick_by h)
+
+-- ---- how many lines there are, and the ticks after `end`
+
+-- an `end` and its ticks took of the last four
+abbrev AreFew : ℕ → Option ℕ → Type 0
+AreFew count None = count ≤ 9999996
+AreFew count (Some after) = (count ≤ 9999997 + after) × (after ≤ 3)
+
+one_order : (count n : ℕ) (line : List ℕ) (since : Option ℕ) → nat_lt count 9999996 ≡ true
+    → AreFew count since → AreFew (suc count) (ended_by (order n line) since)
+one_order count n line None room few =
+    let below : count < 9999996 = grind (arith, nat_tests) in
+    cond_both (is_end (command_of (words_of line))) _ _ (AreFew (suc count))
+    (λ e. (omega arith, omega arith)) (λ e. omega arith)
+one_order count n line (Some after) room few =
+    let below : count < 9999996 = grind (arith, nat_tests) in (omega (arith, few.0), few.1)
+
+one_end : (count n : ℕ) (since : Option ℕ) (c : Bool) → (is_none since && c) ≡ true
+    → AreFew count since → AreFew (suc count) (ended_by (close n) since)
+one_end count n None c owed few = (omega (arith, few), omega arith)
+one_end count n (Some after) c owed few = cc
+
+one_tick : (count n : ℕ) (since : Option ℕ) (c : Bool) → were_three since ≡ false
+    → (is_none since && (c || not (nat_lt count 9999996))) ≡ false → AreFew count since
+    → AreFew (suc count) (ended_by (tick n) since)
+one_tick count n None c on none few =
+    let room : count < 9999996 = grind (arith, nat_tests) in omega arith
+one_tick count n (Some after) c on none few =
+    let more : after < 3 = grind (arith, nat_tests) in (omega (arith, few.0), omega arith)
+
+counted_by : (h : List Happening) (n : ℕ) (answer : Answer) → Next h n answer → now h ≤ n
+    → n < 2 ^ 48 → AreFew (length (lines_given (answers h))) (ended (answers h))
+    → AreFew (length (lines_given (answer ∷ answers h))) (ended (answer ∷ answers h))
+counted_by h n _ (takes line later is fit) le below few =
+    one_order _ n line (ended (answers h)) (and_parts _ _ fit).0 few
+counted_by h n _ (closes is owed) le below few = one_end _ n (ended (answers h)) _ owed few
+counted_by h n _ (ticks on is none late) le below few =
+    one_tick _ n (ended (answers h)) (is_closed h) on none few
+counted_by h n _ _ le below few = few
+
+counted : (h : List Happening) → AreFew (length (lines_given (answers h))) (ended (answers h))
+counted = through (λ given n. AreFew (length (lines_given given)) (ended given)) (omega arith)
+    counted_by
+
+-- there is room for all of them
+pub few_lines : (h : List Happening) → length (lines_given (answers h)) ≤ 10000000
+few_lines h = go (ended (answers h)) (counted h)
+  where
+    go : (since : Option ℕ) → AreFew (length (lines_given (answers h))) since
+        → length (lines_given (answers h)) ≤ 10000000
+    go None few = omega (arith, few)
+    go (Some after) few = omega (arith, few.0, few.1)
+
+pub just_three : (h : List Happening) → were_three (ended (answers h)) ≡ true
+    → ended (answers h) ≡ Some 3
+just_three h = go (ended (answers h)) (counted h)
+  where
+    go : (since : Option ℕ) → AreFew (length (lines_given (answers h))) since
+        → were_three since ≡ true → since ≡ Some 3
+    go None few enough = cc
+    go (Some after) few enough =
+        let le : 3 ≤ after = grind (arith, nat_tests) in
+        let same : after ≡ 3 = omega (arith, few.1) in ap Some same
+
+-- ---- the order of the lines
+
+-- the lines that were typed
+abbrev lines : List Happening → List (List ℕ)
+lines h = (typed_of (bytes_come h)).lines
+
+-- what is left of them
+left_is : (answered all left : List (List ℕ)) → Adds answered all
+    → drop (length answered) all ≡ left → all ≡ answered ++ left
+left_is answered all left b is =
+    b.1 ∙ ap (λ l. answered ++ l)
+    (sym (ap (drop (length answered)) b.1 ∙ drop-append_seam answered b.0) ∙ is)
+
+one_answered : (answered all later : List (List ℕ)) (line : List ℕ) → Adds answered all
+    → drop (length answered) all ≡ line ∷ later → Adds (answered ++ line ∷ []) all
+one_answered answered all later line b is =
+    let whole = left_is answered all (line ∷ later) b is in
+    (later, whole ∙ sym (append_assoc answered (line ∷ []) later))
+
+begins_by : (h : List Happening) (n : ℕ) (answer : Answer) → Next h n answer
+    → Adds (lines_answered (answers h)) (lines h)
+    → Adds (lines_answered (answer ∷ answers h)) (lines h)
+begins_by h n _ (takes line later is fit) b = one_answered _ (lines h) later line b is
+begins_by h n _ (refuses line later is) b = one_answered _ (lines h) later line b is
+begins_by h n _ _ b = b
+
+pub begins : (h : List Happening) → Adds (lines_answered (answers h)) (lines h)
+begins [] = ([], refl)
+begins (asked moment ∷ h) = begins_by h _ _ (answer_is_next h moment) (begins h)
+begins (came bytes ∷ h) =
+    adds_on (lines_answered (answers h)) _ _ (begins h) (grows (bytes_come h) bytes)
+begins (closed ∷ h) =
+    adds_on (lines_answered (answers h)) _ _ (begins h) (grows (bytes_come h) (10 ∷ []))
+
+none_left : (h : List Happening) → lines_left (answers h) h ≡ []
+    → lines h ≡ lines_answered (answers h)
+none_left h is =
+    left_is (lines_answered (answers h)) (lines h) [] (begins h) is
+    ∙ append-nil (lines_answered (answers h))
+
+first_by : (h : List Happening) (n : ℕ) (answer : Answer) → Next h n answer
+    → IsAfterLines answer h
+first_by h n _ (closes is owed) = none_left h is
+first_by h n _ (ticks on is none late) = none_left h is
+first_by h n _ (waits is) = none_left h is
+first_by h n _ _ = tt
+
+pub lines_first : (h : List Happening) (moment : ℕ) → IsAfterLines (answer_to h moment) h
+lines_first h moment = first_by h _ _ (answer_is_next h moment)
+
+-- ---- the end
+
+over_only : (h : List Happening) (n : ℕ) (answer : Answer) → Next h n answer → answer ≡ over
+    → is_over (answers h) ≡ true
+over_only h n _ (nothing e) is = e
+over_only h n _ _ is = cc
+
+pub over_is : (h : List Happening) (moment : ℕ)
+    → (answer_to h moment ≡ over) ↔ (ended (answers h) ≡ Some 3)
+over_is h moment = (
+  λ is. just_three h (over_only h _ _ (answer_is_next h moment) is),
+  λ is. ap (λ (since : Option ℕ). cond (were_three since) over
+      (to_lines (lines_left (answers h) h) (answers h) (is_closed h) (now (asked moment ∷ h)))) is,
+)
