@@ -46,10 +46,7 @@ end_accepted show history given n below a none = grind (arith, nat_tests, a.mome
 order_ended : (c : Command) (since : Option ℕ) (n : ℕ) (line : List ℕ)
     → command_of (words_of line) ≡ Some c
     → desk.ended_by (desk.order c) since ≡ ended_by (order n line) since
-order_ended End None n line is = rw is refl
-order_ended End (Some after) n line is = refl
-order_ended _ None n line is = rw is refl
-order_ended _ (Some after) n line is = refl
+order_ended c since n line is = grind (arith, is)
 
 -- and a refused one is no first `end`
 stays : (spelled : Option Command) (since : Option ℕ) (n : ℕ) (line : List ℕ)
@@ -90,12 +87,10 @@ order_by show history given n line below a (Some c) is =
     }
 
 ended_none : (since : Option ℕ) → is_none since ≡ true → since ≡ None
-ended_none None owed = refl
-ended_none (Some after) owed = cc
+ended_none since owed = grind (arith, owed)
 
 tick_ends : (since : Option ℕ) (n : ℕ) → desk.ended_by desk.tick since ≡ ended_by (tick n) since
-tick_ends None n = refl
-tick_ends (Some after) n = refl
+tick_ends since n = grind arith
 
 later : (history : List Act) (given : List Answer) (m n : ℕ) → m ≤ n → Agrees history given m
     → Agrees history given n

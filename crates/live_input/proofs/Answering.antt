@@ -1,29 +1,23 @@
 -- The answer to what is asked, and what is kept then.
-use Rattle.std.proofs.Common.{◌≡◌, ℕ, max, min, Bool, false, refl, sym, ◌∙◌, subst, List, [], ◌∷◌}
-use Rattle.std.proofs.Common.{◌++◌}
-use Rattle.std.specs.Prelude.{nat_le}
-use Rattle.std.proofs.lemmas.Bool.{cond_both}
+use Rattle.std.proofs.Common.{arith, ◌≡◌, ℕ, max, min, Bool, false, refl, sym, ◌∙◌, subst, List, []}
+use Rattle.std.proofs.Common.{◌∷◌, ◌++◌}
 use Rattle.live_input.specs.declared.progress.Progress.{Progress}
 use Rattle.live_input.specs.Kept.{Kept, TypedKept}
 use Rattle.live_input.specs.Night.{Answer, Happening, answer_to, answers, asked, bytes_come}
-use Rattle.live_input.specs.Night.{by_itself, due, is_closed, is_over, is_taken, lines_answered}
-use Rattle.live_input.specs.Night.{lines_left, now, owes_end, to_line, were_three}
+use Rattle.live_input.specs.Night.{by_itself, is_closed, is_over, lines_answered, lines_left, now}
+use Rattle.live_input.specs.Night.{to_line, were_three}
 use Rattle.live_input.specs.Stands.{StandsFor, TypedStands}
 use Rattle.live_input.specs.Told.{Leaves}
 
 -- a line that was typed is answered
 pub one_more : (given : List Answer) (n : ℕ) (line : List ℕ)
     → lines_answered (to_line given n line ∷ given) ≡ lines_answered given ++ line ∷ []
-one_more given n line = cond_both (is_taken given n line) _ _
-    (λ a. lines_answered (a ∷ given) ≡ lines_answered given ++ line ∷ []) (λ e. refl) (λ e. refl)
+one_more given n line = grind arith
 
 -- what comes by itself answers none
 pub none_more : (given : List Answer) (closed : Bool) (n : ℕ)
     → lines_answered (by_itself given closed n ∷ given) ≡ lines_answered given
-none_more given closed n =
-    let Same = λ (a : Answer). lines_answered (a ∷ given) ≡ lines_answered given in
-    cond_both (owes_end given closed) _ _ Same (λ e. refl)
-    (λ e. cond_both (nat_le (due given) n) _ _ Same (λ l. refl) (λ l. refl))
+none_more given closed n = grind arith
 
 -- the night is not over, and the clock was set
 pub asked_now : {kept : Kept} {h : List Happening} {low clock : ℕ} {is_last : Bool} (moment : ℕ)

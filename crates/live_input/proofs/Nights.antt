@@ -72,16 +72,12 @@ one_order count n line (Some after) room few =
 
 one_end : (count n : ℕ) (since : Option ℕ) (c : Bool) → (is_none since && c) ≡ true
     → AreFew count since → AreFew (suc count) (ended_by (close n) since)
-one_end count n None c owed few = (omega (arith, few), omega arith)
-one_end count n (Some after) c owed few = cc
+one_end count n since c owed few = grind (arith, owed, few)
 
 one_tick : (count n : ℕ) (since : Option ℕ) (c : Bool) → were_three since ≡ false
     → (is_none since && (c || not (nat_lt count 9999996))) ≡ false → AreFew count since
     → AreFew (suc count) (ended_by (tick n) since)
-one_tick count n None c on none few =
-    let room : count < 9999996 = grind (arith, nat_tests) in omega arith
-one_tick count n (Some after) c on none few =
-    let more : after < 3 = grind (arith, nat_tests) in (omega (arith, few.0), omega arith)
+one_tick count n since c on none few = grind (arith, nat_tests, on, none, few)
 
 counted_by : (h : List Happening) (n : ℕ) (answer : Answer) → Next h n answer → now h ≤ n
     → n < 2 ^ 48 → AreFew (length (lines_given (answers h))) (ended (answers h))
@@ -99,23 +95,11 @@ counted = through (λ given n. AreFew (length (lines_given given)) (ended given)
 
 -- there is room for all of them
 pub few_lines : (h : List Happening) → length (lines_given (answers h)) ≤ 10000000
-few_lines h = go (ended (answers h)) (counted h)
-  where
-    go : (since : Option ℕ) → AreFew (length (lines_given (answers h))) since
-        → length (lines_given (answers h)) ≤ 10000000
-    go None few = omega (arith, few)
-    go (Some after) few = omega (arith, few.0, few.1)
+few_lines h = let few = counted h in grind (arith, few)
 
 pub just_three : (h : List Happening) → were_three (ended (answers h)) ≡ true
     → ended (answers h) ≡ Some 3
-just_three h = go (ended (answers h)) (counted h)
-  where
-    go : (since : Option ℕ) → AreFew (length (lines_given (answers h))) since
-        → were_three since ≡ true → since ≡ Some 3
-    go None few enough = cc
-    go (Some after) few enough =
-        let le : 3 ≤ after = grind (arith, nat_tests) in
-        let same : after ≡ 3 = omega (arith, few.1) in ap Some same
+just_three h three = let few = counted h in grind (arith, nat_tests, few)
 
 -- ---- the order of the lines
 

@@ -1,6 +1,6 @@
 -- What stands in replies.
-use Rattle.std.proofs.Common.{◌≡◌, ℕ, suc, ◌+◌, Bool, true, false, not, refl, ap, ◌∙◌, arith, List}
-use Rattle.std.proofs.Common.{[], ◌∷◌, ◌++◌, append_assoc}
+use Rattle.std.proofs.Common.{◌≡◌, ℕ, suc, ◌+◌, Bool, false, not, refl, ap, ◌∙◌, arith, List, []}
+use Rattle.std.proofs.Common.{◌∷◌, ◌++◌, append_assoc}
 use Rattle.std.specs.Prelude.{All, ◌||◌, ◌==◌, nat_eq, codes, decimal, flat_map}
 use Rattle.std.specs.List.{after_first, list_any, position_or_len, starts_with}
 use Rattle.std.proofs.lemmas.Bool.Decides.{nat_tests}
@@ -45,10 +45,6 @@ x-decimal : (n : ℕ) → has_x (decimal n) ≡ false
 x-decimal n = list_any_none (λ y. y == 120) (decimal n)
     (no_digit (λ y. y == 120) (λ b low high. grind (arith, nat_tests)) n)
 
-or_false : (b : Bool) → (b || false) ≡ b
-or_false true = refl
-or_false false = refl
-
 x-outcome : (universe : ℕ) (offered : Offered)
     → has_x (outcome_text offered) ≡ is_lost (universe, offered)
 x-outcome universe (Sent n) = x-append (codes ":s") (decimal n) ∙ x-decimal n
@@ -58,27 +54,30 @@ x-outcome universe Quiet = refl
 x-pair : (universe : ℕ) (offered : Offered)
     → has_x (pair_text (universe, offered)) ≡ is_lost (universe, offered)
 x-pair universe offered =
-    x-append (codes " " ++ decimal universe) (outcome_text offered)
-    ∙ ap (λ b. b || has_x (outcome_text offered))
-    (x-append (codes " ") (decimal universe) ∙ x-decimal universe)
-    ∙ x-outcome universe offered
+    simp (list_any-append, x-decimal) (x-outcome universe offered)
 
 x-pairs : (offers : List (ℕ × Offered))
     → has_x (flat_map pair_text offers) ≡ list_any is_lost offers
 x-pairs [] = refl
 x-pairs ((universe, offered) ∷ offers) =
-    x-append (pair_text (universe, offered)) (flat_map pair_text offers)
-    ∙ ap (λ b. b || has_x (flat_map pair_text offers)) (x-pair universe offered)
-    ∙ ap (λ b. is_lost (universe, offered) || b) (x-pairs offers)
+    rw (
+      x-append (pair_text (universe, offered)) (flat_map pair_text offers),
+      x-pair universe offered,
+      x-pairs offers,
+    ) refl
 
 -- behind a name without one
 x-ticked : (name : List ℕ) (offers : List (ℕ × Offered)) → has_x name ≡ false
     → has_x ((name ++ flat_map pair_text offers) ++ codes "\n") ≡ list_any is_lost offers
 x-ticked name offers none =
-    x-append (name ++ flat_map pair_text offers) (codes "\n")
-    ∙ or_false (has_x (name ++ flat_map pair_text offers))
-    ∙ x-append name (flat_map pair_text offers)
-    ∙ ap (λ b. b || has_x (flat_map pair_text offers)) none ∙ x-pairs offers
+    let some : Bool = list_any is_lost offers in
+    let end : (some || false) ≡ some = grind (arith) in
+    rw (
+      x-append (name ++ flat_map pair_text offers) (codes "\n"),
+      x-append name (flat_map pair_text offers),
+      none,
+      x-pairs offers,
+    ) end
 
 -- ---- what is shown
 

@@ -33,8 +33,7 @@ before_passed test (d ∷ ds) rest h =
     (ap (λ l. d ∷ l) (before_passed test ds rest (All-tail (λ b. test b ≡ false) d ds h)))
 
 is_word_yes : (w : List ℕ) → 0 < length w → is_word w ≡ true
-is_word_yes [] h = absurd (omega arith)
-is_word_yes (b ∷ bs) h = refl
+is_word_yes w h = grind (arith, h)
 
 words_behind : (n : ℕ) (line : List ℕ) → 0 < length (decimal n)
     → words_of (at_moment n line) ≡ decimal n ∷ words_of line
