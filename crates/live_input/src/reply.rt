@@ -4,6 +4,7 @@ ghost use Rattle.live_input.specs.Shown.{IsShown};
 
 /// Whether a reply of `play` is shown: that to each command, each refusal, and of ticks those that
 /// lost a packet.
+#[tactic(auto, using(crate::proofs::Replies::is_shown_by))]
 pub fn is_shown(reply: &[u8]) -> bool
     ensures { IsShown reply.now result }
 {
