@@ -1,6 +1,6 @@
 -- The answer to a datagram, and what is kept of it.
 use Rattle.std.proofs.Common.{◌≡◌, ℕ, ◌≤◌, false, ap, arith, sym, subst, ◌∙◌, List, ◌∷◌, Option}
-use Rattle.std.proofs.Common.{Some, None, Ok, Err}
+use Rattle.std.proofs.Common.{Some, None, Result, Ok, Err, is_err}
 use Rattle.std.specs.Prelude.{nat_lt, if◌then◌else◌}
 use Rattle.std.specs.Option.{option_or, option_map, option_map_or}
 use Rattle.std.proofs.lemmas.Bool.Decides.{nat_tests}
@@ -15,7 +15,7 @@ use Rattle.sacn_receiver.specs.Source.{Entry, last_moment}
 use Rattle.sacn_receiver.specs.Taking.{entry_of, unheard, refusal, ignored_packet, ignored}
 use Rattle.sacn_receiver.specs.Taking.{taken_of, answer, heard}
 use Rattle.sacn_receiver.specs.Kept.{Kept, StandsFor}
-use Rattle.sacn_receiver.specs.Places.{AreApart, IsPlace, put}
+use Rattle.sacn_receiver.specs.Places.{AreApart, IsFree, IsPlace, put}
 use Rattle.sacn_receiver.proofs.Same.{same_refusal}
 use Rattle.sacn_receiver.proofs.Placing.{put_apart, stands_more}
 
@@ -61,64 +61,45 @@ module _ (r : Kept) (h : List Entry) (t : ℕ) (d : List ℕ) (p : Packet) (s : 
       ap (λ es. refusal 4 es t cid number) is ∙ ap (λ cid. refusal 4 r.records t cid number) c
       ∙ ap (refusal 4 r.records t p.fields.cid) n
 
-  pub refused_answer : (reason : Ignored) (cid : List ℕ) (number : ℕ) (es : List Entry)
+  -- the answer to a packet that is heard
+  pub heard_answer : (cid : List ℕ) (number : ℕ) (es : List Entry) (o : Option Ignored)
       → None ≡ unheard r.universe p → es ≡ r.records → cid ≡ p.fields.cid
-      → number ≡ p.fields.sequence
-      → Some reason ≡ refusal 4 es t cid number → answer 4 r.universe h t d ≡ Err reason
-  refused_answer reason cid number es e is c n q =
-      answer_is (Some reason) (after_unheard e ∙ sym (same_at cid number es is c n) ∙ sym q)
-
-  pub taken_answer : (cid : List ℕ) (number : ℕ) (es : List Entry) → None ≡ unheard r.universe p
-      → es ≡ r.records → cid ≡ p.fields.cid → number ≡ p.fields.sequence
-      → None ≡ refusal 4 es t cid number → answer 4 r.universe h t d ≡ Ok (taken_of p)
-  taken_answer cid number es e is c n q =
-      answer_is None (after_unheard e ∙ sym (same_at cid number es is c n) ∙ sym q)
+      → number ≡ p.fields.sequence → o ≡ refusal 4 es t cid number
+      → answer 4 r.universe h t d ≡ option_map_or Err o (Ok (taken_of p))
+  heard_answer cid number es o e is c n q =
+      answer_is o (after_unheard e ∙ sym (same_at cid number es is c n) ∙ sym q)
 
 -- a packet at its place
-module _ (t : ℕ) (d : List ℕ) (p : Packet) (has : HasPacket d p) (es : List Entry) (cid : List ℕ)
-    (i : ℕ) (apart : AreApart es) (place : IsPlace es t cid i) (is : cid ≡ p.fields.cid) where
-  here : IsPlace es t p.fields.cid i
-  here = subst (λ c. IsPlace es t c i) is place
+module _ (t : ℕ) (d : List ℕ) (p : Packet) (has : HasPacket d p) (r : Kept) (cid : List ℕ) (i : ℕ)
+    (apart : AreApart r.records) (place : IsPlace r.records t cid i) (is : cid ≡ p.fields.cid)
+    (new : List Entry) (kept : new ≡ put r.records i (entry_of t p)) where
+  here : IsFree t p.fields.cid r.records i
+  here = subst (λ c. IsFree t c r.records i) is place.free
 
-  pub kept_apart : (new : List Entry) → new ≡ put es i (entry_of t p) → AreApart new
-  kept_apart new e = subst AreApart (sym e) (put_apart es i (entry_of t p) apart here)
+  pub kept_apart : AreApart new
+  kept_apart = subst AreApart (sym kept) (put_apart r.records i (entry_of t p) apart here)
 
-  pub kept_stands : (r : Kept) (h new : List Entry) → es ≡ r.records → r.latest ≤ t
-      → new ≡ put es i (entry_of t p) → StandsFor r h
+  pub kept_stands : (h : List Entry) → r.latest ≤ t → StandsFor r h
       → StandsFor (record { universe = r.universe; latest = t; records = new })
       (entry_of t (front_packet d) ∷ h)
-  kept_stands r h new same time e s =
-      let stands : StandsFor (record {
-        universe = r.universe;
-        latest = t;
-        records =
-            put es i (entry_of t p);
-      }) (entry_of t p ∷ h) =
-      stands_more es i (entry_of t p) r h same apart here time s in
-      let with_new : StandsFor (record { universe = r.universe; latest = t; records = new })
-      (entry_of t p ∷ h) = subst (λ (l : List Entry). StandsFor
-      (record { universe = r.universe; latest = t; records = l }) (entry_of t p ∷ h))
-      (sym e) stands in
-      subst (λ (q : Packet). StandsFor (record { universe = r.universe; latest = t; records = new })
-      (entry_of t q ∷ h)) (sym (packet_ends d p has)) with_new
+  kept_stands h time s =
+      let P : List Entry → Packet → Type 0 = λ l q. StandsFor
+      (record { universe = r.universe; latest = t; records = l }) (entry_of t q ∷ h) in
+      subst (λ l. P l (front_packet d)) (sym kept)
+      (subst (P (put r.records i (entry_of t p))) (sym (packet_ends d p has))
+      (stands_more r i (entry_of t p) h apart here time s))
 
 -- what is heard of a datagram, by its answer
-module _ (universe : ℕ) (h : List Entry) (t : ℕ) (d : List ℕ) where
-  pub heard_refused : (r : Kept) (reason : Ignored) → answer 4 universe h t d ≡ Err reason
-      → StandsFor r h
-      → StandsFor r (heard 4 universe h t d)
-  heard_refused r reason is s = go (ignored 4 universe h t d) is
-    where
-      go : (o : Option Ignored) → option_map_or Err o (Ok (taken_of (front_packet d))) ≡ Err reason
-          → StandsFor r (option_map_or (λ _. h) o (entry_of t (front_packet d) ∷ h))
-      go None e = cc
-      go (Some x) e = s
-
-  pub heard_taken : (r : Kept) (taken : Taken) → answer 4 universe h t d ≡ Ok taken
-      → StandsFor r (entry_of t (front_packet d) ∷ h) → StandsFor r (heard 4 universe h t d)
-  heard_taken r taken is s = go (ignored 4 universe h t d) is
-    where
-      go : (o : Option Ignored) → option_map_or Err o (Ok (taken_of (front_packet d))) ≡ Ok taken
-          → StandsFor r (option_map_or (λ _. h) o (entry_of t (front_packet d) ∷ h))
-      go None e = s
-      go (Some x) e = cc
+pub heard_by : (universe : ℕ) (h : List Entry) (t : ℕ) (d : List ℕ) (r : Kept)
+    (x : Result Taken Ignored) → x ≡ answer 4 universe h t d
+    → StandsFor r (if is_err x then h else entry_of t (front_packet d) ∷ h)
+    → StandsFor r (heard 4 universe h t d)
+heard_by universe h t d r x is s = go (ignored 4 universe h t d) (subst
+    (λ x. StandsFor r (if is_err x then h else entry_of t (front_packet d) ∷ h)) is s)
+  where
+    go : (o : Option Ignored)
+        → StandsFor r (if is_err (option_map_or Err o (Ok (taken_of (front_packet d)))) then h else
+        entry_of t (front_packet d) ∷ h)
+        → StandsFor r (option_map_or (λ _. h) o (entry_of t (front_packet d) ∷ h))
+    go None s = s
+    go (Some reason) s = s

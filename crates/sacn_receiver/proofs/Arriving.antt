@@ -5,6 +5,7 @@ use Rattle.std.proofs.Common.{List, [], ◌∷◌, map, Option, Some, None, Ok, 
 use Rattle.std.specs.Prelude.{if◌then◌else◌, is_none, filter, find, Contains, IsTrue}
 use Rattle.std.specs.Option.{option_or, option_map, option_map_or}
 use Rattle.std.specs.List.{list_any}
+use Rattle.std.proofs.lemmas.Bool.{cond_both}
 use Rattle.std.proofs.lemmas.List.Elements.{All-head, All-tail, All-filter}
 use Rattle.sacn_packet.specs.Reading.{front_packet}
 use Rattle.sacn_packet.specs.Faults.{fault_of}
@@ -18,10 +19,10 @@ use Rattle.sacn_receiver.specs.Arrivals.{Arrival, heard_all, last_arrival, Never
 use Rattle.sacn_receiver.specs.Arrivals.{is_heard, cid_of, is_from, HeardAreFrom, packets_heard}
 use Rattle.sacn_receiver.specs.Laws.{accepted, HeardAreAccepted, RecordsAreIndependent}
 use Rattle.sacn_receiver.specs.Laws.{AnswersAreIndependent}
-use Rattle.sacn_receiver.proofs.Apart.{AllIn}
+use Rattle.sacn_receiver.proofs.Members.{by_test}
+use Rattle.sacn_receiver.proofs.Apart.{AllIn, one_of}
 use Rattle.sacn_receiver.proofs.Answering.{not_before}
-use Rattle.sacn_receiver.proofs.Independent.{in_from_place, accepted_in, one_of, alike}
-use Rattle.sacn_receiver.proofs.Independent.{independent}
+use Rattle.sacn_receiver.proofs.Independent.{in_from_place, accepted_in, alike, independent}
 
 -- the entry of an arrival's packet, where it is accepted
 abbrev pub entry_from : Arrival → Entry
@@ -32,9 +33,13 @@ in_parts : (x y z : Option Ignored) → option_or x (option_or y z) ≡ option_o
 in_parts None y z = refl
 in_parts (Some r) y z = refl
 
+only_if_none : (o x y : Option Ignored) → (is_none o ≡ true → x ≡ y) → option_or o x ≡ option_or o y
+only_if_none None x y h = h refl
+only_if_none (Some r) x y h = refl
+
 module _ (room universe : ℕ) (h : List Entry) (a : Arrival) (time : last_moment h ≤ a.moment) where
   -- in time, a datagram is ignored because it is not heard, or by the source rule
-  pub ignored_in_time : ignored room universe h a.moment a.datagram
+  ignored_in_time : ignored room universe h a.moment a.datagram
       ≡ option_or (not_heard universe a.datagram)
       (refusal room h a.moment (cid_of a) (entry_from a).number)
   ignored_in_time =
@@ -46,7 +51,7 @@ module _ (room universe : ℕ) (h : List Entry) (a : Arrival) (time : last_momen
       (refusal room h a.moment (cid_of a) (entry_from a).number)
 
   -- so it lengthens the history where it is heard and accepted
-  pub heard_in_time : heard room universe h a.moment a.datagram
+  heard_in_time : heard room universe h a.moment a.datagram
       ≡ (if is_heard universe a then (if is_accepted room h a.moment (cid_of a)
       (entry_from a).number then entry_from a ∷ h else h) else h)
   heard_in_time =
@@ -63,7 +68,7 @@ module _ (room universe : ℕ) (h : List Entry) (a : Arrival) (time : last_momen
       go (Some x) b r e = refl
 
 -- the last accepted packet is not after the last arrival
-pub last_heard : (room universe : ℕ) (arrivals : List Arrival) → NeverFall arrivals
+last_heard : (room universe : ℕ) (arrivals : List Arrival) → NeverFall arrivals
     → last_moment (heard_all room universe arrivals) ≤ last_arrival arrivals
 last_heard room universe [] n = omega arith
 last_heard room universe (a ∷ older) n =
@@ -75,92 +80,78 @@ last_heard room universe (a ∷ older) n =
     go None h l = omega arith
     go (Some r) h l = l
 
+in_time : (room universe : ℕ) (a : Arrival) (older : List Arrival) → NeverFall (a ∷ older)
+    → last_moment (heard_all room universe older) ≤ a.moment
+in_time room universe a older n = omega (arith, n.0, last_heard room universe older n.1)
+
 pub heard_accepted : HeardAreAccepted
 heard_accepted room universe [] n = refl
 heard_accepted room universe (a ∷ older) n =
     heard_in_time room universe (heard_all room universe older) a
-    (omega (arith, n.0, last_heard room universe older n.1))
-    ∙ go (is_heard universe a) refl (heard_all room universe older)
+    (in_time room universe a older n)
+    ∙ ap (λ h. if is_heard universe a then (if is_accepted room h a.moment (cid_of a)
+    (entry_from a).number then entry_from a ∷ h else h) else h)
     (heard_accepted room universe older n.1)
+    ∙ go (is_heard universe a) (filter (is_heard universe) older)
   where
-    go : (b : Bool) → is_heard universe a ≡ b → (h : List Entry)
-        → h ≡ accepted room (packets_heard universe older)
-        → (if b then (if is_accepted room h a.moment (cid_of a)
-        (entry_from a).number then entry_from a ∷ h else h) else h)
-        ≡ accepted room (packets_heard universe (a ∷ older))
-    go true q h ih =
-        ap (λ g. if is_accepted room g a.moment (cid_of a) (entry_from a).number then entry_from
-        a ∷ g else g) ih
-        ∙ sym
-        (ap (λ b. accepted room (map entry_from
-        (if b then a ∷ filter (is_heard universe) older else filter (is_heard universe) older))) q)
-    go false q h ih =
-        ih
-        ∙ sym
-        (ap (λ b. accepted room (map entry_from
-        (if b then a ∷ filter (is_heard universe) older else filter (is_heard universe) older))) q)
+    go : (b : Bool) (rest : List Arrival)
+        → (if b then (if is_accepted room (accepted room (map entry_from rest)) a.moment (cid_of a)
+        (entry_from a).number then entry_from a ∷ accepted room (map entry_from rest) else accepted
+        room (map entry_from rest)) else accepted room (map entry_from rest))
+        ≡ accepted room (map entry_from (if b then a ∷ rest else rest))
+    go true rest = refl
+    go false rest = refl
 
 -- the packets of some of the arrivals
-module _ (cid : List ℕ) (universe : ℕ) where
-  pub packets_from : (arrivals : List Arrival)
-      → packets_heard universe (filter (is_from cid) arrivals)
-      ≡ filter (same_cid cid) (packets_heard universe arrivals)
-  packets_from [] = refl
-  packets_from (a ∷ older) = go (is_from cid a) (is_heard universe a) refl refl (packets_from older)
-    where
-      go : (b c : Bool) → is_from cid a ≡ b → is_heard universe a ≡ c
-          → packets_heard universe (filter (is_from cid) older)
-          ≡ filter (same_cid cid) (packets_heard universe older)
-          → packets_heard universe (filter (is_from cid) (a ∷ older))
-          ≡ filter (same_cid cid) (packets_heard universe (a ∷ older))
-      go true true p q ih = simp (p, q) (ap (λ l. entry_from a ∷ l) ih)
-      go true false p q ih = simp (p, q) ih
-      go false true p q ih = simp (p, q) ih
-      go false false p q ih = simp (p, q) ih
+packets_from : (cid : List ℕ) (universe : ℕ) (arrivals : List Arrival)
+    → packets_heard universe (filter (is_from cid) arrivals)
+    ≡ filter (same_cid cid) (packets_heard universe arrivals)
+packets_from cid universe [] = refl
+packets_from cid universe (a ∷ older) =
+    by_test (is_from cid a) (λ p. by_test (is_heard universe a)
+    (λ q. simp (p, q) (ap (λ l. entry_from a ∷ l) (packets_from cid universe older)))
+    (λ q. simp (p, q) (packets_from cid universe older)))
+    (λ p. by_test (is_heard universe a) (λ q. simp (p, q) (packets_from cid universe older))
+    (λ q. simp (p, q) (packets_from cid universe older)))
 
 -- of some of the arrivals too the moments never fall
-pub last_of_some : (p : Arrival → Bool) (arrivals : List Arrival) → NeverFall arrivals
+last_of_some : (p : Arrival → Bool) (arrivals : List Arrival) → NeverFall arrivals
     → last_arrival (filter p arrivals) ≤ last_arrival arrivals
 last_of_some p [] n = omega arith
-last_of_some p (a ∷ older) n = go (p a) (last_of_some p older n.1)
-  where
-    go : (b : Bool) → last_arrival (filter p older) ≤ last_arrival older
-        → last_arrival (if b then a ∷ filter p older else filter p older) ≤ a.moment
-    go true l = omega arith
-    go false l = omega (arith, l, n.0)
+last_of_some p (a ∷ older) n =
+    cond_both (p a) (a ∷ filter p older) (filter p older) (λ l. last_arrival l ≤ a.moment)
+    (λ _. omega arith) (λ _. omega (arith, last_of_some p older n.1, n.0))
 
-pub some_never_fall : (p : Arrival → Bool) (arrivals : List Arrival) → NeverFall arrivals
+some_never_fall : (p : Arrival → Bool) (arrivals : List Arrival) → NeverFall arrivals
     → NeverFall (filter p arrivals)
 some_never_fall p [] n = tt
-some_never_fall p (a ∷ older) n = go (p a) (last_of_some p older n.1) (some_never_fall p older n.1)
-  where
-    go : (b : Bool) → last_arrival (filter p older) ≤ last_arrival older
-        → NeverFall (filter p older) → NeverFall (if b then a ∷ filter p older else filter p older)
-    go true l ih = (omega (arith, l, n.0), ih)
-    go false l ih = ih
+some_never_fall p (a ∷ older) n =
+    cond_both (p a) (a ∷ filter p older) (filter p older) NeverFall
+    (λ _. (omega (arith, last_of_some p older n.1, n.0), some_never_fall p older n.1))
+    (λ _. some_never_fall p older n.1)
+
+-- an arrival comes from one of these sources, if it is heard
+abbrev IsOf : List (List ℕ) → ℕ → Arrival → Type 0
+IsOf cids universe a = IsTrue (is_heard universe a) → Contains cids (cid_of a)
 
 -- a CID that is among those of the arrivals
-pub is_one_of : (cids : List (List ℕ)) (universe : ℕ) (a : Arrival) (older : List Arrival)
+is_one_of : (cids : List (List ℕ)) (universe : ℕ) (a : Arrival) (older : List Arrival)
     → HeardAreFrom cids universe (a ∷ older)
     → is_heard universe a ≡ true → list_any (λ c. same_cid c (entry_from a)) cids ≡ true
 is_one_of cids universe a older s q =
-    let there : Contains cids (cid_of a) = All-head (λ (x : Arrival). IsTrue (is_heard universe x)
-    → Contains cids (cid_of x)) a older s q in
+    let there : Contains cids (cid_of a) = All-head (IsOf cids universe) a older s q in
     one_of (entry_from a) cids (in_from_place (cid_of a) cids there.0 there.1 there.2)
 
 -- they come from the sources of the arrivals
-pub packets_in : (cids : List (List ℕ)) (universe : ℕ) (arrivals : List Arrival)
+packets_in : (cids : List (List ℕ)) (universe : ℕ) (arrivals : List Arrival)
     → HeardAreFrom cids universe arrivals → AllIn cids (packets_heard universe arrivals)
 packets_in cids universe [] s = tt
 packets_in cids universe (a ∷ older) s =
-    go (is_heard universe a) refl (packets_in cids universe older
-    (All-tail (λ (x : Arrival). IsTrue (is_heard universe x) → Contains cids (cid_of x)) a older s))
-  where
-    go : (b : Bool) → is_heard universe a ≡ b → AllIn cids (packets_heard universe older)
-        → AllIn cids (map entry_from (if b then a ∷ filter (is_heard universe) older else filter
-        (is_heard universe) older))
-    go true q ih = (is_one_of cids universe a older s q, ih)
-    go false q ih = ih
+    let ih : AllIn cids (packets_heard universe older) =
+    packets_in cids universe older (All-tail (IsOf cids universe) a older s) in
+    cond_both (is_heard universe a) (a ∷ filter (is_heard universe) older)
+    (filter (is_heard universe) older) (λ l. AllIn cids (map entry_from l))
+    (λ q. (is_one_of cids universe a older s q, ih)) (λ _. ih)
 
 pub records_independent : RecordsAreIndependent
 records_independent room universe cids arrivals few from n cid =
@@ -173,7 +164,7 @@ records_independent room universe cids arrivals few from n cid =
     ∙ ap (accepted room) (packets_from cid universe arrivals)))
 
 -- what is accepted comes from the sources of the arrivals
-pub heard_in : (room : ℕ) (cids : List (List ℕ)) (universe : ℕ) (arrivals : List Arrival)
+heard_in : (room : ℕ) (cids : List (List ℕ)) (universe : ℕ) (arrivals : List Arrival)
     → HeardAreFrom cids universe arrivals → NeverFall arrivals
     → AllIn cids (heard_all room universe arrivals)
 heard_in room cids universe arrivals from n =
@@ -184,8 +175,9 @@ heard_in room cids universe arrivals from n =
 pub answers_independent : AnswersAreIndependent
 answers_independent room universe cids a older few from n =
     ap (λ o. option_map_or Err o (Ok (taken_of (front_packet a.datagram))))
-    (ignored_in_time room universe g a in_time_all ∙ go (not_heard universe a.datagram) refl
-    ∙ sym (ignored_in_time room universe h a in_time_own))
+    (ignored_in_time room universe g a (in_time room universe a older n)
+    ∙ only_if_none (not_heard universe a.datagram) _ _ same_refusal
+    ∙ sym (ignored_in_time room universe h a (in_time room universe a own own_falls)))
   where
     own : List Arrival
     own = filter (is_from (cid_of a)) older
@@ -197,50 +189,27 @@ answers_independent room universe cids a older few from n =
     h = heard_all room universe own
 
     rest_from : HeardAreFrom cids universe older
-    rest_from = All-tail (λ (x : Arrival). IsTrue (is_heard universe x)
-        → Contains cids (cid_of x)) a older from
+    rest_from = All-tail (IsOf cids universe) a older from
 
-    own_from : HeardAreFrom cids universe own
-    own_from = All-filter (is_from (cid_of a)) (λ (x : Arrival). IsTrue (is_heard universe x)
-        → Contains cids (cid_of x)) older rest_from
-
-    own_falls : NeverFall own
-    own_falls = some_never_fall (is_from (cid_of a)) older n.1
-
-    in_time_all : last_moment g ≤ a.moment
-    in_time_all = omega (arith, n.0, last_heard room universe older n.1)
-
-    in_time_own : last_moment h ≤ a.moment
-    in_time_own = omega (
-      arith,
-      n.0,
-      last_of_some (is_from (cid_of a)) older n.1,
-      last_heard room universe own own_falls,
+    own_falls : NeverFall (a ∷ own)
+    own_falls = (
+      omega (arith, n.0, last_of_some (is_from (cid_of a)) older n.1),
+      some_never_fall (is_from (cid_of a)) older n.1,
     )
 
     same_record : record_of g a.moment (cid_of a) ≡ record_of h a.moment (cid_of a)
     same_record = ap (while_there a.moment)
         (records_independent room universe cids older few rest_from n.1 (cid_of a))
 
-    same_accepted : is_heard universe a ≡ true
-        → is_accepted room g a.moment (cid_of a) (entry_from a).number
-        ≡ is_accepted room h a.moment (cid_of a) (entry_from a).number
-    same_accepted q =
-        alike room cids (entry_from a) few (is_one_of cids universe a older from q) g h
+    same_refusal : is_heard universe a ≡ true
+        → refusal room g a.moment (cid_of a) (entry_from a).number
+        ≡ refusal room h a.moment (cid_of a) (entry_from a).number
+    same_refusal q =
+        ap (λ b. if b then None else Some (reason_of (record_of g a.moment (cid_of a))))
+        (alike room cids (entry_from a) few (is_one_of cids universe a older from q) g h
         (heard_in room cids universe older rest_from n.1)
-        (heard_in room cids universe own own_from own_falls) same_record
-
-    go : (o : Option Ignored) → not_heard universe a.datagram ≡ o
-        → option_or (not_heard universe a.datagram)
-        (refusal room g a.moment (cid_of a) (entry_from a).number)
-        ≡ option_or (not_heard universe a.datagram)
-        (refusal room h a.moment (cid_of a) (entry_from a).number)
-    go (Some r) q =
-        ap (λ o. option_or o (refusal room g a.moment (cid_of a) (entry_from a).number)) q
-        ∙ sym (ap (λ o. option_or o (refusal room h a.moment (cid_of a) (entry_from a).number)) q)
-    go None q =
-        ap (option_or (not_heard universe a.datagram))
-        (ap (λ b. if b then None else Some (reason_of (record_of g a.moment (cid_of a))))
-        (same_accepted (ap is_none q))
+        (heard_in room cids universe own
+        (All-filter (is_from (cid_of a)) (IsOf cids universe) older rest_from) own_falls.1)
+        same_record)
         ∙ ap (λ o. if is_accepted room h a.moment (cid_of a)
-        (entry_from a).number then None else Some (reason_of o)) same_record)
+        (entry_from a).number then None else Some (reason_of o)) same_record

@@ -2,11 +2,8 @@ pub mod Members
 pub mod Apart
 pub mod Same
 pub mod Placing
-pub mod Finding
-pub mod Known
 pub mod Merging
 pub mod Answering
 pub mod Independent
 pub mod Arriving
-pub mod Living
 pub mod Rows

@@ -3,6 +3,11 @@ use Rattle.std.proofs.Common.{◌≡◌, ◌≤◌, Bool, true, false, not, ◌�
 use Rattle.std.proofs.Common.{◌∙◌, List, [], ◌∷◌, map, length, Some, None}
 use Rattle.std.specs.Prelude.{filter, find}
 
+-- what holds where a test passes, and where it fails
+pub by_test : {P : Type 0} (b : Bool) → (b ≡ true → P) → (b ≡ false → P) → P
+by_test true f g = f refl
+by_test false f g = g refl
+
 -- membership
 abbrev pub In : {A : Type 0} → A → List A → Type 0
 In e [] = ⊥
@@ -12,89 +17,61 @@ module _ {A : Type 0} (p : A → Bool) where
   pub In_filter : (e : A) (es : List A) → In e es → p e ≡ true → In e (filter p es)
   In_filter e [] i q = i
   In_filter e (x ∷ xs) (inl s) q = rw (sym (ap p s) ∙ q) (inl s)
-  In_filter e (x ∷ xs) (inr i) q = go (p x) refl (In_filter e xs i q)
-    where
-      go : (b : Bool) → p x ≡ b → In e (filter p xs) → In e (filter p (x ∷ xs))
-      go true h j = rw h (inr j)
-      go false h j = rw h j
+  In_filter e (x ∷ xs) (inr i) q =
+      by_test (p x) (λ h. rw h (inr (In_filter e xs i q))) (λ h. rw h (In_filter e xs i q))
 
   pub In_filtered : (e : A) (es : List A) → In e (filter p es) → In e es × (p e ≡ true)
   In_filtered e [] i = absurd i
-  In_filtered e (x ∷ xs) i = go (p x) refl i (In_filtered e xs)
-    where
-      go : (b : Bool) → p x ≡ b → In e (filter p (x ∷ xs))
-          → (In e (filter p xs) → In e xs × (p e ≡ true)) → In e (x ∷ xs) × (p e ≡ true)
-      go true h j ih = elim (rw h at j) [
+  In_filtered e (x ∷ xs) i =
+      by_test (p x) (λ h. elim (rw h at i) [
         | inl s ↦ (inl s, ap p s ∙ h)
-        | inr k ↦
-            (inr (ih k).0, (ih k).1)
-      ]
-      go false h j ih = let k = ih (rw h at j) in (inr k.0, k.1)
+        | inr k ↦ let r = In_filtered e xs k in (inr r.0, r.1)
+      ]) (λ h. let r = In_filtered e xs (rw h at i) in (inr r.0, r.1))
+
+  -- what is found is in the list, and passes
+  pub found_in : (e : A) (es : List A) → find p es ≡ Some e → In e es × (p e ≡ true)
+  found_in e [] f = absurd (let k : None ≡ Some e = f in cc)
+  found_in e (x ∷ xs) f =
+      by_test (p x) (λ h. let s : Some x ≡ Some e = rw h at f in let k : e ≡ x = cc in
+      (inl k, ap p k ∙ h)) (λ h. let r = found_in e xs (rw h at f) in (inr r.0, r.1))
 
   -- what a filter leaves out is not in it
   pub filter_out : (es : List A) → length (filter p (filter (λ e. not (p e)) es)) ≡ 0
   filter_out [] = refl
-  filter_out (e ∷ es) = go (p e) refl (filter_out es)
-    where
-      go : (b : Bool) → p e ≡ b → length (filter p (filter (λ f. not (p f)) es)) ≡ 0
-          → length (filter p (filter (λ f. not (p f)) (e ∷ es))) ≡ 0
-      go true q ih = rw q ih
-      go false q ih = rw (q, q) ih
+  filter_out (e ∷ es) =
+      by_test (p e) (λ h. rw h (filter_out es)) (λ h. rw (h, h) (filter_out es))
 
-  -- a filter keeps all where all pass
-  pub filter_all : (es : List A) → length (filter (λ e. not (p e)) es) ≡ 0 → filter p es ≡ es
+  -- where none passes, all fail
+  pub filter_all : (es : List A) → length (filter p es) ≡ 0 → filter (λ e. not (p e)) es ≡ es
   filter_all [] n = refl
-  filter_all (e ∷ es) n = go (p e) refl n (filter_all es)
-    where
-      go : (b : Bool) → p e ≡ b → length (filter (λ f. not (p f)) (e ∷ es)) ≡ 0
-          → (length (filter (λ f. not (p f)) es) ≡ 0 → filter p es ≡ es)
-          → filter p (e ∷ es) ≡ e ∷ es
-      go true q m ih = rw q (ap (λ l. e ∷ l) (ih (rw q at m)))
-      go false q m ih = absurd (let k = rw q at m in omega (arith, k))
+  filter_all (e ∷ es) n =
+      by_test (p e) (λ h. absurd (let k = rw h at n in omega (arith, k)))
+      (λ h. rw h (ap (λ l. e ∷ l) (filter_all es (rw h at n))))
 
   -- nothing is found where nothing passes
   pub find_none : (es : List A) → length (filter p es) ≡ 0 → find p es ≡ None
   find_none [] n = refl
-  find_none (e ∷ es) n = go (p e) refl n (find_none es)
-    where
-      go : (b : Bool) → p e ≡ b → length (filter p (e ∷ es)) ≡ 0
-          → (length (filter p es) ≡ 0 → find p es ≡ None) → find p (e ∷ es) ≡ None
-      go true q m ih = absurd (let k = rw q at m in omega (arith, k))
-      go false q m ih = rw q (ih (rw q at m))
+  find_none (e ∷ es) n =
+      by_test (p e) (λ h. absurd (let k = rw h at n in omega (arith, k)))
+      (λ h. rw h (find_none es (rw h at n)))
 
   pub none_found : (es : List A) → find p es ≡ None → length (filter p es) ≡ 0
   none_found [] n = refl
-  none_found (e ∷ es) n = go (p e) refl n (none_found es)
-    where
-      go : (b : Bool) → p e ≡ b → find p (e ∷ es) ≡ None
-          → (find p es ≡ None → length (filter p es) ≡ 0) → length (filter p (e ∷ es)) ≡ 0
-      go true q m ih = absurd (let k : Some e ≡ None = rw q at m in cc)
-      go false q m ih = rw q (ih (rw q at m))
+  none_found (e ∷ es) n =
+      by_test (p e) (λ h. absurd (let k : Some e ≡ None = rw h at n in cc))
+      (λ h. rw h (none_found es (rw h at n)))
 
-module _ {A : Type 0} (p q : A → Bool) where
-  -- filtering first leaves no more
-  pub filter_less : (es : List A) → length (filter q (filter p es)) ≤ length (filter q es)
-  filter_less [] = omega arith
-  filter_less (e ∷ es) = go (p e) (q e) refl refl (filter_less es)
-    where
-      go : (b c : Bool) → p e ≡ b → q e ≡ c → length (filter q (filter p es)) ≤ length (filter q es)
-          → length (filter q (filter p (e ∷ es))) ≤ length (filter q (e ∷ es))
-      go true true h k ih = rw (h, k) (omega arith)
-      go true false h k ih = rw (h, k) ih
-      go false true h k ih = rw (h, k) (omega arith)
-      go false false h k ih = rw (h, k) ih
+  pub rest_less : (e : A) (es : List A) → length (filter p es) ≤ length (filter p (e ∷ es))
+  rest_less e es = by_test (p e) (λ h. rw h (omega arith)) (λ h. rw h (omega arith))
 
-  -- two filters in either order
-  pub filter_swap : (es : List A) → filter p (filter q es) ≡ filter q (filter p es)
-  filter_swap [] = refl
-  filter_swap (e ∷ es) = go (p e) (q e) refl refl (filter_swap es)
-    where
-      go : (b c : Bool) → p e ≡ b → q e ≡ c → filter p (filter q es) ≡ filter q (filter p es)
-          → filter p (filter q (e ∷ es)) ≡ filter q (filter p (e ∷ es))
-      go true true h k ih = simp (h, k) (ap (λ l. e ∷ l) ih)
-      go true false h k ih = simp (h, k) ih
-      go false true h k ih = simp (h, k) ih
-      go false false h k ih = rw (h, k) ih
+-- filtering first leaves no more
+pub filter_less : {A : Type 0} (p q : A → Bool) (es : List A)
+    → length (filter q (filter p es)) ≤ length (filter q es)
+filter_less p q [] = omega arith
+filter_less p q (e ∷ es) =
+    by_test (p e) (λ h. by_test (q e) (λ k. rw (h, k) (omega (arith, filter_less p q es)))
+    (λ k. rw (h, k) (filter_less p q es)))
+    (λ h. rw h (omega (arith, filter_less p q es, rest_less q e es)))
 
 module _ {A B : Type 0} (f : A → B) where
   pub In_map : (e : A) (es : List A) → In e es → In (f e) (map f es)

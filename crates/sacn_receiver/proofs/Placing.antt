@@ -1,165 +1,284 @@
--- A packet that is kept at its place.
-use Rattle.std.proofs.Common.{◌≡◌, ℕ, suc, ◌+◌, ◌-◌, ◌≤◌, Bool, true, false, refl, ap, arith, sym}
-use Rattle.std.proofs.Common.{◌∙◌, List, [], ◌∷◌, ◌++◌, length, take, drop, None}
-use Rattle.std.specs.Prelude.{nat_lt, filter, find}
-use Rattle.std.specs.Option.{option_or}
-use Rattle.std.proofs.lemmas.List.{take-append-drop, drop-drop, length-append}
-use Rattle.std.proofs.lemmas.List.Elements.{filter-append, filter_agree}
-use Rattle.std.proofs.lemmas.List.Folds.{find-append}
+-- The place that is found for a packet, the answer where there is none, and what a packet that is
+-- kept at its place leaves.
+use Rattle.std.proofs.Common.{◌≡◌, ℕ, ◌<◌, ◌≤◌, ◌⊎◌, Bool, true, false, not, refl, ap, arith, sym}
+use Rattle.std.proofs.Common.{subst, inl, inr, ◌∙◌, List, [], ◌∷◌, map, length, get_or, suc, Option}
+use Rattle.std.proofs.Common.{Some, None, Result, zero, ◌-◌, one-add}
+use Rattle.std.specs.Prelude.{nat_lt, if◌then◌else◌, filter, find, is_some, IfSome, IfOk, slice_get}
+use Rattle.std.specs.Option.{ok_or, option_map}
+use Rattle.std.specs.Result.{result_err}
+use Rattle.std.specs.List.{position, position_or_len}
+use Rattle.std.proofs.lemmas.Bool.{ltb-true, ltb-false, lt-ltb, not-true}
+use Rattle.std.proofs.lemmas.Option.{cond_some, slice_get-get_or, slice_get_past}
+use Rattle.std.proofs.lemmas.List.{length-map}
+use Rattle.std.proofs.lemmas.List.Filters.{length-filter_both}
+use Rattle.std.proofs.lemmas.List.Folds.{find_at}
+use Rattle.std.proofs.lemmas.List.Sums.{fails_before_first, prefix_len-le-length}
+use Rattle.sacn_receiver.specs.declared.record.Record.{Record}
+use Rattle.sacn_receiver.specs.declared.answer.Ignored.{Ignored}
+use Rattle.sacn_receiver.specs.declared.answer.Ignored.TheVariants.{OutOfSequence, SourcesFull}
+use Rattle.sacn_receiver.specs.Source.{Entry, same_cid, is_there, is_after, records, while_there}
+use Rattle.sacn_receiver.specs.Source.{is_taken, record_of}
+use Rattle.sacn_receiver.specs.Taking.{reason_of, refusal}
+use Rattle.sacn_receiver.specs.Records.{entries, kept_entry}
+use Rattle.sacn_receiver.specs.Places.{AreApart, IsFree, IsPlace, put}
+use Rattle.sacn_receiver.proofs.Members.{by_test, find_none, none_found, rest_less}
+use Rattle.sacn_receiver.proofs.Apart.{newest_all, rest_apart, alone, as_many_of}
+use Rattle.sacn_receiver.proofs.Same.{by_record}
 use Rattle.std.proofs.lemmas.Cmp.{nat_list_eq_equiv}
 use Rattle.std.proofs.lemmas.Bool.Decides.{nat_tests}
-use Rattle.sacn_receiver.specs.Source.{Entry, same_cid, is_there, while_there, record_of}
 use Rattle.sacn_receiver.specs.Kept.{Kept, StandsFor}
-use Rattle.sacn_receiver.specs.Places.{AreApart, IsFree, IsPlace, put, others}
-use Rattle.sacn_receiver.proofs.Members.{find_none, none_found}
 
--- of one CID or another, a record stays away once it is gone
+-- the first place that passes, if there is one
+module _ {A : Type 0} (p : A → Bool) (xs : List A) where
+  pub placed : (i : ℕ) → position p xs ≡ Some i
+      → (position_or_len p xs ≡ i) × (position_or_len p xs < length xs)
+  placed i e =
+      let w = cond_some (nat_lt (position_or_len p xs) (length xs)) (position_or_len p xs) i e in
+      (w.1, ltb-true (position_or_len p xs) (length xs) w.0)
+
+  pub no_place : position p xs ≡ None → length xs ≤ position_or_len p xs
+  no_place e =
+      by_test (nat_lt (position_or_len p xs) (length xs))
+      (λ h. absurd (let z : Some (position_or_len p xs) ≡ None = rw h at e in cc))
+      (λ h. ltb-false (position_or_len p xs) (length xs) h)
+
+find_mapped : {A B : Type 0} (f : A → B) (p : B → Bool) (xs : List A)
+    → find p (map f xs) ≡ option_map f (find (λ x. p (f x)) xs)
+find_mapped f p [] = refl
+find_mapped f p (x ∷ xs) = by_test (p (f x)) (λ h. rw h) (λ h. rw h (find_mapped f p xs))
+
+-- the records of some that are apart
+pub records_all : (es : List Entry) (t : ℕ) → AreApart es → records es t ≡ filter (is_there t) es
+records_all es t a = ap (filter (is_there t)) (newest_all es a)
+
+module _ (t : ℕ) where
+  abbrev pub gone : Record → Bool
+  gone r = not (is_there t (kept_entry r))
+
+  -- all are there, or one is gone and makes room
+  pub there_or_gone : (rs : List Record)
+      → ((position_or_len gone rs ≡ length rs)
+      × (length (filter (is_there t) (entries rs)) ≡ length rs))
+      ⊎ ((position_or_len gone rs < length rs)
+      × (length (filter (is_there t) (entries rs)) < length rs))
+  there_or_gone [] = inl (refl, refl)
+  there_or_gone (r ∷ rs) =
+      by_test (is_there t (kept_entry r)) (λ k. rw k (elim (there_or_gone rs) [
+        | inl s ↦ inl (omega (arith, s.0), ap suc s.1)
+        | inr s ↦ inr (omega (arith, s.0), omega (arith, s.1))
+      ])) (λ k. rw k (inr (
+        omega arith,
+        omega (
+          arith,
+          length-filter_both (is_there t) (λ e. not (is_there t e)) (λ _. refl) (entries rs),
+          length-map rs kept_entry,
+        ),
+      )))
+
+  pub all_there : (rs : List Record) → position gone rs ≡ None
+      → (position_or_len gone rs ≡ length rs)
+      × (length (filter (is_there t) (entries rs)) ≡ length rs)
+  all_there rs e = elim (there_or_gone rs) [
+    | inl s ↦ s
+    | inr s ↦ absurd (omega (arith, s.0, no_place gone rs e))
+  ]
+
+  pub some_gone : (rs : List Record) (i : ℕ) → position gone rs ≡ Some i
+      → length (filter (is_there t) (entries rs)) < length rs
+  some_gone rs i e = elim (there_or_gone rs) [
+    | inl s ↦ absurd (omega (arith, s.0, (placed gone rs i e).1))
+    | inr s ↦ s.1
+  ]
+
+  one_gone : (rs : List Record) (i : ℕ) (d : Record) → i < length rs → gone (get_or rs i d) ≡ true
+      → length (filter (is_there t) (entries rs)) < length rs
+  one_gone rs i d l q = elim (there_or_gone rs) [
+    | inl s ↦
+        absurd (let z : gone (get_or rs i d) ≡ false =
+        fails_before_first gone rs i d (omega (arith, s.0)) in
+        let y : true ≡ false = sym q ∙ z in cc)
+    | inr s ↦ s.1
+  ]
+
+  module _ (cid : List ℕ) where
+    abbrev pub own : Record → Bool
+    own r = same_cid cid (kept_entry r)
+
+    own_at : (rs : List Record) → find (same_cid cid) (entries rs)
+        ≡ option_map kept_entry (slice_get rs (position_or_len own rs))
+    own_at rs = find_mapped kept_entry (same_cid cid) rs ∙ ap (option_map kept_entry) (find_at own rs)
+
+    -- the place of the CID's own record may go, and without one that of the first that is gone
+    own_free : (rs : List Record) → AreApart (entries rs)
+        → IsFree t cid (entries rs) (position_or_len own rs)
+    own_free [] a = tt
+    own_free (r ∷ rs) a =
+        by_test (own r) (λ h. rw h (
+          rw h,
+          find_none (same_cid cid) (entries rs)
+              (alone cid (kept_entry r) (entries rs) a h),
+        ))
+        (λ h. rw (h, one-add) (h, own_free rs (rest_apart (kept_entry r) (entries rs) a)))
+
+    gone_free : (rs : List Record) → find (same_cid cid) (entries rs) ≡ None
+        → IsFree t cid (entries rs) (position_or_len gone rs)
+    gone_free [] n = tt
+    gone_free (r ∷ rs) n =
+        by_test (own r) (λ h. absurd (let z : Some (kept_entry r) ≡ None = rw h at n in cc))
+        (λ h. let m : find (same_cid cid) (entries rs) ≡ None = rw h at n in
+        by_test (is_there t (kept_entry r)) (λ k. rw (k, one-add) (h, gone_free rs m))
+        (λ k. rw k (rw (h, k), m)))
+
+module _ (rs : List Record) (t : ℕ) (cid : List ℕ) (number : ℕ)
+    (apart : AreApart (entries rs)) where
+  abbrev pub there : ℕ
+  there = length (filter (is_there t) (entries rs))
+
+  refused : (o : Option Entry) → while_there t (find (same_cid cid) (entries rs)) ≡ o
+      → refusal 4 (entries rs) t cid number
+      ≡ (if is_taken 4 o there number then None else Some (reason_of o))
+  refused o q = by_record 4 t (entries rs) cid number o there q
+      (ap length (records_all (entries rs) t apart))
+
+  -- a CID with a record, at a place
+  module _ (i : ℕ) (is : position (own t cid) rs ≡ Some i) (few : length rs ≤ 4) where
+    at : (position_or_len (own t cid) rs ≡ i) × (position_or_len (own t cid) rs < length rs)
+    at = placed (own t cid) rs i is
+
+    pub known_place : IsPlace (entries rs) t cid i
+    known_place = record {
+      within = omega (arith, at.0, at.1, length-map rs kept_entry);
+      room = omega (arith, at.0, at.1, few);
+      free = subst (IsFree t cid (entries rs)) at.0 (own_free t cid rs apart);
+    }
+
+    module _ (d : Record) where
+      found : find (same_cid cid) (entries rs) ≡ Some (kept_entry (get_or rs i d))
+      found = own_at t cid rs ∙ ap (option_map kept_entry)
+          (slice_get-get_or rs (position_or_len (own t cid) rs) d at.1)
+          ∙ ap (λ k. Some (kept_entry (get_or rs k d))) at.0
+
+      record_is : (b : Bool) → is_there t (kept_entry (get_or rs i d)) ≡ b
+          → while_there t (find (same_cid cid) (entries rs))
+          ≡ (if b then Some (kept_entry (get_or rs i d)) else None)
+      record_is b q = ap (while_there t) found
+          ∙ ap (λ b. if b then Some (kept_entry (get_or rs i d)) else None) q
+
+      pub known_there : is_there t (kept_entry (get_or rs i d)) ≡ true
+          → refusal 4 (entries rs) t cid number
+          ≡ (if is_after (get_or rs i d).number number then None else Some OutOfSequence)
+      known_there q = refused (Some (kept_entry (get_or rs i d))) (record_is true q)
+
+      pub known_gone : is_there t (kept_entry (get_or rs i d)) ≡ false
+          → refusal 4 (entries rs) t cid number ≡ None
+      known_gone q = refused None (record_is false q)
+          ∙ ap (λ b. if b then None else Some SourcesFull) (lt-ltb there 4 (omega (
+            arith,
+            few,
+            one_gone t rs i d (omega (arith, at.0, at.1)) (ap not q),
+          )))
+
+  -- a CID without one
+  module _ (o : Option ℕ) (r : Result ℕ Ignored) (is : position (own t cid) rs ≡ None)
+      (e : r ≡ ok_or o SourcesFull) where
+    nowhere : find (same_cid cid) (entries rs) ≡ None
+    nowhere = own_at t cid rs ∙ ap (option_map kept_entry)
+        (slice_get_past rs (position_or_len (own t cid) rs) (no_place (own t cid) rs is))
+
+    pub new_place : IfSome o (λ i. (i < 4) × (i ≡ position_or_len (gone t) rs))
+        → IfOk r (λ i. IsPlace (entries rs) t cid i)
+    new_place h = subst (λ (x : Result ℕ Ignored). IfOk x (λ i. IsPlace (entries rs) t cid i))
+        (sym e) (go o h)
+      where
+        go : (o : Option ℕ) → IfSome o (λ i. (i < 4) × (i ≡ position_or_len (gone t) rs))
+            → IfOk (ok_or o SourcesFull) (λ i. IsPlace (entries rs) t cid i)
+        go None h = tt
+        go (Some i) h = record {
+          within = omega (
+            arith,
+            h.1,
+            prefix_len-le-length (λ r. not (gone t r)) rs,
+            length-map rs kept_entry,
+          );
+          room = h.0;
+          free = subst (IsFree t cid (entries rs)) (sym h.1) (gone_free t cid rs nowhere);
+        }
+
+    pub new_refused : is_some o ≡ nat_lt there 4
+        → result_err r ≡ refusal 4 (entries rs) t cid number
+    new_refused h =
+        ap result_err e ∙ go o ∙ ap (λ b. if b then None else Some SourcesFull) h
+        ∙ sym (refused None (ap (while_there t) nowhere))
+      where
+        go : (o : Option ℕ) → result_err (ok_or o SourcesFull)
+            ≡ (if is_some o then None else Some SourcesFull)
+        go None = refl
+        go (Some i) = refl
+
+-- a record stays away once it is gone
 still_gone : (t u m : ℕ) → t ≤ u → nat_lt (t - m) 2500 ≡ false → nat_lt (u - m) 2500 ≡ false
 still_gone t u m l q = grind (arith, nat_tests)
 
-module _ (e : Entry) (t : ℕ) (c : List ℕ) where
-  -- the record of another CID, where the first of the rest makes way
-  other : (rest : List Entry) → e.moment ≤ t → same_cid c e ≡ false
-      → length (filter (same_cid c) rest) ≤ 1 → IsFree e.moment e.cid rest
-      → while_there t (find (same_cid c) (drop 1 rest)) ≡ while_there t (find (same_cid c) rest)
-  other [] l q one f = refl
-  other (x ∷ xs) l q one f = go (same_cid c x) refl one
-    where
-      away : same_cid c x ≡ true → is_there t x ≡ false
-      away k = step (same_cid e.cid x) refl (is_there e.moment x) refl
-        where
-          step : (a : Bool) → same_cid e.cid x ≡ a → (b : Bool) → is_there e.moment x ≡ b
-              → is_there t x ≡ false
-          step true p b r =
-              let m : same_cid x.cid e ≡ true = nat_list_eq_equiv.symm x.cid e.cid ∙ p in
-              absurd (let n : same_cid c e ≡ true = nat_list_eq_equiv.congr c x.cid e.cid k
-              ∙ m in let z : true ≡ false = sym n ∙ q in cc)
-          step false p true r = absurd (let g : false ≡ true = rw (p, r) at f in cc)
-          step false p false r = still_gone e.moment t x.moment l r
+module _ (e : Entry) (c : List ℕ) where
+  -- of two entries of one CID the third tells both apart
+  alike : (x : Entry) → same_cid c x ≡ true → same_cid e.cid x ≡ same_cid c e
+  alike x k = nat_list_eq_equiv.symm e.cid x.cid ∙ sym (nat_list_eq_equiv.congr c x.cid e.cid k)
 
-      go : (b : Bool) → same_cid c x ≡ b → length (filter (same_cid c) (x ∷ xs)) ≤ 1
-          → while_there t (find (same_cid c) xs) ≡ while_there t (find (same_cid c) (x ∷ xs))
-      go true k n =
-          let m : length (x ∷ filter (same_cid c) xs) ≤ 1 = rw k at n in
-          let none : find (same_cid c) xs ≡ None = find_none (same_cid c) xs (omega (arith, m)) in
-          ap (while_there t) none ∙ rw (k, away k)
-      go false k n = rw k
-
-  -- the record of a CID behind others
-  behind : (front rest more : List Entry)
-      → while_there t (find (same_cid c) rest) ≡ while_there t (find (same_cid c) more)
-      → while_there t (find (same_cid c) (front ++ rest))
-      ≡ while_there t (find (same_cid c) (front ++ more))
-  behind [] rest more h = h
-  behind (x ∷ xs) rest more h = go (same_cid c x) refl (behind xs rest more h)
-    where
-      go : (b : Bool) → same_cid c x ≡ b
-          → while_there t (find (same_cid c) (xs ++ rest))
-          ≡ while_there t (find (same_cid c) (xs ++ more))
-          → while_there t (find (same_cid c) (x ∷ xs ++ rest))
-          ≡ while_there t (find (same_cid c) (x ∷ xs ++ more))
-      go true q ih = rw q
-      go false q ih = rw q ih
-
--- the parts of some entries at a place
-pub parts : (p : Entry → Bool) (es fs : List Entry)
-    → length (filter p (es ++ fs)) ≡ length (filter p es) + length (filter p fs)
-parts p es fs = ap length (filter-append p es fs) ∙ length-append (filter p es) (filter p fs)
-
-pub whole : (p : Entry → Bool) (es : List Entry) (i : ℕ)
-    → length (filter p es) ≡ length (filter p (take i es)) + length (filter p (drop i es))
-whole p es i = ap (λ l. length (filter p l)) (sym (take-append-drop i es))
-    ∙ parts p (take i es) (drop i es)
-
-pub drop_less : (p : Entry → Bool) (es : List Entry)
-    → length (filter p (drop 1 es)) ≤ length (filter p es)
-drop_less p [] = omega arith
-drop_less p (e ∷ es) = go (p e) refl
-  where
-    go : (b : Bool) → p e ≡ b → length (filter p es) ≤ length (filter p (e ∷ es))
-    go true q = rw q (omega arith)
-    go false q = rw q (omega arith)
-
-module _ (es : List Entry) (i : ℕ) (e : Entry) where
-  -- no other has the CID of the packet, nor one that is the same
-  none_other : (c : List ℕ) → IsPlace es e.moment e.cid i → same_cid c e ≡ true
-      → length (filter (same_cid c) (take i es)) + length (filter (same_cid c) (drop (i + 1) es))
-      ≡ 0
-  none_other c p q =
-      sym (parts (same_cid c) (take i es) (drop (i + 1) es))
-      ∙ ap length (filter_agree (same_cid c) (same_cid e.cid)
-      (λ f. nat_list_eq_equiv.congr c e.cid f.cid q) (others es i))
-      ∙ none_found (same_cid e.cid) (others es i) p.no_other
-
-  pub put_record : (t : ℕ) (c : List ℕ) → AreApart es → IsPlace es e.moment e.cid i → e.moment ≤ t
+  -- the record of each CID, where a packet takes the place of one that may go
+  pub put_record : (t : ℕ) → e.moment ≤ t → (es : List Entry) (i : ℕ)
+      → IsFree e.moment e.cid es i → AreApart es
       → record_of (put es i e) t c ≡ record_of (e ∷ es) t c
-  put_record t c a p l = go (same_cid c e) refl
-    where
-      go : (b : Bool) → same_cid c e ≡ b → record_of (put es i e) t c ≡ record_of (e ∷ es) t c
-      go true q =
-          let none : find (same_cid c) (take i es) ≡ None =
-          find_none (same_cid c) (take i es) (omega (arith, none_other c p q)) in
-          let first : find (same_cid c) (put es i e) ≡ find (same_cid c) (e ∷ drop (i + 1) es) =
-          find-append (same_cid c) (take i es) (e ∷ drop (i + 1) es)
-          ∙ ap (λ o. option_or o (find (same_cid c) (e ∷ drop (i + 1) es))) none in
-          ap (while_there t) first ∙ rw q
-      go false q =
-          let one : length (filter (same_cid c) (drop i es)) ≤ 1 =
-          omega (arith, a c, whole (same_cid c) es i) in
-          let rest : while_there t (find (same_cid c) (drop 1 (drop i es)))
-          ≡ while_there t (find (same_cid c) (drop i es)) =
-          other e t c (drop i es) l q one p.free in
-          let skip : while_there t (find (same_cid c) (e ∷ drop (i + 1) es))
-          ≡ while_there t (find (same_cid c) (drop i es)) =
-          rw q (ap (λ l. while_there t (find (same_cid c) l)) (sym (drop-drop 1 i es)) ∙ rest) in
-          behind e t c (take i es) (e ∷ drop (i + 1) es) (drop i es) skip
-          ∙ ap (λ l. while_there t (find (same_cid c) l)) (take-append-drop i es)
-          ∙ rw q
+  put_record t l [] zero f a = refl
+  put_record t l [] (suc i) f a = refl
+  put_record t l (x ∷ xs) zero f a =
+      by_test (same_cid c e) (λ h. rw h)
+      (λ h. by_test (same_cid c x) (λ k.
+      let none : find (same_cid c) xs ≡ None =
+      find_none (same_cid c) xs (alone c x xs a k) in
+      let other : same_cid e.cid x ≡ false = alike x k ∙ h in
+      let away : is_there t x ≡ false =
+      still_gone e.moment t x.moment l (not-true (is_there e.moment x) (rw other at f.0)) in
+      rw (h, k) (ap (while_there t) none ∙ rw away)) (λ k. rw (h, k)))
+  put_record t l (x ∷ xs) (suc i) f a =
+      by_test (same_cid c x)
+      (λ k. let h : same_cid c e ≡ false = sym (alike x k) ∙ f.0 in rw (k, h))
+      (λ k. rw k (put_record t l xs i f.1 (rest_apart x xs a)))
 
-  pub put_apart : AreApart es → IsPlace es e.moment e.cid i → AreApart (put es i e)
-  put_apart a p c = go (same_cid c e) refl
-    where
-      go : (b : Bool) → same_cid c e ≡ b → length (filter (same_cid c) (put es i e)) ≤ 1
-      go true q =
-          let more : length (filter (same_cid c) (e ∷ drop (i + 1) es))
-          ≡ suc (length (filter (same_cid c) (drop (i + 1) es))) = rw q in
-          omega (
-            arith,
-            parts (same_cid c) (take i es) (e ∷ drop (i + 1) es),
-            more,
-            none_other c p q,
-          )
-      go false q =
-          let more : length (filter (same_cid c) (e ∷ drop (i + 1) es))
-          ≡ length (filter (same_cid c) (drop (i + 1) es)) = rw q in
-          let later : length (filter (same_cid c) (drop (i + 1) es))
-          ≡ length (filter (same_cid c) (drop 1 (drop i es))) =
-          ap (λ l. length (filter (same_cid c) l)) (sym (drop-drop 1 i es)) in
-          omega (
-            arith,
-            parts (same_cid c) (take i es) (e ∷ drop (i + 1) es),
-            more,
-            later,
-            drop_less (same_cid c) (drop i es),
-            whole (same_cid c) es i,
-            a c,
-          )
+  only : same_cid c e ≡ true → (t : ℕ) (es : List Entry) (i : ℕ) → IsFree t e.cid es i
+      → length (filter (same_cid c) (put es i e)) ≤ 1
+  only h t [] zero f = rw h (omega arith)
+  only h t [] (suc i) f = rw h (omega arith)
+  only h t (x ∷ xs) zero f =
+      rw h (omega (arith, as_many_of c e xs h, none_found (same_cid e.cid) xs f.1))
+  only h t (x ∷ xs) (suc i) f =
+      let k : same_cid c x ≡ false = nat_list_eq_equiv.congr c e.cid x.cid h ∙ f.0 in
+      rw k (only h t xs i f.1)
 
-  -- after the packet the receiver stands for the longer history
-  pub stands_more : (r : Kept) (h : List Entry) → es ≡ r.records → AreApart es
-      → IsPlace es e.moment e.cid i → r.latest ≤ e.moment → StandsFor r h
-      → StandsFor (record { universe = r.universe; latest = e.moment; records = put es i e })
-      (e ∷ h)
-  stands_more r h is a p l s = record {
-    latest_is = refl;
-    records_are = λ t c m. put_record t c a p m
-        ∙ ahead t c (ap (λ es. record_of es t c) is ∙ s.records_are t c (omega arith));
-  }
-    where
-      ahead : (t : ℕ) (c : List ℕ) → record_of es t c ≡ record_of h t c
-          → record_of (e ∷ es) t c ≡ record_of (e ∷ h) t c
-      ahead t c q = go (same_cid c e) refl
-        where
-          go : (b : Bool) → same_cid c e ≡ b → record_of (e ∷ es) t c ≡ record_of (e ∷ h) t c
-          go true k = rw k
-          go false k = rw k q
+  no_more : same_cid c e ≡ false → (es : List Entry) (i : ℕ)
+      → length (filter (same_cid c) (put es i e)) ≤ length (filter (same_cid c) es)
+  no_more h [] zero = rw h (omega arith)
+  no_more h [] (suc i) = rw h (omega arith)
+  no_more h (x ∷ xs) zero = rw h (rest_less (same_cid c) x xs)
+  no_more h (x ∷ xs) (suc i) =
+      by_test (same_cid c x) (λ k. rw k (omega (arith, no_more h xs i)))
+      (λ k. rw k (no_more h xs i))
+
+pub put_apart : (es : List Entry) (i : ℕ) (e : Entry) → AreApart es → IsFree e.moment e.cid es i
+    → AreApart (put es i e)
+put_apart es i e a f c =
+    by_test (same_cid c e) (λ h. only e c h e.moment es i f)
+    (λ h. omega (arith, no_more e c h es i, a c))
+
+-- after the packet the receiver stands for the longer history
+pub stands_more : (r : Kept) (i : ℕ) (e : Entry) (h : List Entry) → AreApart r.records
+    → IsFree e.moment e.cid r.records i → r.latest ≤ e.moment → StandsFor r h
+    → StandsFor (record {
+      universe = r.universe;
+      latest = e.moment;
+      records = put r.records i e;
+    }) (e ∷ h)
+stands_more r i e h a f l s = record {
+  latest_is = refl;
+  records_are = λ t c m. put_record e c t m r.records i f a
+      ∙ by_test (same_cid c e) (λ k. rw k) (λ k. rw k (s.records_are t c (omega arith)));
+}

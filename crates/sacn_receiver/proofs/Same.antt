@@ -1,7 +1,8 @@
 -- Histories that give each CID the same record at a moment: they count, show and accept alike.
-use Rattle.std.proofs.Common.{◌≡◌, ℕ, ◌≤◌, Bool, true, false, not, refl, ap, arith, sym, subst, inl}
-use Rattle.std.proofs.Common.{inr, ◌∙◌, List, [], ◌∷◌, map, length, Option, Some, None}
+use Rattle.std.proofs.Common.{◌≡◌, ℕ, ◌≤◌, true, not, refl, ap, arith, sym, subst, inl, inr, ◌∙◌}
+use Rattle.std.proofs.Common.{List, [], ◌∷◌, map, length, Option, Some, None}
 use Rattle.std.specs.Prelude.{nat_eq, if◌then◌else◌, find, slice_index}
+use Rattle.std.proofs.lemmas.Option.{cond_some}
 use Rattle.sacn_receiver.specs.Source.{Entry, same_cid, is_there, newest, records, while_there}
 use Rattle.sacn_receiver.specs.Source.{record_of, is_taken}
 use Rattle.sacn_receiver.specs.Shown.{Light, light_of, live, greatest, leading, merged, shown}
@@ -9,7 +10,7 @@ use Rattle.sacn_receiver.specs.Taking.{reason_of, refusal}
 use Rattle.sacn_receiver.specs.Places.{AreApart}
 use Rattle.sacn_receiver.proofs.Members.{In, In_filter, In_filtered, In_map, In_mapped}
 use Rattle.sacn_receiver.proofs.Apart.{newest_apart, filter_apart, newest_found, found_newest}
-use Rattle.sacn_receiver.proofs.Apart.{fewer}
+use Rattle.sacn_receiver.proofs.Apart.{as_many}
 
 -- at moment t each CID has the same record
 abbrev pub AreSame : ℕ → List Entry → List Entry → Type 0
@@ -24,13 +25,9 @@ record_found h t e i =
 
 while_says : (t : ℕ) (o : Option Entry) (e : Entry) → while_there t o ≡ Some e
     → (o ≡ Some e) × (is_there t e ≡ true)
-while_says t None e w = cc
-while_says t (Some x) e w = go (is_there t x) refl w
-  where
-    go : (b : Bool) → is_there t x ≡ b → (if b then Some x else None) ≡ Some e
-        → (Some x ≡ Some e) × (is_there t e ≡ true)
-    go true q v = (v, (let k : x ≡ e = cc in subst (λ (y : Entry). is_there t y ≡ true) k q))
-    go false q v = absurd (let k : None ≡ Some e = v in cc)
+while_says t None e w = absurd (let k : None ≡ Some e = w in cc)
+while_says t (Some x) e w = let r = cond_some (is_there t x) x e w in
+    (ap Some r.1, subst (λ (y : Entry). is_there t y ≡ true) r.1 r.0)
 
 pub found_record : (h : List Entry) (t : ℕ) (c : List ℕ) (e : Entry) → record_of h t c ≡ Some e
     → In e (records h t)
@@ -42,21 +39,14 @@ pub same_members : (t : ℕ) (g h : List Entry) → AreSame t g h → (e : Entry
     → In e (records h t)
 same_members t g h s e i = found_record h t e.cid e (sym (s e.cid) ∙ record_found g t e i)
 
-pub other_way : (t : ℕ) (g h : List Entry) → AreSame t g h → AreSame t h g
-other_way t g h s c = sym (s c)
-
 pub records_apart : (h : List Entry) (t : ℕ) → AreApart (records h t)
 records_apart h t = filter_apart (is_there t) (newest h) (newest_apart h)
 
 pub same_count : (t : ℕ) (g h : List Entry) → AreSame t g h
     → length (records g t) ≡ length (records h t)
 same_count t g h s =
-    omega (
-      arith,
-      fewer (records g t) (records h t) (records_apart g t) (same_members t g h s),
-      fewer (records h t) (records g t) (records_apart h t)
-          (same_members t h g (other_way t g h s)),
-    )
+    as_many (records g t) (records h t) (records_apart g t) (records_apart h t)
+    (same_members t g h s) (same_members t h g (λ c. sym (s c)))
 
 live_members : (t : ℕ) (g h : List Entry) → AreSame t g h → (e : Entry) → In e (live g t)
     → In e (live h t)
@@ -69,11 +59,8 @@ live_apart h t = filter_apart (λ e. not e.ended) (records h t) (records_apart h
 
 pub same_live : (t : ℕ) (g h : List Entry) → AreSame t g h → length (live g t) ≡ length (live h t)
 same_live t g h s =
-    omega (
-      arith,
-      fewer (live g t) (live h t) (live_apart g t) (live_members t g h s),
-      fewer (live h t) (live g t) (live_apart h t) (live_members t h g (other_way t g h s)),
-    )
+    as_many (live g t) (live h t) (live_apart g t) (live_apart h t) (live_members t g h s)
+    (live_members t h g (λ c. sym (s c)))
 
 -- the greatest depends on the members alone
 module _ {A : Type 0} (f : A → ℕ) where
@@ -120,12 +107,19 @@ lights_in t g h s l i =
 
 pub same_shown : (t : ℕ) (g h : List Entry) → AreSame t g h → (s : ℕ) → shown g t s ≡ shown h t s
 same_shown t g h e s = merged_same (map light_of (live g t)) (map light_of (live h t)) s
-    (lights_in t g h e) (lights_in t h g (other_way t g h e))
+    (lights_in t g h e) (lights_in t h g (λ c. sym (e c)))
+
+-- what is refused, by the record of the CID and the number of records
+pub by_record : (room t : ℕ) (h : List Entry) (cid : List ℕ) (number : ℕ) (o : Option Entry) (n : ℕ)
+    → record_of h t cid ≡ o → length (records h t) ≡ n
+    → refusal room h t cid number
+    ≡ (if is_taken room o n number then None else Some (reason_of o))
+by_record room t h cid number o n r k =
+    ap (λ o. if is_taken room o (length (records h t)) number then None else Some (reason_of o)) r
+    ∙ ap (λ n. if is_taken room o n number then None else Some (reason_of o)) k
 
 pub same_refusal : (room t : ℕ) (g h : List Entry) → AreSame t g h → (cid : List ℕ) (number : ℕ)
     → refusal room g t cid number ≡ refusal room h t cid number
 same_refusal room t g h s cid number =
-    ap (λ o. if is_taken room o (length (records g t)) number then None else Some (reason_of o))
-    (s cid)
-    ∙ ap (λ n. if is_taken room (record_of h t cid) n number then None else Some
-    (reason_of (record_of h t cid))) (same_count t g h s)
+    by_record room t g cid number (record_of h t cid) (length (records h t)) (s cid)
+    (same_count t g h s)

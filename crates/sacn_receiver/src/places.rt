@@ -1,12 +1,12 @@
-ghost use Rattle.std.specs.Prelude.{◌≡◌, ◌≤◌, ◌<◌, not, nat_lt, length, drop, filter, is_some};
-ghost use Rattle.std.specs.Prelude.{IfSome, IfOk};
-ghost use Rattle.std.specs.List.{position};
+ghost use Rattle.std.specs.Prelude.{◌≡◌, ◌≤◌, ◌<◌, not, nat_lt, length, filter, is_some, IfSome};
+ghost use Rattle.std.specs.Prelude.{IfOk};
+ghost use Rattle.std.specs.List.{position, position_or_len};
 ghost use Rattle.std.specs.Result.{result_err};
 ghost use Rattle.arrayvec.specs.ArrayVec.{array_vec_len};
 ghost use Rattle.sacn_receiver.specs.Source as source;
 ghost use Rattle.sacn_receiver.specs.Taking.{entry_of, refusal};
 ghost use Rattle.sacn_receiver.specs.Records.{entries, kept_entry};
-ghost use Rattle.sacn_receiver.specs.Places.{AreApart, IsGone, IsPlace, put};
+ghost use Rattle.sacn_receiver.specs.Places.{AreApart, IsPlace, put};
 
 use crate::answer::Ignored;
 use crate::receiver::SOURCES;
@@ -26,8 +26,8 @@ fn free_place(records: &[Record], moment: u64) -> Option<usize>
     requires { length records.now ≤ 4 }
     ensures there_is { is_some result
         ≡ nat_lt (length (filter (source.is_there moment) (entries records.now))) 4 }
-    ensures place { IfSome result (λ place. (place < 4) × (place ≤ length records.now)
-        × IsGone moment (drop place (entries records.now))) }
+    ensures place { IfSome result (λ place. (place < 4) × (place
+        ≡ position_or_len (λ r. not (source.is_there moment (kept_entry r))) records.now)) }
 {
     match gone_place(records, moment) {
         Some(place) => Some(place),

@@ -1,5 +1,5 @@
 use Rattle.sacn_receiver.proofs.Same.{live_apart}
-use Rattle.sacn_receiver.proofs.Living.{live_records}
+use Rattle.sacn_receiver.proofs.Independent.{live_records}
 use Rattle.sacn_receiver.proofs.laws.live_are_records.Goals as goal
 
 pub returns-clause-members : goal.returns-clause-members

@@ -2,8 +2,8 @@ use Rattle.std.proofs.Common.{◌≡◌, ℕ, ◌≤◌, List, length, map, ◌�
 use Rattle.std.proofs.lemmas.List.{length-map}
 use Rattle.sacn_receiver.specs.declared.record.Record.{Record}
 use Rattle.sacn_receiver.specs.Shown.{greatest}
-use Rattle.sacn_receiver.specs.Records.{lit}
-use Rattle.sacn_receiver.proofs.Merging.{greatest_of_four, merged_lit}
+use Rattle.sacn_receiver.specs.Records.{lit, top_at}
+use Rattle.sacn_receiver.proofs.Merging.{greatest_of_four, greatest_lit}
 use Rattle.sacn_receiver.proofs.live.merge.Goals as goal
 
 pub returns : goal.returns
@@ -23,4 +23,4 @@ returns c = λ s lt.
     ) in
     written ∙ greatest_of_four (map one rs) few
     ∙ ap (λ top. greatest (map (λ r. lit c.args.moment top r s) rs)) c.top_priority-top.ensures
-    ∙ merged_lit c.args.moment s rs
+    ∙ greatest_lit c.args.moment s (top_at c.args.moment rs) rs
