@@ -3,8 +3,8 @@
 use Rattle.std.proofs.Common.{◌≡◌, ℕ, ◌<◌, ◌≤◌, ◌⊎◌, Bool, true, false, not, refl, ap, arith, sym}
 use Rattle.std.proofs.Common.{subst, inl, inr, ◌∙◌, List, [], ◌∷◌, map, length, get_or, suc, Option}
 use Rattle.std.proofs.Common.{Some, None, Result, zero, ◌-◌, one-add}
-use Rattle.std.specs.Prelude.{nat_lt, if◌then◌else◌, filter, find, is_some, IfSome, IfOk, slice_get}
-use Rattle.std.specs.Option.{ok_or, option_map}
+use Rattle.std.specs.Prelude.{nat_lt, if◌then◌else◌, filter, find, IfOk, slice_get}
+use Rattle.std.specs.Option.{ok_or, option_map, unwrap_or}
 use Rattle.std.specs.Result.{result_err}
 use Rattle.std.specs.List.{position, position_or_len}
 use Rattle.std.proofs.lemmas.Bool.{ltb-true, ltb-false, lt-ltb, not-true}
@@ -42,6 +42,17 @@ module _ {A : Type 0} (p : A → Bool) (xs : List A) where
       (λ h. absurd (let z : Some (position_or_len p xs) ≡ None = rw h at e in cc))
       (λ h. ltb-false (position_or_len p xs) (length xs) h)
 
+-- and behind all, if there is none
+pub or_behind : {A : Type 0} (p : A → Bool) (xs : List A)
+    → unwrap_or (position p xs) (length xs) ≡ position_or_len p xs
+or_behind p xs =
+    by_test (nat_lt (position_or_len p xs) (length xs)) (λ h. rw h)
+    (λ h. rw h (omega (
+      arith,
+      ltb-false (position_or_len p xs) (length xs) h,
+      prefix_len-le-length (λ x. not (p x)) xs,
+    )))
+
 find_mapped : {A B : Type 0} (f : A → B) (p : B → Bool) (xs : List A)
     → find p (map f xs) ≡ option_map f (find (λ x. p (f x)) xs)
 find_mapped f p [] = refl
@@ -75,19 +86,12 @@ module _ (t : ℕ) where
         ),
       )))
 
-  pub all_there : (rs : List Record) → position gone rs ≡ None
-      → (position_or_len gone rs ≡ length rs)
-      × (length (filter (is_there t) (entries rs)) ≡ length rs)
-  all_there rs e = elim (there_or_gone rs) [
-    | inl s ↦ s
-    | inr s ↦ absurd (omega (arith, s.0, no_place gone rs e))
-  ]
-
-  pub some_gone : (rs : List Record) (i : ℕ) → position gone rs ≡ Some i
-      → length (filter (is_there t) (entries rs)) < length rs
-  some_gone rs i e = elim (there_or_gone rs) [
-    | inl s ↦ absurd (omega (arith, s.0, (placed gone rs i e).1))
-    | inr s ↦ s.1
+  room : (rs : List Record) → length rs ≤ 4 → nat_lt (position_or_len gone rs) 4
+      ≡ nat_lt (length (filter (is_there t) (entries rs))) 4
+  room rs few = elim (there_or_gone rs) [
+    | inl s ↦ ap (λ n. nat_lt n 4) (s.0 ∙ sym s.1)
+    | inr s ↦
+        lt-ltb _ 4 (omega (arith, s.0, few)) ∙ sym (lt-ltb _ 4 (omega (arith, s.1, few)))
   ]
 
   one_gone : (rs : List Record) (i : ℕ) (d : Record) → i < length rs → gone (get_or rs i d) ≡ true
@@ -180,40 +184,43 @@ module _ (rs : List Record) (t : ℕ) (cid : List ℕ) (number : ℕ)
 
   -- a CID without one
   module _ (o : Option ℕ) (r : Result ℕ Ignored) (is : position (own t cid) rs ≡ None)
-      (e : r ≡ ok_or o SourcesFull) where
+      (few : length rs ≤ 4) (e : r ≡ ok_or o SourcesFull)
+      (f : o ≡ (if nat_lt (position_or_len (gone t) rs) 4 then Some
+      (position_or_len (gone t) rs) else None)) where
     nowhere : find (same_cid cid) (entries rs) ≡ None
     nowhere = own_at t cid rs ∙ ap (option_map kept_entry)
         (slice_get_past rs (position_or_len (own t cid) rs) (no_place (own t cid) rs is))
 
-    pub new_place : IfSome o (λ i. (i < 4) × (i ≡ position_or_len (gone t) rs))
-        → IfOk r (λ i. IsPlace (entries rs) t cid i)
-    new_place h = subst (λ (x : Result ℕ Ignored). IfOk x (λ i. IsPlace (entries rs) t cid i))
-        (sym e) (go o h)
+    pub new_place : IfOk r (λ i. IsPlace (entries rs) t cid i)
+    new_place = subst (λ (x : Result ℕ Ignored). IfOk x (λ i. IsPlace (entries rs) t cid i))
+        (sym (e ∙ ap (λ o. ok_or o SourcesFull) f))
+        (go (nat_lt (position_or_len (gone t) rs) 4) refl)
       where
-        go : (o : Option ℕ) → IfSome o (λ i. (i < 4) × (i ≡ position_or_len (gone t) rs))
-            → IfOk (ok_or o SourcesFull) (λ i. IsPlace (entries rs) t cid i)
-        go None h = tt
-        go (Some i) h = record {
+        go : (b : Bool) → nat_lt (position_or_len (gone t) rs) 4 ≡ b
+            → IfOk (ok_or (if b then Some (position_or_len (gone t) rs) else None) SourcesFull)
+            (λ i. IsPlace (entries rs) t cid i)
+        go false h = tt
+        go true h = record {
           within = omega (
             arith,
-            h.1,
             prefix_len-le-length (λ r. not (gone t r)) rs,
             length-map rs kept_entry,
           );
-          room = h.0;
-          free = subst (IsFree t cid (entries rs)) (sym h.1) (gone_free t cid rs nowhere);
+          room = ltb-true (position_or_len (gone t) rs) 4 h;
+          free = gone_free t cid rs nowhere;
         }
 
-    pub new_refused : is_some o ≡ nat_lt there 4
-        → result_err r ≡ refusal 4 (entries rs) t cid number
-    new_refused h =
-        ap result_err e ∙ go o ∙ ap (λ b. if b then None else Some SourcesFull) h
+    pub new_refused : result_err r ≡ refusal 4 (entries rs) t cid number
+    new_refused =
+        ap result_err (e ∙ ap (λ o. ok_or o SourcesFull) f)
+        ∙ go (nat_lt (position_or_len (gone t) rs) 4)
+        ∙ ap (λ b. if b then None else Some SourcesFull) (room t rs few)
         ∙ sym (refused None (ap (while_there t) nowhere))
       where
-        go : (o : Option ℕ) → result_err (ok_or o SourcesFull)
-            ≡ (if is_some o then None else Some SourcesFull)
-        go None = refl
-        go (Some i) = refl
+        go : (b : Bool) → result_err (ok_or (if b then Some (position_or_len (gone t) rs) else None)
+            SourcesFull) ≡ (if b then None else Some SourcesFull)
+        go true = refl
+        go false = refl
 
 -- a record stays away once it is gone
 still_gone : (t u m : ℕ) → t ≤ u → nat_lt (t - m) 2500 ≡ false → nat_lt (u - m) 2500 ≡ false

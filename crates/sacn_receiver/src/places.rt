@@ -1,4 +1,4 @@
-ghost use Rattle.std.specs.Prelude.{◌≡◌, ◌≤◌, ◌<◌, not, nat_lt, length, filter, is_some, IfSome};
+ghost use Rattle.std.specs.Prelude.{◌≡◌, ◌≤◌, ◌<◌, not, nat_lt, if◌then◌else◌, length, Some, None};
 ghost use Rattle.std.specs.Prelude.{IfOk};
 ghost use Rattle.std.specs.List.{position, position_or_len};
 ghost use Rattle.std.specs.Result.{result_err};
@@ -21,19 +21,14 @@ fn known_place(records: &[Record], cid: &[u8; 16]) -> Option<usize>
     records.iter().position(|record| *cid == record.cid)
 }
 
-// A place for a new source: that of a record that is gone, else behind all.
+// A place for a new source: that of the first record that is gone, else behind all.
+#[tactic(auto, using(crate::proofs::Placing::or_behind))]
 fn free_place(records: &[Record], moment: u64) -> Option<usize>
-    requires { length records.now ≤ 4 }
-    ensures there_is { is_some result
-        ≡ nat_lt (length (filter (source.is_there moment) (entries records.now))) 4 }
-    ensures place { IfSome result (λ place. (place < 4) × (place
-        ≡ position_or_len (λ r. not (source.is_there moment (kept_entry r))) records.now)) }
+    ensures { let place = position_or_len (λ r. not (source.is_there moment (kept_entry r)))
+        records.now in result ≡ (if nat_lt place 4 then Some place else None) }
 {
-    match gone_place(records, moment) {
-        Some(place) => Some(place),
-        None if records.len() < SOURCES => Some(records.len()),
-        None => None,
-    }
+    let place = gone_place(records, moment).unwrap_or(records.len());
+    (place < SOURCES).then_some(place)
 }
 
 // The place of the first record that is gone.

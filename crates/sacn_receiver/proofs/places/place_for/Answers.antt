@@ -38,9 +38,9 @@ returns-else-is_there-clause-refused c =
 pub returns-in-None-clause-place : goal.returns-in-None-clause-place
 returns-in-None-clause-place c =
     new_place c.args.records.now c.args.moment c.args.cid.now c.args.number c.requires.apart _ _
-    (sym c.in-None.ensures) c.ok_or.ensures.value c.free_place.ensures.place
+    (sym c.in-None.ensures) c.requires.room c.ok_or.ensures.value c.free_place.ensures
 
 pub returns-in-None-clause-refused : goal.returns-in-None-clause-refused
 returns-in-None-clause-refused c =
     new_refused c.args.records.now c.args.moment c.args.cid.now c.args.number c.requires.apart _ _
-    (sym c.in-None.ensures) c.ok_or.ensures.value c.free_place.ensures.there_is
+    (sym c.in-None.ensures) c.requires.room c.ok_or.ensures.value c.free_place.ensures
