@@ -1,9 +1,9 @@
 -- The answer to a datagram, and what is kept of it.
-use Rattle.std.proofs.Common.{◌≡◌, ℕ, ◌≤◌, false, ap, arith, sym, subst, ◌∙◌, List, ◌∷◌, Option}
+use Rattle.std.proofs.Common.{◌≡◌, ℕ, ◌≤◌, ap, ap₂, arith, sym, subst, ◌∙◌, List, ◌∷◌, Option}
 use Rattle.std.proofs.Common.{Some, None, Result, Ok, Err, is_err}
-use Rattle.std.specs.Prelude.{nat_lt, if◌then◌else◌}
+use Rattle.std.specs.Prelude.{if◌then◌else◌}
 use Rattle.std.specs.Option.{option_or, option_map, option_map_or}
-use Rattle.std.proofs.lemmas.Bool.Decides.{nat_tests}
+use Rattle.std.proofs.lemmas.Bool.{le-ltb}
 use Rattle.sacn_packet.specs.Wire.{Packet, HasPacket}
 use Rattle.sacn_packet.specs.Reading.{front_packet}
 use Rattle.sacn_packet.specs.Faults.{fault_of}
@@ -11,16 +11,13 @@ use Rattle.sacn_packet.proofs.Found.{packet_ends}
 use Rattle.sacn_receiver.specs.declared.answer.Taken.{Taken}
 use Rattle.sacn_receiver.specs.declared.answer.Ignored.{Ignored}
 use Rattle.sacn_receiver.specs.declared.answer.Ignored.TheVariants.{Backwards, Unreadable}
-use Rattle.sacn_receiver.specs.Source.{Entry, last_moment}
+use Rattle.sacn_receiver.specs.Source.{Entry, last_moment, record_of}
 use Rattle.sacn_receiver.specs.Taking.{entry_of, unheard, refusal, ignored_packet, ignored}
 use Rattle.sacn_receiver.specs.Taking.{taken_of, answer, heard}
 use Rattle.sacn_receiver.specs.Kept.{Kept, StandsFor}
 use Rattle.sacn_receiver.specs.Places.{AreApart, IsFree, IsPlace, put}
 use Rattle.sacn_receiver.proofs.Same.{same_refusal}
 use Rattle.sacn_receiver.proofs.Placing.{put_apart, stands_more}
-
-pub not_before : (m n : ℕ) → m ≤ n → nat_lt n m ≡ false
-not_before m n l = grind (arith, nat_tests)
 
 module _ (r : Kept) (h : List Entry) (t : ℕ) (d : List ℕ) (p : Packet) (s : StandsFor r h)
     (time : r.latest ≤ t) (fault : None ≡ fault_of d) (has : HasPacket d p) where
@@ -31,7 +28,7 @@ module _ (r : Kept) (h : List Entry) (t : ℕ) (d : List ℕ) (p : Packet) (s : 
   by_packet =
       ap (λ b. if b then Some Backwards else option_or (option_map Unreadable (fault_of d))
       (ignored_packet 4 r.universe h t (front_packet d)))
-      (not_before (last_moment h) t (omega (arith, s.latest_is, time)))
+      (le-ltb t (last_moment h) (omega (arith, s.latest_is, time)))
       ∙ ap (λ o. option_or (option_map Unreadable o)
       (ignored_packet 4 r.universe h t (front_packet d))) (sym fault)
       ∙ ap (ignored_packet 4 r.universe h t) front
@@ -47,27 +44,17 @@ module _ (r : Kept) (h : List Entry) (t : ℕ) (d : List ℕ) (p : Packet) (s : 
   unheard_answer reason e = answer_is (Some reason)
       (ap (λ o. option_or o (refusal 4 h t p.fields.cid p.fields.sequence)) (sym e))
 
-  after_unheard : None ≡ unheard r.universe p
-      → ignored_packet 4 r.universe h t p ≡ refusal 4 r.records t p.fields.cid p.fields.sequence
-  after_unheard e =
-      ap (λ o. option_or o (refusal 4 h t p.fields.cid p.fields.sequence)) (sym e)
-      ∙ sym (same_refusal 4 t r.records h (λ c. s.records_are t c time) p.fields.cid
-      p.fields.sequence)
-
-  same_at : (cid : List ℕ) (number : ℕ) (es : List Entry) → es ≡ r.records → cid ≡ p.fields.cid
-      → number ≡ p.fields.sequence
-      → refusal 4 es t cid number ≡ refusal 4 r.records t p.fields.cid p.fields.sequence
-  same_at cid number es is c n =
-      ap (λ es. refusal 4 es t cid number) is ∙ ap (λ cid. refusal 4 r.records t cid number) c
-      ∙ ap (refusal 4 r.records t p.fields.cid) n
-
   -- the answer to a packet that is heard
   pub heard_answer : (cid : List ℕ) (number : ℕ) (es : List Entry) (o : Option Ignored)
       → None ≡ unheard r.universe p → es ≡ r.records → cid ≡ p.fields.cid
       → number ≡ p.fields.sequence → o ≡ refusal 4 es t cid number
       → answer 4 r.universe h t d ≡ option_map_or Err o (Ok (taken_of p))
   heard_answer cid number es o e is c n q =
-      answer_is o (after_unheard e ∙ sym (same_at cid number es is c n) ∙ sym q)
+      answer_is o
+      (ap (λ o. option_or o (refusal 4 h t p.fields.cid p.fields.sequence)) (sym e)
+      ∙ sym (q ∙ same_refusal 4 t es h
+      (λ c. ap (λ es. record_of es t c) is ∙ s.records_are t c time) cid number
+      ∙ ap₂ (refusal 4 h t) c n))
 
 -- a packet at its place
 module _ (t : ℕ) (d : List ℕ) (p : Packet) (has : HasPacket d p) (r : Kept) (cid : List ℕ) (i : ℕ)

@@ -5,7 +5,7 @@ use Rattle.std.proofs.Common.{List, [], ◌∷◌, map, Option, Some, None, Ok, 
 use Rattle.std.specs.Prelude.{if◌then◌else◌, is_none, filter, find, Contains, IsTrue}
 use Rattle.std.specs.Option.{option_or, option_map, option_map_or}
 use Rattle.std.specs.List.{list_any}
-use Rattle.std.proofs.lemmas.Bool.{cond_both}
+use Rattle.std.proofs.lemmas.Bool.{cond_both, le-ltb}
 use Rattle.std.proofs.lemmas.List.Elements.{All-head, All-tail, All-filter}
 use Rattle.sacn_packet.specs.Reading.{front_packet}
 use Rattle.sacn_packet.specs.Faults.{fault_of}
@@ -14,14 +14,13 @@ use Rattle.sacn_receiver.specs.declared.answer.Ignored.TheVariants.{Backwards, U
 use Rattle.sacn_receiver.specs.Source.{Entry, same_cid, last_moment, while_there, record_of}
 use Rattle.sacn_receiver.specs.Source.{is_accepted}
 use Rattle.sacn_receiver.specs.Taking.{entry_of, reason_of, refusal, unheard, ignored_packet}
-use Rattle.sacn_receiver.specs.Taking.{ignored, taken_of, heard}
+use Rattle.sacn_receiver.specs.Taking.{ignored, taken_of}
 use Rattle.sacn_receiver.specs.Arrivals.{Arrival, heard_all, last_arrival, NeverFall, not_heard}
 use Rattle.sacn_receiver.specs.Arrivals.{is_heard, cid_of, is_from, HeardAreFrom, packets_heard}
 use Rattle.sacn_receiver.specs.Laws.{accepted, HeardAreAccepted, RecordsAreIndependent}
 use Rattle.sacn_receiver.specs.Laws.{AnswersAreIndependent}
 use Rattle.sacn_receiver.proofs.Members.{by_test}
 use Rattle.sacn_receiver.proofs.Apart.{AllIn, one_of}
-use Rattle.sacn_receiver.proofs.Answering.{not_before}
 use Rattle.sacn_receiver.proofs.Independent.{in_from_place, accepted_in, alike, independent}
 
 -- the entry of an arrival's packet, where it is accepted
@@ -45,27 +44,10 @@ module _ (room universe : ℕ) (h : List Entry) (a : Arrival) (time : last_momen
   ignored_in_time =
       ap (λ b. if b then Some Backwards else option_or (option_map Unreadable (fault_of a.datagram))
       (ignored_packet room universe h a.moment (front_packet a.datagram)))
-      (not_before (last_moment h) a.moment time)
+      (le-ltb a.moment (last_moment h) time)
       ∙ in_parts (option_map Unreadable (fault_of a.datagram))
       (unheard universe (front_packet a.datagram))
       (refusal room h a.moment (cid_of a) (entry_from a).number)
-
-  -- so it lengthens the history where it is heard and accepted
-  heard_in_time : heard room universe h a.moment a.datagram
-      ≡ (if is_heard universe a then (if is_accepted room h a.moment (cid_of a)
-      (entry_from a).number then entry_from a ∷ h else h) else h)
-  heard_in_time =
-      ap (λ o. option_map_or (λ _. h) o (entry_from a ∷ h)) ignored_in_time
-      ∙ go (not_heard universe a.datagram)
-      (is_accepted room h a.moment (cid_of a) (entry_from a).number)
-      (reason_of (record_of h a.moment (cid_of a))) (entry_from a)
-    where
-      go : (o : Option Ignored) (b : Bool) (r : Ignored) (e : Entry)
-          → option_map_or (λ _. h) (option_or o (if b then None else Some r)) (e ∷ h)
-          ≡ (if is_none o then (if b then e ∷ h else h) else h)
-      go None true r e = refl
-      go None false r e = refl
-      go (Some x) b r e = refl
 
 -- the last accepted packet is not after the last arrival
 last_heard : (room universe : ℕ) (arrivals : List Arrival) → NeverFall arrivals
@@ -87,20 +69,30 @@ in_time room universe a older n = omega (arith, n.0, last_heard room universe ol
 pub heard_accepted : HeardAreAccepted
 heard_accepted room universe [] n = refl
 heard_accepted room universe (a ∷ older) n =
-    heard_in_time room universe (heard_all room universe older) a
-    (in_time room universe a older n)
-    ∙ ap (λ h. if is_heard universe a then (if is_accepted room h a.moment (cid_of a)
-    (entry_from a).number then entry_from a ∷ h else h) else h)
+    ap (λ o. option_map_or (λ _. heard_all room universe older) o
+    (entry_from a ∷ heard_all room universe older))
+    (ignored_in_time room universe (heard_all room universe older) a
+    (in_time room universe a older n))
+    ∙ ap (λ h. option_map_or (λ _. h) (option_or (not_heard universe a.datagram)
+    (refusal room h a.moment (cid_of a) (entry_from a).number)) (entry_from a ∷ h))
     (heard_accepted room universe older n.1)
-    ∙ go (is_heard universe a) (filter (is_heard universe) older)
+    ∙ go (not_heard universe a.datagram) (filter (is_heard universe) older)
   where
-    go : (b : Bool) (rest : List Arrival)
-        → (if b then (if is_accepted room (accepted room (map entry_from rest)) a.moment (cid_of a)
-        (entry_from a).number then entry_from a ∷ accepted room (map entry_from rest) else accepted
-        room (map entry_from rest)) else accepted room (map entry_from rest))
-        ≡ accepted room (map entry_from (if b then a ∷ rest else rest))
-    go true rest = refl
-    go false rest = refl
+    either : (b : Bool) (x : Ignored) (e : Entry) (g : List Entry)
+        → option_map_or (λ _. g) (if b then None else Some x) (e ∷ g) ≡ (if b then e ∷ g else g)
+    either true x e g = refl
+    either false x e g = refl
+
+    go : (o : Option Ignored) (rest : List Arrival)
+        → option_map_or (λ _. accepted room (map entry_from rest)) (option_or o
+        (refusal room (accepted room (map entry_from rest)) a.moment (cid_of a)
+        (entry_from a).number)) (entry_from a ∷ accepted room (map entry_from rest))
+        ≡ accepted room (map entry_from (if is_none o then a ∷ rest else rest))
+    go None rest =
+        let g : List Entry = accepted room (map entry_from rest) in
+        either (is_accepted room g a.moment (cid_of a) (entry_from a).number)
+        (reason_of (record_of g a.moment (cid_of a))) (entry_from a) g
+    go (Some x) rest = refl
 
 -- the packets of some of the arrivals
 packets_from : (cid : List ℕ) (universe : ℕ) (arrivals : List Arrival)

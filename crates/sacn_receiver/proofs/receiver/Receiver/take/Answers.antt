@@ -5,7 +5,6 @@ use Rattle.sacn_packet.proofs.Found.{packet_ends}
 use Rattle.sacn_receiver.specs.declared.answer.Taken.{Taken}
 use Rattle.sacn_receiver.specs.Taking.{taken_of}
 use Rattle.sacn_receiver.specs.Inside.{receiver_view}
-use Rattle.sacn_receiver.specs.Places.{IsPlace}
 use Rattle.sacn_receiver.specs.Records.{entries}
 use Rattle.sacn_receiver.proofs.Answering.{unheard_answer, heard_answer, kept_apart}
 use Rattle.sacn_receiver.proofs.Answering.{kept_stands, heard_by}
@@ -49,8 +48,7 @@ pub invariant_of-self : goal.invariant_of-self
 invariant_of-self c =
     kept_apart c.args.moment c.args.datagram.now c.in_ok-packet.packet c.in_ok-packet.ensures.ok
     (receiver_view c.self.inside) c.cid.result c.in_ok-place.place c.self.invariant
-    (subst (λ l. IsPlace (entries l) c.args.moment c.cid.result c.in_ok-place.place)
-    c.as_slice.ensures.value c.in_ok-place.ensures.place) c.cid.ensures
+    (rw c.as_slice.ensures.value at c.in_ok-place.ensures.place) c.cid.ensures
     (entries c.keep_at.new.records.items) c.keep_at.ensures
 
 pub returns-clause-accepted : goal.returns-clause-accepted
@@ -58,8 +56,7 @@ returns-clause-accepted c = rw (← c.self.view_is) (λ h s.
     kept_stands c.args.moment c.args.datagram.now c.in_ok-packet.packet
     c.in_ok-packet.ensures.ok (receiver_view c.self.inside) c.cid.result c.in_ok-place.place
     c.self.invariant
-    (subst (λ l. IsPlace (entries l) c.args.moment c.cid.result c.in_ok-place.place)
-    c.as_slice.ensures.value c.in_ok-place.ensures.place) c.cid.ensures
+    (rw c.as_slice.ensures.value at c.in_ok-place.ensures.place) c.cid.ensures
     (entries c.keep_at.new.records.items) c.keep_at.ensures h c.if-moment-self.false s)
 
 pub returns-clause-packet : goal.returns-clause-packet
