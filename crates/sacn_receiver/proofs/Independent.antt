@@ -58,7 +58,7 @@ absent c t h n = none_found (same_cid c) (records h t) (go (find (same_cid c) (r
         ∙ record_found h t f i.0 in cc)
 
 -- a CID without a record finds room among as many as there are CIDs
-room_for : (cids : List (List ℕ)) (e : Entry) (t : ℕ) (h : List Entry) → AllIn cids h
+pub room_for : (cids : List (List ℕ)) (e : Entry) (t : ℕ) (h : List Entry) → AllIn cids h
     → list_any (λ c. same_cid c e) cids ≡ true → record_of h t e.cid ≡ None
     → length (records h t) < length cids
 room_for cids e t h a m n =
