@@ -5,5 +5,4 @@ pub mod Placing
 pub mod Merging
 pub mod Answering
 pub mod Independent
-pub mod Arriving
 pub mod Rows

@@ -1,4 +1,4 @@
-use Rattle.sacn_receiver.proofs.Arriving.{answers_independent}
+use Rattle.sacn_receiver.proofs.Independent.{answers_independent}
 use Rattle.sacn_receiver.proofs.laws.answers_are_independent.Goals as goal
 
 pub returns : goal.returns

@@ -1,4 +1,4 @@
-use Rattle.sacn_receiver.proofs.Arriving.{heard_accepted}
+use Rattle.sacn_receiver.proofs.Independent.{heard_accepted}
 use Rattle.sacn_receiver.proofs.laws.heard_are_accepted.Goals as goal
 
 pub returns : goal.returns
