@@ -1,8 +1,7 @@
 pub mod Members
 pub mod Apart
 pub mod Same
-pub mod Placing
+pub mod Taking
 pub mod Merging
-pub mod Answering
 pub mod Independent
 pub mod Rows

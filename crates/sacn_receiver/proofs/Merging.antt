@@ -15,7 +15,7 @@ use Rattle.sacn_receiver.specs.Records.{entries, kept_entry, is_live_at, lights_
 use Rattle.sacn_receiver.specs.Places.{AreApart}
 use Rattle.sacn_receiver.proofs.Members.{by_test}
 use Rattle.sacn_receiver.proofs.Same.{same_live, same_shown}
-use Rattle.sacn_receiver.proofs.Placing.{records_all}
+use Rattle.sacn_receiver.proofs.Taking.{records_all}
 
 -- the greatest of at most four numbers
 pub greatest_of_four : (xs : List ℕ) → length xs ≤ 4

@@ -22,7 +22,7 @@ fn known_place(records: &[Record], cid: &[u8; 16]) -> Option<usize>
 }
 
 // A place for a new source: that of the first record that is gone, else behind all.
-#[tactic(auto, using(crate::proofs::Placing::or_behind))]
+#[tactic(auto, using(crate::proofs::Taking::or_behind))]
 fn free_place(records: &[Record], moment: u64) -> Option<usize>
     ensures { let place = position_or_len (λ r. not (source.is_there moment (kept_entry r)))
         records.now in result ≡ (if nat_lt place 4 then Some place else None) }

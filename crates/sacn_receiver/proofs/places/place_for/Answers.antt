@@ -1,8 +1,8 @@
 use Rattle.std.proofs.Common.{sym, ap, ◌∙◌, Some, None}
 use Rattle.std.specs.Prelude.{if◌then◌else◌}
 use Rattle.sacn_receiver.specs.declared.answer.Ignored.TheVariants.{OutOfSequence}
-use Rattle.sacn_receiver.proofs.Placing.{known_place, known_there, known_gone, new_place}
-use Rattle.sacn_receiver.proofs.Placing.{new_refused}
+use Rattle.sacn_receiver.proofs.Taking.{known_place, known_there, known_gone, new_place}
+use Rattle.sacn_receiver.proofs.Taking.{new_refused}
 use Rattle.sacn_receiver.proofs.places.place_for.Goals as goal
 use Rattle.sacn_receiver.proofs.places.place_for.Goals.{else-is_there-via-then-is_there+else-not-is_after}
 use Rattle.sacn_receiver.proofs.places.place_for.Goals.{else-is_there-via-else-is_there}

@@ -6,8 +6,8 @@ use Rattle.sacn_receiver.specs.declared.answer.Taken.{Taken}
 use Rattle.sacn_receiver.specs.Taking.{taken_of}
 use Rattle.sacn_receiver.specs.Inside.{receiver_view}
 use Rattle.sacn_receiver.specs.Records.{entries}
-use Rattle.sacn_receiver.proofs.Answering.{unheard_answer, heard_answer, kept_apart}
-use Rattle.sacn_receiver.proofs.Answering.{kept_stands, heard_by}
+use Rattle.sacn_receiver.proofs.Taking.{unheard_answer, heard_answer, kept_apart}
+use Rattle.sacn_receiver.proofs.Taking.{kept_stands, heard_by}
 use Rattle.sacn_receiver.proofs.receiver.Receiver.take.Goals as goal
 
 pub returns-in_err-hear-clause-answer : goal.returns-in_err-hear-clause-answer
