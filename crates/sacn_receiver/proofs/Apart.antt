@@ -13,26 +13,25 @@ use Rattle.sacn_receiver.specs.Places.{AreApart}
 use Rattle.sacn_receiver.proofs.Members.{by_test, In, In_filter, In_filtered, In_map, found_in}
 use Rattle.sacn_receiver.proofs.Members.{filter_out, filter_all, filter_less, rest_less}
 
--- as many are of one CID as of another that is the same
-pub as_many_of : (c : List ℕ) (e : Entry) (es : List Entry) → same_cid c e ≡ true
-    → length (filter (same_cid c) es) ≡ length (filter (same_cid e.cid) es)
-as_many_of c e es q = ap length
-    (filter_agree (same_cid c) (same_cid e.cid) (λ f. nat_list_eq_equiv.congr c e.cid f.cid q) es)
-
-pub newest_apart : (h : List Entry) → AreApart (newest h)
-newest_apart [] c = omega arith
-newest_apart (e ∷ h) c =
-    let rest : List Entry = filter (λ f. not (same_cid e.cid f)) (newest h) in
-    by_test (same_cid c e)
-    (λ q. rw q (omega (arith, as_many_of c e rest q, filter_out (same_cid e.cid) (newest h))))
-    (λ q. rw q (omega (
+-- one more, whose CID no other has
+pub apart_more : (e : Entry) (es : List Entry) → AreApart es
+    → length (filter (same_cid e.cid) es) ≡ 0 → AreApart (e ∷ es)
+apart_more e es a n c =
+    by_test (same_cid c e) (λ q. rw q (omega (
       arith,
-      filter_less (λ f. not (same_cid e.cid f)) (same_cid c) (newest h),
-      newest_apart h c,
-    )))
+      ap length (filter_agree (same_cid c) (same_cid e.cid)
+          (λ f. nat_list_eq_equiv.congr c e.cid f.cid q) es),
+      n,
+    ))) (λ q. rw q (a c))
 
 pub filter_apart : (p : Entry → Bool) (es : List Entry) → AreApart es → AreApart (filter p es)
 filter_apart p es a c = omega (arith, filter_less p (same_cid c) es, a c)
+
+pub newest_apart : (h : List Entry) → AreApart (newest h)
+newest_apart [] c = omega arith
+newest_apart (e ∷ h) c = apart_more e (filter (λ f. not (same_cid e.cid f)) (newest h))
+    (filter_apart (λ f. not (same_cid e.cid f)) (newest h) (newest_apart h))
+    (filter_out (same_cid e.cid) (newest h)) c
 
 pub rest_apart : (e : Entry) (es : List Entry) → AreApart (e ∷ es) → AreApart es
 rest_apart e es a c = omega (arith, rest_less (same_cid c) e es, a c)

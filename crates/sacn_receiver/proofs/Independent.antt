@@ -18,7 +18,6 @@ use Rattle.sacn_receiver.specs.Shown.{live}
 use Rattle.sacn_receiver.specs.Laws.{accepted, SourcesAreIndependent, MergeIsByMembership}
 use Rattle.sacn_receiver.specs.Laws.{LiveAreRecords, HeardAreAccepted, RecordsAreIndependent}
 use Rattle.sacn_receiver.specs.Laws.{AnswersAreIndependent}
-use Rattle.sacn_receiver.specs.Places.{AreApart}
 use Rattle.sacn_receiver.specs.declared.answer.Ignored.{Ignored}
 use Rattle.sacn_receiver.specs.declared.answer.Ignored.TheVariants.{Backwards, Unreadable}
 use Rattle.sacn_receiver.specs.Taking.{entry_of, reason_of, refusal, unheard, ignored_packet}
@@ -26,7 +25,7 @@ use Rattle.sacn_receiver.specs.Taking.{ignored, taken_of}
 use Rattle.sacn_receiver.specs.Arrivals.{Arrival, heard_all, last_arrival, NeverFall, not_heard}
 use Rattle.sacn_receiver.specs.Arrivals.{is_heard, cid_of, is_from, HeardAreFrom, packets_heard}
 use Rattle.sacn_receiver.proofs.Members.{by_test, In, found_in, none_found, In_filter, In_filtered}
-use Rattle.sacn_receiver.proofs.Apart.{AllIn, AllIn-filter, AllIn-newest, as_many_of, fits}
+use Rattle.sacn_receiver.proofs.Apart.{AllIn, AllIn-filter, AllIn-newest, apart_more, fits}
 pub use Rattle.sacn_receiver.proofs.Apart.{one_of}
 use Rattle.sacn_receiver.proofs.Same.{record_found, records_apart, merged_same, found_record}
 
@@ -74,13 +73,9 @@ pub room_for : (cids : List (List ℕ)) (e : Entry) (t : ℕ) (h : List Entry) �
     → length (records h t) < length cids
 room_for cids e t h a m n =
     let more : length (e ∷ records h t) ≤ length cids =
-    fits cids (e ∷ records h t) (m, AllIn-filter cids _ (newest h) (AllIn-newest cids h a)) apart in
+    fits cids (e ∷ records h t) (m, AllIn-filter cids _ (newest h) (AllIn-newest cids h a))
+    (apart_more e (records h t) (records_apart h t) (absent e.cid t h n)) in
     omega (arith, more)
-  where
-    apart : AreApart (e ∷ records h t)
-    apart c = by_test (same_cid c e)
-        (λ q. rw q (omega (arith, as_many_of c e (records h t) q, absent e.cid t h n)))
-        (λ q. rw q (records_apart h t c))
 
 pub accepted_in : (room : ℕ) (cids : List (List ℕ)) (es : List Entry) → AllIn cids es
     → AllIn cids (accepted room es)

@@ -32,7 +32,7 @@ use Rattle.sacn_receiver.specs.Places.{AreApart, IsFree, IsPlace, put}
 use Rattle.sacn_receiver.specs.Kept.{Kept, StandsFor}
 use Rattle.sacn_receiver.specs.declared.answer.Taken.{Taken}
 use Rattle.sacn_receiver.proofs.Members.{by_test, find_none, none_found, rest_less}
-use Rattle.sacn_receiver.proofs.Apart.{newest_all, rest_apart, alone, as_many_of}
+use Rattle.sacn_receiver.proofs.Apart.{newest_all, rest_apart, alone, apart_more}
 use Rattle.sacn_receiver.proofs.Same.{by_record, same_refusal}
 
 -- the first place that passes, if there is one
@@ -145,6 +145,9 @@ module _ (rs : List Record) (t : ℕ) (cid : List ℕ) (number : ℕ)
   abbrev pub there : ℕ
   there = length (filter (is_there t) (entries rs))
 
+  abbrev pub next : ℕ
+  next = position_or_len (gone t) rs
+
   refused : (o : Option Entry) → while_there t (find (same_cid cid) (entries rs)) ≡ o
       → refusal 4 (entries rs) t cid number
       ≡ (if is_taken 4 o there number then None else Some (reason_of o))
@@ -192,19 +195,17 @@ module _ (rs : List Record) (t : ℕ) (cid : List ℕ) (number : ℕ)
   -- a CID without one
   module _ (o : Option ℕ) (r : Result ℕ Ignored) (is : position (own t cid) rs ≡ None)
       (few : length rs ≤ 4) (e : r ≡ ok_or o SourcesFull)
-      (f : o ≡ (if nat_lt (position_or_len (gone t) rs) 4 then Some
-      (position_or_len (gone t) rs) else None)) where
+      (f : o ≡ (if nat_lt next 4 then Some next else None)) where
     nowhere : find (same_cid cid) (entries rs) ≡ None
     nowhere = own_at t cid rs ∙ ap (option_map kept_entry)
         (slice_get_past rs (position_or_len (own t cid) rs) (no_place (own t cid) rs is))
 
     pub new_place : IfOk r (λ i. IsPlace (entries rs) t cid i)
     new_place = subst (λ (x : Result ℕ Ignored). IfOk x (λ i. IsPlace (entries rs) t cid i))
-        (sym (e ∙ ap (λ o. ok_or o SourcesFull) f))
-        (go (nat_lt (position_or_len (gone t) rs) 4) refl)
+        (sym (e ∙ ap (λ o. ok_or o SourcesFull) f)) (go (nat_lt next 4) refl)
       where
-        go : (b : Bool) → nat_lt (position_or_len (gone t) rs) 4 ≡ b
-            → IfOk (ok_or (if b then Some (position_or_len (gone t) rs) else None) SourcesFull)
+        go : (b : Bool) → nat_lt (next) 4 ≡ b
+            → IfOk (ok_or (if b then Some next else None) SourcesFull)
             (λ i. IsPlace (entries rs) t cid i)
         go false h = tt
         go true h = record {
@@ -213,19 +214,19 @@ module _ (rs : List Record) (t : ℕ) (cid : List ℕ) (number : ℕ)
             prefix_len-le-length (λ r. not (gone t r)) rs,
             length-map rs kept_entry,
           );
-          room = ltb-true (position_or_len (gone t) rs) 4 h;
+          room = ltb-true (next) 4 h;
           free = gone_free t cid rs nowhere;
         }
 
     pub new_refused : result_err r ≡ refusal 4 (entries rs) t cid number
     new_refused =
         ap result_err (e ∙ ap (λ o. ok_or o SourcesFull) f)
-        ∙ go (nat_lt (position_or_len (gone t) rs) 4)
+        ∙ go (nat_lt (next) 4)
         ∙ ap (λ b. if b then None else Some SourcesFull) (room t rs few)
         ∙ sym (refused None (ap (while_there t) nowhere))
       where
-        go : (b : Bool) → result_err (ok_or (if b then Some (position_or_len (gone t) rs) else None)
-            SourcesFull) ≡ (if b then None else Some SourcesFull)
+        go : (b : Bool) → result_err (ok_or (if b then Some next else None) SourcesFull)
+            ≡ (if b then None else Some SourcesFull)
         go true = refl
         go false = refl
 
@@ -258,16 +259,6 @@ module _ (e : Entry) (c : List ℕ) where
       (λ k. let h : same_cid c e ≡ false = sym (alike x k) ∙ f.0 in rw (k, h))
       (λ k. rw k (put_record t l xs i f.1 (rest_apart x xs a)))
 
-  only : same_cid c e ≡ true → (t : ℕ) (es : List Entry) (i : ℕ) → IsFree t e.cid es i
-      → length (filter (same_cid c) (put es i e)) ≤ 1
-  only h t [] zero f = rw h (omega arith)
-  only h t [] (suc i) f = rw h (omega arith)
-  only h t (x ∷ xs) zero f =
-      rw h (omega (arith, as_many_of c e xs h, none_found (same_cid e.cid) xs f.1))
-  only h t (x ∷ xs) (suc i) f =
-      let k : same_cid c x ≡ false = nat_list_eq_equiv.congr c e.cid x.cid h ∙ f.0 in
-      rw k (only h t xs i f.1)
-
   no_more : same_cid c e ≡ false → (es : List Entry) (i : ℕ)
       → length (filter (same_cid c) (put es i e)) ≤ length (filter (same_cid c) es)
   no_more h [] zero = rw h (omega arith)
@@ -279,9 +270,16 @@ module _ (e : Entry) (c : List ℕ) where
 
 pub put_apart : (es : List Entry) (i : ℕ) (e : Entry) → AreApart es → IsFree e.moment e.cid es i
     → AreApart (put es i e)
-put_apart es i e a f c =
-    by_test (same_cid c e) (λ h. only e c h e.moment es i f)
-    (λ h. omega (arith, no_more e c h es i, a c))
+put_apart [] zero e a f = apart_more e [] a refl
+put_apart [] (suc i) e a f = apart_more e [] a refl
+put_apart (x ∷ xs) zero e a f =
+    apart_more e xs (rest_apart x xs a) (none_found (same_cid e.cid) xs f.1)
+put_apart (x ∷ xs) (suc i) e a f =
+    apart_more x (put xs i e) (put_apart xs i e (rest_apart x xs a) f.1) (omega (
+      arith,
+      no_more e x.cid (nat_list_eq_equiv.symm x.cid e.cid ∙ f.0) xs i,
+      alone x.cid x xs a (nat_list_eq_equiv.refl x.cid),
+    ))
 
 -- after the packet the receiver stands for the longer history
 pub stands_more : (r : Kept) (i : ℕ) (e : Entry) (h : List Entry) → AreApart r.records
