@@ -1,7 +1,7 @@
 -- What is kept of a source depends on its own packets alone, the merge on the members alone, and
 -- the live records are those that are there and not ended. What a receiver makes of arrivals whose
 -- moments never fall is the history of the packets that are heard.
-use Rattle.std.proofs.Common.{◌≡◌, ℕ, zero, suc, ◌<◌, ◌≤◌, Bool, true, false, cond, refl, ap, arith}
+use Rattle.std.proofs.Common.{◌≡◌, ℕ, zero, suc, ◌<◌, ◌≤◌, Bool, true, false, cond, refl, ap, ap₂, arith}
 use Rattle.std.proofs.Common.{sym, inl, inr, ◌∙◌, List, [], ◌∷◌, length, get_or, Option, Some, None}
 use Rattle.std.proofs.Common.{not, subst, map, Ok, Err}
 use Rattle.std.specs.Prelude.{if◌then◌else◌, filter, find, All, Contains, is_none, IsTrue}
@@ -113,7 +113,9 @@ independent room cids c few [] a = refl
 independent room cids c few (e ∷ es) a =
     by_test (same_cid c e) (λ q. own q (independent room cids c few es a.1))
     (λ q. let left : filter (same_cid c) (e ∷ es) ≡ filter (same_cid c) es = rw q in
-    without _ q ∙ independent room cids c few es a.1
+    cond_both (is_accepted room g e.moment e.cid e.number) (e ∷ g) g
+    (λ l. find (same_cid c) l ≡ find (same_cid c) g) (λ _. rw q) (λ _. refl)
+    ∙ independent room cids c few es a.1
     ∙ ap (λ es. find (same_cid c) (accepted room es)) (sym left))
   where
     g : List Entry
@@ -126,11 +128,6 @@ independent room cids c few (e ∷ es) a =
         → find (same_cid c) (if b then e ∷ g else g) ≡ find (same_cid c) (if b then e ∷ h else h)
     with_one true q ih = rw q
     with_one false q ih = ih
-
-    without : (b : Bool) → same_cid c e ≡ false
-        → find (same_cid c) (if b then e ∷ g else g) ≡ find (same_cid c) g
-    without true q = rw q
-    without false q = refl
 
     own : same_cid c e ≡ true → find (same_cid c) g ≡ find (same_cid c) h
         → find (same_cid c) (accepted room (e ∷ es))
@@ -338,12 +335,9 @@ answers_independent room universe cids a older few from n =
     same_refusal : is_heard universe a ≡ true
         → refusal room g a.moment (cid_of a) (entry_from a).number
         ≡ refusal room h a.moment (cid_of a) (entry_from a).number
-    same_refusal q =
-        ap (λ b. if b then None else Some (reason_of (record_of g a.moment (cid_of a))))
+    same_refusal q = ap₂ (λ b o. if b then None else Some (reason_of o))
         (alike room cids (entry_from a) few (is_one_of cids universe a older from q) g h
         (heard_in room cids universe older rest_from n.1)
         (heard_in room cids universe own
         (All-filter (is_from (cid_of a)) (IsOf cids universe) older rest_from) own_falls.1)
-        same_record)
-        ∙ ap (λ o. if is_accepted room h a.moment (cid_of a)
-        (entry_from a).number then None else Some (reason_of o)) same_record
+        same_record) same_record

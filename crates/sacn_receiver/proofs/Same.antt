@@ -1,5 +1,5 @@
 -- Histories that give each CID the same record at a moment: they count, show and accept alike.
-use Rattle.std.proofs.Common.{◌≡◌, ℕ, ◌≤◌, true, not, refl, ap, arith, sym, subst, inl, inr, ◌∙◌}
+use Rattle.std.proofs.Common.{◌≡◌, ℕ, ◌≤◌, true, not, refl, ap, ap₂, arith, sym, subst, inl, inr, ◌∙◌}
 use Rattle.std.proofs.Common.{List, [], ◌∷◌, map, length, Option, Some, None}
 use Rattle.std.specs.Prelude.{nat_eq, if◌then◌else◌, find, slice_index}
 use Rattle.std.proofs.lemmas.Option.{cond_some}
@@ -114,9 +114,8 @@ pub by_record : (room t : ℕ) (h : List Entry) (cid : List ℕ) (number : ℕ) 
     → record_of h t cid ≡ o → length (records h t) ≡ n
     → refusal room h t cid number
     ≡ (if is_taken room o n number then None else Some (reason_of o))
-by_record room t h cid number o n r k =
-    ap (λ o. if is_taken room o (length (records h t)) number then None else Some (reason_of o)) r
-    ∙ ap (λ n. if is_taken room o n number then None else Some (reason_of o)) k
+by_record room t h cid number o n =
+    ap₂ (λ o n. if is_taken room o n number then None else Some (reason_of o))
 
 pub same_refusal : (room t : ℕ) (g h : List Entry) → AreSame t g h → (cid : List ℕ) (number : ℕ)
     → refusal room g t cid number ≡ refusal room h t cid number

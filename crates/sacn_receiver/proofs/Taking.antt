@@ -172,20 +172,15 @@ module _ (rs : List Record) (t : ℕ) (cid : List ℕ) (number : ℕ)
           (slice_get-get_or rs (position_or_len (own t cid) rs) d at.1)
           ∙ ap (λ k. Some (kept_entry (get_or rs k d))) at.0
 
-      record_is : (b : Bool) → is_there t (kept_entry (get_or rs i d)) ≡ b
-          → while_there t (find (same_cid cid) (entries rs))
-          ≡ (if b then Some (kept_entry (get_or rs i d)) else None)
-      record_is b q = ap (while_there t) found
-          ∙ ap (λ b. if b then Some (kept_entry (get_or rs i d)) else None) q
-
       pub known_there : is_there t (kept_entry (get_or rs i d)) ≡ true
           → refusal 4 (entries rs) t cid number
           ≡ (if is_after (get_or rs i d).number number then None else Some OutOfSequence)
-      known_there q = refused (Some (kept_entry (get_or rs i d))) (record_is true q)
+      known_there q = refused (Some (kept_entry (get_or rs i d)))
+          (ap (while_there t) found ∙ rw q)
 
       pub known_gone : is_there t (kept_entry (get_or rs i d)) ≡ false
           → refusal 4 (entries rs) t cid number ≡ None
-      known_gone q = refused None (record_is false q)
+      known_gone q = refused None (ap (while_there t) found ∙ rw q)
           ∙ ap (λ b. if b then None else Some SourcesFull) (lt-ltb there 4 (omega (
             arith,
             few,
