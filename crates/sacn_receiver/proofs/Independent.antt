@@ -1,9 +1,9 @@
 -- What is kept of a source depends on its own packets alone, the merge on the members alone, and
 -- the live records are those that are there and not ended. What a receiver makes of arrivals whose
 -- moments never fall is the history of the packets that are heard.
-use Rattle.std.proofs.Common.{◌≡◌, ℕ, zero, suc, ◌<◌, ◌≤◌, Bool, true, false, cond, refl, ap, ap₂, arith}
-use Rattle.std.proofs.Common.{sym, inl, inr, ◌∙◌, List, [], ◌∷◌, length, get_or, Option, Some, None}
-use Rattle.std.proofs.Common.{not, subst, map, Ok, Err}
+use Rattle.std.proofs.Common.{◌≡◌, ℕ, zero, suc, ◌<◌, ◌≤◌, Bool, true, false, cond, refl, ap, ap₂}
+use Rattle.std.proofs.Common.{arith, sym, inl, inr, ◌∙◌, List, [], ◌∷◌, length, get_or, Option}
+use Rattle.std.proofs.Common.{Some, None, not, subst, map, Ok, Err}
 use Rattle.std.specs.Prelude.{if◌then◌else◌, filter, find, All, Contains, is_none, IsTrue}
 use Rattle.std.specs.List.{list_any}
 use Rattle.std.specs.Option.{option_or, option_map, option_map_or}

@@ -1,6 +1,6 @@
 -- Histories that give each CID the same record at a moment: they count, show and accept alike.
-use Rattle.std.proofs.Common.{◌≡◌, ℕ, ◌≤◌, true, not, refl, ap, ap₂, arith, sym, subst, inl, inr, ◌∙◌}
-use Rattle.std.proofs.Common.{List, [], ◌∷◌, map, length, Option, Some, None}
+use Rattle.std.proofs.Common.{◌≡◌, ℕ, ◌≤◌, true, not, refl, ap, ap₂, arith, sym, subst, inl, inr}
+use Rattle.std.proofs.Common.{◌∙◌, List, [], ◌∷◌, map, length, Option, Some, None}
 use Rattle.std.specs.Prelude.{nat_eq, if◌then◌else◌, find, slice_index}
 use Rattle.std.proofs.lemmas.Option.{cond_some}
 use Rattle.sacn_receiver.specs.Source.{Entry, same_cid, is_there, newest, records, while_there}

@@ -117,7 +117,8 @@ module _ (t : ℕ) where
 
     own_at : (rs : List Record) → find (same_cid cid) (entries rs)
         ≡ option_map kept_entry (slice_get rs (position_or_len own rs))
-    own_at rs = find_mapped kept_entry (same_cid cid) rs ∙ ap (option_map kept_entry) (find_at own rs)
+    own_at rs = find_mapped kept_entry (same_cid cid) rs
+        ∙ ap (option_map kept_entry) (find_at own rs)
 
     -- the place of the CID's own record may go, and without one that of the first that is gone
     own_free : (rs : List Record) → AreApart (entries rs)
