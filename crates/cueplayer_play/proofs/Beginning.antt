@@ -1,6 +1,5 @@
 -- A play begins, or not.
-use Rattle.std.proofs.Common.{◌≡◌, ◌↔◌, ◌∙◌, ℕ, List, refl, ap, Bool, true, false, Result, Ok, Err}
-use Rattle.std.proofs.Common.{None}
+use Rattle.std.proofs.Common.{◌≡◌, ◌↔◌, ℕ, List, refl, Bool, true, false, Result, Ok, Err, None}
 use Rattle.std.specs.Prelude.{IsTrue, IsFalse}
 use Rattle.patch_core.specs.Frame.{is_base}
 use Rattle.patch_core.specs.declared.fault.RigFault.{RigFault}
@@ -18,12 +17,6 @@ pub is_based : {X : Type 0} (b : Bool) (r : Result X RigFault) (x : X) → r ≡
     → (r ≡ Err Universe) ↔ IsFalse b → IsTrue b
 is_based true r x is iff = refl
 is_based false r x is iff = let e : r ≡ Err Universe = iff.1 refl in cc
-
--- and one that was refused for them has not
-pub not_based : {X : Type 0} (b : Bool) (r : Result X RigFault) (fault : RigFault) → r ≡ Err fault
-    → fault ≡ Universe
-    → (r ≡ Err Universe) ↔ IsFalse b → IsFalse b
-not_based b r fault is e iff = iff.0 (is ∙ ap (λ f. Err f) e)
 
 -- a play begins where its console was opened
 pub began : {X : Type 0} (show : List ℕ) (base : ℕ) (s : Tables) (r : Result X RigFault) (x : X)

@@ -50,28 +50,18 @@ lines_from c (b ∷ bs) = lines_from (with_byte c b) bs ∙ step c b bs
 not_zero : (b : ℕ) (r : List ℕ) → (length (b ∷ r) == 0) ≡ false
 not_zero b r = grind (arith, nat_tests)
 
-at_end : (c : Cut) (bytes : List ℕ) → cut_of bytes ≡ c →
-    in_order (cut_of (closed bytes)).lines ≡ lines_with c []
-at_end c bytes is = go c.rest refl
-  where
-    go : (r : List ℕ) → c.rest ≡ r → in_order (cut_of (closed bytes)).lines ≡ lines_with c []
-    go [] e =
-        let none : closed bytes ≡ bytes =
-        ap (λ (c : Cut). cond (length c.rest == 0) bytes (bytes ++ 10 ∷ [])) is
-        ∙ ap (λ (r : List ℕ). cond (length r == 0) bytes (bytes ++ 10 ∷ [])) e in
-        ap (λ bs. in_order (cut_of bs).lines) none ∙ ap (λ (c : Cut). in_order c.lines) is
-        ∙ sym (append-nil (in_order c.lines)) ∙ ap (λ r. in_order c.lines ++ onto r []) (sym e)
-    go (b ∷ r) e =
-        let more : closed bytes ≡ bytes ++ 10 ∷ [] =
-        ap (λ (c : Cut). cond (length c.rest == 0) bytes (bytes ++ 10 ∷ [])) is
-        ∙ ap (λ (r : List ℕ). cond (length r == 0) bytes (bytes ++ 10 ∷ [])) e
-        ∙ ap (λ (t : Bool). cond t bytes (bytes ++ 10 ∷ [])) (not_zero b r) in
-        ap (λ bs. in_order (cut_of bs).lines) more
-        ∙ ap (λ (c : Cut). in_order c.lines) (fold-append with_byte no_bytes bytes (10 ∷ []))
-        ∙ ap (λ (c : Cut). in_order (with_byte c 10).lines) is
-        ∙ ap (λ (l : List ℕ). in_order c.lines ++ l ∷ []) e
-        ∙ ap (λ ls. in_order c.lines ++ ls) (sym (onto_none b r))
-        ∙ ap (λ r. in_order c.lines ++ onto r []) (sym e)
+-- the bytes behind the last LF are the last line, where there are any
+at_end : (bytes : List ℕ) (ls : List (List ℕ)) (r : List ℕ)
+    → cut_of bytes ≡ record { lines = ls; rest = r }
+    → in_order (cut_of (cond (length r == 0) bytes (bytes ++ 10 ∷ []))).lines
+    ≡ in_order ls ++ onto r []
+at_end bytes ls [] is = ap (λ (c : Cut). in_order c.lines) is ∙ sym (append-nil (in_order ls))
+at_end bytes ls (b ∷ r) is =
+    ap (λ t. in_order (cut_of (cond t bytes (bytes ++ 10 ∷ []))).lines) (not_zero b r)
+    ∙ ap (λ (c : Cut). in_order c.lines) (fold-append with_byte no_bytes bytes (10 ∷ []))
+    ∙ ap (λ (c : Cut). in_order (with_byte c 10).lines) is
+    ∙ ap (λ l. in_order ls ++ l) (sym (onto_none b r))
 
 pub lines_are : (bytes : List ℕ) → in_order (cut_of (closed bytes)).lines ≡ lines_of bytes
-lines_are bytes = at_end (cut_of bytes) bytes refl ∙ lines_from no_bytes bytes
+lines_are bytes =
+    at_end bytes (cut_of bytes).lines (cut_of bytes).rest refl ∙ lines_from no_bytes bytes

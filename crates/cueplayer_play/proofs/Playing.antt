@@ -4,44 +4,35 @@ use Rattle.std.proofs.Common.{◌++◌, append_assoc, length, take, fold, ◌⊎
 use Rattle.std.specs.Prelude.{◌==◌}
 use Rattle.std.proofs.lemmas.List.Sums.{fold-append}
 use Rattle.devices.specs.Tape.{Tape, with_more}
+use Rattle.devices.proofs.Tapes.{with_more-none, with_more-twice}
 use Rattle.console.specs.Streams.{Production}
 use Rattle.cueplayer_play.specs.declared.fault.PlayFault.{PlayFault}
 use Rattle.cueplayer_play.specs.Lines.{AreFine, Cut, closed, cut_of, no_bytes, with_byte}
 use Rattle.cueplayer_play.specs.Play.{EndsAtByte}
 use Rattle.cueplayer_play.specs.Run.{Emitted}
 use Rattle.cueplayer_play.specs.Stage.{Ends, EndsWithin, Leaves}
-use Rattle.cueplayer_play.proofs.Running.{with_more-append, with_more-nil}
 
 pub joined_is : (bytes more : List ℕ) → fold with_byte (cut_of bytes) more ≡ cut_of (bytes ++ more)
 joined_is bytes more = sym (fold-append with_byte no_bytes bytes more)
-
--- bytes with a rest are closed by LF
-closed_is : (bytes : List ℕ) → (length (cut_of bytes).rest == 0) ≡ false → closed bytes ≡ bytes
-    ++ 10 ∷ []
-closed_is bytes e = ap (λ b. cond b bytes (bytes ++ 10 ∷ [])) e
 
 pub read_more : {X : Type 0} (a b c : Tape X) (xs ys : List X) → c ≡ with_more b ys
     → b ≡ with_more a xs
     → c ≡ with_more a (xs ++ ys)
 read_more a b c xs ys later before = later ∙ ap (λ t. with_more t ys) before
-    ∙ with_more-append a xs ys
+    ∙ with_more-twice a xs ys
 
 -- a read at the end
 pub read_end : {X : Type 0} (a b c : Tape X) (xs buf : List X) (n : ℕ) → n ≡ 0
     → c ≡ with_more b (take n buf)
     → b ≡ with_more a xs → c ≡ with_more a xs
 read_end a b c xs buf n e later before =
-    later ∙ ap (λ k. with_more b (take k buf)) e ∙ with_more-nil b ∙ before
+    later ∙ ap (λ k. with_more b (take k buf)) e ∙ with_more-none b ∙ before
 
-not_empty : (xs ys : List ℕ) (b : Bool) → xs ≡ ys → b ≡ false → b ≡ (length xs == 0)
-    → (length ys == 0) ≡ false
-not_empty xs ys b same e is = ap (λ (l : List ℕ). length l == 0) (sym same) ∙ sym is ∙ e
-
--- what has come of a line is behind the last LF
+-- where something has come of a line, LF closes the bytes
 pub closed_with : (bytes pending : List ℕ) (b : Bool) → pending ≡ (cut_of bytes).rest → b ≡ false
     → b ≡ (length pending == 0) → closed bytes ≡ bytes ++ 10 ∷ []
-closed_with bytes pending b same e is = closed_is bytes
-    (not_empty pending (cut_of bytes).rest b same e is)
+closed_with bytes pending b same e is = ap (λ b. cond b bytes (bytes ++ 10 ∷ []))
+    (ap (λ (l : List ℕ). length l == 0) (sym same) ∙ sym is ∙ e)
 
 -- the byte that ends the play of later bytes ends the play of all
 pub ends_of : (fault : PlayFault) (p : Production) (ended : Type 0) (fed feeds : Tape ℕ)

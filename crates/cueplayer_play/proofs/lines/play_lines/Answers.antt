@@ -6,7 +6,8 @@ use Rattle.cueplayer_play.specs.Run.{Emitted, Ran, emitted}
 use Rattle.cueplayer_play.specs.Stage.{StandsFor}
 use Rattle.cueplayer_play.proofs.Playing.{behind, closed_with, ends_of, ends_one, joined_is}
 use Rattle.cueplayer_play.proofs.Playing.{read_end, read_more}
-use Rattle.cueplayer_play.proofs.Running.{fine_none, ran_none, with_more-nil}
+use Rattle.devices.proofs.Tapes.{with_more-none}
+use Rattle.cueplayer_play.proofs.Running.{fine_none, ran_none}
 use Rattle.cueplayer_play.proofs.lines.play_lines.Goals as goal
 
 pub loop-stage-init : goal.loop-stage-init
@@ -16,7 +17,7 @@ loop-stage-init g c = record {
   told_output = λ t. t;
   so_far = (
     [],
-    λ t. sym (with_more-nil (g.R.Feed.tape c.args.input.now)),
+    λ t. sym (with_more-none (g.R.Feed.tape c.args.input.now)),
     λ p s. record {
       console_stands = s;
       pending_is = c.new.ensures;

@@ -1,9 +1,10 @@
-use Rattle.std.proofs.Common.{ℕ, List, subst, fold, take, arith}
+use Rattle.std.proofs.Common.{ℕ, List, subst, sym, fold, take, arith}
+use Rattle.std.proofs.lemmas.List.Sums.{fold_more}
 use Rattle.std.proofs.lemmas.Result.{err_from_is_err_and}
 use Rattle.cueplayer_play.specs.Lines.{Cut, with_byte}
 use Rattle.cueplayer_play.specs.Run.{Ran, emitted}
 use Rattle.cueplayer_play.specs.Stage.{StandsFor}
-use Rattle.cueplayer_play.proofs.Running.{ends_at, fold_more}
+use Rattle.cueplayer_play.proofs.Running.{ends_at}
 use Rattle.cueplayer_play.proofs.stage.Stage.take_bytes.Goals as goal
 
 pub take_byte-requires : goal.take_byte-requires
@@ -43,13 +44,13 @@ loop-byte-preserved g c =
       told_output = λ t. so_far.told_output (next.told_output t);
       stands = λ p cut stands.
           subst (λ (x : Cut). StandsFor g.F.Fader.stands_for p c.take_byte.new.self x)
-          (fold_more cut xs i _ c.loop-byte-test.true)
+          (sym (fold_more with_byte cut xs i _ c.loop-byte-test.true))
           (next.stands p (fold with_byte cut (take i xs)) (so_far.stands p cut stands));
       ran = λ p cut before stands tells_link tells_out ran.
           subst (λ (x : Cut). Ran p x.lines before
           (emitted (g.L.Link.offered c.take_byte.new.link) (g.W.Output.tape c.take_byte.new.out))
           c.take_byte.new.self.lost)
-          (fold_more cut xs i _ c.loop-byte-test.true)
+          (sym (fold_more with_byte cut xs i _ c.loop-byte-test.true))
           (next.ran p (fold with_byte cut (take i xs)) before (so_far.stands p cut stands)
           tells_link tells_out
           (so_far.ran p cut before stands (next.told_link tells_link) (next.told_output tells_out)
