@@ -1,7 +1,7 @@
 -- What a statement does to a show is what it says: at each key the show answers as it did, but for
 -- the statement's news.
 use Rattle.std.proofs.Common.{◌≡◌, ℕ, ◌+◌, Bool, true, false, cond, ◌&&◌, IsTrue, List, [], ◌∷◌}
-use Rattle.std.proofs.Common.{refl, sym, ap, ◌∙◌, Option, Some, None, is_some, inl, inr, arith}
+use Rattle.std.proofs.Common.{refl, sym, ap, ◌∙◌, Option, Some, None, is_some, arith, ◌++◌, inl, inr}
 use Rattle.std.specs.Prelude.{◌==◌, option_and_then}
 use Rattle.std.specs.Option.{option_map_or}
 use Rattle.std.specs.Ordering.{nat_cmp}
@@ -10,30 +10,24 @@ use Rattle.std.specs.FinMap as maps
 use Rattle.std.proofs.lemmas.Bool.Decides.{nat_tests}
 use Rattle.std.proofs.lemmas.Bool.{cases_eq, ne_eqb, eq-eqb}
 use mathlib.Core.Bool.{false≢true}
-use Rattle.show_core.specs.declared.cue.CueData.{CueData}
-use Rattle.show_core.specs.declared.rate.Rate.{Rate}
-use Rattle.show_core.specs.Tables.{LevelMap, PatchMap, Tables}
-use Rattle.show_core.specs.Builders.{blank, patched_with}
-use Rattle.show_line.specs.declared.statement.Record.{Record}
-use Rattle.show_line.specs.declared.statement.Record.TheVariants.{Cue, Group, Sub}
-use Rattle.show_line.specs.declared.statement.Table.TheVariants.{Cues, Groups, Subs, Patch}
-use Rattle.show_line.specs.declared.statement.Cleared.{Cleared}
-use Rattle.show_line.specs.declared.statement.Cleared.TheVariants.{All, Only}
-use Rattle.show_line.specs.declared.statement.Statement.{Statement}
-use Rattle.show_line.specs.declared.statement.Statement.TheVariants.{Opens, Levels, Rises, Falls}
-use Rattle.show_line.specs.declared.statement.Statement.TheVariants.{Follows, Patches, Clears}
-use Rattle.show_line.specs.declared.triples.Triple.{Triple}
+use Rattle.show_reader.specs.Terms.{CueData, Rate, LevelMap, PatchMap, Tables, CueMap, MasterMap}
+use Rattle.show_reader.specs.Terms.{Record, Cue, Group, Sub, Cues, Groups, Subs, Patch, Cleared}
+use Rattle.show_reader.specs.Terms.{All, Only, Statement, Opens, Levels, Rises, Falls, Follows}
+use Rattle.show_reader.specs.Terms.{Patches, Clears, Triple}
+use Rattle.show_core.specs.Builders.{blank, patched_with, with_level, with_levels, with_listed}
+use Rattle.show_core.specs.Builders.{with_all_listed, all_patched}
 use Rattle.show_reader.specs.Keys.{Key, There, Level, Up, Down, Follow, Dimmer, has_record, found}
 use Rattle.show_reader.specs.Meaning.{News, Is, Gone, Silent, after, newer, pair_says, triple_says}
 use Rattle.show_reader.specs.Meaning.{says, cue_count, is_there}
 use Rattle.show_reader.specs.Shows.{IsShowOf}
-use Rattle.show_reader.specs.Applied.{with_record, with_pairs, with_triples, without}
-use Rattle.show_reader.specs.Applied.{applied, HasOwner}
+use Rattle.show_reader.specs.Applied.{with_record, with_pairs, with_triples, without, applied}
+use Rattle.show_reader.specs.Applied.{HasOwner}
+use Rattle.show_reader.specs.Reads.{with_listing}
 
 -- ---- news
 
 -- older news first, and then newer
-after_newer : {X : Type 0} (a b : News X) (o : Option X) → after a (after b o) ≡ after (newer a b) o
+pub after_newer : {X : Type 0} (a b : News X) (o : Option X) → after a (after b o) ≡ after (newer a b) o
 after_newer (Is x) b o = refl
 after_newer Gone b o = refl
 after_newer Silent b o = refl
@@ -125,15 +119,14 @@ module _ {V : Type 0} (m : maps.FinMap nat_cmp V) (n : ℕ) where
           (λ is. is_news v ∙ ap (λ o. news (seen o)) (sym (is ∙ e)))
 
   -- what the change leaves of it
-  changed_keeps : {Y : Type 0} (f : V → V) (q : ℕ) (seen : Option V → Y)
+  keeps : {Y : Type 0} (f : V → V) (q : ℕ) (seen : Option V → Y)
       → ((v : V) → seen (Some (f v)) ≡ seen (Some v))
       → seen (maps.get (option_map_or (λ v. maps.insert m n (f v)) (maps.get m n) m) q)
       ≡ seen (maps.get m q)
-  changed_keeps f q seen keeps = grind (arith, maps.gets, nat_tests, keeps)
+  keeps f q seen same = grind (arith, maps.gets, nat_tests, same)
 
   -- how many entries there are
-  len-opened : (x : V)
-      → maps.len (cond (maps.contains_key m n) m (maps.insert m n x))
+  len-opened : (x : V) → maps.len (cond (maps.contains_key m n) m (maps.insert m n x))
       ≡ maps.len m + cond (maps.contains_key m n) 0 1
   len-opened x = grind (arith, maps.gets)
 
@@ -179,23 +172,21 @@ one_by_one show (Sub n) p ps = refl
 
 pair_found : (show : Tables) (r : Record) (p : ℕ × ℕ) → IsTrue (has_record show r) → (k : Key)
     → found (with_pair show r p) k ≡ after (pair_says r p k) (found show k)
-pair_found show (Cue n) p there (There (Cue m)) =
-    changed_keeps show.cues n _ m there_at (λ cue. refl)
+pair_found show (Cue n) p there (There (Cue m)) = keeps show.cues n _ m there_at (λ cue. refl)
 pair_found show (Cue n) p there (Level (Cue m) c) =
     changed_at show.cues n _ m (level_at c) (cond (c == p.0) (Some p.1)) there
     (λ cue. get-insert cue.levels p.0 p.1 c)
     ∙ level_news p c (m == n) _
-pair_found show (Cue n) p there (Up m) = changed_keeps show.cues n _ m up_at (λ cue. refl)
-pair_found show (Cue n) p there (Down m) = changed_keeps show.cues n _ m down_at (λ cue. refl)
-pair_found show (Cue n) p there (Follow m) = changed_keeps show.cues n _ m follow_at (λ cue. refl)
+pair_found show (Cue n) p there (Up m) = keeps show.cues n _ m up_at (λ cue. refl)
+pair_found show (Cue n) p there (Down m) = keeps show.cues n _ m down_at (λ cue. refl)
+pair_found show (Cue n) p there (Follow m) = keeps show.cues n _ m follow_at (λ cue. refl)
 pair_found show (Group n) p there (There (Group m)) =
-    changed_keeps show.groups n _ m there_at (λ levels. refl)
+    keeps show.groups n _ m there_at (λ levels. refl)
 pair_found show (Group n) p there (Level (Group m) c) =
     changed_at show.groups n _ m (listed_at c) (cond (c == p.0) (Some p.1)) there
     (λ levels. get-insert levels p.0 p.1 c)
     ∙ level_news p c (m == n) _
-pair_found show (Sub n) p there (There (Sub m)) =
-    changed_keeps show.subs n _ m there_at (λ levels. refl)
+pair_found show (Sub n) p there (There (Sub m)) = keeps show.subs n _ m there_at (λ levels. refl)
 pair_found show (Sub n) p there (Level (Sub m) c) =
     changed_at show.subs n _ m (listed_at c) (cond (c == p.0) (Some p.1)) there
     (λ levels. get-insert levels p.0 p.1 c)
@@ -232,38 +223,32 @@ pairs_found show r (p ∷ ps) there k =
 
 rises_found : (show : Tables) (n : ℕ) (rate : Rate) → IsTrue (has_record show (Cue n)) → (k : Key)
     → found (applied (Rises n rate) show) k ≡ after (says (Rises n rate) k) (found show k)
-rises_found show n rate there (There (Cue m)) =
-    changed_keeps show.cues n _ m there_at (λ cue. refl)
-rises_found show n rate there (Level (Cue m) c) =
-    changed_keeps show.cues n _ m (level_at c) (λ cue. refl)
+rises_found show n rate there (There (Cue m)) = keeps show.cues n _ m there_at (λ cue. refl)
+rises_found show n rate there (Level (Cue m) c) = keeps show.cues n _ m (level_at c) (λ cue. refl)
 rises_found show n rate there (Up m) =
     changed_at show.cues n _ m up_at (λ o. Some rate) there (λ cue. refl)
     ∙ after_if (m == n) (Is rate) _
-rises_found show n rate there (Down m) = changed_keeps show.cues n _ m down_at (λ cue. refl)
-rises_found show n rate there (Follow m) = changed_keeps show.cues n _ m follow_at (λ cue. refl)
+rises_found show n rate there (Down m) = keeps show.cues n _ m down_at (λ cue. refl)
+rises_found show n rate there (Follow m) = keeps show.cues n _ m follow_at (λ cue. refl)
 rises_found show n rate there k = refl
 
 falls_found : (show : Tables) (n : ℕ) (rate : Rate) → IsTrue (has_record show (Cue n)) → (k : Key)
     → found (applied (Falls n rate) show) k ≡ after (says (Falls n rate) k) (found show k)
-falls_found show n rate there (There (Cue m)) =
-    changed_keeps show.cues n _ m there_at (λ cue. refl)
-falls_found show n rate there (Level (Cue m) c) =
-    changed_keeps show.cues n _ m (level_at c) (λ cue. refl)
-falls_found show n rate there (Up m) = changed_keeps show.cues n _ m up_at (λ cue. refl)
+falls_found show n rate there (There (Cue m)) = keeps show.cues n _ m there_at (λ cue. refl)
+falls_found show n rate there (Level (Cue m) c) = keeps show.cues n _ m (level_at c) (λ cue. refl)
+falls_found show n rate there (Up m) = keeps show.cues n _ m up_at (λ cue. refl)
 falls_found show n rate there (Down m) =
     changed_at show.cues n _ m down_at (λ o. Some rate) there (λ cue. refl)
     ∙ after_if (m == n) (Is rate) _
-falls_found show n rate there (Follow m) = changed_keeps show.cues n _ m follow_at (λ cue. refl)
+falls_found show n rate there (Follow m) = keeps show.cues n _ m follow_at (λ cue. refl)
 falls_found show n rate there k = refl
 
 follows_found : (show : Tables) (n time : ℕ) → IsTrue (has_record show (Cue n)) → (k : Key)
     → found (applied (Follows n time) show) k ≡ after (says (Follows n time) k) (found show k)
-follows_found show n time there (There (Cue m)) =
-    changed_keeps show.cues n _ m there_at (λ cue. refl)
-follows_found show n time there (Level (Cue m) c) =
-    changed_keeps show.cues n _ m (level_at c) (λ cue. refl)
-follows_found show n time there (Up m) = changed_keeps show.cues n _ m up_at (λ cue. refl)
-follows_found show n time there (Down m) = changed_keeps show.cues n _ m down_at (λ cue. refl)
+follows_found show n time there (There (Cue m)) = keeps show.cues n _ m there_at (λ cue. refl)
+follows_found show n time there (Level (Cue m) c) = keeps show.cues n _ m (level_at c) (λ cue. refl)
+follows_found show n time there (Up m) = keeps show.cues n _ m up_at (λ cue. refl)
+follows_found show n time there (Down m) = keeps show.cues n _ m down_at (λ cue. refl)
 follows_found show n time there (Follow m) =
     changed_at show.cues n _ m follow_at (λ o. Some time) there (λ cue. refl)
     ∙ after_if (m == n) (Is time) _
@@ -280,8 +265,7 @@ triple_found : (show : Tables) (t : Triple) (k : Key)
     ≡ after (triple_says t k) (found show k)
 triple_found show t (Dimmer d) = go (t.channel == 0)
   where
-    go : (b : Bool)
-        → maps.get (cond b (maps.remove show.patch t.dimmer)
+    go : (b : Bool) → maps.get (cond b (maps.remove show.patch t.dimmer)
         (maps.insert show.patch t.dimmer (t.channel, t.level))) d
         ≡ after (cond (d == t.dimmer) (cond b Gone (Is (t.channel, t.level))) Silent)
         (maps.get show.patch d)
@@ -383,3 +367,40 @@ count_step ss (Follows n time) show h e = e ∙ sym (len-changed show.cues n _)
 count_step ss (Clears All) show h e = sym (maps.len-empty nat_cmp CueData)
 count_step ss (Clears (Only Cues)) show h e = sym (maps.len-empty nat_cmp CueData)
 count_step ss s show h e = e
+
+-- ---- what is kept aside
+
+levels_more : (cues : CueMap) (n : ℕ) (ps qs : List (ℕ × ℕ))
+    → with_levels cues n (ps ++ qs) ≡ with_levels (with_levels cues n ps) n qs
+levels_more cues n [] qs = refl
+levels_more cues n (p ∷ ps) qs = levels_more (with_level cues n p.0 p.1) n ps qs
+
+listed_more : (masters : MasterMap) (n : ℕ) (ps qs : List (ℕ × ℕ))
+    → with_all_listed masters n (ps ++ qs) ≡ with_all_listed (with_all_listed masters n ps) n qs
+listed_more masters n [] qs = refl
+listed_more masters n (p ∷ ps) qs = listed_more (with_listed masters n p.0 p.1) n ps qs
+
+patched_more : (patch : PatchMap) (es fs : List (ℕ × (ℕ × ℕ)))
+    → all_patched patch (es ++ fs) ≡ all_patched (all_patched patch es) fs
+patched_more patch [] fs = refl
+patched_more patch (e ∷ es) fs = patched_more (patched_with patch e.0 e.1.0 e.1.1) es fs
+
+-- pairs behind others
+pub pairs_more : (show : Tables) (r : Record) (ps qs : List (ℕ × ℕ))
+    → with_pairs show r (ps ++ qs) ≡ with_pairs (with_pairs show r ps) r qs
+pairs_more show (Cue n) ps qs = rw (levels_more show.cues n ps qs) refl
+pairs_more show (Group n) ps qs = rw (listed_more show.groups n ps qs) refl
+pairs_more show (Sub n) ps qs = rw (listed_more show.subs n ps qs) refl
+
+-- a dimmer that is patched behind others
+pub patched_last : (show : Tables) (which : Option Record) (ps : List (ℕ × ℕ))
+    (es : List (ℕ × (ℕ × ℕ))) (e : ℕ × (ℕ × ℕ))
+    → let with = λ (patch : PatchMap). with_listing (record show { patch = patch }) which ps in
+    with (all_patched show.patch (es ++ e ∷ []))
+    ≡ record (with (all_patched show.patch es)) {
+      patch = patched_with (with (all_patched show.patch es)).patch e.0 e.1.0 e.1.1;
+    }
+patched_last show None ps es e = rw (patched_more show.patch es (e ∷ [])) refl
+patched_last show (Some (Cue n)) ps es e = rw (patched_more show.patch es (e ∷ [])) refl
+patched_last show (Some (Group n)) ps es e = rw (patched_more show.patch es (e ∷ [])) refl
+patched_last show (Some (Sub n)) ps es e = rw (patched_more show.patch es (e ∷ [])) refl

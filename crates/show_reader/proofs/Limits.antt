@@ -8,19 +8,14 @@ use Rattle.std.specs.Option.{option_or}
 use Rattle.std.proofs.lemmas.List.Elements.{All-head, All-rest}
 use Rattle.std.proofs.lemmas.Option.{none-some}
 use mathlib.Core.Bool.{false≢true}
-use Rattle.show_line.specs.declared.fault.LineFault.{LineFault}
-use Rattle.show_line.specs.declared.statement.Record.{Record}
-use Rattle.show_line.specs.declared.statement.Statement.{Statement}
-use Rattle.show_line.specs.declared.statement.Statement.TheVariants.{Opens, Levels, Rises, Falls}
-use Rattle.show_line.specs.declared.statement.Statement.TheVariants.{Follows, Patches}
-use Rattle.show_line.specs.declared.statement.Statement.TheVariants.{Clears, Faulty}
-use Rattle.show_line.specs.declared.triples.Triple.{Triple}
+use Rattle.show_reader.specs.Terms.{LineFault, Record, Statement, Opens, Levels, Rises, Falls}
+use Rattle.show_reader.specs.Terms.{Follows, Patches, Clears, Faulty, Triple, Limits}
 use Rattle.show_line.specs.Keywords.{keyword_of}
-use Rattle.show_line.specs.Pairs.{Limits}
 use Rattle.show_line.specs.Said.{opened}
 use Rattle.show_line.specs.Sound.{IsFaultless}
 use Rattle.show_line.proofs.Wider.{said_wider}
 use Rattle.show_line.proofs.Room.{IsPairWithin, IsTripleWithin, IsWithin, said_within}
+use Rattle.show_reader.specs.declared.fault.ShowFault.{ShowFault}
 use Rattle.show_reader.specs.declared.fault.ShowFault.TheVariants as show_fault
 use Rattle.show_reader.specs.Text.{Words, owns, said_under, owner_below, statement_below}
 use Rattle.show_reader.specs.Text.{statements, statements_of, lines_in}
@@ -29,18 +24,15 @@ use Rattle.show_reader.specs.Meaning.{News, Is, Gone, Silent, after, newer, last
 use Rattle.show_reader.specs.Meaning.{triple_says, says, meaning, same_record, empties}
 use Rattle.show_reader.specs.Reading.{fault_at, fault_below, first_fault, fault_of, ReadsAlike}
 use Rattle.show_reader.specs.Reading.{longest_text, IsAnswerWithin}
+use Rattle.show_reader.proofs.Found.{after_newer}
 
 -- ---- lines without a fault
 
--- neither of two options is there where their choice is not
-both_none : {X : Type 0} (o r : Option X) → option_or o r ≡ None → (o ≡ None) × (r ≡ None)
-both_none None r e = (refl, e)
-both_none (Some x) r e = absurd (none-some x (sym e))
-
--- no fault of a line is no fault
-none_at_all : (line : ℕ) (o : Option LineFault) → option_map (fault_at line) o ≡ None → o ≡ None
-none_at_all line None h = refl
-none_at_all line (Some f) h = absurd (none-some (fault_at line f) (sym h))
+-- neither a line nor one above it has a fault where there is none
+both_none : (line : ℕ) (above : Option ShowFault) (here : Option LineFault)
+    → option_or above (option_map (fault_at line) here) ≡ None → (above ≡ None) × (here ≡ None)
+both_none line None None h = (refl, refl)
+both_none line above here h = cc
 
 faultless_is : (above : List Statement) (s : Statement) → fault_below above s ≡ None → IsFaultless s
 faultless_is above (Faulty f) h = none-some f (sym h)
@@ -63,11 +55,9 @@ module _ (narrow wide : Limits) (more_channels : narrow.channels ≤ wide.channe
   alike (l ∷ above) none =
       let ss = statements narrow above in
       let s = statement_below narrow above l in
-      let parts
-      = both_none (first_fault ss) (option_map (fault_at (length ss + 1)) (fault_below ss s))
-      none in
+      let parts = both_none (length ss + 1) (first_fault ss) (fault_below ss s) none in
       let same_above = alike above parts.0 in
-      let fine = faultless_is ss s (none_at_all (length ss + 1) (fault_below ss s) parts.1) in
+      let fine = faultless_is ss s parts.1 in
       let same : statement_below wide above l ≡ s
       = ap (λ o. said_under wide o l) same_above.0
       ∙ said_alike (owner_below narrow above) l fine in (
@@ -79,8 +69,7 @@ module _ (narrow wide : Limits) (more_channels : narrow.channels ≤ wide.channe
 -- ---- what is said stays within the limits
 
 abbrev IsNewsWithin : Limits → (k : Key) → News (Answer k) → Type 0
-IsNewsWithin lim k (Is x) = IsAnswerWithin lim k x
-IsNewsWithin lim k _ = Unit {0}
+IsNewsWithin lim k news = IfSome (after news None) (IsAnswerWithin lim k)
 
 module _ (lim : Limits) (k : Key) where
   after_within : (news : News (Answer k)) (o : Option (Answer k)) → IsNewsWithin lim k news
@@ -88,12 +77,6 @@ module _ (lim : Limits) (k : Key) where
   after_within (Is x) o h g = h
   after_within Gone o h g = tt
   after_within Silent o h g = g
-
-  newer_within : (a b : News (Answer k)) → IsNewsWithin lim k a → IsNewsWithin lim k b
-      → IsNewsWithin lim k (newer a b)
-  newer_within (Is x) b h g = h
-  newer_within Gone b h g = tt
-  newer_within Silent b h g = g
 
   if_within : (b : Bool) (news : News (Answer k)) → (b ≡ true → IsNewsWithin lim k news)
       → IsNewsWithin lim k (cond b news Silent)
@@ -105,9 +88,9 @@ module _ (lim : Limits) (k : Key) where
       → IsNewsWithin lim k (last_news news xs)
   list_within P news each [] all = tt
   list_within P news each (x ∷ xs) all =
-      newer_within (last_news news xs) (news x)
+      rw (← after_newer (last_news news xs) (news x) None) (after_within (last_news news xs) _
       (list_within P news each xs (All-rest P x xs (x ∷ xs) refl all))
-      (each x (All-head P x xs all))
+      (each x (All-head P x xs all)))
 
 second : (a b : Bool) → (a && b) ≡ true → b ≡ true
 second true b h = h
@@ -117,34 +100,30 @@ module _ (lim : Limits) where
   pair_within : (r : Record) (p : ℕ × ℕ) → IsPairWithin lim p → (k : Key)
       → IsNewsWithin lim k (pair_says r p k)
   pair_within r p h (Level q c) =
-      if_within lim (Level q c) (same_record q r && (c == p.0)) (Is p.1)
-      (λ e. subst (λ n. n ≤ lim.channels)
-      (sym (eqb-true c p.0 (second (same_record q r) (c == p.0) e))) h)
+      if_within lim (Level q c) _ (Is p.1)
+      (λ e. rw (eqb-true c p.0 (second (same_record q r) (c == p.0) e)) h)
   pair_within r p h k = tt
 
   triple_within : (t : Triple) → IsTripleWithin lim t → (k : Key)
       → IsNewsWithin lim k (triple_says t k)
   triple_within t h (Dimmer d) =
-      if_within lim (Dimmer d) (d == t.dimmer)
-      (cond (t.channel == 0) Gone (Is (t.channel, t.level))) (λ e. go e (t.channel == 0))
+      if_within lim (Dimmer d) (d == t.dimmer) _ (λ e. go e (t.channel == 0))
     where
       go : (d == t.dimmer) ≡ true → (b : Bool)
           → IsNewsWithin lim (Dimmer d) (cond b Gone (Is (t.channel, t.level)))
       go e true = tt
-      go e false = (subst (λ n. n ≤ lim.dimmers) (sym (eqb-true d t.dimmer e)) h.1, h.0)
+      go e false = (rw (eqb-true d t.dimmer e) h.1, h.0)
   triple_within t h k = tt
 
   says_within : (s : Statement) → IsWithin lim s → (k : Key) → IsNewsWithin lim k (says s k)
-  says_within (Opens r) h (There q) =
-      if_within lim (There q) (same_record q r) (Is tt) (λ e. tt)
+  says_within (Opens r) h (There q) = if_within lim (There q) (same_record q r) _ (λ e. tt)
   says_within (Levels r ps) h k =
       list_within lim k (IsPairWithin lim) (λ p. pair_says r p k) (λ p w. pair_within r p w k) ps h
   says_within (Rises n rate) h (Up m) = if_within lim (Up m) (m == n) (Is rate) (λ e. tt)
   says_within (Falls n rate) h (Down m) = if_within lim (Down m) (m == n) (Is rate) (λ e. tt)
   says_within (Follows n time) h (Follow m) = if_within lim (Follow m) (m == n) (Is time) (λ e. tt)
   says_within (Patches ts) h k =
-      list_within lim k (IsTripleWithin lim) (λ t. triple_says t k) (λ t w. triple_within t w k)
-      ts h
+      list_within lim k (IsTripleWithin lim) _ (λ t w. triple_within t w k) ts h
   says_within (Clears what) h k = if_within lim k (empties what (table_at k)) Gone (λ e. tt)
   says_within s h k = tt
 
@@ -162,29 +141,22 @@ module _ (lim : Limits) where
 
 -- ---- a text
 
--- a text whose size is no fault has those of its lines
-sized : (lim : Limits) (text : List ℕ) (b : Bool) → nat_lt longest_text (length text) ≡ b
-    → fault_of lim text ≡ cond b (Some show_fault.TooLong) (first_fault (statements_of lim text))
-sized lim text b e =
-    ap (λ c. cond c (Some show_fault.TooLong) (first_fault (statements_of lim text))) e
+-- a text without a fault is not too long, and its lines have none
+fine_size : (b : Bool) (o : Option ShowFault) → cond b (Some show_fault.TooLong) o ≡ None
+    → (b ≡ false) × (o ≡ None)
+fine_size true o h = cc
+fine_size false o h = (refl, h)
 
 pub reads_alike : (narrow wide : Limits) → narrow.channels ≤ wide.channels
     → narrow.dimmers ≤ wide.dimmers → (text : List ℕ) → fault_of narrow text ≡ None
     → ReadsAlike narrow wide text
 reads_alike narrow wide channels dimmers text none =
-    of_size (nat_lt longest_text (length text)) refl
-  where
-    of_size : (b : Bool) → nat_lt longest_text (length text) ≡ b → ReadsAlike narrow wide text
-    of_size true e =
-        absurd (none-some show_fault.TooLong (sym none ∙ sized narrow text true e))
-    of_size false e =
-        let faultless : first_fault (statements_of narrow text) ≡ None
-        = sym (sized narrow text false e) ∙ none in
-        let same = (alike narrow wide channels dimmers (lines_in text) faultless).1 in
-        record {
-          faultless = sized wide text false e ∙ ap first_fault same ∙ faultless;
-          statements = same;
-          fits =
-              λ show h k. subst (λ o. IfSome o (IsAnswerWithin narrow k))
-              (sym (h k ∙ ap (λ ss. meaning ss k) same)) (meaning_within narrow (lines_in text) k);
-        }
+    let sized = fine_size (nat_lt longest_text (length text)) _ none in
+    let same = (alike narrow wide channels dimmers (lines_in text) sized.1).1 in
+    record {
+      faultless = rw (sized.0, same) sized.1;
+      statements = same;
+      fits =
+          λ show h k. subst (λ o. IfSome o (IsAnswerWithin narrow k))
+          (sym (h k ∙ ap (λ ss. meaning ss k) same)) (meaning_within narrow (lines_in text) k);
+    }

@@ -4,12 +4,7 @@ use Rattle.std.proofs.Common.{option_and_then}
 use Rattle.std.specs.Ordering.{nat_cmp}
 use Rattle.std.specs.FinMap as maps
 use Rattle.std.proofs.lemmas.Cmp.{nat_cmp_total}
-use Rattle.show_core.specs.declared.cue.CueData.{CueData}
-use Rattle.show_core.specs.Tables.{LevelMap, CueMap, MasterMap, PatchMap, Tables}
-use Rattle.show_core.specs.declared.rate.Rate.{Rate}
-use Rattle.show_line.specs.declared.statement.Record.{Record}
-use Rattle.show_line.specs.declared.statement.Record.TheVariants.{Cue, Group, Sub}
-use Rattle.show_line.specs.declared.statement.Statement.{Statement}
+use Rattle.show_reader.specs.Terms.{CueData, LevelMap, Tables, Record, Cue, Group, Sub, Statement}
 use Rattle.show_line.specs.Said.{desk_limits}
 use Rattle.show_reader.specs.Text.{statements_of}
 use Rattle.show_reader.specs.ItsShow.{OfItsShow}
@@ -25,12 +20,10 @@ same_map m n is = maps.same_map nat_cmp_total maps.nat_cmp-IsAntisymmetric m n i
 -- masters that are there alike and list alike are alike
 same_levels : (a b : Option LevelMap) → is_some a ≡ is_some b
     → ((c : ℕ) → option_and_then (λ levels. maps.get levels c) a
-    ≡ option_and_then (λ levels. maps.get levels c) b)
-    → a ≡ b
+    ≡ option_and_then (λ levels. maps.get levels c) b) → a ≡ b
 same_levels None None there each = refl
-same_levels None (Some b) there each = cc
-same_levels (Some a) None there each = cc
 same_levels (Some a) (Some b) there each = ap Some (same_map a b each)
+same_levels a b there each = cc
 
 -- cues that are there alike, with alike levels, rates and follow-on times, are alike
 same_cues : (a b : Option CueData) → is_some a ≡ is_some b
@@ -38,26 +31,18 @@ same_cues : (a b : Option CueData) → is_some a ≡ is_some b
     ≡ option_and_then (λ cue. maps.get cue.levels c) b)
     → option_and_then (λ cue. cue.up) a ≡ option_and_then (λ cue. cue.up) b
     → option_and_then (λ cue. cue.down) a ≡ option_and_then (λ cue. cue.down) b
-    → option_and_then (λ cue. cue.follow) a ≡ option_and_then (λ cue. cue.follow) b
-    → a ≡ b
+    → option_and_then (λ cue. cue.follow) a ≡ option_and_then (λ cue. cue.follow) b → a ≡ b
 same_cues None None there levels ups downs follows = refl
-same_cues None (Some b) there levels ups downs follows = cc
-same_cues (Some a) None there levels ups downs follows = cc
 same_cues (Some a) (Some b) there levels ups downs follows =
     let same : a.levels ≡ b.levels = same_map a.levels b.levels levels in
-    let made : LevelMap → Option Rate → Option Rate → Option ℕ → CueData =
-    λ l u d f. record { levels = l; up = u; down = d; follow = f } in
-    let is : made a.levels a.up a.down a.follow ≡ made b.levels b.up b.down b.follow = cc in
-    ap Some is
+    λ i. Some (record { levels = same i; up = ups i; down = downs i; follow = follows i })
+same_cues a b there levels ups downs follows = cc
 
 -- tables that are alike one by one
 pub same_tables : (s t : Tables) → s.cues ≡ t.cues → s.subs ≡ t.subs → s.groups ≡ t.groups
     → s.patch ≡ t.patch → s ≡ t
 same_tables s t cues subs groups patch =
-    let made : CueMap → MasterMap → MasterMap → PatchMap → Tables =
-    λ c u g p. record { cues = c; subs = u; groups = g; patch = p } in
-    let same : made s.cues s.subs s.groups s.patch ≡ made t.cues t.subs t.groups t.patch = cc in
-    same
+    λ i. record { cues = cues i; subs = subs i; groups = groups i; patch = patch i }
 
 -- statements mean one show alone
 pub same_show : (ss : List Statement) (s t : Tables) → IsShowOf ss s → IsShowOf ss t → s ≡ t

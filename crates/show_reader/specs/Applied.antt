@@ -1,22 +1,12 @@
 -- What a statement does to a show, by the effects of the builders.
-use Rattle.std.specs.Prelude.{ℕ, if◌then◌else◌, IsTrue, List, [], ◌∷◌, Option, Some}
-use Rattle.std.specs.Prelude.{None}
+use Rattle.std.specs.Prelude.{ℕ, if◌then◌else◌, IsTrue, List, [], ◌∷◌, Option, Some, None}
 use Rattle.std.specs.FinMap as maps
-use Rattle.show_core.specs.Tables.{PatchMap, Tables}
+use Rattle.show_reader.specs.Terms.{PatchMap, Tables, LineFault, Record, Cue, Group, Sub, Cues}
+use Rattle.show_reader.specs.Terms.{Groups, Subs, Patch, Cleared, All, Only, Statement, Opens}
+use Rattle.show_reader.specs.Terms.{Levels, Rises, Falls, Follows, Patches, Clears, Faulty, Triple}
 use Rattle.show_core.specs.Builders.{opened, opened_in, with_levels, with_all_listed, with_up}
 use Rattle.show_core.specs.Builders.{with_down, with_follow, patched_with, can_open}
-use Rattle.show_line.specs.declared.fault.LineFault.{LineFault}
 use Rattle.show_line.specs.declared.fault.LineFault.TheVariants.{Limit}
-use Rattle.show_line.specs.declared.statement.Record.{Record}
-use Rattle.show_line.specs.declared.statement.Record.TheVariants.{Cue, Group, Sub}
-use Rattle.show_line.specs.declared.statement.Table.TheVariants.{Cues, Groups, Subs, Patch}
-use Rattle.show_line.specs.declared.statement.Cleared.{Cleared}
-use Rattle.show_line.specs.declared.statement.Cleared.TheVariants.{All, Only}
-use Rattle.show_line.specs.declared.statement.Statement.{Statement}
-use Rattle.show_line.specs.declared.statement.Statement.TheVariants.{Opens, Levels, Rises, Falls}
-use Rattle.show_line.specs.declared.statement.Statement.TheVariants.{Follows, Patches}
-use Rattle.show_line.specs.declared.statement.Statement.TheVariants.{Clears, Faulty}
-use Rattle.show_line.specs.declared.triples.Triple.{Triple}
 use Rattle.show_reader.specs.Keys.{has_record}
 
 -- with the record opened

@@ -1,12 +1,8 @@
 -- What can be asked of a show, and what a show answers.
 use Rattle.std.specs.Prelude.{ℕ, Bool, if◌then◌else◌, Option, Some, None, option_and_then}
 use Rattle.std.specs.FinMap as maps
-use Rattle.show_core.specs.declared.rate.Rate.{Rate}
-use Rattle.show_core.specs.Tables.{Tables}
-use Rattle.show_line.specs.declared.statement.Record.{Record}
-use Rattle.show_line.specs.declared.statement.Record.TheVariants.{Cue, Group, Sub}
-use Rattle.show_line.specs.declared.statement.Table.{Table}
-use Rattle.show_line.specs.declared.statement.Table.TheVariants.{Cues, Groups, Subs, Patch}
+use Rattle.show_reader.specs.Terms.{Rate, Tables, Record, Cue, Group, Sub, Table, Cues, Groups}
+use Rattle.show_reader.specs.Terms.{Subs, Patch}
 
 -- what can be asked of a show; cues are named by their numbers in thousandths
 pub data Key : Type 0 where

@@ -1,9 +1,9 @@
+pub mod Terms
 pub mod Text
 pub mod Keys
 pub mod Meaning
 pub mod Shows
 pub mod Reading
 pub mod Applied
-pub mod Drafts
 pub mod Reads
 pub mod ItsShow

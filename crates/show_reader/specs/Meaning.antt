@@ -2,17 +2,9 @@
 -- the newest first.
 use Rattle.std.specs.Prelude.{ℕ, ◌+◌, Bool, true, false, ◌==◌, ◌&&◌, if◌then◌else◌, List, [], ◌∷◌}
 use Rattle.std.specs.Prelude.{Option, Some, None, is_some}
-use Rattle.show_line.specs.declared.statement.Record.{Record}
-use Rattle.show_line.specs.declared.statement.Record.TheVariants.{Cue, Group, Sub}
-use Rattle.show_line.specs.declared.statement.Table.{Table}
-use Rattle.show_line.specs.declared.statement.Table.TheVariants.{Cues, Groups, Subs, Patch}
-use Rattle.show_line.specs.declared.statement.Cleared.{Cleared}
-use Rattle.show_line.specs.declared.statement.Cleared.TheVariants.{All, Only}
-use Rattle.show_line.specs.declared.statement.Statement.{Statement}
-use Rattle.show_line.specs.declared.statement.Statement.TheVariants.{Opens, Levels, Rises, Falls}
-use Rattle.show_line.specs.declared.statement.Statement.TheVariants.{Follows, Patches}
-use Rattle.show_line.specs.declared.statement.Statement.TheVariants.{Clears, Skipped}
-use Rattle.show_line.specs.declared.triples.Triple.{Triple}
+use Rattle.show_reader.specs.Terms.{Record, Cue, Group, Sub, Table, Cues, Groups, Subs, Patch}
+use Rattle.show_reader.specs.Terms.{Cleared, All, Only, Statement, Opens, Levels, Rises, Falls}
+use Rattle.show_reader.specs.Terms.{Follows, Patches, Clears, Skipped, Triple}
 use Rattle.show_reader.specs.Keys.{Key, There, Level, Up, Down, Follow, Dimmer, Answer, table_at}
 
 -- ---- what is said of a key

@@ -4,14 +4,9 @@ use Rattle.std.specs.Prelude.{nat_le, nat_lt, List, [], ◌∷◌, ◌++◌, All
 use Rattle.std.specs.Prelude.{Some, None, IfSome, is_some, option_map}
 use Rattle.std.specs.List.{list_any}
 use Rattle.std.specs.Option.{option_or}
-use Rattle.show_core.specs.Tables.{Tables}
-use Rattle.show_line.specs.declared.fault.LineFault.{LineFault}
+use Rattle.show_reader.specs.Terms.{Tables, LineFault, Cue, Statement, Opens, Levels, Patches}
+use Rattle.show_reader.specs.Terms.{Faulty, Limits}
 use Rattle.show_line.specs.declared.fault.LineFault.TheVariants as fault
-use Rattle.show_line.specs.declared.statement.Record.TheVariants.{Cue}
-use Rattle.show_line.specs.declared.statement.Statement.{Statement}
-use Rattle.show_line.specs.declared.statement.Statement.TheVariants.{Opens, Levels, Patches}
-use Rattle.show_line.specs.declared.statement.Statement.TheVariants.{Faulty}
-use Rattle.show_line.specs.Pairs.{Limits}
 use Rattle.show_reader.specs.declared.fault.ShowFault.{ShowFault}
 use Rattle.show_reader.specs.declared.fault.ShowFault.TheVariants as show_fault
 use Rattle.show_reader.specs.Text.{statements_of}

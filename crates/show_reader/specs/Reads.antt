@@ -1,21 +1,49 @@
--- What a reader has made of the lines so far.
--- Of use inside the crate: what its public calls answer is said without these.
-use Rattle.std.specs.Prelude.{◌≡◌, ◌⊎◌, ℕ, false, IsTrue, List, ◌∷◌, length, count_by, Some, None}
-use Rattle.std.specs.Prelude.{All, IfSome}
+-- What a draft of a show means: its show, with what is kept aside carried out; and what a reader has
+-- made of the lines so far. Of use inside the crate: what its public calls answer is said without
+-- these.
+use Rattle.std.specs.Prelude.{◌≡◌, ℕ, false, IsTrue, IfSome, List, [], Option, Some, None, ◌⊎◌, ◌∷◌}
+use Rattle.std.specs.Prelude.{length, count_by, All}
+use Rattle.show_reader.specs.Terms.{Tables, Record, Statement}
+use Rattle.show_core.specs.Builders.{all_patched}
+use Rattle.show_reader.specs.declared.apply.Refusal.{Refusal}
+use Rattle.show_reader.specs.declared.apply.Refusal.TheVariants as refusal
+use Rattle.show_reader.specs.declared.draft.Draft.{Draft}
+use Rattle.show_reader.specs.Keys.{has_record}
+use Rattle.show_reader.specs.Reading.{grows, fault_at, first_fault, faultless_front}
+use Rattle.show_reader.specs.Applied.{with_pairs, refused_by}
 use Rattle.std.specs.FinMap as maps
-use Rattle.show_line.specs.declared.statement.Statement.{Statement}
 use Rattle.show_line.specs.Said.{desk_limits}
 use Rattle.show_reader.specs.declared.read.Reader.{Reader}
 use Rattle.show_reader.specs.declared.fault.ShowFault.{ShowFault}
 use Rattle.show_reader.specs.declared.fault.ShowFault.TheVariants as show_fault
-use Rattle.show_reader.specs.declared.apply.Refusal.{Refusal}
-use Rattle.show_reader.specs.declared.apply.Refusal.TheVariants as refusal
 use Rattle.show_reader.specs.Text.{Words, owner_below, statements}
-use Rattle.show_reader.specs.Keys.{has_record}
 use Rattle.show_reader.specs.Meaning.{cue_count, is_skipped}
 use Rattle.show_reader.specs.Shows.{IsShowOf}
-use Rattle.show_reader.specs.Reading.{fault_at, first_fault, grows, faultless_front}
-use Rattle.show_reader.specs.Drafts.{meant, IsDraft, IsSettled}
+
+-- with the levels of pairs in a record, if there is one that they are for
+abbrev pub with_listing : Tables → Option Record → List (ℕ × ℕ) → Tables
+with_listing show None pairs = show
+with_listing show (Some r) pairs = with_pairs show r pairs
+
+-- the show that a draft means
+abbrev pub meant : Draft → Tables
+meant d =
+    with_listing (record d.show { patch = all_patched d.show.patch d.patches.items }) d.listing
+    d.levels.items
+
+-- its show has the record that levels are kept aside for
+abbrev pub IsDraft : Draft → Type 0
+IsDraft d = IfSome d.listing (λ r. IsTrue (has_record d.show r))
+
+-- nothing is kept aside
+abbrev pub IsSettled : Draft → Type 0
+IsSettled d = (d.levels.items ≡ []) × (d.patches.items ≡ [])
+
+-- why a statement was not carried out: the fault that the show has with it; or want of memory,
+-- where something is kept aside, or the show has no fault with it and it grows the show
+abbrev pub Explains : Draft → Statement → Refusal → Type 0
+Explains d s (refusal.Fault f) = refused_by (meant d) s ≡ Some f
+Explains d s refusal.Memory = IsSettled d → (refused_by (meant d) s ≡ None) × (grows s ≡ false → ⊥)
 
 -- what lines say to this desk, the last line first
 abbrev pub said_by : List Words → List Statement
@@ -32,7 +60,7 @@ pub record Reads (lines : List Words) (r : Reader) : Type 0 where
   pub settled : NoneGrows (said_by lines) → IsSettled r.draft
   pub faultless : first_fault (said_by lines) ≡ None
   pub owner : r.owner ≡ owner_below desk_limits lines
-  pub present : IfSome r.owner (λ q. IsTrue (has_record (meant r.draft) q))
+  pub present : IfSome (owner_below desk_limits lines) (λ q. IsTrue (has_record (meant r.draft) q))
   pub count : cue_count (said_by lines) ≡ maps.len (meant r.draft).cues
   pub number : r.lines ≡ length (said_by lines)
   pub skipped : r.skipped ≡ count_by is_skipped (said_by lines)

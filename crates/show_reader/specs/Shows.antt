@@ -1,7 +1,6 @@
 -- The show that statements mean.
 use Rattle.std.specs.Prelude.{◌≡◌, List}
-use Rattle.show_core.specs.Tables.{Tables}
-use Rattle.show_line.specs.declared.statement.Statement.{Statement}
+use Rattle.show_reader.specs.Terms.{Tables, Statement}
 use Rattle.show_reader.specs.Keys.{Key, found}
 use Rattle.show_reader.specs.Meaning.{meaning}
 

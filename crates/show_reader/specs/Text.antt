@@ -3,11 +3,8 @@
 use Rattle.std.specs.Prelude.{ℕ, Bool, false, if◌then◌else◌, List, [], ◌∷◌, map, reverse, Option}
 use Rattle.std.specs.Prelude.{None}
 use Rattle.ascii_text.specs.Text.{lines_of, words_of}
-use Rattle.show_line.specs.declared.statement.Record.{Record}
-use Rattle.show_line.specs.declared.statement.Statement.{Statement}
-use Rattle.show_line.specs.declared.statement.Statement.TheVariants.{Quiet}
+use Rattle.show_reader.specs.Terms.{Record, Statement, Quiet, Limits}
 use Rattle.show_line.specs.Keywords.{keyword_of, may_own, is_end}
-use Rattle.show_line.specs.Pairs.{Limits}
 use Rattle.show_line.specs.Said.{said, opened}
 
 -- a line, as the list of its words

@@ -5,7 +5,7 @@ ghost use Rattle.show_line.specs.Sound.{IsSound};
 ghost use Rattle.show_reader.specs.declared.apply.Refusal.TheVariants as refusal;
 ghost use Rattle.show_reader.specs.Reading.{grows};
 ghost use Rattle.show_reader.specs.Applied.{applied, refused_by, with_record, without, HasOwner};
-ghost use Rattle.show_reader.specs.Drafts.{meant, IsDraft, IsSettled, Explains};
+ghost use Rattle.show_reader.specs.Reads.{meant, IsDraft, IsSettled, Explains};
 
 use crate::draft::Draft;
 use show_core::{BuildFault, Show};

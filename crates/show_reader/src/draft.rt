@@ -6,7 +6,7 @@ ghost use Rattle.show_line.specs.declared.statement.Statement.TheVariants as sta
 ghost use Rattle.show_reader.specs.Keys.{has_record};
 ghost use Rattle.show_reader.specs.Reading.{grows};
 ghost use Rattle.show_reader.specs.Applied.{applied, with_pairs};
-ghost use Rattle.show_reader.specs.Drafts.{meant, IsDraft, IsSettled};
+ghost use Rattle.show_reader.specs.Reads.{meant, IsDraft, IsSettled};
 
 use show_core::{BuildFault, Show};
 use show_line::{Pairs, Record, Triple, Triples};

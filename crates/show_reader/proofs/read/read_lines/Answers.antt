@@ -1,14 +1,13 @@
 -- The reader stands behind the lines so far, and the text's lines are those and the ones that are
 -- left.
-use Rattle.std.proofs.Common.{◌≡◌, ◌+◌, true, false, [], ◌∷◌, refl, sym, ap, subst, ◌∙◌}
-use Rattle.std.proofs.Common.{arith, inl, inr}
+use Rattle.std.proofs.Common.{◌≡◌, ◌+◌, true, false, [], ◌∷◌, refl, sym, ap, subst, ◌∙◌, arith, inl}
+use Rattle.std.proofs.Common.{inr}
 use Rattle.std.proofs.lemmas.Grind.{common_steps}
 use Rattle.ascii_text.specs.Text.{lines_of, words_of, numbered_from}
 use Rattle.show_reader.specs.Text.{ends}
 use Rattle.show_reader.specs.Reads.{Reads}
-use Rattle.show_reader.proofs.WholeText.{nothing_read, next_line, last_line, go_on}
-use Rattle.show_reader.proofs.WholeText.{fault_found, none_so_far}
-use Rattle.show_reader.proofs.WholeText.{not_longer}
+use Rattle.show_reader.proofs.Lines.{nothing_read, next_line, last_line, go_on, fault_found}
+use Rattle.show_reader.proofs.Lines.{none_so_far}
 use Rattle.show_reader.proofs.read.read_lines.Goals as goal
 use Rattle.show_reader.proofs.read.read_lines.Goals.{in-None, in-Some+in-Ok-true}
 
@@ -57,9 +56,7 @@ returns-in-Err-clause-fault c =
     let next = next_line before.2 c.in-Some.ensures.steps in
     elim (c.in-Err.ensures.fault before.0 before.2.reads) [
       | inl memory ↦ inl memory.0
-      | inr fault ↦
-          inr (fault_found next c.in-Err.fault (not_longer _ _ c.requires)
-          fault)
+      | inr fault ↦ inr (fault_found next c.in-Err.fault c.requires fault)
     ]
 
 pub returns-in-Err-clause-sure : goal.returns-in-Err-clause-sure
@@ -68,8 +65,7 @@ returns-in-Err-clause-sure c = λ none_grows.
     let next = next_line before.2 c.in-Some.ensures.steps in
     elim (c.in-Err.ensures.fault before.0 before.2.reads) [
       | inl memory ↦ absurd (memory.1 (none_so_far next none_grows))
-      | inr fault ↦
-          fault_found next c.in-Err.fault (not_longer _ _ c.requires) fault
+      | inr fault ↦ fault_found next c.in-Err.fault c.requires fault
     ]
 
 pub returns-clause-ok : goal.returns-clause-ok

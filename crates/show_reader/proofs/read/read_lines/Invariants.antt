@@ -1,7 +1,7 @@
 use Rattle.std.proofs.Common.{ℕ, List}
 use Rattle.ascii_text.specs.LinesLeft.{lines_left}
 use Rattle.show_reader.specs.Text.{Words}
-use Rattle.show_reader.proofs.WholeText.{StandsBehind}
+use Rattle.show_reader.proofs.Lines.{StandsBehind}
 use Rattle.show_reader.proofs.read.read_lines.Given as goal
 
 abbrev pub invariant-loop-line : goal.invariant-loop-line

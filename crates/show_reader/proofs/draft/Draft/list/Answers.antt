@@ -1,8 +1,7 @@
-use Rattle.std.proofs.Common.{◌≡◌, ◌∙◌, sym, ap, Some}
+use Rattle.std.proofs.Common.{◌∙◌, ap}
 use Rattle.show_core.specs.Builders.{all_patched}
 use Rattle.show_reader.specs.Applied.{with_pairs}
-use Rattle.show_reader.specs.Drafts.{with_listing}
-use Rattle.show_reader.proofs.Meant.{pairs_more}
+use Rattle.show_reader.proofs.Found.{pairs_more}
 use Rattle.show_reader.proofs.draft.Draft.list.Goals as goal
 
 pub returns-clause-ok : goal.returns-clause-ok
@@ -10,9 +9,6 @@ returns-clause-ok c =
     let d = c.turn_to.new.self in
     let r = c.args.which in
     let patched = record d.show { patch = all_patched d.show.patch d.patches.items } in
-    let is : d.listing ≡ Some r = c.in_ok-turn_to.ensures.listing in
-    ap (λ o. with_listing patched o c.keep_pairs.new.levels.items) is
-    ∙ ap (with_pairs patched r) c.in_ok-keep_pairs.ensures.ok
-    ∙ pairs_more patched r d.levels.items c.args.pairs
-    ∙ ap (λ o. with_pairs (with_listing patched o d.levels.items) r c.args.pairs) (sym is)
-    ∙ ap (λ show. with_pairs show r c.args.pairs) c.in_ok-turn_to.ensures.ok
+    let is = c.in_ok-turn_to.ensures.listing in
+    rw (is, c.in_ok-keep_pairs.ensures.ok) (pairs_more patched r d.levels.items c.args.pairs
+    ∙ ap (λ show. with_pairs show r c.args.pairs) (rw is at c.in_ok-turn_to.ensures.ok))

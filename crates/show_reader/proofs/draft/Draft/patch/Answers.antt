@@ -4,7 +4,7 @@ use Rattle.show_line.specs.Sound.{IsTripleInRange}
 use Rattle.show_line.specs.declared.statement.Statement.TheVariants.{Patches}
 use Rattle.show_reader.specs.Reading.{grows}
 use Rattle.show_reader.specs.Applied.{applied}
-use Rattle.show_reader.specs.Drafts.{meant}
+use Rattle.show_reader.specs.Reads.{meant}
 use Rattle.show_reader.proofs.draft.Draft.patch.Goals as goal
 
 -- neither of two holds: the first is false, and so is the second
@@ -18,8 +18,7 @@ loop-triple-preserved c =
     let front : c.loop-triple.triple-iterator ≡ t ∷ c.next.new.self = c.in-Some.ensures.steps in
     let before = c.loop-triple.invariant in
     let unpatched = λ (none : grows (Patches c.args.triples) ≡ false).
-    neither (t.channel == 0) (grows (Patches c.next.new.self))
-    (sym (ap (λ ts. grows (Patches ts)) front) ∙ before.left none) in
+    neither (t.channel == 0) (grows (Patches c.next.new.self)) (rw front at (before.left none)) in
     record {
       drafted = c.in_ok-patch_dimmer.ensures.drafted;
       sound =
@@ -29,6 +28,6 @@ loop-triple-preserved c =
       settled = λ settled none.
           c.in_ok-patch_dimmer.ensures.settled (before.settled settled none) (unpatched none).0;
       put =
-          before.put ∙ ap (λ ts. applied (Patches ts) (meant c.loop-triple.self)) front
+          rw front at before.put
           ∙ ap (applied (Patches c.next.new.self)) (sym c.in_ok-patch_dimmer.ensures.ok);
     }

@@ -3,7 +3,7 @@ use Rattle.show_line.specs.Sound.{IsTripleInRange}
 use Rattle.show_line.specs.declared.statement.Statement.TheVariants.{Patches}
 use Rattle.show_reader.specs.Reading.{grows}
 use Rattle.show_reader.specs.Applied.{applied}
-use Rattle.show_reader.specs.Drafts.{meant, IsDraft, IsSettled}
+use Rattle.show_reader.specs.Reads.{meant, IsDraft, IsSettled}
 use Rattle.show_reader.proofs.draft.Draft.patch.Given as goal
 
 abbrev pub invariant-loop-triple : goal.invariant-loop-triple

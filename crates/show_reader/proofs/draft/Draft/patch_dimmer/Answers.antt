@@ -1,7 +1,7 @@
 use Rattle.std.proofs.Common.{◌∙◌, ap}
-use Rattle.show_reader.specs.Drafts.{with_listing}
+use Rattle.show_reader.specs.Reads.{with_listing}
 use Rattle.show_core.specs.Builders.{all_patched}
-use Rattle.show_reader.proofs.Meant.{patched_last}
+use Rattle.show_reader.proofs.Found.{patched_last}
 use Rattle.show_reader.proofs.draft.Draft.patch_dimmer.Goals as goal
 
 pub returns-clause-ok : goal.returns-clause-ok
