@@ -71,31 +71,14 @@ module _ {V : Type 0} (m : maps.FinMap nat_cmp V) (n : ℕ) where
       → maps.get (maps.insert m n v) q ≡ cond (q == n) (Some v) (maps.get m q)
   get-insert v q = grind (arith, maps.gets, nat_tests)
 
-  -- what is seen of it
-  insert_at : {Y : Type 0} (v : V) (q : ℕ) (seen : Option V → Y) (hit : Y)
-      → (maps.get m q ≡ maps.get m n → seen (Some v) ≡ hit)
-      → seen (maps.get (maps.insert m n v) q) ≡ cond (q == n) hit (seen (maps.get m q))
-  insert_at v q seen hit h = ap seen (get-insert v q) ∙ elim (cases_eq q n) [
-    | inl same ↦ rw (same, eq-eqb n n refl) (h (ap (maps.get m) same))
-    | inr apart ↦ rw (ne_eqb q n apart) refl
-  ]
-
   -- an entry that is opened, with a blank one where there is none: it is there
   opened_there : (x : V) (q : ℕ)
       → there_at (maps.get (cond (maps.contains_key m n) m (maps.insert m n x)) q)
       ≡ after (cond (q == n) (Is tt) Silent) (there_at (maps.get m q))
-  opened_there x q = go (maps.get m n) refl
-    where
-      go : (o : Option V) → maps.get m n ≡ o
-          → there_at (maps.get (cond (is_some o) m (maps.insert m n x)) q)
-          ≡ after (cond (q == n) (Is tt) Silent) (there_at (maps.get m q))
-      go (Some y) e = elim (cases_eq q n) [
-        | inl same ↦ rw (same, eq-eqb n n refl, e) refl
-        | inr apart ↦ rw (ne_eqb q n apart) refl
-      ]
-      go None e =
-          insert_at x q there_at (Some tt) (λ is. refl)
-          ∙ after_if (q == n) (Is tt) (there_at (maps.get m q))
+  opened_there x q = elim (cases_eq q n) [
+    | inl same ↦ rw (same, eq-eqb n n refl) (grind (arith, maps.gets, nat_tests))
+    | inr apart ↦ rw (ne_eqb q n apart) (grind (arith, maps.gets, nat_tests))
+  ]
 
   -- what that leaves, where a blank entry looks like none
   opened_keeps : {Y : Type 0} (x : V) (q : ℕ) (seen : Option V → Y) → seen (Some x) ≡ seen None
@@ -108,15 +91,10 @@ module _ {V : Type 0} (m : maps.FinMap nat_cmp V) (n : ℕ) where
       → IsTrue (maps.contains_key m n) → ((v : V) → seen (Some (f v)) ≡ news (seen (Some v)))
       → seen (maps.get (option_map_or (λ v. maps.insert m n (f v)) (maps.get m n) m) q)
       ≡ cond (q == n) (news (seen (maps.get m q))) (seen (maps.get m q))
-  changed_at {Y} f q seen news there is_news = go (maps.get m n) refl there
-    where
-      go : (o : Option V) → maps.get m n ≡ o → is_some o ≡ true
-          → seen (maps.get (option_map_or (λ v. maps.insert m n (f v)) o m) q)
-          ≡ cond (q == n) (news (seen (maps.get m q))) (seen (maps.get m q))
-      go None e t = absurd (false≢true t)
-      go (Some v) e t =
-          insert_at (f v) q seen (news (seen (maps.get m q)))
-          (λ is. is_news v ∙ ap (λ o. news (seen o)) (sym (is ∙ e)))
+  changed_at f q seen news there is_news = elim (cases_eq q n) [
+    | inl same ↦ rw (same, eq-eqb n n refl) (grind (arith, maps.gets, nat_tests, is_news))
+    | inr apart ↦ rw (ne_eqb q n apart) (grind (arith, maps.gets, nat_tests))
+  ]
 
   -- what the change leaves of it
   keeps : {Y : Type 0} (f : V → V) (q : ℕ) (seen : Option V → Y)
@@ -219,41 +197,6 @@ pairs_found show r (p ∷ ps) there k =
     ∙ ap (after (says (Levels r ps) k)) (pair_found show r p there k)
     ∙ after_newer (says (Levels r ps) k) (pair_says r p k) (found show k)
 
--- ---- UP, DOWN and FOLLOWON
-
-rises_found : (show : Tables) (n : ℕ) (rate : Rate) → IsTrue (has_record show (Cue n)) → (k : Key)
-    → found (applied (Rises n rate) show) k ≡ after (says (Rises n rate) k) (found show k)
-rises_found show n rate there (There (Cue m)) = keeps show.cues n _ m there_at (λ cue. refl)
-rises_found show n rate there (Level (Cue m) c) = keeps show.cues n _ m (level_at c) (λ cue. refl)
-rises_found show n rate there (Up m) =
-    changed_at show.cues n _ m up_at (λ o. Some rate) there (λ cue. refl)
-    ∙ after_if (m == n) (Is rate) _
-rises_found show n rate there (Down m) = keeps show.cues n _ m down_at (λ cue. refl)
-rises_found show n rate there (Follow m) = keeps show.cues n _ m follow_at (λ cue. refl)
-rises_found show n rate there k = refl
-
-falls_found : (show : Tables) (n : ℕ) (rate : Rate) → IsTrue (has_record show (Cue n)) → (k : Key)
-    → found (applied (Falls n rate) show) k ≡ after (says (Falls n rate) k) (found show k)
-falls_found show n rate there (There (Cue m)) = keeps show.cues n _ m there_at (λ cue. refl)
-falls_found show n rate there (Level (Cue m) c) = keeps show.cues n _ m (level_at c) (λ cue. refl)
-falls_found show n rate there (Up m) = keeps show.cues n _ m up_at (λ cue. refl)
-falls_found show n rate there (Down m) =
-    changed_at show.cues n _ m down_at (λ o. Some rate) there (λ cue. refl)
-    ∙ after_if (m == n) (Is rate) _
-falls_found show n rate there (Follow m) = keeps show.cues n _ m follow_at (λ cue. refl)
-falls_found show n rate there k = refl
-
-follows_found : (show : Tables) (n time : ℕ) → IsTrue (has_record show (Cue n)) → (k : Key)
-    → found (applied (Follows n time) show) k ≡ after (says (Follows n time) k) (found show k)
-follows_found show n time there (There (Cue m)) = keeps show.cues n _ m there_at (λ cue. refl)
-follows_found show n time there (Level (Cue m) c) = keeps show.cues n _ m (level_at c) (λ cue. refl)
-follows_found show n time there (Up m) = keeps show.cues n _ m up_at (λ cue. refl)
-follows_found show n time there (Down m) = keeps show.cues n _ m down_at (λ cue. refl)
-follows_found show n time there (Follow m) =
-    changed_at show.cues n _ m follow_at (λ o. Some time) there (λ cue. refl)
-    ∙ after_if (m == n) (Is time) _
-follows_found show n time there k = refl
-
 -- ---- PATCH
 
 -- a show with another patch
@@ -329,9 +272,29 @@ pub applied_found : (s : Statement) (show : Tables) → HasOwner show s → (k :
     → found (applied s show) k ≡ after (says s k) (found show k)
 applied_found (Opens r) show owned k = opens_found show r k
 applied_found (Levels r ps) show owned k = pairs_found show r ps owned k
-applied_found (Rises n rate) show owned k = rises_found show n rate owned k
-applied_found (Falls n rate) show owned k = falls_found show n rate owned k
-applied_found (Follows n time) show owned k = follows_found show n time owned k
+applied_found (Rises n rate) show h (There (Cue m)) = keeps show.cues n _ m there_at (λ v. refl)
+applied_found (Rises n rate) show h (Level (Cue m) c) =
+    keeps show.cues n _ m (level_at c) (λ v. refl)
+applied_found (Rises n rate) show h (Up m) =
+    changed_at show.cues n _ m up_at (λ o. Some rate) h (λ v. refl) ∙ after_if (m == n) (Is rate) _
+applied_found (Rises n rate) show h (Down m) = keeps show.cues n _ m down_at (λ v. refl)
+applied_found (Rises n rate) show h (Follow m) = keeps show.cues n _ m follow_at (λ v. refl)
+applied_found (Falls n rate) show h (There (Cue m)) = keeps show.cues n _ m there_at (λ v. refl)
+applied_found (Falls n rate) show h (Level (Cue m) c) =
+    keeps show.cues n _ m (level_at c) (λ v. refl)
+applied_found (Falls n rate) show h (Up m) = keeps show.cues n _ m up_at (λ v. refl)
+applied_found (Falls n rate) show h (Down m) =
+    changed_at show.cues n _ m down_at (λ o. Some rate) h (λ v. refl)
+    ∙ after_if (m == n) (Is rate) _
+applied_found (Falls n rate) show h (Follow m) = keeps show.cues n _ m follow_at (λ v. refl)
+applied_found (Follows n time) show h (There (Cue m)) = keeps show.cues n _ m there_at (λ v. refl)
+applied_found (Follows n time) show h (Level (Cue m) c) =
+    keeps show.cues n _ m (level_at c) (λ v. refl)
+applied_found (Follows n time) show h (Up m) = keeps show.cues n _ m up_at (λ v. refl)
+applied_found (Follows n time) show h (Down m) = keeps show.cues n _ m down_at (λ v. refl)
+applied_found (Follows n time) show h (Follow m) =
+    changed_at show.cues n _ m follow_at (λ o. Some time) h (λ v. refl)
+    ∙ after_if (m == n) (Is time) _
 applied_found (Patches ts) show owned k = triples_found show ts k
 applied_found (Clears what) show owned k = clears_found what show k
 applied_found s show owned k = refl

@@ -1,5 +1,5 @@
 -- What a statement does to a show, by the effects of the builders.
-use Rattle.std.specs.Prelude.{ℕ, if◌then◌else◌, IsTrue, List, [], ◌∷◌, Option, Some, None}
+use Rattle.std.specs.Prelude.{ℕ, if◌then◌else◌, IsTrue, List, fold, Option, Some, None}
 use Rattle.std.specs.FinMap as maps
 use Rattle.show_reader.specs.Terms.{PatchMap, Tables, LineFault, Record, Cue, Group, Sub, Cues}
 use Rattle.show_reader.specs.Terms.{Groups, Subs, Patch, Cleared, All, Only, Statement, Opens}
@@ -23,9 +23,8 @@ with_pairs show (Sub n) pairs = record show { subs = with_all_listed show.subs n
 
 -- with the dimmers of triples, one after the other
 abbrev pub with_triples : PatchMap → List Triple → PatchMap
-with_triples patch [] = patch
-with_triples patch (t ∷ triples) =
-    with_triples (patched_with patch t.dimmer t.channel t.level) triples
+with_triples patch triples =
+    fold (λ older t. patched_with older t.dimmer t.channel t.level) patch triples
 
 -- with tables emptied
 abbrev pub without : Cleared → Tables → Tables

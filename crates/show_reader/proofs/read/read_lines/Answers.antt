@@ -75,13 +75,11 @@ returns-clause-ok c =
     elim c.match-next.branch [
       | in-None w ↦
           let all = last_line before.2 w.in-None.ensures.steps.0 in
-          subst (λ ls. Reads ls c.match-next.reader) (sym all)
-          (subst (Reads lines) (sym w.reader-is) before.2.reads)
+          rw (all, w.reader-is) before.2.reads
       | in-Some+in-Ok-true w ↦
           let l = words_of w.in-Some.line.bytes.now in
           let next = next_line before.2 w.in-Some.ensures.steps in
           let end : ends l ≡ true = sym w.in-Ok-true.ensures.last ∙ w.in-Ok-true.field-0-test in
-          subst (λ ls. Reads ls c.match-next.reader) (sym (go_on next true end))
-          (subst (Reads (l ∷ lines)) (sym w.reader-is)
-          (w.in-Ok-true.ensures.more lines before.2.reads))
+          rw (go_on next true end, w.reader-is)
+          (w.in-Ok-true.ensures.more lines before.2.reads)
     ]

@@ -29,10 +29,8 @@ returns-clause-more c = λ lines h.
     let owner : c.if-may_own.owner ≡ cond (owns l) (opened s) r.owner
     = elim c.if-may_own.branch [
       | then-may_own w ↦
-          w.owner-is ∙ w.opened-owner.ensures
-          ∙ ap (λ b. cond b (opened s) r.owner) (sym w.if-may_own.true ∙ owns_is)
-      | else-may_own w ↦
-          w.owner-is ∙ ap (λ b. cond b (opened s) r.owner) (sym w.if-may_own.false ∙ owns_is)
+          rw (sym owns_is ∙ w.if-may_own.true) (w.owner-is ∙ w.opened-owner.ensures)
+      | else-may_own w ↦ rw (sym owns_is ∙ w.if-may_own.false) w.owner-is
     ] in
     let applied = c.in_default-apply.ensures in
     let counted : c.if-skipped.self ≡ record {
@@ -41,8 +39,7 @@ returns-clause-more c = λ lines h.
       lines = c.args.line.number;
       skipped = r.skipped + cond (is_skipped s) 1 0;
     } = elim c.if-skipped.branch [
-      | then-skipped w ↦
-          rw (sym c.is_skipped-skipped.ensures ∙ w.if-skipped.true) w.self-is
+      | then-skipped w ↦ rw (sym c.is_skipped-skipped.ensures ∙ w.if-skipped.true) w.self-is
       | else-skipped w ↦
           rw (sym c.is_skipped-skipped.ensures ∙ w.if-skipped.false, add-zero) w.self-is
     ] in
