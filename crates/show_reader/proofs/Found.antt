@@ -9,7 +9,6 @@ use Rattle.std.specs.Cmp.{nat_cmp_total, unsigned_tied}
 use Rattle.std.specs.FinMap as maps
 use Rattle.std.proofs.lemmas.Bool.Decides.{nat_tests}
 use Rattle.std.proofs.lemmas.Bool.{cases_eq, ne_eqb, eq-eqb}
-use mathlib.Core.Bool.{false≢true}
 use Rattle.show_reader.specs.Terms.{CueData, Rate, LevelMap, PatchMap, Tables, CueMap, MasterMap}
 use Rattle.show_reader.specs.Terms.{Record, Cue, Group, Sub, Cues, Groups, Subs, Patch, Cleared}
 use Rattle.show_reader.specs.Terms.{All, Only, Statement, Opens, Levels, Rises, Falls, Follows}

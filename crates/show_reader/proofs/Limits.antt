@@ -1,8 +1,7 @@
 -- Wider limits leave the meaning of a text that has no fault under narrower ones, and what it means
 -- stays within those.
 use Rattle.std.proofs.Common.{◌≡◌, ℕ, ◌+◌, ◌≤◌, Bool, true, false, cond, ◌&&◌, List, [], ◌∷◌, All}
-use Rattle.std.proofs.Common.{length, refl, sym, ap, subst, ◌∙◌, Option, Some, None, IfSome}
-use Rattle.std.proofs.Common.{eqb-true}
+use Rattle.std.proofs.Common.{length, refl, sym, Option, Some, None, IfSome, eqb-true}
 use Rattle.std.specs.Prelude.{◌==◌, nat_lt, option_map}
 use Rattle.std.specs.Option.{option_or}
 use Rattle.std.proofs.lemmas.List.Elements.{All-head, All-rest}
@@ -11,16 +10,15 @@ use mathlib.Core.Bool.{false≢true}
 use Rattle.show_reader.specs.Terms.{LineFault, Record, Statement, Opens, Levels, Rises, Falls}
 use Rattle.show_reader.specs.Terms.{Follows, Patches, Clears, Faulty, Triple, Limits}
 use Rattle.show_line.specs.Keywords.{keyword_of}
-use Rattle.show_line.specs.Said.{opened}
 use Rattle.show_line.specs.Sound.{IsFaultless}
 use Rattle.show_line.proofs.Wider.{said_wider}
 use Rattle.show_line.proofs.Room.{IsPairWithin, IsTripleWithin, IsWithin, said_within}
 use Rattle.show_reader.specs.declared.fault.ShowFault.{ShowFault}
 use Rattle.show_reader.specs.declared.fault.ShowFault.TheVariants as show_fault
-use Rattle.show_reader.specs.Text.{Words, owns, said_under, owner_below, statement_below}
-use Rattle.show_reader.specs.Text.{statements, statements_of, lines_in}
+use Rattle.show_reader.specs.Text.{Words, said_under, owner_below, statement_below, statements}
+use Rattle.show_reader.specs.Text.{lines_in}
 use Rattle.show_reader.specs.Keys.{Key, There, Level, Up, Down, Follow, Dimmer, Answer, table_at}
-use Rattle.show_reader.specs.Meaning.{News, Is, Gone, Silent, after, newer, last_news, pair_says}
+use Rattle.show_reader.specs.Meaning.{News, Is, Gone, Silent, after, last_news, pair_says}
 use Rattle.show_reader.specs.Meaning.{triple_says, says, meaning, same_record, empties}
 use Rattle.show_reader.specs.Reading.{fault_at, fault_below, first_fault, fault_of, ReadsAlike}
 use Rattle.show_reader.specs.Reading.{longest_text, IsAnswerWithin}
@@ -57,14 +55,8 @@ module _ (narrow wide : Limits) (more_channels : narrow.channels ≤ wide.channe
       let s = statement_below narrow above l in
       let parts = both_none (length ss + 1) (first_fault ss) (fault_below ss s) none in
       let same_above = alike above parts.0 in
-      let fine = faultless_is ss s parts.1 in
-      let same : statement_below wide above l ≡ s
-      = ap (λ o. said_under wide o l) same_above.0
-      ∙ said_alike (owner_below narrow above) l fine in (
-        ap (λ t. cond (owns l) (opened t) (owner_below wide above)) same
-            ∙ ap (cond (owns l) (opened s)) same_above.0,
-        ap (λ t. t ∷ statements wide above) same ∙ ap (λ ts. s ∷ ts) same_above.1,
-      )
+      let same = said_alike (owner_below narrow above) l (faultless_is ss s parts.1) in
+      rw (same_above.0, same_above.1, same) (refl, refl)
 
 -- ---- what is said stays within the limits
 
@@ -156,7 +148,5 @@ reads_alike narrow wide channels dimmers text none =
     record {
       faultless = rw (sized.0, same) sized.1;
       statements = same;
-      fits =
-          λ show h k. subst (λ o. IfSome o (IsAnswerWithin narrow k))
-          (sym (h k ∙ ap (λ ss. meaning ss k) same)) (meaning_within narrow (lines_in text) k);
+      fits = λ show h k. rw (h k, same) (meaning_within narrow (lines_in text) k);
     }

@@ -2,7 +2,7 @@
 use Rattle.std.proofs.Common.{◌≡◌, ℕ, ◌+◌, Bool, true, false, cond, List, [], ◌∷◌, IsTrue, length}
 use Rattle.std.proofs.Common.{refl, sym, ap, subst, ◌∙◌, arith, Option, Some, None, All, ◌++◌}
 use Rattle.std.proofs.Common.{is_some, inl, inr, add-zero, ◌≤◌, map}
-use Rattle.std.specs.Prelude.{IfSome, nat_lt, count_by, codes, option_map}
+use Rattle.std.specs.Prelude.{IfSome, nat_lt, codes, option_map}
 use Rattle.std.specs.Option.{option_map_or, option_or}
 use Rattle.std.specs.FinMap as maps
 use Rattle.std.proofs.lemmas.Bool.{eq-eqb}
@@ -32,10 +32,10 @@ use Rattle.show_reader.specs.declared.apply.Refusal.TheVariants as refusal
 use Rattle.show_reader.specs.declared.draft.Draft.{Draft}
 use Rattle.show_reader.specs.declared.read.Reader.{Reader}
 use Rattle.show_reader.specs.Text.{Words, owns, said_under, owner_below, ends, up_to_end, lines_in}
-use Rattle.show_reader.specs.Text.{statement_below, statements_of}
+use Rattle.show_reader.specs.Text.{statement_below}
 use Rattle.show_reader.specs.Keys.{There, has_record, found}
 use Rattle.show_reader.specs.Meaning.{Is, Silent, after, newer, last_news, says, same_record}
-use Rattle.show_reader.specs.Meaning.{meaning, cue_count, is_skipped}
+use Rattle.show_reader.specs.Meaning.{cue_count, is_skipped}
 use Rattle.show_reader.specs.Shows.{IsShowOf}
 use Rattle.show_reader.specs.Reading.{fault_at, fault_below, first_fault, faultless_front, grows}
 use Rattle.show_reader.specs.Reading.{fault_of, longest_text, NothingGrows}
@@ -358,18 +358,13 @@ pub last_line : {text : List ℕ} {lines : List Words} {left : List (List ℕ)}
     {ahead : List (ℕ × List ℕ)} {r : Reader} → StandsBehind text lines left ahead r → ahead ≡ []
     → lines_in text ≡ lines
 last_line {left = []} h none = h.all
-last_line {left = l ∷ left} {r} h none =
-    let e : (r.lines + 1, l) ∷ numbered_from (r.lines + 1 + 1) left ≡ [] = sym h.numbered ∙ none in
-    absurd (cons-ne-nil _ _ e)
+last_line {left = l ∷ left} h none = absurd (cons-ne-nil _ _ (sym h.numbered ∙ none))
 
 -- a fault stays, whatever is read below it
 fault_stays : (more lines : List Words) (f : ShowFault) → first_fault (said_by lines) ≡ Some f
     → first_fault (said_by (reverse_aux more lines)) ≡ Some f
 fault_stays [] lines f h = h
-fault_stays (m ∷ more) lines f h =
-    let here = fault_below (said_by lines) (statement_below desk_limits lines m) in
-    fault_stays more (m ∷ lines) f
-    (ap (λ o. option_or o (option_map (fault_at (length (said_by lines) + 1)) here)) h)
+fault_stays (m ∷ more) lines f h = fault_stays more (m ∷ lines) f (rw h refl)
 
 -- where no statement grows a show, none does in the first lines
 none_before : (more lines : List Words) → NoneGrows (said_by (reverse_aux more lines))
@@ -384,10 +379,7 @@ module _ {text : List ℕ} {lines : List Words} {r : Reader} {number : ℕ} {byt
   -- behind a line that ends the text, nothing is left; behind another, the rest is
   pub go_on : (b : Bool) → ends (words_of bytes) ≡ b → lines_in text
       ≡ reverse_aux (cond b [] (up_to_end (map words_of next.rest))) (words_of bytes ∷ lines)
-  go_on b is =
-      next.all
-      ∙ ap (λ c. reverse_aux (cond c [] (up_to_end (map words_of next.rest)))
-      (words_of bytes ∷ lines)) is
+  go_on b is = rw (← is) next.all
 
   -- the lines that are read below the next one
   abbrev below : List Words
@@ -398,12 +390,8 @@ module _ {text : List ℕ} {lines : List Words} {r : Reader} {number : ℕ} {byt
       → first_fault (said_by (words_of bytes ∷ lines)) ≡ Some f → fault_of desk_limits text ≡ Some f
   fault_found f short fault =
       let small : nat_lt longest_text (length text) ≡ false = grind (arith, nat_tests) in
-      ap (λ b. cond b (Some show_fault.TooLong) (first_fault (statements_of desk_limits text))) small
-      ∙ ap (λ ms. first_fault (said_by ms)) next.all
-      ∙ fault_stays below (words_of bytes ∷ lines) f fault
+      rw (small, next.all) (fault_stays below (words_of bytes ∷ lines) f fault)
 
   -- where nothing grows in the text, nothing does down to it
   pub none_so_far : NothingGrows desk_limits text → NoneGrows (said_by (words_of bytes ∷ lines))
-  none_so_far nothing =
-      none_before below (words_of bytes ∷ lines)
-      (subst (λ ms. NoneGrows (said_by ms)) next.all nothing)
+  none_so_far nothing = none_before below (words_of bytes ∷ lines) (rw next.all at nothing)

@@ -1,11 +1,9 @@
 -- The reader stands behind the lines so far, and the text's lines are those and the ones that are
 -- left.
-use Rattle.std.proofs.Common.{◌≡◌, ◌+◌, true, false, [], ◌∷◌, refl, sym, ap, subst, ◌∙◌, arith, inl}
-use Rattle.std.proofs.Common.{inr}
+use Rattle.std.proofs.Common.{◌≡◌, ◌+◌, true, false, [], ◌∷◌, refl, sym, ap, ◌∙◌, arith, inl, inr}
 use Rattle.std.proofs.lemmas.Grind.{common_steps}
 use Rattle.ascii_text.specs.Text.{lines_of, words_of, numbered_from}
 use Rattle.show_reader.specs.Text.{ends}
-use Rattle.show_reader.specs.Reads.{Reads}
 use Rattle.show_reader.proofs.Lines.{nothing_read, next_line, last_line, go_on, fault_found}
 use Rattle.show_reader.proofs.Lines.{none_so_far}
 use Rattle.show_reader.proofs.read.read_lines.Goals as goal

@@ -4,7 +4,6 @@ use Rattle.show_line.specs.Sound.{IsTripleInRange}
 use Rattle.show_line.specs.declared.statement.Statement.TheVariants.{Patches}
 use Rattle.show_reader.specs.Reading.{grows}
 use Rattle.show_reader.specs.Applied.{applied}
-use Rattle.show_reader.specs.Reads.{meant}
 use Rattle.show_reader.proofs.draft.Draft.patch.Goals as goal
 
 -- neither of two holds: the first is false, and so is the second
