@@ -37,11 +37,6 @@ pub after_if : {X : Type 0} (b : Bool) (news : News X) (o : Option X)
 after_if true news o = refl
 after_if false news o = refl
 
--- a choice between the same
-pub both : {X : Type 0} (b : Bool) (x : X) → cond b x x ≡ x
-both true x = refl
-both false x = refl
-
 -- ---- one entry of a table, as far as a look-up sees it
 
 -- whether there is one; the level of a channel in a cue, and in a master; the rates and the

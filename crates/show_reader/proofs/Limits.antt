@@ -1,12 +1,12 @@
 -- Wider limits leave the meaning of a text that has no fault under narrower ones, and what it means
 -- stays within those.
-use Rattle.std.proofs.Common.{◌≡◌, ℕ, ◌+◌, ◌≤◌, Bool, true, false, cond, ◌&&◌, List, [], ◌∷◌, All}
+use Rattle.std.proofs.Common.{◌≡◌, ℕ, ◌+◌, ◌≤◌, Bool, true, false, cond, List, [], ◌∷◌, All}
 use Rattle.std.proofs.Common.{length, refl, sym, Option, Some, None, IfSome, eqb-true}
 use Rattle.std.specs.Prelude.{◌==◌, nat_lt, option_map}
 use Rattle.std.specs.Option.{option_or}
 use Rattle.std.proofs.lemmas.List.Elements.{All-head, All-rest}
 use Rattle.std.proofs.lemmas.Option.{none-some}
-use mathlib.Core.Bool.{false≢true}
+use Rattle.std.proofs.lemmas.Bool.{and_parts}
 use Rattle.show_reader.specs.Terms.{LineFault, Record, Statement, Opens, Levels, Rises, Falls}
 use Rattle.show_reader.specs.Terms.{Follows, Patches, Clears, Faulty, Triple, Limits}
 use Rattle.show_line.specs.Keywords.{keyword_of}
@@ -84,16 +84,12 @@ module _ (lim : Limits) (k : Key) where
       (list_within P news each xs (All-rest P x xs (x ∷ xs) refl all))
       (each x (All-head P x xs all)))
 
-second : (a b : Bool) → (a && b) ≡ true → b ≡ true
-second true b h = h
-second false b h = absurd (false≢true h)
-
 module _ (lim : Limits) where
   pair_within : (r : Record) (p : ℕ × ℕ) → IsPairWithin lim p → (k : Key)
       → IsNewsWithin lim k (pair_says r p k)
   pair_within r p h (Level q c) =
       if_within lim (Level q c) _ (Is p.1)
-      (λ e. rw (eqb-true c p.0 (second (same_record q r) (c == p.0) e)) h)
+      (λ e. rw (eqb-true c p.0 (and_parts (same_record q r) (c == p.0) e).1) h)
   pair_within r p h k = tt
 
   triple_within : (t : Triple) → IsTripleWithin lim t → (k : Key)

@@ -42,7 +42,7 @@ use Rattle.show_reader.specs.Reading.{fault_of, longest_text, NothingGrows}
 use Rattle.show_reader.specs.Applied.{applied, refused_by, HasOwner}
 use Rattle.show_reader.specs.Reads.{meant, IsDraft, IsSettled, Explains, said_by, NoneGrows, Reads}
 use Rattle.show_reader.specs.Reads.{EndsAt, refusal_at}
-use Rattle.show_reader.proofs.Found.{after_if, both, applied_found, record_is, record_there, step}
+use Rattle.show_reader.proofs.Found.{applied_found, record_is, record_there, step}
 use Rattle.show_reader.proofs.Found.{count_step, nothing, nothing_found}
 use Rattle.std.specs.Ordering.{nat_cmp}
 use mathlib.Core.List.{reverse_aux, cons-ne-nil}
@@ -152,8 +152,11 @@ no_news (x ∷ xs) = ap (λ news. newer news Silent) (no_news xs)
 -- a statement that does not clear leaves a record
 left_there : (owner : Option Record) (s : Statement) → Belongs owner false s → (q : Record)
     → after (says s (There q)) (Some tt) ≡ Some tt
-left_there owner (Opens r) of q =
-    sym (after_if (same_record q r) (Is tt) (Some tt)) ∙ both (same_record q r) (Some tt)
+left_there owner (Opens r) of q = go (same_record q r)
+  where
+    go : (b : Bool) → after {X = Unit {0}} (cond b (Is tt) Silent) (Some tt) ≡ Some tt
+    go true = refl
+    go false = refl
 left_there owner (Levels r ps) of q = ap (λ news. after news (Some tt)) (no_news ps)
 left_there owner (Patches ts) of q = ap (λ news. after news (Some tt)) (no_news ts)
 left_there owner (Clears what) of q = absurd (false≢true of)
