@@ -9,7 +9,7 @@ use Rattle.std.proofs.lemmas.Bool.{eq-eqb}
 use Rattle.std.proofs.lemmas.Bool.Decides.{nat_tests}
 use Rattle.std.proofs.lemmas.List.Elements.{All-head, All-rest}
 use Rattle.std.proofs.lemmas.List.Sums.{sum_by-cons}
-use Rattle.std.proofs.lemmas.Option.{none-some, same_Some}
+use Rattle.std.proofs.lemmas.Option.{none-some, same_Some, IfSome_then}
 use mathlib.Core.Bool.{false≢true}
 use Rattle.ascii_text.specs.Forms.{same_word}
 use Rattle.show_reader.specs.Terms.{Tables, LineFault, Record, Cue, Group, Sub, Statement, Opens}
@@ -35,15 +35,14 @@ use Rattle.show_reader.specs.Text.{Words, owns, said_under, owner_below, ends, u
 use Rattle.show_reader.specs.Text.{statement_below}
 use Rattle.show_reader.specs.Keys.{There, has_record, found}
 use Rattle.show_reader.specs.Meaning.{Is, Silent, after, newer, last_news, says, same_record}
-use Rattle.show_reader.specs.Meaning.{cue_count, is_skipped}
+use Rattle.show_reader.specs.Meaning.{cue_count, is_skipped, is_there}
 use Rattle.show_reader.specs.Shows.{IsShowOf}
 use Rattle.show_reader.specs.Reading.{fault_at, fault_below, first_fault, faultless_front, grows}
 use Rattle.show_reader.specs.Reading.{fault_of, longest_text, NothingGrows}
 use Rattle.show_reader.specs.Applied.{applied, refused_by, HasOwner}
 use Rattle.show_reader.specs.Reads.{meant, IsDraft, IsSettled, Explains, said_by, NoneGrows, Reads}
 use Rattle.show_reader.specs.Reads.{EndsAt, refusal_at}
-use Rattle.show_reader.proofs.Found.{applied_found, record_is, record_there, step}
-use Rattle.show_reader.proofs.Found.{count_step, nothing, nothing_found}
+use Rattle.show_reader.proofs.Found.{record_there, step, count_step, nothing, nothing_found}
 use Rattle.std.specs.Ordering.{nat_cmp}
 use mathlib.Core.List.{reverse_aux, cons-ne-nil}
 use Rattle.ascii_text.specs.Text.{words_of, numbered_from}
@@ -137,13 +136,6 @@ owned owner own (Falls n rate) show of h = subst (IsHere show) of h
 owned owner own (Follows n time) show of h = subst (IsHere show) of h
 owned owner own s show of h = tt
 
--- a record is there below a statement where the statement leaves it, or opens it
-there_below : (s : Statement) (show : Tables) → HasOwner show s → (q : Record)
-    → after (says s (There q)) (found show (There q)) ≡ Some tt
-    → IsTrue (has_record (applied s show) q)
-there_below s show owned q h =
-    sym (record_is (applied s show) q) ∙ ap is_some (applied_found s show owned (There q) ∙ h)
-
 -- a list of which none has news
 no_news : {X Y : Type 0} (xs : List X) → last_news {X = X} {Y = Y} (λ x. Silent) xs ≡ Silent
 no_news [] = refl
@@ -151,37 +143,38 @@ no_news (x ∷ xs) = ap (λ news. newer news Silent) (no_news xs)
 
 -- a statement that does not clear leaves a record
 left_there : (owner : Option Record) (s : Statement) → Belongs owner false s → (q : Record)
-    → after (says s (There q)) (Some tt) ≡ Some tt
-left_there owner (Opens r) of q = go (same_record q r)
+    → (o : Option (Unit {0})) → IsTrue (is_some o) → IsTrue (is_some (after (says s (There q)) o))
+left_there owner (Opens r) of q o h = go (same_record q r)
   where
-    go : (b : Bool) → after {X = Unit {0}} (cond b (Is tt) Silent) (Some tt) ≡ Some tt
+    go : (b : Bool) → IsTrue (is_some (after (cond b (Is tt) Silent) o))
     go true = refl
-    go false = refl
-left_there owner (Levels r ps) of q = ap (λ news. after news (Some tt)) (no_news ps)
-left_there owner (Patches ts) of q = ap (λ news. after news (Some tt)) (no_news ts)
-left_there owner (Clears what) of q = absurd (false≢true of)
-left_there owner s of q = refl
+    go false = h
+left_there owner (Levels r ps) of q o h = rw (no_news ps) h
+left_there owner (Patches ts) of q o h = rw (no_news ts) h
+left_there owner (Clears what) of q o h = absurd (false≢true of)
+left_there owner s of q o h = h
 
 -- one that opens a record has it there
-opened_there : (s : Statement) (show : Tables) → HasOwner show s
-    → IsHere (applied s show) (opened s)
-opened_there (Opens r) show owned = there_below (Opens r) show tt r (same r)
-  where
-    same : (q : Record) → after (says (Opens q) (There q)) (found show (There q)) ≡ Some tt
-    same (Cue n) = rw (eq-eqb n n refl) refl
-    same (Group n) = rw (eq-eqb n n refl) refl
-    same (Sub n) = rw (eq-eqb n n refl) refl
-opened_there s show owned = tt
+opened_there : (q : Record) (ss : List Statement) → IsTrue (is_there q (Opens q ∷ ss))
+opened_there (Cue n) ss = rw (eq-eqb n n refl) refl
+opened_there (Group n) ss = rw (eq-eqb n n refl) refl
+opened_there (Sub n) ss = rw (eq-eqb n n refl) refl
 
--- the owner below a line is there
-present_below : (owner : Option Record) (own : Bool) (s : Statement) (show : Tables)
-    → Belongs owner own s → HasOwner show s → IsHere show owner
-    → IsHere (applied s show) (cond own (opened s) owner)
-present_below owner true s show of owned h = opened_there s show owned
-present_below None false s show of owned h = tt
-present_below (Some q) false s show of owned h =
-    there_below s show owned q
-    (ap (λ b. after (says s (There q)) (cond b (Some tt) None)) h ∙ left_there (Some q) s of q)
+-- so the owner of what stands below lines is there
+owner_there : (lines : List Words)
+    → IfSome (owner_below desk_limits lines) (λ q. IsTrue (is_there q (said_by lines)))
+owner_there [] = tt
+owner_there (l ∷ above) =
+    go (owner_below desk_limits above) (owns l) (statement_below desk_limits above l)
+    (line_belongs (owner_below desk_limits above) l) (owner_there above)
+  where
+    go : (owner : Option Record) (own : Bool) (s : Statement) → Belongs owner own s
+        → IfSome owner (λ q. IsTrue (is_there q (said_by above)))
+        → IfSome (cond own (opened s) owner) (λ q. IsTrue (is_there q (s ∷ said_by above)))
+    go owner true (Opens r) of h = opened_there r (said_by above)
+    go owner true s of h = tt
+    go None false s of h = tt
+    go (Some q) false s of h = left_there (Some q) s of q _ h
 
 -- ---- the show refuses what the text's meaning refuses
 
@@ -226,12 +219,13 @@ module _ (lines : List Words) (l : Words) (r : Reader) (h : Reads lines r) where
   abbrev s : Statement
   s = statement_below desk_limits lines l
 
-  of_owner : Belongs (owner_below desk_limits lines) (owns l) s
-  of_owner = line_belongs (owner_below desk_limits lines) l
-
   -- it has the owner that it needs
   pub owner_here : HasOwner (meant r.draft) s
-  owner_here = owned (owner_below desk_limits lines) (owns l) s (meant r.draft) of_owner h.present
+  owner_here =
+      let owner = owner_below desk_limits lines in
+      owned owner (owns l) s (meant r.draft) (line_belongs owner l)
+      (IfSome_then owner (owner_there lines)
+      (λ q there. record_there (said_by lines) (meant r.draft) q h.shows ∙ there))
 
   -- the fault is the line's where the show refuses what it says
   fault_here : IsSound s → first_fault (said_by (l ∷ lines))
@@ -268,10 +262,6 @@ module _ (lines : List Words) (l : Words) (r : Reader) (h : Reads lines r) where
             settled (h.settled below.0) (below.1 (no_fault sound fine));
         faultless = no_fault sound fine;
         owner = ap (cond (owns l) (opened s)) h.owner;
-        present =
-            subst (λ t. IsHere t (owner_below desk_limits (l ∷ lines))) (sym ok)
-            (present_below (owner_below desk_limits lines) (owns l) s (meant r.draft) of_owner
-            owner_here h.present);
         count =
             count_step ss s (meant r.draft) h.shows h.count ∙ ap (λ t. maps.len t.cues) (sym ok);
         number = omega (arith, h.number);
@@ -323,7 +313,6 @@ nothing_read d cues subs groups patch drafted settled = record {
   settled = λ none. settled;
   faultless = refl;
   owner = refl;
-  present = tt;
   count = sym (ap maps.len cues ∙ maps.len-empty nat_cmp CueData);
   number = refl;
   skipped = refl;

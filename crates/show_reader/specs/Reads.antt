@@ -60,7 +60,6 @@ pub record Reads (lines : List Words) (r : Reader) : Type 0 where
   pub settled : NoneGrows (said_by lines) → IsSettled r.draft
   pub faultless : first_fault (said_by lines) ≡ None
   pub owner : r.owner ≡ owner_below desk_limits lines
-  pub present : IfSome (owner_below desk_limits lines) (λ q. IsTrue (has_record (meant r.draft) q))
   pub count : cue_count (said_by lines) ≡ maps.len (meant r.draft).cues
   pub number : r.lines ≡ length (said_by lines)
   pub skipped : r.skipped ≡ count_by is_skipped (said_by lines)
