@@ -2,6 +2,7 @@ mod many;
 
 use crate::{BuildFault, Counts, LONGEST_TIME, Rate, Show};
 use many::{falling, falling_dimmers, list_in_cue, list_in_group, list_in_sub, rising};
+use std::alloc::{AllocError, Global};
 use std::process::Abort;
 use std::test::Fail;
 
@@ -64,6 +65,10 @@ fn lead_on(rt: &impl Abort, show: &mut Show, n: u32, time: u32) {
     show.set_follow(n, time);
 }
 
+fn follow(rt: &impl Abort, show: &Show, n: u32) -> Option<u32> {
+    show.cue(n).expect(rt, "the cue").follow()
+}
+
 fn rates(rt: &impl Abort, show: &Show, n: u32) -> (Rate, Rate) {
     let cue = show.cue(n).expect(rt, "the cue");
     (cue.up(), cue.down())
@@ -75,13 +80,26 @@ fn slot(rt: &impl Abort, show: &Show, ordinal: u16, place: usize) -> Option<u8> 
     show.look_slots(1000, ordinal).get(place).copied()
 }
 
+fn open_cues(show: &mut Show, numbers: &[u32]) -> Result<(), BuildFault> {
+    for n in numbers {
+        show.open_cue(*n)?;
+    }
+    Ok(())
+}
+
+// Cue 1.5, with channel 7 set twice.
+fn light_twice(rt: &impl Abort, show: &mut Show) -> Result<(), BuildFault> {
+    show.open_cue(1500)?;
+    for (channel, byte) in &[(7, 3), (2, 128), (7, 0)] {
+        light_cue(rt, show, 1500, *channel, *byte)?;
+    }
+    Ok(())
+}
+
 #[test]
 fn levels_of_a_cue(rt: HostRuntime) -> Result<(), Fail> {
     let mut show = Show::new(rt.alloc());
-    show.open_cue(1500)?;
-    for (channel, byte) in [(7, 3), (2, 128), (7, 0)] {
-        light_cue(&rt, &mut show, 1500, channel, byte)?;
-    }
+    light_twice(&rt, &mut show)?;
     let cue = show.cue(1500).expect(&rt, "cue 1.5");
     assert!(rt; cue.pairs() == [(2, 128), (7, 0)].as_slice());
     assert!(rt; cue.level(2) == 128 && cue.level(4096) == 0);
@@ -91,9 +109,7 @@ fn levels_of_a_cue(rt: HostRuntime) -> Result<(), Fail> {
 #[test]
 fn rates_of_cues(rt: HostRuntime) -> Result<(), Fail> {
     let mut show = Show::new(rt.alloc());
-    for n in 1..=4 {
-        show.open_cue(n)?;
-    }
+    open_cues(&mut show, &[1, 2, 3, 4])?;
     rise(&rt, &mut show, 1);
     fall(&rt, &mut show, 2);
     rise(&rt, &mut show, 3);
@@ -110,26 +126,27 @@ fn rates_of_cues(rt: HostRuntime) -> Result<(), Fail> {
     Ok(())
 }
 
+// Three cues, of which the first is set twice, and opened again.
+fn lead_on_each(rt: &impl Abort, show: &mut Show) -> Result<(), BuildFault> {
+    open_cues(show, &[1, 2, 3])?;
+    for (n, time) in &[(1, 10_000), (1, 0), (2, 5_999_990)] {
+        lead_on(rt, show, *n, *time);
+    }
+    show.open_cue(1)
+}
+
 #[test]
 fn follow_on_times(rt: HostRuntime) -> Result<(), Fail> {
     let mut show = Show::new(rt.alloc());
-    for n in 1..=3 {
-        show.open_cue(n)?;
-    }
-    for (n, time) in [(1, 10_000), (1, 0), (2, 5_999_990)] {
-        lead_on(&rt, &mut show, n, time);
-    }
-    show.open_cue(1)?;
+    lead_on_each(&rt, &mut show)?;
     let copy = show.clone_in(rt.alloc())?;
-    for (n, follow) in [(1, Some(0)), (2, Some(5_999_990)), (3, None)] {
-        for shown in [&show, &copy] {
-            let cue = shown.cue(n).expect(&rt, "the cue");
-            assert!(rt; cue.follow() == follow, "cue {n}");
-        }
+    for (n, time) in [(1, Some(0)), (2, Some(5_999_990)), (3, None)] {
+        assert!(rt; follow(&rt, &show, n) == time, "cue {n}");
+        assert!(rt; follow(&rt, &copy, n) == time, "cue {n} of the copy");
     }
     show.clear_cues();
     show.open_cue(1)?;
-    assert!(rt; show.cue(1).expect(&rt, "cue 0.001").follow().is_none());
+    assert!(rt; follow(&rt, &show, 1).is_none());
     Ok(())
 }
 
@@ -149,9 +166,7 @@ fn rates_beyond_their_range(rt: HostRuntime) {
 #[test]
 fn cues_in_order(rt: HostRuntime) -> Result<(), Fail> {
     let mut show = Show::new(rt.alloc());
-    for n in [2000, 1500, 1000] {
-        show.open_cue(n)?;
-    }
+    open_cues(&mut show, &[2000, 1500, 1000])?;
     for (n, next, before) in [
         (0, Some(1000), None),
         (1000, Some(1500), None),
@@ -159,8 +174,10 @@ fn cues_in_order(rt: HostRuntime) -> Result<(), Fail> {
         (1500, Some(2000), Some(1000)),
         (2000, None, Some(1500)),
     ] {
-        assert!(rt; show.next(n) == next, "after {n}");
-        assert!(rt; show.before(n) == before, "before {n}");
+        assert!(rt;
+            (show.next(n), show.before(n)) == (next, before),
+            "around {n}"
+        );
     }
     Ok(())
 }
@@ -180,16 +197,21 @@ fn is_small(show: &Show) -> bool {
         && show.patched(513) == Some((5, 255))
 }
 
+// Two submasters, groups and dimmers each, the higher one first, and a level in one of each.
+fn two_of_each(rt: &impl Abort, show: &mut Show) -> Result<(), BuildFault> {
+    for n in &[100, 2] {
+        show.open_sub(*n)?;
+        show.open_group(*n + 400)?;
+        show.set_patch(8192 - *n, 4096, 7)?;
+    }
+    light_sub(rt, show, 2, 1, 128)?;
+    light_group(rt, show, 500, 5, 255)
+}
+
 #[test]
 fn records_of_a_show(rt: HostRuntime) -> Result<(), Fail> {
     let mut show = Show::new(rt.alloc());
-    for n in [100, 2] {
-        show.open_sub(n)?;
-        show.open_group(n + 400)?;
-        show.set_patch(8192 - n, 4096, 7)?;
-    }
-    light_sub(&rt, &mut show, 2, 1, 128)?;
-    light_group(&rt, &mut show, 500, 5, 255)?;
+    two_of_each(&rt, &mut show)?;
     assert!(rt;
         show.subs()
             .iter()
@@ -293,25 +315,29 @@ fn records_beyond_their_range(rt: HostRuntime) {
     assert!(rt; show.counts() == two_of_each);
 }
 
+// Cue, submaster and group 1.
+fn open_each(show: &mut Show) -> Result<(), BuildFault> {
+    show.open_cue(1)?;
+    show.open_sub(1)?;
+    show.open_group(1)
+}
+
+// What each of them answers to this channel at full.
+fn light_each(rt: &impl Abort, show: &mut Show, channel: u16) -> [Result<(), BuildFault>; 3] {
+    [
+        light_cue(rt, show, 1, channel, 255),
+        light_sub(rt, show, 1, channel, 255),
+        light_group(rt, show, 1, channel, 255),
+    ]
+}
+
 #[test]
 fn channels_beyond_their_range(rt: HostRuntime) -> Result<(), Fail> {
     let mut show = Show::new(rt.alloc());
-    show.open_cue(1)?;
-    show.open_sub(1)?;
-    show.open_group(1)?;
+    open_each(&mut show)?;
     for (channel, answer) in [(0, LIMIT), (1, Ok(())), (4096, Ok(())), (4097, LIMIT)] {
-        assert!(rt;
-            light_cue(&rt, &mut show, 1, channel, 255) == answer,
-            "channel {channel}"
-        );
-        assert!(rt;
-            light_sub(&rt, &mut show, 1, channel, 255) == answer,
-            "channel {channel}"
-        );
-        assert!(rt;
-            light_group(&rt, &mut show, 1, channel, 255) == answer,
-            "channel {channel}"
-        );
+        let answers = light_each(&rt, &mut show, channel);
+        assert!(rt; answers == [answer; 3], "channel {channel}");
     }
     Ok(())
 }
@@ -390,6 +416,24 @@ fn sizes(show: &Show) -> (Counts, Option<usize>, Option<usize>, Option<usize>) {
     (show.counts(), cue, sub, group)
 }
 
+// Whether it grows at once, or is refused, leaves all as it was, and then grows.
+fn grows(rt: &impl Abort, show: &mut Show, growth: Growth) -> bool {
+    let before = sizes(show);
+    let answer = grow(rt, show, growth);
+    answer == Ok(())
+        || answer == Err(BuildFault::Memory)
+            && sizes(show) == before
+            && grow(rt, show, growth) == Ok(())
+}
+
+// Where the copy is refused, there is memory for the next.
+fn copied(rt: &impl Abort, alloc: Global, show: &Show) -> Show {
+    match show.clone_in(alloc) {
+        Ok(copy) => copy,
+        Err(AllocError) => show.clone_in(alloc).expect(rt, "memory"),
+    }
+}
+
 // `rt try --test --fail-alloc N` refuses the Nth growth: N from 1 on refuses each growth of this
 // test in turn, and it passes each time. The other tests then answer their error.
 #[test]
@@ -408,18 +452,8 @@ fn each_growth_refused(rt: HostRuntime) {
         Growth::GroupLevels,
         Growth::Patches,
     ] {
-        let before = sizes(&show);
-        let answer = grow(&rt, &mut show, growth);
-        if answer != Ok(()) {
-            assert!(rt; answer == Err(BuildFault::Memory));
-            assert!(rt; sizes(&show) == before);
-            assert!(rt; grow(&rt, &mut show, growth) == Ok(()));
-        }
+        assert!(rt; grows(&rt, &mut show, growth));
     }
-    let copy = match show.clone_in(rt.alloc()) {
-        Ok(copy) => copy,
-        Err(_) => show.clone_in(rt.alloc()).expect(&rt, "memory"),
-    };
     let one = Counts {
         cues: 1,
         subs: 1,
@@ -427,5 +461,6 @@ fn each_growth_refused(rt: HostRuntime) {
         dimmers: 300,
     };
     assert!(rt; sizes(&show) == (one, Some(5), Some(300), Some(300)));
+    let copy = copied(&rt, rt.alloc(), &show);
     assert!(rt; sizes(&copy) == sizes(&show));
 }

@@ -1,4 +1,4 @@
-use super::LIMIT;
+use super::{LIMIT, open_each};
 use crate::{BuildFault, Show};
 use std::process::Abort;
 use std::test::Fail;
@@ -67,19 +67,34 @@ pub fn falling_dimmers(channel: u16) -> [(u16, (u16, u8)); 300] {
     entries
 }
 
+// What cue, submaster and group 1 answer to this list.
+fn list_in_each(
+    rt: &impl Abort,
+    show: &mut Show,
+    pairs: &[(u16, u8)],
+) -> [Result<(), BuildFault>; 3] {
+    [
+        list_in_cue(rt, show, 1, pairs),
+        list_in_sub(rt, show, 1, pairs),
+        list_in_group(rt, show, 1, pairs),
+    ]
+}
+
+// Whether each of them lists these levels.
+fn each_lists(show: &Show, pairs: &[(u16, u8)]) -> bool {
+    show.cue(1).is_some_and(|cue| cue.pairs() == pairs)
+        && show.sub(1) == Some(pairs)
+        && show.group(1) == Some(pairs)
+}
+
 #[test]
 fn last_of_a_list(rt: HostRuntime) -> Result<(), Fail> {
     let mut show = Show::new(rt.alloc());
-    show.open_cue(1)?;
-    show.open_sub(1)?;
-    show.open_group(1)?;
+    open_each(&mut show)?;
     for pairs in [[(7, 3), (2, 128), (7, 0)].as_slice(), [].as_slice()] {
-        list_in_cue(&rt, &mut show, 1, pairs)?;
-        list_in_sub(&rt, &mut show, 1, pairs)?;
-        list_in_group(&rt, &mut show, 1, pairs)?;
-        let set = [(2, 128), (7, 0)].as_slice();
-        assert!(rt; show.cue(1).is_some_and(|cue| cue.pairs() == set));
-        assert!(rt; show.sub(1) == Some(set) && show.group(1) == Some(set));
+        let answers = list_in_each(&rt, &mut show, pairs);
+        assert!(rt; answers == [Ok(()); 3]);
+        assert!(rt; each_lists(&show, &[(2, 128), (7, 0)]));
     }
     Ok(())
 }
@@ -150,26 +165,12 @@ fn lists_of_patches(rt: HostRuntime) -> Result<(), Fail> {
 #[test]
 fn lists_beyond_their_range(rt: HostRuntime) -> Result<(), Fail> {
     let mut show = Show::new(rt.alloc());
-    show.open_cue(1)?;
-    show.open_sub(1)?;
-    show.open_group(1)?;
+    open_each(&mut show)?;
     for channel in [0, 4097] {
-        let pairs = &[(1, 255), (channel, 255)];
-        assert!(rt;
-            list_in_cue(&rt, &mut show, 1, pairs) == LIMIT,
-            "channel {channel}"
-        );
-        assert!(rt;
-            list_in_sub(&rt, &mut show, 1, pairs) == LIMIT,
-            "channel {channel}"
-        );
-        assert!(rt;
-            list_in_group(&rt, &mut show, 1, pairs) == LIMIT,
-            "channel {channel}"
-        );
+        let answers = list_in_each(&rt, &mut show, &[(1, 255), (channel, 255)]);
+        assert!(rt; answers == [LIMIT; 3], "channel {channel}");
     }
-    assert!(rt; show.cue(1).is_some_and(|cue| cue.pairs().is_empty()));
-    assert!(rt; show.sub(1) == Some([].as_slice()) && show.group(1) == Some([].as_slice()));
+    assert!(rt; each_lists(&show, &[]));
     for (dimmer, channel) in [(0, 1), (8193, 0), (2, 4097)] {
         let entries = &[(1, (1, 255)), (dimmer, (channel, 255))];
         assert!(rt; show.set_patches(entries) == LIMIT, "dimmer {dimmer}");
