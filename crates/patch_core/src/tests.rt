@@ -98,17 +98,38 @@ fn drawn_slot(
     frames.get(usize::from(k))?.get(place).copied()
 }
 
+// The same slot, drawn alone and drawn together with all others.
+fn both_slots(
+    rt: &impl Abort,
+    rig: &Rig,
+    k: u16,
+    levels: &[u16],
+    grand: u8,
+    place: usize,
+) -> [Option<u8>; 2] {
+    let mut wide = [0; 4096];
+    for (level, fine) in wide.iter_mut().zip(levels) {
+        *level = u32::from(*fine);
+    }
+    [
+        slot_of(rt, rig, k, &wide, grand, place),
+        drawn_slot(rt, rig, k, levels, grand, place),
+    ]
+}
+
+// A rig of the patched show.
+fn small_rig(rt: &impl Abort, alloc: Global) -> Result<Rig, BuildFault> {
+    let mut show = Show::new(alloc);
+    patched_show(&mut show)?;
+    Ok(Rig::new(alloc, &show, 1).expect(rt, "a rig"))
+}
+
 #[test]
 fn frame_half(rt: HostRuntime) -> Result<(), Fail> {
-    let mut show = Show::new(rt.alloc());
-    patched_show(&mut show)?;
-    let rig = Rig::new(rt.alloc(), &show, 1).expect(&rt, "a rig");
-    let mut levels = vec![in rt.alloc(); 0; 4096]?;
+    let rig = small_rig(&rt, rt.alloc())?;
+    let mut levels = [0; 4096];
     levels[6] = 32640;
     levels[4095] = 65025;
-    let mut fine = vec![in rt.alloc(); 0; 4096]?;
-    fine[6] = 32640;
-    fine[4095] = 65025;
     for (k, grand, place, slot) in [
         (0, 255, 0, 64),
         (0, 255, 1, 0),
@@ -123,29 +144,32 @@ fn frame_half(rt: HostRuntime) -> Result<(), Fail> {
         (15, 128, 511, 128),
         (15, 128, 510, 0),
     ] {
-        assert!(rt;
-            slot_of(&rt, &rig, k, &levels, grand, place) == Some(slot),
-            "place {place} of {k} at {grand}"
-        );
-        assert!(rt;
-            drawn_slot(&rt, &rig, k, &fine, grand, place) == Some(slot),
-            "drawn place {place} of {k} at {grand}"
-        );
+        let found = both_slots(&rt, &rig, k, &levels, grand, place);
+        assert!(rt; found == [Some(slot); 2], "place {place} of {k} at {grand}");
     }
     Ok(())
 }
 
-// Each dimmer of the second universe is patched, at full, and all but one of the third.
-#[test]
-fn whole_universe(rt: HostRuntime) -> Result<(), Fail> {
-    let mut show = Show::new(rt.alloc());
+fn patch_whole_universes(show: &mut Show) -> Result<(), BuildFault> {
     for place in 0..512 {
         show.set_patch(513 + place, 4096 - 8 * place, 255)?;
         show.set_patch(1025 + place, 1 + place, 255)?;
     }
-    show.set_patch(1100, 0, 255)?;
-    let rig = Rig::new(rt.alloc(), &show, 1).expect(&rt, "a rig");
-    let mut levels = vec![in rt.alloc(); 0; 4096]?;
+    show.set_patch(1100, 0, 255)
+}
+
+// A rig in which each dimmer of the second universe is patched, at full, and all but one of the
+// third.
+fn whole_rig(rt: &impl Abort, alloc: Global) -> Result<Rig, BuildFault> {
+    let mut show = Show::new(alloc);
+    patch_whole_universes(&mut show)?;
+    Ok(Rig::new(alloc, &show, 1).expect(rt, "a rig"))
+}
+
+#[test]
+fn whole_universe(rt: HostRuntime) -> Result<(), Fail> {
+    let rig = whole_rig(&rt, rt.alloc())?;
+    let mut levels = [0; 4096];
     for place in 0..4096 {
         levels[place] = 255 * (place % 256) as u16;
     }
@@ -153,8 +177,8 @@ fn whole_universe(rt: HostRuntime) -> Result<(), Fail> {
     for place in 0..512 {
         let whole = (255 - 8 * place % 256) as u8;
         let other = if place == 75 { 0 } else { (place % 256) as u8 };
-        assert!(rt; frames[1][place] == whole, "place {place} of 1");
-        assert!(rt; frames[2][place] == other, "place {place} of 2");
+        let found = (frames[1][place], frames[2][place]);
+        assert!(rt; found == (whole, other), "place {place}");
     }
     Ok(())
 }
@@ -184,11 +208,9 @@ fn redraws(
 // Channel 7 has dimmers in two universes, channels 3 and 5 have none, and 4096 has the last one.
 #[test]
 fn redraw_of_some_channels(rt: HostRuntime) -> Result<(), Fail> {
-    let mut show = Show::new(rt.alloc());
-    patched_show(&mut show)?;
-    let rig = Rig::new(rt.alloc(), &show, 1).expect(&rt, "a rig");
-    let mut levels = vec![in rt.alloc(); 0; 4096]?;
-    let mut frames = vec![in rt.alloc(); [0; 512]; 16]?;
+    let rig = small_rig(&rt, rt.alloc())?;
+    let mut levels = [0; 4096];
+    let mut frames = [[0; 512]; 16];
     assert!(rt; redraws(&rt, &rig, &mut frames, &mut levels, &[7, 3, 7], 65025));
     assert!(rt; redraws(&rt, &rig, &mut frames, &mut levels, &[4096, 1, 2], 255));
     assert!(rt; redraws(&rt, &rig, &mut frames, &mut levels, &[7, 4096, 5], 32640));
@@ -203,11 +225,21 @@ fn fault_of(alloc: Global, show: &Show, base: u16) -> Option<RigFault> {
     }
 }
 
+// Dimmer 1 was patched and is not any more.
+fn patch_no_dimmer(show: &mut Show) -> Result<(), BuildFault> {
+    show.set_patch(1, 1, 255)?;
+    show.set_patch(1, 0, 255)
+}
+
+// Whether a rig has this fault at the base, and the universes have no numbers just where it does.
+fn has_fault(alloc: Global, show: &Show, base: u16, fault: Option<RigFault>) -> bool {
+    fault_of(alloc, show, base) == fault && has_numbers(show, base) == fault.is_none()
+}
+
 #[test]
 fn universe_limit(rt: HostRuntime) -> Result<(), Fail> {
     let mut show = Show::new(rt.alloc());
-    show.set_patch(1, 1, 255)?;
-    show.set_patch(1, 0, 255)?;
+    patch_no_dimmer(&mut show)?;
     for (base, fault) in [
         (0, Some(RigFault::Universe)),
         (1, None),
@@ -215,13 +247,11 @@ fn universe_limit(rt: HostRuntime) -> Result<(), Fail> {
         (64000, Some(RigFault::Universe)),
         (65535, Some(RigFault::Universe)),
     ] {
-        assert!(rt; fault_of(rt.alloc(), &show, base) == fault, "base {base}");
-        assert!(rt; has_numbers(&show, base) == fault.is_none(), "base {base}");
+        assert!(rt; has_fault(rt.alloc(), &show, base, fault), "base {base}");
     }
     show.set_patch(513, 1, 255)?;
     for (base, fault) in [(63998, None), (63999, Some(RigFault::Universe))] {
-        assert!(rt; fault_of(rt.alloc(), &show, base) == fault, "base {base}");
-        assert!(rt; has_numbers(&show, base) == fault.is_none(), "base {base}");
+        assert!(rt; has_fault(rt.alloc(), &show, base, fault), "base {base}");
     }
     let rig = Rig::new(rt.alloc(), &show, 63998).expect(&rt, "a rig");
     assert!(rt; rig.base() == 63998);
