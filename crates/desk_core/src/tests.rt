@@ -15,32 +15,48 @@ fn add_cue(rt: &impl Abort, show: &mut Show, n: u32, channel: u16) -> Result<(),
     show.cue_level(n, channel, 255)
 }
 
+fn rise_over(rt: &impl Abort, show: &mut Show, n: u32, time: u16) {
+    let rate = Rate {
+        time: u32::from(time),
+        delay: 0,
+    };
+    assert!(rt; show.cue(n).is_some());
+    show.set_up(n, rate);
+}
+
+fn fall_over(rt: &impl Abort, show: &mut Show, n: u32, time: u16) {
+    let rate = Rate {
+        time: u32::from(time),
+        delay: 0,
+    };
+    assert!(rt; show.cue(n).is_some());
+    show.set_down(n, rate);
+}
+
+fn add_two_cues(rt: &impl Abort, show: &mut Show) -> Result<(), BuildFault> {
+    add_cue(rt, show, 1000, 1)?;
+    add_cue(rt, show, 2000, 2)?;
+    rise_over(rt, show, 1000, 5000);
+    rise_over(rt, show, 2000, 2000);
+    fall_over(rt, show, 2000, 4000);
+    Ok(())
+}
+
+fn add_sub_and_dimmers(rt: &impl Abort, show: &mut Show) -> Result<(), BuildFault> {
+    show.open_sub(1)?;
+    assert!(rt; show.sub(1).is_some());
+    show.sub_level(1, 1, 128)?;
+    show.set_patch(1, 1, 255)?;
+    show.set_patch(2, 2, 255)
+}
+
 // Cue 1 brings channel 1 to full over five seconds; cue 2 brings channel 2 to full over two, and
 // channel 1 out over four. Submaster 1 has channel 1 at half. Dimmers 1 and 2 are patched to
 // channels 1 and 2 at full.
 fn small_show(rt: &impl Abort, alloc: Global) -> Result<Show, BuildFault> {
     let mut show = Show::new(alloc);
-    add_cue(rt, &mut show, 1000, 1)?;
-    add_cue(rt, &mut show, 2000, 2)?;
-    for (n, time) in [(1000, 5000u16), (2000, 2000)] {
-        let rate = Rate {
-            time: u32::from(time),
-            delay: 0,
-        };
-        assert!(rt; show.cue(n).is_some());
-        show.set_up(n, rate);
-    }
-    let slow = Rate {
-        time: 4000,
-        delay: 0,
-    };
-    assert!(rt; show.cue(2000).is_some());
-    show.set_down(2000, slow);
-    show.open_sub(1)?;
-    assert!(rt; show.sub(1).is_some());
-    show.sub_level(1, 1, 128)?;
-    show.set_patch(1, 1, 255)?;
-    show.set_patch(2, 2, 255)?;
+    add_two_cues(rt, &mut show)?;
+    add_sub_and_dimmers(rt, &mut show)?;
     Ok(show)
 }
 
@@ -369,27 +385,30 @@ fn follow_after_end(rt: HostRuntime) -> Result<(), Fail> {
     )
 }
 
-fn universe_fault(alloc: Global, show: &Show, base: u16) -> Option<RigFault> {
-    match Desk::<PlainFader>::open(alloc, show, base) {
-        Ok(_) => None,
-        Err(fault) => Some(fault),
-    }
+// How many universes a desk has, and the number of the first.
+fn universes(alloc: Global, show: &Show, base: u16) -> Result<(usize, Option<u16>), RigFault> {
+    let desk: Desk<PlainFader> = Desk::open(alloc, show, base)?;
+    let universes = desk.universes();
+    Ok((universes.len(), universes.first().copied()))
+}
+
+// Dimmer 1 was patched and is not any more.
+fn patch_no_dimmer(show: &mut Show) -> Result<(), BuildFault> {
+    show.set_patch(1, 1, 255)?;
+    show.set_patch(1, 0, 255)
 }
 
 #[test]
 fn universe_limit(rt: HostRuntime) -> Result<(), Fail> {
     let mut show = Show::new(rt.alloc());
-    show.set_patch(1, 1, 255)?;
-    show.set_patch(1, 0, 255)?;
-    let desk: Desk<PlainFader> = Desk::open(rt.alloc(), &show, 1)?;
-    assert!(rt; desk.universes().is_empty());
+    patch_no_dimmer(&mut show)?;
+    assert_eq!(rt; universes(rt.alloc(), &show, 1), Ok((0, None)));
     show.set_patch(513, 1, 255)?;
-    let desk: Desk<PlainFader> = Desk::open(rt.alloc(), &show, 63998)?;
-    assert!(rt; desk.universes().as_slice() == [63999].as_slice());
+    assert_eq!(rt; universes(rt.alloc(), &show, 63998), Ok((1, Some(63999))));
     for base in [0, 63999, 64000] {
         assert_eq!(rt;
-            universe_fault(rt.alloc(), &show, base),
-            Some(RigFault::Universe),
+            universes(rt.alloc(), &show, base),
+            Err(RigFault::Universe),
             "base {base}"
         );
     }
