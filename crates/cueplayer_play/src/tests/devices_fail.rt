@@ -31,7 +31,6 @@ fn each_read_fails(rt: HostRuntime) -> Result<(), Fail> {
             read: u64::from(read),
             ..NOTHING_FAILS
         };
-        let run = Run::of(&rt, alloc, SMALL, 1, FADE, 7, failing);
         let given = (usize::from(read) * 7).min(FADE.len());
         let lines = FADE[..given].iter().filter(|byte| **byte == b'\n').count();
         let text = text_of(alloc, lines)?;
@@ -40,6 +39,7 @@ fn each_read_fails(rt: HostRuntime) -> Result<(), Fail> {
         } else {
             Ok(())
         };
+        let run = Run::of(&rt, alloc, SMALL, 1, FADE, 7, failing);
         assert!(rt; run.is(answer, text.as_bytes()));
     }
     Ok(())
@@ -53,8 +53,9 @@ fn four_lines_and_a_failed_read(rt: HostRuntime) -> Result<(), Fail> {
         ..NOTHING_FAILS
     };
     let input = b"0 go\n0 tick\n2500 tick\n2525 tick\n";
+    let text = text_of(rt.alloc(), 4)?;
     let run = Run::of(&rt, rt.alloc(), SMALL, 1, input, 4096, failing);
-    assert!(rt; run.is(Err(RunFault::Device), text_of(rt.alloc(), 4)?.as_bytes()));
+    assert!(rt; run.is(Err(RunFault::Device), text.as_bytes()));
     assert_eq!(rt; run.link.sends.len(), 3);
     Ok(())
 }
@@ -66,41 +67,66 @@ fn each_write_fails(rt: HostRuntime) -> Result<(), Fail> {
             write: u64::from(write),
             ..NOTHING_FAILS
         };
-        let run = Run::of(&rt, rt.alloc(), SMALL, 1, FADE, 4096, failing);
         let text = text_of(rt.alloc(), usize::from(write))?;
+        let run = Run::of(&rt, rt.alloc(), SMALL, 1, FADE, 4096, failing);
         assert!(rt; run.is(Err(RunFault::Device), text.as_bytes()));
         assert_eq!(rt; run.link.sends.len(), usize::from(write));
     }
     Ok(())
 }
 
+// Sixty-eight ticks, 25 ms apart.
+fn ticks(alloc: Global) -> Result<String, AllocError> {
+    let mut input = String::new(alloc);
+    for tick in 0u32..68 {
+        input.push_str(format!(in alloc; "{} tick\n", tick * 25)?.as_str())?;
+    }
+    Ok(input)
+}
+
+// What is printed of a tick where the send of this packet fails.
+fn tick_line(alloc: Global, moment: u32, lost: usize) -> Result<String, AllocError> {
+    let sending = [0u32, 25, 50, 75, 875, 1675];
+    match sending.iter().position(|at| *at == moment) {
+        None => format!(in alloc; "{moment} live 1:-\n"),
+        Some(number) if number == lost => format!(in alloc; "{moment} live 1:x{number}\n"),
+        Some(number) => format!(in alloc; "{moment} live 1:s{number}\n"),
+    }
+}
+
+// What is printed of all of them.
+fn tick_lines(alloc: Global, lost: usize) -> Result<String, AllocError> {
+    let mut text = String::new(alloc);
+    for tick in 0u32..68 {
+        text.push_str(tick_line(alloc, tick * 25, lost)?.as_str())?;
+    }
+    Ok(text)
+}
+
+// Six packets were offered, and the send of this one alone failed.
+fn loses(run: &Run, lost: usize) -> bool {
+    for number in 0u8..6 {
+        let place = usize::from(number);
+        if run.packet(place) != Some((1, number, place == lost)) {
+            return false;
+        }
+    }
+    run.link.sends.len() == 6
+}
+
 #[test]
 fn each_send_fails(rt: HostRuntime) -> Result<(), Fail> {
     let alloc = rt.alloc();
-    let sending = [0u32, 25, 50, 75, 875, 1675];
+    let input = ticks(alloc)?;
     for lost in 0usize..6 {
-        let mut input = String::new(alloc);
-        let mut text = String::new(alloc);
-        for tick in 0u32..68 {
-            let moment = tick * 25;
-            input.push_str(format!(in alloc; "{moment} tick\n")?.as_str())?;
-            let line = match sending.iter().position(|at| *at == moment) {
-                None => format!(in alloc; "{moment} live 1:-\n")?,
-                Some(number) if number == lost => format!(in alloc; "{moment} live 1:x{number}\n")?,
-                Some(number) => format!(in alloc; "{moment} live 1:s{number}\n")?,
-            };
-            text.push_str(line.as_str())?;
-        }
+        let text = tick_lines(alloc, lost)?;
         let failing = Failing {
             send: lost as u64,
             ..NOTHING_FAILS
         };
         let run = Run::of(&rt, alloc, SMALL, 1, input.as_bytes(), 100, failing);
         assert!(rt; run.is(Err(RunFault::Lost(1)), text.as_bytes()));
-        assert_eq!(rt; run.link.sends.len(), 6);
-        for (place, number) in [(0usize, 0u8), (1, 1), (2, 2), (3, 3), (4, 4), (5, 5)] {
-            assert_eq!(rt; run.packet(place), Some((1, number, place == lost)));
-        }
+        assert!(rt; loses(&run, lost));
     }
     Ok(())
 }

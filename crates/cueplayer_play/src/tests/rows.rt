@@ -4,7 +4,7 @@ use cueplayer_faults::RunFault;
 use devices::memory::{MemoryLink, MemoryOutput};
 use devices::{Feed, LinkFault};
 use fade_core::PlainFader;
-use std::alloc::Global;
+use std::alloc::{AllocError, Global};
 use std::process::Abort;
 use std::test::Fail;
 
@@ -81,6 +81,17 @@ fn play_lost(rt: HostRuntime) {
     assert_eq!(rt; run.link.sends.len(), 2);
 }
 
+// A line that spaces fill up to this length, and its end.
+fn filled(alloc: Global, front: &str, length: usize, end: &str) -> Result<String, AllocError> {
+    let mut line = String::new(alloc);
+    line.push_str(front)?;
+    for _ in front.len()..length {
+        line.push(' ')?;
+    }
+    line.push_str(end)?;
+    Ok(line)
+}
+
 #[test]
 fn long_line(rt: HostRuntime) -> Result<(), Fail> {
     let alloc = rt.alloc();
@@ -98,12 +109,7 @@ fn long_line(rt: HostRuntime) -> Result<(), Fail> {
         ("0 tick", 201, "", Err(RunFault::Line(1)), ""),
     ];
     for (front, length, end, answer, text) in &rows {
-        let mut input = String::new(alloc);
-        input.push_str(front)?;
-        for _ in front.len()..*length {
-            input.push(' ')?;
-        }
-        input.push_str(end)?;
+        let input = filled(alloc, front, *length, end)?;
         let run = plays(&rt, alloc, input.as_bytes());
         assert!(rt; run.is(*answer, text.as_bytes()));
     }
@@ -124,26 +130,40 @@ fn base_universe(rt: HostRuntime) {
     assert!(rt; run.is(Err(RunFault::Base), b"") && run.link.sends.len() == 0);
 }
 
-#[test]
-fn sixteen_universes(rt: HostRuntime) -> Result<(), Fail> {
-    let alloc = rt.alloc();
+// A show that patches the first dimmer of each universe.
+fn widest_show(alloc: Global) -> Result<String, AllocError> {
     let mut show = String::new(alloc);
-    let mut text = format!(in alloc; "0 live")?;
     for k in 0u16..16 {
         show.push_str(format!(in alloc; "PATCH 1 1<{}@FL\n", k * 512 + 1)?.as_str())?;
+    }
+    Ok(show)
+}
+
+// What is printed of its first tick.
+fn widest_line(alloc: Global) -> Result<String, AllocError> {
+    let mut text = format!(in alloc; "0 live")?;
+    for k in 0u16..16 {
         text.push_str(format!(in alloc; " {}:s0", k + 1)?.as_str())?;
     }
     text.push_str("\n")?;
+    Ok(text)
+}
+
+#[test]
+fn sixteen_universes(rt: HostRuntime) -> Result<(), Fail> {
+    let alloc = rt.alloc();
+    let show = widest_show(alloc)?;
+    let text = widest_line(alloc)?;
     let show = show.as_bytes();
     let run = Run::of(&rt, alloc, show, 1, b"0 tick\n", 4096, NOTHING_FAILS);
     assert!(rt; run.is(Ok(()), text.as_bytes()));
     for place in 0u16..16 {
         assert_eq!(rt; run.packet(usize::from(place)), Some((place + 1, 0, false)));
     }
-    let run = Run::of(&rt, alloc, show, 63985, b"", 4096, NOTHING_FAILS);
-    assert!(rt; run.is(Err(RunFault::Base), b""));
-    let run = Run::of(&rt, alloc, show, 63984, b"", 4096, NOTHING_FAILS);
-    assert!(rt; run.is(Ok(()), b""));
+    for (base, answer) in [(63985, Err(RunFault::Base)), (63984, Ok(()))] {
+        let run = Run::of(&rt, alloc, show, base, b"", 4096, NOTHING_FAILS);
+        assert!(rt; run.is(answer, b""), "base {base}");
+    }
     Ok(())
 }
 
