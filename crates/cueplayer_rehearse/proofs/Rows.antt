@@ -13,7 +13,7 @@ use Rattle.sacn_packet.specs.declared.unreadable.Unreadable.TheVariants.{Short}
 use Rattle.sacn_receiver.specs.declared.answer.Ignored.TheVariants.{OutOfSequence, Unreadable}
 use Rattle.sacn_receiver.specs.declared.answer.Taken.{Taken}
 use Rattle.sacn_source.specs.declared.offered.Offered.TheVariants.{Sent}
-use Rattle.script_text.specs.Said.{setup}
+use Rattle.script_text.specs.Forms.{setup}
 use Rattle.script_text.specs.Script.{Parts, script_of}
 use Rattle.show_core.specs.Tables.{Tables}
 use Rattle.wire_laws.specs.declared.event.Event.{Event}

@@ -10,7 +10,8 @@ use Rattle.wire_laws.specs.declared.event.What.TheVariants as what
 use Rattle.script_text.specs.declared.said.Said.{Said}
 use Rattle.script_text.specs.declared.said.Said.TheVariants.{Nothing, Console, Receiver, Stray}
 use Rattle.script_text.specs.declared.said.Said.TheVariants.{Malformed}
-use Rattle.script_text.specs.Said.{said, setup, at}
+use Rattle.script_text.specs.Forms.{setup}
+use Rattle.script_text.specs.Said.{said, at}
 use Rattle.script_text.specs.Script.{script_of}
 
 -- what a line says above all events

@@ -1,9 +1,10 @@
--- The forms of a script's words: what a word spells, or `None`.
+-- The forms of a script's words: what a word spells, or `None`; and the console of a header.
 use Rattle.std.specs.Prelude.{ℕ, List, [], ◌∷◌, ◌==◌, if◌then◌else◌, Option, Some, None}
-use Rattle.std.specs.Prelude.{option_and_then, Result, Ok, Err}
+use Rattle.std.specs.Prelude.{codes, option_and_then, Result, Ok, Err}
 use Rattle.ascii_text.specs.Forms.{whole_of}
 use Rattle.hex.specs.Hex.{decode_of}
 use Rattle.hex.specs.declared.error.FromHexError.{FromHexError}
+use Rattle.wire_laws.specs.declared.setup.Setup.{Setup}
 
 -- a universe number: 1 to 63999 (E1.31-2018, universe)
 abbrev pub universe_of : List ℕ → Option ℕ
@@ -27,3 +28,11 @@ abbrev pub digits_in : List (List ℕ) → Option (List ℕ)
 digits_in [] = Some []
 digits_in (digits ∷ []) = Some digits
 digits_in (digits ∷ word ∷ rest) = None
+
+-- a console: it plays the one show that there is, and the source's name is the program's
+abbrev pub setup : ℕ → ℕ → List ℕ → Setup
+setup base priority cid = record {
+  show = 0;
+  base = base;
+  identity = record { cid = cid; name = codes "cueplayer"; priority = priority };
+}

@@ -4,23 +4,14 @@ use Rattle.std.specs.Prelude.{length, Option, Some, None, option_map, option_and
 use Rattle.ascii_text.specs.Forms.{same_word, moment_of, whole_of}
 use Rattle.uuid.specs.Text.{parsed}
 use Rattle.console_text.specs.Spelling.{command_of}
-use Rattle.wire_laws.specs.declared.setup.Setup.{Setup}
 use Rattle.wire_laws.specs.declared.event.What.{What}
 use Rattle.wire_laws.specs.declared.event.What.TheVariants.{Order, Tick, Deliver, Show}
-use Rattle.script_text.specs.Forms.{universe_of, place_of, bytes_of, digits_in}
+use Rattle.script_text.specs.Forms.{universe_of, place_of, bytes_of, digits_in, setup}
 use Rattle.script_text.specs.declared.said.Said.{Said}
 use Rattle.script_text.specs.declared.said.Said.TheVariants.{Nothing, Console, Receiver, Happens}
 use Rattle.script_text.specs.declared.said.Said.TheVariants.{Stray, Malformed}
 
 -- ---- headers
-
--- a console: it plays the one show that there is, and the source's name is the program's
-abbrev pub setup : ℕ → ℕ → List ℕ → Setup
-setup base priority cid = record {
-  show = 0;
-  base = base;
-  identity = record { cid = cid; name = codes "cueplayer"; priority = priority };
-}
 
 -- `console BASE PRIORITY UUID`: a priority is 0 to 200 (E1.31-2018, priority)
 abbrev pub console_with : List (List ℕ) → Option Said

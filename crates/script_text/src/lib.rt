@@ -10,6 +10,7 @@
 //! ```
 #![tactic(auto)]
 
+mod console_line;
 mod hex_bytes;
 mod said;
 mod script;

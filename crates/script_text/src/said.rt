@@ -6,13 +6,13 @@ ghost use Rattle.script_text.specs.Said.{console_with, receiver_with};
 ghost use Rattle.script_text.specs.Said.{order_with, tick_with, deliver_with, stray_with};
 ghost use Rattle.script_text.specs.Said.{slots_with, event_with, spelled, said, delivered};
 
+use crate::console_line::ConsoleLine;
 use crate::hex_bytes::HexBytes;
 use ascii_text::{Words, moment, same_word, whole};
 use console_text::command_in;
-use sacn_packet::{SourceName, TOP_UNIVERSE};
-use sacn_source::Identity;
+use sacn_packet::TOP_UNIVERSE;
 use uuid::Uuid;
-use wire_laws::{Event, Setup, What};
+use wire_laws::{Event, What};
 
 // What a line says.
 #[derive(Debug, Drop)]
@@ -20,7 +20,7 @@ pub enum Said<'a> {
     // It has no words.
     Nothing,
     // There is one more console.
-    Console(Setup),
+    Console(ConsoleLine),
     // There is one more receiver, of this universe.
     Receiver(u16),
     // An event that is not a stray.
@@ -85,12 +85,10 @@ fn console<'a>(operands: &'a [u8]) -> Option<Said<'a>>
     let base = universe(base)?;
     let priority = whole(priority, 200)?;
     let cid = cid_of(cid)?;
-    let name = SourceName::new("cueplayer").unwrap();
-    let identity = Identity::new(cid, name, priority as u8)?;
-    Some(Said::Console(Setup {
-        show: 0,
+    Some(Said::Console(ConsoleLine {
         base,
-        identity,
+        priority: priority as u8,
+        cid,
     }))
 }
 

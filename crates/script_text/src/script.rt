@@ -65,7 +65,7 @@ impl Script {
     {
         match said {
             Said::Nothing | Said::Malformed => {}
-            Said::Console(setup) => self.consoles.push(setup)?,
+            Said::Console(line) => self.consoles.push(line.setup())?,
             Said::Receiver(universe) => self.receivers.push(universe)?,
             Said::Happens(event) => self.push_event(line, event)?,
             Said::Stray {
