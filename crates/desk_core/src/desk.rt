@@ -302,7 +302,9 @@ impl<F: Fader> Desk<F> {
         self.last_tick = Some(moment);
     }
 
-    // Draws these channels anew: each other one has the level that it had.
+    // Draws these channels anew: each other one has the level that it had. It is called, as is
+    // `tick_all`, so that a tick at which nothing moves saves no registers.
+    #[inline(never)]
     fn tick_few(&mut self, moment: u64, channels: &[u16])
         requires not_before { self.old.last_moment ≤ moment }
         requires below { moment < 2 ^ 48 }
@@ -339,6 +341,7 @@ impl<F: Fader> Desk<F> {
     }
 
     // Draws every channel.
+    #[inline(never)]
     fn tick_all(&mut self, moment: u64)
         requires not_before { self.old.last_moment ≤ moment }
         requires below { moment < 2 ^ 48 }
