@@ -1,36 +1,15 @@
--- What a change of the value at its place makes of the map.
-use Rattle.std.proofs.Common.{◌≡◌, ℕ, IsTrue, List, [], ◌∷◌, get_or, set, Some, None, true, false}
-use Rattle.std.proofs.Common.{cond, refl, sym, ap, ◌∙◌}
+-- What a change of the value at a key makes of the map.
+use Rattle.std.proofs.Common.{◌≡◌, ℕ, List, [], ◌∷◌, Option, Some, None, true, false}
+use Rattle.std.proofs.Common.{Result, OnOk, OnErr, cond, refl, sym, ap, ◌∙◌}
 use Rattle.std.specs.Option.{option_map_or}
 use Rattle.std.specs.Ordering.{nat_cmp, is_eq, eq_by_cmp}
 use Rattle.std.specs.Cmp.{nat_cmp_total, tied_itself}
 use Rattle.std.specs.FinMap as map
+use Rattle.std.proofs.lemmas.Result.{on_ok_weaker, on_err_weaker}
 use Rattle.std.proofs.lemmas.Map.Views.{tells_apart}
 use Rattle.std.proofs.lemmas.Map.Lookups.{exact_unsigned}
-use Rattle.show_core.specs.Place.{IsAt, IsGap}
 use Rattle.show_core.specs.Tables.{CueMap, MasterMap}
 use Rattle.show_core.specs.Builders.{changed, with_bytes, with_levels, with_all_listed}
-use Rattle.show_core.proofs.Sorted.{lookup_at, lookup_gap, from_sorted-put, set_at}
-
-module _ {V : Type 0} (es : List (ℕ × V)) (sorted : IsTrue (map.is_sorted nat_cmp es))
-    (m : map.FinMap nat_cmp V) (seen : map.from_sorted es ≡ m) (n : ℕ) (change : V → V) where
-  pub changed_at : (i : ℕ) (e : ℕ × V) → IsAt nat_cmp es n i → e ≡ get_or es i e
-      → map.from_sorted (set es i (e.0, change e.1)) ≡ option_map_or
-      (λ v. map.insert m n (change v)) (map.get m n) m
-  changed_at i e at is =
-      let here : map.get m n ≡ Some e.1 =
-      rw seen at (sym (lookup_at nat_cmp nat_cmp_total es sorted n i e at is)) in
-      rw (set_at nat_cmp nat_cmp_total es sorted n i e (change e.1) at is, here)
-      (from_sorted-put nat_cmp nat_cmp_total es sorted n (change e.1)
-      ∙ ap (λ x. map.insert x n (change e.1)) seen)
-
-  -- where the key is not there nothing changes
-  pub changed_gap : (i : ℕ) → IsGap nat_cmp es n i
-      → m ≡ option_map_or (λ v. map.insert m n (change v)) (map.get m n) m
-  changed_gap i gap =
-      let none : map.get m n ≡ None =
-      rw seen at (sym (lookup_gap nat_cmp nat_cmp_total es sorted n i gap)) in
-      ap (λ o. option_map_or (λ v. map.insert m n (change v)) o m) (sym none)
 
 module _ {V : Type 0} where
   same : (a b : map.FinMap nat_cmp V) → ((q : ℕ) → map.get a q ≡ map.get b q) → a ≡ b
@@ -86,6 +65,22 @@ module _ {V : Type 0} where
             ap (λ o. option_map_or (λ w. map.insert once n (g w)) o once) (get_inserted m n (f v))
             ∙ insert_again m n (f v) (g (f v))
       ] refl
+
+-- what a change of the record at a key left, which was there
+module _ {V A E : Type 0} (m : map.FinMap nat_cmp V) (n : ℕ) (old new : V)
+    (there : ◌≡◌ {A = Option V} (Some old) (map.get m n)) (r : Result A E) where
+  pub changed_ok : (f : V → V) → OnOk r (new ≡ f old)
+      → OnOk r (map.insert m n new
+      ≡ option_map_or (λ v. map.insert m n (f v)) (map.get m n) m)
+  changed_ok f is = on_ok_weaker r (λ e. rw (← there) (ap (map.insert m n) e)) is
+
+  pub unchanged_err : OnErr r (new ≡ old) → OnErr r (map.insert m n new ≡ m)
+  unchanged_err is = on_err_weaker r (λ e. ap (map.insert m n) e ∙ insert_there m n old (sym there)) is
+
+pub changed_none : {V : Type 0} (m : map.FinMap nat_cmp V) (n : ℕ) (f : V → V)
+    → ◌≡◌ {A = Option V} None (map.get m n)
+    → m ≡ option_map_or (λ v. map.insert m n (f v)) (map.get m n) m
+changed_none m n f none = rw (← none) refl
 
 -- levels one after the other are one change of the record
 pub changed_levels : (cues : CueMap) (n : ℕ) (ps : List (ℕ × ℕ)) → with_levels cues n ps

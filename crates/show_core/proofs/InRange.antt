@@ -21,7 +21,7 @@ use Rattle.show_core.proofs.Ranges.{values-insert, values-remove, values-changed
 use Rattle.show_core.proofs.Ranges.{no_values}
 
 -- a map of records has only keys of a kind, also with one more
-opened_in_range : (P : ℕ → Type 0) (masters : MasterMap) (n : ℕ) → All P (map.keys masters) → P n
+pub opened_in_range : (P : ℕ → Type 0) (masters : MasterMap) (n : ℕ) → All P (map.keys masters) → P n
     → All P (map.keys (opened_in masters n))
 opened_in_range P masters n h p =
     elim (map.contains_key masters n)
@@ -37,19 +37,13 @@ time_fits : (t : ℕ) → IsTrue (is_time t) → t ≤ 5999990
 time_fits t h = grind (arith, nat_tests)
 
 -- the rate that a cue answers is in its range
-rate_in_range : (set other : Option Rate) → IfSome set IsRateInRange → IfSome other IsRateInRange
-    → IsRateInRange (rate_of set other)
-rate_in_range (Some rate) other here there = here
-rate_in_range None (Some rate) here there = there
-rate_in_range None None here there = (refl, refl)
-
-module _ (set other : Option Rate) (here : IfSome set IsRateInRange)
-    (there : IfSome other IsRateInRange) where
-  pub rate_time_fits : (rate_of set other).time ≤ 5999990
-  rate_time_fits = time_fits (rate_of set other).time (rate_in_range set other here there).0
-
-  pub rate_delay_fits : (rate_of set other).delay ≤ 5999990
-  rate_delay_fits = time_fits (rate_of set other).delay (rate_in_range set other here there).1
+pub rate_fits : (set other : Option Rate) → IfSome set IsRateInRange → IfSome other IsRateInRange
+    → ((rate_of set other).time ≤ 5999990) × ((rate_of set other).delay ≤ 5999990)
+rate_fits (Some rate) other here there =
+    (time_fits rate.time here.0, time_fits rate.delay here.1)
+rate_fits None (Some rate) here there =
+    (time_fits rate.time there.0, time_fits rate.delay there.1)
+rate_fits None None here there = (omega arith, omega arith)
 
 -- so is its follow-on time
 pub follow_fits : (follow : Option ℕ) → IfSome follow (λ time. IsTrue (is_time time))
@@ -88,26 +82,15 @@ module _ (t : Tables) (h : IsInRange t) where
     patch_channels = h.patch_channels;
   }
 
-  subs_in_range : (subs : MasterMap) → All (λ n. IsTrue (is_sub n)) (map.keys subs)
-      → IsInRange (record t { subs = subs })
-  subs_in_range subs s = record {
+  pub masters_in_range : (subs groups : MasterMap) → All (λ n. IsTrue (is_sub n)) (map.keys subs)
+      → All (λ n. IsTrue (is_group n)) (map.keys groups)
+      → IsInRange (record t { subs = subs; groups = groups })
+  masters_in_range subs groups s g = record {
     cues_in = h.cues_in;
     cues_fit = h.cues_fit;
     times_in = h.times_in;
     subs_in = s;
-    groups_in = h.groups_in;
-    dimmers_in = h.dimmers_in;
-    patch_channels = h.patch_channels;
-  }
-
-  groups_in_range : (groups : MasterMap) → All (λ n. IsTrue (is_group n)) (map.keys groups)
-      → IsInRange (record t { groups = groups })
-  groups_in_range groups s = record {
-    cues_in = h.cues_in;
-    cues_fit = h.cues_fit;
-    times_in = h.times_in;
-    subs_in = h.subs_in;
-    groups_in = s;
+    groups_in = g;
     dimmers_in = h.dimmers_in;
     patch_channels = h.patch_channels;
   }
@@ -162,35 +145,17 @@ module _ (t : Tables) (h : IsInRange t) where
       (omega (arith, map.len-empty nat_cmp CueData))
       (no_values CueData (λ e. HasTimes e.1))
 
-  pub opened_sub_in_range : (n : ℕ) → IsTrue (is_sub n)
-      → IsInRange (record t { subs = opened_in t.subs n })
-  opened_sub_in_range n number =
-      subs_in_range (opened_in t.subs n)
-      (opened_in_range (λ k. IsTrue (is_sub k)) t.subs n h.subs_in number)
-
   pub changed_sub_in_range : (n : ℕ) (change : LevelMap → LevelMap)
       → IsInRange (record t { subs = changed_in t.subs n change })
   changed_sub_in_range n change =
-      subs_in_range (changed_in t.subs n change)
-      (keys-changed (λ k. IsTrue (is_sub k)) t.subs n change h.subs_in)
-
-  pub no_subs_in_range : IsInRange (record t { subs = map.empty })
-  no_subs_in_range = subs_in_range map.empty (none_in LevelMap (λ n. IsTrue (is_sub n)))
-
-  pub opened_group_in_range : (n : ℕ) → IsTrue (is_group n)
-      → IsInRange (record t { groups = opened_in t.groups n })
-  opened_group_in_range n number =
-      groups_in_range (opened_in t.groups n)
-      (opened_in_range (λ k. IsTrue (is_group k)) t.groups n h.groups_in number)
+      masters_in_range (changed_in t.subs n change) t.groups
+      (keys-changed (λ k. IsTrue (is_sub k)) t.subs n change h.subs_in) h.groups_in
 
   pub changed_group_in_range : (n : ℕ) (change : LevelMap → LevelMap)
       → IsInRange (record t { groups = changed_in t.groups n change })
   changed_group_in_range n change =
-      groups_in_range (changed_in t.groups n change)
+      masters_in_range t.subs (changed_in t.groups n change) h.subs_in
       (keys-changed (λ k. IsTrue (is_group k)) t.groups n change h.groups_in)
-
-  pub no_groups_in_range : IsInRange (record t { groups = map.empty })
-  no_groups_in_range = groups_in_range map.empty (none_in LevelMap (λ n. IsTrue (is_group n)))
 
   pub patched_in_range : (dimmer channel byte : ℕ) → can_patch dimmer channel ≡ true
       → IsInRange (record t { patch = patched_with t.patch dimmer channel byte })
@@ -236,22 +201,6 @@ module _ (t : Tables) (h : IsInRange t) where
         )
       ] refl (value_in (λ v. IsTrue (is_channel v.0)) t.patch dimmer h.patch_channels)
 
-  -- a submaster that is found has a submaster's number, and a group a group's
-  pub found_sub_in_range : (n : ℕ) → OnSome (map.get t.subs n) (IsTrue (is_sub n))
-  found_sub_in_range n =
-      elim (map.get t.subs n) as (λ o. map.get t.subs n ≡ o → OnSome o (IsTrue (is_sub n))) [
-        | None ↦ λ _. tt
-        | Some levels ↦ λ is. key_in (λ k. IsTrue (is_sub k)) t.subs n h.subs_in (ap is_some is)
-      ] refl
-
-  pub found_group_in_range : (n : ℕ) → OnSome (map.get t.groups n) (IsTrue (is_group n))
-  found_group_in_range n =
-      elim (map.get t.groups n) as (λ o. map.get t.groups n ≡ o → OnSome o (IsTrue (is_group n))) [
-        | None ↦ λ _. tt
-        | Some levels ↦ λ is. key_in (λ k. IsTrue (is_group k)) t.groups n h.groups_in
-            (ap is_some is)
-      ] refl
-
 pub patches_in_range : (t : Tables) → IsInRange t → (entries : List (ℕ × (ℕ × ℕ)))
     → IsTrue (list_all (λ e. can_patch e.0 e.1.0) entries)
     → IsInRange (record t { patch = all_patched t.patch entries })
@@ -263,10 +212,13 @@ patches_in_range t h (e ∷ entries) can =
     (to_true (and_left (can_patch e.0 e.1.0) rest (from_true can))))
     entries (to_true (and_right (can_patch e.0 e.1.0) rest (from_true can)))
 
--- what is said of both or of neither
-pub on_some_both : {A B C : Type 0} (f : A → C) (g : B → C) (a : Option A) (b : Option B)
-    (P : Type 0)
-    → option_map f a ≡ option_map g b → OnSome b P → OnSome a P
-on_some_both f g None b P same h = tt
-on_some_both f g (Some x) (Some y) P same h = h
-on_some_both f g (Some x) None P same h = cc
+-- what is found under a number is there, so that the number is in the range of the keys
+pub found_key : {V A B : Type 0} (P : ℕ → Type 0) (m : map.FinMap nat_cmp V) (n : ℕ) (g : A → B)
+    (f : V → B) (found : Option A) → All P (map.keys m)
+    → option_map g found ≡ option_map f (map.get m n) → OnSome found (P n)
+found_key P m n g f None keys same = tt
+found_key P m n g f (Some x) keys same =
+    elim (map.get m n) as (λ o. map.get m n ≡ o → Some (g x) ≡ option_map f o → P n) [
+      | None ↦ λ _ not. cc
+      | Some v ↦ λ there _. key_in P m n keys (ap is_some there)
+    ] refl same

@@ -1,19 +1,20 @@
 -- Entries sorted by their keys: what a search finds, and what an edit at that place is.
 use Rattle.std.proofs.Common.{◌≡◌, ℕ, zero, suc, ◌+◌, ◌-◌, ◌<◌, Bool, true, false, IsTrue, ◌&&◌, T}
 use Rattle.std.proofs.Common.{List, [], ◌∷◌, ◌++◌, length, get_or, set, Option, Some, None, is_some}
-use Rattle.std.proofs.Common.{Result, Ok, Err, IfOk, IfErr, is_ok, IsSome, refl, sym, ap, subst}
+use Rattle.std.proofs.Common.{Result, Ok, Err, IfOk, IfErr, refl, sym, ap, subst}
 use Rattle.std.proofs.Common.{◌∙◌, arith, inl, inr}
-use Rattle.std.specs.Prelude.{map, reverse}
+use Rattle.std.specs.Prelude.{map, reverse, option_copied}
+use Rattle.std.specs.Borrow.{Bor}
 use Rattle.std.specs.declared.cmp.Ordering.{Ordering}
 use Rattle.std.specs.declared.cmp.Ordering.TheVariants.{Less, Equal, Greater}
 use Rattle.std.specs.List.{insert}
 use Rattle.std.specs.List.Sorted.{IsSearchInRange, IsBinarySearchResult, IsNonDecreasingBy}
-use Rattle.std.specs.Ordering.{is_lt, ordering_index, ordering_reverse}
-use Rattle.std.specs.Cmp.{IsTotalOrder}
-use Rattle.std.specs.FinMap.{find, put, is_sorted, from_sorted, get, entries, insert as map_insert}
+use Rattle.std.specs.Ordering.{nat_cmp, is_lt, ordering_index, ordering_reverse}
+use Rattle.std.specs.Cmp.{IsTotalOrder, nat_cmp_total}
+use Rattle.std.specs.FinMap.{FinMap, find, put, is_sorted, from_sorted, get, entries, insert as map_insert}
 use Rattle.std.specs.FinMap.{get-from_sorted, entries-from_sorted, entries-insert, same_entries_map}
 use Rattle.std.specs.FinMap.{empty, empty_of_len, len-entries, len, contains_key}
-use Rattle.std.specs.FinMap.Entries.{below_all, is_sorted-put, length-put}
+use Rattle.std.specs.FinMap.Entries.{below_all, is_sorted-put}
 use Rattle.std.proofs.lemmas.Bool.{cases_lt}
 use Rattle.std.proofs.lemmas.List.{reverse-append, map-append}
 use Rattle.std.proofs.lemmas.List.Sorted.{searchable_from_sorted}
@@ -94,14 +95,6 @@ module _ {K V : Type 0} (R : K → K → Ordering) (o : IsTotalOrder R) where
   find_at (e ∷ es) key (suc i) d h =
       rw (turned o e.0 key Less (h.smaller_before 0 d (omega arith)))
       (find_at es key i d (is_at_tail e es key i h))
-
-  pub found_at : (es : List (K × V)) (key : K) (i : ℕ) → IsAt R es key i
-      → is_some (find R key es) ≡ true
-  found_at [] key i h = absurd (omega (arith, h.in_range))
-  found_at (e ∷ es) key zero h = rw (turned o e.0 key Equal (h.has_key e)) refl
-  found_at (e ∷ es) key (suc i) h =
-      rw (turned o e.0 key Less (h.smaller_before 0 e (omega arith)))
-      (found_at es key i (is_at_tail e es key i h))
 
   pub put_gap : (es : List (K × V)) (key : K) (v : V) (i : ℕ) → IsGap R es key i
       → put R key v es ≡ insert es i (key, v)
@@ -194,55 +187,58 @@ module _ {K V : Type 0} (R : K → K → Ordering) (o : IsTotalOrder R) (es : Li
       (entries-from_sorted R (put R key v es) (from_true (sorted_put key v))
       ∙ sym (entries-insert o (from_sorted es) key v ∙ ap (put R key v) entries_are))
 
-  -- what the map gets, by the place that a search found
-  pub lookup_at : (key : K) (i : ℕ) (e : K × V) → IsAt R es key i → e ≡ get_or es i e
-      → ◌≡◌ {A = Option V} (Some e.1) (get (from_sorted {R = R} es) key)
-  lookup_at key i e at is =
-      sym (get_is key ∙ find_at R o es key i e at ∙ ap (λ x. Some x.1) (sym is))
-
-  pub lookup_gap : (key : K) (i : ℕ) → IsGap R es key i
-      → ◌≡◌ {A = Option V} None (get (from_sorted {R = R} es) key)
-  lookup_gap key i gap = sym (get_is key ∙ find_gap R o es key i gap)
-
-  pub contains_at : (key : K) (i : ℕ) → IsAt R es key i
-      → true ≡ contains_key (from_sorted {R = R} es) key
-  contains_at key i at = sym (ap is_some (get_is key) ∙ found_at R o es key i at)
-
-  pub contains_gap : (key : K) (i : ℕ) → IsGap R es key i
-      → false ≡ contains_key (from_sorted {R = R} es) key
-  contains_gap key i gap = ap is_some (lookup_gap key i gap)
-
   -- a write to the value at the place that a search found
   pub set_at : (key : K) (i : ℕ) (e : K × V) (v : V) → IsAt R es key i → e ≡ get_or es i e
       → set es i (e.0, v) ≡ put R key v es
   set_at key i e v at is = sym (put_at R o es key v i e at ∙ ap (λ x. set es i (x.0, v)) (sym is))
 
-  -- a new key is one more
-  pub length-put_new : (key : K) (v : V) → contains_key (from_sorted {R = R} es) key ≡ false
-      → length (put R key v es) ≡ length es + 1
-  length-put_new key v absent =
-      length-put R o key v es (from_true sorted) ∙ rw (← get_is key, absent) refl
-
-  pub len_is : len (from_sorted {R = R} es) ≡ length es
-  len_is = len-entries (from_sorted es) ∙ ap length entries_are
-
 pub from_sorted-nil : {K V : Type 0} (R : K → K → Ordering) → from_sorted {X = V} {R = R} [] ≡ empty
 from_sorted-nil R = empty_of_len _ (len-entries _ ∙ ap length (entries-from_sorted R [] tt))
 
--- a key of the map is found in the entries
-pub found_from_contains : {K V : Type 0} (R : K → K → Ordering) (es : List (K × V))
-    → IsTrue (is_sorted R es) → (key : K) → contains_key (from_sorted {R = R} es) key ≡ true
-    → IsSome (find R key es)
-found_from_contains R es sorted key there =
-    ap is_some (sym (get-from_sorted R es key (from_true sorted))) ∙ there
+is_some_copied : {V : Type 0} (r : Option (Bor V)) → is_some r ≡ is_some (option_copied r)
+is_some_copied None = refl
+is_some_copied (Some x) = refl
 
--- whether a search found the key
-pub is_ok-place : {K V : Type 0} (R : K → K → Ordering) (o : IsTotalOrder R) (es : List (K × V))
-    → IsTrue (is_sorted R es) → (key : K) (r : Result ℕ ℕ) → IfOk r (IsAt R es key)
-    → IfErr r (IsGap R es key)
-    → is_ok r ≡ contains_key (from_sorted {R = R} es) key
-is_ok-place R o es sorted key (Ok i) at gap = contains_at R o es sorted key i at
-is_ok-place R o es sorted key (Err i) at gap = contains_gap R o es sorted key i gap
+-- what a table has, by the entries that it is seen from
+module _ {V : Type 0} (es : List (ℕ × V)) (sorted : IsTrue (is_sorted nat_cmp es))
+    (m : FinMap nat_cmp V) (seen : from_sorted es ≡ m) where
+  pub find_seen : (key : ℕ) → find nat_cmp key es ≡ get m key
+  find_seen key = sym (get_is nat_cmp nat_cmp_total es sorted key) ∙ ap (λ x. get x key) seen
+
+  -- what a search answered, whether the key is there or not
+  pub found_seen : (key : ℕ) (xs : List (ℕ × V)) (r : Option (Bor V)) → xs ≡ es
+      → option_copied r ≡ find nat_cmp key xs → option_copied r ≡ get m key
+  found_seen key xs r same found = found ∙ ap (find nat_cmp key) same ∙ find_seen key
+
+  pub has_seen : (key : ℕ) (xs : List (ℕ × V)) (r : Option (Bor V)) → xs ≡ es
+      → option_copied r ≡ find nat_cmp key xs → is_some r ≡ contains_key m key
+  has_seen key xs r same found = is_some_copied r ∙ ap is_some (found_seen key xs r same found)
+
+  pub none_seen : (key i : ℕ) → IsGap nat_cmp es key i → ◌≡◌ {A = Option V} None (get m key)
+  none_seen key i gap = sym (find_gap nat_cmp nat_cmp_total es key i gap) ∙ find_seen key
+
+  pub entries_seen : entries m ≡ es
+  entries_seen = ap entries (sym seen) ∙ entries_are nat_cmp nat_cmp_total es sorted
+
+  pub len_seen : len m ≡ length es
+  len_seen = len-entries m ∙ ap length entries_seen
+
+  pub put_seen : (key : ℕ) (v : V) → from_sorted (put nat_cmp key v es) ≡ map_insert m key v
+  put_seen key v =
+      from_sorted-put nat_cmp nat_cmp_total es sorted key v ∙ ap (λ x. map_insert x key v) seen
+
+  -- the value at the place that a search found, and what writing another one there leaves
+  module _ (key i : ℕ) (e : ℕ × V) (at : IsAt nat_cmp es key i) (is : e ≡ get_or es i e) where
+    pub value_seen : ◌≡◌ {A = Option V} (Some e.1) (get m key)
+    value_seen = ap (λ x. Some x.1) is
+        ∙ sym (find_at nat_cmp nat_cmp_total es key i e at) ∙ find_seen key
+
+    pub sorted_set : (v : V) → IsTrue (is_sorted nat_cmp (set es i (e.0, v)))
+    sorted_set v = rw (set_at nat_cmp nat_cmp_total es sorted key i e v at is)
+        (sorted_put nat_cmp nat_cmp_total es sorted key v)
+
+    pub set_seen : (v : V) → from_sorted (set es i (e.0, v)) ≡ map_insert m key v
+    set_seen v = rw (set_at nat_cmp nat_cmp_total es sorted key i e v at is) (put_seen key v)
 
 -- the keys of the entries in reverse
 pub map-reverse : {A B : Type 0} (f : A → B) (xs : List A) → map f (reverse xs) ≡ reverse (map f xs)

@@ -7,3 +7,4 @@ pub mod Readers
 pub mod Place
 pub mod Many
 pub mod Inside
+pub mod Lends

@@ -1,6 +1,7 @@
 ghost use Rattle.std.specs.Prelude.{◌≡◌, ◌≤◌, IfOk, IfSome};
 ghost use Rattle.std.specs.FinMap as map;
-ghost use Rattle.show_core.specs.Readers.{HasChannels, HasTimes, rate_of, level_in};
+ghost use Rattle.show_core.specs.Readers.{HasChannels, HasTimes, IsRateInRange};
+ghost use Rattle.show_core.specs.Readers.{rate_of, level_in};
 
 use crate::levels::Levels;
 use crate::rate::Rate;
@@ -83,10 +84,7 @@ impl<'a> Cue<'a> {
         ensures time { result.time ≤ 5999990 }
         ensures delay { result.delay ≤ 5999990 }
     {
-        self.data
-            .up
-            .or(self.data.down)
-            .unwrap_or(Rate { time: 0, delay: 0 })
+        rate_of(self.data.up, self.data.down)
     }
 
     /// The rate of falling levels: the one set last, else that of rising levels, else zeros.
@@ -96,10 +94,7 @@ impl<'a> Cue<'a> {
         ensures time { result.time ≤ 5999990 }
         ensures delay { result.delay ≤ 5999990 }
     {
-        self.data
-            .down
-            .or(self.data.up)
-            .unwrap_or(Rate { time: 0, delay: 0 })
+        rate_of(self.data.down, self.data.up)
     }
 
     /// The follow-on time in milliseconds, at most 5,999,990: so long after the move to this cue
@@ -110,4 +105,15 @@ impl<'a> Cue<'a> {
     {
         self.data.follow
     }
+}
+
+// The rate that is set, else the other's, else zeros.
+fn rate_of(set: Option<Rate>, other: Option<Rate>) -> Rate
+    requires set { IfSome set IsRateInRange }
+    requires other { IfSome other IsRateInRange }
+    ensures rate { result ≡ rate_of set other }
+    ensures time { result.time ≤ 5999990 }
+    ensures delay { result.delay ≤ 5999990 }
+{
+    set.or(other).unwrap_or(Rate { time: 0, delay: 0 })
 }

@@ -1,6 +1,8 @@
 ghost use Rattle.std.specs.Prelude.{◌≡◌, IsTrue, IsOk, IfOk, OnOk, OnErr, IfSome, []};
 ghost use Rattle.std.specs.List.{list_all};
-ghost use Rattle.std.specs.Prelude.{find, reverse, nat_lt, map as map_list};
+ghost use Rattle.std.specs.Prelude.{find as find_in, reverse, nat_lt, map as map_list};
+ghost use Rattle.std.specs.Borrow.{sem};
+ghost use Rattle.std.specs.Option.{option_copied_mut};
 ghost use Rattle.std.specs.FinMap as map;
 ghost use Rattle.show_core.specs.Numbers.{is_channel};
 ghost use Rattle.show_core.specs.Builders.{opened, with_level, with_levels, with_up, with_down};
@@ -10,7 +12,7 @@ ghost use Rattle.show_core.specs.Readers.{HasTimes, cue_above, cue_below};
 use crate::cue::{Cue, CueData};
 use crate::heap_cue::HeapCue;
 use crate::levels::Levels;
-use crate::place::{place, put};
+use crate::place::{find, place, put};
 use crate::rate::Rate;
 use std::alloc::{AllocError, Global};
 use std::marker::Model;
@@ -40,6 +42,8 @@ impl Model for CueTable {
 }
 
 impl CueTable {
+    ghost use Rattle.show_core.specs.Lends.{LendsCue};
+
     pub fn new(alloc: Global) -> CueTable
         ensures { result ≡ map.empty }
     {
@@ -57,7 +61,7 @@ impl CueTable {
     pub fn has(&self, n: u32) -> bool
         ensures { result ≡ map.contains_key self.now n }
     {
-        place(&self.entries, n).is_ok()
+        find(&self.entries, n).is_some()
     }
 
     // Opens cue `n`, or continues it where it is there.
@@ -78,6 +82,17 @@ impl CueTable {
         Ok(())
     }
 
+    // Cue `n`, to be changed in place.
+    fn cue_mut(&mut self, n: u32) -> Option<&mut HeapCue>
+        ensures* writes_back { sem 𝓛 (LendsCue self.entry n result) }
+        ensures value { option_copied_mut result ≡ map.get self.old n }
+    {
+        match place(&self.entries, n) {
+            Ok(at) => Some(&mut self.entries[at].1),
+            Err(_) => None,
+        }
+    }
+
     pub fn set_level(&mut self, n: u32, channel: u16, byte: u8) -> Result<(), AllocError>
         requires there { IsTrue (map.contains_key self.old n) }
         requires range { IsTrue (is_channel channel) }
@@ -86,11 +101,10 @@ impl CueTable {
         ensures sure { IfSome (map.get self.old n)
             (λ cue. IsTrue (map.contains_key cue.levels channel) → IsOk result) }
     {
-        if let Ok(at) = place(&self.entries, n) {
-            let cue = &mut self.entries[at].1;
-            cue.set_level(channel, byte)?;
+        match self.cue_mut(n) {
+            Some(cue) => cue.set_level(channel, byte),
+            None => Ok(()),
         }
-        Ok(())
     }
 
     // Sets each of the levels, one after the other.
@@ -100,18 +114,16 @@ impl CueTable {
         ensures unchanged { OnErr result (self.new ≡ self.old) }
         ensures sure { pairs.now ≡ [] → IsOk result }
     {
-        if let Ok(at) = place(&self.entries, n) {
-            let cue = &mut self.entries[at].1;
-            cue.set_levels(pairs)?;
+        match self.cue_mut(n) {
+            Some(cue) => cue.set_levels(pairs),
+            None => Ok(()),
         }
-        Ok(())
     }
 
     pub fn set_up(&mut self, n: u32, rate: Rate)
         ensures { self.new ≡ with_up self.old n rate }
     {
-        if let Ok(at) = place(&self.entries, n) {
-            let cue = &mut self.entries[at].1;
+        if let Some(cue) = self.cue_mut(n) {
             cue.set_up(rate);
         }
     }
@@ -119,8 +131,7 @@ impl CueTable {
     pub fn set_down(&mut self, n: u32, rate: Rate)
         ensures { self.new ≡ with_down self.old n rate }
     {
-        if let Ok(at) = place(&self.entries, n) {
-            let cue = &mut self.entries[at].1;
+        if let Some(cue) = self.cue_mut(n) {
             cue.set_down(rate);
         }
     }
@@ -128,8 +139,7 @@ impl CueTable {
     pub fn set_follow(&mut self, n: u32, time: u32)
         ensures { self.new ≡ with_follow self.old n time }
     {
-        if let Ok(at) = place(&self.entries, n) {
-            let cue = &mut self.entries[at].1;
+        if let Some(cue) = self.cue_mut(n) {
             cue.set_follow(time);
         }
     }
@@ -144,10 +154,8 @@ impl CueTable {
         requires { IfSome (map.get self.now n) HasTimes }
         ensures { result ≡ map.get self.now n }
     {
-        match place(&self.entries, n) {
-            Ok(at) => Some(Cue::of(self.entries[at].1.data())),
-            Err(_) => None,
-        }
+        let cue = find(&self.entries, n)?;
+        Some(Cue::of(cue.data()))
     }
 
     // The least number above `n`.
@@ -173,7 +181,7 @@ impl CueTable {
 }
 
 fn first_above(entries: &[(u32, HeapCue)], n: u32) -> Option<u32>
-    ensures { result ≡ find (λ k. nat_lt n k) (map_list (λ e. e.0) entries.now) }
+    ensures { result ≡ find_in (λ k. nat_lt n k) (map_list (λ e. e.0) entries.now) }
 {
     entries
         .iter()
@@ -182,7 +190,7 @@ fn first_above(entries: &[(u32, HeapCue)], n: u32) -> Option<u32>
 }
 
 fn last_below(entries: &[(u32, HeapCue)], n: u32) -> Option<u32>
-    ensures { result ≡ find (λ k. nat_lt k n) (map_list (λ e. e.0) (reverse entries.now)) }
+    ensures { result ≡ find_in (λ k. nat_lt k n) (map_list (λ e. e.0) (reverse entries.now)) }
 {
     entries
         .iter()

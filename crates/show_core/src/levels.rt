@@ -6,7 +6,7 @@ ghost use Rattle.show_core.specs.Builders.{with_bytes};
 ghost use Rattle.show_core.specs.Readers.{HasChannels, level_in};
 
 use crate::many::put_all;
-use crate::place::{place, put};
+use crate::place::{find, put};
 use std::alloc::{AllocError, Global};
 use std::marker::Model;
 
@@ -64,10 +64,7 @@ impl Levels {
     pub fn level(&self, channel: u16) -> u8
         ensures { result ≡ level_in self.now channel }
     {
-        match place(&self.pairs, channel) {
-            Ok(at) => self.pairs[at].1,
-            Err(_) => 0,
-        }
+        find(&self.pairs, channel).copied().unwrap_or(0)
     }
 
     pub(crate) fn set(&mut self, channel: u16, byte: u8) -> Result<(), AllocError>

@@ -1,12 +1,14 @@
 ghost use Rattle.std.specs.Prelude.{◌≡◌, IsTrue, IsOk, IfOk, OnOk, OnErr, IfSome, All, option_map};
 ghost use Rattle.std.specs.Prelude.{[]};
 ghost use Rattle.std.specs.List.{list_all};
+ghost use Rattle.std.specs.Borrow.{sem};
+ghost use Rattle.std.specs.Option.{option_copied_mut};
 ghost use Rattle.std.specs.FinMap as map;
 ghost use Rattle.show_core.specs.Numbers.{is_channel};
 ghost use Rattle.show_core.specs.Builders.{opened_in, with_listed, with_all_listed};
 
 use crate::levels::Levels;
-use crate::place::{place, put};
+use crate::place::{find, place, put};
 use std::alloc::{AllocError, Global};
 use std::marker::Model;
 
@@ -33,6 +35,8 @@ impl Model for MasterTable {
 }
 
 impl MasterTable {
+    ghost use Rattle.show_core.specs.Lends.{LendsLevels};
+
     pub fn new(alloc: Global) -> MasterTable
         ensures { result ≡ map.empty }
     {
@@ -50,7 +54,7 @@ impl MasterTable {
     pub fn has(&self, n: u16) -> bool
         ensures { result ≡ map.contains_key self.now n }
     {
-        place(&self.entries, n).is_ok()
+        find(&self.entries, n).is_some()
     }
 
     // Opens record `n`, or continues it where it is there.
@@ -65,6 +69,17 @@ impl MasterTable {
         Ok(())
     }
 
+    // The levels of record `n`, to be changed in place.
+    fn levels_mut(&mut self, n: u16) -> Option<&mut Levels>
+        ensures* writes_back { sem 𝓛 (LendsLevels self.entry n result) }
+        ensures value { option_copied_mut result ≡ map.get self.old n }
+    {
+        match place(&self.entries, n) {
+            Ok(at) => Some(&mut self.entries[at].1),
+            Err(_) => None,
+        }
+    }
+
     pub fn set_level(&mut self, n: u16, channel: u16, byte: u8) -> Result<(), AllocError>
         requires there { IsTrue (map.contains_key self.old n) }
         requires range { IsTrue (is_channel channel) }
@@ -73,11 +88,10 @@ impl MasterTable {
         ensures sure { IfSome (map.get self.old n)
             (λ levels. IsTrue (map.contains_key levels channel) → IsOk result) }
     {
-        if let Ok(at) = place(&self.entries, n) {
-            let levels = &mut self.entries[at].1;
-            levels.set(channel, byte)?;
+        match self.levels_mut(n) {
+            Some(levels) => levels.set(channel, byte),
+            None => Ok(()),
         }
-        Ok(())
     }
 
     // Sets each of the levels, one after the other.
@@ -87,11 +101,10 @@ impl MasterTable {
         ensures unchanged { OnErr result (self.new ≡ self.old) }
         ensures sure { pairs.now ≡ [] → IsOk result }
     {
-        if let Ok(at) = place(&self.entries, n) {
-            let levels = &mut self.entries[at].1;
-            levels.set_all(pairs)?;
+        match self.levels_mut(n) {
+            Some(levels) => levels.set_all(pairs),
+            None => Ok(()),
         }
-        Ok(())
     }
 
     pub fn clear(&mut self)
@@ -106,10 +119,8 @@ impl MasterTable {
             ≡ option_map map.entries (map.get self.now n) }
         ensures range { IfSome result (λ pairs. All (λ e. IsTrue (is_channel e.0)) pairs.now) }
     {
-        match place(&self.entries, n) {
-            Ok(at) => Some(self.entries[at].1.pairs()),
-            Err(_) => None,
-        }
+        let levels = find(&self.entries, n)?;
+        Some(levels.pairs())
     }
 
     // The records, ascending by their numbers.

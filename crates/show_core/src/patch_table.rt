@@ -8,7 +8,7 @@ ghost use Rattle.show_core.specs.Readers.{has_dimmer_in, ordinal_of};
 
 use crate::limits::SLOTS;
 use crate::many::put_all;
-use crate::place::{place, put, take_out};
+use crate::place::{find, put, take_out};
 use std::alloc::{AllocError, Global};
 use std::marker::Model;
 
@@ -88,10 +88,7 @@ impl PatchTable {
     pub fn get(&self, dimmer: u16) -> Option<(u16, u8)>
         ensures { result ≡ map.get self.now dimmer }
     {
-        match place(&self.entries, dimmer) {
-            Ok(at) => Some(self.entries[at].1),
-            Err(_) => None,
-        }
+        find(&self.entries, dimmer).copied()
     }
 
     // The dimmers that are patched, ascending.

@@ -1,5 +1,5 @@
 ghost use Rattle.std.specs.Prelude.{◌≡◌, ◌*◌, ◌<◌, ◌↔◌, ◌==◌, ◌||◌, IsTrue, IsFalse, IsOk, IfOk};
-ghost use Rattle.std.specs.Prelude.{OnOk, OnErr, IfSome, Some, Err, All, option_map, []};
+ghost use Rattle.std.specs.Prelude.{OnOk, OnErr, IfErr, IfSome, Some, Err, All, option_map, []};
 ghost use Rattle.std.specs.List.{list_all};
 ghost use Rattle.std.specs.Option.{OnSome};
 ghost use Rattle.std.specs.FinMap as map;
@@ -93,9 +93,7 @@ impl Show {
         ensures sure { IsTrue (can_open self.old.cues n) → IsTrue (map.contains_key self.old.cues n)
             → IsOk result }
     {
-        if !self.can_open(n) {
-            return Err(BuildFault::Limit);
-        }
+        limit(self.can_open(n))?;
         self.cues.open(self.alloc, n)?;
         Ok(())
     }
@@ -119,9 +117,7 @@ impl Show {
         ensures sure { IsTrue (is_sub n) → IsTrue (map.contains_key self.old.subs n)
             → IsOk result }
     {
-        if !is_sub(n) {
-            return Err(BuildFault::Limit);
-        }
+        limit(is_sub(n))?;
         self.subs.open(self.alloc, n)?;
         Ok(())
     }
@@ -139,9 +135,7 @@ impl Show {
         ensures sure { IsTrue (is_group n) → IsTrue (map.contains_key self.old.groups n)
             → IsOk result }
     {
-        if !is_group(n) {
-            return Err(BuildFault::Limit);
-        }
+        limit(is_group(n))?;
         self.groups.open(self.alloc, n)?;
         Ok(())
     }
@@ -160,9 +154,7 @@ impl Show {
         ensures sure { IsTrue (is_channel channel) → IfSome (map.get self.old.cues n)
             (λ cue. IsTrue (map.contains_key cue.levels channel) → IsOk result) }
     {
-        if !is_channel(channel) {
-            return Err(BuildFault::Limit);
-        }
+        limit(is_channel(channel))?;
         self.cues.set_level(n, channel, byte)?;
         Ok(())
     }
@@ -182,9 +174,7 @@ impl Show {
             ↔ IsFalse (list_all (λ pair. is_channel pair.0) pairs.now) }
         ensures sure { pairs.now ≡ [] → IsOk result }
     {
-        if !are_channels(pairs) {
-            return Err(BuildFault::Limit);
-        }
+        limit(are_channels(pairs))?;
         self.cues.set_levels(n, pairs)?;
         Ok(())
     }
@@ -203,9 +193,7 @@ impl Show {
         ensures sure { IsTrue (is_channel channel) → IfSome (map.get self.old.subs n)
             (λ levels. IsTrue (map.contains_key levels channel) → IsOk result) }
     {
-        if !is_channel(channel) {
-            return Err(BuildFault::Limit);
-        }
+        limit(is_channel(channel))?;
         self.subs.set_level(n, channel, byte)?;
         Ok(())
     }
@@ -225,9 +213,7 @@ impl Show {
             ↔ IsFalse (list_all (λ pair. is_channel pair.0) pairs.now) }
         ensures sure { pairs.now ≡ [] → IsOk result }
     {
-        if !are_channels(pairs) {
-            return Err(BuildFault::Limit);
-        }
+        limit(are_channels(pairs))?;
         self.subs.set_levels(n, pairs)?;
         Ok(())
     }
@@ -246,9 +232,7 @@ impl Show {
         ensures sure { IsTrue (is_channel channel) → IfSome (map.get self.old.groups n)
             (λ levels. IsTrue (map.contains_key levels channel) → IsOk result) }
     {
-        if !is_channel(channel) {
-            return Err(BuildFault::Limit);
-        }
+        limit(is_channel(channel))?;
         self.groups.set_level(n, channel, byte)?;
         Ok(())
     }
@@ -268,9 +252,7 @@ impl Show {
             ↔ IsFalse (list_all (λ pair. is_channel pair.0) pairs.now) }
         ensures sure { pairs.now ≡ [] → IsOk result }
     {
-        if !are_channels(pairs) {
-            return Err(BuildFault::Limit);
-        }
+        limit(are_channels(pairs))?;
         self.groups.set_levels(n, pairs)?;
         Ok(())
     }
@@ -290,9 +272,7 @@ impl Show {
         ensures sure { IsTrue (can_patch dimmer channel)
             → IsTrue ((channel == 0) || map.contains_key self.old.patch dimmer) → IsOk result }
     {
-        if !can_patch(dimmer, channel) {
-            return Err(BuildFault::Limit);
-        }
+        limit(can_patch(dimmer, channel))?;
         self.patch.set(dimmer, channel, byte)?;
         Ok(())
     }
@@ -314,9 +294,7 @@ impl Show {
         ensures sure { IsTrue (list_all (λ e. can_patch e.0 e.1.0) entries.now)
             → IsTrue (list_all (λ e. e.1.0 == 0) entries.now) → IsOk result }
     {
-        if !can_all_patch(entries) {
-            return Err(BuildFault::Limit);
-        }
+        limit(can_all_patch(entries))?;
         self.patch.set_all(entries)?;
         Ok(())
     }
@@ -557,4 +535,16 @@ fn can_all_patch(entries: &[(u16, (u16, u8))]) -> bool
     ensures { result ≡ list_all (λ e. can_patch e.0 e.1.0) entries.now }
 {
     entries.iter().all(|entry| can_patch(entry.0, entry.1.0))
+}
+
+// Refuses by `Limit` what is out of range.
+fn limit(is_within: bool) -> Result<(), BuildFault>
+    ensures ok { IsOk result ↔ IsTrue is_within }
+    ensures err { IfErr result (λ fault. fault ≡ Limit) }
+{
+    if is_within {
+        Ok(())
+    } else {
+        Err(BuildFault::Limit)
+    }
 }

@@ -1,40 +1,7 @@
-use Rattle.std.proofs.Common.{ap, ◌∙◌, arith}
-use Rattle.std.specs.Ordering.{nat_cmp}
-use Rattle.std.specs.Cmp.{nat_cmp_total}
-use Rattle.std.specs.FinMap as map
-use Rattle.std.proofs.lemmas.Grind.{common_steps}
-use Rattle.show_core.proofs.Sorted.{not_so, sorted_put, set_at, contains_gap, lookup_at}
-use Rattle.show_core.proofs.Changes.{changed_at}
+use Rattle.show_core.proofs.Changes.{unchanged_err}
 use Rattle.show_core.proofs.master_table.MasterTable.set_level.Goals as goal
 
-pub invariant_of-self : goal.invariant_of-self
-invariant_of-self c =
-    let at = rw c.deref.ensures.value at c.in-Ok.ensures.found in
-    rw (set_at nat_cmp nat_cmp_total c.self.inside.entries.items c.self.invariant c.args.n
-    c.in-Ok.at c.index_mut.result.now c.set.new.self at c.index_mut.ensures.value)
-    (sorted_put nat_cmp nat_cmp_total c.self.inside.entries.items c.self.invariant c.args.n
-    c.set.new.self)
-
-pub returns-in_ok-set-clause-set : goal.returns-in_ok-set-clause-set
-returns-in_ok-set-clause-set c =
-    let at = rw c.deref.ensures.value at c.in-Ok.ensures.found in
-    rw c.in_ok-set.ensures.ok
-    (changed_at c.self.inside.entries.items c.self.invariant c.args.self.now c.self.view_is
-    c.args.n (λ levels. map.insert levels c.args.channel c.args.byte) c.in-Ok.at
-    c.index_mut.result.now at c.index_mut.ensures.value)
-
-pub returns-in_default-clause-set : goal.returns-in_default-clause-set
-returns-in_default-clause-set c =
-    let gap = contains_gap nat_cmp nat_cmp_total c.self.inside.entries.items c.self.invariant
-    c.args.n c.in_default.field-0 (rw c.deref.ensures.value at c.in_default.ensures.absent) in
-    absurd (grind (arith, common_steps, gap ∙ ap (λ m. map.contains_key m c.args.n) c.self.view_is))
-
-pub returns-in_err-set-clause-sure : goal.returns-in_err-set-clause-sure
-returns-in_err-set-clause-sure c =
-    let at = rw c.deref.ensures.value at c.in-Ok.ensures.found in
-    rw (
-      ← c.self.view_is,
-      ← lookup_at nat_cmp nat_cmp_total c.self.inside.entries.items
-          c.self.invariant c.args.n c.in-Ok.at c.index_mut.result.now at c.index_mut.ensures.value,
-    )
-    (λ there. not_so (c.in_err-set.ensures.sure there))
+pub returns-in-Some-clause-unchanged : goal.returns-in-Some-clause-unchanged
+returns-in-Some-clause-unchanged c =
+    unchanged_err c.args.self.now c.args.n c.in-Some.levels.now c.set.new.self
+    c.in-Some.ensures.value c.set.result c.set.ensures.err

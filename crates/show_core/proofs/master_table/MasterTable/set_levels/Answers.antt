@@ -1,31 +1,23 @@
 use Rattle.std.proofs.Common.{sym, ◌∙◌}
-use Rattle.std.specs.Ordering.{nat_cmp}
-use Rattle.std.specs.Cmp.{nat_cmp_total}
+use Rattle.std.proofs.lemmas.Result.{on_ok_weaker}
 use Rattle.show_core.specs.Builders.{with_bytes}
-use Rattle.show_core.proofs.Sorted.{sorted_put, set_at}
-use Rattle.show_core.proofs.Changes.{changed_at, changed_gap, changed_listed}
+use Rattle.show_core.proofs.Changes.{changed_ok, changed_none, unchanged_err, changed_listed}
 use Rattle.show_core.proofs.master_table.MasterTable.set_levels.Goals as goal
 
-pub invariant_of-self : goal.invariant_of-self
-invariant_of-self c =
-    let at = rw c.deref.ensures.value at c.in-Ok.ensures.found in
-    rw (set_at nat_cmp nat_cmp_total c.self.inside.entries.items c.self.invariant c.args.n
-    c.in-Ok.at c.index_mut.result.now c.set_all.new.self at c.index_mut.ensures.value)
-    (sorted_put nat_cmp nat_cmp_total c.self.inside.entries.items c.self.invariant c.args.n
-    c.set_all.new.self)
+pub returns-in-Some-clause-set : goal.returns-in-Some-clause-set
+returns-in-Some-clause-set c =
+    on_ok_weaker c.set_all.result (λ is. is ∙ sym (changed_listed c.args.self.now c.args.n c.args.pairs.now))
+    (changed_ok c.args.self.now c.args.n c.in-Some.levels.now c.set_all.new.self
+    c.in-Some.ensures.value c.set_all.result
+    (λ levels. with_bytes levels c.args.pairs.now) c.set_all.ensures.ok)
 
-pub returns-in_ok-set_all-clause-set : goal.returns-in_ok-set_all-clause-set
-returns-in_ok-set_all-clause-set c =
-    let at = rw c.deref.ensures.value at c.in-Ok.ensures.found in
-    rw c.in_ok-set_all.ensures.ok
-    (changed_at c.self.inside.entries.items c.self.invariant c.args.self.now c.self.view_is
-    c.args.n (λ levels. with_bytes levels c.args.pairs.now) c.in-Ok.at
-    c.index_mut.result.now at c.index_mut.ensures.value)
-    ∙ sym (changed_listed c.args.self.now c.args.n c.args.pairs.now)
+pub returns-in-Some-clause-unchanged : goal.returns-in-Some-clause-unchanged
+returns-in-Some-clause-unchanged c =
+    unchanged_err c.args.self.now c.args.n c.in-Some.levels.now c.set_all.new.self
+    c.in-Some.ensures.value c.set_all.result c.set_all.ensures.err
 
-pub returns-in_default-clause-set : goal.returns-in_default-clause-set
-returns-in_default-clause-set c =
-    changed_gap c.self.inside.entries.items c.self.invariant c.args.self.now c.self.view_is
-    c.args.n (λ levels. with_bytes levels c.args.pairs.now)
-    c.in_default.field-0 (rw c.deref.ensures.value at c.in_default.ensures.absent)
+pub returns-in-None-clause-set : goal.returns-in-None-clause-set
+returns-in-None-clause-set c =
+    changed_none c.args.self.now c.args.n
+    (λ levels. with_bytes levels c.args.pairs.now) c.in-None.ensures.value
     ∙ sym (changed_listed c.args.self.now c.args.n c.args.pairs.now)

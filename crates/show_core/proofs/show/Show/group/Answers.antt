@@ -1,13 +1,10 @@
 use Rattle.std.proofs.Common.{IsTrue}
 use Rattle.std.specs.FinMap as map
 use Rattle.show_core.specs.Numbers.{is_group}
-use Rattle.show_core.specs.Inside.{show_view}
-use Rattle.show_core.proofs.InRange.{found_group_in_range, on_some_both}
+use Rattle.show_core.proofs.InRange.{found_key}
 use Rattle.show_core.proofs.show.Show.group.Goals as goal
 
 pub returns-clause-number : goal.returns-clause-number
 returns-clause-number c =
-    on_some_both (λ pairs. pairs.now) map.entries c.pairs.result
-    (map.get c.self.inside.groups c.args.n) (IsTrue (is_group c.args.n))
-    c.pairs.ensures.entries
-    (found_group_in_range (show_view c.self.inside) c.self.invariant c.args.n)
+    found_key (λ n. IsTrue (is_group n)) c.self.inside.groups c.args.n (λ pairs. pairs.now)
+    map.entries c.pairs.result c.self.invariant.groups_in c.pairs.ensures.entries
