@@ -1,11 +1,10 @@
 -- What a change of the value at a key makes of the map.
-use Rattle.std.proofs.Common.{◌≡◌, ℕ, List, [], ◌∷◌, Option, Some, None, true, false}
-use Rattle.std.proofs.Common.{Result, OnOk, OnErr, cond, refl, sym, ap, ◌∙◌}
+use Rattle.std.proofs.Common.{◌≡◌, ℕ, List, [], ◌∷◌, Some, None, true, false}
+use Rattle.std.proofs.Common.{cond, refl, sym, ap, ◌∙◌}
 use Rattle.std.specs.Option.{option_map_or}
 use Rattle.std.specs.Ordering.{nat_cmp, is_eq, eq_by_cmp}
 use Rattle.std.specs.Cmp.{nat_cmp_total, tied_itself}
 use Rattle.std.specs.FinMap as map
-use Rattle.std.proofs.lemmas.Result.{on_ok_weaker, on_err_weaker}
 use Rattle.std.proofs.lemmas.Map.Views.{tells_apart}
 use Rattle.std.proofs.lemmas.Map.Lookups.{exact_unsigned}
 use Rattle.show_core.specs.Tables.{CueMap, MasterMap}
@@ -16,7 +15,7 @@ module _ {V : Type 0} where
   same = map.same_map nat_cmp_total map.nat_cmp-IsAntisymmetric
 
   -- a value that is there already
-  insert_there : (m : map.FinMap nat_cmp V) (n : ℕ) (v : V) → map.get m n ≡ Some v
+  pub insert_there : (m : map.FinMap nat_cmp V) (n : ℕ) (v : V) → map.get m n ≡ Some v
       → map.insert m n v ≡ m
   insert_there m n v is = same (map.insert m n v) m (λ q. map.get-insert nat_cmp_total m n v q
       ∙ elim (eq_by_cmp nat_cmp q n)
@@ -65,22 +64,6 @@ module _ {V : Type 0} where
             ap (λ o. option_map_or (λ w. map.insert once n (g w)) o once) (get_inserted m n (f v))
             ∙ insert_again m n (f v) (g (f v))
       ] refl
-
--- what a change of the record at a key left, which was there
-module _ {V A E : Type 0} (m : map.FinMap nat_cmp V) (n : ℕ) (old new : V)
-    (there : ◌≡◌ {A = Option V} (Some old) (map.get m n)) (r : Result A E) where
-  pub changed_ok : (f : V → V) → OnOk r (new ≡ f old)
-      → OnOk r (map.insert m n new
-      ≡ option_map_or (λ v. map.insert m n (f v)) (map.get m n) m)
-  changed_ok f is = on_ok_weaker r (λ e. rw (← there) (ap (map.insert m n) e)) is
-
-  pub unchanged_err : OnErr r (new ≡ old) → OnErr r (map.insert m n new ≡ m)
-  unchanged_err is = on_err_weaker r (λ e. ap (map.insert m n) e ∙ insert_there m n old (sym there)) is
-
-pub changed_none : {V : Type 0} (m : map.FinMap nat_cmp V) (n : ℕ) (f : V → V)
-    → ◌≡◌ {A = Option V} None (map.get m n)
-    → m ≡ option_map_or (λ v. map.insert m n (f v)) (map.get m n) m
-changed_none m n f none = rw (← none) refl
 
 -- levels one after the other are one change of the record
 pub changed_levels : (cues : CueMap) (n : ℕ) (ps : List (ℕ × ℕ)) → with_levels cues n ps

@@ -13,7 +13,7 @@ use Rattle.std.specs.Ordering.{nat_cmp, is_lt, ordering_index, ordering_reverse}
 use Rattle.std.specs.Cmp.{IsTotalOrder, nat_cmp_total}
 use Rattle.std.specs.FinMap.{FinMap, find, put, is_sorted, from_sorted, get, entries, insert as map_insert}
 use Rattle.std.specs.FinMap.{get-from_sorted, entries-from_sorted, entries-insert, same_entries_map}
-use Rattle.std.specs.FinMap.{empty, empty_of_len, len-entries, len, contains_key}
+use Rattle.std.specs.FinMap.{empty, empty_of_len, len-entries, len}
 use Rattle.std.specs.FinMap.Entries.{below_all, is_sorted-put}
 use Rattle.std.proofs.lemmas.Bool.{cases_lt}
 use Rattle.std.proofs.lemmas.List.{reverse-append, map-append}
@@ -195,37 +195,34 @@ module _ {K V : Type 0} (R : K → K → Ordering) (o : IsTotalOrder R) (es : Li
 pub from_sorted-nil : {K V : Type 0} (R : K → K → Ordering) → from_sorted {X = V} {R = R} [] ≡ empty
 from_sorted-nil R = empty_of_len _ (len-entries _ ∙ ap length (entries-from_sorted R [] tt))
 
-is_some_copied : {V : Type 0} (r : Option (Bor V)) → is_some r ≡ is_some (option_copied r)
+pub is_some_copied : {V : Type 0} (r : Option (Bor V)) → is_some r ≡ is_some (option_copied r)
 is_some_copied None = refl
 is_some_copied (Some x) = refl
+
+-- the same for the tactics, which find the entries that a table is seen from
+module _ {V : Type 0} (es : List (ℕ × V)) where
+  pub listed : IsTrue (is_sorted nat_cmp es) → entries (from_sorted {R = nat_cmp} es) ≡ es
+  listed sorted = entries_are nat_cmp nat_cmp_total es sorted
+
+  pub counted : IsTrue (is_sorted nat_cmp es) → len (from_sorted {R = nat_cmp} es) ≡ length es
+  counted sorted = len-entries (from_sorted es) ∙ ap length (listed sorted)
+
+  pub looked_up : (key : ℕ) → IsTrue (is_sorted nat_cmp es)
+      → find nat_cmp key es ≡ get (from_sorted {R = nat_cmp} es) key
+  looked_up key sorted = sym (get_is nat_cmp nat_cmp_total es sorted key)
+
+  pub put_in : (key : ℕ) (v : V) → IsTrue (is_sorted nat_cmp es)
+      → from_sorted {R = nat_cmp} (put nat_cmp key v es) ≡ map_insert (from_sorted es) key v
+  put_in key v sorted = from_sorted-put nat_cmp nat_cmp_total es sorted key v
 
 -- what a table has, by the entries that it is seen from
 module _ {V : Type 0} (es : List (ℕ × V)) (sorted : IsTrue (is_sorted nat_cmp es))
     (m : FinMap nat_cmp V) (seen : from_sorted es ≡ m) where
-  pub find_seen : (key : ℕ) → find nat_cmp key es ≡ get m key
-  find_seen key = sym (get_is nat_cmp nat_cmp_total es sorted key) ∙ ap (λ x. get x key) seen
-
-  -- what a search answered, whether the key is there or not
-  pub found_seen : (key : ℕ) (xs : List (ℕ × V)) (r : Option (Bor V)) → xs ≡ es
-      → option_copied r ≡ find nat_cmp key xs → option_copied r ≡ get m key
-  found_seen key xs r same found = found ∙ ap (find nat_cmp key) same ∙ find_seen key
-
-  pub has_seen : (key : ℕ) (xs : List (ℕ × V)) (r : Option (Bor V)) → xs ≡ es
-      → option_copied r ≡ find nat_cmp key xs → is_some r ≡ contains_key m key
-  has_seen key xs r same found = is_some_copied r ∙ ap is_some (found_seen key xs r same found)
+  find_seen : (key : ℕ) → find nat_cmp key es ≡ get m key
+  find_seen key = looked_up es key sorted ∙ ap (λ x. get x key) seen
 
   pub none_seen : (key i : ℕ) → IsGap nat_cmp es key i → ◌≡◌ {A = Option V} None (get m key)
   none_seen key i gap = sym (find_gap nat_cmp nat_cmp_total es key i gap) ∙ find_seen key
-
-  pub entries_seen : entries m ≡ es
-  entries_seen = ap entries (sym seen) ∙ entries_are nat_cmp nat_cmp_total es sorted
-
-  pub len_seen : len m ≡ length es
-  len_seen = len-entries m ∙ ap length entries_seen
-
-  pub put_seen : (key : ℕ) (v : V) → from_sorted (put nat_cmp key v es) ≡ map_insert m key v
-  put_seen key v =
-      from_sorted-put nat_cmp nat_cmp_total es sorted key v ∙ ap (λ x. map_insert x key v) seen
 
   -- the value at the place that a search found, and what writing another one there leaves
   module _ (key i : ℕ) (e : ℕ × V) (at : IsAt nat_cmp es key i) (is : e ≡ get_or es i e) where
@@ -238,7 +235,8 @@ module _ {V : Type 0} (es : List (ℕ × V)) (sorted : IsTrue (is_sorted nat_cmp
         (sorted_put nat_cmp nat_cmp_total es sorted key v)
 
     pub set_seen : (v : V) → from_sorted (set es i (e.0, v)) ≡ map_insert m key v
-    set_seen v = rw (set_at nat_cmp nat_cmp_total es sorted key i e v at is) (put_seen key v)
+    set_seen v = rw (set_at nat_cmp nat_cmp_total es sorted key i e v at is)
+        (put_in es key v sorted ∙ ap (λ x. map_insert x key v) seen)
 
 -- the keys of the entries in reverse
 pub map-reverse : {A B : Type 0} (f : A → B) (xs : List A) → map f (reverse xs) ≡ reverse (map f xs)

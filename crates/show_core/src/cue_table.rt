@@ -52,12 +52,14 @@ impl CueTable {
         }
     }
 
+    #[tactic(auto, using(crate::proofs::Sorted::counted))]
     pub fn len(&self) -> usize
         ensures { result ≡ map.len self.now }
     {
         self.entries.len()
     }
 
+    #[tactic(auto, using(crate::proofs::Sorted::looked_up, crate::proofs::Sorted::is_some_copied))]
     pub fn has(&self, n: u32) -> bool
         ensures { result ≡ map.contains_key self.now n }
     {
@@ -65,6 +67,7 @@ impl CueTable {
     }
 
     // Opens cue `n`, or continues it where it is there.
+    #[tactic(auto, using(crate::proofs::Sorted::put_in))]
     pub fn open(&mut self, alloc: Global, n: u32) -> Result<(), AllocError>
         ensures opened { OnOk result (self.new ≡ opened self.old n) }
         ensures unchanged { OnErr result (self.new ≡ self.old) }
@@ -93,6 +96,7 @@ impl CueTable {
         }
     }
 
+    #[tactic(auto, using(crate::proofs::Changes::insert_there))]
     pub fn set_level(&mut self, n: u32, channel: u16, byte: u8) -> Result<(), AllocError>
         requires there { IsTrue (map.contains_key self.old n) }
         requires range { IsTrue (is_channel channel) }
@@ -101,23 +105,24 @@ impl CueTable {
         ensures sure { IfSome (map.get self.old n)
             (λ cue. IsTrue (map.contains_key cue.levels channel) → IsOk result) }
     {
-        match self.cue_mut(n) {
-            Some(cue) => cue.set_level(channel, byte),
-            None => Ok(()),
+        if let Some(cue) = self.cue_mut(n) {
+            cue.set_level(channel, byte)?;
         }
+        Ok(())
     }
 
     // Sets each of the levels, one after the other.
+    #[tactic(auto, using(crate::proofs::Changes::insert_there, crate::proofs::Changes::changed_levels))]
     pub fn set_levels(&mut self, n: u32, pairs: &[(u16, u8)]) -> Result<(), AllocError>
         requires { IsTrue (list_all (λ pair. is_channel pair.0) pairs.now) }
         ensures set { OnOk result (self.new ≡ with_levels self.old n pairs.now) }
         ensures unchanged { OnErr result (self.new ≡ self.old) }
         ensures sure { pairs.now ≡ [] → IsOk result }
     {
-        match self.cue_mut(n) {
-            Some(cue) => cue.set_levels(pairs),
-            None => Ok(()),
+        if let Some(cue) = self.cue_mut(n) {
+            cue.set_levels(pairs)?;
         }
+        Ok(())
     }
 
     pub fn set_up(&mut self, n: u32, rate: Rate)
@@ -150,6 +155,7 @@ impl CueTable {
         self.entries.clear();
     }
 
+    #[tactic(auto, using(crate::proofs::Sorted::looked_up))]
     pub fn get(&self, n: u32) -> Option<Cue<'_>>
         requires { IfSome (map.get self.now n) HasTimes }
         ensures { result ≡ map.get self.now n }
@@ -159,6 +165,7 @@ impl CueTable {
     }
 
     // The least number above `n`.
+    #[tactic(auto, using(crate::proofs::Sorted::listed))]
     pub fn next(&self, n: u32) -> Option<u32>
         ensures { result ≡ cue_above self.now n }
     {

@@ -53,6 +53,7 @@ impl Levels {
 
     /// The channels that are listed and their level bytes. The entries of a map are sorted, so the
     /// channels strictly ascend.
+    #[tactic(auto, using(crate::proofs::Sorted::listed))]
     pub fn pairs(&self) -> &[(u16, u8)]
         ensures entries { result.now ≡ map.entries self.now }
         ensures range { HasChannels self.now }
@@ -61,12 +62,14 @@ impl Levels {
     }
 
     /// The level byte of a channel: 0 where none is listed.
+    #[tactic(auto, using(crate::proofs::Sorted::looked_up))]
     pub fn level(&self, channel: u16) -> u8
         ensures { result ≡ level_in self.now channel }
     {
         find(&self.pairs, channel).copied().unwrap_or(0)
     }
 
+    #[tactic(auto, using(crate::proofs::Sorted::put_in, crate::proofs::Sorted::looked_up))]
     pub(crate) fn set(&mut self, channel: u16, byte: u8) -> Result<(), AllocError>
         requires { IsTrue (is_channel channel) }
         ensures ok { OnOk result (self.new ≡ map.insert self.old channel byte) }

@@ -45,12 +45,14 @@ impl MasterTable {
         }
     }
 
+    #[tactic(auto, using(crate::proofs::Sorted::counted))]
     pub fn len(&self) -> usize
         ensures { result ≡ map.len self.now }
     {
         self.entries.len()
     }
 
+    #[tactic(auto, using(crate::proofs::Sorted::looked_up, crate::proofs::Sorted::is_some_copied))]
     pub fn has(&self, n: u16) -> bool
         ensures { result ≡ map.contains_key self.now n }
     {
@@ -58,6 +60,7 @@ impl MasterTable {
     }
 
     // Opens record `n`, or continues it where it is there.
+    #[tactic(auto, using(crate::proofs::Sorted::put_in))]
     pub fn open(&mut self, alloc: Global, n: u16) -> Result<(), AllocError>
         ensures opened { OnOk result (self.new ≡ opened_in self.old n) }
         ensures unchanged { OnErr result (self.new ≡ self.old) }
@@ -80,6 +83,7 @@ impl MasterTable {
         }
     }
 
+    #[tactic(auto, using(crate::proofs::Changes::insert_there))]
     pub fn set_level(&mut self, n: u16, channel: u16, byte: u8) -> Result<(), AllocError>
         requires there { IsTrue (map.contains_key self.old n) }
         requires range { IsTrue (is_channel channel) }
@@ -88,23 +92,24 @@ impl MasterTable {
         ensures sure { IfSome (map.get self.old n)
             (λ levels. IsTrue (map.contains_key levels channel) → IsOk result) }
     {
-        match self.levels_mut(n) {
-            Some(levels) => levels.set(channel, byte),
-            None => Ok(()),
+        if let Some(levels) = self.levels_mut(n) {
+            levels.set(channel, byte)?;
         }
+        Ok(())
     }
 
     // Sets each of the levels, one after the other.
+    #[tactic(auto, using(crate::proofs::Changes::insert_there, crate::proofs::Changes::changed_listed))]
     pub fn set_levels(&mut self, n: u16, pairs: &[(u16, u8)]) -> Result<(), AllocError>
         requires { IsTrue (list_all (λ pair. is_channel pair.0) pairs.now) }
         ensures set { OnOk result (self.new ≡ with_all_listed self.old n pairs.now) }
         ensures unchanged { OnErr result (self.new ≡ self.old) }
         ensures sure { pairs.now ≡ [] → IsOk result }
     {
-        match self.levels_mut(n) {
-            Some(levels) => levels.set_all(pairs),
-            None => Ok(()),
+        if let Some(levels) = self.levels_mut(n) {
+            levels.set_all(pairs)?;
         }
+        Ok(())
     }
 
     pub fn clear(&mut self)
@@ -114,6 +119,7 @@ impl MasterTable {
     }
 
     // The channels that record `n` lists, ascending.
+    #[tactic(auto, using(crate::proofs::Sorted::looked_up))]
     pub fn pairs(&self, n: u16) -> Option<&[(u16, u8)]>
         ensures entries { option_map (λ pairs. pairs.now) result
             ≡ option_map map.entries (map.get self.now n) }
@@ -124,6 +130,7 @@ impl MasterTable {
     }
 
     // The records, ascending by their numbers.
+    #[tactic(auto, using(crate::proofs::Sorted::listed))]
     pub fn records(&self) -> &[(u16, Levels)]
         ensures { result.now ≡ map.entries self.now }
     {

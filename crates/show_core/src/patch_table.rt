@@ -43,6 +43,7 @@ impl PatchTable {
         }
     }
 
+    #[tactic(auto, using(crate::proofs::Sorted::counted))]
     pub fn len(&self) -> usize
         ensures { result ≡ map.len self.now }
     {
@@ -50,6 +51,7 @@ impl PatchTable {
     }
 
     // Patches the dimmer to the channel, or leaves it unpatched at channel 0.
+    #[tactic(auto, using(crate::proofs::Sorted::put_in, crate::proofs::Sorted::looked_up))]
     pub fn set(&mut self, dimmer: u16, channel: u16, byte: u8) -> Result<(), AllocError>
         ensures set { OnOk result (self.new ≡ patched_with self.old dimmer channel byte) }
         ensures unchanged { OnErr result (self.new ≡ self.old) }
@@ -85,6 +87,7 @@ impl PatchTable {
         self.entries.clear();
     }
 
+    #[tactic(auto, using(crate::proofs::Sorted::looked_up))]
     pub fn get(&self, dimmer: u16) -> Option<(u16, u8)>
         ensures { result ≡ map.get self.now dimmer }
     {
@@ -92,6 +95,7 @@ impl PatchTable {
     }
 
     // The dimmers that are patched, ascending.
+    #[tactic(auto, using(crate::proofs::Sorted::listed))]
     pub fn dimmers(&self) -> &[(u16, (u16, u8))]
         ensures { result.now ≡ map.entries self.now }
     {
@@ -99,6 +103,7 @@ impl PatchTable {
     }
 
     // Whether a dimmer of the universe is patched.
+    #[tactic(auto, using(crate::proofs::Sorted::listed))]
     pub fn has_dimmer_in(&self, ordinal: u16) -> bool
         ensures { result ≡ has_dimmer_in self.now ordinal }
     {

@@ -1,9 +1,9 @@
-use Rattle.std.proofs.Common.{IsTrue, is_some, ap, ◌∙◌}
+use Rattle.std.proofs.Common.{IsTrue}
 use Rattle.std.specs.Ordering.{nat_cmp}
 use Rattle.std.specs.Cmp.{nat_cmp_total}
 use Rattle.std.specs.FinMap as map
 use Rattle.show_core.specs.Numbers.{is_channel}
-use Rattle.show_core.proofs.Sorted.{not_so, sorted_put, from_sorted-put, find_seen, put_seen}
+use Rattle.show_core.proofs.Sorted.{sorted_put, from_sorted-put}
 use Rattle.show_core.proofs.Ranges.{keys-insert}
 use Rattle.show_core.proofs.levels.Levels.set.Goals as goal
 
@@ -22,16 +22,3 @@ invariant_of-self-2 c =
           ) (keys-insert (λ k. IsTrue (is_channel k))
           (map.from_sorted es) c.args.channel c.args.byte c.self.invariant.channels_in c.requires);
     }
-
-pub returns-clause-ok : goal.returns-clause-ok
-returns-clause-ok c =
-    rw c.in_ok-put.ensures.ok
-    (put_seen c.self.inside.pairs.items c.self.invariant.sorted c.args.self.now c.self.view_is
-    c.args.channel c.args.byte)
-
-pub returns-in_err-put-clause-sure : goal.returns-in_err-put-clause-sure
-returns-in_err-put-clause-sure c =
-    λ there. not_so
-    (c.in_err-put.ensures.sure
-    (ap is_some (find_seen c.self.inside.pairs.items c.self.invariant.sorted c.args.self.now
-    c.self.view_is c.args.channel) ∙ there))
