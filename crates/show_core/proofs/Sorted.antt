@@ -215,6 +215,13 @@ module _ {V : Type 0} (es : List (ℕ × V)) where
       → from_sorted {R = nat_cmp} (put nat_cmp key v es) ≡ map_insert (from_sorted es) key v
   put_in key v sorted = from_sorted-put nat_cmp nat_cmp_total es sorted key v
 
+  pub sorted_with : (key : ℕ) (v : V) → IsTrue (is_sorted nat_cmp es)
+      → IsTrue (is_sorted nat_cmp (put nat_cmp key v es))
+  sorted_with key v sorted = sorted_put nat_cmp nat_cmp_total es sorted key v
+
+pub of_none : {V : Type 0} → from_sorted {X = V} {R = nat_cmp} [] ≡ empty
+of_none = from_sorted-nil nat_cmp
+
 -- what a table has, by the entries that it is seen from
 module _ {V : Type 0} (es : List (ℕ × V)) (sorted : IsTrue (is_sorted nat_cmp es))
     (m : FinMap nat_cmp V) (seen : from_sorted es ≡ m) where

@@ -44,6 +44,7 @@ impl Model for CueTable {
 impl CueTable {
     ghost use Rattle.show_core.specs.Lends.{LendsCue};
 
+    #[tactic(auto, using(crate::proofs::Sorted::of_none))]
     pub fn new(alloc: Global) -> CueTable
         ensures { result ≡ map.empty }
     {
@@ -67,7 +68,7 @@ impl CueTable {
     }
 
     // Opens cue `n`, or continues it where it is there.
-    #[tactic(auto, using(crate::proofs::Sorted::put_in))]
+    #[tactic(auto, using(crate::proofs::Sorted::put_in, crate::proofs::Sorted::sorted_with))]
     pub fn open(&mut self, alloc: Global, n: u32) -> Result<(), AllocError>
         ensures opened { OnOk result (self.new ≡ opened self.old n) }
         ensures unchanged { OnErr result (self.new ≡ self.old) }
@@ -149,6 +150,7 @@ impl CueTable {
         }
     }
 
+    #[tactic(auto, using(crate::proofs::Sorted::of_none))]
     pub fn clear(&mut self)
         ensures { self.new ≡ map.empty }
     {

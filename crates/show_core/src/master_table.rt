@@ -37,6 +37,7 @@ impl Model for MasterTable {
 impl MasterTable {
     ghost use Rattle.show_core.specs.Lends.{LendsLevels};
 
+    #[tactic(auto, using(crate::proofs::Sorted::of_none))]
     pub fn new(alloc: Global) -> MasterTable
         ensures { result ≡ map.empty }
     {
@@ -60,7 +61,7 @@ impl MasterTable {
     }
 
     // Opens record `n`, or continues it where it is there.
-    #[tactic(auto, using(crate::proofs::Sorted::put_in))]
+    #[tactic(auto, using(crate::proofs::Sorted::put_in, crate::proofs::Sorted::sorted_with))]
     pub fn open(&mut self, alloc: Global, n: u16) -> Result<(), AllocError>
         ensures opened { OnOk result (self.new ≡ opened_in self.old n) }
         ensures unchanged { OnErr result (self.new ≡ self.old) }
@@ -112,6 +113,7 @@ impl MasterTable {
         Ok(())
     }
 
+    #[tactic(auto, using(crate::proofs::Sorted::of_none))]
     pub fn clear(&mut self)
         ensures { self.new ≡ map.empty }
     {

@@ -35,6 +35,7 @@ impl Model for PatchTable {
 }
 
 impl PatchTable {
+    #[tactic(auto, using(crate::proofs::Sorted::of_none))]
     pub fn new(alloc: Global) -> PatchTable
         ensures { result ≡ map.empty }
     {
@@ -51,7 +52,7 @@ impl PatchTable {
     }
 
     // Patches the dimmer to the channel, or leaves it unpatched at channel 0.
-    #[tactic(auto, using(crate::proofs::Sorted::put_in, crate::proofs::Sorted::looked_up))]
+    #[tactic(auto, using(crate::proofs::Sorted::put_in, crate::proofs::Sorted::looked_up, crate::proofs::Sorted::sorted_with))]
     pub fn set(&mut self, dimmer: u16, channel: u16, byte: u8) -> Result<(), AllocError>
         ensures set { OnOk result (self.new ≡ patched_with self.old dimmer channel byte) }
         ensures unchanged { OnErr result (self.new ≡ self.old) }
@@ -81,6 +82,7 @@ impl PatchTable {
         take_out(&mut self.entries, dimmer);
     }
 
+    #[tactic(auto, using(crate::proofs::Sorted::of_none))]
     pub fn clear(&mut self)
         ensures { self.new ≡ map.empty }
     {

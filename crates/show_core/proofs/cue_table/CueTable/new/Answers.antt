@@ -1,6 +1,0 @@
-use Rattle.std.specs.Ordering.{nat_cmp}
-use Rattle.show_core.proofs.Sorted.{from_sorted-nil}
-use Rattle.show_core.proofs.cue_table.CueTable.new.Goals as goal
-
-pub returns : goal.returns
-returns c = rw c.new.ensures.items (from_sorted-nil nat_cmp)

@@ -1,9 +1,0 @@
-use Rattle.std.specs.Ordering.{nat_cmp}
-use Rattle.std.specs.Cmp.{nat_cmp_total}
-use Rattle.show_core.proofs.Sorted.{sorted_put}
-use Rattle.show_core.proofs.cue_table.CueTable.open.Goals as goal
-
-pub invariant_of-self-in_ok-put : goal.invariant_of-self-in_ok-put
-invariant_of-self-in_ok-put c =
-    rw c.in_ok-put.ensures.ok
-    (sorted_put nat_cmp nat_cmp_total c.self.inside.entries.items c.self.invariant c.args.n _)
