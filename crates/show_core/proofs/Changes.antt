@@ -84,3 +84,5 @@ changed_listed masters n (p ∷ ps) =
     (option_map_or (λ l. map.insert masters n (map.insert l p.0 p.1)) (map.get masters n) masters)
     n ps
     ∙ changed_twice masters n (λ l. map.insert l p.0 p.1) (λ l. with_bytes l ps)
+
+pub ruleset level_changes = (insert_there, changed_levels, changed_listed)

@@ -219,6 +219,8 @@ module _ {V : Type 0} (es : List (ℕ × V)) where
       → IsTrue (is_sorted nat_cmp (put nat_cmp key v es))
   sorted_with key v sorted = sorted_put nat_cmp nat_cmp_total es sorted key v
 
+pub ruleset edits = (put_in, sorted_with, looked_up)
+
 pub of_none : {V : Type 0} → from_sorted {X = V} {R = nat_cmp} [] ≡ empty
 of_none = from_sorted-nil nat_cmp
 

@@ -68,7 +68,7 @@ impl CueTable {
     }
 
     // Opens cue `n`, or continues it where it is there.
-    #[tactic(auto, using(crate::proofs::Sorted::put_in, crate::proofs::Sorted::sorted_with))]
+    #[tactic(auto, using(crate::proofs::Sorted::edits))]
     pub fn open(&mut self, alloc: Global, n: u32) -> Result<(), AllocError>
         ensures opened { OnOk result (self.new ≡ opened self.old n) }
         ensures unchanged { OnErr result (self.new ≡ self.old) }
@@ -113,7 +113,7 @@ impl CueTable {
     }
 
     // Sets each of the levels, one after the other.
-    #[tactic(auto, using(crate::proofs::Changes::insert_there, crate::proofs::Changes::changed_levels))]
+    #[tactic(auto, using(crate::proofs::Changes::level_changes))]
     pub fn set_levels(&mut self, n: u32, pairs: &[(u16, u8)]) -> Result<(), AllocError>
         requires { IsTrue (list_all (λ pair. is_channel pair.0) pairs.now) }
         ensures set { OnOk result (self.new ≡ with_levels self.old n pairs.now) }

@@ -69,7 +69,7 @@ impl Levels {
         find(&self.pairs, channel).copied().unwrap_or(0)
     }
 
-    #[tactic(auto, using(crate::proofs::Sorted::put_in, crate::proofs::Sorted::looked_up))]
+    #[tactic(auto, using(crate::proofs::Sorted::edits))]
     pub(crate) fn set(&mut self, channel: u16, byte: u8) -> Result<(), AllocError>
         requires { IsTrue (is_channel channel) }
         ensures ok { OnOk result (self.new ≡ map.insert self.old channel byte) }

@@ -61,7 +61,7 @@ impl MasterTable {
     }
 
     // Opens record `n`, or continues it where it is there.
-    #[tactic(auto, using(crate::proofs::Sorted::put_in, crate::proofs::Sorted::sorted_with))]
+    #[tactic(auto, using(crate::proofs::Sorted::edits))]
     pub fn open(&mut self, alloc: Global, n: u16) -> Result<(), AllocError>
         ensures opened { OnOk result (self.new ≡ opened_in self.old n) }
         ensures unchanged { OnErr result (self.new ≡ self.old) }
@@ -100,7 +100,7 @@ impl MasterTable {
     }
 
     // Sets each of the levels, one after the other.
-    #[tactic(auto, using(crate::proofs::Changes::insert_there, crate::proofs::Changes::changed_listed))]
+    #[tactic(auto, using(crate::proofs::Changes::level_changes))]
     pub fn set_levels(&mut self, n: u16, pairs: &[(u16, u8)]) -> Result<(), AllocError>
         requires { IsTrue (list_all (λ pair. is_channel pair.0) pairs.now) }
         ensures set { OnOk result (self.new ≡ with_all_listed self.old n pairs.now) }

@@ -52,7 +52,7 @@ impl PatchTable {
     }
 
     // Patches the dimmer to the channel, or leaves it unpatched at channel 0.
-    #[tactic(auto, using(crate::proofs::Sorted::put_in, crate::proofs::Sorted::looked_up, crate::proofs::Sorted::sorted_with))]
+    #[tactic(auto, using(crate::proofs::Sorted::edits))]
     pub fn set(&mut self, dimmer: u16, channel: u16, byte: u8) -> Result<(), AllocError>
         ensures set { OnOk result (self.new ≡ patched_with self.old dimmer channel byte) }
         ensures unchanged { OnErr result (self.new ≡ self.old) }
