@@ -1,33 +1,32 @@
 -- What is kept of a source depends on its own packets alone, the merge on the members alone, and
 -- the live records are those that are there and not ended. What a receiver makes of arrivals whose
 -- moments never fall is the history of the packets that are heard.
-use Rattle.std.proofs.Common.{◌≡◌, ℕ, zero, suc, ◌<◌, ◌≤◌, Bool, true, false, cond, refl, ap, ap₂}
-use Rattle.std.proofs.Common.{arith, sym, inl, inr, ◌∙◌, List, [], ◌∷◌, length, get_or, Option}
-use Rattle.std.proofs.Common.{Some, None, not, subst, map, Ok, Err}
+use Rattle.std.proofs.Common.{◌≡◌, ℕ, zero, suc, ◌<◌, ◌≤◌, Bool, true, refl, ap, arith, sym}
+use Rattle.std.proofs.Common.{inl, inr, ◌∙◌, List, [], ◌∷◌, length, get_or, Option, Some, None, not}
+use Rattle.std.proofs.Common.{map, Ok, Err}
 use Rattle.std.specs.Prelude.{if◌then◌else◌, filter, find, All, Contains, is_none, IsTrue}
 use Rattle.std.specs.List.{list_any}
-use Rattle.std.specs.Option.{option_or, option_map, option_map_or}
-use Rattle.std.proofs.lemmas.Cmp.{nat_list_eq_equiv}
-use Rattle.std.proofs.lemmas.Bool.{lt-ltb, cond_both, not-true, le-ltb}
-use Rattle.std.proofs.lemmas.List.Elements.{All-head, All-tail, All-filter}
+use Rattle.std.specs.Option.{option_or, option_map_or}
+use Rattle.std.proofs.lemmas.Bool.{lt-ltb, cond_both, not-true}
+use Rattle.std.proofs.lemmas.List.Elements.{All-tail, All-map, All-contains, All-filter}
+use Rattle.std.proofs.lemmas.List.Elements.{filter_passes}
 use Rattle.sacn_packet.specs.Reading.{front_packet}
-use Rattle.sacn_packet.specs.Faults.{fault_of}
-use Rattle.sacn_receiver.specs.Source.{Entry, same_cid, newest, records, while_there, record_of}
-use Rattle.sacn_receiver.specs.Source.{is_taken, is_accepted, last_moment}
+use Rattle.sacn_receiver.specs.Source.{Entry, same_cid, is_there, is_after, newest, records}
+use Rattle.sacn_receiver.specs.Source.{while_there, record_of, is_taken, is_accepted, last_moment}
 use Rattle.sacn_receiver.specs.Shown.{live}
 use Rattle.sacn_receiver.specs.Laws.{accepted, SourcesAreIndependent, MergeIsByMembership}
-use Rattle.sacn_receiver.specs.Laws.{LiveAreRecords, HeardAreAccepted, RecordsAreIndependent}
-use Rattle.sacn_receiver.specs.Laws.{AnswersAreIndependent}
+use Rattle.sacn_receiver.specs.Laws.{LiveAreRecords, LiveAreApart, HeardAreAccepted}
+use Rattle.sacn_receiver.specs.Laws.{RecordsAreIndependent, AnswersAreIndependent}
 use Rattle.sacn_receiver.specs.declared.answer.Ignored.{Ignored}
-use Rattle.sacn_receiver.specs.declared.answer.Ignored.TheVariants.{Backwards, Unreadable}
-use Rattle.sacn_receiver.specs.Taking.{entry_of, reason_of, refusal, unheard, ignored_packet}
-use Rattle.sacn_receiver.specs.Taking.{ignored, taken_of}
+use Rattle.sacn_receiver.specs.Taking.{entry_of, reason_of, refusal, ignored, taken_of}
 use Rattle.sacn_receiver.specs.Arrivals.{Arrival, heard_all, last_arrival, NeverFall, not_heard}
 use Rattle.sacn_receiver.specs.Arrivals.{is_heard, cid_of, is_from, HeardAreFrom, packets_heard}
-use Rattle.sacn_receiver.proofs.Members.{by_test, In, found_in, none_found, In_filter, In_filtered}
-use Rattle.sacn_receiver.proofs.Apart.{AllIn, AllIn-filter, AllIn-newest, apart_more, fits}
+use Rattle.sacn_receiver.proofs.Members.{by_test, In, found_in, In_filter, In_filtered}
+use Rattle.sacn_receiver.proofs.Apart.{own_cid, find_records, records_distinct, in_found}
+use Rattle.sacn_receiver.proofs.Apart.{newest_found, AllIn, all_in, in_all, distinct_apart, fits}
 pub use Rattle.sacn_receiver.proofs.Apart.{one_of}
-use Rattle.sacn_receiver.proofs.Same.{record_found, records_apart, merged_same, found_record}
+use Rattle.sacn_receiver.proofs.Same.{merged_same, live_distinct}
+use Rattle.sacn_receiver.proofs.Taking.{ignored_in_time}
 
 -- an element, by its place and by recursion
 module _ {A : Type 0} (x : A) where
@@ -47,34 +46,30 @@ by_membership lights others same s =
     in_from_place l others r.0 r.1 r.2)
     (λ l i. let r = (same l).1 (place_from_in l others i) in in_from_place l lights r.0 r.1 r.2)
 
-same_find : (c : List ℕ) (e : Entry) (h : List Entry) → same_cid c e ≡ true
-    → find (same_cid c) h ≡ find (same_cid e.cid) h
-same_find c e [] q = refl
-same_find c e (x ∷ h) q =
-    ap (λ b. cond b (Some x) (find (same_cid c) h)) (nat_list_eq_equiv.congr c e.cid x.cid q)
-    ∙ ap (cond (same_cid e.cid x) (Some x)) (same_find c e h q)
+pub live_records : LiveAreRecords
+live_records h t e = (
+  λ c. let j = In_filtered (λ f. not f.ended) e (records h t)
+      (in_from_place e (live h t) c.0 c.1 c.2) in (
+        sym (find_records h t e.cid) ∙ in_found (records h t) e (records_distinct h t) j.0,
+        not-true e.ended j.1,
+      ),
+  λ r. place_from_in e (live h t) (In_filter (λ f. not f.ended) e (records h t)
+      (found_in (same_cid e.cid) e (records h t) (find_records h t e.cid ∙ r.0)).0 (ap not r.1)),
+)
 
--- a CID without a record has no entry among the records
-absent : (c : List ℕ) (t : ℕ) (h : List Entry) → record_of h t c ≡ None
-    → length (filter (same_cid c) (records h t)) ≡ 0
-absent c t h n = none_found (same_cid c) (records h t) (go (find (same_cid c) (records h t)) refl)
-  where
-    go : (o : Option Entry) → find (same_cid c) (records h t) ≡ o
-        → find (same_cid c) (records h t) ≡ None
-    go None e = e
-    go (Some f) e =
-        let i = found_in (same_cid c) f (records h t) e in
-        absurd (let z : None ≡ Some f = sym n ∙ ap (while_there t) (same_find c f h i.1)
-        ∙ record_found h t f i.0 in cc)
+pub live_apart : LiveAreApart
+live_apart h t = distinct_apart (live h t) (live_distinct h t)
 
 -- a CID without a record finds room among as many as there are CIDs
 pub room_for : (cids : List (List ℕ)) (e : Entry) (t : ℕ) (h : List Entry) → AllIn cids h
     → list_any (λ c. same_cid c e) cids ≡ true → record_of h t e.cid ≡ None
     → length (records h t) < length cids
 room_for cids e t h a m n =
+    let kept : AllIn cids (records h t) = all_in cids (records h t) (λ f i.
+    let j = newest_found h f (In_filtered (is_there t) f (newest h) i).0 in
+    in_all cids h a f (found_in (same_cid f.cid) f h j).0) in
     let more : length (e ∷ records h t) ≤ length cids =
-    fits cids (e ∷ records h t) (m, AllIn-filter cids _ (newest h) (AllIn-newest cids h a))
-    (apart_more e (records h t) (records_apart h t) (absent e.cid t h n)) in
+    fits cids (e ∷ records h t) (m, kept) (find_records h t e.cid ∙ n, records_distinct h t) in
     omega (arith, more)
 
 pub accepted_in : (room : ℕ) (cids : List (List ℕ)) (es : List Entry) → AllIn cids es
@@ -85,152 +80,96 @@ accepted_in room cids (e ∷ es) a =
     (accepted room es) (AllIn cids) (λ _. (a.0, accepted_in room cids es a.1))
     (λ _. accepted_in room cids es a.1)
 
--- two histories with the same newest packet of a CID accept its next packet alike
-pub alike : (room : ℕ) (cids : List (List ℕ)) (e : Entry) → length cids ≤ room
-    → list_any (λ c. same_cid c e) cids ≡ true
-    → (g h : List Entry) → AllIn cids g → AllIn cids h
-    → record_of g e.moment e.cid ≡ record_of h e.moment e.cid
-    → is_accepted room g e.moment e.cid e.number ≡ is_accepted room h e.moment e.cid e.number
-alike room cids e few m g h a b s =
-    ap (λ o. is_taken room o (length (records g e.moment)) e.number) s
-    ∙ go (record_of h e.moment e.cid) refl
-  where
-    fits_in : (f : List Entry) → AllIn cids f → record_of f e.moment e.cid ≡ None
-        → is_taken room None (length (records f e.moment)) e.number ≡ true
-    fits_in f a n = lt-ltb _ room (omega (arith, few, room_for cids e e.moment f a m n))
+-- where there is room, a packet is accepted by the record of its CID alone
+abbrev by_number : ℕ → Option Entry → Bool
+by_number number o = option_map_or (λ e. is_after e.number number) o true
 
+accepts : (room : ℕ) (cids : List (List ℕ)) (e : Entry) → length cids ≤ room
+    → list_any (λ c. same_cid c e) cids ≡ true → (h : List Entry) → AllIn cids h
+    → is_accepted room h e.moment e.cid e.number
+    ≡ by_number e.number (record_of h e.moment e.cid)
+accepts room cids e few m h a = go (record_of h e.moment e.cid) refl
+  where
     go : (o : Option Entry) → record_of h e.moment e.cid ≡ o
-        → is_taken room (record_of h e.moment e.cid) (length (records g e.moment)) e.number
-        ≡ is_taken room (record_of h e.moment e.cid) (length (records h e.moment)) e.number
-    go None n = rw n (fits_in g a (s ∙ n) ∙ sym (fits_in h b n))
-    go (Some f) n = rw n
+        → is_taken room o (length (records h e.moment)) e.number ≡ by_number e.number o
+    go None n = lt-ltb _ room (omega (arith, few, room_for cids e e.moment h a m n))
+    go (Some f) n = refl
 
-pub independent : (room : ℕ) (cids : List (List ℕ)) (c : List ℕ) → length cids ≤ room
-    → (es : List Entry) → AllIn cids es
-    → find (same_cid c) (accepted room es)
-    ≡ find (same_cid c) (accepted room (filter (same_cid c) es))
-independent room cids c few [] a = refl
-independent room cids c few (e ∷ es) a =
-    by_test (same_cid c e) (λ q. own q (independent room cids c few es a.1))
-    (λ q. let left : filter (same_cid c) (e ∷ es) ≡ filter (same_cid c) es = rw q in
-    cond_both (is_accepted room g e.moment e.cid e.number) (e ∷ g) g
-    (λ l. find (same_cid c) l ≡ find (same_cid c) g) (λ _. rw q) (λ _. refl)
-    ∙ independent room cids c few es a.1
-    ∙ ap (λ es. find (same_cid c) (accepted room es)) (sym left))
-  where
-    g : List Entry
-    g = accepted room es
+module _ (room : ℕ) (cids : List (List ℕ)) (c : List ℕ) (few : length cids ≤ room) where
+  -- a packet of a source is accepted alike where the same packet of it was accepted last
+  same_next : (e : Entry) (g h : List Entry) → list_any (λ d. same_cid d e) cids ≡ true
+      → AllIn cids g → AllIn cids h → same_cid c e ≡ true
+      → find (same_cid c) g ≡ find (same_cid c) h
+      → find (same_cid c) (if is_accepted room g e.moment e.cid e.number then e ∷ g else g)
+      ≡ find (same_cid c) (if is_accepted room h e.moment e.cid e.number then e ∷ h else h)
+  same_next e g h m a b q s =
+      let same : find (same_cid e.cid) g ≡ find (same_cid e.cid) h = rw (own_cid c e q) at s in
+      let next : is_accepted room g e.moment e.cid e.number
+      ≡ is_accepted room h e.moment e.cid e.number = accepts room cids e few m g a
+      ∙ ap (λ o. by_number e.number (while_there e.moment o)) same
+      ∙ sym (accepts room cids e few m h b) in
+      rw next (by_test (is_accepted room h e.moment e.cid e.number) (λ k. simp (k, q))
+      (λ k. simp k s))
 
-    h : List Entry
-    h = accepted room (filter (same_cid c) es)
+  independent : (es : List Entry) → AllIn cids es → find (same_cid c) (accepted room es)
+      ≡ find (same_cid c) (accepted room (filter (same_cid c) es))
+  independent [] a = refl
+  independent (e ∷ es) a =
+      let own : List Entry = filter (same_cid c) es in
+      let g : List Entry = accepted room es in
+      let ih : find (same_cid c) g ≡ find (same_cid c) (accepted room own) = independent es a.1 in
+      by_test (same_cid c e)
+      (λ q. rw q (same_next e g (accepted room own) a.0 (accepted_in room cids es a.1)
+      (accepted_in room cids own (all_in cids own (λ f i.
+      in_all cids es a.1 f (In_filtered (same_cid c) f es i).0))) q ih))
+      (λ q. rw q (cond_both (is_accepted room g e.moment e.cid e.number) (e ∷ g) g
+      (λ l. find (same_cid c) l ≡ find (same_cid c) (accepted room own)) (λ _. rw q ih) (λ _. ih)))
 
-    with_one : (b : Bool) → same_cid c e ≡ true → find (same_cid c) g ≡ find (same_cid c) h
-        → find (same_cid c) (if b then e ∷ g else g) ≡ find (same_cid c) (if b then e ∷ h else h)
-    with_one true q ih = rw q
-    with_one false q ih = ih
-
-    own : same_cid c e ≡ true → find (same_cid c) g ≡ find (same_cid c) h
-        → find (same_cid c) (accepted room (e ∷ es))
-        ≡ find (same_cid c) (accepted room (filter (same_cid c) (e ∷ es)))
-    own q ih =
-        let kept : filter (same_cid c) (e ∷ es) ≡ e ∷ filter (same_cid c) es = rw q in
-        ap (λ b. find (same_cid c) (if b then e ∷ g else g))
-        (alike room cids e few a.0 g h (accepted_in room cids es a.1)
-        (accepted_in room cids (filter (same_cid c) es) (AllIn-filter cids (same_cid c) es a.1))
-        (ap (while_there e.moment) (sym (same_find c e g q) ∙ ih ∙ same_find c e h q)))
-        ∙ with_one _ q ih ∙ ap (λ es. find (same_cid c) (accepted room es)) (sym kept)
-
-all_in : (cids : List (List ℕ)) (es : List Entry) → All (λ e. Contains cids e.cid) es
+all_from : (cids : List (List ℕ)) (es : List Entry) → All (λ e. Contains cids e.cid) es
     → AllIn cids es
-all_in cids [] a = tt
-all_in cids (e ∷ es) a =
-    let h = All-head (λ (e : Entry). Contains cids e.cid) e es a in (
-      one_of e cids (in_from_place e.cid cids h.0 h.1 h.2),
-      all_in cids es (All-tail (λ (e : Entry). Contains cids e.cid) e es a),
-    )
+all_from cids es a = all_in cids es (λ e i.
+    let h = All-contains (λ (f : Entry). Contains cids f.cid) es e a (place_from_in e es i) in
+    one_of e cids (in_from_place e.cid cids h.0 h.1 h.2))
 
 pub sources_independent : SourcesAreIndependent
 sources_independent room cids packets few from cid =
-    independent room cids cid few packets (all_in cids packets from)
-
-pub live_records : LiveAreRecords
-live_records h t e = (
-  λ c. let j = In_filtered (λ f. not f.ended) e (records h t)
-      (in_from_place e (live h t) c.0 c.1 c.2) in
-      (record_found h t e j.0, not-true e.ended j.1),
-  λ r. place_from_in e (live h t) (In_filter (λ f. not f.ended) e (records h t)
-      (found_record h t e.cid e r.0) (ap not r.1)),
-)
+    independent room cids cid few packets (all_from cids packets from)
 
 -- the entry of an arrival's packet, where it is accepted
 abbrev pub entry_from : Arrival → Entry
 entry_from a = entry_of a.moment (front_packet a.datagram)
 
--- a reason that the source rule may give behind those that do not depend on the history
-in_parts : (x y z : Option Ignored) → option_or x (option_or y z) ≡ option_or (option_or x y) z
-in_parts None y z = refl
-in_parts (Some r) y z = refl
-
-only_if_none : (o x y : Option Ignored) → (is_none o ≡ true → x ≡ y) → option_or o x ≡ option_or o y
-only_if_none None x y h = h refl
-only_if_none (Some r) x y h = refl
-
-module _ (room universe : ℕ) (h : List Entry) (a : Arrival) (time : last_moment h ≤ a.moment) where
-  -- in time, a datagram is ignored because it is not heard, or by the source rule
-  ignored_in_time : ignored room universe h a.moment a.datagram
-      ≡ option_or (not_heard universe a.datagram)
-      (refusal room h a.moment (cid_of a) (entry_from a).number)
-  ignored_in_time =
-      ap (λ b. if b then Some Backwards else option_or (option_map Unreadable (fault_of a.datagram))
-      (ignored_packet room universe h a.moment (front_packet a.datagram)))
-      (le-ltb a.moment (last_moment h) time)
-      ∙ in_parts (option_map Unreadable (fault_of a.datagram))
-      (unheard universe (front_packet a.datagram))
-      (refusal room h a.moment (cid_of a) (entry_from a).number)
-
--- the last accepted packet is not after the last arrival
-last_heard : (room universe : ℕ) (arrivals : List Arrival) → NeverFall arrivals
-    → last_moment (heard_all room universe arrivals) ≤ last_arrival arrivals
-last_heard room universe [] n = omega arith
-last_heard room universe (a ∷ older) n =
-    go (ignored room universe (heard_all room universe older) a.moment a.datagram)
-    (heard_all room universe older) (omega (arith, n.0, last_heard room universe older n.1))
-  where
-    go : (o : Option Ignored) (h : List Entry) → last_moment h ≤ a.moment
-        → last_moment (option_map_or (λ _. h) o (entry_from a ∷ h)) ≤ a.moment
-    go None h l = omega arith
-    go (Some r) h l = l
-
+-- the last accepted packet is not after the next arrival
 in_time : (room universe : ℕ) (a : Arrival) (older : List Arrival) → NeverFall (a ∷ older)
     → last_moment (heard_all room universe older) ≤ a.moment
-in_time room universe a older n = omega (arith, n.0, last_heard room universe older n.1)
+in_time room universe a [] n = omega arith
+in_time room universe a (b ∷ older) n =
+    go (ignored room universe (heard_all room universe older) b.moment b.datagram)
+    (heard_all room universe older) (omega (arith, n.0, in_time room universe b older n.1))
+  where
+    go : (o : Option Ignored) (h : List Entry) → last_moment h ≤ a.moment
+        → last_moment (option_map_or (λ _. h) o (entry_from b ∷ h)) ≤ a.moment
+    go None h l = n.0
+    go (Some r) h l = l
 
 pub heard_accepted : HeardAreAccepted
 heard_accepted room universe [] n = refl
 heard_accepted room universe (a ∷ older) n =
-    ap (λ o. option_map_or (λ _. heard_all room universe older) o
-    (entry_from a ∷ heard_all room universe older))
-    (ignored_in_time room universe (heard_all room universe older) a
-    (in_time room universe a older n))
-    ∙ ap (λ h. option_map_or (λ _. h) (option_or (not_heard universe a.datagram)
-    (refusal room h a.moment (cid_of a) (entry_from a).number)) (entry_from a ∷ h))
-    (heard_accepted room universe older n.1)
-    ∙ go (not_heard universe a.datagram) (filter (is_heard universe) older)
+    rw (
+      ignored_in_time room universe (heard_all room universe older) a.moment a.datagram
+          (in_time room universe a older n),
+      heard_accepted room universe older n.1,
+    )
+    (go (not_heard universe a.datagram) (filter (is_heard universe) older))
   where
-    either : (b : Bool) (x : Ignored) (e : Entry) (g : List Entry)
-        → option_map_or (λ _. g) (if b then None else Some x) (e ∷ g) ≡ (if b then e ∷ g else g)
-    either true x e g = refl
-    either false x e g = refl
-
     go : (o : Option Ignored) (rest : List Arrival)
         → option_map_or (λ _. accepted room (map entry_from rest)) (option_or o
         (refusal room (accepted room (map entry_from rest)) a.moment (cid_of a)
         (entry_from a).number)) (entry_from a ∷ accepted room (map entry_from rest))
         ≡ accepted room (map entry_from (if is_none o then a ∷ rest else rest))
     go None rest =
-        let g : List Entry = accepted room (map entry_from rest) in
-        either (is_accepted room g a.moment (cid_of a) (entry_from a).number)
-        (reason_of (record_of g a.moment (cid_of a))) (entry_from a) g
+        by_test (is_accepted room (accepted room (map entry_from rest)) a.moment (cid_of a)
+        (entry_from a).number) (λ k. simp k) (λ k. simp k)
     go (Some x) rest = refl
 
 -- the packets of some of the arrivals
@@ -239,50 +178,33 @@ packets_from : (cid : List ℕ) (universe : ℕ) (arrivals : List Arrival)
     ≡ filter (same_cid cid) (packets_heard universe arrivals)
 packets_from cid universe [] = refl
 packets_from cid universe (a ∷ older) =
+    let ih = packets_from cid universe older in
     by_test (is_from cid a) (λ p. by_test (is_heard universe a)
-    (λ q. simp (p, q) (ap (λ l. entry_from a ∷ l) (packets_from cid universe older)))
-    (λ q. simp (p, q) (packets_from cid universe older)))
-    (λ p. by_test (is_heard universe a) (λ q. simp (p, q) (packets_from cid universe older))
-    (λ q. simp (p, q) (packets_from cid universe older)))
+    (λ q. simp (p, q) (ap (λ l. entry_from a ∷ l) ih)) (λ q. simp (p, q) ih))
+    (λ p. by_test (is_heard universe a) (λ q. simp (p, q) ih) (λ q. simp (p, q) ih))
 
 -- of some of the arrivals too the moments never fall
-last_of_some : (p : Arrival → Bool) (arrivals : List Arrival) → NeverFall arrivals
-    → last_arrival (filter p arrivals) ≤ last_arrival arrivals
-last_of_some p [] n = omega arith
-last_of_some p (a ∷ older) n =
-    cond_both (p a) (a ∷ filter p older) (filter p older) (λ l. last_arrival l ≤ a.moment)
-    (λ _. omega arith) (λ _. omega (arith, last_of_some p older n.1, n.0))
-
-some_never_fall : (p : Arrival → Bool) (arrivals : List Arrival) → NeverFall arrivals
-    → NeverFall (filter p arrivals)
-some_never_fall p [] n = tt
-some_never_fall p (a ∷ older) n =
-    cond_both (p a) (a ∷ filter p older) (filter p older) NeverFall
-    (λ _. (omega (arith, last_of_some p older n.1, n.0), some_never_fall p older n.1))
-    (λ _. some_never_fall p older n.1)
+some_never_fall : (p : Arrival → Bool) (older : List Arrival) (m : ℕ) → last_arrival older ≤ m
+    → NeverFall older → (last_arrival (filter p older) ≤ m) × NeverFall (filter p older)
+some_never_fall p [] m l n = (l, tt)
+some_never_fall p (a ∷ older) m l n =
+    cond_both (p a) (a ∷ filter p older) (filter p older)
+    (λ l. (last_arrival l ≤ m) × NeverFall l)
+    (λ _. (l, some_never_fall p older a.moment n.0 n.1))
+    (λ _. some_never_fall p older m (omega (arith, l, n.0)) n.1)
 
 -- an arrival comes from one of these sources, if it is heard
 abbrev IsOf : List (List ℕ) → ℕ → Arrival → Type 0
 IsOf cids universe a = IsTrue (is_heard universe a) → Contains cids (cid_of a)
 
--- a CID that is among those of the arrivals
-is_one_of : (cids : List (List ℕ)) (universe : ℕ) (a : Arrival) (older : List Arrival)
-    → HeardAreFrom cids universe (a ∷ older)
-    → is_heard universe a ≡ true → list_any (λ c. same_cid c (entry_from a)) cids ≡ true
-is_one_of cids universe a older s q =
-    let there : Contains cids (cid_of a) = All-head (IsOf cids universe) a older s q in
-    one_of (entry_from a) cids (in_from_place (cid_of a) cids there.0 there.1 there.2)
-
 -- they come from the sources of the arrivals
 packets_in : (cids : List (List ℕ)) (universe : ℕ) (arrivals : List Arrival)
     → HeardAreFrom cids universe arrivals → AllIn cids (packets_heard universe arrivals)
-packets_in cids universe [] s = tt
-packets_in cids universe (a ∷ older) s =
-    let ih : AllIn cids (packets_heard universe older) =
-    packets_in cids universe older (All-tail (IsOf cids universe) a older s) in
-    cond_both (is_heard universe a) (a ∷ filter (is_heard universe) older)
-    (filter (is_heard universe) older) (λ l. AllIn cids (map entry_from l))
-    (λ q. (is_one_of cids universe a older s q, ih)) (λ _. ih)
+packets_in cids universe arrivals from =
+    let p : Arrival → Bool = is_heard universe in
+    all_from cids (packets_heard universe arrivals) (All-map (λ e. Contains cids e.cid) entry_from
+    (filter p arrivals) (λ k d l. All-filter p (IsOf cids universe) arrivals from k d l
+    (filter_passes p arrivals k d l)))
 
 pub records_independent : RecordsAreIndependent
 records_independent room universe cids arrivals few from n cid =
@@ -291,53 +213,47 @@ records_independent room universe cids arrivals few from n cid =
     (packets_in cids universe arrivals from)
     ∙ sym (ap (find (same_cid cid))
     (heard_accepted room universe (filter (is_from cid) arrivals)
-    (some_never_fall (is_from cid) arrivals n)
+    (some_never_fall (is_from cid) arrivals (last_arrival arrivals) (omega arith) n).1
     ∙ ap (accepted room) (packets_from cid universe arrivals)))
-
--- what is accepted comes from the sources of the arrivals
-heard_in : (room : ℕ) (cids : List (List ℕ)) (universe : ℕ) (arrivals : List Arrival)
-    → HeardAreFrom cids universe arrivals → NeverFall arrivals
-    → AllIn cids (heard_all room universe arrivals)
-heard_in room cids universe arrivals from n =
-    subst (AllIn cids) (sym (heard_accepted room universe arrivals n))
-    (accepted_in room cids (packets_heard universe arrivals)
-    (packets_in cids universe arrivals from))
 
 pub answers_independent : AnswersAreIndependent
 answers_independent room universe cids a older few from n =
     ap (λ o. option_map_or Err o (Ok (taken_of (front_packet a.datagram))))
-    (ignored_in_time room universe g a (in_time room universe a older n)
-    ∙ only_if_none (not_heard universe a.datagram) _ _ same_refusal
-    ∙ sym (ignored_in_time room universe h a (in_time room universe a own own_falls)))
+    (ignored_in_time room universe _ a.moment a.datagram (in_time room universe a older n)
+    ∙ only_if_none (not_heard universe a.datagram) _ _ (λ q. refused q older rest_from n.1
+    ∙ ap (λ o. by_record (while_there a.moment o))
+    (records_independent room universe cids older few rest_from n.1 (cid_of a))
+    ∙ sym (refused q own (All-filter (is_from (cid_of a)) (IsOf cids universe) older rest_from)
+    falls.1))
+    ∙ sym (ignored_in_time room universe _ a.moment a.datagram (in_time room universe a own falls)))
   where
     own : List Arrival
     own = filter (is_from (cid_of a)) older
 
-    g : List Entry
-    g = heard_all room universe older
-
-    h : List Entry
-    h = heard_all room universe own
-
     rest_from : HeardAreFrom cids universe older
     rest_from = All-tail (IsOf cids universe) a older from
 
-    own_falls : NeverFall (a ∷ own)
-    own_falls = (
-      omega (arith, n.0, last_of_some (is_from (cid_of a)) older n.1),
-      some_never_fall (is_from (cid_of a)) older n.1,
-    )
+    falls : NeverFall (a ∷ own)
+    falls = some_never_fall (is_from (cid_of a)) older a.moment n.0 n.1
 
-    same_record : record_of g a.moment (cid_of a) ≡ record_of h a.moment (cid_of a)
-    same_record = ap (while_there a.moment)
-        (records_independent room universe cids older few rest_from n.1 (cid_of a))
+    only_if_none : (o x y : Option Ignored) → (is_none o ≡ true → x ≡ y)
+        → option_or o x ≡ option_or o y
+    only_if_none None x y h = h refl
+    only_if_none (Some r) x y h = refl
 
-    same_refusal : is_heard universe a ≡ true
-        → refusal room g a.moment (cid_of a) (entry_from a).number
-        ≡ refusal room h a.moment (cid_of a) (entry_from a).number
-    same_refusal q = ap₂ (λ b o. if b then None else Some (reason_of o))
-        (alike room cids (entry_from a) few (is_one_of cids universe a older from q) g h
-        (heard_in room cids universe older rest_from n.1)
-        (heard_in room cids universe own
-        (All-filter (is_from (cid_of a)) (IsOf cids universe) older rest_from) own_falls.1)
-        same_record) same_record
+    by_record : Option Entry → Option Ignored
+    by_record o = if by_number (entry_from a).number o then None else Some (reason_of o)
+
+    -- what is refused of a packet that is heard
+    refused : is_heard universe a ≡ true → (some : List Arrival) → HeardAreFrom cids universe some
+        → NeverFall some
+        → refusal room (heard_all room universe some) a.moment (cid_of a) (entry_from a).number
+        ≡ by_record (record_of (heard_all room universe some) a.moment (cid_of a))
+    refused q some from_some falls =
+        let h : List Entry = heard_all room universe some in
+        let all : AllIn cids h = rw (heard_accepted room universe some falls)
+        (accepted_in room cids (packets_heard universe some)
+        (packets_in cids universe some from_some)) in
+        ap (λ b. if b then None else Some (reason_of (record_of h a.moment (cid_of a))))
+        (accepts room cids (entry_from a) few
+        (rw q at (packets_in cids universe (a ∷ older) from)).0 h all)

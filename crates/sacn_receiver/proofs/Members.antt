@@ -1,5 +1,5 @@
 -- What is in a list, and what filters leave in it.
-use Rattle.std.proofs.Common.{◌≡◌, ◌≤◌, Bool, true, false, not, ◌⊎◌, refl, ap, arith, sym, inl, inr}
+use Rattle.std.proofs.Common.{◌≡◌, ◌<◌, Bool, true, false, ◌⊎◌, refl, ap, arith, sym, inl, inr}
 use Rattle.std.proofs.Common.{◌∙◌, List, [], ◌∷◌, map, length, Some, None}
 use Rattle.std.specs.Prelude.{filter, find}
 
@@ -12,6 +12,10 @@ by_test false f g = g refl
 abbrev pub In : {A : Type 0} → A → List A → Type 0
 In e [] = ⊥
 In e (x ∷ xs) = (e ≡ x) ⊎ In e xs
+
+pub In_length : {A : Type 0} (e : A) (xs : List A) → In e xs → 0 < length xs
+In_length e [] i = absurd i
+In_length e (x ∷ xs) i = omega arith
 
 module _ {A : Type 0} (p : A → Bool) where
   pub In_filter : (e : A) (es : List A) → In e es → p e ≡ true → In e (filter p es)
@@ -35,43 +39,12 @@ module _ {A : Type 0} (p : A → Bool) where
       by_test (p x) (λ h. let s : Some x ≡ Some e = rw h at f in let k : e ≡ x = cc in
       (inl k, ap p k ∙ h)) (λ h. let r = found_in e xs (rw h at f) in (inr r.0, r.1))
 
-  -- what a filter leaves out is not in it
-  pub filter_out : (es : List A) → length (filter p (filter (λ e. not (p e)) es)) ≡ 0
-  filter_out [] = refl
-  filter_out (e ∷ es) =
-      by_test (p e) (λ h. rw h (filter_out es)) (λ h. rw (h, h) (filter_out es))
-
-  -- where none passes, all fail
-  pub filter_all : (es : List A) → length (filter p es) ≡ 0 → filter (λ e. not (p e)) es ≡ es
-  filter_all [] n = refl
-  filter_all (e ∷ es) n =
-      by_test (p e) (λ h. absurd (let k = rw h at n in omega (arith, k)))
-      (λ h. rw h (ap (λ l. e ∷ l) (filter_all es (rw h at n))))
-
   -- nothing is found where nothing passes
-  pub find_none : (es : List A) → length (filter p es) ≡ 0 → find p es ≡ None
-  find_none [] n = refl
-  find_none (e ∷ es) n =
-      by_test (p e) (λ h. absurd (let k = rw h at n in omega (arith, k)))
-      (λ h. rw h (find_none es (rw h at n)))
-
   pub none_found : (es : List A) → find p es ≡ None → length (filter p es) ≡ 0
   none_found [] n = refl
   none_found (e ∷ es) n =
       by_test (p e) (λ h. absurd (let k : Some e ≡ None = rw h at n in cc))
       (λ h. rw h (none_found es (rw h at n)))
-
-  pub rest_less : (e : A) (es : List A) → length (filter p es) ≤ length (filter p (e ∷ es))
-  rest_less e es = by_test (p e) (λ h. rw h (omega arith)) (λ h. rw h (omega arith))
-
--- filtering first leaves no more
-pub filter_less : {A : Type 0} (p q : A → Bool) (es : List A)
-    → length (filter q (filter p es)) ≤ length (filter q es)
-filter_less p q [] = omega arith
-filter_less p q (e ∷ es) =
-    by_test (p e) (λ h. by_test (q e) (λ k. rw (h, k) (omega (arith, filter_less p q es)))
-    (λ k. rw (h, k) (filter_less p q es)))
-    (λ h. rw h (omega (arith, filter_less p q es, rest_less q e es)))
 
 module _ {A B : Type 0} (f : A → B) where
   pub In_map : (e : A) (es : List A) → In e es → In (f e) (map f es)

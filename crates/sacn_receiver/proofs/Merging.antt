@@ -1,6 +1,6 @@
 -- The live records of a receiver, one more at a time.
-use Rattle.std.proofs.Common.{◌≡◌, ℕ, ◌+◌, ◌<◌, ◌≤◌, true, false, not, ◌&&◌, cond, max, refl, ap}
-use Rattle.std.proofs.Common.{arith, sym, ◌∙◌, List, [], ◌∷◌, map, length, take, get_or, Bool}
+use Rattle.std.proofs.Common.{◌≡◌, ℕ, ◌+◌, ◌<◌, ◌≤◌, true, false, cond, max, refl, ap}
+use Rattle.std.proofs.Common.{arith, sym, ◌∙◌, List, [], ◌∷◌, map, length, take, get_or}
 use Rattle.std.specs.Prelude.{filter, count_by, slice_index, ◌==◌, if◌then◌else◌}
 use Rattle.std.proofs.lemmas.List.{take_more}
 use Rattle.std.proofs.lemmas.List.Folds.{fold-map}
@@ -8,14 +8,13 @@ use Rattle.std.proofs.lemmas.List.FromFn.{fill_by_all}
 use Rattle.std.proofs.lemmas.List.Recursion.{max_push}
 use Rattle.std.proofs.lemmas.List.Sums.{length-filter}
 use Rattle.sacn_receiver.specs.declared.record.Record.{Record}
-use Rattle.sacn_receiver.specs.Source.{Entry, is_there}
+use Rattle.sacn_receiver.specs.Source.{Entry}
 use Rattle.sacn_receiver.specs.Shown.{light_of, live, greatest, merged, shown, shown_slots}
 use Rattle.sacn_receiver.specs.Kept.{Kept, StandsFor}
 use Rattle.sacn_receiver.specs.Records.{entries, kept_entry, is_live_at, lights_at, top_at, lit}
-use Rattle.sacn_receiver.specs.Places.{AreApart}
+use Rattle.sacn_receiver.specs.Places.{AreDistinct}
 use Rattle.sacn_receiver.proofs.Members.{by_test}
-use Rattle.sacn_receiver.proofs.Same.{same_live, same_shown}
-use Rattle.sacn_receiver.proofs.Taking.{records_all}
+use Rattle.sacn_receiver.proofs.Same.{live_count, live_shown}
 
 -- the greatest of at most four numbers
 pub greatest_of_four : (xs : List ℕ) → length xs ≤ 4
@@ -65,34 +64,19 @@ greatest_lit t s top (r ∷ rs) =
     (λ k. simp (h, k) (omega (arith, greatest_lit t s top rs))))
     (λ h. simp h (omega (arith, greatest_lit t s top rs)))
 
-filter_both : (p q : Entry → Bool) (es : List Entry)
-    → filter q (filter p es) ≡ filter (λ e. p e && q e) es
-filter_both p q [] = refl
-filter_both p q (e ∷ es) =
-    by_test (p e) (λ h. by_test (q e)
-    (λ k. simp (h, k) (ap (λ l. e ∷ l) (filter_both p q es)))
-    (λ k. simp (h, k) (filter_both p q es))) (λ h. simp h (filter_both p q es))
-
--- the live records of a receiver
-live_all : (es : List Entry) (t : ℕ) → AreApart es → live es t ≡ filter (is_live_at t) es
-live_all es t a = ap (filter (λ e. not e.ended)) (records_all es t a)
-    ∙ filter_both (is_there t) (λ e. not e.ended) es
-
 -- what a receiver counts and shows, where it stands for a history
 pub counts_live : (rs : List Record) (r : Kept) (h : List Entry) (t n : ℕ) → r.records ≡ entries rs
-    → AreApart r.records → r.latest ≤ t → n ≡ count_by (λ r. is_live_at t (kept_entry r)) rs
+    → AreDistinct r.records → r.latest ≤ t → n ≡ count_by (λ r. is_live_at t (kept_entry r)) rs
     → StandsFor r h → n ≡ length (live h t)
 counts_live rs r h t n is a l c s =
     c ∙ sym (fold-map (λ n e. n + cond (is_live_at t e) 1 0) kept_entry 0 rs)
     ∙ ap (count_by (is_live_at t)) (sym is) ∙ sym (length-filter (is_live_at t) r.records)
-    ∙ ap length (sym (live_all r.records t a))
-    ∙ same_live t r.records h (λ c. s.records_are t c l)
+    ∙ live_count t r.records h a (λ c. s.records_are t c l)
 
-pub shows : (r : Kept) (h : List Entry) (t : ℕ) (out : List ℕ) → AreApart r.records
+pub shows : (r : Kept) (h : List Entry) (t : ℕ) (out : List ℕ) → AreDistinct r.records
     → r.latest ≤ t → length out ≡ 512 → ((s : ℕ) → s < 512
     → get_or out s 0 ≡ merged (map light_of (filter (is_live_at t) r.records)) s)
     → StandsFor r h → out ≡ shown_slots h t
 shows r h t out a l size each s =
     fill_by_all (shown h t) out 512 0 size (λ i lt.
-    each i lt ∙ ap (λ es. merged (map light_of es) i) (sym (live_all r.records t a))
-    ∙ same_shown t r.records h (λ c. s.records_are t c l) i)
+    each i lt ∙ live_shown t r.records h a (λ c. s.records_are t c l) i)

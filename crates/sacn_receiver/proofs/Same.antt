@@ -1,66 +1,17 @@
 -- Histories that give each CID the same record at a moment: they count, show and accept alike.
-use Rattle.std.proofs.Common.{◌≡◌, ℕ, ◌≤◌, true, not, refl, ap, ap₂, arith, sym, subst, inl, inr}
+use Rattle.std.proofs.Common.{◌≡◌, ℕ, ◌≤◌, not, refl, ap, ap₂, arith, sym, inl, inr}
 use Rattle.std.proofs.Common.{◌∙◌, List, [], ◌∷◌, map, length, Option, Some, None}
-use Rattle.std.specs.Prelude.{nat_eq, if◌then◌else◌, find, slice_index}
-use Rattle.std.proofs.lemmas.Option.{cond_some}
-use Rattle.sacn_receiver.specs.Source.{Entry, same_cid, is_there, newest, records, while_there}
-use Rattle.sacn_receiver.specs.Source.{record_of, is_taken}
-use Rattle.sacn_receiver.specs.Shown.{Light, light_of, live, greatest, leading, merged, shown}
+use Rattle.std.specs.Prelude.{nat_eq, if◌then◌else◌, filter, find, slice_index}
+use Rattle.std.proofs.lemmas.Map.Entries.{option_filter}
+use Rattle.sacn_receiver.specs.Source.{Entry, same_cid, is_there, records, while_there, record_of}
+use Rattle.sacn_receiver.specs.Source.{is_taken}
+use Rattle.sacn_receiver.specs.Shown.{Light, light_of, live, greatest, leading, merged}
 use Rattle.sacn_receiver.specs.Taking.{reason_of, refusal}
-use Rattle.sacn_receiver.specs.Places.{AreApart}
-use Rattle.sacn_receiver.proofs.Members.{In, In_filter, In_filtered, In_map, In_mapped}
-use Rattle.sacn_receiver.proofs.Apart.{newest_apart, filter_apart, newest_found, found_newest}
-use Rattle.sacn_receiver.proofs.Apart.{as_many}
-
--- at moment t each CID has the same record
-abbrev pub AreSame : ℕ → List Entry → List Entry → Type 0
-AreSame t g h = (cid : List ℕ) → record_of g t cid ≡ record_of h t cid
-
--- a record is what is found
-pub record_found : (h : List Entry) (t : ℕ) (e : Entry) → In e (records h t)
-    → record_of h t e.cid ≡ Some e
-record_found h t e i =
-    let j = In_filtered (is_there t) e (newest h) i in
-    ap (while_there t) (newest_found h e j.0) ∙ ap (λ b. if b then Some e else None) j.1
-
-while_says : (t : ℕ) (o : Option Entry) (e : Entry) → while_there t o ≡ Some e
-    → (o ≡ Some e) × (is_there t e ≡ true)
-while_says t None e w = absurd (let k : None ≡ Some e = w in cc)
-while_says t (Some x) e w = let r = cond_some (is_there t x) x e w in
-    (ap Some r.1, subst (λ (y : Entry). is_there t y ≡ true) r.1 r.0)
-
-pub found_record : (h : List Entry) (t : ℕ) (c : List ℕ) (e : Entry) → record_of h t c ≡ Some e
-    → In e (records h t)
-found_record h t c e f =
-    let w = while_says t (find (same_cid c) h) e f in
-    In_filter (is_there t) e (newest h) (found_newest c h e w.0) w.1
-
-pub same_members : (t : ℕ) (g h : List Entry) → AreSame t g h → (e : Entry) → In e (records g t)
-    → In e (records h t)
-same_members t g h s e i = found_record h t e.cid e (sym (s e.cid) ∙ record_found g t e i)
-
-pub records_apart : (h : List Entry) (t : ℕ) → AreApart (records h t)
-records_apart h t = filter_apart (is_there t) (newest h) (newest_apart h)
-
-pub same_count : (t : ℕ) (g h : List Entry) → AreSame t g h
-    → length (records g t) ≡ length (records h t)
-same_count t g h s =
-    as_many (records g t) (records h t) (records_apart g t) (records_apart h t)
-    (same_members t g h s) (same_members t h g (λ c. sym (s c)))
-
-live_members : (t : ℕ) (g h : List Entry) → AreSame t g h → (e : Entry) → In e (live g t)
-    → In e (live h t)
-live_members t g h s e i =
-    let j = In_filtered (λ f. not f.ended) e (records g t) i in
-    In_filter (λ f. not f.ended) e (records h t) (same_members t g h s e j.0) j.1
-
-pub live_apart : (h : List Entry) (t : ℕ) → AreApart (live h t)
-live_apart h t = filter_apart (λ e. not e.ended) (records h t) (records_apart h t)
-
-pub same_live : (t : ℕ) (g h : List Entry) → AreSame t g h → length (live g t) ≡ length (live h t)
-same_live t g h s =
-    as_many (live g t) (live h t) (live_apart g t) (live_apart h t) (live_members t g h s)
-    (live_members t h g (λ c. sym (s c)))
+use Rattle.sacn_receiver.specs.Records.{is_live_at}
+use Rattle.sacn_receiver.specs.Places.{AreDistinct}
+use Rattle.sacn_receiver.proofs.Members.{by_test, In, In_filter, In_filtered, In_map, In_mapped}
+use Rattle.sacn_receiver.proofs.Apart.{find_kept, kept_distinct, there_kept, find_records}
+use Rattle.sacn_receiver.proofs.Apart.{records_distinct, FindSame, same_in, as_many}
 
 -- the greatest depends on the members alone
 module _ {A : Type 0} (f : A → ℕ) where
@@ -98,27 +49,47 @@ merged_same xs ys s h g =
     same_greatest (λ l. slice_index l.slots s) (leading xs) (leading ys) (leads xs ys h e)
     (leads ys xs g (sym e))
 
-lights_in : (t : ℕ) (g h : List Entry) → AreSame t g h → (l : Light)
-    → In l (map light_of (live g t)) → In l (map light_of (live h t))
-lights_in t g h s l i =
-    let m = In_mapped light_of l (live g t) i in
-    subst (λ (y : Light). In y (map light_of (live h t))) (sym m.2)
-    (In_map light_of m.0 (live h t) (live_members t g h s m.0 m.1))
+lights_in : (es fs : List Entry) → ((e : Entry) → In e es → In e fs) → (l : Light)
+    → In l (map light_of es) → In l (map light_of fs)
+lights_in es fs h l i =
+    let m = In_mapped light_of l es i in rw m.2 (In_map light_of m.0 fs (h m.0 m.1))
 
-pub same_shown : (t : ℕ) (g h : List Entry) → AreSame t g h → (s : ℕ) → shown g t s ≡ shown h t s
-same_shown t g h e s = merged_same (map light_of (live g t)) (map light_of (live h t)) s
-    (lights_in t g h e) (lights_in t h g (λ c. sym (e c)))
+pub live_distinct : (h : List Entry) (t : ℕ) → AreDistinct (live h t)
+live_distinct h t = kept_distinct (λ e. not e.ended) (records h t) (records_distinct h t)
 
--- what is refused, by the record of the CID and the number of records
-pub by_record : (room t : ℕ) (h : List Entry) (cid : List ℕ) (number : ℕ) (o : Option Entry) (n : ℕ)
-    → record_of h t cid ≡ o → length (records h t) ≡ n
-    → refusal room h t cid number
-    ≡ (if is_taken room o n number then None else Some (reason_of o))
-by_record room t h cid number o n =
-    ap₂ (λ o n. if is_taken room o n number then None else Some (reason_of o))
+-- entries apart that give each CID at moment t the record that a history gives it
+module _ (t : ℕ) (es h : List Entry) (d : AreDistinct es)
+    (s : (cid : List ℕ) → record_of es t cid ≡ record_of h t cid) where
+  live_kept : (o : Option Entry) → option_filter (is_live_at t) o
+      ≡ option_filter (λ e. not e.ended) (while_there t o)
+  live_kept None = refl
+  live_kept (Some e) = by_test (is_there t e) (λ k. rw k) (λ k. rw k)
 
-pub same_refusal : (room t : ℕ) (g h : List Entry) → AreSame t g h → (cid : List ℕ) (number : ℕ)
-    → refusal room g t cid number ≡ refusal room h t cid number
-same_refusal room t g h s cid number =
-    by_record room t g cid number (record_of h t cid) (length (records h t)) (s cid)
-    (same_count t g h s)
+  same_live : FindSame (filter (is_live_at t) es) (live h t)
+  same_live c =
+      find_kept (is_live_at t) c es d ∙ live_kept (find (same_cid c) es)
+      ∙ ap (option_filter (λ e. not e.ended)) (s c ∙ sym (find_records h t c))
+      ∙ sym (find_kept (λ e. not e.ended) c (records h t) (records_distinct h t))
+
+  live_apart : AreDistinct (filter (is_live_at t) es)
+  live_apart = kept_distinct (is_live_at t) es d
+
+  pub live_count : length (filter (is_live_at t) es) ≡ length (live h t)
+  live_count = as_many (filter (is_live_at t) es) (live h t) live_apart (live_distinct h t) same_live
+
+  pub live_shown : (slot : ℕ) → merged (map light_of (filter (is_live_at t) es)) slot
+      ≡ merged (map light_of (live h t)) slot
+  live_shown slot = merged_same _ _ slot
+      (lights_in _ _ (same_in (filter (is_live_at t) es) (live h t) live_apart same_live))
+      (lights_in _ _ (same_in (live h t) (filter (is_live_at t) es) (live_distinct h t)
+      (λ c. sym (same_live c))))
+
+  -- what the history refuses, by what is there of the entries
+  pub refused_by : (room : ℕ) (cid : List ℕ) (number : ℕ) → refusal room h t cid number
+      ≡ (if is_taken room (record_of es t cid) (length (filter (is_there t) es)) number then None
+      else Some (reason_of (record_of es t cid)))
+  refused_by room cid number =
+      ap₂ (λ o n. if is_taken room o n number then None else Some (reason_of o)) (sym (s cid))
+      (as_many (records h t) (filter (is_there t) es) (records_distinct h t)
+      (kept_distinct (is_there t) es d) (λ c. find_records h t c ∙ sym (s c)
+      ∙ sym (find_kept (is_there t) c es d ∙ there_kept t (find (same_cid c) es))))

@@ -2,7 +2,7 @@
 use Rattle.sacn_receiver.specs.declared.receiver.Receiver.TheInside.{Inside}
 use Rattle.sacn_receiver.specs.Kept.{Kept}
 use Rattle.sacn_receiver.specs.Records.{entries}
-use Rattle.sacn_receiver.specs.Places.{AreApart}
+use Rattle.sacn_receiver.specs.Places.{AreDistinct}
 
 abbrev pub receiver_view : Inside → Kept
 receiver_view r = record {
@@ -13,4 +13,4 @@ receiver_view r = record {
 
 -- no two records are of one CID
 abbrev pub IsReceiver : Inside → Type 0
-IsReceiver r = AreApart (entries r.records.items)
+IsReceiver r = AreDistinct (entries r.records.items)

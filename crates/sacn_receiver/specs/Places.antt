@@ -9,6 +9,11 @@ use Rattle.sacn_receiver.specs.Source.{Entry, same_cid, is_there}
 abbrev pub AreApart : List Entry → Type 0
 AreApart es = (cid : List ℕ) → length (filter (same_cid cid) es) ≤ 1
 
+-- the same by recursion: no entry behind one has its CID
+abbrev pub AreDistinct : List Entry → Type 0
+AreDistinct [] = Unit {0}
+AreDistinct (e ∷ es) = (find (same_cid e.cid) es ≡ None) × AreDistinct es
+
 -- with this one at a place
 abbrev pub put : List Entry → ℕ → Entry → List Entry
 put es i e = take i es ++ e ∷ drop (suc i) es

@@ -1,4 +1,4 @@
-ghost use Rattle.std.specs.Prelude.{◌≡◌, ◌≤◌, ◌<◌, not, nat_lt, if◌then◌else◌, length, Some, None};
+ghost use Rattle.std.specs.Prelude.{◌≡◌, ◌≤◌, ◌<◌, not, ◌&&◌, nat_lt, if◌then◌else◌, length, Some, None};
 ghost use Rattle.std.specs.Prelude.{IfOk};
 ghost use Rattle.std.specs.List.{position, position_or_len};
 ghost use Rattle.std.specs.Result.{result_err};
@@ -6,7 +6,7 @@ ghost use Rattle.arrayvec.specs.ArrayVec.{array_vec_len};
 ghost use Rattle.sacn_receiver.specs.Source as source;
 ghost use Rattle.sacn_receiver.specs.Taking.{entry_of, refusal};
 ghost use Rattle.sacn_receiver.specs.Records.{entries, kept_entry};
-ghost use Rattle.sacn_receiver.specs.Places.{AreApart, IsPlace, put};
+ghost use Rattle.sacn_receiver.specs.Places.{AreDistinct, IsPlace, put};
 
 use crate::answer::Ignored;
 use crate::receiver::SOURCES;
@@ -45,6 +45,14 @@ fn is_after(a: u8, b: u8) -> bool
     (1..=236).contains(&b.wrapping_sub(a))
 }
 
+// Whether what is kept is there, and this number does not come after its number.
+fn is_overtaken(kept: &Record, moment: u64, number: u8) -> bool
+    ensures { result ≡ (source.is_there moment (kept_entry kept.now)
+        && not (source.is_after kept.now.number number)) }
+{
+    kept.is_there(moment) && !is_after(kept.number, number)
+}
+
 // The place for a packet of this source with this number.
 pub(crate) fn place_for(
     records: &[Record],
@@ -52,15 +60,14 @@ pub(crate) fn place_for(
     cid: &[u8; 16],
     number: u8,
 ) -> Result<usize, Ignored>
-    requires apart { AreApart (entries records.now) }
+    requires apart { AreDistinct (entries records.now) }
     requires room { length records.now ≤ 4 }
     ensures place { IfOk result (λ place. IsPlace (entries records.now) moment cid.now place) }
     ensures refused { result_err result ≡ refusal 4 (entries records.now) moment cid.now number }
 {
     match known_place(records, cid) {
         Some(place) => {
-            let record = &records[place];
-            if record.is_there(moment) && !is_after(record.number, number) {
+            if is_overtaken(&records[place], moment, number) {
                 return Err(Ignored::OutOfSequence);
             }
             Ok(place)
