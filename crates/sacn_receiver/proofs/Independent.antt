@@ -6,11 +6,12 @@ use Rattle.std.proofs.Common.{inl, inr, ◌∙◌, List, [], ◌∷◌, length, 
 use Rattle.std.proofs.Common.{map, Ok, Err}
 use Rattle.std.specs.Prelude.{if◌then◌else◌, filter, find, All, Contains, is_none, IsTrue}
 use Rattle.std.specs.List.{list_any}
-use Rattle.std.specs.Option.{option_or, option_map_or}
+use Rattle.std.specs.Option.{option_or, option_map, option_map_or}
 use Rattle.std.proofs.lemmas.Bool.{lt-ltb, cond_both, not-true}
 use Rattle.std.proofs.lemmas.List.Elements.{All-tail, All-map, All-contains, All-filter}
 use Rattle.std.proofs.lemmas.List.Elements.{filter_passes}
 use Rattle.sacn_packet.specs.Reading.{front_packet}
+use Rattle.sacn_packet.specs.Faults.{fault_of}
 use Rattle.sacn_receiver.specs.Source.{Entry, same_cid, is_there, is_after, newest, records}
 use Rattle.sacn_receiver.specs.Source.{while_there, record_of, is_taken, is_accepted, last_moment}
 use Rattle.sacn_receiver.specs.Shown.{live}
@@ -18,15 +19,17 @@ use Rattle.sacn_receiver.specs.Laws.{accepted, SourcesAreIndependent, MergeIsByM
 use Rattle.sacn_receiver.specs.Laws.{LiveAreRecords, LiveAreApart, HeardAreAccepted}
 use Rattle.sacn_receiver.specs.Laws.{RecordsAreIndependent, AnswersAreIndependent}
 use Rattle.sacn_receiver.specs.declared.answer.Ignored.{Ignored}
-use Rattle.sacn_receiver.specs.Taking.{entry_of, reason_of, refusal, ignored, taken_of}
+use Rattle.sacn_receiver.specs.declared.answer.Ignored.TheVariants.{Unreadable}
+use Rattle.sacn_receiver.specs.Taking.{entry_of, unheard, reason_of, refusal, ignored, taken_of}
 use Rattle.sacn_receiver.specs.Arrivals.{Arrival, heard_all, last_arrival, NeverFall, not_heard}
 use Rattle.sacn_receiver.specs.Arrivals.{is_heard, cid_of, is_from, HeardAreFrom, packets_heard}
 use Rattle.sacn_receiver.proofs.Members.{by_test, In, found_in, In_filter, In_filtered}
 use Rattle.sacn_receiver.proofs.Apart.{own_cid, find_records, records_distinct, in_found}
 use Rattle.sacn_receiver.proofs.Apart.{newest_found, AllIn, all_in, in_all, distinct_apart, fits}
 pub use Rattle.sacn_receiver.proofs.Apart.{one_of}
-use Rattle.sacn_receiver.proofs.Same.{merged_same, live_distinct}
-use Rattle.sacn_receiver.proofs.Taking.{ignored_in_time}
+use Rattle.sacn_receiver.proofs.Same.{merged_same}
+use Rattle.sacn_receiver.proofs.Merging.{live_distinct}
+use Rattle.sacn_receiver.proofs.Taking.{in_time}
 
 -- an element, by its place and by recursion
 module _ {A : Type 0} (x : A) where
@@ -139,25 +142,39 @@ sources_independent room cids packets few from cid =
 abbrev pub entry_from : Arrival → Entry
 entry_from a = entry_of a.moment (front_packet a.datagram)
 
+in_parts : (x y z : Option Ignored) → option_or x (option_or y z) ≡ option_or (option_or x y) z
+in_parts None y z = refl
+in_parts (Some r) y z = refl
+
 -- the last accepted packet is not after the next arrival
-in_time : (room universe : ℕ) (a : Arrival) (older : List Arrival) → NeverFall (a ∷ older)
+before : (room universe : ℕ) (a : Arrival) (older : List Arrival) → NeverFall (a ∷ older)
     → last_moment (heard_all room universe older) ≤ a.moment
-in_time room universe a [] n = omega arith
-in_time room universe a (b ∷ older) n =
+before room universe a [] n = omega arith
+before room universe a (b ∷ older) n =
     go (ignored room universe (heard_all room universe older) b.moment b.datagram)
-    (heard_all room universe older) (omega (arith, n.0, in_time room universe b older n.1))
+    (heard_all room universe older) (omega (arith, n.0, before room universe b older n.1))
   where
     go : (o : Option Ignored) (h : List Entry) → last_moment h ≤ a.moment
         → last_moment (option_map_or (λ _. h) o (entry_from b ∷ h)) ≤ a.moment
     go None h l = n.0
     go (Some r) h l = l
 
+-- an arrival is ignored because it is not heard, or by the source rule
+ignored_at : (room universe : ℕ) (a : Arrival) (older : List Arrival) → NeverFall (a ∷ older)
+    → ignored room universe (heard_all room universe older) a.moment a.datagram
+    ≡ option_or (not_heard universe a.datagram)
+    (refusal room (heard_all room universe older) a.moment (cid_of a) (entry_from a).number)
+ignored_at room universe a older n =
+    in_time room universe (heard_all room universe older) a.moment a.datagram
+    (before room universe a older n)
+    ∙ in_parts (option_map Unreadable (fault_of a.datagram))
+    (unheard universe (front_packet a.datagram)) _
+
 pub heard_accepted : HeardAreAccepted
 heard_accepted room universe [] n = refl
 heard_accepted room universe (a ∷ older) n =
     rw (
-      ignored_in_time room universe (heard_all room universe older) a.moment a.datagram
-          (in_time room universe a older n),
+      ignored_at room universe a older n,
       heard_accepted room universe older n.1,
     )
     (go (not_heard universe a.datagram) (filter (is_heard universe) older))
@@ -219,41 +236,35 @@ records_independent room universe cids arrivals few from n cid =
 pub answers_independent : AnswersAreIndependent
 answers_independent room universe cids a older few from n =
     ap (λ o. option_map_or Err o (Ok (taken_of (front_packet a.datagram))))
-    (ignored_in_time room universe _ a.moment a.datagram (in_time room universe a older n)
-    ∙ only_if_none (not_heard universe a.datagram) _ _ (λ q. refused q older rest_from n.1
-    ∙ ap (λ o. by_record (while_there a.moment o))
+    (by_record older rest_from n ∙ ap (λ o. answered (while_there a.moment o))
     (records_independent room universe cids older few rest_from n.1 (cid_of a))
-    ∙ sym (refused q own (All-filter (is_from (cid_of a)) (IsOf cids universe) older rest_from)
-    falls.1))
-    ∙ sym (ignored_in_time room universe _ a.moment a.datagram (in_time room universe a own falls)))
+    ∙ sym (by_record (filter (is_from (cid_of a)) older)
+    (All-filter (is_from (cid_of a)) (IsOf cids universe) older rest_from)
+    (some_never_fall (is_from (cid_of a)) older a.moment n.0 n.1)))
   where
-    own : List Arrival
-    own = filter (is_from (cid_of a)) older
-
     rest_from : HeardAreFrom cids universe older
     rest_from = All-tail (IsOf cids universe) a older from
-
-    falls : NeverFall (a ∷ own)
-    falls = some_never_fall (is_from (cid_of a)) older a.moment n.0 n.1
 
     only_if_none : (o x y : Option Ignored) → (is_none o ≡ true → x ≡ y)
         → option_or o x ≡ option_or o y
     only_if_none None x y h = h refl
     only_if_none (Some r) x y h = refl
 
-    by_record : Option Entry → Option Ignored
-    by_record o = if by_number (entry_from a).number o then None else Some (reason_of o)
+    answered : Option Entry → Option Ignored
+    answered o = option_or (not_heard universe a.datagram)
+        (if by_number (entry_from a).number o then None else Some (reason_of o))
 
-    -- what is refused of a packet that is heard
-    refused : is_heard universe a ≡ true → (some : List Arrival) → HeardAreFrom cids universe some
-        → NeverFall some
-        → refusal room (heard_all room universe some) a.moment (cid_of a) (entry_from a).number
-        ≡ by_record (record_of (heard_all room universe some) a.moment (cid_of a))
-    refused q some from_some falls =
+    -- among no more sources than there is room for, the record of the CID decides
+    by_record : (some : List Arrival) → HeardAreFrom cids universe some → NeverFall (a ∷ some)
+        → ignored room universe (heard_all room universe some) a.moment a.datagram
+        ≡ answered (record_of (heard_all room universe some) a.moment (cid_of a))
+    by_record some from_some falls =
         let h : List Entry = heard_all room universe some in
-        let all : AllIn cids h = rw (heard_accepted room universe some falls)
+        let all : AllIn cids h = rw (heard_accepted room universe some falls.1)
         (accepted_in room cids (packets_heard universe some)
         (packets_in cids universe some from_some)) in
+        ignored_at room universe a some falls
+        ∙ only_if_none (not_heard universe a.datagram) _ _ (λ q.
         ap (λ b. if b then None else Some (reason_of (record_of h a.moment (cid_of a))))
         (accepts room cids (entry_from a) few
-        (rw q at (packets_in cids universe (a ∷ older) from)).0 h all)
+        (rw q at (packets_in cids universe (a ∷ older) from)).0 h all))

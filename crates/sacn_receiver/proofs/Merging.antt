@@ -1,30 +1,45 @@
 -- The live records of a receiver, one more at a time.
-use Rattle.std.proofs.Common.{◌≡◌, ℕ, ◌+◌, ◌<◌, ◌≤◌, true, false, cond, max, refl, ap}
-use Rattle.std.proofs.Common.{arith, sym, ◌∙◌, List, [], ◌∷◌, map, length, take, get_or}
-use Rattle.std.specs.Prelude.{filter, count_by, slice_index, ◌==◌, if◌then◌else◌}
-use Rattle.std.proofs.lemmas.List.{take_more}
+use Rattle.std.proofs.Common.{◌≡◌, ℕ, ◌+◌, ◌<◌, ◌≤◌, true, false, cond, max, refl, ap, replicate, inl, inr}
+use Rattle.std.proofs.Common.{arith, sym, ◌∙◌, List, [], ◌∷◌, map, length, take, get_or, Option, Some}
+use Rattle.std.proofs.Common.{None, not}
+use Rattle.std.specs.Prelude.{filter, find, count_by, slice_get, slice_index, ◌==◌, if◌then◌else◌}
+use Rattle.std.proofs.lemmas.Bool.{cases_lt}
+use Rattle.std.proofs.lemmas.List.{take_more, get_or_past, get_or-replicate, length-replicate}
 use Rattle.std.proofs.lemmas.List.Folds.{fold-map}
 use Rattle.std.proofs.lemmas.List.FromFn.{fill_by_all}
 use Rattle.std.proofs.lemmas.List.Recursion.{max_push}
 use Rattle.std.proofs.lemmas.List.Sums.{length-filter}
+use Rattle.std.proofs.lemmas.Map.Entries.{option_filter}
 use Rattle.sacn_receiver.specs.declared.record.Record.{Record}
-use Rattle.sacn_receiver.specs.Source.{Entry}
-use Rattle.sacn_receiver.specs.Shown.{light_of, live, greatest, merged, shown, shown_slots}
+use Rattle.sacn_receiver.specs.Source.{Entry, same_cid, is_there, records, while_there, record_of}
+use Rattle.sacn_receiver.specs.Shown.{Light, light_of, live, greatest, merged, shown}
+use Rattle.sacn_receiver.specs.Shown.{shown_slots}
 use Rattle.sacn_receiver.specs.Kept.{Kept, StandsFor}
 use Rattle.sacn_receiver.specs.Records.{entries, kept_entry, is_live_at, lights_at, top_at, lit}
 use Rattle.sacn_receiver.specs.Places.{AreDistinct}
-use Rattle.sacn_receiver.proofs.Members.{by_test}
-use Rattle.sacn_receiver.proofs.Same.{live_count, live_shown}
+use Rattle.sacn_receiver.proofs.Members.{by_test, In, In_map, In_mapped}
+use Rattle.sacn_receiver.proofs.Apart.{find_kept, kept_distinct, find_records, records_distinct}
+use Rattle.sacn_receiver.proofs.Apart.{FindSame, same_in, as_many}
+use Rattle.sacn_receiver.proofs.Same.{merged_same}
 
--- the greatest of at most four numbers
-pub greatest_of_four : (xs : List ℕ) → length xs ≤ 4
-    → max (max (max (get_or xs 0 0) (get_or xs 1 0)) (get_or xs 2 0)) (get_or xs 3 0) ≡ greatest xs
-greatest_of_four [] few = refl
-greatest_of_four (a ∷ []) few = omega arith
-greatest_of_four (a ∷ b ∷ []) few = omega arith
-greatest_of_four (a ∷ b ∷ c ∷ []) few = omega arith
-greatest_of_four (a ∷ b ∷ c ∷ d ∷ []) few = omega arith
-greatest_of_four (a ∷ b ∷ c ∷ d ∷ e ∷ xs) few = absurd (omega arith)
+-- no slot of the frame that stands for no record is above 0
+pub dark : (s : ℕ) → get_or (replicate {A = ℕ} 512 0) s 0 ≡ 0
+dark s = elim (cases_lt s 512) [
+  | inl lt ↦ get_or-replicate 512 s 0 0 lt
+  | inr le ↦ get_or_past (replicate 512 0) s 0 (omega (arith, length-replicate {A = ℕ} 512 0))
+]
+
+-- the greatest of what at most four records show
+pub greatest_of_four : (t top s : ℕ) (rs : List Record) → length rs ≤ 4
+    → max (max (max (lit t top (slice_get rs 0) s) (lit t top (slice_get rs 1) s))
+    (lit t top (slice_get rs 2) s)) (lit t top (slice_get rs 3) s)
+    ≡ greatest (map (λ r. lit t top (Some r) s) rs)
+greatest_of_four t top s [] few = refl
+greatest_of_four t top s (a ∷ []) few = omega arith
+greatest_of_four t top s (a ∷ b ∷ []) few = omega arith
+greatest_of_four t top s (a ∷ b ∷ c ∷ []) few = omega arith
+greatest_of_four t top s (a ∷ b ∷ c ∷ d ∷ []) few = omega arith
+greatest_of_four t top s (a ∷ b ∷ c ∷ d ∷ e ∷ rs) few = absurd (omega arith)
 
 -- the greatest priority, one record on
 module _ (t : ℕ) where
@@ -55,7 +70,7 @@ module _ (t : ℕ) where
         omega (arith, top_more, p)
 
 -- the greatest slot of the records that lead is that of all, where the others count for 0
-pub greatest_lit : (t s top : ℕ) (rs : List Record) → greatest (map (λ r. lit t top r s) rs)
+pub greatest_lit : (t s top : ℕ) (rs : List Record) → greatest (map (λ r. lit t top (Some r) s) rs)
     ≡ greatest (map (λ l. slice_index l.slots s) (filter (λ l. l.priority == top) (lights_at t rs)))
 greatest_lit t s top [] = refl
 greatest_lit t s top (r ∷ rs) =
@@ -63,6 +78,41 @@ greatest_lit t s top (r ∷ rs) =
     (λ k. simp (h, k) (ap (max (slice_index r.slots s)) (greatest_lit t s top rs)))
     (λ k. simp (h, k) (omega (arith, greatest_lit t s top rs))))
     (λ h. simp h (omega (arith, greatest_lit t s top rs)))
+
+lights_in : (es fs : List Entry) → ((e : Entry) → In e es → In e fs) → (l : Light)
+    → In l (map light_of es) → In l (map light_of fs)
+lights_in es fs h l i =
+    let m = In_mapped light_of l es i in rw m.2 (In_map light_of m.0 fs (h m.0 m.1))
+
+pub live_distinct : (h : List Entry) (t : ℕ) → AreDistinct (live h t)
+live_distinct h t = kept_distinct (λ e. not e.ended) (records h t) (records_distinct h t)
+
+-- entries apart that give each CID at moment t the record that a history gives it
+module _ (t : ℕ) (es h : List Entry) (d : AreDistinct es)
+    (s : (cid : List ℕ) → record_of es t cid ≡ record_of h t cid) where
+  live_kept : (o : Option Entry) → option_filter (is_live_at t) o
+      ≡ option_filter (λ e. not e.ended) (while_there t o)
+  live_kept None = refl
+  live_kept (Some e) = by_test (is_there t e) (λ k. rw k) (λ k. rw k)
+
+  same_live : FindSame (filter (is_live_at t) es) (live h t)
+  same_live c =
+      find_kept (is_live_at t) c es d ∙ live_kept (find (same_cid c) es)
+      ∙ ap (option_filter (λ e. not e.ended)) (s c ∙ sym (find_records h t c))
+      ∙ sym (find_kept (λ e. not e.ended) c (records h t) (records_distinct h t))
+
+  live_apart : AreDistinct (filter (is_live_at t) es)
+  live_apart = kept_distinct (is_live_at t) es d
+
+  pub live_count : length (filter (is_live_at t) es) ≡ length (live h t)
+  live_count = as_many (filter (is_live_at t) es) (live h t) live_apart (live_distinct h t) same_live
+
+  pub live_shown : (slot : ℕ) → merged (map light_of (filter (is_live_at t) es)) slot
+      ≡ merged (map light_of (live h t)) slot
+  live_shown slot = merged_same _ _ slot
+      (lights_in _ _ (same_in (filter (is_live_at t) es) (live h t) live_apart same_live))
+      (lights_in _ _ (same_in (live h t) (filter (is_live_at t) es) (live_distinct h t)
+      (λ c. sym (same_live c))))
 
 -- what a receiver counts and shows, where it stands for a history
 pub counts_live : (rs : List Record) (r : Kept) (h : List Entry) (t n : ℕ) → r.records ≡ entries rs

@@ -4,7 +4,7 @@ use Rattle.std.proofs.Common.{◌≡◌, ℕ, zero, suc, ◌-◌, ◌<◌, ◌�
 use Rattle.std.proofs.Common.{ap, ap₂, arith, sym, subst, ◌∙◌, one-add, List, [], ◌∷◌, map, length}
 use Rattle.std.proofs.Common.{get_or, Option, Some, None, Result, Ok, Err}
 use Rattle.std.specs.Prelude.{nat_lt, if◌then◌else◌, filter, find, IfOk, slice_get}
-use Rattle.std.specs.Option.{ok_or, option_map, option_and_then, unwrap_or, option_or, option_map_or}
+use Rattle.std.specs.Option.{option_map, option_and_then, unwrap_or, option_or, option_map_or}
 use Rattle.std.specs.Result.{result_err}
 use Rattle.std.specs.List.{position, position_or_len}
 use Rattle.std.proofs.lemmas.Bool.{ltb-true, ltb-false, lt-ltb, le-ltb, not-true, cond_both}
@@ -23,17 +23,29 @@ use Rattle.sacn_receiver.specs.declared.record.Record.{Record}
 use Rattle.sacn_receiver.specs.declared.answer.Ignored.{Ignored}
 use Rattle.sacn_receiver.specs.declared.answer.Ignored.TheVariants.{OutOfSequence, SourcesFull}
 use Rattle.sacn_receiver.specs.declared.answer.Ignored.TheVariants.{Backwards, Unreadable}
-use Rattle.sacn_receiver.specs.Source.{Entry, same_cid, is_there, is_after, while_there, is_taken}
-use Rattle.sacn_receiver.specs.Source.{record_of, last_moment}
+use Rattle.sacn_receiver.specs.Source.{Entry, same_cid, is_there, is_after, records, while_there}
+use Rattle.sacn_receiver.specs.Source.{record_of, is_taken, last_moment}
 use Rattle.sacn_receiver.specs.Taking.{reason_of, refusal, entry_of, unheard, ignored_packet}
 use Rattle.sacn_receiver.specs.Taking.{ignored, taken_of, answer, heard}
-use Rattle.sacn_receiver.specs.Arrivals.{not_heard}
 use Rattle.sacn_receiver.specs.Records.{entries, kept_entry}
 use Rattle.sacn_receiver.specs.Places.{AreDistinct, IsFree, IsPlace, put}
 use Rattle.sacn_receiver.specs.Kept.{Kept, StandsFor}
 use Rattle.sacn_receiver.proofs.Members.{by_test, found_in, In_filter, In_length}
 use Rattle.sacn_receiver.proofs.Apart.{alone}
-use Rattle.sacn_receiver.proofs.Same.{refused_by}
+use Rattle.sacn_receiver.proofs.Apart.{find_kept, kept_distinct, there_kept, find_records}
+use Rattle.sacn_receiver.proofs.Apart.{records_distinct, as_many}
+
+-- what a history refuses, by what is there of entries that give each CID the same record
+refused_by : (t : ℕ) (es h : List Entry) → AreDistinct es
+    → ((cid : List ℕ) → record_of es t cid ≡ record_of h t cid)
+    → (room : ℕ) (cid : List ℕ) (number : ℕ) → refusal room h t cid number
+    ≡ (if is_taken room (record_of es t cid) (length (filter (is_there t) es)) number then None
+    else Some (reason_of (record_of es t cid)))
+refused_by t es h d s room cid number =
+    ap₂ (λ o n. if is_taken room o n number then None else Some (reason_of o)) (sym (s cid))
+    (as_many (records h t) (filter (is_there t) es) (records_distinct h t)
+    (kept_distinct (is_there t) es d) (λ c. find_records h t c ∙ sym (s c)
+    ∙ sym (find_kept (is_there t) c es d ∙ there_kept t (find (same_cid c) es))))
 
 -- the first that passes is at its place, if it has one
 found_at : {A : Type 0} (p : A → Bool) (xs : List A)
@@ -157,34 +169,30 @@ module _ (rs : List Record) (t : ℕ) (cid : List ℕ) (number : ℕ) (few : len
         ))
 
   -- a CID without one
-  module _ (o : Option ℕ) (r : Result ℕ Ignored) (is : position (own t cid) rs ≡ None)
-      (e : r ≡ ok_or o SourcesFull) (f : o ≡ (if nat_lt (position_or_len (gone t) rs) 4 then
-      Some (position_or_len (gone t) rs) else None)) where
-    abbrev next : ℕ
-    next = position_or_len (gone t) rs
-
+  module _ (r : Result ℕ Ignored) (is : position (own t cid) rs ≡ None)
+      (f : r ≡ (if nat_lt (position_or_len (gone t) rs) 4 then Ok (position_or_len (gone t) rs)
+      else Err SourcesFull)) where
     nowhere : find (same_cid cid) (entries rs) ≡ None
     nowhere = own_found t cid rs
         ∙ ap (λ o. option_map kept_entry (option_and_then (slice_get rs) o)) is
 
-    result : r ≡ ok_or (if nat_lt next 4 then Some next else None) SourcesFull
-    result = e ∙ ap (λ o. ok_or o SourcesFull) f
-
     pub new_place : IfOk r (λ i. IsPlace (entries rs) t cid i)
-    new_place = rw result (cond_both (nat_lt next 4) (Some next) None
-        (λ o. IfOk (ok_or o SourcesFull) (λ i. IsPlace (entries rs) t cid i)) (λ h. record {
+    new_place = rw f (cond_both (nat_lt (position_or_len (gone t) rs) 4)
+        (Ok (position_or_len (gone t) rs)) (Err SourcesFull)
+        (λ r. IfOk r (λ i. IsPlace (entries rs) t cid i)) (λ h. record {
           within = omega (
             arith,
             prefix_len-le-length (λ r. not (gone t r)) rs,
             length-map rs kept_entry,
           );
-          room = ltb-true next 4 h;
+          room = ltb-true _ 4 h;
           free = gone_free t cid rs nowhere;
         }) (λ h. tt))
 
     pub new_refused : result_err r ≡ refusal 4 (entries rs) t cid number
     new_refused =
-        ap result_err result ∙ by_test (nat_lt next 4) (λ h. rw h) (λ h. rw h)
+        ap result_err f
+        ∙ by_test (nat_lt (position_or_len (gone t) rs) 4) (λ h. rw h) (λ h. rw h)
         ∙ ap (λ b. if b then None else Some SourcesFull) (room t 4 rs few) ∙ sym (refused None nowhere)
 
 -- a record stays away once it is gone
@@ -236,63 +244,57 @@ put_distinct (x ∷ xs) (suc i) e a f = (
 )
 
 -- a packet at its place: after it, the receiver stands for the longer history
-module _ (t : ℕ) (d : List ℕ) (p : Packet) (has : HasPacket d p) (r : Kept) (cid : List ℕ) (i : ℕ)
-    (apart : AreDistinct r.records) (place : IsPlace r.records t cid i) (is : cid ≡ p.fields.cid)
+module _ (t : ℕ) (d : List ℕ) (p : Packet) (has : HasPacket d p) (r : Kept) (i : ℕ)
+    (apart : AreDistinct r.records) (place : IsPlace r.records t p.fields.cid i)
     (new : List Entry) (kept : new ≡ put r.records i (entry_of t p)) where
-  here : IsFree t p.fields.cid r.records i
-  here = rw is at place.free
-
   pub kept_apart : AreDistinct new
-  kept_apart = rw kept (put_distinct r.records i (entry_of t p) apart here)
+  kept_apart = rw kept (put_distinct r.records i (entry_of t p) apart place.free)
 
   pub kept_stands : (h : List Entry) → r.latest ≤ t → StandsFor r h
       → StandsFor (record { universe = r.universe; latest = t; records = new })
       (entry_of t (front_packet d) ∷ h)
-  kept_stands h time s = rw kept (subst (λ q. StandsFor (record {
-    universe = r.universe;
-    latest = t;
-    records = put r.records i (entry_of t p);
-  }) (entry_of t q ∷ h)) (sym (packet_ends d p has)) (record {
-    latest_is = refl;
-    records_are = λ u c m. put_record (entry_of t p) c u m r.records i here apart
-        ∙ by_test (same_cid c (entry_of t p)) (λ k. rw k)
-        (λ k. rw k (s.records_are u c (omega arith)));
-  }))
+  kept_stands h time s =
+      let P : Packet → Type 0 = λ q. StandsFor (record {
+        universe = r.universe;
+        latest = t;
+        records = put r.records i (entry_of t p);
+      }) (entry_of t q ∷ h) in
+      rw kept (subst P (sym (packet_ends d p has)) (record {
+        latest_is = refl;
+        records_are = λ u c m. put_record (entry_of t p) c u m r.records i place.free apart
+            ∙ by_test (same_cid c (entry_of t p)) (λ k. rw k)
+            (λ k. rw k (s.records_are u c (omega arith)));
+      }))
 
--- in time, a datagram is ignored because it is not heard, or by the source rule
-in_parts : (x y z : Option Ignored) → option_or x (option_or y z) ≡ option_or (option_or x y) z
-in_parts None y z = refl
-in_parts (Some r) y z = refl
-
-pub ignored_in_time : (room universe : ℕ) (h : List Entry) (t : ℕ) (d : List ℕ)
-    → last_moment h ≤ t → ignored room universe h t d ≡ option_or (not_heard universe d)
-    (refusal room h t (front_packet d).fields.cid (front_packet d).fields.sequence)
-ignored_in_time room universe h t d time =
+-- in time, a datagram is ignored for its packet, or because there is none
+pub in_time : (room universe : ℕ) (h : List Entry) (t : ℕ) (d : List ℕ) → last_moment h ≤ t
+    → ignored room universe h t d ≡ option_or (option_map Unreadable (fault_of d))
+    (ignored_packet room universe h t (front_packet d))
+in_time room universe h t d time =
     ap (λ b. if b then Some Backwards else option_or (option_map Unreadable (fault_of d))
     (ignored_packet room universe h t (front_packet d))) (le-ltb t (last_moment h) time)
-    ∙ in_parts (option_map Unreadable (fault_of d)) (unheard universe (front_packet d)) _
 
--- why a packet is ignored, where the receiver stands for a history
-pub ignored_by : (r : Kept) (h : List Entry) (t : ℕ) (d : List ℕ) (p : Packet)
-    → AreDistinct r.records → StandsFor r h → r.latest ≤ t → None ≡ fault_of d → HasPacket d p
-    → (u o : Option Ignored) → u ≡ unheard r.universe p
-    → o ≡ refusal 4 r.records t p.fields.cid p.fields.sequence
-    → ignored 4 r.universe h t d ≡ option_or u o
-ignored_by r h t d p apart s time fault has u o un e =
-    ignored_in_time 4 r.universe h t d (omega (arith, s.latest_is, time))
-    ∙ ap₂ (λ f q. option_or (option_or (option_map Unreadable f) (unheard r.universe q))
-    (refusal 4 h t q.fields.cid q.fields.sequence)) (sym fault) (packet_ends d p has)
-    ∙ ap₂ option_or (sym un)
-    (refused_by t r.records h apart (λ c. s.records_are t c time) 4 p.fields.cid p.fields.sequence
-    ∙ sym (e ∙ refused_by t r.records r.records apart (λ c. refl) 4 p.fields.cid p.fields.sequence))
+-- for which history a receiver stands after a packet, and what it answers, by why it is ignored
+module _ (r : Kept) (h : List Entry) (t : ℕ) (d : List ℕ) (p : Packet)
+    (apart : AreDistinct r.records) (s : StandsFor r h) (time : r.latest ≤ t)
+    (fault : None ≡ fault_of d) (has : HasPacket d p) (o : Option Ignored)
+    (why : o ≡ ignored_packet 4 r.universe r.records t p) where
+  ignored_by : ignored 4 r.universe h t d ≡ o
+  ignored_by =
+      in_time 4 r.universe h t d (omega (arith, s.latest_is, time))
+      ∙ ap₂ (λ f q. option_or (option_map Unreadable f) (ignored_packet 4 r.universe h t q))
+      (sym fault) (packet_ends d p has)
+      ∙ ap (option_or (unheard r.universe p)) (refused_by t r.records h apart
+      (λ c. s.records_are t c time) 4 p.fields.cid p.fields.sequence
+      ∙ sym (refused_by t r.records r.records apart (λ c. refl) 4 p.fields.cid
+      p.fields.sequence)) ∙ sym why
 
--- what is answered then, and for which history the receiver stands
-module _ (universe : ℕ) (h : List Entry) (t : ℕ) (d : List ℕ) (o : Option Ignored)
-    (why : ignored 4 universe h t d ≡ o) where
-  pub answer_by : answer 4 universe h t d ≡ option_map_or Err o (Ok (taken_of (front_packet d)))
-  answer_by = ap (λ o. option_map_or Err o (Ok (taken_of (front_packet d)))) why
+  pub answer_by : answer 4 r.universe h t d ≡ option_map_or Err o (Ok (taken_of p))
+  answer_by =
+      ap₂ (λ o q. option_map_or Err o (Ok (taken_of q))) ignored_by (packet_ends d p has)
 
-  pub heard_by : (r : Kept) → StandsFor r (option_map_or (λ _. h) o
-      (entry_of t (front_packet d) ∷ h)) → StandsFor r (heard 4 universe h t d)
-  heard_by r = subst (λ o. StandsFor r (option_map_or (λ _. h) o
-      (entry_of t (front_packet d) ∷ h))) (sym why)
+  pub heard_by : (new : Kept)
+      → StandsFor new (option_map_or (λ _. h) o (entry_of t (front_packet d) ∷ h))
+      → StandsFor new (heard 4 r.universe h t d)
+  heard_by new = subst (λ o. StandsFor new (option_map_or (λ _. h) o
+      (entry_of t (front_packet d) ∷ h))) (sym ignored_by)

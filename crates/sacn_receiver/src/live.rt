@@ -1,5 +1,5 @@
-ghost use Rattle.std.specs.Prelude.{◌≡◌, ℕ, ◌<◌, ◌≤◌, count_by, filter, length, map, max};
-ghost use Rattle.std.specs.Prelude.{slice_index};
+ghost use Rattle.std.specs.Prelude.{◌≡◌, ℕ, ◌<◌, ◌≤◌, count_by, filter, length, max};
+ghost use Rattle.std.specs.Prelude.{slice_get, slice_index};
 ghost use Rattle.sacn_receiver.specs.Records.{entries, kept_entry, is_live_at, lights_at};
 ghost use Rattle.sacn_receiver.specs.Records.{top_at, lit};
 ghost use Rattle.sacn_receiver.specs.Shown.{merged};
@@ -53,7 +53,7 @@ fn top_priority(records: &[Record], moment: u64) -> u8
 // The slots of the record at a place, where it leads, else zeros.
 fn leading_slots(records: &[Record], place: usize, moment: u64, top: u8) -> &[u8; 512]
     ensures { (s : ℕ) → slice_index result.now s
-        ≡ slice_index (map (λ r. lit moment top r s) records.now) place }
+        ≡ lit moment top (slice_get records.now place) s }
 {
     match records.get(place) {
         Some(record) if record.leads(moment, top) => &record.slots,

@@ -1,8 +1,9 @@
-ghost use Rattle.std.specs.Prelude.{◌≡◌, ◌≤◌, ◌<◌, not, ◌&&◌, nat_lt, if◌then◌else◌, length, Some, None};
+ghost use Rattle.std.specs.Prelude.{◌≡◌, ◌≤◌, ◌<◌, not, ◌&&◌, nat_lt, if◌then◌else◌, length, Ok, Err};
 ghost use Rattle.std.specs.Prelude.{IfOk};
 ghost use Rattle.std.specs.List.{position, position_or_len};
 ghost use Rattle.std.specs.Result.{result_err};
 ghost use Rattle.arrayvec.specs.ArrayVec.{array_vec_len};
+ghost use Rattle.sacn_receiver.specs.declared.answer.Ignored.TheVariants.{SourcesFull};
 ghost use Rattle.sacn_receiver.specs.Source as source;
 ghost use Rattle.sacn_receiver.specs.Taking.{entry_of, refusal};
 ghost use Rattle.sacn_receiver.specs.Records.{entries, kept_entry};
@@ -23,12 +24,16 @@ fn known_place(records: &[Record], cid: &[u8; 16]) -> Option<usize>
 
 // A place for a new source: that of the first record that is gone, else behind all.
 #[tactic(auto, using(crate::proofs::Taking::or_behind))]
-fn free_place(records: &[Record], moment: u64) -> Option<usize>
+fn free_place(records: &[Record], moment: u64) -> Result<usize, Ignored>
     ensures { let place = position_or_len (λ r. not (source.is_there moment (kept_entry r)))
-        records.now in result ≡ (if nat_lt place 4 then Some place else None) }
+        records.now in result ≡ (if nat_lt place 4 then Ok place else Err SourcesFull) }
 {
     let place = gone_place(records, moment).unwrap_or(records.len());
-    (place < SOURCES).then_some(place)
+    if place < SOURCES {
+        Ok(place)
+    } else {
+        Err(Ignored::SourcesFull)
+    }
 }
 
 // The place of the first record that is gone.
@@ -72,7 +77,7 @@ pub(crate) fn place_for(
             }
             Ok(place)
         }
-        None => free_place(records, moment).ok_or(Ignored::SourcesFull),
+        None => free_place(records, moment),
     }
 }
 

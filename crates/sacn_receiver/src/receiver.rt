@@ -1,9 +1,11 @@
-ghost use Rattle.std.specs.Prelude.{◌≡◌, ◌≤◌, [], ◌∷◌, List, length, OnOk, OnErr};
+ghost use Rattle.std.specs.Prelude.{◌≡◌, ◌≤◌, [], ◌∷◌, List, length, OnOk, OnErr, IfOk};
 ghost use Rattle.std.specs.Result.{result_err};
 ghost use Rattle.sacn_packet.specs.Wire.{HasPacket};
 ghost use Rattle.sacn_packet.specs.Reading.{front_packet};
 ghost use Rattle.sacn_receiver.specs.Source.{Entry, last_moment};
-ghost use Rattle.sacn_receiver.specs.Taking.{answer, entry_of, heard, unheard};
+ghost use Rattle.sacn_receiver.specs.Taking.{answer, entry_of, heard, ignored_packet, unheard};
+ghost use Rattle.sacn_receiver.specs.Places.{AreDistinct, IsPlace};
+ghost use Rattle.sacn_receiver.specs.Records.{entries};
 ghost use Rattle.sacn_receiver.specs.Shown.{live, shown_slots};
 ghost use Rattle.sacn_receiver.specs.Kept.{StandsFor};
 
@@ -76,13 +78,11 @@ impl Receiver {
             return Err(Ignored::Backwards);
         }
         let packet = parse(datagram)?;
-        hear(self.universe, &packet)?;
-        let sequence = packet.sequence();
-        let place = place_for(self.records.as_slice(), moment, &packet.cid(), sequence)?;
+        let place = accept(self.universe, self.records.as_slice(), moment, &packet)?;
         keep_at(&mut self.records, place, moment, &packet);
         self.latest = moment;
         Ok(Taken {
-            sequence,
+            sequence: packet.sequence(),
             terminated: is_termination(&packet),
         })
     }
@@ -112,6 +112,24 @@ impl Receiver {
     {
         self.latest
     }
+}
+
+// The place for a packet that is heard, and that the source rule accepts.
+fn accept(
+    universe: u16,
+    records: &[Record],
+    moment: u64,
+    packet: &DataPacket,
+) -> Result<usize, Ignored>
+    requires apart { AreDistinct (entries records.now) }
+    requires room { length records.now ≤ 4 }
+    ensures place { IfOk result (λ place.
+        IsPlace (entries records.now) moment packet.now.fields.cid place) }
+    ensures refused { result_err result
+        ≡ ignored_packet 4 universe (entries records.now) moment packet.now }
+{
+    hear(universe, packet)?;
+    place_for(records, moment, &packet.cid(), packet.sequence())
 }
 
 // Why a packet is not heard on a universe, if it is not.

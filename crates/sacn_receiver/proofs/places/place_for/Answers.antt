@@ -26,9 +26,9 @@ returns-else-is_overtaken-clause-refused c =
 pub returns-in-None-clause-place : goal.returns-in-None-clause-place
 returns-in-None-clause-place c =
     new_place c.args.records.now c.args.moment c.args.cid.now c.args.number c.requires.room
-    c.requires.apart _ _ (sym c.in-None.ensures) c.ok_or.ensures.value c.free_place.ensures
+    c.requires.apart _ (sym c.in-None.ensures) c.free_place.ensures
 
 pub returns-in-None-clause-refused : goal.returns-in-None-clause-refused
 returns-in-None-clause-refused c =
     new_refused c.args.records.now c.args.moment c.args.cid.now c.args.number c.requires.room
-    c.requires.apart _ _ (sym c.in-None.ensures) c.ok_or.ensures.value c.free_place.ensures
+    c.requires.apart _ (sym c.in-None.ensures) c.free_place.ensures
