@@ -1,6 +1,6 @@
 -- The newest packet of each CID: there is at most one, and it is the one that is found.
-use Rattle.std.proofs.Common.{◌≡◌, ℕ, ◌≤◌, Bool, true, false, not, refl, ap, arith, sym, subst, inl}
-use Rattle.std.proofs.Common.{inr, ◌∙◌, List, [], ◌∷◌, map, length, Option, Some, None}
+use Rattle.std.proofs.Common.{◌≡◌, ℕ, ◌≤◌, Bool, true, false, not, refl, ap, arith, sym, subst}
+use Rattle.std.proofs.Common.{inl, inr, ◌∙◌, List, [], ◌∷◌, map, length, Option, Some, None}
 use Rattle.std.specs.Prelude.{filter, find, if◌then◌else◌}
 use Rattle.std.specs.List.{list_any}
 use Rattle.std.specs.Str.{bytes_eq}
@@ -13,8 +13,7 @@ use Rattle.std.proofs.lemmas.Map.Entries.{option_filter}
 use Rattle.sacn_receiver.specs.Source.{Entry, same_cid, is_there, newest, records, while_there}
 use Rattle.sacn_receiver.specs.Source.{record_of}
 use Rattle.sacn_receiver.specs.Places.{AreApart, AreDistinct}
-use Rattle.sacn_receiver.proofs.Members.{by_test, In, In_filtered, In_map, found_in}
-use Rattle.sacn_receiver.proofs.Members.{none_found}
+use Rattle.sacn_receiver.proofs.Members.{by_test, In, In_filtered, In_map, found_in, none_found}
 
 -- the CID that a test passes
 pub own_cid : (c : List ℕ) (e : Entry) → same_cid c e ≡ true → c ≡ e.cid
@@ -47,8 +46,7 @@ kept_distinct p (e ∷ es) s =
 -- a test that answers alike at all that may be found keeps it, or does not
 find_known : (q p : Entry → Bool) (b : Bool) → ((e : Entry) → q e ≡ true → p e ≡ b)
     → (es : List Entry) → option_filter p (find q es) ≡ (if b then find q es else None)
-find_known q p true h [] = refl
-find_known q p false h [] = refl
+find_known q p b h [] = by_test b (λ k. rw k) (λ k. rw k)
 find_known q p b h (e ∷ es) =
     by_test (q e) (λ k. rw (k, h e k)) (λ k. rw k (find_known q p b h es))
 

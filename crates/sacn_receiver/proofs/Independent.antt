@@ -1,17 +1,16 @@
 -- What is kept of a source depends on its own packets alone, the merge on the members alone, and
 -- the live records are those that are there and not ended. What a receiver makes of arrivals whose
 -- moments never fall is the history of the packets that are heard.
-use Rattle.std.proofs.Common.{◌≡◌, ℕ, zero, suc, ◌<◌, ◌≤◌, Bool, true, refl, ap, arith, sym}
-use Rattle.std.proofs.Common.{inl, inr, ◌∙◌, List, [], ◌∷◌, length, get_or, Option, Some, None, not}
+use Rattle.std.proofs.Common.{◌≡◌, ℕ, zero, suc, ◌<◌, ◌≤◌, Bool, true, refl, ap, arith, sym, inl}
+use Rattle.std.proofs.Common.{inr, ◌∙◌, List, [], ◌∷◌, length, get_or, Option, Some, None, not}
 use Rattle.std.proofs.Common.{map, Ok, Err}
 use Rattle.std.specs.Prelude.{if◌then◌else◌, filter, find, All, Contains, is_none, IsTrue}
 use Rattle.std.specs.List.{list_any}
-use Rattle.std.specs.Option.{option_or, option_map, option_map_or}
+use Rattle.std.specs.Option.{option_or, option_map_or}
 use Rattle.std.proofs.lemmas.Bool.{lt-ltb, cond_both, not-true}
 use Rattle.std.proofs.lemmas.List.Elements.{All-tail, All-map, All-contains, All-filter}
 use Rattle.std.proofs.lemmas.List.Elements.{filter_passes}
 use Rattle.sacn_packet.specs.Reading.{front_packet}
-use Rattle.sacn_packet.specs.Faults.{fault_of}
 use Rattle.sacn_receiver.specs.Source.{Entry, same_cid, is_there, is_after, newest, records}
 use Rattle.sacn_receiver.specs.Source.{while_there, record_of, is_taken, is_accepted, last_moment}
 use Rattle.sacn_receiver.specs.Shown.{live}
@@ -19,8 +18,7 @@ use Rattle.sacn_receiver.specs.Laws.{accepted, SourcesAreIndependent, MergeIsByM
 use Rattle.sacn_receiver.specs.Laws.{LiveAreRecords, LiveAreApart, HeardAreAccepted}
 use Rattle.sacn_receiver.specs.Laws.{RecordsAreIndependent, AnswersAreIndependent}
 use Rattle.sacn_receiver.specs.declared.answer.Ignored.{Ignored}
-use Rattle.sacn_receiver.specs.declared.answer.Ignored.TheVariants.{Unreadable}
-use Rattle.sacn_receiver.specs.Taking.{entry_of, unheard, reason_of, refusal, ignored, taken_of}
+use Rattle.sacn_receiver.specs.Taking.{entry_of, reason_of, refusal, ignored, taken_of}
 use Rattle.sacn_receiver.specs.Arrivals.{Arrival, heard_all, last_arrival, NeverFall, not_heard}
 use Rattle.sacn_receiver.specs.Arrivals.{is_heard, cid_of, is_from, HeardAreFrom, packets_heard}
 use Rattle.sacn_receiver.proofs.Members.{by_test, In, found_in, In_filter, In_filtered}
@@ -142,39 +140,24 @@ sources_independent room cids packets few from cid =
 abbrev pub entry_from : Arrival → Entry
 entry_from a = entry_of a.moment (front_packet a.datagram)
 
-in_parts : (x y z : Option Ignored) → option_or x (option_or y z) ≡ option_or (option_or x y) z
-in_parts None y z = refl
-in_parts (Some r) y z = refl
-
 -- the last accepted packet is not after the next arrival
 before : (room universe : ℕ) (a : Arrival) (older : List Arrival) → NeverFall (a ∷ older)
     → last_moment (heard_all room universe older) ≤ a.moment
 before room universe a [] n = omega arith
 before room universe a (b ∷ older) n =
-    go (ignored room universe (heard_all room universe older) b.moment b.datagram)
-    (heard_all room universe older) (omega (arith, n.0, before room universe b older n.1))
-  where
-    go : (o : Option Ignored) (h : List Entry) → last_moment h ≤ a.moment
-        → last_moment (option_map_or (λ _. h) o (entry_from b ∷ h)) ≤ a.moment
-    go None h l = n.0
-    go (Some r) h l = l
-
--- an arrival is ignored because it is not heard, or by the source rule
-ignored_at : (room universe : ℕ) (a : Arrival) (older : List Arrival) → NeverFall (a ∷ older)
-    → ignored room universe (heard_all room universe older) a.moment a.datagram
-    ≡ option_or (not_heard universe a.datagram)
-    (refusal room (heard_all room universe older) a.moment (cid_of a) (entry_from a).number)
-ignored_at room universe a older n =
-    in_time room universe (heard_all room universe older) a.moment a.datagram
-    (before room universe a older n)
-    ∙ in_parts (option_map Unreadable (fault_of a.datagram))
-    (unheard universe (front_packet a.datagram)) _
+    let h : List Entry = heard_all room universe older in
+    elim (ignored room universe h b.moment b.datagram) as
+    (λ o. last_moment (option_map_or (λ _. h) o (entry_from b ∷ h)) ≤ a.moment) [
+      | None ↦ n.0
+      | Some r ↦ omega (arith, n.0, before room universe b older n.1)
+    ]
 
 pub heard_accepted : HeardAreAccepted
 heard_accepted room universe [] n = refl
 heard_accepted room universe (a ∷ older) n =
     rw (
-      ignored_at room universe a older n,
+      in_time room universe (heard_all room universe older) a.moment a.datagram
+          (before room universe a older n),
       heard_accepted room universe older n.1,
     )
     (go (not_heard universe a.datagram) (filter (is_heard universe) older))
@@ -263,7 +246,7 @@ answers_independent room universe cids a older few from n =
         let all : AllIn cids h = rw (heard_accepted room universe some falls.1)
         (accepted_in room cids (packets_heard universe some)
         (packets_in cids universe some from_some)) in
-        ignored_at room universe a some falls
+        in_time room universe h a.moment a.datagram (before room universe a some falls)
         ∙ only_if_none (not_heard universe a.datagram) _ _ (λ q.
         ap (λ b. if b then None else Some (reason_of (record_of h a.moment (cid_of a))))
         (accepts room cids (entry_from a) few

@@ -32,6 +32,10 @@ module _ {A : Type 0} (p : A → Bool) where
         | inr k ↦ let r = In_filtered e xs k in (inr r.0, r.1)
       ]) (λ h. let r = In_filtered e xs (rw h at i) in (inr r.0, r.1))
 
+  pub In_kept : (es fs : List A) → ((e : A) → In e es → In e fs) → (e : A)
+      → In e (filter p es) → In e (filter p fs)
+  In_kept es fs h e i = let r = In_filtered e es i in In_filter e fs (h e r.0) r.1
+
   -- what is found is in the list, and passes
   pub found_in : (e : A) (es : List A) → find p es ≡ Some e → In e es × (p e ≡ true)
   found_in e [] f = absurd (let k : None ≡ Some e = f in cc)

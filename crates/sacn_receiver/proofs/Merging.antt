@@ -1,7 +1,7 @@
 -- The live records of a receiver, one more at a time.
-use Rattle.std.proofs.Common.{◌≡◌, ℕ, ◌+◌, ◌<◌, ◌≤◌, true, false, cond, max, refl, ap, replicate, inl, inr}
-use Rattle.std.proofs.Common.{arith, sym, ◌∙◌, List, [], ◌∷◌, map, length, take, get_or, Option, Some}
-use Rattle.std.proofs.Common.{None, not}
+use Rattle.std.proofs.Common.{◌≡◌, ℕ, ◌+◌, ◌<◌, ◌≤◌, true, false, cond, max, refl, ap, replicate}
+use Rattle.std.proofs.Common.{inl, inr, arith, sym, ◌∙◌, List, [], ◌∷◌, map, length, take, get_or}
+use Rattle.std.proofs.Common.{Option, Some, None, not}
 use Rattle.std.specs.Prelude.{filter, find, count_by, slice_get, slice_index, ◌==◌, if◌then◌else◌}
 use Rattle.std.proofs.lemmas.Bool.{cases_lt}
 use Rattle.std.proofs.lemmas.List.{take_more, get_or_past, get_or-replicate, length-replicate}
@@ -11,9 +11,8 @@ use Rattle.std.proofs.lemmas.List.Recursion.{max_push}
 use Rattle.std.proofs.lemmas.List.Sums.{length-filter}
 use Rattle.std.proofs.lemmas.Map.Entries.{option_filter}
 use Rattle.sacn_receiver.specs.declared.record.Record.{Record}
-use Rattle.sacn_receiver.specs.Source.{Entry, same_cid, is_there, records, while_there, record_of}
-use Rattle.sacn_receiver.specs.Shown.{Light, light_of, live, greatest, merged, shown}
-use Rattle.sacn_receiver.specs.Shown.{shown_slots}
+use Rattle.sacn_receiver.specs.Source.{Entry, same_cid, is_there, records, while_there}
+use Rattle.sacn_receiver.specs.Shown.{Light, light_of, live, greatest, merged, shown, shown_slots}
 use Rattle.sacn_receiver.specs.Kept.{Kept, StandsFor}
 use Rattle.sacn_receiver.specs.Records.{entries, kept_entry, is_live_at, lights_at, top_at, lit}
 use Rattle.sacn_receiver.specs.Places.{AreDistinct}
@@ -87,46 +86,34 @@ lights_in es fs h l i =
 pub live_distinct : (h : List Entry) (t : ℕ) → AreDistinct (live h t)
 live_distinct h t = kept_distinct (λ e. not e.ended) (records h t) (records_distinct h t)
 
--- entries apart that give each CID at moment t the record that a history gives it
-module _ (t : ℕ) (es h : List Entry) (d : AreDistinct es)
-    (s : (cid : List ℕ) → record_of es t cid ≡ record_of h t cid) where
+-- what a receiver counts and shows at moment t, where it stands for a history
+module _ (r : Kept) (h : List Entry) (t : ℕ) (d : AreDistinct r.records) (time : r.latest ≤ t)
+    (s : StandsFor r h) where
   live_kept : (o : Option Entry) → option_filter (is_live_at t) o
       ≡ option_filter (λ e. not e.ended) (while_there t o)
   live_kept None = refl
   live_kept (Some e) = by_test (is_there t e) (λ k. rw k) (λ k. rw k)
 
-  same_live : FindSame (filter (is_live_at t) es) (live h t)
+  same_live : FindSame (filter (is_live_at t) r.records) (live h t)
   same_live c =
-      find_kept (is_live_at t) c es d ∙ live_kept (find (same_cid c) es)
-      ∙ ap (option_filter (λ e. not e.ended)) (s c ∙ sym (find_records h t c))
+      find_kept (is_live_at t) c r.records d ∙ live_kept (find (same_cid c) r.records)
+      ∙ ap (option_filter (λ e. not e.ended)) (s.records_are t c time ∙ sym (find_records h t c))
       ∙ sym (find_kept (λ e. not e.ended) c (records h t) (records_distinct h t))
 
-  live_apart : AreDistinct (filter (is_live_at t) es)
-  live_apart = kept_distinct (is_live_at t) es d
+  live_apart : AreDistinct (filter (is_live_at t) r.records)
+  live_apart = kept_distinct (is_live_at t) r.records d
 
-  pub live_count : length (filter (is_live_at t) es) ≡ length (live h t)
-  live_count = as_many (filter (is_live_at t) es) (live h t) live_apart (live_distinct h t) same_live
+  pub counts_live : (rs : List Record) (n : ℕ) → r.records ≡ entries rs
+      → n ≡ count_by (λ r. is_live_at t (kept_entry r)) rs → n ≡ length (live h t)
+  counts_live rs n is c =
+      c ∙ sym (fold-map (λ n e. n + cond (is_live_at t e) 1 0) kept_entry 0 rs)
+      ∙ ap (count_by (is_live_at t)) (sym is) ∙ sym (length-filter (is_live_at t) r.records)
+      ∙ as_many _ (live h t) live_apart (live_distinct h t) same_live
 
-  pub live_shown : (slot : ℕ) → merged (map light_of (filter (is_live_at t) es)) slot
-      ≡ merged (map light_of (live h t)) slot
-  live_shown slot = merged_same _ _ slot
-      (lights_in _ _ (same_in (filter (is_live_at t) es) (live h t) live_apart same_live))
-      (lights_in _ _ (same_in (live h t) (filter (is_live_at t) es) (live_distinct h t)
-      (λ c. sym (same_live c))))
-
--- what a receiver counts and shows, where it stands for a history
-pub counts_live : (rs : List Record) (r : Kept) (h : List Entry) (t n : ℕ) → r.records ≡ entries rs
-    → AreDistinct r.records → r.latest ≤ t → n ≡ count_by (λ r. is_live_at t (kept_entry r)) rs
-    → StandsFor r h → n ≡ length (live h t)
-counts_live rs r h t n is a l c s =
-    c ∙ sym (fold-map (λ n e. n + cond (is_live_at t e) 1 0) kept_entry 0 rs)
-    ∙ ap (count_by (is_live_at t)) (sym is) ∙ sym (length-filter (is_live_at t) r.records)
-    ∙ live_count t r.records h a (λ c. s.records_are t c l)
-
-pub shows : (r : Kept) (h : List Entry) (t : ℕ) (out : List ℕ) → AreDistinct r.records
-    → r.latest ≤ t → length out ≡ 512 → ((s : ℕ) → s < 512
-    → get_or out s 0 ≡ merged (map light_of (filter (is_live_at t) r.records)) s)
-    → StandsFor r h → out ≡ shown_slots h t
-shows r h t out a l size each s =
-    fill_by_all (shown h t) out 512 0 size (λ i lt.
-    each i lt ∙ live_shown t r.records h a (λ c. s.records_are t c l) i)
+  pub shows : (out : List ℕ) → length out ≡ 512 → ((s : ℕ) → s < 512
+      → get_or out s 0 ≡ merged (map light_of (filter (is_live_at t) r.records)) s)
+      → out ≡ shown_slots h t
+  shows out size each =
+      fill_by_all (shown h t) out 512 0 size (λ i lt. each i lt ∙ merged_same _ _ i
+      (lights_in _ _ (same_in _ (live h t) live_apart same_live))
+      (lights_in _ _ (same_in (live h t) _ (live_distinct h t) (λ c. sym (same_live c)))))

@@ -1,8 +1,8 @@
 -- The merge depends on the members alone.
-use Rattle.std.proofs.Common.{◌≡◌, ℕ, ◌≤◌, refl, ap, arith, sym, inl, inr, ◌∙◌, List, [], ◌∷◌, map}
-use Rattle.std.specs.Prelude.{nat_eq, slice_index}
-use Rattle.sacn_receiver.specs.Shown.{Light, greatest, leading, merged}
-use Rattle.sacn_receiver.proofs.Members.{In, In_filter, In_filtered}
+use Rattle.std.proofs.Common.{◌≡◌, ℕ, ◌≤◌, Bool, refl, ap, arith, inl, inr, List, [], ◌∷◌, map}
+use Rattle.std.specs.Prelude.{nat_eq, filter, slice_index}
+use Rattle.sacn_receiver.specs.Shown.{Light, greatest, merged}
+use Rattle.sacn_receiver.proofs.Members.{In, In_kept}
 
 -- the greatest depends on the members alone
 module _ {A : Type 0} (f : A → ℕ) where
@@ -24,18 +24,11 @@ module _ {A : Type 0} (f : A → ℕ) where
       → greatest (map f xs) ≡ greatest (map f ys)
   same_greatest xs ys h g = omega (arith, greatest_le xs ys h, greatest_le ys xs g)
 
-leads : (xs ys : List Light) → ((l : Light) → In l xs → In l ys)
-    → greatest (map (λ m. m.priority) xs) ≡ greatest (map (λ m. m.priority) ys) → (l : Light)
-    → In l (leading xs) → In l (leading ys)
-leads xs ys h e l i =
-    let j = In_filtered (λ l. nat_eq l.priority (greatest (map (λ m. m.priority) xs))) l xs i in
-    In_filter (λ l. nat_eq l.priority (greatest (map (λ m. m.priority) ys))) l ys (h l j.0)
-    (sym (ap (nat_eq l.priority) e) ∙ j.1)
-
 pub merged_same : (xs ys : List Light) (s : ℕ) → ((l : Light) → In l xs → In l ys)
     → ((l : Light) → In l ys → In l xs) → merged xs s ≡ merged ys s
 merged_same xs ys s h g =
-    let e : greatest (map (λ m. m.priority) xs) ≡ greatest (map (λ m. m.priority) ys) =
-    same_greatest (λ m. m.priority) xs ys h g in
-    same_greatest (λ l. slice_index l.slots s) (leading xs) (leading ys) (leads xs ys h e)
-    (leads ys xs g (sym e))
+    let top : ℕ = greatest (map (λ m. m.priority) ys) in
+    let p : Light → Bool = λ l. nat_eq l.priority top in
+    let e : greatest (map (λ m. m.priority) xs) ≡ top = same_greatest (λ m. m.priority) xs ys h g in
+    rw e (same_greatest (λ l. slice_index l.slots s) (filter p xs) (filter p ys)
+    (In_kept p xs ys h) (In_kept p ys xs g))

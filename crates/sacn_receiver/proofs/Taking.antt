@@ -7,7 +7,7 @@ use Rattle.std.specs.Prelude.{nat_lt, if◌then◌else◌, filter, find, IfOk, s
 use Rattle.std.specs.Option.{option_map, option_and_then, unwrap_or, option_or, option_map_or}
 use Rattle.std.specs.Result.{result_err}
 use Rattle.std.specs.List.{position, position_or_len}
-use Rattle.std.proofs.lemmas.Bool.{ltb-true, ltb-false, lt-ltb, le-ltb, not-true, cond_both}
+use Rattle.std.proofs.lemmas.Bool.{ltb-true, lt-ltb, le-ltb, not-true, cond_both}
 use Rattle.std.proofs.lemmas.Bool.Decides.{nat_tests}
 use Rattle.std.proofs.lemmas.Cmp.{nat_list_eq_equiv}
 use Rattle.std.proofs.lemmas.Option.{cond_some, slice_get-get_or, slice_get_past}
@@ -25,14 +25,14 @@ use Rattle.sacn_receiver.specs.declared.answer.Ignored.TheVariants.{OutOfSequenc
 use Rattle.sacn_receiver.specs.declared.answer.Ignored.TheVariants.{Backwards, Unreadable}
 use Rattle.sacn_receiver.specs.Source.{Entry, same_cid, is_there, is_after, records, while_there}
 use Rattle.sacn_receiver.specs.Source.{record_of, is_taken, last_moment}
+use Rattle.sacn_receiver.specs.Arrivals.{not_heard}
 use Rattle.sacn_receiver.specs.Taking.{reason_of, refusal, entry_of, unheard, ignored_packet}
 use Rattle.sacn_receiver.specs.Taking.{ignored, taken_of, answer, heard}
 use Rattle.sacn_receiver.specs.Records.{entries, kept_entry}
 use Rattle.sacn_receiver.specs.Places.{AreDistinct, IsFree, IsPlace, put}
 use Rattle.sacn_receiver.specs.Kept.{Kept, StandsFor}
 use Rattle.sacn_receiver.proofs.Members.{by_test, found_in, In_filter, In_length}
-use Rattle.sacn_receiver.proofs.Apart.{alone}
-use Rattle.sacn_receiver.proofs.Apart.{find_kept, kept_distinct, there_kept, find_records}
+use Rattle.sacn_receiver.proofs.Apart.{alone, find_kept, kept_distinct, there_kept, find_records}
 use Rattle.sacn_receiver.proofs.Apart.{records_distinct, as_many}
 
 -- what a history refuses, by what is there of entries that give each CID the same record
@@ -50,20 +50,12 @@ refused_by t es h d s room cid number =
 -- the first that passes is at its place, if it has one
 found_at : {A : Type 0} (p : A → Bool) (xs : List A)
     → find p xs ≡ option_and_then (slice_get xs) (position p xs)
-found_at p xs = find_at p xs
-    ∙ by_test (nat_lt (position_or_len p xs) (length xs)) (λ h. rw h) (λ h. rw h (slice_get_past xs
-    (position_or_len p xs) (ltb-false (position_or_len p xs) (length xs) h)))
+found_at p xs = grind (arith, nat_tests, find_at p xs, slice_get_past xs (position_or_len p xs))
 
 -- and behind all, if there is none
 pub or_behind : {A : Type 0} (p : A → Bool) (xs : List A)
     → unwrap_or (position p xs) (length xs) ≡ position_or_len p xs
-or_behind p xs =
-    by_test (nat_lt (position_or_len p xs) (length xs)) (λ h. rw h)
-    (λ h. rw h (omega (
-      arith,
-      ltb-false (position_or_len p xs) (length xs) h,
-      prefix_len-le-length (λ x. not (p x)) xs,
-    )))
+or_behind p xs = grind (arith, nat_tests, prefix_len-le-length (λ x. not (p x)) xs)
 
 find_mapped : {A B : Type 0} (f : A → B) (p : B → Bool) (xs : List A)
     → find p (map f xs) ≡ option_map f (find (λ x. p (f x)) xs)
@@ -145,10 +137,10 @@ module _ (rs : List Record) (t : ℕ) (cid : List ℕ) (number : ℕ) (few : len
       free = subst (IsFree t cid (entries rs)) at.1 (own_free t cid rs apart);
     }
 
-    pub known_refused : (d : Record) → refusal 4 (entries rs) t cid number
-        ≡ (if is_there t (kept_entry (get_or rs i d)) && not (is_after (get_or rs i d).number number)
-        then Some OutOfSequence else None)
-    known_refused d =
+    pub known_refused : (d : Record) (b : Bool) → b ≡ (is_there t (kept_entry (get_or rs i d))
+        && not (is_after (get_or rs i d).number number))
+        → refusal 4 (entries rs) t cid number ≡ (if b then Some OutOfSequence else None)
+    known_refused d b overtaken = rw overtaken (
         let e : Entry = kept_entry (get_or rs i d) in
         let found : find (same_cid cid) (entries rs) ≡ Some e = own_found t cid rs
         ∙ ap (λ o. option_map kept_entry (option_and_then (slice_get rs) o)) is
@@ -166,7 +158,7 @@ module _ (rs : List Record) (t : ℕ) (cid : List ℕ) (number : ℕ) (few : len
                 (In_filter (λ e. not (is_there t e)) e (entries rs)
                 (found_in (same_cid cid) e (entries rs) found).0 (ap not k)),
           )),
-        ))
+        )))
 
   -- a CID without one
   module _ (r : Result ℕ Ignored) (is : position (own t cid) rs ≡ None)
@@ -266,13 +258,18 @@ module _ (t : ℕ) (d : List ℕ) (p : Packet) (has : HasPacket d p) (r : Kept) 
             (λ k. rw k (s.records_are u c (omega arith)));
       }))
 
--- in time, a datagram is ignored for its packet, or because there is none
+-- in time, a datagram is ignored because it is not heard, or by the source rule
+in_parts : (x y z : Option Ignored) → option_or x (option_or y z) ≡ option_or (option_or x y) z
+in_parts None y z = refl
+in_parts (Some r) y z = refl
+
 pub in_time : (room universe : ℕ) (h : List Entry) (t : ℕ) (d : List ℕ) → last_moment h ≤ t
-    → ignored room universe h t d ≡ option_or (option_map Unreadable (fault_of d))
-    (ignored_packet room universe h t (front_packet d))
+    → ignored room universe h t d ≡ option_or (not_heard universe d)
+    (refusal room h t (front_packet d).fields.cid (front_packet d).fields.sequence)
 in_time room universe h t d time =
     ap (λ b. if b then Some Backwards else option_or (option_map Unreadable (fault_of d))
     (ignored_packet room universe h t (front_packet d))) (le-ltb t (last_moment h) time)
+    ∙ in_parts (option_map Unreadable (fault_of d)) (unheard universe (front_packet d)) _
 
 -- for which history a receiver stands after a packet, and what it answers, by why it is ignored
 module _ (r : Kept) (h : List Entry) (t : ℕ) (d : List ℕ) (p : Packet)
@@ -282,8 +279,8 @@ module _ (r : Kept) (h : List Entry) (t : ℕ) (d : List ℕ) (p : Packet)
   ignored_by : ignored 4 r.universe h t d ≡ o
   ignored_by =
       in_time 4 r.universe h t d (omega (arith, s.latest_is, time))
-      ∙ ap₂ (λ f q. option_or (option_map Unreadable f) (ignored_packet 4 r.universe h t q))
-      (sym fault) (packet_ends d p has)
+      ∙ ap₂ (λ f q. option_or (option_or (option_map Unreadable f) (unheard r.universe q))
+      (refusal 4 h t q.fields.cid q.fields.sequence)) (sym fault) (packet_ends d p has)
       ∙ ap (option_or (unheard r.universe p)) (refused_by t r.records h apart
       (λ c. s.records_are t c time) 4 p.fields.cid p.fields.sequence
       ∙ sym (refused_by t r.records r.records apart (λ c. refl) 4 p.fields.cid

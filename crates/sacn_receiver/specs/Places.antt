@@ -1,8 +1,8 @@
 -- Where a receiver keeps a new packet: in place of its CID's older one, of one that is gone, or
 -- behind all.
 -- Of use inside the crate: what its public calls answer is said without these.
-use Rattle.std.specs.Prelude.{◌≡◌, ℕ, zero, suc, ◌<◌, ◌≤◌, true, false, not, ◌||◌, List, []}
-use Rattle.std.specs.Prelude.{◌∷◌, ◌++◌, length, take, drop, filter, find, None}
+use Rattle.std.specs.Prelude.{◌≡◌, ℕ, zero, suc, ◌<◌, ◌≤◌, true, false, not, ◌||◌, List, [], ◌∷◌}
+use Rattle.std.specs.Prelude.{◌++◌, length, take, drop, filter, find, None}
 use Rattle.sacn_receiver.specs.Source.{Entry, same_cid, is_there}
 
 -- at most one of each CID

@@ -1,6 +1,4 @@
-use Rattle.std.proofs.Common.{sym, ap, ◌∙◌, Some, None}
-use Rattle.std.specs.Prelude.{if◌then◌else◌}
-use Rattle.sacn_receiver.specs.declared.answer.Ignored.TheVariants.{OutOfSequence}
+use Rattle.std.proofs.Common.{sym, ◌∙◌, true, false}
 use Rattle.sacn_receiver.proofs.Taking.{known_place, known_refused, new_place, new_refused}
 use Rattle.sacn_receiver.proofs.places.place_for.Goals as goal
 
@@ -8,8 +6,7 @@ pub returns-then-is_overtaken-clause-refused : goal.returns-then-is_overtaken-cl
 returns-then-is_overtaken-clause-refused c =
     sym (known_refused c.args.records.now c.args.moment c.args.cid.now c.args.number
     c.requires.room c.requires.apart c.in-Some.place (sym c.in-Some.ensures) _
-    ∙ ap (λ b. if b then Some OutOfSequence else None)
-    (sym c.is_overtaken.ensures ∙ c.if-is_overtaken.true))
+    true (sym c.if-is_overtaken.true ∙ c.is_overtaken.ensures))
 
 pub returns-else-is_overtaken-clause-place : goal.returns-else-is_overtaken-clause-place
 returns-else-is_overtaken-clause-place c =
@@ -20,8 +17,7 @@ pub returns-else-is_overtaken-clause-refused : goal.returns-else-is_overtaken-cl
 returns-else-is_overtaken-clause-refused c =
     sym (known_refused c.args.records.now c.args.moment c.args.cid.now c.args.number
     c.requires.room c.requires.apart c.in-Some.place (sym c.in-Some.ensures) _
-    ∙ ap (λ b. if b then Some OutOfSequence else None)
-    (sym c.is_overtaken.ensures ∙ c.if-is_overtaken.false))
+    false (sym c.if-is_overtaken.false ∙ c.is_overtaken.ensures))
 
 pub returns-in-None-clause-place : goal.returns-in-None-clause-place
 returns-in-None-clause-place c =

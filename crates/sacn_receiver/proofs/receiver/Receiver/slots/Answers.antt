@@ -7,7 +7,7 @@ use Rattle.sacn_receiver.proofs.receiver.Receiver.slots.Goals as goal
 
 pub returns : goal.returns
 returns c = rw (← c.self.view_is) (λ h s.
-    shows _ h c.args.moment c.merge.new.out c.self.invariant
-    (rw (← c.self.view_is) at c.requires) c.merge.array_long (λ i lt. c.merge.ensures i lt
+    shows _ h c.args.moment c.self.invariant (rw (← c.self.view_is) at c.requires) s
+    c.merge.new.out c.merge.array_long (λ i lt. c.merge.ensures i lt
     ∙ ap (λ rs. merged (map light_of (filter (is_live_at c.args.moment) (entries rs))) i)
-    c.as_slice.ensures.value) s)
+    c.as_slice.ensures.value))

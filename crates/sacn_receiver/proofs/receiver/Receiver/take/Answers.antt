@@ -1,9 +1,7 @@
-use Rattle.std.proofs.Common.{◌≡◌, None, Some, Err, Ok, subst, sym, ap, ◌∙◌}
+use Rattle.std.proofs.Common.{None, Some, Err, Ok, subst, sym, ap, ap₂, ◌∙◌}
 use Rattle.std.proofs.lemmas.Result.{err_from_is_err_and}
 use Rattle.sacn_packet.specs.Wire.{HasPacket}
 use Rattle.sacn_packet.proofs.Found.{packet_ends}
-use Rattle.sacn_receiver.specs.declared.answer.Taken.{Taken}
-use Rattle.sacn_receiver.specs.Taking.{taken_of}
 use Rattle.sacn_receiver.specs.Inside.{receiver_view}
 use Rattle.sacn_receiver.specs.Records.{entries}
 use Rattle.sacn_receiver.proofs.Taking.{kept_apart, kept_stands, answer_by, heard_by}
@@ -28,12 +26,9 @@ returns-in_err-place-clause-heard c = rw (← c.self.view_is) (λ h s.
 
 pub returns-clause-answer : goal.returns-clause-answer
 returns-clause-answer c =
-    let taken : Taken = record {
-      sequence = c.sequence.result;
-      terminated = c.is_termination.result;
-    } in
-    let is : taken ≡ taken_of c.in_ok-packet.packet = cc in
-    rw (← c.self.view_is) (λ h s. ap Ok is
+    rw (← c.self.view_is) (λ h s.
+    ap₂ (λ number ends. Ok (record { sequence = number; terminated = ends })) c.sequence.ensures
+    c.is_termination.ensures
     ∙ sym (answer_by (receiver_view c.self.inside) h _ _ _ c.self.invariant s
     c.if-moment-self.false c.in_ok-packet.ensures.fault c.in_ok-packet.ensures.ok None
     (rw c.as_slice.ensures.value at c.in_ok-place.ensures.refused)))
