@@ -5,15 +5,18 @@ use Rattle.std.proofs.lemmas.Bool.Decides.{nat_tests}
 use Rattle.std.specs.Cmp.Lexicographic.{pointwise}
 use Rattle.std.specs.Prelude.{nat_eq, ◌==◌, if◌then◌else◌, Option}
 use Rattle.devices.specs.Send.{Send}
+use Rattle.sacn_packet.specs.Wire.{Fields, IsData}
 use Rattle.sacn_source.specs.Identify.{IsStreamPacket}
 use Rattle.sacn_source.specs.Identity.{Identity}
-use Rattle.sacn_source.specs.Kept.{Pace}
+use Rattle.sacn_source.specs.Kept.{Lane, Pace}
 use Rattle.sacn_source.specs.Offering.{Answers, Offers, answer_of, number_of}
 use Rattle.sacn_source.specs.Pacing as pacing
 use Rattle.sacn_source.specs.Pacing.{Paces}
-use Rattle.sacn_source.specs.Stream.{Offer, Packet, is_change, newest_frame}
+use Rattle.sacn_source.specs.Stands.{LaneStands}
+use Rattle.sacn_source.specs.Stream.{Offer, Packet, is_change, newest_frame, sends}
 use Rattle.sacn_source.specs.declared.offered.Offered.{Offered}
 use Rattle.sacn_source.specs.declared.offered.Offered.TheVariants.{Quiet}
+use Rattle.sacn_source.proofs.PaceLemmas.{due_same, takes_offer}
 
 -- an offer is a change where it has other slots than the newest frame, or is the first
 or_true : (b : Bool) → (b || true) ≡ true
@@ -27,7 +30,7 @@ or_false false = refl
 begun : (earliest moment : ℕ) → earliest ≡ moment + 1 → (earliest == 0) ≡ false
 begun earliest moment e = grind (arith, nat_tests)
 
-pub changed_by : (offers : List Offer) (pace : Pace) (moment : ℕ) (frame : List ℕ) (differs : Bool)
+changed_by : (offers : List Offer) (pace : Pace) (moment : ℕ) (frame : List ℕ) (differs : Bool)
     → Paces pace offers 0 → differs ≡ not (pointwise nat_eq frame (newest_frame offers))
     → pacing.is_change pace differs ≡ is_change (record { moment = moment; frame = frame } ∷ offers)
 changed_by [] pace moment frame differs s d =
@@ -35,6 +38,24 @@ changed_by [] pace moment frame differs s d =
 changed_by (p ∷ older) pace moment frame differs s d =
     ap (λ (b : Bool). differs || b) (begun pace.earliest p.moment s.earliest_is)
     ∙ or_false differs ∙ d
+
+-- an offer to a lane, by whether its packet had other slots
+module _ (who : Identity) (lane : Lane) (offers : List Offer) (o : Offer) (differs : Bool)
+    (s : LaneStands who lane offers 0)
+    (says : (fields : Fields) (old : List ℕ) → IsData lane.packet fields old
+    → differs ≡ not (pointwise nat_eq o.frame old)) where
+  changed : pacing.is_change lane.pace differs ≡ is_change (o ∷ offers)
+  changed = changed_by offers lane.pace o.moment o.frame differs s.paces (says _ _ s.packet.2)
+
+  pub paces_on : (pace : Pace)
+      → pace ≡ pacing.pace_after lane.pace (pacing.is_change lane.pace differs) o.moment
+      → Paces pace (o ∷ offers) 0
+  paces_on pace e = rw e (takes_offer lane.pace offers o _ changed s.paces)
+
+  pub sends_as : (due b : Bool)
+      → due ≡ pacing.is_due lane.pace (pacing.is_change lane.pace differs) o.moment → due ≡ b
+      → sends (o ∷ offers) ≡ b
+  sends_as due b e is = sym (due_same lane.pace offers o _ changed s.paces) ∙ sym e ∙ is
 
 -- with and without a packet that is due
 pub unanswered : (due : Bool) (place : ℕ) (p : Packet) → due ≡ false
