@@ -141,7 +141,8 @@ fits [] (e ∷ es) a s = absurd (let f : false ≡ true = a.0 in cc)
 fits (c ∷ cs) es a s =
     let p : Entry → Bool = λ e. not (same_cid c e) in
     let rest : AllIn cs (filter p es) = all_in cs (filter p es) (λ e i.
-    let j = In_filtered p e es i in rw (not-true (same_cid c e) j.1) at (in_all (c ∷ cs) es a e j.0)) in
+    let j = In_filtered p e es i in
+    rw (not-true (same_cid c e) j.1) at (in_all (c ∷ cs) es a e j.0)) in
     omega (
       arith,
       length-filter_both (same_cid c) p (λ _. refl) es,

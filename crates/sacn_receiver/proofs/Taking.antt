@@ -1,5 +1,4 @@
--- What a receiver answers to a datagram, where it keeps the packet, and for which history it stands
--- then.
+-- What a receiver answers, where it keeps the packet, and for which history it stands then.
 use Rattle.std.proofs.Common.{◌≡◌, ℕ, zero, suc, ◌-◌, ◌<◌, ◌≤◌, Bool, true, false, not, ◌&&◌, refl}
 use Rattle.std.proofs.Common.{ap, ap₂, arith, sym, subst, ◌∙◌, one-add, List, [], ◌∷◌, map, length}
 use Rattle.std.proofs.Common.{get_or, Option, Some, None, Result, Ok, Err}
@@ -185,7 +184,8 @@ module _ (rs : List Record) (t : ℕ) (cid : List ℕ) (number : ℕ) (few : len
     new_refused =
         ap result_err f
         ∙ by_test (nat_lt (position_or_len (gone t) rs) 4) (λ h. rw h) (λ h. rw h)
-        ∙ ap (λ b. if b then None else Some SourcesFull) (room t 4 rs few) ∙ sym (refused None nowhere)
+        ∙ ap (λ b. if b then None else Some SourcesFull) (room t 4 rs few)
+        ∙ sym (refused None nowhere)
 
 -- a record stays away once it is gone
 still_gone : (t u m : ℕ) → t ≤ u → nat_lt (t - m) 2500 ≡ false → nat_lt (u - m) 2500 ≡ false
