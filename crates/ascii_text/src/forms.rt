@@ -1,8 +1,9 @@
 ghost use Rattle.std.specs.Prelude.{◌≡◌, ◌+◌, ◌*◌, ◌<◌, ◌≤◌, ◌^◌, ◌==◌, true, false, length};
 ghost use Rattle.std.specs.Prelude.{IfSome, MatchOption};
 ghost use Rattle.std.specs.List.{list_any, before_first, after_first};
+ghost use Rattle.std.specs.Option.{option_or};
 ghost use Rattle.ascii_text.specs.Forms.{same_word, digits_of, number_of, moment_of, whole_of};
-ghost use Rattle.ascii_text.specs.Forms.{level_of, hex_of, hex_digit_of};
+ghost use Rattle.ascii_text.specs.Forms.{level_of, full_of, hex_of, hex_digit_of};
 ghost use Rattle.ascii_text.specs.Forms.{units_of, fraction_of, scaled_of, cue_number_of};
 ghost use Rattle.ascii_text.specs.Forms.{seconds_of, time_of};
 
@@ -40,6 +41,7 @@ pub fn whole(word: &[u8], max: u32) -> Option<u32>
 }
 
 /// A level as a byte: a percentage, `FL` or `FF`, or `H` and 1 or 2 hex digits.
+#[inline]
 pub fn level(word: &[u8]) -> Option<u8>
     ensures { result ≡ level_of word.now }
 {
@@ -47,6 +49,15 @@ pub fn level(word: &[u8]) -> Option<u8>
         let percent = whole(word, 100)?;
         return Some(((percent * 255 + 50) / 100) as u8);
     }
+    lettered_level(word)
+}
+
+// A level that is no percentage. Most are one: those are read where `level` is called, without a
+// call of their own.
+#[inline(never)]
+fn lettered_level(word: &[u8]) -> Option<u8>
+    ensures { result ≡ option_or (full_of word.now) (hex_of word.now) }
+{
     if same_word(word, b"FL") || same_word(word, b"FF") {
         return Some(255);
     }
