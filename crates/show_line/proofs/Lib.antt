@@ -3,5 +3,4 @@ pub mod Ranges
 pub mod Forms
 pub mod Ranged
 pub mod Wider
-pub mod Room
 mod Rows

@@ -48,3 +48,7 @@ pub lower_both : (a b : Option LineFault) → lower a b ≡ None → (a ≡ None
 lower_both None b h = (refl, h)
 lower_both (Some x) None h = absurd (none-some x (sym h))
 lower_both (Some x) (Some y) h = absurd (some_of_two x y h)
+
+-- a fault that is there is not lost
+pub lower_some : (a : Option LineFault) (f : LineFault) → lower a (Some f) ≡ None → ⊥
+lower_some a f h = none-some f (sym (lower_both a (Some f) h).1)

@@ -27,23 +27,37 @@ number_in_range least most word h =
     let r = in_range least most (number_of word) h in
     record { above = r.0; below = r.1 }
 
--- a pair without a fault, and the others
-pub faultless_pair : (lim : Limits) (channel level : List ℕ) (words : List (List ℕ))
-    → pair_fault lim (channel ∷ level ∷ words) ≡ None
-    → IsNumberIn 1 lim.channels channel × (pair_fault lim words ≡ None)
-faultless_pair lim channel level words h =
-    let p = lower_both _ (pair_fault lim words) h in
-    let q = lower_both (number_fault 1 lim.channels channel) (level_fault level) p.0 in
-    (number_in_range 1 lim.channels channel q.0, p.1)
+-- a pair without a fault, and none behind it
+pub record IsPairFaultless (lim : Limits) (channel level : List ℕ)
+    (left : List (List ℕ)) : Type 0 where
+  pub of_channel : number_fault 1 lim.channels channel ≡ None
+  pub of_level : level_fault level ≡ None
+  pub behind : pair_fault lim left ≡ None
 
--- a triple without a fault, and the others
-pub faultless_triple : (lim : Limits) (channel dimmer level : List ℕ) (words : List (List ℕ))
-    → triple_fault lim (channel ∷ dimmer ∷ level ∷ words) ≡ None
-    → IsNumberIn 0 lim.channels channel × IsNumberIn 1 lim.dimmers dimmer
-    × (triple_fault lim words ≡ None)
-faultless_triple lim channel dimmer level words h =
-    let p = lower_both _ (triple_fault lim words) h in
+pub next_pair : (lim : Limits) (words : List (List ℕ)) {left : List (List ℕ)}
+    {channel level : List ℕ}
+    → words ≡ channel ∷ level ∷ left → pair_fault lim words ≡ None
+    → IsPairFaultless lim channel level left
+next_pair lim words {left} {channel} {level} is none =
+    let p = lower_both _ (pair_fault lim left) (rw is at none) in
+    let q = lower_both (number_fault 1 lim.channels channel) (level_fault level) p.0 in
+    record { of_channel = q.0; of_level = q.1; behind = p.1 }
+
+-- a triple without a fault, and none behind it
+pub record IsTripleFaultless (lim : Limits) (channel dimmer level : List ℕ)
+    (left : List (List ℕ)) : Type 0 where
+  pub of_channel : number_fault 0 lim.channels channel ≡ None
+  pub of_dimmer : number_fault 1 lim.dimmers dimmer ≡ None
+  pub of_level : level_fault level ≡ None
+  pub behind : triple_fault lim left ≡ None
+
+pub next_triple : (lim : Limits) (words : List (List ℕ)) {left : List (List ℕ)}
+    {channel dimmer level : List ℕ}
+    → words ≡ channel ∷ dimmer ∷ level ∷ left → triple_fault lim words ≡ None
+    → IsTripleFaultless lim channel dimmer level left
+next_triple lim words {left} {channel} {dimmer} {level} is none =
+    let p = lower_both _ (triple_fault lim left) (rw is at none) in
     let q = lower_both _ (level_fault level) p.0 in
     let r = lower_both (number_fault 0 lim.channels channel) (number_fault 1 lim.dimmers dimmer)
     q.0 in
-    (number_in_range 0 lim.channels channel r.0, number_in_range 1 lim.dimmers dimmer r.1, p.1)
+    record { of_channel = r.0; of_dimmer = r.1; of_level = q.1; behind = p.1 }

@@ -1,11 +1,10 @@
 -- What a line says without a fault, it says under wider limits too.
-use Rattle.std.proofs.Common.{◌≡◌, ℕ, ◌≤◌, Bool, true, false, List, [], ◌∷◌, refl, sym, ap, arith}
+use Rattle.std.proofs.Common.{◌≡◌, ℕ, ◌≤◌, Bool, true, false, List, [], ◌∷◌, refl, ap, arith}
 use Rattle.std.proofs.Common.{Option}
 use Rattle.std.proofs.Common.{Some, None}
 use Rattle.std.specs.Prelude.{if◌then◌else◌}
 use Rattle.std.proofs.lemmas.Bool.Decides.{nat_tests}
 use Rattle.std.proofs.lemmas.Grind.{common_steps}
-use Rattle.std.proofs.lemmas.Option.{none-some}
 use Rattle.ascii_text.specs.Forms.{number_of}
 use Rattle.show_line.specs.declared.fault.LineFault.{LineFault}
 use Rattle.show_line.specs.declared.fault.LineFault.TheVariants.{HalfPair, HalfTriple}
@@ -17,12 +16,13 @@ use Rattle.show_line.specs.declared.keyword.Keyword.TheVariants.{FollowOn, Remar
 use Rattle.show_line.specs.declared.statement.Record.{Record}
 use Rattle.show_line.specs.declared.statement.Statement.{Statement}
 use Rattle.show_line.specs.declared.statement.Statement.TheVariants.{Levels, Patches, Skipped}
-use Rattle.show_line.specs.Faults.{range_fault, number_fault, level_fault, lower, page_fault}
+use Rattle.show_line.specs.Faults.{range_fault, number_fault, lower, page_fault}
 use Rattle.show_line.specs.Pairs.{Limits, pair_fault, pairs_in, triple_fault, triples_in}
 use Rattle.show_line.specs.Said.{unless_faulty, is_page_1, patch_said, levels_said, owned_said}
 use Rattle.show_line.specs.Said.{said}
 use Rattle.show_line.specs.Sound.{IsFaultless}
-use Rattle.show_line.proofs.Lowest.{lower_both}
+use Rattle.show_line.proofs.Lowest.{lower_some}
+use Rattle.show_line.proofs.Ranges.{next_pair, next_triple}
 
 range_wider : (least m n : ℕ) (o : Option ℕ) → m ≤ n → range_fault least m o ≡ None
     → range_fault least n o ≡ None
@@ -50,38 +50,25 @@ module _
   pub pairs_wider : (words : List (List ℕ)) → pair_fault narrow words ≡ None
       → pair_fault wide words ≡ None
   pairs_wider [] h = refl
-  pairs_wider (channel ∷ []) h =
-      let of_channel = number_fault 1 narrow.channels channel in
-      absurd (none-some HalfPair (sym (lower_both of_channel (Some HalfPair) h).1))
+  pairs_wider (channel ∷ []) h = absurd (lower_some (number_fault 1 _ channel) HalfPair h)
   pairs_wider (channel ∷ level ∷ words) h =
-      let p = lower_both _ (pair_fault narrow words) h in
-      let q = lower_both (number_fault 1 narrow.channels channel) (level_fault level) p.0 in
-      let wider = range_wider 1 narrow.channels wide.channels (number_of channel) more_channels
-      q.0 in
-      rw (wider, q.1) (pairs_wider words p.1)
+      let p = next_pair narrow (channel ∷ level ∷ words) refl h in
+      let wider = range_wider 1 narrow.channels _ (number_of channel) more_channels p.of_channel in
+      rw (wider, p.of_level) (pairs_wider words p.behind)
 
   -- the triples of PATCH
   pub triples_wider : (words : List (List ℕ)) → triple_fault narrow words ≡ None
       → triple_fault wide words ≡ None
   triples_wider [] h = refl
-  triples_wider (channel ∷ []) h =
-      let of_channel = number_fault 0 narrow.channels channel in
-      absurd (none-some HalfTriple (sym (lower_both of_channel (Some HalfTriple) h).1))
+  triples_wider (channel ∷ []) h = absurd (lower_some (number_fault 0 _ channel) HalfTriple h)
   triples_wider (channel ∷ dimmer ∷ []) h =
-      let of_channel = number_fault 0 narrow.channels channel in
-      let of_dimmer = number_fault 1 narrow.dimmers dimmer in
-      absurd (none-some HalfTriple
-      (sym (lower_both (lower of_channel of_dimmer) (Some HalfTriple) h).1))
+      absurd (lower_some (lower (number_fault 0 _ channel) (number_fault 1 _ dimmer)) HalfTriple h)
   triples_wider (channel ∷ dimmer ∷ level ∷ words) h =
-      let of_channel = number_fault 0 narrow.channels channel in
-      let of_dimmer = number_fault 1 narrow.dimmers dimmer in
-      let p = lower_both _ (triple_fault narrow words) h in
-      let q = lower_both _ (level_fault level) p.0 in
-      let r = lower_both of_channel of_dimmer q.0 in
-      let channels = range_wider 0 narrow.channels wide.channels (number_of channel) more_channels
-      r.0 in
-      let dimmers = range_wider 1 narrow.dimmers wide.dimmers (number_of dimmer) more_dimmers r.1 in
-      rw (channels, dimmers, q.1) (triples_wider words p.1)
+      let p = next_triple narrow (channel ∷ dimmer ∷ level ∷ words) refl h in
+      let channels = range_wider 0 narrow.channels _ (number_of channel) more_channels
+      p.of_channel in
+      let dimmers = range_wider 1 narrow.dimmers _ (number_of dimmer) more_dimmers p.of_dimmer in
+      rw (channels, dimmers, p.of_level) (triples_wider words p.behind)
 
   patch_wider : (words : List (List ℕ)) → IsFaultless (patch_said narrow words)
       → patch_said wide words ≡ patch_said narrow words

@@ -12,11 +12,12 @@ use Rattle.show_reader.specs.Terms.{Follows, Patches, Clears, Faulty, Triple, Li
 use Rattle.show_line.specs.Keywords.{keyword_of}
 use Rattle.show_line.specs.Sound.{IsFaultless}
 use Rattle.show_line.proofs.Wider.{said_wider}
-use Rattle.show_line.proofs.Room.{IsPairWithin, IsTripleWithin, IsWithin, said_within}
+use Rattle.show_line.proofs.Ranged.{IsPairWithin, IsTripleWithin, IsSaid}
+use Rattle.show_reader.proofs.Lines.{line_said}
 use Rattle.show_reader.specs.declared.fault.ShowFault.{ShowFault}
 use Rattle.show_reader.specs.declared.fault.ShowFault.TheVariants as show_fault
 use Rattle.show_reader.specs.Text.{Words, said_under, owner_below, statement_below, statements}
-use Rattle.show_reader.specs.Text.{lines_in}
+use Rattle.show_reader.specs.Text.{lines_in, owns}
 use Rattle.show_reader.specs.Keys.{Key, There, Level, Up, Down, Follow, Dimmer, Answer, table_at}
 use Rattle.show_reader.specs.Meaning.{News, Is, Gone, Silent, after, last_news, pair_says}
 use Rattle.show_reader.specs.Meaning.{triple_says, says, meaning, same_record, empties}
@@ -89,7 +90,7 @@ module _ (lim : Limits) where
       → IsNewsWithin lim k (pair_says r p k)
   pair_within r p h (Level q c) =
       if_within lim (Level q c) _ (Is p.1)
-      (λ e. rw (eqb-true c p.0 (and_parts (same_record q r) (c == p.0) e).1) h)
+      (λ e. rw (eqb-true c p.0 (and_parts (same_record q r) (c == p.0) e).1) h.1)
   pair_within r p h k = tt
 
   triple_within : (t : Triple) → IsTripleWithin lim t → (k : Key)
@@ -100,32 +101,35 @@ module _ (lim : Limits) where
       go : (d == t.dimmer) ≡ true → (b : Bool)
           → IsNewsWithin lim (Dimmer d) (cond b Gone (Is (t.channel, t.level)))
       go e true = tt
-      go e false = (rw (eqb-true d t.dimmer e) h.1, h.0)
+      go e false = (rw (eqb-true d t.dimmer e) h.2, h.0)
   triple_within t h k = tt
 
-  says_within : (s : Statement) → IsWithin lim s → (k : Key) → IsNewsWithin lim k (says s k)
-  says_within (Opens r) h (There q) = if_within lim (There q) (same_record q r) _ (λ e. tt)
-  says_within (Levels r ps) h k =
-      list_within lim k (IsPairWithin lim) (λ p. pair_says r p k) (λ p w. pair_within r p w k) ps h
-  says_within (Rises n rate) h (Up m) = if_within lim (Up m) (m == n) (Is rate) (λ e. tt)
-  says_within (Falls n rate) h (Down m) = if_within lim (Down m) (m == n) (Is rate) (λ e. tt)
-  says_within (Follows n time) h (Follow m) = if_within lim (Follow m) (m == n) (Is time) (λ e. tt)
-  says_within (Patches ts) h k =
+  says_within : (owner : Option Record) (own : Bool) (s : Statement) → IsSaid lim owner own s
+      → (k : Key) → IsNewsWithin lim k (says s k)
+  says_within owner own (Opens r) h (There q) =
+      if_within lim (There q) (same_record q r) _ (λ e. tt)
+  says_within owner own (Levels r ps) h k =
+      list_within lim k (IsPairWithin lim) (λ p. pair_says r p k) (λ p w. pair_within r p w k) ps
+      h.1
+  says_within owner own (Rises n rate) h (Up m) = if_within lim (Up m) (m == n) (Is rate) (λ e. tt)
+  says_within owner own (Falls n rate) h (Down m) =
+      if_within lim (Down m) (m == n) (Is rate) (λ e. tt)
+  says_within owner own (Follows n time) h (Follow m) =
+      if_within lim (Follow m) (m == n) (Is time) (λ e. tt)
+  says_within owner own (Patches ts) h k =
       list_within lim k (IsTripleWithin lim) _ (λ t w. triple_within t w k) ts h
-  says_within (Clears what) h k = if_within lim k (empties what (table_at k)) Gone (λ e. tt)
-  says_within s h k = tt
-
-  statement_within : (owner : Option Record) (l : Words) → IsWithin lim (said_under lim owner l)
-  statement_within owner [] = tt
-  statement_within owner (w ∷ words) = said_within lim owner (keyword_of w) words
+  says_within owner own (Clears what) h k =
+      if_within lim k (empties what (table_at k)) Gone (λ e. tt)
+  says_within owner own s h k = tt
 
   meaning_within : (lines : List Words) (k : Key)
       → IfSome (meaning (statements lim lines) k) (IsAnswerWithin lim k)
   meaning_within [] k = tt
   meaning_within (l ∷ above) k =
+      let owner = owner_below lim above in
       let s = statement_below lim above l in
       after_within lim k (says s k) (meaning (statements lim above) k)
-      (says_within s (statement_within (owner_below lim above) l) k) (meaning_within above k)
+      (says_within owner (owns l) s (line_said lim owner l) k) (meaning_within above k)
 
 -- ---- a text
 

@@ -2,8 +2,8 @@
 use Rattle.std.proofs.Common.{◌≡◌, ℕ, ◌+◌, Bool, true, false, cond, List, [], ◌∷◌, IsTrue, length}
 use Rattle.std.proofs.Common.{refl, sym, ap, subst, ◌∙◌, arith, Option, Some, None, All, ◌++◌}
 use Rattle.std.proofs.Common.{is_some, inl, inr, add-zero, ◌≤◌, map}
-use Rattle.std.specs.Prelude.{IfSome, nat_lt, codes, option_map}
-use Rattle.std.specs.Option.{option_map_or, option_or}
+use Rattle.std.specs.Prelude.{IfSome, nat_lt, option_map}
+use Rattle.std.specs.Option.{option_or}
 use Rattle.std.specs.FinMap as maps
 use Rattle.std.proofs.lemmas.Bool.{eq-eqb}
 use Rattle.std.proofs.lemmas.Bool.Decides.{nat_tests}
@@ -11,21 +11,13 @@ use Rattle.std.proofs.lemmas.List.Elements.{All-head, All-rest}
 use Rattle.std.proofs.lemmas.List.Sums.{sum_by-cons}
 use Rattle.std.proofs.lemmas.Option.{none-some, same_Some, IfSome_then}
 use mathlib.Core.Bool.{false≢true}
-use Rattle.ascii_text.specs.Forms.{same_word}
-use Rattle.show_reader.specs.Terms.{Tables, LineFault, Record, Cue, Group, Sub, Statement, Opens}
-use Rattle.show_reader.specs.Terms.{Levels, Rises, Falls, Follows, Patches, Clears, Quiet, Skipped}
-use Rattle.show_reader.specs.Terms.{Faulty, CueData}
-use Rattle.show_line.specs.declared.fault.LineFault.TheVariants as fault
-use Rattle.show_line.specs.declared.keyword.Keyword.{Keyword}
-use Rattle.show_line.specs.declared.keyword.Keyword.TheVariants as word
+use Rattle.show_reader.specs.Terms.{CueData, Tables, Limits, Record, Cue, Group, Sub, Statement}
+use Rattle.show_reader.specs.Terms.{Opens, Levels, Rises, Falls, Follows, Patches, Clears}
 use Rattle.show_line.specs.declared.line.Reading.{Reading}
 use Rattle.show_line.specs.Keywords.{keyword_of, may_own}
-use Rattle.show_line.specs.Faults.{cue_fault, number_fault}
-use Rattle.show_line.specs.Pairs.{triple_fault, triples_in}
-use Rattle.show_line.specs.Said.{desk_limits, said, opened, unless_faulty, record_said, patch_said}
-use Rattle.show_line.specs.Said.{ident_said, clear_said, is_page_1, cue_named, group_named}
-use Rattle.show_line.specs.Said.{sub_named, reading_of}
+use Rattle.show_line.specs.Said.{desk_limits, said, opened, reading_of}
 use Rattle.show_line.specs.Sound.{IsSound}
+use Rattle.show_line.proofs.Ranged.{IsSaid, said_is}
 use Rattle.show_reader.specs.declared.apply.Refusal.{Refusal}
 use Rattle.show_reader.specs.declared.fault.ShowFault.{ShowFault}
 use Rattle.show_reader.specs.declared.apply.Refusal.TheVariants as refusal
@@ -44,82 +36,15 @@ use Rattle.show_reader.specs.Reads.{meant, IsDraft, IsSettled, Explains, said_by
 use Rattle.show_reader.specs.Reads.{EndsAt, refusal_at}
 use Rattle.show_reader.proofs.Found.{record_there, step, count_step, nothing, nothing_found}
 use Rattle.std.specs.Ordering.{nat_cmp}
-use mathlib.Core.List.{reverse_aux, cons-ne-nil}
+use mathlib.Core.List.{reverse_aux}
 use Rattle.ascii_text.specs.Text.{words_of, numbered_from}
-use Rattle.show_reader.specs.declared.fault.ShowFault.TheVariants as show_fault
 use Rattle.show_reader.proofs.OneShow.{same_tables}
 
--- ---- a secondary line speaks of its owner, and does not clear
-
-abbrev Belongs : Option Record → Bool → Statement → Type 0
-Belongs owner own (Levels r pairs) = owner ≡ Some r
-Belongs owner own (Rises n rate) = owner ≡ Some (Cue n)
-Belongs owner own (Falls n rate) = owner ≡ Some (Cue n)
-Belongs owner own (Follows n time) = owner ≡ Some (Cue n)
-Belongs owner own (Clears what) = own ≡ true
-Belongs owner own _ = Unit {0}
-
-module _ (owner : Option Record) (own : Bool) where
-  or_belongs : {X : Type 0} (f : X → Statement) (o : Option X) (s : Statement)
-      → ((x : X) → Belongs owner own (f x)) → Belongs owner own s
-      → Belongs owner own (option_map_or f o s)
-  or_belongs f None s h g = g
-  or_belongs f (Some x) s h g = h x
-
-  unless_belongs : (o : Option LineFault) (s : Statement) → Belongs owner own s
-      → Belongs owner own (unless_faulty o s)
-  unless_belongs o s h = or_belongs Faulty o s (λ f. tt) h
-
-  if_belongs : (b : Bool) (s t : Statement) → Belongs owner own s → Belongs owner own t
-      → Belongs owner own (cond b s t)
-  if_belongs true s t h g = h
-  if_belongs false s t h g = g
-
-  record_belongs : (f : List ℕ → Option LineFault) (which : List ℕ → Record) (words : Words)
-      → Belongs owner own (record_said f which words)
-  record_belongs f which [] = tt
-  record_belongs f which (n ∷ words) =
-      unless_belongs _ _ (if_belongs (is_page_1 words) (Opens (which n)) Skipped tt tt)
-
-  patch_belongs : (words : Words) → Belongs owner own (patch_said desk_limits words)
-  patch_belongs [] = tt
-  patch_belongs (page ∷ words) =
-      unless_belongs _ _ (if_belongs (is_page_1 (page ∷ words)) _ Skipped
-      (unless_belongs (triple_fault desk_limits words) (Patches (triples_in words)) tt) tt)
-
-  ident_belongs : (words : Words) → Belongs owner own (ident_said words)
-  ident_belongs [] = tt
-  ident_belongs (v ∷ words) =
-      if_belongs (same_word v (codes "3:0")) Quiet (Faulty fault.Ident) tt tt
-
-clear_belongs : (owner : Option Record) (words : Words) → Belongs owner true (clear_said words)
-clear_belongs owner [] = tt
-clear_belongs owner (what ∷ []) = or_belongs owner true Clears _ Skipped (λ c. refl) tt
-clear_belongs owner (what ∷ w ∷ words) = tt
-
-said_belongs : (owner : Option Record) (keyword : Keyword) (words : Words)
-    → Belongs owner (may_own keyword) (said desk_limits owner keyword words)
-said_belongs owner word.Clear words = clear_belongs owner words
-said_belongs owner word.Ident words = ident_belongs owner true words
-said_belongs owner word.Cue words = record_belongs owner true cue_fault cue_named words
-said_belongs owner word.Group words =
-    record_belongs owner true (number_fault 1 500) group_named words
-said_belongs owner word.Sub words = record_belongs owner true (number_fault 1 100) sub_named words
-said_belongs owner word.Patch words = patch_belongs owner true words
-said_belongs (Some r) word.Chan words = unless_belongs (Some r) false _ (Levels r _) refl
-said_belongs (Some (Cue n)) word.Up words =
-    unless_belongs (Some (Cue n)) false _ (Rises n _) refl
-said_belongs (Some (Cue n)) word.Down words =
-    unless_belongs (Some (Cue n)) false _ (Falls n _) refl
-said_belongs (Some (Cue n)) word.FollowOn words =
-    unless_belongs (Some (Cue n)) false _ (Follows n _) refl
-said_belongs None word.Remark words = tt
-said_belongs owner keyword words = tt
-
-line_belongs : (owner : Option Record) (l : Words)
-    → Belongs owner (owns l) (said_under desk_limits owner l)
-line_belongs owner [] = tt
-line_belongs owner (w ∷ words) = said_belongs owner (keyword_of w) words
+-- what a line says under an owner
+pub line_said : (lim : Limits) (owner : Option Record) (l : Words)
+    → IsSaid lim owner (owns l) (said_under lim owner l)
+line_said lim owner [] = tt
+line_said lim owner (w ∷ words) = said_is lim owner (keyword_of w) words
 
 -- ---- the owner of a line is there, above it and below
 
@@ -128,12 +53,12 @@ abbrev IsHere : Tables → Option Record → Type 0
 IsHere show owner = IfSome owner (λ q. IsTrue (has_record show q))
 
 -- a statement of an owner that is there has what it needs
-owned : (owner : Option Record) (own : Bool) (s : Statement) (show : Tables) → Belongs owner own s
-    → IsHere show owner → HasOwner show s
-owned owner own (Levels r ps) show of h = subst (IsHere show) of h
-owned owner own (Rises n rate) show of h = subst (IsHere show) of h
-owned owner own (Falls n rate) show of h = subst (IsHere show) of h
-owned owner own (Follows n time) show of h = subst (IsHere show) of h
+owned : (owner : Option Record) (own : Bool) (s : Statement) (show : Tables)
+    → IsSaid desk_limits owner own s → IsHere show owner → HasOwner show s
+owned owner own (Levels r ps) show of h = subst (IsHere show) of.0 h
+owned owner own (Rises n rate) show of h = subst (IsHere show) of.0 h
+owned owner own (Falls n rate) show of h = subst (IsHere show) of.0 h
+owned owner own (Follows n time) show of h = subst (IsHere show) of.0 h
 owned owner own s show of h = tt
 
 -- a list of which none has news
@@ -142,8 +67,9 @@ no_news [] = refl
 no_news (x ∷ xs) = ap (λ news. newer news Silent) (no_news xs)
 
 -- a statement that does not clear leaves a record
-left_there : (owner : Option Record) (s : Statement) → Belongs owner false s → (q : Record)
-    → (o : Option (Unit {0})) → IsTrue (is_some o) → IsTrue (is_some (after (says s (There q)) o))
+left_there : (owner : Option Record) (s : Statement) → IsSaid desk_limits owner false s
+    → (q : Record) (o : Option (Unit {0})) → IsTrue (is_some o)
+    → IsTrue (is_some (after (says s (There q)) o))
 left_there owner (Opens r) of q o h = go (same_record q r)
   where
     go : (b : Bool) → IsTrue (is_some (after (cond b (Is tt) Silent) o))
@@ -166,9 +92,9 @@ owner_there : (lines : List Words)
 owner_there [] = tt
 owner_there (l ∷ above) =
     go (owner_below desk_limits above) (owns l) (statement_below desk_limits above l)
-    (line_belongs (owner_below desk_limits above) l) (owner_there above)
+    (line_said desk_limits (owner_below desk_limits above) l) (owner_there above)
   where
-    go : (owner : Option Record) (own : Bool) (s : Statement) → Belongs owner own s
+    go : (owner : Option Record) (own : Bool) (s : Statement) → IsSaid desk_limits owner own s
         → IfSome owner (λ q. IsTrue (is_there q (said_by above)))
         → IfSome (cond own (opened s) owner) (λ q. IsTrue (is_there q (s ∷ said_by above)))
     go owner true (Opens r) of h = opened_there r (said_by above)
@@ -223,7 +149,7 @@ module _ (lines : List Words) (l : Words) (r : Reader) (h : Reads lines r) where
   pub owner_here : HasOwner (meant r.draft) s
   owner_here =
       let owner = owner_below desk_limits lines in
-      owned owner (owns l) s (meant r.draft) (line_belongs owner l)
+      owned owner (owns l) s (meant r.draft) (line_said desk_limits owner l)
       (IfSome_then owner (owner_there lines)
       (λ q there. record_there (said_by lines) (meant r.draft) q h.shows ∙ there))
 
@@ -294,12 +220,43 @@ quiet_line lines (w ∷ words) r n h next none = absurd (none-some _ none)
 
 -- ---- a whole text
 
+-- lines that are numbered from n on
+abbrev pub IsNumbered : ℕ → List (ℕ × List ℕ) → Type 0
+IsNumbered n [] = Unit {0}
+IsNumbered n (l ∷ ls) = (l.0 ≡ n) × IsNumbered (n + 1) ls
+
+pub numbered : (n : ℕ) (ls : List (List ℕ)) → IsNumbered n (numbered_from n ls)
+numbered n [] = tt
+numbered n (l ∷ ls) = (refl, numbered (n + 1) ls)
+
+-- the words of lines that have numbers
+abbrev pub words_ahead : List (ℕ × List ℕ) → List Words
+words_ahead = map (λ l. words_of l.1)
+
+pub same_words : (n : ℕ) (ls : List (List ℕ)) → map words_of ls ≡ words_ahead (numbered_from n ls)
+same_words n [] = refl
+same_words n (l ∷ ls) = ap (λ ws. words_of l ∷ ws) (same_words (n + 1) ls)
+
 -- a reader stands behind these lines of a text, and these are left, with their numbers
-pub record StandsBehind (text : List ℕ) (lines : List Words) (left : List (List ℕ))
-    (ahead : List (ℕ × List ℕ)) (r : Reader) : Type 0 where
+pub record StandsBehind (text : List ℕ) (lines : List Words) (ahead : List (ℕ × List ℕ))
+    (r : Reader) : Type 0 where
   pub reads : Reads lines r
-  pub numbered : ahead ≡ numbered_from (r.lines + 1) left
-  pub all : lines_in text ≡ reverse_aux (up_to_end (map words_of left)) lines
+  pub numbered : IsNumbered (r.lines + 1) ahead
+  pub all : lines_in text ≡ reverse_aux (up_to_end (words_ahead ahead)) lines
+
+-- the next line, and what is left behind it
+pub record Next (text : List ℕ) (lines : List Words) (r : Reader) (number : ℕ) (bytes : List ℕ)
+    (behind : List (ℕ × List ℕ)) : Type 0 where
+  pub here : number ≡ r.lines + 1
+  pub numbered : IsNumbered (r.lines + 1 + 1) behind
+  pub all : lines_in text ≡ reverse_aux (up_to_end (words_of bytes ∷ words_ahead behind)) lines
+
+pub next_line : {text : List ℕ} {lines : List Words} {ahead behind : List (ℕ × List ℕ)} {r : Reader}
+    {number : ℕ} {bytes : List ℕ} → StandsBehind text lines ahead r
+    → ahead ≡ (number, bytes) ∷ behind → Next text lines r number bytes behind
+next_line h front =
+    let numbers = rw front at h.numbered in
+    record { here = numbers.0; numbered = numbers.1; all = rw front at h.all }
 
 -- a new reader stands behind no line
 pub nothing_read : (d : Draft) → (meant d).cues ≡ maps.empty → (meant d).subs ≡ maps.empty
@@ -317,40 +274,6 @@ nothing_read d cues subs groups patch drafted settled = record {
   number = refl;
   skipped = refl;
 }
-
--- the next line, and what is left behind it
-pub record Next (text : List ℕ) (lines : List Words) (r : Reader) (number : ℕ) (bytes : List ℕ)
-    (behind : List (ℕ × List ℕ)) : Type 0 where
-  pub rest : List (List ℕ)
-  pub all : lines_in text
-      ≡ reverse_aux (up_to_end (words_of bytes ∷ map words_of rest)) lines
-  pub numbers : behind ≡ numbered_from (r.lines + 1 + 1) rest
-  pub here : number ≡ r.lines + 1
-
-pub next_line : {text : List ℕ} {lines : List Words} {left : List (List ℕ)}
-    {ahead behind : List (ℕ × List ℕ)} {r : Reader} {number : ℕ} {bytes : List ℕ}
-    → StandsBehind text lines left ahead r → ahead ≡ (number, bytes) ∷ behind
-    → Next text lines r number bytes behind
-next_line {left = []} {behind} {number} {bytes} h front =
-    absurd (cons-ne-nil (number, bytes) behind (sym front ∙ h.numbered))
-next_line {lines} {left = l ∷ rest} {behind} {r} {number} {bytes} h front =
-    let e : (number, bytes) ∷ behind ≡ (r.lines + 1, l) ∷ numbered_from (r.lines + 1 + 1) rest
-    = sym front ∙ h.numbered in
-    let first : ◌≡◌ {A = ℕ × List ℕ} (number, bytes) (r.lines + 1, l) = cc in
-    let all = λ (b : List ℕ). reverse_aux (up_to_end (map words_of (b ∷ rest))) lines in
-    record {
-      rest = rest;
-      all = h.all ∙ ap (λ b. all b.1) (sym first);
-      numbers = cc;
-      here = ap (λ b. b.0) first;
-    }
-
--- where no line is left, all are read
-pub last_line : {text : List ℕ} {lines : List Words} {left : List (List ℕ)}
-    {ahead : List (ℕ × List ℕ)} {r : Reader} → StandsBehind text lines left ahead r → ahead ≡ []
-    → lines_in text ≡ lines
-last_line {left = []} h none = h.all
-last_line {left = l ∷ left} h none = absurd (cons-ne-nil _ _ (sym h.numbered ∙ none))
 
 -- a fault stays, whatever is read below it
 fault_stays : (more lines : List Words) (f : ShowFault) → first_fault (said_by lines) ≡ Some f
@@ -370,12 +293,12 @@ module _ {text : List ℕ} {lines : List Words} {r : Reader} {number : ℕ} {byt
     {behind : List (ℕ × List ℕ)} (next : Next text lines r number bytes behind) where
   -- behind a line that ends the text, nothing is left; behind another, the rest is
   pub go_on : (b : Bool) → ends (words_of bytes) ≡ b → lines_in text
-      ≡ reverse_aux (cond b [] (up_to_end (map words_of next.rest))) (words_of bytes ∷ lines)
+      ≡ reverse_aux (cond b [] (up_to_end (words_ahead behind))) (words_of bytes ∷ lines)
   go_on b is = rw (← is) next.all
 
   -- the lines that are read below the next one
   abbrev below : List Words
-  below = cond (ends (words_of bytes)) [] (up_to_end (map words_of next.rest))
+  below = cond (ends (words_of bytes)) [] (up_to_end (words_ahead behind))
 
   -- its fault is the text's
   pub fault_found : (f : ShowFault) → length text ≤ 1048576
@@ -386,4 +309,4 @@ module _ {text : List ℕ} {lines : List Words} {r : Reader} {number : ℕ} {byt
 
   -- where nothing grows in the text, nothing does down to it
   pub none_so_far : NothingGrows desk_limits text → NoneGrows (said_by (words_of bytes ∷ lines))
-  none_so_far nothing = none_before below (words_of bytes ∷ lines) (rw next.all at nothing)
+  none_so_far none = none_before below (words_of bytes ∷ lines) (rw next.all at none)

@@ -1,7 +1,8 @@
 ghost use Rattle.std.specs.Prelude.{◌≡◌, ◌⊎◌, ◌+◌, ◌≤◌, ◌<◌, ◌^◌, List, ◌∷◌, length};
-ghost use Rattle.std.specs.Prelude.{IfOk, IfErr, OnOk, None, Some};
+ghost use Rattle.std.specs.Prelude.{IfOk, IfErr, OnOk, None, Some, if◌then◌else◌};
 ghost use Rattle.ascii_text.specs.Text.{words_of};
-ghost use Rattle.show_line.specs.Said.{desk_limits};
+ghost use Rattle.show_line.specs.Keywords.{may_own};
+ghost use Rattle.show_line.specs.Said.{desk_limits, opened};
 ghost use Rattle.show_reader.specs.declared.fault.ShowFault.TheVariants as show_fault;
 ghost use Rattle.show_reader.specs.Text.{Words, ends, lines_in, statements_of};
 ghost use Rattle.show_reader.specs.Meaning.{is_skipped};
@@ -15,7 +16,7 @@ use crate::draft::Draft;
 use crate::fault::{LONGEST_TEXT, ShowFault};
 use ascii_text::{Line, Lines};
 use show_core::Show;
-use show_line::{LineFault, Record, Statement, read_line};
+use show_line::{Keyword, LineFault, Record, Statement, read_line};
 use std::alloc::Global;
 
 /// A show that was read, and what its text had.
@@ -73,6 +74,22 @@ fn is_skipped(statement: &Statement<'_>) -> bool
     matches!(statement, Statement::Skipped)
 }
 
+// The record that owns the lines below a line: what that opens, if it may own; else its own owner,
+// `above`.
+fn owner_below(
+    above: Option<Record>,
+    keyword: Keyword,
+    statement: &Statement<'_>,
+) -> Option<Record>
+    ensures { result ≡ if may_own keyword then opened statement.now else above }
+{
+    if keyword.may_own() {
+        statement.opened()
+    } else {
+        above
+    }
+}
+
 impl Reader {
     // Reads the next line, and tells whether it is the last.
     fn take(&mut self, line: Line<'_>) -> Result<bool, ShowFault>
@@ -90,11 +107,7 @@ impl Reader {
             return Ok(false);
         };
         let keyword = reading.keyword;
-        let owner = if keyword.may_own() {
-            reading.statement.opened()
-        } else {
-            self.owner
-        };
+        let owner = owner_below(self.owner, keyword, &reading.statement);
         let skipped = is_skipped(&reading.statement);
         if let Err(refusal) = apply(&mut self.draft, reading.statement) {
             return Err(refusal.at(number));

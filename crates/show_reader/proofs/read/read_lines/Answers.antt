@@ -1,49 +1,45 @@
 -- The reader stands behind the lines so far, and the text's lines are those and the ones that are
 -- left.
-use Rattle.std.proofs.Common.{◌≡◌, ◌+◌, true, false, [], ◌∷◌, refl, sym, ap, ◌∙◌, arith, inl, inr}
+use Rattle.std.proofs.Common.{◌≡◌, ◌+◌, true, false, [], ◌∷◌, refl, sym, ◌∙◌, arith, inl, inr}
 use Rattle.std.proofs.lemmas.Grind.{common_steps}
 use Rattle.ascii_text.specs.Text.{lines_of, words_of, numbered_from}
 use Rattle.show_reader.specs.Text.{ends}
-use Rattle.show_reader.proofs.Lines.{nothing_read, next_line, last_line, go_on, fault_found}
-use Rattle.show_reader.proofs.Lines.{none_so_far}
+use Rattle.show_reader.proofs.Lines.{nothing_read, numbered, same_words, next_line, go_on}
+use Rattle.show_reader.proofs.Lines.{fault_found, none_so_far}
 use Rattle.show_reader.proofs.read.read_lines.Goals as goal
 use Rattle.show_reader.proofs.read.read_lines.Goals.{in-None, in-Some+in-Ok-true}
 
 pub loop-line-init : goal.loop-line-init
 loop-line-init c =
-    let given : c.into_iter-line-iterator.result ≡ numbered_from 1 (lines_of c.args.text.now)
+    let left = lines_of c.args.text.now in
+    let given : c.into_iter-line-iterator.result ≡ numbered_from 1 left
     = grind (arith, common_steps) in
     let new = c.new.ensures in (
       [],
-      lines_of c.args.text.now,
       record {
         reads = nothing_read c.new.result new.cues new.subs new.groups new.patch new.drafted
             new.settled;
-        numbered = given;
-        all = refl;
+        numbered = rw given (numbered 1 left);
+        all = rw (given, ← same_words 1 left) refl;
       },
     )
 
 pub take-requires-clause-next : goal.take-requires-clause-next
-take-requires-clause-next c =
-    let before = c.loop-line.invariant in
-    (next_line before.2 c.in-Some.ensures.steps).here
+take-requires-clause-next c = (next_line c.loop-line.invariant.1 c.in-Some.ensures.steps).here
 
 pub loop-line-preserved : goal.loop-line-preserved
 loop-line-preserved c =
     let before = c.loop-line.invariant in
-    let lines = before.0 in
+    let next = next_line before.1 c.in-Some.ensures.steps in
     let l = words_of c.in-Some.line.bytes.now in
-    let next = next_line before.2 c.in-Some.ensures.steps in
     let on : ends l ≡ false = sym c.in-Ok-false.ensures.last ∙ c.in-Ok-false.field-0-test in
-    let more = c.in-Ok-false.ensures.more lines before.2.reads in
+    let more = c.in-Ok-false.ensures.more before.0 before.1.reads in
     let counted : c.loop-line.reader.lines + 1 ≡ c.take.new.self.lines
-    = omega (arith, more.number, before.2.reads.number) in (
-      l ∷ lines,
-      next.rest,
+    = omega (arith, more.number, before.1.reads.number) in (
+      l ∷ before.0,
       record {
         reads = more;
-        numbered = next.numbers ∙ ap (λ k. numbered_from (k + 1) next.rest) counted;
+        numbered = rw (← counted) next.numbered;
         all = go_on next false on;
       },
     )
@@ -51,8 +47,8 @@ loop-line-preserved c =
 pub returns-in-Err-clause-fault : goal.returns-in-Err-clause-fault
 returns-in-Err-clause-fault c =
     let before = c.loop-line.invariant in
-    let next = next_line before.2 c.in-Some.ensures.steps in
-    elim (c.in-Err.ensures.fault before.0 before.2.reads) [
+    let next = next_line before.1 c.in-Some.ensures.steps in
+    elim (c.in-Err.ensures.fault before.0 before.1.reads) [
       | inl memory ↦ inl memory.0
       | inr fault ↦ inr (fault_found next c.in-Err.fault c.requires fault)
     ]
@@ -60,8 +56,8 @@ returns-in-Err-clause-fault c =
 pub returns-in-Err-clause-sure : goal.returns-in-Err-clause-sure
 returns-in-Err-clause-sure c = λ none_grows.
     let before = c.loop-line.invariant in
-    let next = next_line before.2 c.in-Some.ensures.steps in
-    elim (c.in-Err.ensures.fault before.0 before.2.reads) [
+    let next = next_line before.1 c.in-Some.ensures.steps in
+    elim (c.in-Err.ensures.fault before.0 before.1.reads) [
       | inl memory ↦ absurd (memory.1 (none_so_far next none_grows))
       | inr fault ↦ fault_found next c.in-Err.fault c.requires fault
     ]
@@ -69,15 +65,13 @@ returns-in-Err-clause-sure c = λ none_grows.
 pub returns-clause-ok : goal.returns-clause-ok
 returns-clause-ok c =
     let before = c.loop-line.invariant in
-    let lines = before.0 in
     elim c.match-next.branch [
       | in-None w ↦
-          let all = last_line before.2 w.in-None.ensures.steps.0 in
-          rw (all, w.reader-is) before.2.reads
+          rw (rw w.in-None.ensures.steps.0 at before.1.all, w.reader-is) before.1.reads
       | in-Some+in-Ok-true w ↦
-          let l = words_of w.in-Some.line.bytes.now in
-          let next = next_line before.2 w.in-Some.ensures.steps in
-          let end : ends l ≡ true = sym w.in-Ok-true.ensures.last ∙ w.in-Ok-true.field-0-test in
+          let next = next_line before.1 w.in-Some.ensures.steps in
+          let end : ends (words_of w.in-Some.line.bytes.now) ≡ true
+          = sym w.in-Ok-true.ensures.last ∙ w.in-Ok-true.field-0-test in
           rw (go_on next true end, w.reader-is)
-          (w.in-Ok-true.ensures.more lines before.2.reads)
+          (w.in-Ok-true.ensures.more before.0 before.1.reads)
     ]

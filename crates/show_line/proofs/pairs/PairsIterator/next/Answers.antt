@@ -1,30 +1,24 @@
-use Rattle.std.proofs.Common.{◌≡◌, ◌∷◌, subst, arith, None}
+use Rattle.std.proofs.Common.{◌≡◌, arith}
 use Rattle.std.specs.Prelude.{unwrap_or}
 use Rattle.std.proofs.lemmas.Grind.{common_steps}
 use Rattle.ascii_text.specs.Forms.{number_of}
 use Rattle.ascii_text.specs.LinesLeft.{words_left}
-use Rattle.show_line.specs.Pairs.{desk_limits, pair_fault}
-use Rattle.show_line.proofs.Ranges.{faultless_pair}
+use Rattle.show_line.specs.Pairs.{desk_limits}
+use Rattle.show_line.proofs.Ranges.{IsPairFaultless, next_pair, number_in_range}
 use Rattle.show_line.proofs.pairs.PairsIterator.next.Goals as goal
+use Rattle.show_line.proofs.pairs.PairsIterator.next.Goals.{In_ok-byte}
+
+-- the two words have no fault, nor have those behind them
+fine : (c : In_ok-byte) → IsPairFaultless desk_limits c.in_ok-channel.channel.now
+    c.in_ok-byte.byte.now (words_left c.next-2.new.self)
+fine c = next_pair desk_limits (words_left c.self.inside.words) (grind (arith, common_steps)) c.self.invariant
 
 pub overflow_cast-result : goal.overflow_cast-result
 overflow_cast-result c =
-    let left = words_left c.next-2.new.self in
-    let channel = c.in_ok-channel.channel.now in
-    let byte = c.in_ok-byte.byte.now in
-    let two : words_left c.self.inside.words ≡ channel ∷ byte ∷ left =
-    grind (arith, common_steps) in
-    let none = subst (λ ws. pair_fault desk_limits ws ≡ None) two c.self.invariant in
-    let fine = faultless_pair desk_limits channel byte left none in
-    let is : c.unwrap_or.result ≡ unwrap_or (number_of channel) 0 = grind (arith, common_steps) in
-    omega (arith, fine.0.below, is)
+    let word = c.in_ok-channel.channel.now in
+    let none = (fine (goal.at.overflow_cast-result c).In_ok-byte).of_channel in
+    let is : c.unwrap_or.result ≡ unwrap_or (number_of word) 0 = grind (arith, common_steps) in
+    omega (arith, (number_in_range 1 4096 word none).below)
 
 pub invariant_of-self-2 : goal.invariant_of-self-2
-invariant_of-self-2 c =
-    let left = words_left c.next-2.new.self in
-    let channel = c.in_ok-channel.channel.now in
-    let byte = c.in_ok-byte.byte.now in
-    let two : words_left c.self.inside.words ≡ channel ∷ byte ∷ left =
-    grind (arith, common_steps) in
-    let none = subst (λ ws. pair_fault desk_limits ws ≡ None) two c.self.invariant in
-    (faultless_pair desk_limits channel byte left none).1
+invariant_of-self-2 c = (fine (goal.at.invariant_of-self-2 c).In_ok-byte).behind

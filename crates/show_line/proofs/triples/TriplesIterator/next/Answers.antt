@@ -1,45 +1,31 @@
-use Rattle.std.proofs.Common.{◌≡◌, ◌∷◌, subst, arith, None}
+use Rattle.std.proofs.Common.{◌≡◌, arith}
 use Rattle.std.specs.Prelude.{unwrap_or}
 use Rattle.std.proofs.lemmas.Grind.{common_steps}
 use Rattle.ascii_text.specs.Forms.{number_of}
 use Rattle.ascii_text.specs.LinesLeft.{words_left}
-use Rattle.show_line.specs.Pairs.{desk_limits, triple_fault}
-use Rattle.show_line.proofs.Ranges.{faultless_triple}
+use Rattle.show_line.specs.Pairs.{desk_limits}
+use Rattle.show_line.proofs.Ranges.{IsTripleFaultless, next_triple, number_in_range}
 use Rattle.show_line.proofs.triples.TriplesIterator.next.Goals as goal
+use Rattle.show_line.proofs.triples.TriplesIterator.next.Goals.{In_ok-byte}
+
+-- the three words have no fault, nor have those behind them
+fine : (c : In_ok-byte) → IsTripleFaultless desk_limits c.in_ok-channel.channel.now
+    c.in_ok-dimmer.dimmer.now c.in_ok-byte.byte.now (words_left c.next-3.new.self)
+fine c = next_triple desk_limits (words_left c.self.inside.words) (grind (arith, common_steps)) c.self.invariant
 
 pub overflow_cast-result : goal.overflow_cast-result
 overflow_cast-result c =
-    let left = words_left c.next-3.new.self in
-    let channel = c.in_ok-channel.channel.now in
-    let dimmer = c.in_ok-dimmer.dimmer.now in
-    let byte = c.in_ok-byte.byte.now in
-    let three : words_left c.self.inside.words ≡ channel ∷ dimmer ∷ byte ∷ left
-    = grind (arith, common_steps) in
-    let none = subst (λ ws. triple_fault desk_limits ws ≡ None) three c.self.invariant in
-    let fine = faultless_triple desk_limits channel dimmer byte left none in
-    let is : c.unwrap_or.result ≡ unwrap_or (number_of channel) 0 = grind (arith, common_steps) in
-    omega (arith, fine.0.below, is)
+    let word = c.in_ok-channel.channel.now in
+    let none = (fine (goal.at.overflow_cast-result c).In_ok-byte).of_channel in
+    let is : c.unwrap_or.result ≡ unwrap_or (number_of word) 0 = grind (arith, common_steps) in
+    omega (arith, (number_in_range 0 4096 word none).below)
 
 pub overflow_cast-result-2 : goal.overflow_cast-result-2
 overflow_cast-result-2 c =
-    let left = words_left c.next-3.new.self in
-    let channel = c.in_ok-channel.channel.now in
-    let dimmer = c.in_ok-dimmer.dimmer.now in
-    let byte = c.in_ok-byte.byte.now in
-    let three : words_left c.self.inside.words ≡ channel ∷ dimmer ∷ byte ∷ left
-    = grind (arith, common_steps) in
-    let none = subst (λ ws. triple_fault desk_limits ws ≡ None) three c.self.invariant in
-    let fine = faultless_triple desk_limits channel dimmer byte left none in
-    let is : c.unwrap_or-2.result ≡ unwrap_or (number_of dimmer) 0 = grind (arith, common_steps) in
-    omega (arith, fine.1.below, is)
+    let word = c.in_ok-dimmer.dimmer.now in
+    let none = (fine (goal.at.overflow_cast-result-2 c).In_ok-byte).of_dimmer in
+    let is : c.unwrap_or-2.result ≡ unwrap_or (number_of word) 0 = grind (arith, common_steps) in
+    omega (arith, (number_in_range 1 8192 word none).below)
 
 pub invariant_of-self-2 : goal.invariant_of-self-2
-invariant_of-self-2 c =
-    let left = words_left c.next-3.new.self in
-    let channel = c.in_ok-channel.channel.now in
-    let dimmer = c.in_ok-dimmer.dimmer.now in
-    let byte = c.in_ok-byte.byte.now in
-    let three : words_left c.self.inside.words ≡ channel ∷ dimmer ∷ byte ∷ left
-    = grind (arith, common_steps) in
-    let none = subst (λ ws. triple_fault desk_limits ws ≡ None) three c.self.invariant in
-    (faultless_triple desk_limits channel dimmer byte left none).2
+invariant_of-self-2 c = (fine (goal.at.invariant_of-self-2 c).In_ok-byte).behind

@@ -8,8 +8,7 @@ use Rattle.show_reader.specs.Meaning.{is_skipped}
 use Rattle.show_reader.specs.Reads.{EndsAt, refusal_at}
 use Rattle.show_reader.proofs.Lines.{reading_is, owner_here, line_read, line_ends, quiet_line}
 use Rattle.show_reader.proofs.read.Reader.take.Goals as goal
-use Rattle.show_reader.proofs.read.Reader.take.Goals.{then-may_own, else-may_own, then-skipped}
-use Rattle.show_reader.proofs.read.Reader.take.Goals.{else-skipped}
+use Rattle.show_reader.proofs.read.Reader.take.Goals.{then-skipped, else-skipped}
 
 pub apply-requires-clause-owned : goal.apply-requires-clause-owned
 apply-requires-clause-owned c =
@@ -25,17 +24,12 @@ returns-clause-more c = λ lines h.
     let r = c.args.self.now in
     let s = c.in-Some.reading.statement in
     let is = reading_is lines l r c.in-Some.reading h c.in-Some.ensures.means in
-    let owns_is : c.may_own.result ≡ owns l = c.may_own.ensures ∙ is.1 in
-    let owner : c.if-may_own.owner ≡ cond (owns l) (opened s) r.owner
-    = elim c.if-may_own.branch [
-      | then-may_own w ↦
-          rw (sym owns_is ∙ w.if-may_own.true) (w.owner-is ∙ w.opened-owner.ensures)
-      | else-may_own w ↦ rw (sym owns_is ∙ w.if-may_own.false) w.owner-is
-    ] in
+    let owner : c.owner_below-owner.result ≡ cond (owns l) (opened s) r.owner
+    = c.owner_below-owner.ensures ∙ ap (λ own. cond own (opened s) r.owner) is.1 in
     let applied = c.in_default-apply.ensures in
     let counted : c.if-skipped.self ≡ record {
       draft = c.apply.new.draft;
-      owner = c.if-may_own.owner;
+      owner = c.owner_below-owner.result;
       lines = c.args.line.number;
       skipped = r.skipped + cond (is_skipped s) 1 0;
     } = elim c.if-skipped.branch [
