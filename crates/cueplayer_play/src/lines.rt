@@ -39,17 +39,5 @@ pub fn play_lines<F: Fader, R: Feed, L: Link, W: Output>(
         number: 0,
         lost: 0,
     };
-    let mut buf = [0; 4096];
-    loop {
-        let count = input.read(&mut buf)?;
-        if count == 0 {
-            break;
-        }
-        stage.take_bytes(&buf[..count], link, out)?;
-    }
-    if stage.pending.is_empty() {
-        return Ok(stage.lost);
-    }
-    stage.take_byte(b'\n', link, out)?;
-    Ok(stage.lost)
+    stage.take_input(input, link, out)
 }

@@ -4,7 +4,7 @@ use crate::fault::PlayFault;
 use crate::line::take_line;
 use arrayvec::ArrayVec;
 use console::Console;
-use devices::{Link, Output};
+use devices::{Feed, Link, Output};
 use fade_core::Fader;
 
 // Where a play stands in its input.
@@ -22,9 +22,10 @@ pub struct Stage<F: Fader> {
 }
 
 impl<F: Fader> Stage<F> {
-    ghost use Rattle.std.specs.Prelude.{◌≡◌, ◌+◌, ◌<◌, ◌≤◌, List, OnOk, IfErr, length, fold};
+    ghost use Rattle.std.specs.Prelude.{◌≡◌, ◌+◌, ◌<◌, ◌≤◌, List, OnOk, IfOk, IfErr, length, fold};
     ghost use Rattle.console.specs.Streams.{Production};
-    ghost use Rattle.cueplayer_play.specs.Lines.{Cut, with_byte};
+    ghost use Rattle.cueplayer_play.specs.Lines.{Cut, no_bytes, with_byte};
+    ghost use Rattle.cueplayer_play.specs.Play.{EndsEarly, PlaysAll};
     ghost use Rattle.cueplayer_play.specs.Run.{Emitted, Ran, emitted};
     ghost use Rattle.cueplayer_play.specs.Stage.{Ends, EndsWithin, Leaves, StandsFor, room_of};
 
@@ -111,5 +112,45 @@ impl<F: Fader> Stage<F> {
             self.take_byte(*byte, link, out)?;
         }
         Ok(())
+    }
+
+    // Takes a whole input where nothing was taken yet, and answers how many packets were lost.
+    pub fn take_input<R: Feed, L: Link, W: Output>(
+        &mut self,
+        input: &mut R,
+        link: &mut L,
+        out: &mut W,
+    ) -> Result<u64, PlayFault>
+        requires real { (p : Production) × StandsFor F.stands_for p self.old no_bytes }
+        requires none_lost { self.old.lost ≡ 0 }
+        ensures told_input { R.tells input.new → R.tells input.old }
+        ensures told_link { L.tells link.new → L.tells link.old }
+        ensures told_output { W.tells out.new → W.tells out.old }
+        ensures all { IfOk result (λ lost. (p : Production)
+            → StandsFor F.stands_for p self.old no_bytes
+            → R.tells input.new → L.tells link.new → W.tells out.new
+            → PlaysAll p (R.ended input.new) (R.tape input.old) (R.tape input.new)
+            (emitted (L.offered link.old) (W.tape out.old))
+            (emitted (L.offered link.new) (W.tape out.new)) lost) }
+        ensures ends { IfErr result (λ fault. (p : Production)
+            → StandsFor F.stands_for p self.old no_bytes
+            → R.tells input.new → L.tells link.new → W.tells out.new
+            → EndsEarly p fault (R.ended input.new) (R.tape input.old) (R.tape input.new)
+            (emitted (L.offered link.old) (W.tape out.old))
+            (emitted (L.offered link.new) (W.tape out.new))) }
+    {
+        let mut buf = [0; 4096];
+        loop {
+            let count = input.read(&mut buf)?;
+            if count == 0 {
+                break;
+            }
+            self.take_bytes(&buf[..count], link, out)?;
+        }
+        if self.pending.is_empty() {
+            return Ok(self.lost);
+        }
+        self.take_byte(b'\n', link, out)?;
+        Ok(self.lost)
     }
 }
