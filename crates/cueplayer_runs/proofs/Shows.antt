@@ -1,19 +1,22 @@
 -- A text means one show alone.
-use Rattle.std.proofs.Common.{◌≡◌, ◌∙◌, sym, ap, ℕ, List, true, true≢false}
+use Rattle.std.proofs.Common.{◌≡◌, ◌∙◌, sym, ap, subst, ℕ, Bool, true, not, true≢false, List}
 use Rattle.std.proofs.Common.{Option, Some, None, is_some, IfSome, IsSomeAnd}
+use Rattle.std.proofs.Common.{Result, Ok, Err, IfErr, IsErrAnd}
 use Rattle.std.specs.FinMap as maps
-use Rattle.show_core.specs.Tables.{Tables}
+use Rattle.show_core.specs.Tables.{LevelMap, PatchMap, Tables}
 use Rattle.show_line.specs.Said.{desk_limits}
 use Rattle.show_line.specs.declared.statement.Record.TheVariants.{Cue}
-use Rattle.show_line.specs.declared.statement.Statement.{Statement}
 use Rattle.show_reader.specs.Text.{statements_of}
+use Rattle.show_reader.specs.ItsShow.{OfItsShow}
 use Rattle.show_reader.specs.Meaning.{is_there}
 use Rattle.show_reader.specs.Reading.{lines_read, lines_skipped}
 use Rattle.show_reader.specs.Shows.{IsShowOf}
 use Rattle.show_reader.proofs.Found.{record_there}
 use Rattle.show_reader.proofs.OneShow.{of_its_show}
-use Rattle.cueplayer_runs.specs.Texts.{check_text, IsLookText}
-use Rattle.cueplayer_runs.specs.Prints.{IsCheckOf, IsLookOf}
+use Rattle.cueplayer_faults.specs.declared.fault.RunFault.{RunFault}
+use Rattle.cueplayer_faults.specs.declared.fault.RunFault.TheVariants as run
+use Rattle.cueplayer_runs.specs.Texts.{check_text}
+use Rattle.cueplayer_runs.specs.Prints.{IsCheckOf}
 
 -- the line of `check`, from what the reader answers
 pub check_of : (show written : List ℕ) (lines skipped : ℕ) (s : Tables)
@@ -34,21 +37,35 @@ pub some_and : {X : Type 0} (o : Option X) (P : X → Type 0) → is_some o ≡ 
 some_and None P there p = absurd (true≢false (sym there))
 some_and (Some x) P there p = p
 
--- the lines of `look`, from what the reader answers
-pub look_of : (show : List ℕ) (cue : ℕ) (cid written : List ℕ) (s : Tables)
-    → IsShowOf (statements_of desk_limits show) s
-    → is_some (maps.get s.cues cue) ≡ true
-    → IfSome (maps.get s.cues cue) (λ look. IsLookText look.levels s.patch cid written)
-    → IsLookOf show cue cid written
-look_of show cue cid written s is there lines =
+-- what was written of a cue that is there is so by every show of the text
+pub of_cue : (show : List ℕ) (cue : ℕ) (IsText : List ℕ → LevelMap → PatchMap → Type 0)
+    (text written : List ℕ) (s : Tables) → IsShowOf (statements_of desk_limits show) s
+    → is_some (maps.get s.cues cue) ≡ true → written ≡ text
+    → IfSome (maps.get s.cues cue) (λ look. IsText text look.levels s.patch)
+    → OfItsShow show (λ t.
+    IsSomeAnd (maps.get t.cues cue) (λ look. IsText written look.levels t.patch))
+of_cue show cue IsText text written s is there same lines =
     let P : Tables → Type 0 = λ t.
-    IsSomeAnd (maps.get t.cues cue) (λ look. IsLookText look.levels t.patch cid written) in
-    let holds : P s =
-    some_and (maps.get s.cues cue) (λ look. IsLookText look.levels s.patch cid written) there
+    IsSomeAnd (maps.get t.cues cue) (λ look. IsText written look.levels t.patch) in
+    let found = some_and (maps.get s.cues cue) (λ look. IsText text look.levels s.patch) there
     lines in
-    of_its_show show P s is holds
+    of_its_show show P s is (subst (λ (t : List ℕ). IsSomeAnd (maps.get s.cues cue)
+    (λ look. IsText t look.levels s.patch)) (sym same) found)
 
 -- a cue is there where the show has it
-pub cue_is_there : (ss : List Statement) (s : Tables) (cue : ℕ) → IsShowOf ss s
-    → is_there (Cue cue) ss ≡ is_some (maps.get s.cues cue)
-cue_is_there ss s cue is = sym (record_there ss s (Cue cue) is)
+pub cue_is_there : (show : List ℕ) (s : Tables) (cue : ℕ) (b : Bool)
+    → IsShowOf (statements_of desk_limits show) s → is_some (maps.get s.cues cue) ≡ b
+    → is_there (Cue cue) (statements_of desk_limits show) ≡ b
+cue_is_there show s cue b is found =
+    sym (record_there (statements_of desk_limits show) s (Cue cue) is) ∙ found
+
+-- whether a cue was found, by the test that it was not
+pub was_found : {X : Type 0} (o found : Option X) (is_none b : Bool) → found ≡ o
+    → is_some found ≡ not is_none → is_none ≡ b → is_some o ≡ not b
+was_found o found is_none b is none test = ap is_some (sym is) ∙ none ∙ ap not test
+
+-- what holds of a failed output holds of the answer
+pub output_failed : {X : Type 0} (r : Result X RunFault) (P : RunFault → Type 0)
+    → IsErrAnd r (λ e. e ≡ run.Device) → P run.Device → IfErr r P
+output_failed (Ok x) P is p = tt
+output_failed (Err e) P is p = subst P (sym is) p
