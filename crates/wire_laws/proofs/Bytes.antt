@@ -1,12 +1,11 @@
 -- The datagram of a packet, read back.
 use Rattle.std.proofs.Common.{◌≡◌, ℕ, ◌-◌, ◌%◌, ◌≤◌, Bool, true, false, not, refl, ap, sym, subst}
-use Rattle.std.proofs.Common.{◌∙◌, arith, List, ◌∷◌, ◌++◌, length, replicate, append-nil, Option}
+use Rattle.std.proofs.Common.{◌∙◌, arith, List, ◌++◌, length, replicate, append-nil, Option}
 use Rattle.std.proofs.Common.{Some, None}
 use Rattle.std.specs.Prelude.{if◌then◌else◌, nat_lt, nat_eq, is_some, bit_and}
-use Rattle.std.specs.Option.{option_or, option_map, option_map_or}
+use Rattle.std.specs.Option.{option_or, option_map}
 use Rattle.std.proofs.lemmas.List.{take_all}
 use Rattle.std.proofs.lemmas.Bool.{eq-eqb}
-use Rattle.std.proofs.lemmas.Bool.Decides.{nat_tests}
 use Rattle.sacn_packet.specs.Wire.{Packet as WirePacket, IsData, HasPacket}
 use Rattle.sacn_packet.specs.Faults.{fault_of}
 use Rattle.sacn_packet.specs.Reading.{front_packet}
@@ -15,15 +14,14 @@ use Rattle.sacn_packet.proofs.Found.{readable_from_packet, packet_ends}
 use Rattle.sacn_packet.proofs.Readable.{none_from_readable}
 use Rattle.sacn_source.specs.Identity.{Identity}
 use Rattle.sacn_source.specs.Stream.{Packet}
-use Rattle.wire_laws.specs.Datagrams.{fields_at, packet_bytes}
-use Rattle.wire_laws.specs.World.{IsIdentity}
 use Rattle.sacn_receiver.specs.declared.answer.Ignored.{Ignored}
-use Rattle.sacn_receiver.specs.declared.answer.Ignored.TheVariants.{Backwards, Unreadable}
-use Rattle.sacn_receiver.specs.declared.answer.Ignored.TheVariants.{OtherUniverse}
-use Rattle.sacn_receiver.specs.Source.{Entry, last_moment, is_accepted}
-use Rattle.sacn_receiver.specs.Taking.{entry_of, unheard, refusal, ignored_packet, ignored, heard}
-use Rattle.wire_laws.specs.Delivery.{Delivery}
+use Rattle.sacn_receiver.specs.declared.answer.Ignored.TheVariants.{Unreadable}
 use Rattle.sacn_receiver.specs.Arrivals.{not_heard}
+use Rattle.sacn_receiver.specs.Source.{Entry, last_moment}
+use Rattle.sacn_receiver.specs.Taking.{entry_of, unheard, heard}
+use Rattle.wire_laws.specs.Datagrams.{fields_at, packet_bytes}
+use Rattle.wire_laws.specs.Delivery.{Delivery}
+use Rattle.wire_laws.specs.World.{IsIdentity}
 
 -- what a delivery of a source's packet is to a receiver
 abbrev pub entry : Identity → Delivery → Entry
@@ -31,117 +29,84 @@ entry identity d = record {
   cid = identity.cid;
   number = d.k % 256;
   moment = d.moment;
-  priority =
-      identity.priority;
+  priority = identity.priority;
   slots = d.packet.slots;
   ended = d.packet.ends;
 }
 
-not_before : (m n : ℕ) → m ≤ n → nat_lt n m ≡ false
-not_before m n l = grind (arith, nat_tests)
+-- a source may send this packet for this universe
+pub record IsSendable (source : Identity) (universe : ℕ) (packet : Packet) : Type 0 where
+  pub who : IsIdentity source
+  pub size : length packet.slots ≡ 512
+  pub low : 1 ≤ universe
+  pub high : universe ≤ 63999
 
-module _ (identity : Identity) (universe k : ℕ) (packet : Packet) (is : IsIdentity identity)
-    (size : length packet.slots ≡ 512) (low : 1 ≤ universe) (high : universe ≤ 63999) where
+-- of its options only bit 0x40 is set, and only at the end
+options_are : (b : Bool) → (not (nat_eq (bit_and (if b then 0x40 else 0) 0x40) 0) ≡ b)
+    × (not (nat_eq (bit_and (if b then 0x40 else 0) 0x80) 0) ≡ false)
+options_are true = (refl, refl)
+options_are false = (refl, refl)
+
+module _ (source : Identity) (universe k : ℕ) (packet : Packet)
+    (is : IsSendable source universe packet) where
   abbrev bytes : List ℕ
-  bytes = packet_bytes identity universe k packet
+  bytes = packet_bytes source universe k packet
 
-  abbrev pub wire : WirePacket
-  wire = record { fields = fields_at identity universe k packet; slots = packet.slots }
+  abbrev wire : WirePacket
+  wire = record { fields = fields_at source universe k packet; slots = packet.slots }
 
-  pub is_data : IsData (packet_bytes identity universe k packet)
-      (fields_at identity universe k packet) packet.slots
+  pub is_data : IsData (packet_bytes source universe k packet)
+      (fields_at source universe k packet) packet.slots
   unfolding packet_bytes
-  is_data = layers_are_data 512 (fields_at identity universe k packet) packet.slots is.cid_size
-      is.name_size size (omega arith) is.priority_range (omega arith) low high
+  is_data = layers_are_data 512 (fields_at source universe k packet) packet.slots
+      is.who.cid_size is.who.name_size is.size (omega arith) is.who.priority_range (omega arith)
+      is.low is.high
 
   has : HasPacket bytes wire
   has = (
     length bytes,
-    subst (λ (xs : List ℕ). IsData xs (fields_at identity universe k packet)
+    subst (λ (xs : List ℕ). IsData xs (fields_at source universe k packet)
         packet.slots) (sym (take_all (length bytes) bytes (omega arith))) is_data,
   )
 
-  pub no_fault : fault_of bytes ≡ None
-  no_fault = none_from_readable bytes
-      (readable_from_packet bytes has.0 (fields_at identity universe k packet) packet.slots has.1)
-
-  pub front_is : front_packet bytes ≡ wire
+  front_is : front_packet bytes ≡ wire
   front_is = packet_ends bytes wire has
 
-  -- what it is to a receiver
-  ends_is : (b : Bool) → not (nat_eq (bit_and (if b then 0x40 else 0) 0x40) 0) ≡ b
-  ends_is true = refl
-  ends_is false = refl
+  pub cid_is : (front_packet (packet_bytes source universe k packet)).fields.cid ≡ source.cid
+  cid_is = ap (λ (p : WirePacket). p.fields.cid) front_is
 
-  full : packet.slots ++ replicate (512 - length packet.slots) 0 ≡ packet.slots
-  full = rw size (append-nil packet.slots)
-
-  pub entry_is : (t : ℕ) → entry_of t wire
-      ≡ entry identity (record { k = k; moment = t; packet = packet })
-  entry_is t = λ i. record {
-    cid = identity.cid;
+  pub entry_is : (t : ℕ) → entry_of t (front_packet (packet_bytes source universe k packet))
+      ≡ entry source (record { k = k; moment = t; packet = packet })
+  entry_is t = ap (entry_of t) front_is ∙ (λ i. record {
+    cid = source.cid;
     number = k % 256;
     moment = t;
-    priority =
-        identity.priority;
+    priority = source.priority;
     slots = full i;
-    ended = ends_is packet.ends i;
-  }
+    ended = (options_are packet.ends).0 i;
+  })
+    where
+      full : packet.slots ++ replicate (512 - length packet.slots) 0 ≡ packet.slots
+      full = rw is.size (append-nil packet.slots)
 
-  no_preview : (b : Bool) → not (nat_eq (bit_and (if b then 0x40 else 0) 0x80) 0) ≡ false
-  no_preview true = refl
-  no_preview false = refl
+  -- it is heard on its own universe alone
+  by_wire : (u : ℕ) → not_heard u bytes ≡ unheard u wire
+  by_wire u = ap (λ f. option_or (option_map Unreadable f) (unheard u (front_packet bytes)))
+      (none_from_readable bytes (readable_from_packet bytes has.0
+      (fields_at source universe k packet) packet.slots has.1)) ∙ ap (unheard u) front_is
 
-  pub heard_here : unheard universe wire ≡ None
-  heard_here = rw (eq-eqb universe universe refl, no_preview packet.ends)
+  pub heard_here : not_heard universe (packet_bytes source universe k packet) ≡ None
+  heard_here = by_wire universe
+      ∙ rw (eq-eqb universe universe refl, (options_are packet.ends).1)
 
-  pub unheard_there : (u : ℕ) → nat_eq universe u ≡ false → unheard u wire ≡ Some OtherUniverse
-  unheard_there u e = rw e
+  pub unheard_there : (u : ℕ) → nat_eq universe u ≡ false
+      → is_some (not_heard u (packet_bytes source universe k packet)) ≡ true
+  unheard_there u e = ap is_some (by_wire u) ∙ rw e
 
-  module _ (h : List Entry) (t : ℕ) (time : last_moment h ≤ t) where
-    by_packet : (u : ℕ) → ignored 4 u h t bytes ≡ ignored_packet 4 u h t wire
-    by_packet u =
-        ap (λ b. if b then Some Backwards else option_or (option_map Unreadable (fault_of bytes))
-        (ignored_packet 4 u h t (front_packet bytes))) (not_before (last_moment h) t time)
-        ∙ ap (λ o. option_or (option_map Unreadable o)
-        (ignored_packet 4 u h t (front_packet bytes))) no_fault
-        ∙ ap (ignored_packet 4 u h t) front_is
-
-    pub ignored_here : ignored 4 universe h t bytes ≡ refusal 4 h t identity.cid (k % 256)
-    ignored_here = by_packet universe
-        ∙ ap (λ o. option_or o (refusal 4 h t identity.cid (k % 256))) heard_here
-
-    pub ignored_there : (u : ℕ) → nat_eq universe u ≡ false
-        → ignored 4 u h t bytes ≡ Some OtherUniverse
-    ignored_there u e = by_packet u
-        ∙ ap (λ o. option_or o (refusal 4 h t identity.cid (k % 256))) (unheard_there u e)
-
-    pub heard_is : heard 4 universe h t bytes
-        ≡ (if is_accepted 4 h t identity.cid (k % 256) then entry identity
-        (record { k = k; moment = t; packet = packet }) ∷ h else h)
-    heard_is =
-        ap (λ o. option_map_or (λ _. h) o (entry_of t (front_packet bytes) ∷ h)) ignored_here
-        ∙ ap (λ p. option_map_or (λ _. h) (refusal 4 h t identity.cid (k % 256))
-        (entry_of t p ∷ h)) front_is
-        ∙ ap (λ e. option_map_or (λ _. h) (refusal 4 h t identity.cid (k % 256)) (e ∷ h))
-        (entry_is t)
-        ∙ go (is_accepted 4 h t identity.cid (k % 256)) refl
-      where
-        go : (b : Bool) → is_accepted 4 h t identity.cid (k % 256) ≡ b
-            → option_map_or (λ _. h) (refusal 4 h t identity.cid (k % 256))
-            (entry identity (record { k = k; moment = t; packet = packet }) ∷ h)
-            ≡ (if b then entry identity (record { k = k; moment = t; packet = packet }) ∷ h else h)
-        go true q = rw q
-        go false q = rw q
-
-    pub heard_elsewhere : (u : ℕ) → nat_eq universe u ≡ false → heard 4 u h t bytes ≡ h
-    heard_elsewhere u e = ap (λ o. option_map_or (λ _. h) o (entry_of t (front_packet bytes) ∷ h))
-        (ignored_there u e)
-
--- a stray that is not heard changes nothing
-pub stray_left : (u : ℕ) (h : List Entry) (t : ℕ) (bytes : List ℕ)
+-- a datagram that is not heard changes nothing
+pub unheard_left : (u : ℕ) (h : List Entry) (t : ℕ) (bytes : List ℕ)
     → is_some (not_heard u bytes) ≡ true → heard 4 u h t bytes ≡ h
-stray_left u h t bytes s = go (nat_lt t (last_moment h)) (fault_of bytes)
+unheard_left u h t bytes s = go (nat_lt t (last_moment h)) (fault_of bytes)
     (unheard u (front_packet bytes)) refl refl refl s
   where
     go : (b : Bool) (f : Option _) (n : Option Ignored) → nat_lt t (last_moment h) ≡ b

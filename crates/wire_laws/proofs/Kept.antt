@@ -1,192 +1,156 @@
--- What a receiver keeps of one console: in the window, one of the newest packets.
-use Rattle.std.proofs.Common.{◌≡◌, ℕ, ◌+◌, ◌%◌, ◌<◌, ◌≤◌, Bool, true, false, ◌||◌, ◌⊎◌, refl, ap}
-use Rattle.std.proofs.Common.{arith, sym, inl, inr, ◌∙◌, List, [], ◌∷◌, Option, Some, None}
-use Rattle.std.specs.Prelude.{nat_lt, nat_le, if◌then◌else◌}
-use Rattle.std.proofs.lemmas.Bool.{cases_lt}
+-- What a receiver keeps of one source: in the window, one of its newest packets.
+use Rattle.std.proofs.Common.{◌≡◌, ℕ, ◌+◌, ◌-◌, ◌%◌, ◌<◌, ◌≤◌, true, false, ◌||◌, ◌⊎◌, refl, ap}
+use Rattle.std.proofs.Common.{arith, sym, inl, inr, ◌∙◌, List, [], ◌∷◌, map, length, Some, None}
+use Rattle.std.specs.Prelude.{nat_lt, nat_le, find}
+use Rattle.std.proofs.lemmas.Bool.{cases_lt, cond-true, cond-false, lt-ltb, le-ltb}
 use Rattle.std.proofs.lemmas.Bool.Decides.{nat_tests}
-use Rattle.sacn_receiver.specs.Source.{is_after}
+use Rattle.std.proofs.lemmas.Cmp.{nat_list_eq_equiv}
+use Rattle.sacn_source.specs.Identity.{Identity}
+use Rattle.sacn_receiver.specs.Source.{Entry, same_cid, records, while_there, record_of}
+use Rattle.sacn_receiver.specs.Source.{is_accepted}
+use Rattle.sacn_receiver.specs.Laws.{accepted}
+use Rattle.sacn_receiver.proofs.Apart.{AllIn}
+use Rattle.sacn_receiver.proofs.Independent.{room_for, accepted_in, one_of}
+use Rattle.sacn_receiver.proofs.Members.{by_test, In}
 use Rattle.wire_laws.specs.Delivery.{Delivery, newest_of, arrived, IsInWindow}
+use Rattle.wire_laws.proofs.Bytes.{entry}
+use Rattle.wire_laws.proofs.Came.{IsInTime}
 use Rattle.wire_laws.proofs.Numbers.{in_sequence}
 
--- moments do not fall
-abbrev pub IsInTime : List Delivery → Type 0
-IsInTime [] = Unit {0}
-IsInTime (d ∷ []) = Unit {0}
-IsInTime (d ∷ e ∷ older) = (e.moment ≤ d.moment) × IsInTime (e ∷ older)
-
--- the moment of the last delivery
-abbrev pub last_came : List Delivery → ℕ
-last_came [] = 0
-last_came (d ∷ older) = d.moment
-
--- the delivery that is kept: the last one accepted
-abbrev pub takes : Option Delivery → Delivery → Bool
-takes None d = true
-takes (Some a) d = nat_le (a.moment + 2500) d.moment || is_after (a.k % 256) (d.k % 256)
-
-abbrev pub kept : List Delivery → Option Delivery
-kept [] = None
-kept (d ∷ older) = if takes (kept older) d then Some d else kept older
-
--- what is known of the packet that is kept
-pub record Keeps (ds : List Delivery) (a : Delivery) : Type 0 where
+-- what is known of the packet that is kept at moment t
+pub record Keeps (t : ℕ) (ds : List Delivery) (a : Delivery) : Type 0 where
   pub not_far_behind : newest_of ds ≤ a.k + 19
   pub not_ahead : a.k ≤ newest_of ds
   pub newest_or_late : (a.k ≡ newest_of ds) ⊎ (arrived ds + 2500 ≤ a.moment)
   pub after_arrival : arrived ds ≤ a.moment
-  pub past : a.moment ≤ last_came ds
+  pub past : a.moment ≤ t
 
--- the test of `takes` at plain numbers: the record is gone, or the packet is a later one
+-- one delivery more, in the window: when the newest arrived, and what is kept
+module _ (t : ℕ) (d e a : Delivery) (ds : List Delivery) (h : Keeps d.moment (e ∷ ds) a)
+    (low : newest_of (e ∷ ds) ≤ d.k + 19) (time : d.moment ≤ t) where
+  arrived_newer : newest_of (e ∷ ds) < d.k → arrived (d ∷ e ∷ ds) ≡ d.moment
+  arrived_newer l = cond-true _ d.moment (arrived (e ∷ ds)) (lt-ltb (newest_of (e ∷ ds)) d.k l)
+
+  arrived_older : d.k ≤ newest_of (e ∷ ds) → arrived (d ∷ e ∷ ds) ≡ arrived (e ∷ ds)
+  arrived_older l = cond-false _ d.moment (arrived (e ∷ ds)) (le-ltb (newest_of (e ∷ ds)) d.k l)
+
+  still_late : d.k ≤ newest_of (e ∷ ds) → (a.moment + 2500 ≤ d.moment) ⊎ (a.k < d.k)
+      → arrived (e ∷ ds) + 2500 ≤ d.moment
+  still_late l (inl gone) = omega (arith, h.after_arrival)
+  still_late l (inr newer) = elim h.newest_or_late [
+    | inl same ↦ absurd (omega arith)
+    | inr late ↦ omega (arith, h.past)
+  ]
+
+  taken : (a.moment + 2500 ≤ d.moment) ⊎ (a.k < d.k) → Keeps t (d ∷ e ∷ ds) d
+  taken why = elim (cases_lt (newest_of (e ∷ ds)) d.k) [
+    | inl newer ↦ record {
+      not_far_behind = omega arith;
+      not_ahead = omega arith;
+      newest_or_late = inl (omega arith);
+      after_arrival = omega (arith, arrived_newer newer);
+      past = time;
+    }
+    | inr older ↦ record {
+      not_far_behind = omega arith;
+      not_ahead = omega arith;
+      newest_or_late = inr (rw (arrived_older older) (still_late older why));
+      after_arrival = omega (arith, arrived_older older, h.after_arrival, h.past);
+      past = time;
+    }
+  ]
+
+  discarded : d.k ≤ a.k → Keeps t (d ∷ e ∷ ds) a
+  discarded older =
+      let same : arrived (d ∷ e ∷ ds) ≡ arrived (e ∷ ds) =
+      arrived_older (omega (arith, h.not_ahead)) in
+      record {
+        not_far_behind = omega (arith, h.not_far_behind, h.not_ahead);
+        not_ahead = omega (arith, h.not_ahead);
+        newest_or_late = rw same (elim h.newest_or_late [
+          | inl at_newest ↦ inl (omega (arith, h.not_ahead))
+          | inr late ↦ inr late
+        ]);
+        after_arrival = omega (arith, same, h.after_arrival);
+        past = omega (arith, h.past);
+      }
+
+-- the test of acceptance, at plain numbers
 taken_means : (x y a k : ℕ) → (nat_le x y || nat_lt a k) ≡ true → (x ≤ y) ⊎ (a < k)
 taken_means x y a k h = grind (arith, nat_tests)
 
-discarded_means : (late : Bool) (a k : ℕ) → (late || nat_lt a k) ≡ false → k ≤ a
-discarded_means true a k h = cc
-discarded_means false a k h = grind (arith, nat_tests)
+discarded_means : (x y a k : ℕ) → (nat_le x y || nat_lt a k) ≡ false → k ≤ a
+discarded_means x y a k h = grind (arith, nat_tests)
 
-late_means : (m n : ℕ) → nat_le m n ≡ true → m ≤ n
-late_means m n h = grind (arith, nat_tests)
+module _ (c : Identity) where
+  abbrev pub history : List Delivery → List Entry
+  history ds = accepted 4 (map (entry c) ds)
 
-pub lt_true : (m n : ℕ) → m < n → nat_lt m n ≡ true
-lt_true m n h = grind (arith, nat_tests)
+  all_one : (ds : List Delivery) → AllIn (c.cid ∷ []) (map (entry c) ds)
+  all_one [] = tt
+  all_one (d ∷ ds) = (one_of (entry c d) (c.cid ∷ []) (inl refl), all_one ds)
 
-lt_false : (m n : ℕ) → n ≤ m → nat_lt m n ≡ false
-lt_false m n h = grind (arith, nat_tests)
+  -- what is kept of the source, over all its deliveries
+  pub record KeptOne (t : ℕ) (ds : List Delivery) : Type 0 where
+    pub one : Delivery
+    pub is_kept : find (same_cid c.cid) (history ds) ≡ Some (entry c one)
+    pub came : In one ds
+    pub facts : Keeps t ds one
 
--- in the window a packet is taken where the record is gone, or where it is a later one
-takes_in_window : (m : ℕ) (a d : Delivery) → m ≤ a.k + 19 → a.k ≤ m → m ≤ d.k + 19 → d.k ≤ m + 217
-    → takes (Some a) d ≡ (nat_le (a.moment + 2500) d.moment || nat_lt a.k d.k)
-takes_in_window m a d behind ahead low high =
-    ap (λ b. nat_le (a.moment + 2500) d.moment || b)
-    (in_sequence a.k d.k (omega arith) (omega arith))
+  -- in the window a packet is accepted where the record is gone, or where it is a later one
+  accepts : (ds : List Delivery) (a d : Delivery)
+      → find (same_cid c.cid) (history ds) ≡ Some (entry c a) → d.k ≤ a.k + 236 → a.k ≤ d.k + 19
+      → is_accepted 4 (history ds) d.moment c.cid (d.k % 256)
+      ≡ (nat_le (a.moment + 2500) d.moment || nat_lt a.k d.k)
+  accepts ds a d f ahead behind = by_test (nat_lt (d.moment - a.moment) 2500) (λ q.
+      let l : nat_le (a.moment + 2500) d.moment ≡ false = grind (arith, nat_tests) in
+      rw (ap (while_there d.moment) f ∙ cond-true _ (Some (entry c a)) None q, l)
+      (in_sequence a.k d.k ahead behind))
+      (λ q. let n : record_of (history ds) d.moment c.cid ≡ None =
+      ap (while_there d.moment) f ∙ cond-false _ (Some (entry c a)) None q in
+      let l : nat_le (a.moment + 2500) d.moment ≡ true = grind (arith, nat_tests) in
+      rw (n, l) (lt-ltb (length (records (history ds) d.moment)) 4 (omega (
+        arith,
+        room_for (c.cid ∷ []) (entry c d) d.moment (history ds)
+            (accepted_in 4 (c.cid ∷ []) (map (entry c) ds) (all_one ds))
+            (one_of (entry c d) (c.cid ∷ []) (inl refl)) n,
+      ))))
 
--- when the newest arrived, after one delivery more
-arrived_newer : (d e : Delivery) (ds : List Delivery) → newest_of (e ∷ ds) < d.k
-    → arrived (d ∷ e ∷ ds) ≡ d.moment
-arrived_newer d e ds h = ap (λ b. if b then d.moment else arrived (e ∷ ds))
-    (lt_true (newest_of (e ∷ ds)) d.k h)
-
-arrived_older : (d e : Delivery) (ds : List Delivery) → d.k ≤ newest_of (e ∷ ds)
-    → arrived (d ∷ e ∷ ds) ≡ arrived (e ∷ ds)
-arrived_older d e ds h = ap (λ b. if b then d.moment else arrived (e ∷ ds))
-    (lt_false (newest_of (e ∷ ds)) d.k h)
-
--- the facts of `Keeps` at plain numbers, and how a delivery that is no newer keeps them
-still_late : (m r ak am dk dm : ℕ) → (ak ≡ m) ⊎ (r + 2500 ≤ am) → dk ≤ m → ak ≤ m → r ≤ am
-    → am ≤ dm → (am + 2500 ≤ dm) ⊎ (ak < dk) → r + 2500 ≤ dm
-still_late m r ak am dk dm (inl e) k l after past (inl late) = omega arith
-still_late m r ak am dk dm (inl e) k l after past (inr newer) = absurd (omega arith)
-still_late m r ak am dk dm (inr late) k l after past t = omega arith
-
--- one delivery more, where it is taken
-taken : (d e a : Delivery) (ds : List Delivery) → Keeps (e ∷ ds) a → newest_of (e ∷ ds) ≤ d.k + 19
-    → d.k ≤ newest_of (e ∷ ds) + 217 → e.moment ≤ d.moment → takes (Some a) d ≡ true
-    → Keeps (d ∷ e ∷ ds) d
-taken d e a ds h low high time t =
-    let why : (a.moment + 2500 ≤ d.moment) ⊎ (a.k < d.k) =
-    taken_means _ _ a.k d.k (sym (takes_in_window (newest_of (e ∷ ds)) a d h.not_far_behind
-    h.not_ahead low high) ∙ t) in
-    elim (cases_lt (newest_of (e ∷ ds)) d.k) [
-      | inl newer ↦ record {
-        not_far_behind = omega arith;
-        not_ahead = omega arith;
-        newest_or_late = inl (omega arith);
-        after_arrival = omega (arith, arrived_newer d e ds newer);
-        past = omega arith;
-      }
-      | inr older ↦ record {
-        not_far_behind = omega arith;
-        not_ahead = omega arith;
-        newest_or_late = inr (rw (arrived_older d e ds older)
-            (still_late (newest_of (e ∷ ds)) (arrived (e ∷ ds)) a.k a.moment d.k d.moment
-            h.newest_or_late older h.not_ahead h.after_arrival (omega arith) why));
-        after_arrival = omega (arith, arrived_older d e ds older, h.after_arrival, h.past, time);
-        past = omega arith;
-      }
-    ]
-
-discarded : (d e a : Delivery) (ds : List Delivery) → Keeps (e ∷ ds) a
-    → newest_of (e ∷ ds) ≤ d.k + 19 → d.k ≤ newest_of (e ∷ ds) + 217 → e.moment ≤ d.moment
-    → takes (Some a) d ≡ false → Keeps (d ∷ e ∷ ds) a
-discarded d e a ds h low high time t =
-    let older : d.k ≤ a.k = discarded_means _ a.k d.k
-    (sym (takes_in_window (newest_of (e ∷ ds)) a d h.not_far_behind h.not_ahead low high) ∙ t) in
-    let same : arrived (d ∷ e ∷ ds) ≡ arrived (e ∷ ds) =
-    arrived_older d e ds (omega (arith, h.not_ahead)) in
-    record {
+  kept_in_window : (t : ℕ) (d : Delivery) (ds : List Delivery) → IsInWindow (d ∷ ds)
+      → IsInTime t (d ∷ ds) → KeptOne t (d ∷ ds)
+  kept_in_window t d [] w i = record {
+    one = d;
+    is_kept = rw (nat_list_eq_equiv.refl c.cid);
+    came = inl refl;
+    facts = record {
       not_far_behind = omega arith;
       not_ahead = omega arith;
-      newest_or_late = rw same (elim h.newest_or_late [
-        | inl at_newest ↦
-            inl (omega arith)
-        | inr late ↦ inr late
-      ]);
-      after_arrival = rw same h.after_arrival;
-      past = omega arith;
-    }
+      newest_or_late = inl (omega arith);
+      after_arrival = omega arith;
+      past = i.0;
+    };
+  }
+  kept_in_window t d (e ∷ ds) w i =
+      let k = kept_in_window d.moment e ds w.2 i.1 in
+      let h : List Entry = history (e ∷ ds) in
+      let means = accepts (e ∷ ds) k.one d k.is_kept (omega (arith, k.facts.not_far_behind, w.1))
+      (omega (arith, k.facts.not_ahead, w.0)) in
+      by_test (is_accepted 4 h d.moment c.cid (d.k % 256)) (λ q. record {
+        one = d;
+        is_kept = rw (q, nat_list_eq_equiv.refl c.cid);
+        came = inl refl;
+        facts = taken t d e k.one ds k.facts w.0 i.0
+            (taken_means _ _ k.one.k d.k (sym means ∙ q));
+      }) (λ q. record {
+        one = k.one;
+        is_kept = rw q k.is_kept;
+        came = inr k.came;
+        facts = discarded t d e k.one ds k.facts w.0 i.0
+            (discarded_means _ _ k.one.k d.k (sym means ∙ q));
+      })
 
--- what is kept of a console, over all its deliveries
-pub record KeptOne (ds : List Delivery) : Type 0 where
-  pub one : Delivery
-  pub is_kept : kept ds ≡ Some one
-  pub facts : Keeps ds one
-
-next : (d e : Delivery) (ds : List Delivery) → KeptOne (e ∷ ds) → newest_of (e ∷ ds) ≤ d.k + 19
-    → d.k ≤ newest_of (e ∷ ds) + 217 → e.moment ≤ d.moment → (t : Bool)
-    → takes (kept (e ∷ ds)) d ≡ t → KeptOne (d ∷ e ∷ ds)
-next d e ds k low high time true t =
-    record {
-      one = d;
-      is_kept = ap (λ b. if b then Some d else kept (e ∷ ds)) t;
-      facts =
-          taken d e k.one ds k.facts low high time (sym (ap (λ o. takes o d) k.is_kept) ∙ t);
-    }
-next d e ds k low high time false t =
-    record {
-      one = k.one;
-      is_kept = ap (λ b. if b then Some d else kept (e ∷ ds)) t
-          ∙ k.is_kept;
-      facts = discarded d e k.one ds k.facts low high time
-          (sym (ap (λ o. takes o d) k.is_kept) ∙ t);
-    }
-
-pub kept_in_window : (d : Delivery) (ds : List Delivery) → IsInWindow (d ∷ ds) → IsInTime (d ∷ ds)
-    → KeptOne (d ∷ ds)
-kept_in_window d [] w i = record {
-  one = d;
-  is_kept = refl;
-  facts =
-      record {
-        not_far_behind = omega arith;
-        not_ahead = omega arith;
-        newest_or_late =
-            inl (omega arith);
-        after_arrival = omega arith;
-        past = omega arith;
-      };
-}
-kept_in_window d (e ∷ ds) w i =
-    next d e ds (kept_in_window e ds w.2 i.1) w.0 w.1 i.0 (takes (kept (e ∷ ds)) d) refl
-
--- THE HEADLINE's step at the receiver: the newest packet is the one kept, and it is there, for
--- 2500 ms from its first arrival
-pub record HasNewest (ds : List Delivery) (t : ℕ) : Type 0 where
-  pub one : Delivery
-  pub is_kept : kept ds ≡ Some one
-  pub is_newest : one.k ≡ newest_of ds
-  pub is_there : t < one.moment + 2500
-
-pub newest_shown : (d : Delivery) (ds : List Delivery) (t : ℕ) → IsInWindow (d ∷ ds)
-    → IsInTime (d ∷ ds) → d.moment ≤ t → t < arrived (d ∷ ds) + 2500 → HasNewest (d ∷ ds) t
-newest_shown d ds t w i now fresh =
-    let k = kept_in_window d ds w i in
-    record {
-      one = k.one;
-      is_kept = k.is_kept;
-      is_newest = elim k.facts.newest_or_late [
-        | inl e ↦ e
-        | inr late ↦
-            absurd (omega (arith, k.facts.past))
-      ];
-      is_there = omega (arith, k.facts.after_arrival);
-    }
+  -- unless nothing came
+  pub kept_of : (t : ℕ) (ds : List Delivery) → IsInWindow ds → IsInTime t ds
+      → (ds ≡ []) ⊎ KeptOne t ds
+  kept_of t [] w i = inl refl
+  kept_of t (d ∷ ds) w i = inr (kept_in_window t d ds w i)

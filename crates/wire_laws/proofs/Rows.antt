@@ -7,7 +7,7 @@ use Rattle.desk_core.specs.declared.answer.Ticked.TheVariants.{Live, Ending}
 use Rattle.desk_core.specs.declared.answer.Refused.TheVariants as refused
 use Rattle.desk_core.specs.Meaning.{dark}
 use Rattle.sacn_source.specs.declared.offered.Offered.TheVariants.{Sent}
-use Rattle.sacn_receiver.specs.Laws.{accepted}
+use Rattle.sacn_receiver.specs.Source.{Entry}
 use Rattle.sacn_receiver.specs.Shown.{merged, shown}
 use Rattle.console.specs.Streams.{Production}
 use Rattle.wire_laws.specs.declared.event.Event.{Event}
@@ -21,9 +21,9 @@ use Rattle.wire_laws.specs.Replies.{last_moment, done, reply_to}
 use Rattle.wire_laws.specs.Delivery.{delivered, IsInWindow}
 use Rattle.wire_laws.specs.Laws.{CidsDiffer, HearsOne, HearsAll, IsFresh, AreSettled, slots_at}
 use Rattle.wire_laws.specs.Laws.{lights, IsOneOf}
-use Rattle.wire_laws.proofs.Alone.{headline, silence_dark, window_law}
-use Rattle.wire_laws.proofs.Several.{merge_law}
-use Rattle.wire_laws.proofs.Came.{came}
+use Rattle.wire_laws.proofs.Shown.{headline, silence_dark, window_law}
+use Rattle.wire_laws.proofs.Shown.{merge_law}
+use Rattle.wire_laws.proofs.Kept.{history}
 use Rattle.wire_laws.proofs.Small.{small, cues, subs, numbers, based, first_at, frame_1000}
 use Rattle.wire_laws.proofs.Small.{frame_2000, frame_full, frame_half}
 use Rattle.wire_laws.proofs.Small.{no_move, after_first, after_second}
@@ -89,24 +89,28 @@ ending : reply_to w (done w (at 0 (Order 0 Go) ∷ at 1000 (Tick 0) ∷ at 1000 
     (at 1023 (Tick 0)) ≡ Ticked (Ending 1) ((1, Sent 1) ∷ [])
 ending = simp (no_move, after_first, cues, numbers) refl
 
--- with the deliveries: what the receiver shows, by what came (`accepted_is` joins it to the
--- bytes)
+-- with the deliveries: what the receiver shows, by what was delivered (`from_one` joins it to
+-- the bytes)
 abbrev with_deliveries : List Event
 with_deliveries =
     at 0 (Order 0 Go) ∷ at 1000 (Tick 0) ∷ at 1000 (Deliver 0 0 1 0) ∷ at 2000 (Tick 0)
     ∷ at 2010 (Deliver 0 0 1 1) ∷ at 2011 (Deliver 0 0 1 1) ∷ []
 
-line_7 : shown (accepted 4 (came w 0 (done w (take 4 with_deliveries)))) 2000 0 ≡ 51
+-- what it has accepted after so many of these
+abbrev so_far : ℕ → List Entry
+so_far n = history (console_of 7 100).source (delivered w 0 0 (done w (take n with_deliveries)))
+
+line_7 : shown (so_far 4) 2000 0 ≡ 51
 line_7 = simp (no_move, after_first, cues, numbers, frame_1000) refl
 
-line_9 : shown (accepted 4 (came w 0 (done w (take 5 with_deliveries)))) 2010 0 ≡ 102
+line_9 : shown (so_far 5) 2010 0 ≡ 102
 line_9 = simp (no_move, after_first, cues, numbers, frame_1000, frame_2000) refl
 
-line_10 : length (accepted 4 (came w 0 (done w (take 6 with_deliveries)))) ≡ 2
+line_10 : length (so_far 6) ≡ 2
 line_10 = simp (no_move, after_first, cues, numbers, frame_1000, frame_2000) refl
 
-silence : (shown (accepted 4 (came w 0 (done w with_deliveries))) 4509 0 ≡ 102)
-    × (shown (accepted 4 (came w 0 (done w with_deliveries))) 4510 0 ≡ 0)
+silence : (shown (so_far 6) 4509 0 ≡ 102)
+    × (shown (so_far 6) 4510 0 ≡ 0)
 silence = (
   simp (no_move, after_first, cues, numbers, frame_1000, frame_2000) refl,
   simp (no_move, after_first, cues, numbers, frame_1000, frame_2000) refl,

@@ -1,9 +1,11 @@
 -- Events that were not skipped: each is at its time, and names what is there.
 use Rattle.std.proofs.Common.{◌≡◌, ℕ, ◌<◌, ◌≤◌, ◌^◌, Bool, true, false, not, refl, arith, List, []}
 use Rattle.std.proofs.Common.{◌∷◌, length, Option, Some, None}
-use Rattle.std.specs.Prelude.{if◌then◌else◌, nat_lt, nat_le, is_some}
+use Rattle.std.specs.Prelude.{if◌then◌else◌, nat_lt, nat_le, is_some, slice_get}
 use Rattle.std.specs.List.{fold}
-use Rattle.std.proofs.lemmas.Bool.Decides.{nat_tests}
+use Rattle.std.proofs.lemmas.Bool.{ltb-true, ltb-false, leb-false}
+use Rattle.std.proofs.lemmas.Option.{slice_get-get_or}
+use Rattle.sacn_source.specs.Stream.{Packet, last_packet}
 use Rattle.sacn_receiver.specs.declared.answer.Ignored.{Ignored}
 use Rattle.sacn_receiver.specs.Source as source
 use Rattle.sacn_receiver.specs.Taking.{ignored, heard}
@@ -11,8 +13,9 @@ use Rattle.wire_laws.specs.declared.event.Event.{Event}
 use Rattle.wire_laws.specs.declared.event.What.TheVariants.{Deliver}
 use Rattle.wire_laws.specs.declared.reply.Skip.{Skip}
 use Rattle.wire_laws.specs.declared.reply.Skip.TheVariants.{Backwards, TooLarge, NoConsole}
+use Rattle.wire_laws.specs.declared.reply.Skip.TheVariants.{NoReceiver, NotSent}
 use Rattle.wire_laws.specs.World.{World, universe_at}
-use Rattle.wire_laws.specs.Happened.{handed, hears, accepted_by}
+use Rattle.wire_laws.specs.Happened.{sent, handed, hears, accepted_by}
 use Rattle.wire_laws.specs.Replies.{last_moment, missing, skipped, done_one, done}
 
 -- none of these was skipped after those before it
@@ -27,7 +30,7 @@ one_runs w past e run = go (skipped w past e) refl
     go None q = (q, run)
     go (Some s) q = run
 
-pub more_runs : (w : World) (events past : List Event) → IsRun w past
+more_runs : (w : World) (events past : List Event) → IsRun w past
     → IsRun w (fold (done_one w) past events)
 more_runs w [] past run = run
 more_runs w (e ∷ events) past run = more_runs w events (done_one w past e) (one_runs w past e run)
@@ -41,12 +44,6 @@ pub record IsTimely (w : World) (past : List Event) (e : Event) : Type 0 where
   pub below : e.moment < 2 ^ 48
   pub there : missing w past e.what ≡ None
 
-not_lt : (m n : ℕ) → nat_lt m n ≡ false → n ≤ m
-not_lt m n h = grind (arith, nat_tests)
-
-not_le : (m n : ℕ) → nat_le m n ≡ false → n < m
-not_le m n h = grind (arith, nat_tests)
-
 pub timely : (w : World) (past : List Event) (e : Event) → skipped w past e ≡ None
     → IsTimely w past e
 timely w past e s = go (nat_lt e.moment (last_moment past)) (nat_le (2 ^ 48) e.moment) refl refl s
@@ -57,28 +54,38 @@ timely w past e s = go (nat_lt e.moment (last_moment past)) (nat_le (2 ^ 48) e.m
     go true c p q s = cc
     go false true p q s = cc
     go false false p q s = record {
-      after = not_lt e.moment (last_moment past) p;
-      below =
-          not_le (2 ^ 48) e.moment q;
+      after = ltb-false e.moment (last_moment past) p;
+      below = leb-false (2 ^ 48) e.moment q;
       there = s;
     }
 
-some_none : (b : Bool) (s : Skip) (o : Option Skip) → (if not b then Some s else o) ≡ None
-    → (b ≡ true) × (o ≡ None)
-some_none true s o h = (refl, h)
-some_none false s o h = cc
+-- what is delivered was sent by a console that is there
+pub record IsDelivered (w : World) (past : List Event) (i u k : ℕ) : Type 0 where
+  pub there : i < length w.consoles
+  pub packet : Packet
+  pub is_sent : slice_get (sent w i u past) k ≡ Some packet
 
-is_lt : (m n : ℕ) → nat_lt m n ≡ true → m < n
-is_lt m n h = grind (arith, nat_tests)
-
--- the console of a delivery
 pub deliverer : (w : World) (past : List Event) (r i u k : ℕ)
-    → missing w past (Deliver r i u k) ≡ None → i < length w.consoles
-deliverer w past r i u k h = is_lt i (length w.consoles)
-    (some_none (nat_lt i (length w.consoles)) NoConsole _ h).0
+    → missing w past (Deliver r i u k) ≡ None → IsDelivered w past i u k
+deliverer w past r i u k h =
+    go (nat_lt i (length w.consoles)) (nat_lt r (length w.receivers))
+    (nat_lt k (length (sent w i u past))) refl refl h
+  where
+    go : (a b c : Bool) → nat_lt i (length w.consoles) ≡ a
+        → nat_lt k (length (sent w i u past)) ≡ c
+        → (if not a then Some NoConsole else (if not b then Some NoReceiver
+        else (if c then None else Some NotSent))) ≡ None → IsDelivered w past i u k
+    go true true true p q h = record {
+      there = ltb-true i (length w.consoles) p;
+      packet = _;
+      is_sent = slice_get-get_or (sent w i u past) k last_packet (ltb-true k _ q);
+    }
+    go true true false p q h = cc
+    go true false c p q h = cc
+    go false b c p q h = cc
 
 -- a receiver's last packet is not after the last event
-pub heard_last : (u : ℕ) (h : List source.Entry) (t : ℕ) (d : List ℕ) → source.last_moment h ≤ t
+heard_last : (u : ℕ) (h : List source.Entry) (t : ℕ) (d : List ℕ) → source.last_moment h ≤ t
     → source.last_moment (heard 4 u h t d) ≤ t
 heard_last u h t d l = go (ignored 4 u h t d) refl
   where
@@ -86,7 +93,7 @@ heard_last u h t d l = go (ignored 4 u h t d) refl
     go None q = rw q (omega arith)
     go (Some x) q = rw q l
 
-pub hears_last : (u : ℕ) (h : List source.Entry) (t : ℕ) (o : Option (List ℕ))
+hears_last : (u : ℕ) (h : List source.Entry) (t : ℕ) (o : Option (List ℕ))
     → source.last_moment h ≤ t → source.last_moment (hears u t o h) ≤ t
 hears_last u h t None l = l
 hears_last u h t (Some d) l = heard_last u h t d l
@@ -95,6 +102,5 @@ pub last_accepted : (w : World) (r : ℕ) (past : List Event) → IsRun w past
     → source.last_moment (accepted_by w r past) ≤ last_moment past
 last_accepted w r [] run = omega arith
 last_accepted w r (e ∷ past) run =
-    let time : last_moment past ≤ e.moment = (timely w past e run.0).after in
     hears_last (universe_at w r) (accepted_by w r past) e.moment (handed w r past e.what)
-    (omega (arith, last_accepted w r past run.1))
+    (omega (arith, last_accepted w r past run.1, (timely w past e run.0).after))

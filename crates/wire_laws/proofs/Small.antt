@@ -2,7 +2,7 @@
 -- cue 2 brings channel 2 to full over two, and channel 1 out over four; submaster 1 has channel 1
 -- at half; dimmers 1 and 2 are patched to channels 1 and 2 at full.
 use Rattle.std.proofs.Common.{◌≡◌, ℕ, true, List, [], ◌∷◌, map, replicate, Option, Some}
-use Rattle.std.proofs.Common.{None, refl, ap, ◌∙◌}
+use Rattle.std.proofs.Common.{◌++◌, None, refl, ap, ◌∙◌}
 use Rattle.std.specs.List.{range_with_len}
 use Rattle.std.specs.Option.{option_map_or}
 use Rattle.std.specs.Ordering.{nat_cmp}
@@ -19,51 +19,30 @@ use Rattle.playback_core.proofs.Due.{with_due-none}
 use Rattle.desk_core.specs.Played.{Act, ended, order, settings, tick}
 use Rattle.desk_core.specs.Meaning.{channel_level, frame, universe_numbers}
 
-abbrev listed : ℕ → ℕ → List (ℕ × ℕ)
-listed channel byte = (channel, byte) ∷ []
+-- the levels of a cue or a submaster that has one channel at one level
+one_level : ℕ → ℕ → LevelMap
+one_level channel byte = map.from_sorted ((channel, byte) ∷ [])
 
-first : CueData
+level_of : (channel byte at : ℕ)
+    → map.get (one_level channel byte) at ≡ map.find nat_cmp at ((channel, byte) ∷ [])
+unfolding one_level
+level_of channel byte at = map.get-from_sorted nat_cmp ((channel, byte) ∷ []) at tt
+
+abbrev first : CueData
 first = record {
-  levels = map.from_sorted (listed 1 255);
+  levels = one_level 1 255;
   up = Some (record { time = 5000; delay = 0 });
   down = None;
   follow = None;
 }
 
-second : CueData
+abbrev second : CueData
 second = record {
-  levels = map.from_sorted (listed 2 255);
+  levels = one_level 2 255;
   up = Some (record { time = 2000; delay = 0 });
   down = Some (record { time = 4000; delay = 0 });
   follow = None;
 }
-
-half : LevelMap
-half = map.from_sorted (listed 1 128)
-
-first_is : map.entries first.levels ≡ listed 1 255
-unfolding first
-first_is = map.entries-from_sorted nat_cmp (listed 1 255) tt
-
-first_up : first.up ≡ Some (record { time = 5000; delay = 0 })
-unfolding first
-first_up = refl
-
-first_down : first.down ≡ None
-unfolding first
-first_down = refl
-
-first_follow : first.follow ≡ None
-unfolding first
-first_follow = refl
-
-second_follow : second.follow ≡ None
-unfolding second
-second_follow = refl
-
-half_is : map.entries half ≡ listed 1 128
-unfolding half
-half_is = map.entries-from_sorted nat_cmp (listed 1 128) tt
 
 abbrev patched : List (ℕ × (ℕ × ℕ))
 patched = (1, (1, 255)) ∷ (2, (2, 255)) ∷ []
@@ -71,7 +50,7 @@ patched = (1, (1, 255)) ∷ (2, (2, 255)) ∷ []
 pub small : Tables
 small = record {
   cues = map.from_sorted ((1000, first) ∷ (2000, second) ∷ []);
-  subs = map.from_sorted ((1, half) ∷ []);
+  subs = map.from_sorted ((1, one_level 1 128) ∷ []);
   groups = map.from_sorted [];
   patch = map.from_sorted patched;
 }
@@ -89,18 +68,18 @@ pub after_first : (moment at : ℕ) (older : List Move)
     ≡ record { cue = 1000; moment = at } ∷ older
 after_first moment at older =
     with_due-none small moment (record { cue = 1000; moment = at } ∷ older)
-    (simp (map.get-entries small.cues 1000, cues_are, first_follow) tt)
+    (simp (map.get-entries small.cues 1000, cues_are) tt)
 
 pub after_second : (moment at : ℕ) (older : List Move)
     → with_due small moment (record { cue = 2000; moment = at } ∷ older)
     ≡ record { cue = 2000; moment = at } ∷ older
 after_second moment at older =
     with_due-none small moment (record { cue = 2000; moment = at } ∷ older)
-    (simp (map.get-entries small.cues 2000, cues_are, second_follow) tt)
+    (simp (map.get-entries small.cues 2000, cues_are) tt)
 
-subs_are : map.entries small.subs ≡ (1, half) ∷ []
+subs_are : map.entries small.subs ≡ (1, one_level 1 128) ∷ []
 unfolding small
-subs_are = map.entries-from_sorted nat_cmp ((1, half) ∷ []) tt
+subs_are = map.entries-from_sorted nat_cmp ((1, one_level 1 128) ∷ []) tt
 
 groups_are : map.entries small.groups ≡ []
 unfolding small
@@ -130,28 +109,27 @@ based = rw patch_is refl
 abbrev pub first_at : ℕ → List ℕ
 first_at byte = byte ∷ replicate 511 0
 
-patch_at : (dimmer : ℕ) → map.get small.patch dimmer ≡ map.find nat_cmp dimmer patched
-patch_at dimmer = map.get-entries small.patch dimmer ∙ ap (map.find nat_cmp dimmer) patch_is
-
 patched_slot : (ℕ → ℕ) → ℕ → Option (ℕ × ℕ) → ℕ
 patched_slot level grand o = option_map_or (λ (p : ℕ × ℕ). slot_of (level p.0) grand p.1) o 0
 
 -- of a frame, the slots of dimmers 1 and 2 follow the channels, and the others are 0
 frame_at : (level : ℕ → ℕ) (grand : ℕ)
     → frame_of small.patch level grand 0
-    ≡ slot_of (level 1) grand 255 ∷ slot_of (level 2) grand 255 ∷ replicate 510 0
+    ≡ map (λ (l : ℕ). slot_of l grand 255) (map level (1 ∷ 2 ∷ [])) ++ replicate 510 0
 unfolding patched_slot
 frame_at level grand =
     ap (λ (at : ℕ → Option (ℕ × ℕ)). map (λ d. patched_slot level grand (at d))
-    (range_with_len 1 512)) (λ i d. patch_at d i) ∙ refl
+    (range_with_len 1 512)) (λ i d. (map.get-entries small.patch d
+    ∙ ap (map.find nat_cmp d) patch_is) i) ∙ refl
 
 frame_first : (h : List Act) (t level : ℕ) → ended h ≡ None → grand_after (settings h) ≡ 255
-    → channel_level small h t 1 ≡ level → channel_level small h t 2 ≡ 0
+    → map (channel_level small h t) (1 ∷ 2 ∷ []) ≡ level ∷ 0 ∷ []
     → frame small h t 0 ≡ first_at (slot_of level 255 255)
 unfolding frame
-frame_first h t level live grand one two =
+frame_first h t level live grand levels =
     rw live (frame_at (channel_level small h t) (grand_after (settings h))
-    ∙ rw (grand, one, two) refl)
+    ∙ ap (λ (ls : List ℕ). map (λ (l : ℕ). slot_of l (grand_after (settings h)) 255) ls
+    ++ replicate 510 0) levels ∙ rw grand)
 
 abbrev at_go : List Act
 at_go = record { moment = 0; call = order Go } ∷ []
@@ -163,95 +141,23 @@ abbrev at_1000 : List Act
 at_1000 = record { moment = 1000; call = tick } ∷ at_go
 
 -- what a history makes of its channels, evaluated
-level_1000 : (channel_level small at_go 1000 1 ≡ 13005) × (channel_level small at_go 1000 2 ≡ 0)
-unfolding split_fade
-level_1000 = (
-  simp (
-    no_move,
-    after_first,
-    map.get-entries small.cues 1000,
-    cues_are,
-    subs_are,
-    groups_are,
-    map.get-entries first.levels 1,
-    first_is,
-    first_up,
-    first_down,
-    map.get-entries half 1,
-    half_is,
-  ) refl,
-  simp (
-    no_move,
-    after_first,
-    map.get-entries small.cues 1000,
-    cues_are,
-    subs_are,
-    groups_are,
-    map.get-entries first.levels 2,
-    first_is,
-    first_up,
-    first_down,
-    map.get-entries half 2,
-    half_is,
-  ) refl,
-)
-
-level_2000 : (channel_level small at_1000 2000 1 ≡ 26010)
-    × (channel_level small at_1000 2000 2 ≡ 0)
-unfolding split_fade
-level_2000 = (
-  simp (
-    no_move,
-    after_first,
-    map.get-entries small.cues 1000,
-    cues_are,
-    subs_are,
-    groups_are,
-    map.get-entries first.levels 1,
-    first_is,
-    first_up,
-    first_down,
-    map.get-entries half 1,
-    half_is,
-  ) refl,
-  simp (
-    no_move,
-    after_first,
-    map.get-entries small.cues 1000,
-    cues_are,
-    subs_are,
-    groups_are,
-    map.get-entries first.levels 2,
-    first_is,
-    first_up,
-    first_down,
-    map.get-entries half 2,
-    half_is,
-  ) refl,
-)
-
-level_full : (channel_level small (at_sub 255) 0 1 ≡ 32640)
-    × (channel_level small (at_sub 255) 0 2 ≡ 0)
-level_full = (
-  simp (no_move, subs_are, groups_are, map.get-entries half 1, half_is) refl,
-  simp (no_move, subs_are, groups_are, map.get-entries half 2, half_is) refl,
-)
-
-level_half : (channel_level small (at_sub 128) 0 1 ≡ 16384)
-    × (channel_level small (at_sub 128) 0 2 ≡ 0)
-level_half = (
-  simp (no_move, subs_are, groups_are, map.get-entries half 1, half_is) refl,
-  simp (no_move, subs_are, groups_are, map.get-entries half 2, half_is) refl,
-)
+cue_1000 : map.get small.cues 1000 ≡ Some first
+cue_1000 = map.get-entries small.cues 1000 ∙ ap (map.find nat_cmp 1000) cues_are
 
 pub frame_1000 : frame small at_go 1000 0 ≡ first_at 51
-frame_1000 = frame_first at_go 1000 13005 refl refl level_1000.0 level_1000.1
+unfolding split_fade
+frame_1000 = frame_first at_go 1000 13005 refl refl
+    (simp (no_move, after_first, cues_are, cue_1000, subs_are, groups_are, level_of) refl)
 
 pub frame_2000 : frame small at_1000 2000 0 ≡ first_at 102
-frame_2000 = frame_first at_1000 2000 26010 refl refl level_2000.0 level_2000.1
+unfolding split_fade
+frame_2000 = frame_first at_1000 2000 26010 refl refl
+    (simp (no_move, after_first, cues_are, cue_1000, subs_are, groups_are, level_of) refl)
 
 pub frame_full : frame small (at_sub 255) 0 0 ≡ first_at 128
-frame_full = frame_first (at_sub 255) 0 32640 refl refl level_full.0 level_full.1
+frame_full = frame_first (at_sub 255) 0 32640 refl refl
+    (simp (no_move, subs_are, groups_are, level_of) refl)
 
 pub frame_half : frame small (at_sub 128) 0 0 ≡ first_at 64
-frame_half = frame_first (at_sub 128) 0 16384 refl refl level_half.0 level_half.1
+frame_half = frame_first (at_sub 128) 0 16384 refl refl
+    (simp (no_move, subs_are, groups_are, level_of) refl)

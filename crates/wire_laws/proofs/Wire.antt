@@ -9,7 +9,7 @@ use Rattle.wire_laws.specs.World.{console_at, IsIdentity}
 use Rattle.wire_laws.specs.Datagrams.{fields_at, packet_bytes}
 use Rattle.wire_laws.specs.Laws.{DatagramsArePackets}
 use Rattle.wire_laws.proofs.Bytes.{is_data}
-use Rattle.wire_laws.proofs.Full.{sent_full, sent_source, sent_universe}
+use Rattle.wire_laws.proofs.Full.{sent_is}
 
 -- a packet of a stream has no other bytes: what a link was offered is what is handed over
 pub bytes_are : (source : Identity) (universe k : ℕ) (packet : Packet) (bytes : List ℕ)
@@ -18,17 +18,15 @@ pub bytes_are : (source : Identity) (universe k : ℕ) (packet : Packet) (bytes 
 bytes_are source universe k packet bytes who size low high is =
     same_packet bytes (fields_at source universe k packet) packet.slots is
     ∙ sym (same_packet (packet_bytes source universe k packet)
-    (fields_at source universe k packet) packet.slots
-    (is_data source universe k packet who size low high))
+    (fields_at source universe k packet) packet.slots (is_data source universe k packet
+    (record { who = who; size = size; low = low; high = high })))
 
 pub datagrams_packets : DatagramsArePackets
 datagrams_packets w i universe k past packet v l e =
-    let range = sent_universe w i universe k past packet (v i l) e in
-    let size = sent_full w i universe k past packet e in
-    let who = sent_source w i universe k past packet (v i l) e in
+    let s = sent_is w i universe k past packet (v i l) e in
     let source = (console_at w i).source in (
       packet_bytes source universe k packet,
       ap (option_map (packet_bytes source universe k)) e,
-      is_data source universe k packet who size range.0 range.1,
-      λ other is. bytes_are source universe k packet other who size range.0 range.1 is,
+      is_data source universe k packet s,
+      λ other is. bytes_are source universe k packet other s.who s.size s.low s.high is,
     )

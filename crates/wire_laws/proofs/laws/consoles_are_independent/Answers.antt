@@ -1,4 +1,4 @@
-use Rattle.wire_laws.proofs.Independent.{consoles_independent}
+use Rattle.wire_laws.proofs.Came.{consoles_independent}
 use Rattle.wire_laws.proofs.laws.consoles_are_independent.Goals as goal
 
 pub returns : goal.returns

@@ -1,4 +1,4 @@
-use Rattle.wire_laws.proofs.Alone.{headline, unpatched_zero}
+use Rattle.wire_laws.proofs.Shown.{headline, unpatched_zero}
 use Rattle.wire_laws.proofs.laws.headline.Goals as goal
 
 pub returns-clause-means : goal.returns-clause-means

@@ -1,4 +1,4 @@
-use Rattle.wire_laws.proofs.Several.{merge_law}
+use Rattle.wire_laws.proofs.Shown.{merge_law}
 use Rattle.wire_laws.proofs.laws.merge_law.Goals as goal
 
 pub returns : goal.returns

@@ -1,4 +1,4 @@
-use Rattle.wire_laws.proofs.Alone.{window_law, silence_dark}
+use Rattle.wire_laws.proofs.Shown.{window_law, silence_dark}
 use Rattle.wire_laws.proofs.laws.window_law.Goals as goal
 
 pub returns-clause-near : goal.returns-clause-near

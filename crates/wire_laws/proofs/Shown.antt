@@ -1,0 +1,283 @@
+-- What receivers show: the headline, the window law and the merge law.
+use Rattle.std.proofs.Common.{◌≡◌, ℕ, suc, ◌+◌, ◌-◌, ◌*◌, ◌<◌, ◌≤◌, ◌⊎◌, Bool, true, false, not}
+use Rattle.std.proofs.Common.{◌&&◌, refl, ap, arith, sym, subst, inl, inr, ◌∙◌, List, [], ◌∷◌, map}
+use Rattle.std.proofs.Common.{length, Option, Some, None}
+use Rattle.std.specs.Prelude.{nat_lt, nat_le, if◌then◌else◌, slice_index, slice_get, is_some, find}
+use Rattle.std.specs.Prelude.{filter, IsTrue}
+use Rattle.std.specs.List.{list_all, range_with_len}
+use Rattle.std.specs.Option.{option_map_or}
+use Rattle.std.specs.FinMap as maps
+use Rattle.std.proofs.lemmas.Bool.{and_parts, cond-false, cond_both, leb-true}
+use Rattle.std.proofs.lemmas.Bool.Decides.{nat_tests}
+use Rattle.std.proofs.lemmas.List.{get_or-replicate}
+use Rattle.std.proofs.lemmas.Option.{none-some}
+use Rattle.std.proofs.lemmas.List.FromFn.{length-range_with_len, get_or-range_with_len}
+use Rattle.std.proofs.lemmas.List.FromFn.{get_or-map-range_with_len}
+use Rattle.show_core.specs.Readers.{slot_of}
+use Rattle.show_core.specs.Tables.{Tables}
+use Rattle.master_core.specs.Settings.{grand_after}
+use Rattle.patch_core.specs.Frame.{dimmer_slot, frame_of}
+use Rattle.desk_core.specs.Played.{Call, order, tick, Act, ended, settings}
+use Rattle.desk_core.specs.Meaning.{dark, frame, latest_frame, channel_level}
+use Rattle.sacn_source.specs.Stream.{Packet}
+use Rattle.sacn_receiver.specs.Source.{Entry, same_cid, is_there}
+use Rattle.sacn_receiver.specs.Shown.{Light, light_of, merged, shown, shown_slots}
+use Rattle.sacn_receiver.proofs.Members.{by_test, In, In_mapped}
+use Rattle.sacn_receiver.proofs.Independent.{in_from_place, place_from_in}
+use Rattle.wire_laws.specs.declared.event.Event.{Event}
+use Rattle.wire_laws.specs.World.{World, console_at, universe_at, IsWorld}
+use Rattle.wire_laws.specs.Happened.{acts, sent, accepted_by}
+use Rattle.wire_laws.specs.Replies.{last_moment, done}
+use Rattle.wire_laws.specs.Delivery.{Delivery, delivered, newest_of, arrived, IsInWindow}
+use Rattle.wire_laws.specs.Laws.{IsAlone, NoStray, IsFreshIn, IsFresh, is_silent, is_live, is_lit}
+use Rattle.wire_laws.specs.Laws.{light, meant, slots_at, accepted_from, Headline, IsOneOf, WindowLaw}
+use Rattle.wire_laws.specs.Laws.{UnpatchedSlotsAreZero, SilenceIsDark, MergeLaw}
+use Rattle.wire_laws.proofs.Bytes.{entry}
+use Rattle.wire_laws.proofs.Came.{source_of, were_in_time, were_sent, from_one, In_accepted, all_from}
+use Rattle.wire_laws.proofs.Came.{from_console, follows}
+use Rattle.wire_laws.proofs.Full.{sent_is, latest_full}
+use Rattle.wire_laws.proofs.Grows.{newest_means, latest}
+use Rattle.wire_laws.proofs.Kept.{history, KeptOne, kept_of}
+use Rattle.wire_laws.proofs.Lit.{lit_by, shown_lit, one_light, same_slots}
+use Rattle.wire_laws.proofs.Runs.{IsRun, done_runs}
+
+dark_slots : (h : List Entry) (t : ℕ) → ((slot : ℕ) → shown h t slot ≡ 0) → shown_slots h t ≡ dark
+dark_slots h t zero =
+    same_slots h t dark refl (λ slot l. zero slot ∙ sym (get_or-replicate 512 slot 0 0 l))
+
+silent_at : (t : ℕ) (ds : List Delivery) (d : Delivery)
+    → list_all (λ x. nat_le (x.moment + 2500) t) ds ≡ true → In d ds → d.moment + 2500 ≤ t
+silent_at t [] d s i = absurd i
+silent_at t (e ∷ ds) d s (inl same) = rw same (leb-true (e.moment + 2500) t (and_parts _ _ s).0)
+silent_at t (e ∷ ds) d s (inr i) = silent_at t ds d (and_parts _ _ s).1 i
+
+fresh_parts : (t : ℕ) (ps : List Packet) (ds : List Delivery) → IsFreshIn t ps ds
+    → (suc (newest_of ds) ≡ length ps) × (t < arrived ds + 2500)
+fresh_parts t ps [] f = absurd f
+fresh_parts t ps (d ∷ ds) f = f
+
+there_means : (t m : ℕ) → m ≤ t → (nat_lt (t - m) 2500 ≡ true → t < m + 2500)
+    × (t < m + 2500 → nat_lt (t - m) 2500 ≡ true) × (m + 2500 ≤ t → nat_lt (t - m) 2500 ≡ false)
+there_means t m l = (
+  λ h. grind (arith, nat_tests),
+  λ h. grind (arith, nat_tests),
+  λ h. grind (arith, nat_tests),
+)
+
+module _ (w : World) (v : IsWorld w) (r : ℕ) (past : List Event) (run : IsRun w past)
+    (no_stray : NoStray w r past) (t : ℕ) (time : last_moment past ≤ t) (i : ℕ)
+    (window : IsInWindow (delivered w r i past)) where
+  -- what is kept of console i, and that it is what is found
+  abbrev Kept : Type 0
+  Kept = KeptOne (source_of w i) (last_moment past) (delivered w r i past)
+
+  kept : (delivered w r i past ≡ []) ⊎ Kept
+  kept = kept_of (source_of w i) (last_moment past) (delivered w r i past) window
+      (were_in_time w v r past run no_stray i)
+
+  abbrev found : Option Entry
+  found = find (same_cid (source_of w i).cid) (accepted_from w r i past)
+
+  found_is : find (same_cid (source_of w i).cid) (accepted_from w r i past)
+      ≡ find (same_cid (source_of w i).cid) (history (source_of w i) (delivered w r i past))
+  found_is = ap (find (same_cid (source_of w i).cid)) (from_one w v r past run no_stray i)
+
+  found_none : delivered w r i past ≡ [] → found ≡ None
+  found_none e = found_is
+      ∙ ap (λ ds. find (same_cid (source_of w i).cid) (history (source_of w i) ds)) e
+
+  was_sent : (k : Kept) → (i < length w.consoles)
+      × (slice_get (sent w i (universe_at w r) past) k.one.k ≡ Some k.one.packet)
+  was_sent k = were_sent w v r past run no_stray i k.one k.came
+
+  -- a console that is fresh is not silent, and one that is fresh or silent lights as it is to
+  not_silent : IsFresh w r i past t → Kept → is_silent w r i past t ≡ false
+  not_silent fresh k =
+      let f = fresh_parts t _ (delivered w r i past) fresh in
+      by_test (is_silent w r i past t) (λ q. absurd (omega (
+        arith,
+        silent_at t (delivered w r i past) k.one q k.came,
+        f.1,
+        k.facts.after_arrival,
+      ))) (λ q. q)
+
+  lit_fresh : IsFresh w r i past t → (k : Kept)
+      → lit_by t found ≡ (if is_lit w r past t i then Some (light w r past i) else None)
+  lit_fresh fresh k =
+      let f = fresh_parts t (sent w i (universe_at w r) past) (delivered w r i past) fresh in
+      let newest : k.one.k ≡ newest_of (delivered w r i past) =
+      elim k.facts.newest_or_late [
+        | inl e ↦ e
+        | inr late ↦ absurd (omega (arith, f.1, k.facts.past, late))
+      ] in
+      let m = newest_means w i (universe_at w r) k.one.k past k.one.packet (was_sent k).1
+      (omega (arith, f.0, newest)) in
+      let there : nat_lt (t - k.one.moment) 2500 ≡ true =
+      (there_means t k.one.moment (omega (arith, k.facts.past))).1
+      (omega (arith, f.1, k.facts.after_arrival)) in
+      ap (lit_by t) (found_is ∙ k.is_kept)
+      ∙ rw (there, m.0, m.1, not_silent fresh k) (twice (is_live (acts w i past)))
+    where
+      twice : (b : Bool) → (if not (not b) then Some (light w r past i) else None)
+          ≡ (if b then Some (light w r past i) else None)
+      twice true = refl
+      twice false = refl
+
+  lit_silent : is_silent w r i past t ≡ true → (delivered w r i past ≡ []) ⊎ Kept
+      → lit_by t found ≡ (if is_lit w r past t i then Some (light w r past i) else None)
+  lit_silent silent (inl none) = rw silent (ap (lit_by t) (found_none none))
+  lit_silent silent (inr k) =
+      let gone : nat_lt (t - k.one.moment) 2500 ≡ false =
+      (there_means t k.one.moment (omega (arith, k.facts.past))).2
+      (silent_at t (delivered w r i past) k.one silent k.came) in
+      rw silent (ap (lit_by t) (found_is ∙ k.is_kept) ∙ rw gone)
+
+  lit_settled : ((sent w i (universe_at w r) past ≡ [] → ⊥)
+      → IsFresh w r i past t ⊎ IsTrue (is_silent w r i past t))
+      → lit_by t found ≡ (if is_lit w r past t i then Some (light w r past i) else None)
+  lit_settled state = go kept
+    where
+      go : (delivered w r i past ≡ []) ⊎ Kept
+          → lit_by t found ≡ (if is_lit w r past t i then Some (light w r past i) else None)
+      go (inl none) = lit_silent
+          (ap (λ (ds : List Delivery). list_all (λ d. nat_le (d.moment + 2500) t) ds) none)
+          (inl none)
+      go (inr k) = elim (state (λ none. none-some k.one.packet (sym (ap
+          (λ (ps : List Packet). slice_get ps k.one.k) none) ∙ (was_sent k).1))) [
+        | inl fresh ↦ lit_fresh fresh k
+        | inr silent ↦ lit_silent silent (inr k)
+      ]
+
+  -- ---- a console alone
+
+  module _ (alone : IsAlone w r i past) where
+    shown_alone : (p : ℕ → Bool) (f : ℕ → Light)
+        → lit_by t found ≡ (if p i then Some (f i) else None) → (slot : ℕ)
+        → shown (accepted_by w r past) t slot ≡ merged (map f (filter p (i ∷ []))) slot
+    shown_alone p f lit slot =
+        ap (λ h. shown h t slot) (all_from w v r past run no_stray i alone)
+        ∙ shown_lit t (accepted_from w r i past) (λ j. (source_of w j).cid) (i ∷ [])
+        (λ e m. let d = In_mapped (entry (source_of w i)) e (delivered w r i past) (In_accepted e _
+        (rw (from_one w v r past run no_stray i) at m)) in
+        (i, inl refl, ap (λ (x : Entry). x.cid) (sym d.2))) p f
+        (λ j m. elim m [ inl e ↦ rw e lit | inr n ↦ absurd n ]) slot
+
+    means : IsFresh w r i past t → slots_at w r past t ≡ meant w r i past
+    means fresh = same_slots (accepted_by w r past) t (meant w r i past)
+        (latest_full (console_at w i).show (acts w i past)
+        (universe_at w r - (console_at w i).base))
+        (λ slot l. shown_alone (is_lit w r past t) (light w r past)
+        (lit_settled (λ _. inl fresh)) slot ∙ by_end slot l kept)
+      where
+        by_end : (slot : ℕ) → slot < 512 → (delivered w r i past ≡ []) ⊎ Kept
+            → merged (map (light w r past) (filter (is_lit w r past t) (i ∷ []))) slot
+            ≡ slice_index (meant w r i past) slot
+        by_end slot l (inl none) = absurd (subst (IsFreshIn t _) none fresh)
+        by_end slot l (inr k) = by_test (is_live (acts w i past))
+            (λ q. rw (not_silent fresh k, q) (one_light (light w r past i) slot))
+            (λ q. rw (not_silent fresh k, q) (sym (ap (λ f. slice_index f slot)
+            (latest (console_at w i) (universe_at w r) (acts w i past) ∙ cond-false _ _ dark q)
+            ∙ get_or-replicate 512 slot 0 0 l)))
+
+    silence : is_silent w r i past t ≡ true → slots_at w r past t ≡ dark
+    silence silent = dark_slots (accepted_by w r past) t (λ slot.
+        shown_alone (is_lit w r past t) (light w r past) (lit_settled (λ _. inr silent)) slot
+        ∙ rw silent)
+
+    near : IsOneOf t (slots_at w r past t) (sent w i (universe_at w r) past) (delivered w r i past)
+        ⊎ (slots_at w r past t ≡ dark)
+    near = go kept
+      where
+        go : (delivered w r i past ≡ []) ⊎ Kept
+            → IsOneOf t (slots_at w r past t) (sent w i (universe_at w r) past)
+            (delivered w r i past) ⊎ (slots_at w r past t ≡ dark)
+        go (inl none) = inr (dark_slots (accepted_by w r past) t (λ slot. shown_alone (λ _. false)
+            (light w r past) (ap (lit_by t) (found_none none)) slot))
+        go (inr k) =
+            let e : Entry = entry (source_of w i) k.one in
+            let b : Bool = is_there t e && not e.ended in
+            let shows : (slot : ℕ) → shown (accepted_by w r past) t slot
+            ≡ merged (map (λ _. light_of e) (filter (λ _. b) (i ∷ []))) slot =
+            shown_alone (λ _. b) (λ _. light_of e) (ap (lit_by t) (found_is ∙ k.is_kept)) in
+            by_test b (λ q. inl (record {
+              one = k.one;
+              came = place_from_in k.one (delivered w r i past) k.came;
+              is_sent = (was_sent k).1;
+              not_far_behind = k.facts.not_far_behind;
+              not_ahead = k.facts.not_ahead;
+              recent = (there_means t k.one.moment (omega (arith, k.facts.past))).0
+                  (and_parts (is_there t e) (not e.ended) q).0;
+              are = same_slots (accepted_by w r past) t k.one.packet.slots (sent_is w i
+                  (universe_at w r) k.one.k past k.one.packet (v i (was_sent k).0)
+                  (was_sent k).1).size
+                  (λ slot l. shows slot ∙ rw q (one_light (light_of e) slot));
+            })) (λ q. inr (dark_slots (accepted_by w r past) t (λ slot. shows slot ∙ rw q)))
+
+pub headline : Headline
+headline w events r i t v time hears = means w v r (done w events) (done_runs w events)
+    hears.no_stray t time i hears.window hears.alone
+
+pub window_law : WindowLaw
+window_law w events r i t v time hears = near w v r (done w events) (done_runs w events)
+    hears.no_stray t time i hears.window hears.alone
+
+pub silence_dark : SilenceIsDark
+silence_dark w events r i t v time hears = silence w v r (done w events) (done_runs w events)
+    hears.no_stray t time i hears.window hears.alone
+
+-- ---- several consoles
+
+pub merge_law : MergeLaw
+merge_law w events r t v time hears state slot below =
+    get_or-map-range_with_len (shown (accepted_by w r past) t) 0 512 slot slot 0 below (omega arith)
+    ∙ shown_lit t (accepted_by w r past) (λ j. (source_of w j).cid) (range_with_len 0 n)
+    (λ e m. let c = from_console w v r past run hears.no_stray e m in (
+      c.0,
+      in_from_place c.0 (range_with_len 0 n) c.0 (omega (arith, c.1, length-range_with_len 0 n))
+          (omega (arith, get_or-range_with_len 0 n c.0 c.0 c.1)),
+      c.2,
+    )) (is_lit w r past t) (light w r past) (λ j m.
+    let place = place_from_in j (range_with_len 0 n) m in
+    let k : place.0 < n = omega (arith, place.1, length-range_with_len 0 n) in
+    let l : j < n = omega (arith, place.2, get_or-range_with_len 0 n place.0 j k) in
+    ap (lit_by t) (follows w v r past run hears.no_stray hears.apart hears.few j l)
+    ∙ lit_settled w v r past run hears.no_stray t time j (hears.window j l) (state j l)) slot
+  where
+    past : List Event
+    past = done w events
+
+    run : IsRun w (done w events)
+    run = done_runs w events
+
+    n : ℕ
+    n = length w.consoles
+
+-- ---- slots without a patched channel
+
+unpatched_frame : (s : Tables) (h : List Act) (t k slot : ℕ) → slot < 512
+    → maps.get s.patch (512 * k + 1 + slot) ≡ None → slice_index (frame s h t k) slot ≡ 0
+unfolding frame
+unpatched_frame s h t k slot below none =
+    let level : ℕ → ℕ = channel_level s h t in
+    let grand : ℕ = grand_after (settings h) in
+    cond_both (is_some (ended h)) dark (frame_of s.patch level grand k)
+    (λ f. slice_index f slot ≡ 0) (λ _. get_or-replicate 512 slot 0 0 below)
+    (λ _. get_or-map-range_with_len (dimmer_slot s.patch level grand) (512 * k + 1) 512 slot
+    (512 * k + 1 + slot) 0 below refl
+    ∙ ap (λ p. option_map_or (λ (p : ℕ × ℕ). slot_of (level p.0) grand p.1) p 0) none)
+
+unpatched_latest : (s : Tables) (h : List Act) (k slot : ℕ) → slot < 512
+    → maps.get s.patch (512 * k + 1 + slot) ≡ None → slice_index (latest_frame s h k) slot ≡ 0
+unpatched_latest s [] k slot below none = get_or-replicate 512 slot 0 0 below
+unpatched_latest s (a ∷ h) k slot below none = go a.call (unpatched_latest s h k slot below none)
+  where
+    go : (c : Call) → slice_index (latest_frame s h k) slot ≡ 0
+        → slice_index (latest_frame s (record { moment = a.moment; call = c } ∷ h) k) slot ≡ 0
+    go tick ih = unpatched_frame s h a.moment k slot below none
+    go (order c) ih = ih
+
+pub unpatched_zero : UnpatchedSlotsAreZero
+unpatched_zero w events r i t slot v time hears fresh below none =
+    ap (λ l. slice_index l slot) (headline w events r i t v time hears fresh)
+    ∙ unpatched_latest (console_at w i).show (acts w i (done w events))
+    (universe_at w r - (console_at w i).base) slot below none
