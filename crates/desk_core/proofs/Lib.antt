@@ -1,3 +1,4 @@
 pub mod Universes
 pub mod Drawn
 mod Rows
+pub mod FrameSlots
