@@ -1,6 +1,6 @@
 -- The consoles' packets that came to a receiver: all that it has accepted is of them, and so are
 -- the deliveries of each console.
-use Rattle.std.proofs.Common.{◌≡◌, ℕ, ◌<◌, ◌≤◌, Bool, true, false, ◌&&◌, refl, ap, sym, subst, inl}
+use Rattle.std.proofs.Common.{◌≡◌, ℕ, ◌<◌, ◌≤◌, Bool, true, false, refl, ap, sym, subst, inl}
 use Rattle.std.proofs.Common.{inr, ◌∙◌, arith, List, [], ◌∷◌, map, length, Option, Some, None, get_or}
 use Rattle.std.specs.Prelude.{if◌then◌else◌, nat_eq, slice_get, slice_range, filter, is_some}
 use Rattle.std.specs.Prelude.{Contains, IsTrue, find}
@@ -9,7 +9,7 @@ use Rattle.std.specs.Str.{bytes_eq}
 use Rattle.std.proofs.lemmas.Bool.{eqb-true, cond_both}
 use Rattle.std.proofs.lemmas.Cmp.{nat_list_eq_equiv}
 use Rattle.std.proofs.lemmas.List.{get_or-map, length-map}
-use Rattle.std.proofs.lemmas.Option.{same_Some}
+use Rattle.std.proofs.lemmas.Option.{none-some, same_Some}
 use Rattle.std.proofs.lemmas.List.Elements.{All-cons, All-map, Contains-get_or}
 use Rattle.sacn_packet.specs.Reading.{front_packet}
 use Rattle.console.specs.Streams.{Production}
@@ -19,8 +19,8 @@ use Rattle.sacn_receiver.specs.Arrivals.{Arrival, heard_all, last_arrival, Never
 use Rattle.sacn_receiver.specs.Arrivals.{is_heard, is_from, HeardAreFrom, packets_heard}
 use Rattle.sacn_receiver.specs.Laws.{accepted}
 use Rattle.sacn_receiver.specs.Source.{Entry, same_cid, is_accepted}
-use Rattle.sacn_receiver.specs.Taking.{answer, heard}
-use Rattle.sacn_receiver.proofs.Members.{by_test, In, In_filtered, In_mapped}
+use Rattle.sacn_receiver.specs.Taking.{answer, entry_of, heard}
+use Rattle.sacn_receiver.proofs.Members.{by_test, In, In_mapped}
 use Rattle.sacn_receiver.proofs.Independent.{in_from_place, heard_accepted, records_independent}
 use Rattle.sacn_receiver.proofs.Independent.{answers_independent}
 use Rattle.wire_laws.specs.Datagrams.{packet_bytes}
@@ -28,171 +28,176 @@ use Rattle.wire_laws.specs.declared.event.Event.{Event}
 use Rattle.wire_laws.specs.declared.event.What.{What}
 use Rattle.wire_laws.specs.declared.event.What.TheVariants.{Deliver, Stray}
 use Rattle.wire_laws.specs.World.{World, console_at, no_console, universe_at, IsWorld}
-use Rattle.wire_laws.specs.Happened.{sent, datagram, handed, hears, accepted_by}
+use Rattle.wire_laws.specs.Happened.{sent, handed, hears, accepted_by}
 use Rattle.wire_laws.specs.Replies.{last_moment, missing, done}
 use Rattle.wire_laws.specs.Delivery.{Delivery, delivered_more, delivered_by, delivered}
 use Rattle.wire_laws.specs.Laws.{CidsDiffer, IsAlone, IsUnheard, NoStray, handed_from, accepted_from}
 use Rattle.wire_laws.specs.Laws.{ConsolesAreIndependent}
 use Rattle.wire_laws.proofs.Bytes.{IsSendable, entry, cid_is, entry_is, heard_here, unheard_there}
 use Rattle.wire_laws.proofs.Bytes.{unheard_left}
-use Rattle.wire_laws.proofs.Full.{sent_is}
-use Rattle.wire_laws.proofs.Grows.{sent_stays}
-use Rattle.wire_laws.proofs.Runs.{IsRun, IsDelivered, timely, deliverer, done_runs}
+use Rattle.wire_laws.proofs.Wire.{sent_is, sent_stays}
+use Rattle.wire_laws.proofs.Runs.{IsRun, timely, deliverer, done_runs}
 
 -- a delivery, with the number of its console
-abbrev pub Coming : Type 0
+abbrev Coming : Type 0
 Coming = ℕ × Delivery
 
-abbrev pub own : ℕ → List Coming → List Coming
-own i cs = filter (λ c. nat_eq c.0 i) cs
+abbrev pub source_of : World → ℕ → Identity
+source_of w i = (console_at w i).source
 
-abbrev pub parcels : List Coming → List Delivery
-parcels cs = map (λ c. c.1) cs
+-- what a console has sent for the universe of a receiver
+abbrev pub ours : World → ℕ → ℕ → List Event → List Packet
+ours w r i past = sent w i (universe_at w r) past
 
-abbrev pub arrival : World → ℕ → Coming → Arrival
-arrival w r c = record {
-  moment = c.1.moment;
-  datagram = packet_bytes (console_at w c.0).source (universe_at w r) c.1.k c.1.packet;
+-- the deliveries of one console
+abbrev own : ℕ → List Coming → List Delivery
+own i [] = []
+own i (c ∷ cs) = if nat_eq c.0 i then c.1 ∷ own i cs else own i cs
+
+-- a delivery as it arrives from console i, and all of them
+abbrev arrival : World → ℕ → ℕ → Delivery → Arrival
+arrival w r i d = record {
+  moment = d.moment;
+  datagram = packet_bytes (source_of w i) (universe_at w r) d.k d.packet;
 }
 
-abbrev pub arrivals : World → ℕ → List Coming → List Arrival
-arrivals w r cs = map (arrival w r) cs
+abbrev arrivals : World → ℕ → List Coming → List Arrival
+arrivals w r cs = map (λ c. arrival w r c.0 c.1) cs
 
--- none is after moment t, nor after the one that came next
+-- the history that they leave
+abbrev left : World → ℕ → List Arrival → List Entry
+left w r arrivals = heard_all 4 (universe_at w r) arrivals
+
+-- of these moments none is after t, nor after the one before it in the list
+abbrev AreInTime : ℕ → List ℕ → Type 0
+AreInTime t [] = Unit {0}
+AreInTime t (m ∷ ms) = (m ≤ t) × AreInTime m ms
+
 abbrev pub IsInTime : ℕ → List Delivery → Type 0
-IsInTime t [] = Unit {0}
-IsInTime t (d ∷ ds) = (d.moment ≤ t) × IsInTime d.moment ds
+IsInTime t ds = AreInTime t (map (λ d. d.moment) ds)
 
-pub later_too : (s t : ℕ) (ds : List Delivery) → s ≤ t → IsInTime s ds → IsInTime t ds
+later_too : (s t : ℕ) (ms : List ℕ) → s ≤ t → AreInTime s ms → AreInTime t ms
 later_too s t [] l h = tt
-later_too s t (d ∷ ds) l h = (omega (arith, h.0), h.1)
+later_too s t (m ∷ ms) l h = (omega (arith, h.0), h.1)
 
-own_in_time : (i t : ℕ) (cs : List Coming) → IsInTime t (parcels cs)
-    → IsInTime t (parcels (own i cs))
+own_in_time : (i t : ℕ) (cs : List Coming) → AreInTime t (map (λ c. c.1.moment) cs)
+    → IsInTime t (own i cs)
 own_in_time i t [] h = tt
 own_in_time i t (c ∷ cs) h =
-    cond_both (nat_eq c.0 i) (c ∷ own i cs) (own i cs) (λ l. IsInTime t (parcels l))
+    cond_both (nat_eq c.0 i) (c.1 ∷ own i cs) (own i cs) (IsInTime t)
     (λ _. (h.0, own_in_time i c.1.moment cs h.1))
-    (λ _. later_too c.1.moment t (parcels (own i cs)) h.0 (own_in_time i c.1.moment cs h.1))
+    (λ _. later_too c.1.moment t _ h.0 (own_in_time i c.1.moment cs h.1))
+
+own_from : (i : ℕ) (d : Delivery) (cs : List Coming) → In d (own i cs) → In (i, d) cs
+own_from i d [] h = absurd h
+own_from i d (c ∷ cs) h = by_test (nat_eq c.0 i) (λ q. elim (rw q at h) [
+  | inl s ↦ inl (λ k. (sym (eqb-true c.0 i q) k, s k))
+  | inr m ↦ inr (own_from i d cs m)
+]) (λ q. inr (own_from i d cs (rw q at h)))
 
 -- ---- what came
 
 -- these came until moment t: they are of those sent, of each console those delivered, and all of
 -- them together, or those of one console, leave these histories
-pub record Came (w : World) (r t : ℕ) (ps : ℕ → List Packet) (ds : ℕ → List Delivery)
+record Came (w : World) (r t : ℕ) (ps : ℕ → List Packet) (ds : ℕ → List Delivery)
     (by : List Entry) (from : ℕ → List Entry) : Type 0 where
-  pub cs : List Coming
-  pub in_time : IsInTime t (parcels cs)
-  pub were_sent : (c : Coming) → In c cs
+  cs : List Coming
+  in_time : AreInTime t (map (λ c. c.1.moment) cs)
+  were_sent : (c : Coming) → In c cs
       → (c.0 < length w.consoles) × (slice_get (ps c.0) c.1.k ≡ Some c.1.packet)
-  pub ds_are : (i : ℕ) → ds i ≡ parcels (own i cs)
-  pub by_is : by ≡ heard_all 4 (universe_at w r) (arrivals w r cs)
-  pub from_is : (i : ℕ) → from i ≡ heard_all 4 (universe_at w r) (arrivals w r (own i cs))
+  ds_are : (i : ℕ) → ds i ≡ own i cs
+  by_is : by ≡ left w r (arrivals w r cs)
+  from_is : (i : ℕ) → from i ≡ left w r (map (arrival w r i) (ds i))
 
 -- after these events
-abbrev pub CameAfter : World → ℕ → List Event → Type 0
-CameAfter w r past = Came w r (last_moment past) (λ j. sent w j (universe_at w r) past)
+abbrev CameAfter : World → ℕ → List Event → Type 0
+CameAfter w r past = Came w r (last_moment past) (λ j. ours w r j past)
     (λ i. delivered w r i past) (accepted_by w r past) (λ i. accepted_from w r i past)
 
 module _ (w : World) (v : IsWorld w) (r : ℕ) (e : Event) (past : List Event)
     (after : last_moment past ≤ e.moment) (n : CameAfter w r past) where
-  -- what an event may leave
-  abbrev Leaves : (ℕ → List Delivery) → List Entry → (ℕ → List Entry) → Type 0
-  Leaves = Came w r e.moment (λ j. sent w j (universe_at w r) (e ∷ past))
-
-  -- nothing: a datagram that is none for the receiver, or is not heard by it
+  -- what an event may leave: nothing
   nothing : (by : List Entry) (from : ℕ → List Entry) → by ≡ accepted_by w r past
-      → ((i : ℕ) → from i ≡ accepted_from w r i past) → Leaves (λ i. delivered w r i past) by from
+      → ((i : ℕ) → from i ≡ accepted_from w r i past)
+      → Came w r e.moment (λ j. ours w r j (e ∷ past)) (λ i. delivered w r i past) by from
   nothing by from same alike = record {
     cs = n.cs;
-    in_time = later_too (last_moment past) e.moment (parcels n.cs) after n.in_time;
+    in_time = later_too (last_moment past) e.moment _ after n.in_time;
     were_sent = λ c i. let s = n.were_sent c i in (
       s.0,
-      sent_stays w c.0 (universe_at w r) c.1.k e past c.1.packet s.1,
+      sent_stays w c.0 (universe_at w r) c.1.k past c.1.packet s.1 e,
     );
     ds_are = n.ds_are;
     by_is = same ∙ n.by_is;
     from_is = λ i. alike i ∙ n.from_is i;
   }
 
+  -- as a datagram that is not for the receiver, or is not heard by it
   ignored : (bytes : List ℕ) → is_some (not_heard (universe_at w r) bytes) ≡ true
       → (b : Bool) (h : List Entry)
       → hears (universe_at w r) e.moment (if b then Some bytes else None) h ≡ h
   ignored bytes s true h = unheard_left (universe_at w r) h e.moment bytes s
   ignored bytes s false h = refl
 
-  -- a packet of its universe, from console j
+  -- or a packet of its universe, from console j
   packet : (j k : ℕ) (p : Packet) → j < length w.consoles
-      → slice_get (sent w j (universe_at w r) past) k ≡ Some p
-      → Leaves (λ i. if nat_eq j i then delivered_more k e.moment
-      (slice_get (sent w i (universe_at w r) past) k) (delivered w r i past)
-      else delivered w r i past)
-      (heard 4 (universe_at w r) (accepted_by w r past) e.moment
-      (packet_bytes (console_at w j).source (universe_at w r) k p))
+      → slice_get (ours w r j past) k ≡ Some p
+      → Came w r e.moment (λ i. ours w r i (e ∷ past))
+      (λ i. if nat_eq j i then delivered_more k e.moment (slice_get (ours w r i past) k)
+      (delivered w r i past) else delivered w r i past)
+      (hears (universe_at w r) e.moment (Some
+      (packet_bytes (source_of w j) (universe_at w r) k p)) (accepted_by w r past))
       (λ i. hears (universe_at w r) e.moment (if nat_eq j i then Some
-      (packet_bytes (console_at w j).source (universe_at w r) k p) else None)
-      (accepted_from w r i past))
+      (packet_bytes (source_of w j) (universe_at w r) k p) else None) (accepted_from w r i past))
   packet j k p there at =
       let m = nothing (accepted_by w r past) (λ i. accepted_from w r i past) refl (λ i. refl) in
-      let c : Coming = (j, record { k = k; moment = e.moment; packet = p }) in
+      let d : Delivery = record { k = k; moment = e.moment; packet = p } in
+      let here = λ (i : ℕ) (q : nat_eq j i ≡ true).
+      subst (λ i. slice_get (ours w r i past) k ≡ Some p) (eqb-true j i q) at in
       record {
-        cs = c ∷ m.cs;
+        cs = (j, d) ∷ m.cs;
         in_time = (omega arith, m.in_time);
-        were_sent = λ x i. elim i [
+        were_sent = λ c i. elim i [
           | inl s ↦
-              subst (λ (x : Coming). (x.0 < length w.consoles)
-              × (slice_get (sent w x.0 (universe_at w r) (e ∷ past)) x.1.k ≡ Some x.1.packet))
-              (sym s) (there, sent_stays w j (universe_at w r) k e past p at)
-          | inr o ↦ m.were_sent x o
+              subst (λ (c : Coming). (c.0 < length w.consoles)
+              × (slice_get (ours w r c.0 (e ∷ past)) c.1.k ≡ Some c.1.packet)) (sym s)
+              (there, sent_stays w j (universe_at w r) k past p at e)
+          | inr o ↦ m.were_sent c o
         ];
         ds_are = λ i. by_test (nat_eq j i)
-            (λ q. let here : slice_get (sent w i (universe_at w r) past) k ≡ Some p =
-            subst (λ i. slice_get (sent w i (universe_at w r) past) k ≡ Some p) (eqb-true j i q) at
-            in rw q (ap (λ o. delivered_more k e.moment o (delivered w r i past)) here
-            ∙ ap (λ ds. c.1 ∷ ds) (m.ds_are i)))
-            (λ q. rw q (m.ds_are i));
-        by_is = ap (λ h. heard 4 (universe_at w r) h e.moment (arrival w r c).datagram) m.by_is;
+            (λ q. rw (q, here i q) (ap (λ ds. d ∷ ds) (m.ds_are i))) (λ q. rw q (m.ds_are i));
+        by_is = ap (λ h. heard 4 (universe_at w r) h e.moment (arrival w r j d).datagram) m.by_is;
         from_is = λ i. by_test (nat_eq j i)
-            (λ q. rw q (ap (λ h. heard 4 (universe_at w r) h e.moment (arrival w r c).datagram)
-            (m.from_is i)))
-            (λ q. rw q (m.from_is i));
+            (λ q. rw (q, here i q, eqb-true j i q) (ap (λ h. heard 4 (universe_at w r) h e.moment
+            (arrival w r i d).datagram) (m.from_is i))) (λ q. rw q (m.from_is i));
       }
 
-  deliver : (q j x k : ℕ) → IsDelivered w past j x k → (b c : Bool) → nat_eq x (universe_at w r) ≡ c
-      → Leaves (λ i. if (b && c) && nat_eq j i then delivered_more k e.moment
-      (slice_get (sent w i (universe_at w r) past) k) (delivered w r i past)
-      else delivered w r i past)
-      (hears (universe_at w r) e.moment (if b then datagram w j x k past else None)
-      (accepted_by w r past))
-      (λ i. hears (universe_at w r) e.moment (if b && nat_eq j i then datagram w j x k past else None)
-      (accepted_from w r i past))
-  deliver q j x k d false c s = nothing _ _ refl (λ i. refl)
-  deliver q j x k d true false s =
-      let bytes : List ℕ = packet_bytes (console_at w j).source x k d.packet in
-      let none : is_some (not_heard (universe_at w r) bytes) ≡ true =
-      unheard_there (console_at w j).source x k d.packet
-      (sent_is w j x k past d.packet (v j d.there) d.is_sent) (universe_at w r) s in
-      rw d.is_sent (nothing _ _ (ignored bytes none true (accepted_by w r past))
-      (λ i. ignored bytes none (nat_eq j i) (accepted_from w r i past)))
-  deliver q j x k d true true s =
-      let same : x ≡ universe_at w r = eqb-true x (universe_at w r) s in
-      let here : slice_get (sent w j (universe_at w r) past) k ≡ Some d.packet =
-      subst (λ x. slice_get (sent w j x past) k ≡ Some d.packet) same d.is_sent in
-      rw (same, here) (packet j k d.packet d.there here)
-
   leaves : (x : What) → missing w past x ≡ None → IsUnheard w r x
-      → Leaves (λ i. delivered_by w r i past e.moment x (delivered w r i past))
+      → Came w r e.moment (λ j. ours w r j (e ∷ past))
+      (λ i. delivered_by w r i past e.moment x (delivered w r i past))
       (hears (universe_at w r) e.moment (handed w r past x) (accepted_by w r past))
       (λ i. hears (universe_at w r) e.moment (handed_from w r i past x) (accepted_from w r i past))
   leaves (Deliver q j x k) m s =
-      deliver q j x k (deliverer w past q j x k m) (nat_eq q r) (nat_eq x (universe_at w r)) refl
+      let d = deliverer w past q j x k m in
+      let bytes : List ℕ = packet_bytes (source_of w j) x k d.packet in
+      by_test (nat_eq q r) (λ b. by_test (nat_eq x (universe_at w r)) (λ c.
+      let same : x ≡ universe_at w r = eqb-true x (universe_at w r) c in
+      let here : slice_get (ours w r j past) k ≡ Some d.packet =
+      subst (λ x. slice_get (sent w j x past) k ≡ Some d.packet) same d.is_sent in
+      rw (b, c, same, here) (packet j k d.packet d.there here)) (λ c.
+      let none : is_some (not_heard (universe_at w r) bytes) ≡ true =
+      unheard_there (source_of w j) x k d.packet
+      (sent_is w j x k past d.packet d.is_sent (v j d.there)) (universe_at w r) c in
+      rw (b, c, d.is_sent) (nothing _ _ (ignored bytes none true (accepted_by w r past))
+      (λ i. ignored bytes none (nat_eq j i) (accepted_from w r i past)))))
+      (λ b. rw b (nothing _ _ refl (λ i. refl)))
   leaves (Stray q from to) m s =
       by_test (nat_eq q r) (λ b. rw b (nothing _ _ (ignored (slice_range w.strays from to)
       (s (eqb-true q r b)) true (accepted_by w r past)) (λ i. refl)))
       (λ b. rw b (nothing _ _ refl (λ i. refl)))
   leaves _ m s = nothing _ _ refl (λ i. refl)
 
-pub came : (w : World) → IsWorld w → (r : ℕ) (past : List Event) → IsRun w past → NoStray w r past
+came : (w : World) → IsWorld w → (r : ℕ) (past : List Event) → IsRun w past → NoStray w r past
     → CameAfter w r past
 came w v r [] run n = record {
   cs = [];
@@ -206,20 +211,37 @@ came w v r (e ∷ past) run n =
     let s = timely w past e run.0 in
     leaves w v r e past s.after (came w v r past run.1 n.1) e.what s.there n.0
 
--- ---- what came of one console, and of all
-
--- the source of a console, and its CID
-abbrev pub source_of : World → ℕ → Identity
-source_of w i = (console_at w i).source
-
 -- what is accepted came
-pub In_accepted : (e : Entry) (es : List Entry) → In e (accepted 4 es) → In e es
+In_accepted : (e : Entry) (es : List Entry) → In e (accepted 4 es) → In e es
 In_accepted e [] i = i
 In_accepted e (x ∷ es) i =
     cond_both (is_accepted 4 (accepted 4 es) x.moment x.cid x.number) (x ∷ accepted 4 es)
     (accepted 4 es) (λ l. In e l → In e (x ∷ es))
     (λ _ j. elim j [ inl s ↦ inl s | inr k ↦ inr (In_accepted e es k) ])
     (λ _ j. inr (In_accepted e es j)) i
+
+-- the history is what the source rule accepts, where all is heard
+module _ {A : Type 0} (u : ℕ) (f : A → Arrival) (g : A → Entry) where
+  never_fall : (t : ℕ) (xs : List A) → AreInTime t (map (λ x. (f x).moment) xs)
+      → NeverFall (map f xs) × (last_arrival (map f xs) ≤ t)
+  never_fall t [] h = (tt, omega arith)
+  never_fall t (x ∷ xs) h = let m = never_fall (f x).moment xs h.1 in ((m.1, m.0), h.0)
+
+  heard_are : (xs : List A) → ((x : A) → In x xs → (not_heard u (f x).datagram ≡ None)
+      × (entry_of (f x).moment (front_packet (f x).datagram) ≡ g x))
+      → packets_heard u (map f xs) ≡ map g xs
+  heard_are [] h = refl
+  heard_are (x ∷ xs) h = let s = h x (inl refl) in
+      rw s.0 (simp s.1 (ap (λ l. g x ∷ l) (heard_are xs (λ y m. h y (inr m)))))
+
+  accepted_are : (t : ℕ) (xs : List A) → AreInTime t (map (λ x. (f x).moment) xs)
+      → ((x : A) → In x xs → (not_heard u (f x).datagram ≡ None)
+      × (entry_of (f x).moment (front_packet (f x).datagram) ≡ g x))
+      → heard_all 4 u (map f xs) ≡ accepted 4 (map g xs)
+  accepted_are t xs h are = heard_accepted 4 u (map f xs) (never_fall t xs h).0
+      ∙ ap (accepted 4) (heard_are xs are)
+
+-- ---- what came of one console, and of all
 
 module _ (w : World) (v : IsWorld w) (r : ℕ) (past : List Event) (run : IsRun w past)
     (no_stray : NoStray w r past) where
@@ -230,94 +252,75 @@ module _ (w : World) (v : IsWorld w) (r : ℕ) (past : List Event) (run : IsRun 
   were_in_time i = rw (n.ds_are i) (own_in_time i (last_moment past) n.cs n.in_time)
 
   abbrev WasSent : ℕ → Delivery → Type 0
-  WasSent i d = (i < length w.consoles)
-      × (slice_get (sent w i (universe_at w r) past) d.k ≡ Some d.packet)
+  WasSent i d = (i < length w.consoles) × (slice_get (ours w r i past) d.k ≡ Some d.packet)
 
   pub were_sent : (i : ℕ) (d : Delivery) → In d (delivered w r i past) → WasSent i d
-  were_sent i d h =
-      let m = In_mapped (λ (c : Coming). c.1) d (own i n.cs) (rw (n.ds_are i) at h) in
-      let f = In_filtered (λ (c : Coming). nat_eq c.0 i) m.0 n.cs m.1 in
-      subst (WasSent i) (sym m.2)
-      (subst (λ j. WasSent j m.0.1) (eqb-true m.0.0 i f.1) (n.were_sent m.0 f.0))
+  were_sent i d h = n.were_sent (i, d) (own_from i d n.cs (rw (n.ds_are i) at h))
 
-  sendable : (c : Coming) → In c n.cs
-      → IsSendable (source_of w c.0) (universe_at w r) c.1.packet
-  sendable c i = let s = n.were_sent c i in
-      sent_is w c.0 (universe_at w r) c.1.k past c.1.packet (v c.0 s.0) s.1
+  sendable : (i : ℕ) (d : Delivery) → WasSent i d
+      → IsSendable (source_of w i) (universe_at w r) d.packet
+  sendable i d s = sent_is w i (universe_at w r) d.k past d.packet s.1 (v i s.0)
+
+  is_heard_as : (i : ℕ) (d : Delivery) → WasSent i d
+      → (not_heard (universe_at w r) (arrival w r i d).datagram ≡ None)
+      × (entry_of d.moment (front_packet (arrival w r i d).datagram) ≡ entry (source_of w i) d)
+  is_heard_as i d s = let is = sendable i d s in (
+    heard_here (source_of w i) (universe_at w r) d.k d.packet is,
+    entry_is (source_of w i) (universe_at w r) d.k d.packet is d.moment,
+  )
+
+  pub from_one : (i : ℕ) → accepted_from w r i past
+      ≡ accepted 4 (map (entry (source_of w i)) (delivered w r i past))
+  from_one i = n.from_is i ∙ accepted_are (universe_at w r) (arrival w r i)
+      (entry (source_of w i)) (last_moment past) (delivered w r i past) (were_in_time i)
+      (λ d m. is_heard_as i d (were_sent i d m))
 
   abbrev entry_at : Coming → Entry
   entry_at c = entry (source_of w c.0) c.1
 
-  -- the history is what the source rule accepts of them
-  heard_are : (cs : List Coming) → ((c : Coming) → In c cs → In c n.cs)
-      → packets_heard (universe_at w r) (arrivals w r cs) ≡ map entry_at cs
-  heard_are [] h = refl
-  heard_are (c ∷ cs) h =
-      let s = sendable c (h c (inl refl)) in
-      rw (heard_here (source_of w c.0) (universe_at w r) c.1.k c.1.packet s)
-      (simp (entry_is (source_of w c.0) (universe_at w r) c.1.k c.1.packet s c.1.moment)
-      (ap (λ l. entry_at c ∷ l) (heard_are cs (λ c i. h c (inr i)))))
-
-  never_fall : (t : ℕ) (cs : List Coming) → IsInTime t (parcels cs)
-      → NeverFall (arrivals w r cs) × (last_arrival (arrivals w r cs) ≤ t)
-  never_fall t [] h = (tt, omega arith)
-  never_fall t (c ∷ cs) h = let m = never_fall c.1.moment cs h.1 in ((m.1, m.0), h.0)
-
-  accepted_of : (cs : List Coming) → ((c : Coming) → In c cs → In c n.cs)
-      → IsInTime (last_moment past) (parcels cs)
-      → heard_all 4 (universe_at w r) (arrivals w r cs) ≡ accepted 4 (map entry_at cs)
-  accepted_of cs h time =
-      heard_accepted 4 (universe_at w r) (arrivals w r cs) (never_fall _ cs time).0
-      ∙ ap (accepted 4) (heard_are cs h)
-
-  own_entries : (i : ℕ) (cs : List Coming)
-      → map entry_at (own i cs) ≡ map (entry (source_of w i)) (parcels (own i cs))
-  own_entries i [] = refl
-  own_entries i (c ∷ cs) = by_test (nat_eq c.0 i)
-      (λ q. rw q (ap (λ l. entry_at c ∷ l) (own_entries i cs)
-      ∙ ap (λ j. entry (source_of w j) c.1 ∷ map (entry (source_of w i)) (parcels (own i cs)))
-      (eqb-true c.0 i q)))
-      (λ q. rw q (own_entries i cs))
-
-  pub from_one : (i : ℕ) → accepted_from w r i past
-      ≡ accepted 4 (map (entry (source_of w i)) (delivered w r i past))
-  from_one i = n.from_is i ∙ accepted_of (own i n.cs)
-      (λ c m. (In_filtered (λ (c : Coming). nat_eq c.0 i) c n.cs m).0)
-      (own_in_time i (last_moment past) n.cs n.in_time)
-      ∙ ap (accepted 4) (own_entries i n.cs
-      ∙ ap (map (entry (source_of w i))) (sym (n.ds_are i)))
-
-  -- what is found in the history is from a console
+  -- what is accepted is from a console
   pub from_console : (e : Entry) → In e (accepted_by w r past)
       → (j : ℕ) × (j < length w.consoles) × ((source_of w j).cid ≡ e.cid)
-      × ((sent w j (universe_at w r) past ≡ []) → ⊥)
   from_console e i =
-      let m = In_mapped entry_at e n.cs (In_accepted e (map entry_at n.cs)
-      (rw (n.by_is, accepted_of n.cs (λ c i. i) n.in_time) at i)) in
-      let s = n.were_sent m.0 m.1 in (
-        m.0.0,
-        s.0,
-        ap (λ (x : Entry). x.cid) (sym m.2),
-        λ none. let z : None ≡ Some m.0.1.packet =
-            sym (ap (λ (ps : List Packet). slice_get ps m.0.1.k) none) ∙ s.1 in cc,
-      )
+      let m = In_mapped entry_at e n.cs (In_accepted e (map entry_at n.cs) (rw (
+        n.by_is,
+        accepted_are (universe_at w r) (λ (c : Coming). arrival w r c.0 c.1) entry_at
+            (last_moment past) n.cs n.in_time (λ c m. is_heard_as c.0 c.1 (n.were_sent c m)),
+      ) at i)) in
+      (m.0.0, (n.were_sent m.0 m.1).0, ap (λ (x : Entry). x.cid) (sym m.2))
+
+  pub from_alone : (i : ℕ) (e : Entry) → In e (accepted_from w r i past)
+      → (source_of w i).cid ≡ e.cid
+  from_alone i e m =
+      let d = In_mapped (entry (source_of w i)) e (delivered w r i past) (In_accepted e _
+      (rw (from_one i) at m)) in ap (λ (x : Entry). x.cid) (sym d.2)
+
+  -- some of them are those of console i, where they are told by a test
+  own_arrivals : (p : Arrival → Bool) (i : ℕ) (cs : List Coming)
+      → ((c : Coming) → In c cs → p (arrival w r c.0 c.1) ≡ nat_eq c.0 i)
+      → filter p (arrivals w r cs) ≡ map (arrival w r i) (own i cs)
+  own_arrivals p i [] h = refl
+  own_arrivals p i (c ∷ cs) h =
+      let ih = own_arrivals p i cs (λ d m. h d (inr m)) in
+      by_test (nat_eq c.0 i) (λ q. rw (h c (inl refl), q)
+      (ap (λ l. arrival w r c.0 c.1 ∷ l) ih
+      ∙ ap (λ j. arrival w r j c.1 ∷ map (arrival w r i) (own i cs)) (eqb-true c.0 i q)))
+      (λ q. rw (h c (inl refl), q) ih)
 
   -- one console alone
-  own_all : (i : ℕ) (cs : List Coming) → ((c : Coming) → In c cs → nat_eq c.0 i ≡ true)
-      → own i cs ≡ cs
-  own_all i [] h = refl
-  own_all i (c ∷ cs) h = rw (h c (inl refl)) (ap (λ l. c ∷ l) (own_all i cs (λ d m. h d (inr m))))
-
   pub all_from : (i : ℕ) → IsAlone w r i past → accepted_by w r past ≡ accepted_from w r i past
-  all_from i alone = n.by_is
-      ∙ ap (λ cs. heard_all 4 (universe_at w r) (arrivals w r cs)) (sym (own_all i n.cs is_own))
+  all_from i alone = n.by_is ∙ ap (left w r) (sym (filter_true (arrivals w r n.cs))
+      ∙ own_arrivals (λ _. true) i n.cs is_own ∙ ap (map (arrival w r i)) (sym (n.ds_are i)))
       ∙ sym (n.from_is i)
     where
-      is_own : (c : Coming) → In c n.cs → nat_eq c.0 i ≡ true
-      is_own c m = by_test (nat_eq c.0 i) (λ q. q) (λ q.
-          let s = n.were_sent c m in
-          let z : None ≡ Some c.1.packet =
-          sym (ap (λ (ps : List Packet). slice_get ps c.1.k) (alone c.0 s.0 q)) ∙ s.1 in cc)
+      filter_true : (arrivals : List Arrival) → filter (λ _. true) arrivals ≡ arrivals
+      filter_true [] = refl
+      filter_true (a ∷ older) = ap (λ l. a ∷ l) (filter_true older)
+
+      is_own : (c : Coming) → In c n.cs → true ≡ nat_eq c.0 i
+      is_own c m = by_test (nat_eq c.0 i) sym (λ q. let s = n.were_sent c m in
+          absurd (none-some c.1.packet (sym (ap (λ (ps : List Packet). slice_get ps c.1.k)
+          (alone c.0 s.0 q)) ∙ s.1)))
 
   -- at most four consoles with CIDs of their own
   module _ (apart : CidsDiffer w) (few : length w.consoles ≤ 4) where
@@ -327,37 +330,47 @@ module _ (w : World) (v : IsWorld w) (r : ℕ) (past : List Event) (run : IsRun 
     few_cids : length cids ≤ 4
     few_cids = simp length-map few
 
-    a_cid : (i : ℕ) → i < length w.consoles → Contains cids (source_of w i).cid
-    a_cid i l = (i, simp length-map l, get_or-map (λ (p : Production). p.source.cid) w.consoles i
-        no_console _ l)
+    -- the arrival of a packet of console i is from one of them
+    abbrev IsFromThese : Arrival → Type 0
+    IsFromThese a = IsTrue (is_heard (universe_at w r) a)
+        → Contains cids (front_packet a.datagram).fields.cid
 
-    own_arrivals : (i : ℕ) → i < length w.consoles → (cs : List Coming)
-        → ((c : Coming) → In c cs → In c n.cs)
-        → filter (is_from (source_of w i).cid) (arrivals w r cs) ≡ arrivals w r (own i cs)
-    own_arrivals i l [] h = refl
-    own_arrivals i l (c ∷ cs) h =
-        let m = h c (inl refl) in
-        let of : is_from (source_of w i).cid (arrival w r c)
-        ≡ bytes_eq (source_of w i).cid (source_of w c.0).cid =
-        ap (bytes_eq (source_of w i).cid)
-        (cid_is (source_of w c.0) (universe_at w r) c.1.k c.1.packet (sendable c m)) in
-        by_test (nat_eq c.0 i)
-        (λ q. let yes : is_from (source_of w i).cid (arrival w r c) ≡ true = of
-        ∙ ap (λ j. bytes_eq (source_of w i).cid (source_of w j).cid) (eqb-true c.0 i q)
-        ∙ nat_list_eq_equiv.refl (source_of w i).cid in
-        rw (yes, q) (ap (λ l. arrival w r c ∷ l) (own_arrivals i l cs (λ c i. h c (inr i)))))
-        (λ q. let no : is_from (source_of w i).cid (arrival w r c) ≡ false = of
-        ∙ apart i c.0 l (n.were_sent c m).0 q in
-        rw (no, q) (own_arrivals i l cs (λ c i. h c (inr i))))
+    is_from_these : (i : ℕ) (a : Arrival) → i < length w.consoles
+        → (front_packet a.datagram).fields.cid ≡ (source_of w i).cid → IsFromThese a
+    is_from_these i a l e = λ _. rw e (
+      i,
+      simp length-map l,
+      get_or-map (λ (p : Production). p.source.cid) w.consoles i no_console _ l,
+    )
+
+    cid_at : (c : Coming) → In c n.cs
+        → (front_packet (arrival w r c.0 c.1).datagram).fields.cid ≡ (source_of w c.0).cid
+    cid_at c m = cid_is (source_of w c.0) (universe_at w r) c.1.k c.1.packet
+        (sendable c.0 c.1 (n.were_sent c m))
 
     from_these : HeardAreFrom cids (universe_at w r) (arrivals w r n.cs)
-    from_these = All-map (λ a. IsTrue (is_heard (universe_at w r) a) → Contains cids
-        (front_packet a.datagram).fields.cid) (arrival w r) n.cs
-        (λ k d l. let at = Contains-get_or n.cs k d l in
-        let m = in_from_place (get_or n.cs k d) n.cs at.0 at.1 at.2 in
-        λ _. rw (cid_is (source_of w (get_or n.cs k d).0) (universe_at w r)
-        (get_or n.cs k d).1.k (get_or n.cs k d).1.packet (sendable (get_or n.cs k d) m))
-        (a_cid (get_or n.cs k d).0 (n.were_sent (get_or n.cs k d) m).0))
+    from_these = All-map IsFromThese (λ (c : Coming). arrival w r c.0 c.1) n.cs (λ k d l.
+        let c : Coming = get_or n.cs k d in
+        let at = Contains-get_or n.cs k d l in
+        let m = in_from_place c n.cs at.0 at.1 at.2 in
+        is_from_these c.0 (arrival w r c.0 c.1) (n.were_sent c m).0 (cid_at c m))
+
+    in_order : NeverFall (arrivals w r n.cs) × (last_arrival (arrivals w r n.cs) ≤ last_moment past)
+    in_order = never_fall (universe_at w r) (λ (c : Coming). arrival w r c.0 c.1) entry_at _ n.cs
+        n.in_time
+
+    own_left : (i : ℕ) → i < length w.consoles
+        → left w r (filter (is_from (source_of w i).cid) (arrivals w r n.cs))
+        ≡ accepted_from w r i past
+    own_left i l = ap (left w r) (own_arrivals (is_from (source_of w i).cid) i n.cs is_own
+        ∙ ap (map (arrival w r i)) (sym (n.ds_are i))) ∙ sym (n.from_is i)
+      where
+        is_own : (c : Coming) → In c n.cs
+            → is_from (source_of w i).cid (arrival w r c.0 c.1) ≡ nat_eq c.0 i
+        is_own c m = ap (bytes_eq (source_of w i).cid) (cid_at c m) ∙ by_test (nat_eq c.0 i)
+            (λ q. ap (λ j. bytes_eq (source_of w i).cid (source_of w j).cid) (eqb-true c.0 i q)
+            ∙ nat_list_eq_equiv.refl (source_of w i).cid ∙ sym q)
+            (λ q. apart i c.0 l (n.were_sent c m).0 q ∙ sym q)
 
     -- what is kept of a console is what its own deliveries leave
     pub follows : (i : ℕ) → i < length w.consoles
@@ -365,48 +378,30 @@ module _ (w : World) (v : IsWorld w) (r : ℕ) (past : List Event) (run : IsRun 
         ≡ find (same_cid (source_of w i).cid) (accepted_from w r i past)
     follows i l = ap (find (same_cid (source_of w i).cid)) n.by_is
         ∙ records_independent 4 (universe_at w r) cids (arrivals w r n.cs) few_cids from_these
-        (never_fall _ n.cs n.in_time).0 (source_of w i).cid
-        ∙ ap (λ hs. find (same_cid (source_of w i).cid) (heard_all 4 (universe_at w r) hs))
-        (own_arrivals i l n.cs (λ c m. m))
-        ∙ ap (find (same_cid (source_of w i).cid)) (sym (n.from_is i))
+        in_order.0 (source_of w i).cid
+        ∙ ap (find (same_cid (source_of w i).cid)) (own_left i l)
 
-    same_answer : (i x k t : ℕ) (p : Packet) → i < length w.consoles → last_moment past ≤ t
-        → slice_get (sent w i x past) k ≡ Some p
-        → answer 4 (universe_at w r) (accepted_by w r past) t (packet_bytes (source_of w i) x k p)
-        ≡ answer 4 (universe_at w r) (accepted_from w r i past) t
-        (packet_bytes (source_of w i) x k p)
-    same_answer i x k t p l time at =
-        let a : Arrival = record {
-          moment = t;
-          datagram = packet_bytes (source_of w i) x k p;
-        } in
-        let cid = cid_is (source_of w i) x k p (sent_is w i x k past p (v i l) at) in
-        let falls = never_fall _ n.cs n.in_time in
-        ap (λ h. answer 4 (universe_at w r) h t a.datagram) n.by_is
+    same_answer : (i t : ℕ) (bytes : List ℕ) → i < length w.consoles → last_moment past ≤ t
+        → (front_packet bytes).fields.cid ≡ (source_of w i).cid
+        → answer 4 (universe_at w r) (accepted_by w r past) t bytes
+        ≡ answer 4 (universe_at w r) (accepted_from w r i past) t bytes
+    same_answer i t bytes l time cid =
+        let a : Arrival = record { moment = t; datagram = bytes } in
+        ap (λ h. answer 4 (universe_at w r) h t bytes) n.by_is
         ∙ answers_independent 4 (universe_at w r) cids a (arrivals w r n.cs) few_cids
-        (All-cons (λ a. IsTrue (is_heard (universe_at w r) a) → Contains cids
-        (front_packet a.datagram).fields.cid) a (arrivals w r n.cs)
-        (λ _. rw cid (a_cid i l)) from_these) (omega (arith, falls.1, time), falls.0)
-        ∙ ap (λ cid. answer 4 (universe_at w r) (heard_all 4 (universe_at w r)
-        (filter (is_from cid) (arrivals w r n.cs))) t a.datagram) cid
-        ∙ ap (λ hs. answer 4 (universe_at w r) (heard_all 4 (universe_at w r) hs) t a.datagram)
-        (own_arrivals i l n.cs (λ c m. m))
-        ∙ ap (λ h. answer 4 (universe_at w r) h t a.datagram) (sym (n.from_is i))
+        (All-cons IsFromThese a (arrivals w r n.cs) (is_from_these i a l cid) from_these)
+        (omega (arith, in_order.1, time), in_order.0)
+        ∙ ap (λ h. answer 4 (universe_at w r) h t bytes) (ap (λ cid. left w r
+        (filter (is_from cid) (arrivals w r n.cs))) cid ∙ own_left i l)
 
 pub consoles_independent : ConsolesAreIndependent
 consoles_independent w events r i x k t bytes v apart few l time no_stray is =
-    go (slice_get (sent w i x past) k) refl is
+    same_answer w v r (done w events) (done_runs w events) no_stray apart few i t bytes l time
+    (of_packet (slice_get (sent w i x (done w events)) k) refl is)
   where
-    past : List Event
-    past = done w events
-
-    go : (o : Option Packet) → slice_get (sent w i x past) k ≡ o
+    of_packet : (o : Option Packet) → slice_get (sent w i x (done w events)) k ≡ o
         → option_map (packet_bytes (source_of w i) x k) o ≡ Some bytes
-        → answer 4 (universe_at w r) (accepted_by w r past) t bytes
-        ≡ answer 4 (universe_at w r) (accepted_from w r i past) t bytes
-    go None e s = cc
-    go (Some p) e s =
-        subst (λ bytes. answer 4 (universe_at w r) (accepted_by w r past) t bytes
-        ≡ answer 4 (universe_at w r) (accepted_from w r i past) t bytes)
-        (same_Some (packet_bytes (source_of w i) x k p) bytes s)
-        (same_answer w v r past (done_runs w events) no_stray apart few i x k t p l time e)
+        → (front_packet bytes).fields.cid ≡ (source_of w i).cid
+    of_packet None e s = cc
+    of_packet (Some p) e s = rw (sym (same_Some (packet_bytes (source_of w i) x k p) bytes s))
+        (cid_is (source_of w i) x k p (sent_is w i x k (done w events) p e (v i l)))

@@ -2,12 +2,12 @@
 use Rattle.std.proofs.Common.{◌≡◌, ℕ, ◌+◌, ◌-◌, ◌%◌, ◌<◌, ◌≤◌, true, false, ◌||◌, ◌⊎◌, refl, ap}
 use Rattle.std.proofs.Common.{arith, sym, inl, inr, ◌∙◌, List, [], ◌∷◌, map, length, Some, None}
 use Rattle.std.specs.Prelude.{nat_lt, nat_le, find}
-use Rattle.std.proofs.lemmas.Bool.{cases_lt, cond-true, cond-false, lt-ltb, le-ltb}
+use Rattle.std.proofs.lemmas.Bool.{cases_lt, cases_order, cond-true, cond-false, lt-ltb, le-ltb}
 use Rattle.std.proofs.lemmas.Bool.Decides.{nat_tests}
 use Rattle.std.proofs.lemmas.Cmp.{nat_list_eq_equiv}
 use Rattle.sacn_source.specs.Identity.{Identity}
 use Rattle.sacn_receiver.specs.Source.{Entry, same_cid, records, while_there, record_of}
-use Rattle.sacn_receiver.specs.Source.{is_accepted}
+use Rattle.sacn_receiver.specs.Source.{is_after, is_accepted}
 use Rattle.sacn_receiver.specs.Laws.{accepted}
 use Rattle.sacn_receiver.proofs.Apart.{AllIn}
 use Rattle.sacn_receiver.proofs.Independent.{room_for, accepted_in, one_of}
@@ -15,7 +15,22 @@ use Rattle.sacn_receiver.proofs.Members.{by_test, In}
 use Rattle.wire_laws.specs.Delivery.{Delivery, newest_of, arrived, IsInWindow}
 use Rattle.wire_laws.proofs.Bytes.{entry}
 use Rattle.wire_laws.proofs.Came.{IsInTime}
-use Rattle.wire_laws.proofs.Numbers.{in_sequence}
+
+-- how far k is ahead of a, as bytes count it
+abbrev steps : ℕ → ℕ → ℕ
+steps a k = (k % 256 + 256 - a % 256) % 256
+
+-- in the window, of two packets the numbers tell which is later
+in_sequence : (a k : ℕ) → k ≤ a + 236 → a ≤ k + 19 → is_after (a % 256) (k % 256) ≡ nat_lt a k
+in_sequence a k h g =
+    elim (cases_order a k) [
+      | inl e ↦ (let s : steps a k ≡ 0 = omega arith in grind (arith, nat_tests))
+      | inr o ↦
+          elim o [
+            | inl l ↦ (let s : steps a k ≡ k - a = omega arith in grind (arith, nat_tests))
+            | inr l ↦ (let s : steps a k ≡ 256 + k - a = omega arith in grind (arith, nat_tests))
+          ]
+    ]
 
 -- what is known of the packet that is kept at moment t
 pub record Keeps (t : ℕ) (ds : List Delivery) (a : Delivery) : Type 0 where

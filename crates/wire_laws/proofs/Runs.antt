@@ -3,12 +3,14 @@ use Rattle.std.proofs.Common.{◌≡◌, ℕ, ◌<◌, ◌≤◌, ◌^◌, Bool,
 use Rattle.std.proofs.Common.{◌∷◌, length, Option, Some, None}
 use Rattle.std.specs.Prelude.{if◌then◌else◌, nat_lt, nat_le, is_some, slice_get}
 use Rattle.std.specs.List.{fold}
+use Rattle.std.specs.Option.{option_map_or}
 use Rattle.std.proofs.lemmas.Bool.{ltb-true, ltb-false, leb-false}
 use Rattle.std.proofs.lemmas.Option.{slice_get-get_or}
+use Rattle.sacn_packet.specs.Reading.{front_packet}
 use Rattle.sacn_source.specs.Stream.{Packet, last_packet}
 use Rattle.sacn_receiver.specs.declared.answer.Ignored.{Ignored}
 use Rattle.sacn_receiver.specs.Source as source
-use Rattle.sacn_receiver.specs.Taking.{ignored, heard}
+use Rattle.sacn_receiver.specs.Taking.{entry_of, ignored}
 use Rattle.wire_laws.specs.declared.event.Event.{Event}
 use Rattle.wire_laws.specs.declared.event.What.TheVariants.{Deliver}
 use Rattle.wire_laws.specs.declared.reply.Skip.{Skip}
@@ -85,18 +87,15 @@ deliverer w past r i u k h =
     go false b c p q h = cc
 
 -- a receiver's last packet is not after the last event
-heard_last : (u : ℕ) (h : List source.Entry) (t : ℕ) (d : List ℕ) → source.last_moment h ≤ t
-    → source.last_moment (heard 4 u h t d) ≤ t
-heard_last u h t d l = go (ignored 4 u h t d) refl
-  where
-    go : (o : Option Ignored) → ignored 4 u h t d ≡ o → source.last_moment (heard 4 u h t d) ≤ t
-    go None q = rw q (omega arith)
-    go (Some x) q = rw q l
-
 hears_last : (u : ℕ) (h : List source.Entry) (t : ℕ) (o : Option (List ℕ))
     → source.last_moment h ≤ t → source.last_moment (hears u t o h) ≤ t
 hears_last u h t None l = l
-hears_last u h t (Some d) l = heard_last u h t d l
+hears_last u h t (Some d) l = go (ignored 4 u h t d)
+  where
+    go : (o : Option Ignored)
+        → source.last_moment (option_map_or (λ _. h) o (entry_of t (front_packet d) ∷ h)) ≤ t
+    go None = omega arith
+    go (Some x) = l
 
 pub last_accepted : (w : World) (r : ℕ) (past : List Event) → IsRun w past
     → source.last_moment (accepted_by w r past) ≤ last_moment past

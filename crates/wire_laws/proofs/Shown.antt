@@ -1,28 +1,26 @@
 -- What receivers show: the headline, the window law and the merge law.
-use Rattle.std.proofs.Common.{◌≡◌, ℕ, suc, ◌+◌, ◌-◌, ◌*◌, ◌<◌, ◌≤◌, ◌⊎◌, Bool, true, false, not}
-use Rattle.std.proofs.Common.{◌&&◌, refl, ap, arith, sym, subst, inl, inr, ◌∙◌, List, [], ◌∷◌, map}
+use Rattle.std.proofs.Common.{◌≡◌, ℕ, suc, ◌+◌, ◌-◌, ◌<◌, ◌≤◌, ◌⊎◌, Bool, true, false, not}
+use Rattle.std.proofs.Common.{◌&&◌, refl, ap, arith, sym, subst, max, inl, inr, ◌∙◌, List, [], ◌∷◌, map}
 use Rattle.std.proofs.Common.{length, Option, Some, None}
-use Rattle.std.specs.Prelude.{nat_lt, nat_le, if◌then◌else◌, slice_index, slice_get, is_some, find}
+use Rattle.std.specs.Prelude.{nat_lt, nat_le, nat_eq, if◌then◌else◌, slice_index, slice_get, find}
 use Rattle.std.specs.Prelude.{filter, IsTrue}
 use Rattle.std.specs.List.{list_all, range_with_len}
-use Rattle.std.specs.Option.{option_map_or}
-use Rattle.std.specs.FinMap as maps
-use Rattle.std.proofs.lemmas.Bool.{and_parts, cond-false, cond_both, leb-true}
+use Rattle.std.proofs.lemmas.Bool.{and_parts, and_from, cond-true, eq-eqb, cond-false, leb-true}
 use Rattle.std.proofs.lemmas.Bool.Decides.{nat_tests}
 use Rattle.std.proofs.lemmas.List.{get_or-replicate}
-use Rattle.std.proofs.lemmas.Option.{none-some}
+use Rattle.std.proofs.lemmas.Option.{none-some, cond_some}
 use Rattle.std.proofs.lemmas.List.FromFn.{length-range_with_len, get_or-range_with_len}
-use Rattle.std.proofs.lemmas.List.FromFn.{get_or-map-range_with_len}
-use Rattle.show_core.specs.Readers.{slot_of}
-use Rattle.show_core.specs.Tables.{Tables}
-use Rattle.master_core.specs.Settings.{grand_after}
-use Rattle.patch_core.specs.Frame.{dimmer_slot, frame_of}
-use Rattle.desk_core.specs.Played.{Call, order, tick, Act, ended, settings}
-use Rattle.desk_core.specs.Meaning.{dark, frame, latest_frame, channel_level}
+use Rattle.std.proofs.lemmas.List.FromFn.{get_or-map-range_with_len, fill_by_all}
+use Rattle.desk_core.specs.Meaning.{dark}
+use Rattle.desk_core.proofs.FrameSlots.{latest_full, unpatched_latest}
 use Rattle.sacn_source.specs.Stream.{Packet}
-use Rattle.sacn_receiver.specs.Source.{Entry, same_cid, is_there}
-use Rattle.sacn_receiver.specs.Shown.{Light, light_of, merged, shown, shown_slots}
-use Rattle.sacn_receiver.proofs.Members.{by_test, In, In_mapped}
+use Rattle.console.proofs.Streams.{latest}
+use Rattle.sacn_receiver.specs.Source.{Entry, same_cid, is_there, newest, records}
+use Rattle.sacn_receiver.specs.Shown.{Light, light_of, live, merged, shown, shown_slots}
+use Rattle.sacn_receiver.proofs.Members.{by_test, In, In_filter, In_filtered, In_map, In_mapped}
+use Rattle.sacn_receiver.proofs.Members.{found_in}
+use Rattle.sacn_receiver.proofs.Apart.{newest_found, found_newest}
+use Rattle.sacn_receiver.proofs.Same.{merged_same}
 use Rattle.sacn_receiver.proofs.Independent.{in_from_place, place_from_in}
 use Rattle.wire_laws.specs.declared.event.Event.{Event}
 use Rattle.wire_laws.specs.World.{World, console_at, universe_at, IsWorld}
@@ -33,13 +31,64 @@ use Rattle.wire_laws.specs.Laws.{IsAlone, NoStray, IsFreshIn, IsFresh, is_silent
 use Rattle.wire_laws.specs.Laws.{light, meant, slots_at, accepted_from, Headline, IsOneOf, WindowLaw}
 use Rattle.wire_laws.specs.Laws.{UnpatchedSlotsAreZero, SilenceIsDark, MergeLaw}
 use Rattle.wire_laws.proofs.Bytes.{entry}
-use Rattle.wire_laws.proofs.Came.{source_of, were_in_time, were_sent, from_one, In_accepted, all_from}
-use Rattle.wire_laws.proofs.Came.{from_console, follows}
-use Rattle.wire_laws.proofs.Full.{sent_is, latest_full}
-use Rattle.wire_laws.proofs.Grows.{newest_means, latest}
+use Rattle.wire_laws.proofs.Came.{source_of, were_in_time, were_sent, from_one, all_from}
+use Rattle.wire_laws.proofs.Came.{from_alone, from_console, follows}
+use Rattle.wire_laws.proofs.Wire.{sent_is, newest_sent}
 use Rattle.wire_laws.proofs.Kept.{history, KeptOne, kept_of}
-use Rattle.wire_laws.proofs.Lit.{lit_by, shown_lit, one_light, same_slots}
 use Rattle.wire_laws.proofs.Runs.{IsRun, done_runs}
+
+-- the light of what is kept, while it is there and has not ended
+abbrev lit_by : ℕ → Option Entry → Option Light
+lit_by t None = None
+lit_by t (Some e) = if is_there t e && not e.ended then Some (light_of e) else None
+
+-- a history whose entries are of these sources, each known by a number
+module _ (t : ℕ) (h : List Entry) (cid : ℕ → List ℕ) (is : List ℕ)
+    (owned : (e : Entry) → In e h → (j : ℕ) × In j is × (cid j ≡ e.cid)) (p : ℕ → Bool)
+    (f : ℕ → Light) (lit : (j : ℕ) → In j is
+    → lit_by t (find (same_cid (cid j)) h) ≡ (if p j then Some (f j) else None)) where
+  one_lit : (l : Light) → In l (map light_of (live h t)) → In l (map f (filter p is))
+  one_lit l i =
+      let m = In_mapped light_of l (live h t) i in
+      let a = In_filtered (λ e. not e.ended) m.0 (records h t) m.1 in
+      let b = In_filtered (is_there t) m.0 (newest h) a.0 in
+      let o = owned m.0 (found_in (same_cid m.0.cid) m.0 h (newest_found h m.0 b.0)).0 in
+      let is_lit : (if p o.0 then Some (f o.0) else None) ≡ Some l =
+      sym (lit o.0 o.1)
+      ∙ ap (λ c. lit_by t (find (same_cid c) h)) o.2
+      ∙ ap (lit_by t) (newest_found h m.0 b.0)
+      ∙ cond-true _ (Some (light_of m.0)) None (and_from _ _ b.1 a.1) ∙ ap Some (sym m.2) in
+      let s = cond_some (p o.0) (f o.0) l is_lit in
+      rw (sym s.1) (In_map f o.0 (filter p is) (In_filter p o.0 is o.1 s.0))
+
+  lit_one : (l : Light) → In l (map f (filter p is)) → In l (map light_of (live h t))
+  lit_one l i =
+      let m = In_mapped f l (filter p is) i in
+      let a = In_filtered p m.0 is m.1 in
+      found (find (same_cid (cid m.0)) h) m.0 refl
+      (lit m.0 a.0 ∙ cond-true _ (Some (f m.0)) None a.1 ∙ ap Some (sym m.2))
+    where
+      found : (o : Option Entry) (j : ℕ) → find (same_cid (cid j)) h ≡ o → lit_by t o ≡ Some l
+          → In l (map light_of (live h t))
+      found None j e s = cc
+      found (Some x) j e s =
+          let c = cond_some (is_there t x && not x.ended) (light_of x) l s in
+          let b = and_parts (is_there t x) (not x.ended) c.0 in
+          rw (sym c.1) (In_map light_of x (live h t) (In_filter (λ e. not e.ended) x (records h t)
+          (In_filter (is_there t) x (newest h) (found_newest (cid j) h x e) b.0) b.1))
+
+  shown_lit : (slot : ℕ) → shown h t slot ≡ merged (map f (filter p is)) slot
+  shown_lit slot = merged_same (map light_of (live h t)) (map f (filter p is)) slot one_lit lit_one
+
+-- one light alone is what is shown
+one_light : (l : Light) (slot : ℕ) → merged (l ∷ []) slot ≡ slice_index l.slots slot
+one_light l slot = let e : nat_eq l.priority (max l.priority 0) ≡ true =
+    eq-eqb l.priority (max l.priority 0) (omega arith) in rw e (omega arith)
+
+same_slots : (h : List Entry) (t : ℕ) (slots : List ℕ) → length slots ≡ 512
+    → ((slot : ℕ) → slot < 512 → shown h t slot ≡ slice_index slots slot) → shown_slots h t ≡ slots
+same_slots h t slots size same =
+    sym (fill_by_all (shown h t) slots 512 0 size (λ slot l. sym (same slot l)))
 
 dark_slots : (h : List Entry) (t : ℕ) → ((slot : ℕ) → shown h t slot ≡ 0) → shown_slots h t ≡ dark
 dark_slots h t zero =
@@ -110,7 +159,7 @@ module _ (w : World) (v : IsWorld w) (r : ℕ) (past : List Event) (run : IsRun 
         | inl e ↦ e
         | inr late ↦ absurd (omega (arith, f.1, k.facts.past, late))
       ] in
-      let m = newest_means w i (universe_at w r) k.one.k past k.one.packet (was_sent k).1
+      let m = newest_sent w i (universe_at w r) k.one.k past k.one.packet (was_sent k).1
       (omega (arith, f.0, newest)) in
       let there : nat_lt (t - k.one.moment) 2500 ≡ true =
       (there_means t k.one.moment (omega (arith, k.facts.past))).1
@@ -144,9 +193,9 @@ module _ (w : World) (v : IsWorld w) (r : ℕ) (past : List Event) (run : IsRun 
           (inl none)
       go (inr k) = elim (state (λ none. none-some k.one.packet (sym (ap
           (λ (ps : List Packet). slice_get ps k.one.k) none) ∙ (was_sent k).1))) [
-        | inl fresh ↦ lit_fresh fresh k
-        | inr silent ↦ lit_silent silent (inr k)
-      ]
+            | inl fresh ↦ lit_fresh fresh k
+            | inr silent ↦ lit_silent silent (inr k)
+          ]
 
   -- ---- a console alone
 
@@ -157,9 +206,7 @@ module _ (w : World) (v : IsWorld w) (r : ℕ) (past : List Event) (run : IsRun 
     shown_alone p f lit slot =
         ap (λ h. shown h t slot) (all_from w v r past run no_stray i alone)
         ∙ shown_lit t (accepted_from w r i past) (λ j. (source_of w j).cid) (i ∷ [])
-        (λ e m. let d = In_mapped (entry (source_of w i)) e (delivered w r i past) (In_accepted e _
-        (rw (from_one w v r past run no_stray i) at m)) in
-        (i, inl refl, ap (λ (x : Entry). x.cid) (sym d.2))) p f
+        (λ e m. (i, inl refl, from_alone w v r past run no_stray i e m)) p f
         (λ j m. elim m [ inl e ↦ rw e lit | inr n ↦ absurd n ]) slot
 
     means : IsFresh w r i past t → slots_at w r past t ≡ meant w r i past
@@ -208,8 +255,8 @@ module _ (w : World) (v : IsWorld w) (r : ℕ) (past : List Event) (run : IsRun 
               recent = (there_means t k.one.moment (omega (arith, k.facts.past))).0
                   (and_parts (is_there t e) (not e.ended) q).0;
               are = same_slots (accepted_by w r past) t k.one.packet.slots (sent_is w i
-                  (universe_at w r) k.one.k past k.one.packet (v i (was_sent k).0)
-                  (was_sent k).1).size
+                  (universe_at w r) k.one.k past k.one.packet (was_sent k).1
+                  (v i (was_sent k).0)).size
                   (λ slot l. shows slot ∙ rw q (one_light (light_of e) slot));
             })) (λ q. inr (dark_slots (accepted_by w r past) t (λ slot. shows slot ∙ rw q)))
 
@@ -251,30 +298,6 @@ merge_law w events r t v time hears state slot below =
 
     n : ℕ
     n = length w.consoles
-
--- ---- slots without a patched channel
-
-unpatched_frame : (s : Tables) (h : List Act) (t k slot : ℕ) → slot < 512
-    → maps.get s.patch (512 * k + 1 + slot) ≡ None → slice_index (frame s h t k) slot ≡ 0
-unfolding frame
-unpatched_frame s h t k slot below none =
-    let level : ℕ → ℕ = channel_level s h t in
-    let grand : ℕ = grand_after (settings h) in
-    cond_both (is_some (ended h)) dark (frame_of s.patch level grand k)
-    (λ f. slice_index f slot ≡ 0) (λ _. get_or-replicate 512 slot 0 0 below)
-    (λ _. get_or-map-range_with_len (dimmer_slot s.patch level grand) (512 * k + 1) 512 slot
-    (512 * k + 1 + slot) 0 below refl
-    ∙ ap (λ p. option_map_or (λ (p : ℕ × ℕ). slot_of (level p.0) grand p.1) p 0) none)
-
-unpatched_latest : (s : Tables) (h : List Act) (k slot : ℕ) → slot < 512
-    → maps.get s.patch (512 * k + 1 + slot) ≡ None → slice_index (latest_frame s h k) slot ≡ 0
-unpatched_latest s [] k slot below none = get_or-replicate 512 slot 0 0 below
-unpatched_latest s (a ∷ h) k slot below none = go a.call (unpatched_latest s h k slot below none)
-  where
-    go : (c : Call) → slice_index (latest_frame s h k) slot ≡ 0
-        → slice_index (latest_frame s (record { moment = a.moment; call = c } ∷ h) k) slot ≡ 0
-    go tick ih = unpatched_frame s h a.moment k slot below none
-    go (order c) ih = ih
 
 pub unpatched_zero : UnpatchedSlotsAreZero
 unpatched_zero w events r i t slot v time hears fresh below none =

@@ -32,7 +32,7 @@ use Rattle.wire_laws.specs.Datagrams.{packet_bytes}
 use Rattle.wire_laws.specs.Happened.{bytes_of, packets_of, stream}
 use Rattle.wire_laws.specs.World.{plays}
 use Rattle.wire_laws.specs.Replies.{due_answer}
-use Rattle.wire_laws.proofs.Full.{frame_full}
+use Rattle.desk_core.proofs.FrameSlots.{frame_full}
 use Rattle.wire_laws.proofs.Wire.{bytes_are}
 use Rattle.wire_world.specs.declared.row.Row.{Row}
 use Rattle.wire_world.specs.Sends.{send_of, sent_to, numbered}
