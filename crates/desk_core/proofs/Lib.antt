@@ -1,4 +1,5 @@
 pub mod Universes
 pub mod Drawn
+pub mod Small
 mod Rows
 pub mod FrameSlots

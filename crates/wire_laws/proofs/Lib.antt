@@ -5,5 +5,4 @@ pub mod Came
 pub mod Kept
 pub mod Shown
 pub mod Lawful
-mod Small
 mod Rows

@@ -24,9 +24,9 @@ use Rattle.wire_laws.specs.Laws.{lights, IsOneOf}
 use Rattle.wire_laws.proofs.Shown.{headline, silence_dark, window_law}
 use Rattle.wire_laws.proofs.Shown.{merge_law}
 use Rattle.wire_laws.proofs.Kept.{history}
-use Rattle.wire_laws.proofs.Small.{small, cues, subs, numbers, based, first_at, frame_1000}
-use Rattle.wire_laws.proofs.Small.{frame_2000, frame_full, frame_half}
-use Rattle.wire_laws.proofs.Small.{no_move, after_first, after_second}
+use Rattle.desk_core.proofs.Small.{small, cues, subs, numbers, based, first_at, frame_1000}
+use Rattle.desk_core.proofs.Small.{frame_2000, frame_full, frame_half}
+use Rattle.desk_core.proofs.Small.{no_move, after_first, after_second}
 
 abbrev at : ℕ → What → Event
 at t x = record { moment = t; what = x }
