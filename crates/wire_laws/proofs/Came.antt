@@ -227,17 +227,18 @@ module _ {A : Type 0} (u : ℕ) (f : A → Arrival) (g : A → Entry) where
   never_fall t [] h = (tt, omega arith)
   never_fall t (x ∷ xs) h = let m = never_fall (f x).moment xs h.1 in ((m.1, m.0), h.0)
 
-  heard_are : (xs : List A) → ((x : A) → In x xs → (not_heard u (f x).datagram ≡ None)
-      × (entry_of (f x).moment (front_packet (f x).datagram) ≡ g x))
+  abbrev IsHeardAs : A → Type 0
+  IsHeardAs x = (not_heard u (f x).datagram ≡ None)
+      × (entry_of (f x).moment (front_packet (f x).datagram) ≡ g x)
+
+  heard_are : (xs : List A) → ((x : A) → In x xs → IsHeardAs x)
       → packets_heard u (map f xs) ≡ map g xs
   heard_are [] h = refl
   heard_are (x ∷ xs) h = let s = h x (inl refl) in
       rw s.0 (simp s.1 (ap (λ l. g x ∷ l) (heard_are xs (λ y m. h y (inr m)))))
 
   accepted_are : (t : ℕ) (xs : List A) → AreInTime t (map (λ x. (f x).moment) xs)
-      → ((x : A) → In x xs → (not_heard u (f x).datagram ≡ None)
-      × (entry_of (f x).moment (front_packet (f x).datagram) ≡ g x))
-      → heard_all 4 u (map f xs) ≡ accepted 4 (map g xs)
+      → ((x : A) → In x xs → IsHeardAs x) → heard_all 4 u (map f xs) ≡ accepted 4 (map g xs)
   accepted_are t xs h are = heard_accepted 4 u (map f xs) (never_fall t xs h).0
       ∙ ap (accepted 4) (heard_are xs are)
 
@@ -262,8 +263,7 @@ module _ (w : World) (v : IsWorld w) (r : ℕ) (past : List Event) (run : IsRun 
   sendable i d s = sent_is w i (universe_at w r) d.k past d.packet s.1 (v i s.0)
 
   is_heard_as : (i : ℕ) (d : Delivery) → WasSent i d
-      → (not_heard (universe_at w r) (arrival w r i d).datagram ≡ None)
-      × (entry_of d.moment (front_packet (arrival w r i d).datagram) ≡ entry (source_of w i) d)
+      → IsHeardAs (universe_at w r) (arrival w r i) (entry (source_of w i)) d
   is_heard_as i d s = let is = sendable i d s in (
     heard_here (source_of w i) (universe_at w r) d.k d.packet is,
     entry_is (source_of w i) (universe_at w r) d.k d.packet is d.moment,

@@ -4,7 +4,7 @@ use Rattle.std.proofs.Common.{◌∷◌, length, Option, Some, None}
 use Rattle.std.specs.Prelude.{if◌then◌else◌, nat_lt, nat_le, is_some, slice_get}
 use Rattle.std.specs.List.{fold}
 use Rattle.std.specs.Option.{option_map_or}
-use Rattle.std.proofs.lemmas.Bool.{ltb-true, ltb-false, leb-false}
+use Rattle.std.proofs.lemmas.Bool.{ltb-true, ltb-false}
 use Rattle.std.proofs.lemmas.Option.{slice_get-get_or}
 use Rattle.sacn_packet.specs.Reading.{front_packet}
 use Rattle.sacn_source.specs.Stream.{Packet, last_packet}
@@ -43,21 +43,18 @@ done_runs w events = more_runs w events [] tt
 -- what is not skipped
 pub record IsTimely (w : World) (past : List Event) (e : Event) : Type 0 where
   pub after : last_moment past ≤ e.moment
-  pub below : e.moment < 2 ^ 48
   pub there : missing w past e.what ≡ None
 
 pub timely : (w : World) (past : List Event) (e : Event) → skipped w past e ≡ None
     → IsTimely w past e
-timely w past e s = go (nat_lt e.moment (last_moment past)) (nat_le (2 ^ 48) e.moment) refl refl s
+timely w past e s = go (nat_lt e.moment (last_moment past)) (nat_le (2 ^ 48) e.moment) refl s
   where
-    go : (b c : Bool) → nat_lt e.moment (last_moment past) ≡ b → nat_le (2 ^ 48) e.moment ≡ c
-        → (if b then Some Backwards else (if c then Some TooLarge else missing w past e.what))
-        ≡ None → IsTimely w past e
-    go true c p q s = cc
-    go false true p q s = cc
-    go false false p q s = record {
+    go : (b c : Bool) → nat_lt e.moment (last_moment past) ≡ b → (if b then Some Backwards
+        else (if c then Some TooLarge else missing w past e.what)) ≡ None → IsTimely w past e
+    go true c p s = cc
+    go false true p s = cc
+    go false false p s = record {
       after = ltb-false e.moment (last_moment past) p;
-      below = leb-false (2 ^ 48) e.moment q;
       there = s;
     }
 

@@ -5,7 +5,7 @@ use Rattle.std.proofs.Common.{length, Option, Some, None}
 use Rattle.std.specs.Prelude.{nat_lt, nat_le, nat_eq, if◌then◌else◌, slice_index, slice_get, find}
 use Rattle.std.specs.Prelude.{filter, IsTrue}
 use Rattle.std.specs.List.{list_all, range_with_len}
-use Rattle.std.proofs.lemmas.Bool.{and_parts, and_from, cond-true, eq-eqb, cond-false, leb-true}
+use Rattle.std.proofs.lemmas.Bool.{lt-ltb, le-ltb, ltb-true, and_parts, and_from, cond-true, eq-eqb, cond-false, leb-true}
 use Rattle.std.proofs.lemmas.Bool.Decides.{nat_tests}
 use Rattle.std.proofs.lemmas.List.{get_or-replicate}
 use Rattle.std.proofs.lemmas.Option.{none-some, cond_some}
@@ -105,13 +105,8 @@ fresh_parts : (t : ℕ) (ps : List Packet) (ds : List Delivery) → IsFreshIn t 
 fresh_parts t ps [] f = absurd f
 fresh_parts t ps (d ∷ ds) f = f
 
-there_means : (t m : ℕ) → m ≤ t → (nat_lt (t - m) 2500 ≡ true → t < m + 2500)
-    × (t < m + 2500 → nat_lt (t - m) 2500 ≡ true) × (m + 2500 ≤ t → nat_lt (t - m) 2500 ≡ false)
-there_means t m l = (
-  λ h. grind (arith, nat_tests),
-  λ h. grind (arith, nat_tests),
-  λ h. grind (arith, nat_tests),
-)
+recent_as : (t m : ℕ) → m ≤ t → nat_lt (t - m) 2500 ≡ nat_lt t (m + 2500)
+recent_as t m l = grind (arith, nat_tests)
 
 module _ (w : World) (v : IsWorld w) (r : ℕ) (past : List Event) (run : IsRun w past)
     (no_stray : NoStray w r past) (t : ℕ) (time : last_moment past ≤ t) (i : ℕ)
@@ -150,8 +145,14 @@ module _ (w : World) (v : IsWorld w) (r : ℕ) (past : List Event) (run : IsRun 
         k.facts.after_arrival,
       ))) (λ q. q)
 
-  lit_fresh : IsFresh w r i past t → (k : Kept)
-      → lit_by t found ≡ (if is_lit w r past t i then Some (light w r past i) else None)
+  recent : (k : Kept) → nat_lt (t - k.one.moment) 2500 ≡ nat_lt t (k.one.moment + 2500)
+  recent k = recent_as t k.one.moment (omega (arith, k.facts.past))
+
+  -- what console i is to light with
+  abbrev due : Option Light
+  due = if is_lit w r past t i then Some (light w r past i) else None
+
+  lit_fresh : IsFresh w r i past t → (k : Kept) → lit_by t found ≡ due
   lit_fresh fresh k =
       let f = fresh_parts t (sent w i (universe_at w r) past) (delivered w r i past) fresh in
       let newest : k.one.k ≡ newest_of (delivered w r i past) =
@@ -162,40 +163,33 @@ module _ (w : World) (v : IsWorld w) (r : ℕ) (past : List Event) (run : IsRun 
       let m = newest_sent w i (universe_at w r) k.one.k past k.one.packet (was_sent k).1
       (omega (arith, f.0, newest)) in
       let there : nat_lt (t - k.one.moment) 2500 ≡ true =
-      (there_means t k.one.moment (omega (arith, k.facts.past))).1
-      (omega (arith, f.1, k.facts.after_arrival)) in
-      ap (lit_by t) (found_is ∙ k.is_kept)
-      ∙ rw (there, m.0, m.1, not_silent fresh k) (twice (is_live (acts w i past)))
-    where
-      twice : (b : Bool) → (if not (not b) then Some (light w r past i) else None)
-          ≡ (if b then Some (light w r past i) else None)
-      twice true = refl
-      twice false = refl
+      recent k ∙ lt-ltb t (k.one.moment + 2500) (omega (arith, f.1, k.facts.after_arrival)) in
+      let loud = not_silent fresh k in
+      ap (lit_by t) (found_is ∙ k.is_kept) ∙ by_test (is_live (acts w i past))
+      (λ q. rw (there, m.0, m.1, loud, q)) (λ q. rw (there, m.0, m.1, loud, q))
 
   lit_silent : is_silent w r i past t ≡ true → (delivered w r i past ≡ []) ⊎ Kept
-      → lit_by t found ≡ (if is_lit w r past t i then Some (light w r past i) else None)
+      → lit_by t found ≡ due
   lit_silent silent (inl none) = rw silent (ap (lit_by t) (found_none none))
   lit_silent silent (inr k) =
       let gone : nat_lt (t - k.one.moment) 2500 ≡ false =
-      (there_means t k.one.moment (omega (arith, k.facts.past))).2
+      recent k ∙ le-ltb t (k.one.moment + 2500)
       (silent_at t (delivered w r i past) k.one silent k.came) in
       rw silent (ap (lit_by t) (found_is ∙ k.is_kept) ∙ rw gone)
 
   lit_settled : ((sent w i (universe_at w r) past ≡ [] → ⊥)
-      → IsFresh w r i past t ⊎ IsTrue (is_silent w r i past t))
-      → lit_by t found ≡ (if is_lit w r past t i then Some (light w r past i) else None)
-  lit_settled state = go kept
-    where
-      go : (delivered w r i past ≡ []) ⊎ Kept
-          → lit_by t found ≡ (if is_lit w r past t i then Some (light w r past i) else None)
-      go (inl none) = lit_silent
-          (ap (λ (ds : List Delivery). list_all (λ d. nat_le (d.moment + 2500) t) ds) none)
-          (inl none)
-      go (inr k) = elim (state (λ none. none-some k.one.packet (sym (ap
-          (λ (ps : List Packet). slice_get ps k.one.k) none) ∙ (was_sent k).1))) [
-            | inl fresh ↦ lit_fresh fresh k
-            | inr silent ↦ lit_silent silent (inr k)
-          ]
+      → IsFresh w r i past t ⊎ IsTrue (is_silent w r i past t)) → lit_by t found ≡ due
+  lit_settled state = elim kept [
+    | inl none ↦
+        lit_silent (ap (λ (ds : List Delivery). list_all (λ d. nat_le (d.moment + 2500) t) ds) none)
+        (inl none)
+    | inr k ↦
+        elim (state (λ none. none-some k.one.packet (sym (ap
+        (λ (ps : List Packet). slice_get ps k.one.k) none) ∙ (was_sent k).1))) [
+          | inl fresh ↦ lit_fresh fresh k
+          | inr silent ↦ lit_silent silent (inr k)
+        ]
+  ]
 
   -- ---- a console alone
 
@@ -210,21 +204,19 @@ module _ (w : World) (v : IsWorld w) (r : ℕ) (past : List Event) (run : IsRun 
         (λ j m. elim m [ inl e ↦ rw e lit | inr n ↦ absurd n ]) slot
 
     means : IsFresh w r i past t → slots_at w r past t ≡ meant w r i past
-    means fresh = same_slots (accepted_by w r past) t (meant w r i past)
-        (latest_full (console_at w i).show (acts w i past)
-        (universe_at w r - (console_at w i).base))
-        (λ slot l. shown_alone (is_lit w r past t) (light w r past)
-        (lit_settled (λ _. inl fresh)) slot ∙ by_end slot l kept)
-      where
-        by_end : (slot : ℕ) → slot < 512 → (delivered w r i past ≡ []) ⊎ Kept
-            → merged (map (light w r past) (filter (is_lit w r past t) (i ∷ []))) slot
-            ≡ slice_index (meant w r i past) slot
-        by_end slot l (inl none) = absurd (subst (IsFreshIn t _) none fresh)
-        by_end slot l (inr k) = by_test (is_live (acts w i past))
-            (λ q. rw (not_silent fresh k, q) (one_light (light w r past i) slot))
-            (λ q. rw (not_silent fresh k, q) (sym (ap (λ f. slice_index f slot)
-            (latest (console_at w i) (universe_at w r) (acts w i past) ∙ cond-false _ _ dark q)
-            ∙ get_or-replicate 512 slot 0 0 l)))
+    means fresh = elim kept [
+      | inl none ↦ absurd (subst (IsFreshIn t _) none fresh)
+      | inr k ↦
+          same_slots (accepted_by w r past) t (meant w r i past)
+          (latest_full (console_at w i).show (acts w i past)
+          (universe_at w r - (console_at w i).base))
+          (λ slot l. shown_alone (is_lit w r past t) (light w r past)
+          (lit_settled (λ _. inl fresh)) slot ∙ by_test (is_live (acts w i past))
+          (λ q. rw (not_silent fresh k, q) (one_light (light w r past i) slot))
+          (λ q. rw (not_silent fresh k, q) (sym (ap (λ f. slice_index f slot)
+          (latest (console_at w i) (universe_at w r) (acts w i past) ∙ cond-false _ _ dark q)
+          ∙ get_or-replicate 512 slot 0 0 l))))
+    ]
 
     silence : is_silent w r i past t ≡ true → slots_at w r past t ≡ dark
     silence silent = dark_slots (accepted_by w r past) t (λ slot.
@@ -233,32 +225,30 @@ module _ (w : World) (v : IsWorld w) (r : ℕ) (past : List Event) (run : IsRun 
 
     near : IsOneOf t (slots_at w r past t) (sent w i (universe_at w r) past) (delivered w r i past)
         ⊎ (slots_at w r past t ≡ dark)
-    near = go kept
-      where
-        go : (delivered w r i past ≡ []) ⊎ Kept
-            → IsOneOf t (slots_at w r past t) (sent w i (universe_at w r) past)
-            (delivered w r i past) ⊎ (slots_at w r past t ≡ dark)
-        go (inl none) = inr (dark_slots (accepted_by w r past) t (λ slot. shown_alone (λ _. false)
-            (light w r past) (ap (lit_by t) (found_none none)) slot))
-        go (inr k) =
-            let e : Entry = entry (source_of w i) k.one in
-            let b : Bool = is_there t e && not e.ended in
-            let shows : (slot : ℕ) → shown (accepted_by w r past) t slot
-            ≡ merged (map (λ _. light_of e) (filter (λ _. b) (i ∷ []))) slot =
-            shown_alone (λ _. b) (λ _. light_of e) (ap (lit_by t) (found_is ∙ k.is_kept)) in
-            by_test b (λ q. inl (record {
-              one = k.one;
-              came = place_from_in k.one (delivered w r i past) k.came;
-              is_sent = (was_sent k).1;
-              not_far_behind = k.facts.not_far_behind;
-              not_ahead = k.facts.not_ahead;
-              recent = (there_means t k.one.moment (omega (arith, k.facts.past))).0
-                  (and_parts (is_there t e) (not e.ended) q).0;
-              are = same_slots (accepted_by w r past) t k.one.packet.slots (sent_is w i
-                  (universe_at w r) k.one.k past k.one.packet (was_sent k).1
-                  (v i (was_sent k).0)).size
-                  (λ slot l. shows slot ∙ rw q (one_light (light_of e) slot));
-            })) (λ q. inr (dark_slots (accepted_by w r past) t (λ slot. shows slot ∙ rw q)))
+    near = elim kept [
+      | inl none ↦
+          inr (dark_slots (accepted_by w r past) t (λ slot. shown_alone (λ _. false)
+          (light w r past) (ap (lit_by t) (found_none none)) slot))
+      | inr k ↦
+          (let e : Entry = entry (source_of w i) k.one in
+          let b : Bool = is_there t e && not e.ended in
+          let shows : (slot : ℕ) → shown (accepted_by w r past) t slot
+          ≡ merged (map (λ _. light_of e) (filter (λ _. b) (i ∷ []))) slot =
+          shown_alone (λ _. b) (λ _. light_of e) (ap (lit_by t) (found_is ∙ k.is_kept)) in
+          by_test b (λ q. inl (record {
+            one = k.one;
+            came = place_from_in k.one (delivered w r i past) k.came;
+            is_sent = (was_sent k).1;
+            not_far_behind = k.facts.not_far_behind;
+            not_ahead = k.facts.not_ahead;
+            recent = ltb-true t (k.one.moment + 2500) (sym (recent k)
+                ∙ (and_parts (is_there t e) (not e.ended) q).0);
+            are = same_slots (accepted_by w r past) t k.one.packet.slots (sent_is w i
+                (universe_at w r) k.one.k past k.one.packet (was_sent k).1
+                (v i (was_sent k).0)).size
+                (λ slot l. shows slot ∙ rw q (one_light (light_of e) slot));
+          })) (λ q. inr (dark_slots (accepted_by w r past) t (λ slot. shows slot ∙ rw q))))
+    ]
 
 pub headline : Headline
 headline w events r i t v time hears = means w v r (done w events) (done_runs w events)
