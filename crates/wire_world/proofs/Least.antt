@@ -3,6 +3,7 @@ use Rattle.std.proofs.Common.{◌≡◌, ◌⊎◌, ℕ, zero, suc, ◌+◌, ◌
 use Rattle.std.proofs.Common.{List, [], ◌∷◌, length, set, Some, inl, inr, arith}
 use Rattle.std.specs.Prelude.{slice_get, slice_index}
 use Rattle.std.proofs.lemmas.Bool.{cases_eq}
+use Rattle.std.proofs.lemmas.List.{get_or-set_other, get_or-set_same}
 use Rattle.std.proofs.Math.ListN.{length-set}
 use Rattle.wire_laws.specs.declared.event.Event.{Event}
 use Rattle.wire_laws.specs.declared.event.What.{What}
@@ -21,17 +22,6 @@ pub record AreLowsFrom (events : List Event) (lows least : List ℕ) (n : ℕ) :
   pub least_are : (j : ℕ) (f : Event) → n ≤ j → slice_get events j ≡ Some f → IsLeast least f.what
   pub lows_are : (i j : ℕ) (e f : Event) → n ≤ i → i < j → slice_get events i ≡ Some e
       → slice_get events j ≡ Some f → Spares e.what (slice_index lows i) f.what
-
-index_set : (xs : List ℕ) (i y : ℕ) → i < length xs → slice_index (set xs i y) i ≡ y
-index_set [] i y l = absurd (omega (arith, l))
-index_set (x ∷ xs) zero y l = refl
-index_set (x ∷ xs) (suc i) y l = index_set xs i y (omega (arith, l))
-
-index_past : (xs : List ℕ) (i j y : ℕ) → i < j → slice_index (set xs i y) j ≡ slice_index xs j
-index_past [] i j y l = refl
-index_past (x ∷ xs) i zero y l = absurd (omega (arith, l))
-index_past (x ∷ xs) zero (suc j) y l = refl
-index_past (x ∷ xs) (suc i) (suc j) y l = index_past xs i j y (omega (arith, l))
 
 -- a lower one in its place
 index_less : (xs : List ℕ) (i j y : ℕ) → y ≤ slice_index xs i
@@ -68,92 +58,78 @@ no_spares (Stray r from to) other low later = tt
 no_spares (Show r) other low later = tt
 no_spares (Deliver r i u k) other low later = absurd (other r i u k refl)
 
--- an event before these that is no delivery
-pub lows_still : (events : List Event) (lows least : List ℕ) (n : ℕ) (e : Event)
-    → slice_get events n ≡ Some e
-    → ((r i u k : ℕ) → e.what ≡ Deliver r i u k → ⊥)
-    → AreLowsFrom events lows least (n + 1) → AreLowsFrom events lows least n
-lows_still events lows least n e at other all = record {
-  long = all.long;
-  wide = all.wide;
-  least_are = λ j f l g. here j f g (cases_eq n j) l;
-  lows_are = λ i j d f l m a b. there i j d f a b m (cases_eq n i) l;
-}
-  where
-    here : (j : ℕ) (f : Event) → slice_get events j ≡ Some f → (n ≡ j) ⊎ (n ≡ j → ⊥) → n ≤ j
-        → IsLeast least f.what
-    here j f g (inl q) l =
-        let h : Some e ≡ Some f = sym at ∙ ap (slice_get events) q ∙ g in
-        let same : e ≡ f = cc in
-        subst (λ (d : Event). IsLeast least d.what) same (no_least least e.what other)
-    here j f g (inr q) l = all.least_are j f (omega (arith, l, q)) g
+-- an event before these, and what it changes
+module _ (events : List Event) (lows least : List ℕ) (n : ℕ) (e : Event)
+    (at : slice_get events n ≡ Some e) (all : AreLowsFrom events lows least (n + 1)) where
+  lows_with : (new_lows new_least : List ℕ) → length new_lows ≡ length lows
+      → length new_least ≡ length least
+      → ((what : What) → IsLeast least what → IsLeast new_least what) → IsLeast new_least e.what
+      → ((i : ℕ) → n < i → slice_index new_lows i ≡ slice_index lows i)
+      → ((later : What) → IsLeast least later → Spares e.what (slice_index new_lows n) later)
+      → AreLowsFrom events new_lows new_least n
+  lows_with new_lows new_least long wide less first past spared = record {
+    long = long ∙ all.long;
+    wide = wide ∙ all.wide;
+    least_are = λ j f l g. here j f g (cases_eq n j) l;
+    lows_are = λ i j d f l m a b. there i j d f a b m (cases_eq n i) l;
+  }
+    where
+      same : (j : ℕ) (f : Event) → slice_get events j ≡ Some f → n ≡ j → e ≡ f
+      same j f g q = let h : Some e ≡ Some f = sym at ∙ ap (slice_get events) q ∙ g in cc
 
-    there : (i j : ℕ) (d f : Event) → slice_get events i ≡ Some d → slice_get events j ≡ Some f
-        → i < j → (n ≡ i) ⊎ (n ≡ i → ⊥) → n ≤ i → Spares d.what (slice_index lows i) f.what
-    there i j d f a b m (inl q) l =
-        let h : Some e ≡ Some d = sym at ∙ ap (slice_get events) q ∙ a in
-        let same : e ≡ d = cc in
-        subst (λ (x : Event). Spares x.what (slice_index lows i) f.what) same
-        (no_spares e.what other (slice_index lows i) f.what)
-    there i j d f a b m (inr q) l = all.lows_are i j d f (omega (arith, l, q)) m a b
+      here : (j : ℕ) (f : Event) → slice_get events j ≡ Some f → (n ≡ j) ⊎ (n ≡ j → ⊥) → n ≤ j
+          → IsLeast new_least f.what
+      here j f g (inl q) l =
+          subst (λ (d : Event). IsLeast new_least d.what) (same j f g q) first
+      here j f g (inr q) l = less f.what (all.least_are j f (omega (arith, l, q)) g)
 
--- a delivery before these
-pub lows_more : (events : List Event) (lows least : List ℕ) (n r c u k y : ℕ) (e : Event)
-    → slice_get events n ≡ Some e → e.what ≡ Deliver r c u k → n < length events
-    → row_of c u < length least → y ≤ slice_index least (row_of c u) → y ≤ k
-    → AreLowsFrom events lows least (n + 1)
-    → AreLowsFrom events (set lows n (slice_index least (row_of c u)))
-    (set least (row_of c u) y) n
-lows_more events lows least n r c u k y e at is within inside less low all = record {
-  long = length-set lows n (slice_index least (row_of c u)) ∙ all.long;
-  wide = length-set least (row_of c u) y ∙ all.wide;
-  least_are = λ j f l g. here j f g (cases_eq n j) l;
-  lows_are = λ i j d f l m a b. there i j d f a b m (cases_eq n i) l;
-}
-  where
-    first : IsLeast (set least (row_of c u) y) (Deliver r c u k)
-    first = omega (arith, index_set least (row_of c u) y inside, low)
+      there : (i j : ℕ) (d f : Event) → slice_get events i ≡ Some d → slice_get events j ≡ Some f
+          → i < j → (n ≡ i) ⊎ (n ≡ i → ⊥) → n ≤ i
+          → Spares d.what (slice_index new_lows i) f.what
+      there i j d f a b m (inl q) l =
+          subst (λ (i : ℕ). Spares d.what (slice_index new_lows i) f.what) q
+          (subst (λ (x : Event). Spares x.what (slice_index new_lows n) f.what) (same i d a q)
+          (spared f.what (all.least_are j f (omega (arith, l, m, q)) b)))
+      there i j d f a b m (inr q) l =
+          let later : n < i = omega (arith, l, q) in
+          subst (λ (x : ℕ). Spares d.what x f.what) (sym (past i later))
+          (all.lows_are i j d f (omega (arith, later)) m a b)
 
-    here : (j : ℕ) (f : Event) → slice_get events j ≡ Some f → (n ≡ j) ⊎ (n ≡ j → ⊥) → n ≤ j
-        → IsLeast (set least (row_of c u) y) f.what
-    here j f g (inl q) l =
-        let h : Some e ≡ Some f = sym at ∙ ap (slice_get events) q ∙ g in
-        let same : e ≡ f = cc in
-        subst (λ (d : Event). IsLeast (set least (row_of c u) y) d.what) same
-        (subst (IsLeast (set least (row_of c u) y)) (sym is) first)
-    here j f g (inr q) l =
-        least_less least (row_of c u) y less f.what (all.least_are j f (omega (arith, l, q)) g)
+  -- no delivery
+  pub lows_still : ((r i u k : ℕ) → e.what ≡ Deliver r i u k → ⊥)
+      → AreLowsFrom events lows least n
+  lows_still other =
+      lows_with lows least refl refl (λ what h. h) (no_least least e.what other) (λ i l. refl)
+      (λ later h. no_spares e.what other (slice_index lows n) later)
 
-    spared : (j : ℕ) (later : What) → IsLeast least later
-        → Spares (Deliver r c u k) (slice_index least (row_of c u)) later
-    spared j (Order i x) h = tt
-    spared j (Tick i) h = tt
-    spared j (Stray i from to) h = tt
-    spared j (Show i) h = tt
-    spared j (Deliver q d v m) h = λ a b.
-        let same : row_of c u ≡ row_of d v = ap (λ x. row_of x u) a ∙ ap (row_of d) b in
-        omega (arith, ap (slice_index least) same, h)
+  -- a delivery
+  pub lows_more : (r c u k y : ℕ) → e.what ≡ Deliver r c u k → n < length events
+      → row_of c u < length least → y ≤ slice_index least (row_of c u) → y ≤ k
+      → AreLowsFrom events (set lows n (slice_index least (row_of c u)))
+      (set least (row_of c u) y) n
+  lows_more r c u k y is within inside less low =
+      lows_with (set lows n row) (set least (row_of c u) y) (length-set lows n row)
+      (length-set least (row_of c u) y) (least_less least (row_of c u) y less)
+      (subst (IsLeast (set least (row_of c u) y)) (sym is) first)
+      (λ i l. get_or-set_other lows n i row 0 (λ q. omega (arith, l, q)))
+      (λ later h. subst (λ (x : What). Spares x (slice_index (set lows n row) n) later) (sym is)
+      (subst (λ (x : ℕ). Spares (Deliver r c u k) x later)
+      (sym (get_or-set_same lows n row 0 (omega (arith, within, all.long)))) (spared later h)))
+    where
+      row : ℕ
+      row = slice_index least (row_of c u)
 
-    there : (i j : ℕ) (d f : Event) → slice_get events i ≡ Some d → slice_get events j ≡ Some f
-        → i < j → (n ≡ i) ⊎ (n ≡ i → ⊥) → n ≤ i
-        → Spares d.what (slice_index (set lows n (slice_index least (row_of c u))) i) f.what
-    there i j d f a b m (inl q) l =
-        let h : Some e ≡ Some d = sym at ∙ ap (slice_get events) q ∙ a in
-        let same : e ≡ d = cc in
-        let low_is : slice_index (set lows n (slice_index least (row_of c u))) i
-        ≡ slice_index least (row_of c u) =
-        ap (slice_index (set lows n (slice_index least (row_of c u)))) (sym q)
-        ∙ index_set lows n (slice_index least (row_of c u)) (omega (arith, within, all.long)) in
-        subst (λ (x : What). Spares x
-        (slice_index (set lows n (slice_index least (row_of c u))) i) f.what)
-        (sym is ∙ ap (λ (x : Event). x.what) same)
-        (subst (λ (x : ℕ). Spares (Deliver r c u k) x f.what) (sym low_is)
-        (spared j f.what (all.least_are j f (omega (arith, l, m, q)) b)))
-    there i j d f a b m (inr q) l =
-        let past : n < i = omega (arith, l, q) in
-        subst (λ (x : ℕ). Spares d.what x f.what)
-        (sym (index_past lows n i (slice_index least (row_of c u)) past))
-        (all.lows_are i j d f (omega (arith, past)) m a b)
+      first : IsLeast (set least (row_of c u) y) (Deliver r c u k)
+      first = omega (arith, get_or-set_same least (row_of c u) y 0 inside, low)
+
+      spared : (later : What) → IsLeast least later → Spares (Deliver r c u k) row later
+      spared (Order i x) h = tt
+      spared (Tick i) h = tt
+      spared (Stray i from to) h = tt
+      spared (Show i) h = tt
+      spared (Deliver q d v m) h = λ a b.
+          let same : row_of c u ≡ row_of d v = ap (λ x. row_of x u) a ∙ ap (row_of d) b in
+          omega (arith, ap (slice_index least) same, h)
 
 -- ---- the last packet of all
 

@@ -3,7 +3,8 @@ use Rattle.std.proofs.Common.{◌≡◌, ℕ, zero, suc, ◌+◌, ◌-◌, ◌%�
 use Rattle.std.proofs.Common.{ap, sym}
 use Rattle.std.proofs.Common.{subst, ◌∙◌, List, [], ◌∷◌, ◌++◌, length, map, Option}
 use Rattle.std.proofs.Common.{Some, None, take}
-use Rattle.std.proofs.lemmas.List.{take_all}
+use Rattle.std.proofs.lemmas.List.{map-append, take_all}
+use Rattle.std.proofs.lemmas.List.Elements.{filter-append}
 use Rattle.std.proofs.Common.{arith, append-nil, add-one}
 use Rattle.std.specs.Prelude.{slice_get, if◌then◌else◌, nat_eq, unwrap_or, get_or, ◌≢◌}
 use Rattle.std.specs.Prelude.{◌||◌}
@@ -98,10 +99,6 @@ due_full p h m u = go (ended h)
     go (Some n) = refl
 
 -- a tick more leaves the stream, and adds what is due
-map_more : {A B : Type 0} (f : A → B) (xs ys : List A) → map f (xs ++ ys) ≡ map f xs ++ map f ys
-map_more f [] ys = refl
-map_more f (x ∷ xs) ys = ap (λ l. f x ∷ l) (map_more f xs ys)
-
 ticked_more : (p : Production) (h : List Act) (m u : ℕ)
     → stream p u (tick_at m ∷ h) ≡ stream p u h ++ due_list (due_at p h m u).packet
 ticked_more p h m u = go (ended h)
@@ -113,7 +110,7 @@ ticked_more p h m u = go (ended h)
         ≡ map live_packet (frames_sent (offers_of p u h))
         ++ due_list (if b then Some (live_packet (offer_at p u h m).frame) else None)
     live true =
-        map_more live_packet (frames_sent (offers_of p u h)) ((offer_at p u h m).frame ∷ [])
+        map-append live_packet (frames_sent (offers_of p u h)) ((offer_at p u h m).frame ∷ [])
     live false = sym (append-nil _)
 
     go : (n : Option ℕ)
@@ -163,14 +160,9 @@ sent_ordered p h m c u =
 -- ---- the sends of a tick
 
 pub sent_more : (u : ℕ) (xs ys : List Send) → sent_to u (xs ++ ys) ≡ sent_to u xs ++ sent_to u ys
-sent_more u [] ys = refl
-sent_more u (x ∷ xs) ys = go (nat_eq x.universe u) refl (sent_more u xs ys)
-  where
-    go : (b : Bool) → nat_eq x.universe u ≡ b
-        → sent_to u (xs ++ ys) ≡ sent_to u xs ++ sent_to u ys
-        → sent_to u (x ∷ (xs ++ ys)) ≡ sent_to u (x ∷ xs) ++ sent_to u ys
-    go true q ih = simp q (ap (λ l. x.bytes ∷ l) ih)
-    go false q ih = simp q ih
+sent_more u xs ys =
+    ap (map (λ (s : Send). s.bytes)) (filter-append (λ (s : Send). nat_eq s.universe u) xs ys)
+    ∙ map-append (λ (s : Send). s.bytes) _ _
 
 -- the bytes of what is due on a universe
 abbrev pub due_bytes : Identity → List Due → ℕ → List (List ℕ)

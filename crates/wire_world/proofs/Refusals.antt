@@ -1,6 +1,6 @@
 -- The checks of a setup.
-use Rattle.std.proofs.Common.{◌≡◌, ℕ, zero, suc, ◌+◌, ◌<◌, ◌≤◌, Bool, true, false, not, ◌&&◌}
-use Rattle.std.proofs.Common.{refl, ap, sym, subst, ◌∙◌, List, [], ◌∷◌, length, drop, get_or}
+use Rattle.std.proofs.Common.{◌≡◌, ℕ, zero, suc, ◌<◌, ◌≤◌, Bool, true, false, not, ◌&&◌}
+use Rattle.std.proofs.Common.{refl, ap, sym, subst, ◌∙◌, List, [], ◌∷◌, length, get_or}
 use Rattle.std.proofs.Common.{arith, Option, Some, None, Ok}
 use Rattle.std.specs.Prelude.{nat_le, nat_lt, All, if◌then◌else◌, slice_get}
 use Rattle.std.specs.List.{list_all}
@@ -22,24 +22,6 @@ use Rattle.wire_laws.specs.declared.event.What.{What}
 use Rattle.wire_laws.specs.declared.event.What.TheVariants.{Order, Tick, Deliver, Stray, Show}
 use Rattle.wire_world.specs.Refusing.{are_within, is_within}
 use Rattle.wire_world.specs.Stands.{AreSources, IsWithin, cast, world_of}
-
-drop_at : (xs : List ℕ) (i d : ℕ) → i < length xs → drop i xs ≡ get_or xs i d ∷ drop (i + 1) xs
-drop_at [] i d h = absurd (omega arith)
-drop_at (x ∷ xs) zero d h = refl
-drop_at (x ∷ xs) (suc i) d h = drop_at xs i d (omega arith)
-    ∙ (let z : suc (i + 1) ≡ suc i + 1 = omega arith in
-    ap (λ n. get_or xs i d ∷ drop n (x ∷ xs)) z)
-
-pub universes_at : (xs : List ℕ) (i d : ℕ) → i < length xs
-    → are_universes (drop i xs)
-    ≡ (is_new_at (get_or xs i d) (drop (i + 1) xs) && are_universes (drop (i + 1) xs))
-universes_at xs i d h = ap are_universes (drop_at xs i d h)
-
-pub drop_end : (xs : List ℕ) (i : ℕ) → length xs ≤ i → drop i xs ≡ []
-drop_end [] zero h = refl
-drop_end [] (suc i) h = refl
-drop_end (x ∷ xs) zero h = absurd (omega (arith, h))
-drop_end (x ∷ xs) (suc i) h = drop_end xs i (omega (arith, h))
 
 -- a report is answered where there is no fault
 pub no_fault : {X : Type 0} (o : Option Fault) (x : X) → Answers o (Ok x) → o ≡ None

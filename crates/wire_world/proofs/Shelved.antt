@@ -1,5 +1,5 @@
 -- Packets on the shelves of their universes.
-use Rattle.std.proofs.Common.{◌≡◌, ℕ, zero, suc, ◌+◌, ◌<◌, ◌≤◌, Bool, true, false, refl, ap}
+use Rattle.std.proofs.Common.{◌≡◌, ℕ, ◌+◌, ◌<◌, ◌≤◌, Bool, true, false, refl, ap}
 use Rattle.std.proofs.Common.{sym, subst, ◌∙◌}
 use Rattle.std.proofs.Common.{List, [], ◌∷◌, ◌++◌, length, map, Option, Some, None}
 use Rattle.std.proofs.Common.{arith, append-nil, take}
@@ -13,7 +13,7 @@ use Rattle.std.proofs.lemmas.Bool.Decides.{nat_tests}
 use Rattle.std.proofs.lemmas.List.{append_assoc, map-append, take_more}
 use Rattle.std.proofs.lemmas.List.Folds.{find_at, find-set, find_past, find-append}
 use Rattle.std.proofs.lemmas.List.Sums.{passes_at_first}
-use Rattle.std.proofs.lemmas.Option.{slice_get-get_or}
+use Rattle.std.proofs.lemmas.Option.{slice_get-get_or, slice_get_past}
 use Rattle.wire_world.specs.declared.row.Row.{Row}
 use Rattle.wire_world.specs.declared.shelf.Shelf.{Shelf}
 use Rattle.wire_world.specs.Sends.{send_of, sent_to}
@@ -33,11 +33,6 @@ found_by false p i n h e = cc
 missed_by : (b : Bool) (p n : ℕ) → nat_lt p n ≡ b → cond b (Some p) None ≡ None → n ≤ p
 missed_by true p n h e = cc
 missed_by false p n h e = grind (arith, nat_tests)
-
-past_end : {A : Type 0} (xs : List A) (k : ℕ) → length xs ≤ k → slice_get xs k ≡ None
-past_end [] k l = refl
-past_end (x ∷ xs) zero l = absurd (omega (arith, l))
-past_end (x ∷ xs) (suc k) l = past_end xs k (omega (arith, l))
 
 -- the universe has a shelf
 module _ (shelves : List Shelf) (u i : ℕ) (was d : Shelf)
@@ -105,7 +100,7 @@ module _ (shelves : List Shelf) (u : ℕ) (new : Shelf)
     (name : new.universe ≡ u) where
   pub none_here : find (λ (s : Shelf). s.universe == u) shelves ≡ None
   none_here = find_at (λ (s : Shelf). s.universe == u) shelves
-      ∙ past_end shelves _ (missed_by _ _ (length shelves) refl missed)
+      ∙ slice_get_past shelves _ (missed_by _ _ (length shelves) refl missed)
 
   pub none_had : {X : Type 0} (of : Shelf → X) (none : X) (v : ℕ) → nat_eq u v ≡ true
       → option_map_or of (find (λ (s : Shelf). s.universe == v) shelves) none ≡ none

@@ -2,6 +2,7 @@
 use Rattle.std.proofs.Common.{◌≡◌, ℕ, refl, ap, sym, subst, ◌∙◌, false, List, [], ◌∷◌, ◌++◌, map}
 use Rattle.std.proofs.Common.{append-nil, Option, Some, None, Result, Ok, Err, ◌+◌, take}
 use Rattle.std.specs.Prelude.{IfOk, OnErr, OnOk, MatchResult}
+use Rattle.std.proofs.lemmas.Result.{IfOk-weaker}
 use Rattle.fade_core.specs.Level.{Start}
 use Rattle.desk_core.specs.declared.answer.Refused.{Refused}
 use Rattle.desk_core.specs.declared.answer.Ticked.{Ticked}
@@ -12,7 +13,6 @@ use Rattle.console.specs.Stands.{StandsFor}
 use Rattle.console.specs.Streams.{Production, dues_at, tick_at}
 use Rattle.wire_world.specs.declared.stage.Stage.{Stage}
 use Rattle.wire_laws.specs.Replies.{due_answer}
-use Rattle.wire_world.specs.declared.row.Row.{Row}
 use Rattle.wire_world.specs.Sends.{Kept, send_of, sends_of, sent_to}
 use Rattle.wire_world.specs.Shelves.{IsRest, gone_of, kept_of}
 use Rattle.wire_world.specs.StageStands.{StageStands, Tells}
@@ -28,10 +28,15 @@ answer_is (Ok a) o t ps m f =
     rw m.0 (ap Ok same)
 answer_is (Err x) o t ps m f = rw m refl
 
-pub if_ok : {A E : Type 0} (r : Result A E) (P Q : A → Type 0) → ((a : A) → P a → Q a)
-    → IfOk r P → IfOk r Q
-if_ok (Ok a) P Q f p = f a p
-if_ok (Err e) P Q f p = tt
+ok_from : {A E : Type 0} (r : Result A E) (P Q R : A → Type 0) → ((a : A) → P a → Q a → R a)
+    → IfOk r P → IfOk r Q → IfOk r R
+ok_from (Ok a) P Q R f p q = f a p q
+ok_from (Err e) P Q R f p q = tt
+
+err_from : {A E : Type 0} (r : Result A E) (P Q R : Type 0) → (P → Q → R) → OnErr r P
+    → OnErr r Q → OnErr r R
+err_from (Ok a) P Q R f p q = tt
+err_from (Err e) P Q R f p q = f p q
 
 -- what a tick leaves of a console, its link emptied first and its packets then put on the shelves
 module _ {F : Type 0} (sf : F → List Start → Type 0) (old new : Stage F) (m : ℕ)
@@ -42,71 +47,54 @@ module _ {F : Type 0} (sf : F → List Start → Type 0) (old new : Stage F) (m 
     (rest : new.link.full ≡ false → (u : ℕ) (all : List (List ℕ))
     → IsRest (gone_of old.shelves.items u) (kept_of old.shelves.items u) (take (old.last + 1) all)
     → IsRest (gone_of new.shelves.items u) (kept_of new.shelves.items u)
-    (take (old.last + 1) (all ++ sent_to u (sends_of sent)))) where
-  emptied : (p : Production) (h : List Act) (pairs : List (ℕ × Offered))
-      → Offers p.source (dues_at p h m) pairs (sends_of empty) (sends_of sent)
-      → Offers p.source (dues_at p h m) pairs [] (sends_of sent)
-  emptied p h pairs o =
-      subst (λ (rows : List Row). Offers p.source (dues_at p h m) pairs (map send_of rows)
-      (sends_of sent)) is_empty o
+    (take (old.last + 1) (all ++ sent_to u (sends_of sent))))
+    (offered : IfOk r (λ a. (p : Production) (h : List Act) → StandsFor sf p old.console h
+    → sent.full ≡ false → Offers p.source (dues_at p h m) a.1 (sends_of empty) (sends_of sent)))
+    (stands : OnOk r ((p : Production) (h : List Act) → StandsFor sf p old.console h
+    → StandsFor sf p new.console (tick_at m ∷ h)))
+    (same : OnErr r (new.console ≡ old.console))
+    (quiet : OnErr r (sent.full ≡ false → sends_of sent ≡ sends_of empty)) where
+  nothing : sends_of empty ≡ []
+  nothing = ap (map send_of) is_empty
 
-  pub answers : IfOk r (λ a. (p : Production) (h : List Act) → StandsFor sf p old.console h
-      → sent.full ≡ false
-      → Offers p.source (dues_at p h m) a.1 (sends_of empty) (sends_of sent))
-      → (p : Production) (h : List Act) → StandsFor sf p old.console h → Tells new
+  none_more : (u : ℕ) → sends_of sent ≡ sends_of empty → (xs : List (List ℕ))
+      → xs ++ sent_to u (sends_of sent) ≡ xs
+  none_more u e xs = ap (λ l. xs ++ sent_to u l) (e ∙ nothing) ∙ append-nil xs
+
+  answers : (p : Production) (h : List Act) → StandsFor sf p old.console h → Tells new
       → IfOk r (λ a. a.1 ≡ map due_answer (dues_at p h m))
-  answers offered p h s t = if_ok r _ _ (λ a o.
-      answers_ticked p h m sent.rows [] a.1 (emptied p h a.1 (o p h s (tells t)))) offered
+  answers p h s t = IfOk-weaker r _ _ (λ a o. answers_ticked p h m sent.rows [] a.1
+      (subst (λ before. Offers p.source (dues_at p h m) a.1 before (sends_of sent)) nothing
+      (o p h s (tells t)))) offered
 
-  pub stands_ticked : OnOk r ((p : Production) (h : List Act) → StandsFor sf p old.console h
-      → StandsFor sf p new.console (tick_at m ∷ h))
-      → IfOk r (λ a. (p : Production) (h : List Act) → StandsFor sf p old.console h
-      → sent.full ≡ false
-      → Offers p.source (dues_at p h m) a.1 (sends_of empty) (sends_of sent))
-      → OnOk r ((p : Production) (h : List Act) → StageStands sf old p h
+  stands_ticked : OnOk r ((p : Production) (h : List Act) → StageStands sf old p h
       → StageStands sf new p (tick_at m ∷ h))
-  stands_ticked stands offered = go r stands offered
-    where
-      go : (r : Result (Ticked × List (ℕ × Offered)) Refused)
-          → OnOk r ((p : Production) (h : List Act) → StandsFor sf p old.console h
-          → StandsFor sf p new.console (tick_at m ∷ h))
-          → IfOk r (λ a. (p : Production) (h : List Act) → StandsFor sf p old.console h
-          → sent.full ≡ false
-          → Offers p.source (dues_at p h m) a.1 (sends_of empty) (sends_of sent))
-          → OnOk r ((p : Production) (h : List Act) → StageStands sf old p h
-          → StageStands sf new p (tick_at m ∷ h))
-      go (Ok a) stands offered = λ p h s. record {
-        console_stands = stands p h s.console_stands;
-        packets_kept = λ t u. rw (
-          last,
-          sym (stream_ticked p h m (sends_of sent) a.1
-              (emptied p h a.1 (offered p h s.console_stands (tells t))) u),
-        )
-            (rest t u _ (s.packets_kept (told (tells t)) u));
-      }
-      go (Err e) stands offered = tt
+  stands_ticked = ok_from r _ _ _ (λ a stands o p h s. record {
+    console_stands = stands p h s.console_stands;
+    packets_kept = λ t u. rw (
+      last,
+      sym (stream_ticked p h m (sends_of sent) a.1
+          (subst (λ before. Offers p.source (dues_at p h m) a.1 before (sends_of sent)) nothing
+          (o p h s.console_stands (tells t))) u),
+    )
+        (rest t u _ (s.packets_kept (told (tells t)) u));
+  }) stands offered
 
-  pub stands_refused : OnErr r (new.console ≡ old.console)
-      → OnErr r (sent.full ≡ false → sends_of sent ≡ sends_of empty)
-      → OnErr r ((p : Production) (h : List Act) → StageStands sf old p h
+  stands_refused : OnErr r ((p : Production) (h : List Act) → StageStands sf old p h
       → StageStands sf new p h)
-  stands_refused same quiet = go r same quiet
-    where
-      nothing : (u : ℕ) → sends_of sent ≡ sends_of empty → (xs : List (List ℕ))
-          → xs ++ sent_to u (sends_of sent) ≡ xs
-      nothing u e xs =
-          ap (λ l. xs ++ sent_to u l) (e ∙ ap (map send_of) is_empty) ∙ append-nil xs
+  stands_refused = err_from r (new.console ≡ old.console)
+      (sent.full ≡ false → sends_of sent ≡ sends_of empty) _ (λ same quiet p h s. record {
+    console_stands = subst (λ c. StandsFor sf p c h) (sym same) s.console_stands;
+    packets_kept = λ t u. rw last
+        (subst (λ (xs : List (List ℕ)). IsRest (gone_of new.shelves.items u)
+        (kept_of new.shelves.items u) (take (old.last + 1) xs)) (none_more u (quiet (tells t)) _)
+        (rest t u _ (s.packets_kept (told (tells t)) u)));
+  }) same quiet
 
-      go : (r : Result (Ticked × List (ℕ × Offered)) Refused)
-          → OnErr r (new.console ≡ old.console)
-          → OnErr r (sent.full ≡ false → sends_of sent ≡ sends_of empty)
-          → OnErr r ((p : Production) (h : List Act) → StageStands sf old p h
-          → StageStands sf new p h)
-      go (Ok a) same quiet = tt
-      go (Err e) same quiet = λ p h s. record {
-        console_stands = subst (λ c. StandsFor sf p c h) (sym same) s.console_stands;
-        packets_kept = λ t u. rw last
-            (subst (λ (xs : List (List ℕ)). IsRest (gone_of new.shelves.items u)
-            (kept_of new.shelves.items u) (take (old.last + 1) xs)) (nothing u (quiet (tells t)) _)
-            (rest t u _ (s.packets_kept (told (tells t)) u)));
-      }
+  pub leaves : ((p : Production) (h : List Act) → StandsFor sf p old.console h → Tells new
+      → IfOk r (λ a. a.1 ≡ map due_answer (dues_at p h m)))
+      × OnOk r ((p : Production) (h : List Act) → StageStands sf old p h
+      → StageStands sf new p (tick_at m ∷ h))
+      × OnErr r ((p : Production) (h : List Act) → StageStands sf old p h
+      → StageStands sf new p h)
+  leaves = (answers, stands_ticked, stands_refused)

@@ -1,6 +1,6 @@
 -- What the events to come want is kept.
-use Rattle.std.proofs.Common.{◌≡◌, ◌⊎◌, ℕ, zero, suc, ◌+◌, ◌≤◌, refl, ap, sym, subst, ◌∙◌}
-use Rattle.std.proofs.Common.{List, [], ◌∷◌, set, Option, Some, None, inl, inr, arith}
+use Rattle.std.proofs.Common.{◌≡◌, ℕ, zero, suc, ◌+◌, ◌≤◌, refl, ap, subst}
+use Rattle.std.proofs.Common.{List, [], ◌∷◌, set, Option, Some, None, arith}
 use Rattle.std.specs.Prelude.{slice_get, slice_index}
 use Rattle.std.specs.Option.{option_map}
 use Rattle.std.specs.Prelude.{All, IfSome}
@@ -23,7 +23,7 @@ use Rattle.wire_laws.specs.Replies.{done_one}
 use Rattle.sacn_receiver.specs.Kept.{Kept}
 use Rattle.wire_world.specs.Wanted.{AreLows, AreUpTo, Holds, IsUpTo, Spares, span_at}
 use Rattle.wire_world.proofs.Linked.{first_gone}
-use Rattle.wire_world.proofs.Stages.{get_set}
+use Rattle.wire_world.proofs.Stages.{all_set}
 
 -- a console whose packets are as they were
 pub spans_set : {F : Type 0} (stages : List (Stage F)) (i : ℕ) (was is : Stage F)
@@ -94,19 +94,11 @@ pub stand_still : {S : Type 0} (st : S → Production → List Act → Type 0) (
     (w : World) (past : List Event) (i : ℕ) (was is : S) → slice_get stages i ≡ Some was
     → ((p : Production) (h : List Act) → st was p h → st is p h)
     → AllStand st stages w past → AllStand st (set stages i is) w past
-stand_still {S} st stages w past i was is at still all = record {
+stand_still st stages w past i was is at still all = record {
   each = omega (arith, length-set stages i is, all.each);
-  stand = λ j s g. go j s (get_set stages i j is s g);
+  stand = all_set (λ j s. st s (console_at w j) (acts w j past)) stages i is
+      (still (console_at w i) (acts w i past) (all.stand i was at)) (λ j s _. all.stand j s);
 }
-  where
-    go : (j : ℕ) (s : S)
-        → ((i ≡ j) × (s ≡ is)) ⊎ ((i ≡ j → ⊥) × (slice_get stages j ≡ Some s))
-        → st s (console_at w j) (acts w j past)
-    go j s (inl h) =
-        subst (λ (y : S). st y (console_at w j) (acts w j past)) (sym h.1)
-        (still (console_at w j) (acts w j past)
-        (all.stand j was (ap (slice_get stages) (sym h.0) ∙ at)))
-    go j s (inr h) = all.stand j s h.1
 
 -- ---- all events to come
 

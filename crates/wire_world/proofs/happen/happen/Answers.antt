@@ -1,131 +1,93 @@
-use Rattle.std.proofs.Common.{◌≡◌, ℕ, List, sym, ap, subst, ◌∙◌, refl, Some, None}
+use Rattle.std.proofs.Common.{List, ℕ, ap, refl, sym, ◌∙◌, Some, None}
 use Rattle.std.specs.Prelude.{if◌then◌else◌, nat_eq, slice_range}
 use Rattle.std.specs.Option.{option_map_or}
-use Rattle.wire_laws.specs.declared.event.What.{What}
-use Rattle.wire_laws.specs.declared.reply.Reply.TheVariants as reply
 use Rattle.wire_laws.specs.declared.event.What.TheVariants.{Order, Tick, Deliver, Stray, Show}
+use Rattle.wire_laws.specs.declared.reply.Reply.TheVariants as reply
+use Rattle.wire_laws.specs.Replies.{no_receiver_at, taken_by}
 use Rattle.wire_world.proofs.Receivers.{hear_same}
 use Rattle.wire_world.proofs.Stages.{stand_same}
-use Rattle.wire_laws.specs.Replies.{missing, replied, no_receiver_at, taken_by}
-use Rattle.wire_world.specs.Stands.{AllStand, AllHear, unless_skipped}
-use Rattle.wire_world.specs.Brief.{reply_of}
 use Rattle.wire_world.specs.StageStands.{StageStands}
-use Rattle.wire_world.specs.Wanted.{Holds}
 use Rattle.wire_world.proofs.happen.happen.Goals as goal
 
 pub returns-in-Order-clause-stands : goal.returns-in-Order-clause-stands
-returns-in-Order-clause-stands g c = λ w past all.
-    subst (λ (x : What). AllStand (StageStands g.F.Fader.stands_for) c.order_at.new.stages w
-    (unless_skipped (missing w past x) (record { moment = c.args.moment; what = x }) past))
-    (sym c.in-Order.is) (c.order_at.ensures.stands w past all)
+returns-in-Order-clause-stands g c = rw c.in-Order.is c.order_at.ensures.stands
+
+pub returns-in-Order-clause-hear : goal.returns-in-Order-clause-hear
+returns-in-Order-clause-hear g c = λ w past same all tell hear.
+    rw c.in-Order.is (hear_same c.args.receivers.now w past _
+    (record { moment = c.args.moment; what = Order c.in-Order.console c.in-Order.command })
+    (λ r. refl) hear)
 
 pub returns-in_ok-reply-in-Tick-clause-stands : goal.returns-in_ok-reply-in-Tick-clause-stands
-returns-in_ok-reply-in-Tick-clause-stands g c = λ w past all.
-    subst (λ (x : What). AllStand (StageStands g.F.Fader.stands_for) c.tick_at.new.stages w
-    (unless_skipped (missing w past x) (record { moment = c.args.moment; what = x }) past))
-    (sym c.in-Tick.is) (c.in_ok-reply-in-Tick.ensures.stands w past all)
+returns-in_ok-reply-in-Tick-clause-stands g c =
+    rw c.in-Tick.is c.in_ok-reply-in-Tick.ensures.stands
+
+pub returns-in_ok-reply-in-Tick-clause-hear : goal.returns-in_ok-reply-in-Tick-clause-hear
+returns-in_ok-reply-in-Tick-clause-hear g c = λ w past same all tell hear.
+    rw c.in-Tick.is (hear_same c.args.receivers.now w past _
+    (record { moment = c.args.moment; what = Tick c.in-Tick.console }) (λ r. refl) hear)
+
+pub returns-in_ok-reply-in-Tick-clause-reply : goal.returns-in_ok-reply-in-Tick-clause-reply
+returns-in_ok-reply-in-Tick-clause-reply g c = λ w past same all tell hear.
+    rw c.in-Tick.is (c.in_ok-reply-in-Tick.ensures.reply w past all)
+
+pub returns-in-Deliver-clause-stands : goal.returns-in-Deliver-clause-stands
+returns-in-Deliver-clause-stands g c = λ w past all.
+    rw c.in-Deliver.is (stand_same (StageStands g.F.Fader.stands_for) c.args.stages.now w past _
+    (record {
+      moment = c.args.moment;
+      what = Deliver c.in-Deliver.receiver c.in-Deliver.console c.in-Deliver.universe c.in-Deliver.k;
+    })
+    (λ j. refl) all)
 
 pub returns-in-Deliver-clause-hear : goal.returns-in-Deliver-clause-hear
-returns-in-Deliver-clause-hear g c = λ w past same all tell hear.
-    subst (λ (x : What). AllHear c.deliver_at.new.receivers w
-    (unless_skipped (missing w past x) (record { moment = c.args.moment; what = x }) past))
-    (sym c.in-Deliver.is)
-    (c.deliver_at.ensures.hear w past all tell hear)
+returns-in-Deliver-clause-hear g c = λ w past same.
+    rw c.in-Deliver.is (c.deliver_at.ensures.hear w past)
+
+pub returns-in-Deliver-clause-reply : goal.returns-in-Deliver-clause-reply
+returns-in-Deliver-clause-reply g c = λ w past same.
+    rw c.in-Deliver.is (c.deliver_at.ensures.reply w past)
+
+pub deliver_at-requires : goal.deliver_at-requires
+deliver_at-requires g c = rw c.in-Deliver.is at c.requires.holds
+
+pub returns-in-Stray-clause-stands : goal.returns-in-Stray-clause-stands
+returns-in-Stray-clause-stands g c = λ w past all.
+    rw c.in-Stray.is (stand_same (StageStands g.F.Fader.stands_for) c.args.stages.now w past _
+    (record {
+      moment = c.args.moment;
+      what = Stray c.in-Stray.receiver c.in-Stray.from c.in-Stray.to;
+    })
+    (λ j. refl) all)
+
+pub returns-in-Stray-clause-hear : goal.returns-in-Stray-clause-hear
+returns-in-Stray-clause-hear g c = λ w past same all tell hear.
+    rw c.in-Stray.is (c.hear_at.ensures.hear w past
+    (record {
+      moment = c.args.moment;
+      what = Stray c.in-Stray.receiver c.in-Stray.from c.in-Stray.to;
+    })
+    hear refl
+    (λ r. ap (λ (s : List ℕ). if nat_eq c.in-Stray.receiver r
+    then Some (slice_range s c.in-Stray.from c.in-Stray.to) else None) same))
 
 pub returns-in-Stray-clause-reply : goal.returns-in-Stray-clause-reply
 returns-in-Stray-clause-reply g c = λ w past same all tell hear.
-    subst (λ (x : What). reply_of c.hear_at.result
-    ≡ option_map_or reply.Skipped (missing w past x) (replied w past c.args.moment x))
-    (sym c.in-Stray.is)
-    (c.hear_at.ensures.reply w past hear
+    rw c.in-Stray.is (c.hear_at.ensures.reply w past hear
     ∙ ap (λ (s : List ℕ). option_map_or reply.Skipped (no_receiver_at w c.in-Stray.receiver)
     (taken_by w c.in-Stray.receiver past c.args.moment
     (slice_range s c.in-Stray.from c.in-Stray.to))) (sym same))
 
-pub returns-in-Stray-clause-hear : goal.returns-in-Stray-clause-hear
-returns-in-Stray-clause-hear g c = λ w past same all tell hear.
-    let stray : What = Stray c.in-Stray.receiver c.in-Stray.from c.in-Stray.to in
-    subst (λ (x : What). AllHear c.hear_at.new.receivers w
-    (unless_skipped (missing w past x) (record { moment = c.args.moment; what = x }) past))
-    (sym c.in-Stray.is)
-    (c.hear_at.ensures.hear w past (record { moment = c.args.moment; what = stray }) hear refl
-    (λ r. ap (λ (s : List ℕ). if nat_eq c.in-Stray.receiver r
-    then Some (slice_range s c.in-Stray.from c.in-Stray.to) else None) same))
-
-pub returns-in-Order-clause-hear : goal.returns-in-Order-clause-hear
-returns-in-Order-clause-hear g c = λ w past same all tell hear.
-    subst (λ (x : What). AllHear c.args.receivers.now w
-    (unless_skipped (missing w past x) (record { moment = c.args.moment; what = x }) past))
-    (sym c.in-Order.is)
-    (hear_same c.args.receivers.now w past
-    (missing w past (Order c.in-Order.console c.in-Order.command))
-    (record { moment = c.args.moment; what = Order c.in-Order.console c.in-Order.command })
-    (λ r. refl) hear)
-
-pub returns-in_ok-reply-in-Tick-clause-hear : goal.returns-in_ok-reply-in-Tick-clause-hear
-returns-in_ok-reply-in-Tick-clause-hear g c = λ w past same all tell hear.
-    subst (λ (x : What). AllHear c.args.receivers.now w
-    (unless_skipped (missing w past x) (record { moment = c.args.moment; what = x }) past))
-    (sym c.in-Tick.is)
-    (hear_same c.args.receivers.now w past (missing w past (Tick c.in-Tick.console))
-    (record { moment = c.args.moment; what = Tick c.in-Tick.console }) (λ r. refl) hear)
+pub returns-in_ok-reply-in-Show-clause-stands : goal.returns-in_ok-reply-in-Show-clause-stands
+returns-in_ok-reply-in-Show-clause-stands g c = λ w past all.
+    rw c.in-Show.is (stand_same (StageStands g.F.Fader.stands_for) c.args.stages.now w past _
+    (record { moment = c.args.moment; what = Show c.in-Show.receiver }) (λ j. refl) all)
 
 pub returns-in_ok-reply-in-Show-clause-hear : goal.returns-in_ok-reply-in-Show-clause-hear
 returns-in_ok-reply-in-Show-clause-hear g c = λ w past same all tell hear.
-    subst (λ (x : What). AllHear c.args.receivers.now w
-    (unless_skipped (missing w past x) (record { moment = c.args.moment; what = x }) past))
-    (sym c.in-Show.is)
-    (hear_same c.args.receivers.now w past (missing w past (Show c.in-Show.receiver))
+    rw c.in-Show.is (hear_same c.args.receivers.now w past _
     (record { moment = c.args.moment; what = Show c.in-Show.receiver }) (λ r. refl) hear)
-
-pub returns-in_ok-reply-in-Tick-clause-reply : goal.returns-in_ok-reply-in-Tick-clause-reply
-returns-in_ok-reply-in-Tick-clause-reply g c = λ w past same all tell hear.
-    subst (λ (x : What). reply_of c.in_ok-reply-in-Tick.reply
-    ≡ option_map_or reply.Skipped (missing w past x) (replied w past c.args.moment x))
-    (sym c.in-Tick.is)
-    (c.in_ok-reply-in-Tick.ensures.reply w past all)
-
-pub returns-in-Deliver-clause-reply : goal.returns-in-Deliver-clause-reply
-returns-in-Deliver-clause-reply g c = λ w past same all tell hear.
-    subst (λ (x : What). reply_of c.deliver_at.result
-    ≡ option_map_or reply.Skipped (missing w past x) (replied w past c.args.moment x))
-    (sym c.in-Deliver.is)
-    (c.deliver_at.ensures.reply w past all tell hear)
 
 pub returns-in_ok-reply-in-Show-clause-reply : goal.returns-in_ok-reply-in-Show-clause-reply
 returns-in_ok-reply-in-Show-clause-reply g c = λ w past same all tell hear.
-    subst (λ (x : What). reply_of c.in_ok-reply-in-Show.reply
-    ≡ option_map_or reply.Skipped (missing w past x) (replied w past c.args.moment x))
-    (sym c.in-Show.is) (c.in_ok-reply-in-Show.ensures w past hear)
-
-pub returns-in-Deliver-clause-stands : goal.returns-in-Deliver-clause-stands
-returns-in-Deliver-clause-stands g c = λ w past all.
-    let deliver : What =
-    Deliver c.in-Deliver.receiver c.in-Deliver.console c.in-Deliver.universe c.in-Deliver.k in
-    subst (λ (x : What). AllStand (StageStands g.F.Fader.stands_for) c.args.stages.now w
-    (unless_skipped (missing w past x) (record { moment = c.args.moment; what = x }) past))
-    (sym c.in-Deliver.is)
-    (stand_same (StageStands g.F.Fader.stands_for) c.args.stages.now w past
-    (missing w past deliver) (record { moment = c.args.moment; what = deliver }) (λ j. refl) all)
-
-pub returns-in-Stray-clause-stands : goal.returns-in-Stray-clause-stands
-returns-in-Stray-clause-stands g c = λ w past all.
-    let stray : What = Stray c.in-Stray.receiver c.in-Stray.from c.in-Stray.to in
-    subst (λ (x : What). AllStand (StageStands g.F.Fader.stands_for) c.args.stages.now w
-    (unless_skipped (missing w past x) (record { moment = c.args.moment; what = x }) past))
-    (sym c.in-Stray.is)
-    (stand_same (StageStands g.F.Fader.stands_for) c.args.stages.now w past
-    (missing w past stray) (record { moment = c.args.moment; what = stray }) (λ j. refl) all)
-
-pub returns-in_ok-reply-in-Show-clause-stands : goal.returns-in_ok-reply-in-Show-clause-stands
-returns-in_ok-reply-in-Show-clause-stands g c = λ w past all.
-    subst (λ (x : What). AllStand (StageStands g.F.Fader.stands_for) c.args.stages.now w
-    (unless_skipped (missing w past x) (record { moment = c.args.moment; what = x }) past))
-    (sym c.in-Show.is)
-    (stand_same (StageStands g.F.Fader.stands_for) c.args.stages.now w past
-    (missing w past (Show c.in-Show.receiver))
-    (record { moment = c.args.moment; what = Show c.in-Show.receiver }) (λ j. refl) all)
-
-pub deliver_at-requires : goal.deliver_at-requires
-deliver_at-requires g c =
-    subst (λ (x : What). Holds c.args.stages.now x) c.in-Deliver.is c.requires.holds
+    rw c.in-Show.is (c.in_ok-reply-in-Show.ensures w past hear)

@@ -23,12 +23,11 @@ loop-i-preserved-in-Deliver c =
     let inside : row_of c.in-Deliver.console c.in-Deliver.universe < length c.loop-i.least =
     omega (arith, row, c.row_of-row.ensures.within, c.loop-i.invariant.wide) in
     subst P (sym row)
-    (lows_more c.args.events.now c.loop-i.lows.items c.loop-i.least n c.in-Deliver.receiver
-    c.in-Deliver.console c.in-Deliver.universe c.in-Deliver.k c.min.result _
-    (slice_get-get_or c.args.events.now n _ within) c.in-Deliver.is within inside less
-    (omega (arith, c.min.ensures))
+    (lows_more c.args.events.now c.loop-i.lows.items c.loop-i.least n _
+    (slice_get-get_or c.args.events.now n _ within)
     (subst (λ (i : ℕ). AreLowsFrom c.args.events.now c.loop-i.lows.items c.loop-i.least i) next
-    c.loop-i.invariant))
+    c.loop-i.invariant) c.in-Deliver.receiver c.in-Deliver.console c.in-Deliver.universe
+    c.in-Deliver.k c.min.result c.in-Deliver.is within inside less (omega (arith, c.min.ensures)))
 
 pub loop-i-preserved : goal.loop-i-preserved
 loop-i-preserved c =
@@ -38,6 +37,5 @@ loop-i-preserved c =
     let next : c.loop-i.i ≡ n + 1 = omega (arith, c.loop-i-test.true) in
     lows_still c.args.events.now c.loop-i.lows.items c.loop-i.least n _
     (slice_get-get_or c.args.events.now n _ within)
-    (λ r i u k e. c.in_default.not-Deliver r i u k e)
     (subst (λ (i : ℕ). AreLowsFrom c.args.events.now c.loop-i.lows.items c.loop-i.least i) next
-    c.loop-i.invariant)
+    c.loop-i.invariant) c.in_default.not-Deliver

@@ -1,8 +1,8 @@
 use Rattle.std.proofs.Common.{refl, subst, sym}
+use Rattle.std.proofs.lemmas.Result.{IfOk-weaker}
 use Rattle.wire_world.specs.Stands.{world_of}
 use Rattle.wire_world.proofs.Openings.{begun}
 use Rattle.wire_world.proofs.Sources.{sources}
-use Rattle.wire_world.proofs.Ticks.{if_ok}
 use Rattle.wire_world.specs.Wanted.{AreUpTo}
 use Rattle.wire_world.specs.StageStands.{StageStands, Tells}
 use Rattle.wire_world.proofs.perform.perform.Goals as goal
@@ -17,34 +17,27 @@ run-requires-clause-begun g c = (
       c.args.strays.now c.in_ok-stages.ensures.opened c.in_ok-listeners.ensures),
 )
 
-pub returns-clause-replies : goal.returns-clause-replies
-returns-clause-replies g c =
-    if_ok c.run.result _ _
-    (λ report h. h (world_of c.args.shows.now c.args.consoles.now c.args.receivers.now
-    c.args.strays.now) refl
-    (rw (c.as_mut_slice.ensures.value, c.as_mut_slice-2.ensures.value)
-    (begun (StageStands g.F.Fader.stands_for) Tells c.in_ok-stages.stages.items
+pub returns : goal.returns
+returns g c =
+    let w = world_of c.args.shows.now c.args.consoles.now c.args.receivers.now
+    c.args.strays.now in
+    let are = begun (StageStands g.F.Fader.stands_for) Tells c.in_ok-stages.stages.items
     c.in_ok-listeners.listeners.items c.args.shows.now c.args.consoles.now c.args.receivers.now
-    c.args.strays.now c.in_ok-stages.ensures.opened c.in_ok-listeners.ensures)))
-    c.run.ensures.replies
-
-pub returns-clause-last : goal.returns-clause-last
-returns-clause-last g c =
-    if_ok c.run.result _ _
-    (λ report h. h (world_of c.args.shows.now c.args.consoles.now c.args.receivers.now
-    c.args.strays.now) refl
-    (rw (c.as_mut_slice.ensures.value, c.as_mut_slice-2.ensures.value)
-    (begun (StageStands g.F.Fader.stands_for) Tells c.in_ok-stages.stages.items
-    c.in_ok-listeners.listeners.items c.args.shows.now c.args.consoles.now c.args.receivers.now
-    c.args.strays.now c.in_ok-stages.ensures.opened c.in_ok-listeners.ensures)))
-    c.run.ensures.last
-
-pub returns-clause-sources : goal.returns-clause-sources
-returns-clause-sources g c =
-    if_ok c.run.result _ _
-    (λ report h. sources g.F.Fader.stands_for c.in_ok-stages.stages.items c.args.shows.now
-    c.args.consoles.now c.in_ok-stages.ensures.opened)
-    c.run.ensures.last
+    c.args.strays.now c.in_ok-stages.ensures.opened c.in_ok-listeners.ensures in
+    record {
+      replies = IfOk-weaker c.run.result _ _
+          (λ report h. h w refl
+          (rw (c.as_mut_slice.ensures.value, c.as_mut_slice-2.ensures.value) are))
+          c.run.ensures.replies;
+      last = IfOk-weaker c.run.result _ _
+          (λ report h. h w refl
+          (rw (c.as_mut_slice.ensures.value, c.as_mut_slice-2.ensures.value) are))
+          c.run.ensures.last;
+      sources = IfOk-weaker c.run.result _ _
+          (λ report h. sources g.F.Fader.stands_for c.in_ok-stages.stages.items
+          c.args.shows.now c.args.consoles.now c.in_ok-stages.ensures.opened)
+          c.run.ensures.last;
+    }
 
 pub run-requires-clause-wanted : goal.run-requires-clause-wanted
 run-requires-clause-wanted g c =

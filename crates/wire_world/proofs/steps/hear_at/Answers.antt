@@ -4,17 +4,17 @@ use Rattle.wire_world.proofs.Receivers.{replied_is, hear_set}
 use Rattle.wire_world.proofs.steps.hear_at.Goals as goal
 
 pub returns-clause-reply : goal.returns-clause-reply
-returns-clause-reply c = λ w past all.
-    let at = slice_get-get_or c.args.receivers.now c.from-r.result c.index-receivers-r.result
-    c.if-r-receivers.false in
-    c.taken.ensures ∙ replied_is c.args.receivers.now w past all c.from-r.result _ at
-    c.args.receiver c.args.moment c.args.datagram.now c.take.result c.from-r.ensures
-    c.take.ensures.answer
+returns-clause-reply c = rw (← c.from-r.ensures) (λ w past all.
+    c.taken.ensures
+    ∙ replied_is c.args.receivers.now w past all c.from-r.result _
+    (slice_get-get_or c.args.receivers.now c.from-r.result c.index-receivers-r.result
+    c.if-r-receivers.false) c.args.moment c.args.datagram.now c.take.result
+    c.take.ensures.answer)
 
 pub returns-clause-hear : goal.returns-clause-hear
-returns-clause-hear c = λ w past e all time hands.
-    let at = slice_get-get_or c.args.receivers.now c.from-r.result c.index-receivers-r.result
-    c.if-r-receivers.false in
-    hear_set c.args.receivers.now w past all c.from-r.result _ at c.take.new.self c.args.moment
-    c.args.datagram.now c.take.result c.take.ensures.answer c.take.ensures.accepted
-    c.take.ensures.ignored c.take.ensures.universe c.args.receiver e c.from-r.ensures time hands
+returns-clause-hear c = rw (← c.from-r.ensures) (λ w past e all time hands.
+    hear_set c.args.receivers.now w past all c.from-r.result _
+    (slice_get-get_or c.args.receivers.now c.from-r.result c.index-receivers-r.result
+    c.if-r-receivers.false) c.take.new.self e c.args.moment c.args.datagram.now c.take.result
+    c.take.ensures.answer c.take.ensures.accepted c.take.ensures.ignored c.take.ensures.universe
+    time hands)
