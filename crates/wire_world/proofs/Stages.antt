@@ -3,7 +3,8 @@ use Rattle.console.specs.Streams.{Production}
 use Rattle.std.proofs.Common.{◌≡◌, ℕ, zero, suc, ◌<◌, ◌≤◌, true, false, refl, ap, sym}
 use Rattle.std.proofs.Common.{subst, ◌∙◌, List, [], ◌∷◌, length, set, get_or, Option, Some, None}
 use Rattle.std.proofs.Common.{Result, Ok, Err, inl, inr, arith}
-use Rattle.std.specs.Prelude.{if◌then◌else◌, is_some, slice_get, nat_eq, nat_lt, OnOk, OnErr}
+use Rattle.std.specs.Prelude.{if◌then◌else◌, is_some, slice_get, nat_eq, nat_lt, IfOk, OnOk}
+use Rattle.std.specs.Prelude.{OnErr}
 use Rattle.std.specs.Option.{option_map, option_map_or}
 use Rattle.std.specs.Result.{result_err}
 use Rattle.std.proofs.lemmas.Bool.{eq-eqb}
@@ -21,7 +22,7 @@ use Rattle.wire_laws.specs.Happened.{call_of, unless_refused, acts}
 use Rattle.sacn_source.specs.Stream.{Packet}
 use Rattle.sacn_receiver.specs.Kept.{Kept}
 use Rattle.wire_laws.specs.declared.event.What.TheVariants.{Deliver}
-use Rattle.wire_laws.specs.declared.reply.Skip.TheVariants.{NotSent}
+use Rattle.wire_laws.specs.declared.reply.Skip.TheVariants.{NoConsole, NotSent}
 use Rattle.wire_laws.specs.Happened.{bytes_of, datagram, sent}
 use Rattle.wire_laws.specs.Datagrams.{packet_bytes}
 use Rattle.wire_laws.specs.Replies.{no_console_at, missing}
@@ -59,6 +60,12 @@ lt_false m n h = grind (arith, nat_tests)
 pub tell_set : {S : Type 0} (tells : S → Type 0) (stages : List S) (k : ℕ) (is : S) → tells is
     → AllTell tells stages → AllTell tells (set stages k is)
 tell_set tells stages k is new all = all_set (λ _. tells) stages k is new (λ j s _. all j s)
+
+-- a console that is not there
+pub no_console : {here : ℕ} (w : World) (k n : ℕ) → here ≡ length w.consoles → k ≡ n → here ≤ k
+    → no_console_at w n ≡ Some NoConsole
+no_console w k n each same l =
+    rw (lt_false n (length w.consoles) (omega (arith, each, same, l)))
 
 -- what a call leaves of a console
 pub moved : {S A : Type 0} (P : List Act → S → Type 0) (was is : S) (act : Act) (h : List Act)
@@ -144,7 +151,8 @@ module _ {S : Type 0} (st : S → Production → List Act → Type 0) (tells : S
     (stages : List S) (receivers : List Kept) (console receiver universe n : ℕ) (was : S)
     (at : slice_get stages console ≡ Some was) (few : receiver < length receivers)
     (o : Option (List ℕ))
-    (found : (p : Production) (h : List Act) → st was p h → tells was → o ≡ bytes_of p h universe n)
+    (found : (p : Production) (h : List Act) → st was p h → tells was
+    → o ≡ bytes_of p h universe n)
     (w : World) (past : List Event) (all : AllStand st stages w past)
     (tell : AllTell tells stages) (hear : AllHear receivers w past) where
   pub is_found : o ≡ datagram w console universe n past
@@ -159,9 +167,15 @@ module _ {S : Type 0} (st : S → Production → List Act → Type 0) (tells : S
   missed = rw (
     here st stages w past all console was at,
     is_receiver,
-    is_sent (packet_bytes (console_at w console).source universe n) (sent w console universe past) n,
+    is_sent (packet_bytes (console_at w console).source universe n)
+        (sent w console universe past) n,
   )
       (ap (λ o. if is_some o then None else Some NotSent) (sym is_found))
+
+-- what holds of any value
+pub always : {A E : Type 0} (r : Result A E) (P : A → Type 0) → ((a : A) → P a) → IfOk r P
+always (Ok a) P h = h a
+always (Err e) P h = tt
 
 -- an event that is no call leaves the consoles
 pub stand_same : {S : Type 0} (st : S → Production → List Act → Type 0) (stages : List S)

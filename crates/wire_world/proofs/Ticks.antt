@@ -84,12 +84,12 @@ module _ {F : Type 0} (sf : F → List Start → Type 0) (old new : Stage F) (m 
       → StageStands sf new p h)
   stands_refused = err_from r (new.console ≡ old.console)
       (sent.full ≡ false → sends_of sent ≡ sends_of empty) _ (λ same quiet p h s. record {
-    console_stands = subst (λ c. StandsFor sf p c h) (sym same) s.console_stands;
-    packets_kept = λ t u. rw last
-        (subst (λ (xs : List (List ℕ)). IsRest (gone_of new.shelves.items u)
-        (kept_of new.shelves.items u) (take (old.last + 1) xs)) (none_more u (quiet (tells t)) _)
-        (rest t u _ (s.packets_kept (told (tells t)) u)));
-  }) same quiet
+        console_stands = subst (λ c. StandsFor sf p c h) (sym same) s.console_stands;
+        packets_kept = λ t u. rw last
+            (subst (λ (xs : List (List ℕ)). IsRest (gone_of new.shelves.items u)
+            (kept_of new.shelves.items u) (take (old.last + 1) xs))
+            (none_more u (quiet (tells t)) _) (rest t u _ (s.packets_kept (told (tells t)) u)));
+      }) same quiet
 
   pub leaves : ((p : Production) (h : List Act) → StandsFor sf p old.console h → Tells new
       → IfOk r (λ a. a.1 ≡ map due_answer (dues_at p h m)))

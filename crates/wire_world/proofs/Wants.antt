@@ -62,7 +62,8 @@ pub holds_less : {F : Type 0} (stages : List (Stage F)) (receiver i universe k l
     (was is : Stage F) → slice_get stages i ≡ Some was
     → ((u k : ℕ) → gone_of was.shelves.items u ≤ k → (universe ≡ u → low ≤ k)
     → gone_of is.shelves.items u ≤ k)
-    → is.last ≡ was.last → (later : What) → Holds stages later → Spares (Deliver receiver i universe k) low later
+    → is.last ≡ was.last → (later : What) → Holds stages later
+    → Spares (Deliver receiver i universe k) low later
     → Holds (set stages i is) later
 holds_less stages receiver i universe k low was is at less last (Order j c) h s = tt
 holds_less stages receiver i universe k low was is at less last (Tick j) h s = tt

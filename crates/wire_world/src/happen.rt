@@ -51,10 +51,7 @@ pub(crate) fn happen<F: Fader>(
 {
     match what {
         What::Order(console, command) => Ok(order_at(stages, console, moment, command)),
-        What::Tick(console) => {
-            let reply = tick_at(alloc, stages, console, moment)?;
-            Ok(reply)
-        }
+        What::Tick(console) => tick_at(alloc, stages, console, moment),
         What::Deliver {
             receiver,
             console,
@@ -65,9 +62,6 @@ pub(crate) fn happen<F: Fader>(
             let bytes = &strays[from as usize..to as usize];
             Ok(hear_at(receivers, receiver, moment, bytes))
         }
-        What::Show(receiver) => {
-            let reply = show_at(alloc, receivers, receiver, moment)?;
-            Ok(reply)
-        }
+        What::Show(receiver) => show_at(alloc, receivers, receiver, moment),
     }
 }

@@ -73,8 +73,7 @@ pub(crate) fn tick_at<F: Fader>(
     if stage.is_full() {
         return Err(AllocError);
     }
-    let reply = ticked(alloc, answer)?;
-    Ok(reply)
+    ticked(alloc, answer)
 }
 
 // A datagram reaches a receiver.

@@ -5,12 +5,18 @@ use Rattle.wire_laws.specs.declared.event.What.TheVariants.{Order, Tick, Deliver
 use Rattle.wire_laws.specs.declared.reply.Reply.TheVariants as reply
 use Rattle.wire_laws.specs.Replies.{no_receiver_at, taken_by}
 use Rattle.wire_world.proofs.Receivers.{hear_same}
-use Rattle.wire_world.proofs.Stages.{stand_same}
+use Rattle.wire_world.proofs.Stages.{always, stand_same}
+use Rattle.std.proofs.lemmas.Result.{IfOk-weaker}
+use Rattle.wire_laws.specs.declared.event.Event.{Event}
 use Rattle.wire_world.specs.StageStands.{StageStands}
 use Rattle.wire_world.proofs.happen.happen.Goals as goal
 
 pub returns-in-Order-clause-stands : goal.returns-in-Order-clause-stands
 returns-in-Order-clause-stands g c = rw c.in-Order.is c.order_at.ensures.stands
+
+pub returns-in-Order-clause-reply : goal.returns-in-Order-clause-reply
+returns-in-Order-clause-reply g c = λ w past same all tell hear.
+    rw c.in-Order.is (c.order_at.ensures.reply w past all)
 
 pub returns-in-Order-clause-hear : goal.returns-in-Order-clause-hear
 returns-in-Order-clause-hear g c = λ w past same all tell hear.
@@ -18,26 +24,26 @@ returns-in-Order-clause-hear g c = λ w past same all tell hear.
     (record { moment = c.args.moment; what = Order c.in-Order.console c.in-Order.command })
     (λ r. refl) hear)
 
-pub returns-in_ok-reply-in-Tick-clause-stands : goal.returns-in_ok-reply-in-Tick-clause-stands
-returns-in_ok-reply-in-Tick-clause-stands g c =
-    rw c.in-Tick.is c.in_ok-reply-in-Tick.ensures.stands
+pub returns-in-Tick-clause-stands : goal.returns-in-Tick-clause-stands
+returns-in-Tick-clause-stands g c = rw c.in-Tick.is c.tick_at.ensures.stands
 
-pub returns-in_ok-reply-in-Tick-clause-hear : goal.returns-in_ok-reply-in-Tick-clause-hear
-returns-in_ok-reply-in-Tick-clause-hear g c = λ w past same all tell hear.
+pub returns-in-Tick-clause-hear : goal.returns-in-Tick-clause-hear
+returns-in-Tick-clause-hear g c =
+    always c.tick_at.result _ (λ _ w past same all tell hear.
     rw c.in-Tick.is (hear_same c.args.receivers.now w past _
-    (record { moment = c.args.moment; what = Tick c.in-Tick.console }) (λ r. refl) hear)
+    (record { moment = c.args.moment; what = Tick c.in-Tick.console }) (λ r. refl) hear))
 
-pub returns-in_ok-reply-in-Tick-clause-reply : goal.returns-in_ok-reply-in-Tick-clause-reply
-returns-in_ok-reply-in-Tick-clause-reply g c = λ w past same all tell hear.
-    rw c.in-Tick.is (c.in_ok-reply-in-Tick.ensures.reply w past all)
+pub returns-in-Tick-clause-reply : goal.returns-in-Tick-clause-reply
+returns-in-Tick-clause-reply g c =
+    IfOk-weaker c.tick_at.result _ _
+    (λ reply is w past same all tell hear. rw c.in-Tick.is (is w past all))
+    c.tick_at.ensures.reply
 
 pub returns-in-Deliver-clause-stands : goal.returns-in-Deliver-clause-stands
 returns-in-Deliver-clause-stands g c = λ w past all.
-    rw c.in-Deliver.is (stand_same (StageStands g.F.Fader.stands_for) c.args.stages.now w past _
-    (record {
-      moment = c.args.moment;
-      what = Deliver c.in-Deliver.receiver c.in-Deliver.console c.in-Deliver.universe c.in-Deliver.k;
-    })
+    let d = c.in-Deliver in
+    rw d.is (stand_same (StageStands g.F.Fader.stands_for) c.args.stages.now w past _
+    (record { moment = c.args.moment; what = Deliver d.receiver d.console d.universe d.k })
     (λ j. refl) all)
 
 pub returns-in-Deliver-clause-hear : goal.returns-in-Deliver-clause-hear
@@ -78,16 +84,18 @@ returns-in-Stray-clause-reply g c = λ w past same all tell hear.
     (taken_by w c.in-Stray.receiver past c.args.moment
     (slice_range s c.in-Stray.from c.in-Stray.to))) (sym same))
 
-pub returns-in_ok-reply-in-Show-clause-stands : goal.returns-in_ok-reply-in-Show-clause-stands
-returns-in_ok-reply-in-Show-clause-stands g c = λ w past all.
-    rw c.in-Show.is (stand_same (StageStands g.F.Fader.stands_for) c.args.stages.now w past _
-    (record { moment = c.args.moment; what = Show c.in-Show.receiver }) (λ j. refl) all)
-
-pub returns-in_ok-reply-in-Show-clause-hear : goal.returns-in_ok-reply-in-Show-clause-hear
-returns-in_ok-reply-in-Show-clause-hear g c = λ w past same all tell hear.
-    rw c.in-Show.is (hear_same c.args.receivers.now w past _
-    (record { moment = c.args.moment; what = Show c.in-Show.receiver }) (λ r. refl) hear)
-
-pub returns-in_ok-reply-in-Show-clause-reply : goal.returns-in_ok-reply-in-Show-clause-reply
-returns-in_ok-reply-in-Show-clause-reply g c = λ w past same all tell hear.
-    rw c.in-Show.is (c.in_ok-reply-in-Show.ensures w past hear)
+pub returns-in-Show : goal.returns-in-Show
+returns-in-Show g c =
+    let show : Event = record { moment = c.args.moment; what = Show c.in-Show.receiver } in
+    record {
+      tell = always c.show_at.result _ (λ _ all. all);
+      spans = always c.show_at.result _ (λ _ i u. refl);
+      reply = IfOk-weaker c.show_at.result _ _
+          (λ reply is w past same all tell hear. rw c.in-Show.is (is w past hear))
+          c.show_at.ensures;
+      stands = always c.show_at.result _ (λ _ w past all. rw c.in-Show.is
+          (stand_same (StageStands g.F.Fader.stands_for) c.args.stages.now w past _ show
+          (λ j. refl) all));
+      hear = always c.show_at.result _ (λ _ w past same all tell hear. rw c.in-Show.is
+          (hear_same c.args.receivers.now w past _ show (λ r. refl) hear));
+    }

@@ -8,7 +8,8 @@ loop-i-preserved c =
     up_to_next c.args.events.now c.loop-i.last c.max-last.result c.loop-i.i _
     (slice_get-get_or c.args.events.now c.loop-i.i _ c.loop-i-test.true)
     (omega (arith, c.max-last.ensures))
-    (up_to_more c.wanted.result c.max-last.result (omega (arith, c.max-last.ensures)) _ c.wanted.ensures)
+    (up_to_more c.wanted.result c.max-last.result (omega (arith, c.max-last.ensures)) _
+    c.wanted.ensures)
     c.loop-i.invariant
 
 pub returns : goal.returns

@@ -6,7 +6,8 @@ use Rattle.std.proofs.lemmas.Result.{on_err_weaker}
 use Rattle.desk_core.specs.Played.{order}
 use Rattle.wire_laws.specs.World.{console_at}
 use Rattle.wire_laws.specs.Happened.{acts}
-use Rattle.wire_world.proofs.Stages.{tell_set, err_of, stand_call, stood, no_skip, order_answer}
+use Rattle.wire_world.proofs.Stages.{tell_set, err_of, stand_call, stood, no_console, no_skip}
+use Rattle.wire_world.proofs.Stages.{order_answer}
 use Rattle.wire_world.proofs.Wants.{spans_set}
 use Rattle.wire_world.specs.Stands.{order_reply}
 use Rattle.wire_world.specs.StageStands.{StageStands, Tells}
@@ -20,8 +21,8 @@ returns g c =
     record {
       tell = λ all. tell_set Tells c.args.stages.now _ c.order.new.self
           (c.order.ensures.still_tells (all _ _ at)) all;
-      spans = rw c.from-i.ensures (spans_set c.args.stages.now k _ c.order.new.self at c.order.ensures.gone
-          c.order.ensures.last);
+      spans = rw c.from-i.ensures (spans_set c.args.stages.now k _ c.order.new.self at
+          c.order.ensures.gone c.order.ensures.last);
       reply = λ w past all.
           rw (no_skip (StageStands g.F.Fader.stands_for) c.args.stages.now w past all k _ at)
           (c.ordered.ensures ∙ ap order_reply
@@ -38,3 +39,13 @@ returns g c =
           subst (λ y. StageStands g.F.Fader.stands_for y d h) (sym same) s)
           c.order.ensures.unchanged));
     }
+
+pub returns-then-i-stages : goal.returns-then-i-stages
+returns-then-i-stages g c = record {
+  tell = λ all. all;
+  spans = λ i u. refl;
+  reply = λ w past all.
+      rw (no_console w _ c.args.console all.each c.from-i.ensures c.if-i-stages.true) refl;
+  stands = λ w past all.
+      rw (no_console w _ c.args.console all.each c.from-i.ensures c.if-i-stages.true) all;
+}

@@ -5,7 +5,9 @@ use Rattle.std.proofs.lemmas.Option.{slice_get-get_or}
 use Rattle.desk_core.specs.Played.{tick}
 use Rattle.wire_laws.specs.World.{console_at}
 use Rattle.wire_laws.specs.Happened.{acts}
-use Rattle.wire_world.proofs.Stages.{err_of, no_skip, stand_call, stood, tell_set, tick_answer}
+use Rattle.wire_world.proofs.Stages.{always, err_of, no_console, no_skip, stand_call}
+use Rattle.wire_world.proofs.Stages.{stood, tell_set, tick_answer}
+use Rattle.std.proofs.lemmas.Result.{IfOk-weaker}
 use Rattle.wire_world.proofs.Wants.{spans_set}
 use Rattle.wire_world.specs.Stands.{tick_reply}
 use Rattle.wire_world.specs.StageStands.{StageStands, Tells}
@@ -31,19 +33,31 @@ returns g c =
     ∙ slice_get-get_or c.args.stages.now _ c.index-stages-i.result c.if-i-stages.false in
     let tells = sym c.if-is_full.ensures in
     record {
-      tell = λ all. tell_set Tells c.args.stages.now _ c.tick-answer.new.self tells all;
-      spans = rw c.from-i.ensures (spans_set c.args.stages.now k _ c.tick-answer.new.self at
-          (c.tick-answer.ensures.gone tells) c.tick-answer.ensures.last);
-      reply = λ w past all.
+      tell = always c.ticked.result _ (λ _ all.
+          tell_set Tells c.args.stages.now _ c.tick-answer.new.self tells all);
+      spans = always c.ticked.result _ (λ _. rw c.from-i.ensures
+          (spans_set c.args.stages.now k _ c.tick-answer.new.self at
+          (c.tick-answer.ensures.gone tells) c.tick-answer.ensures.last));
+      reply = IfOk-weaker c.ticked.result _ _ (λ reply is w past all.
           rw (no_skip (StageStands g.F.Fader.stands_for) c.args.stages.now w past all k _ at)
-          (c.in_ok-reply.ensures ∙ ap tick_reply
+          (is ∙ ap tick_reply
           (c.tick-answer.ensures.answer (console_at w k) (acts w k past)
           (stood (StageStands g.F.Fader.stands_for) c.args.stages.now w past all k _ at) tells)
-          ∙ tick_answer _ _ _);
-      stands = λ w past all. rw c.from-i.ensures (
-          stand_call (StageStands g.F.Fader.stands_for) c.args.stages.now w past all k _ at
+          ∙ tick_answer _ _ _)) c.ticked.ensures;
+      stands = always c.ticked.result _ (λ _ w past all. rw c.from-i.ensures
+          (stand_call (StageStands g.F.Fader.stands_for) c.args.stages.now w past all k _ at
           c.tick-answer.new.self (record { moment = c.args.moment; what = _ }) tick
           c.tick-answer.result (λ j. refl)
           (λ d h s. ap result_err (c.tick-answer.ensures.answer d h s tells) ∙ err_of _ _)
-          c.tick-answer.ensures.stands c.tick-answer.ensures.kept);
+          c.tick-answer.ensures.stands c.tick-answer.ensures.kept));
     }
+
+pub returns-then-i-stages : goal.returns-then-i-stages
+returns-then-i-stages g c = record {
+  tell = λ all. all;
+  spans = λ i u. refl;
+  reply = λ w past all.
+      rw (no_console w _ c.args.console all.each c.from-i.ensures c.if-i-stages.true) refl;
+  stands = λ w past all.
+      rw (no_console w _ c.args.console all.each c.from-i.ensures c.if-i-stages.true) all;
+}

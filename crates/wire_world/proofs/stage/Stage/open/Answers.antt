@@ -6,5 +6,6 @@ pub returns-clause-stands : goal.returns-clause-stands
 returns-clause-stands g c = record {
   console_stands = c.in_ok-console.ensures.stands;
   packets_kept = λ t u. rw c.new-2.ensures.items (first_rest
-      (record { show = c.args.show.now; base = c.args.base; source = c.args.source }) u (c.args.last + 1));
+      (record { show = c.args.show.now; base = c.args.base; source = c.args.source }) u
+      (c.args.last + 1));
 }
