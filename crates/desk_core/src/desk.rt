@@ -227,19 +227,46 @@ impl<F: Fader> Desk<F> {
             → let act : Act = record { moment = moment; call = tick } in
             StandsFor F.stands_for show base self.new (act ∷ history) }
     {
-        self.keep_floors();
-        let Some(moving) = self.movable(moment) else {
-            self.tick_all(moment);
-            return;
-        };
-        if moving.is_empty() {
+        if self.is_still(moment) {
             self.tick_still(moment);
-            return;
+        } else {
+            self.tick_moving(moment);
         }
+    }
+
+    // Whether no channel moves, and what is kept is what the commands before mean.
+    fn is_still(&self, moment: u64) -> bool
+        ensures kept { IsTrue result → IsTrue self.now.is_kept }
+        ensures none_due { IsTrue result → IsFalse (is_by self.now.playback.due moment) }
+        ensures still { IsTrue result → (show : Tables) (moves : List Move) (stopped : Bool)
+            (channel later : ℕ)
+            → playback_stands.StandsFor F.stands_for show self.now.playback moves stopped
+            → IsTrue (is_channel channel) → F.latest self.now.playback.fader ≤ later
+            → playback_level show moves channel later
+            ≡ playback_level show moves channel (F.latest self.now.playback.fader) }
+    {
+        self.movable(moment).is_some_and(|moving| moving.is_empty())
+    }
+
+    // Draws what may have changed. It is called, so that a tick at which nothing moves saves no
+    // registers.
+    #[inline(never)]
+    fn tick_moving(&mut self, moment: u64)
+        requires not_before { self.old.last_moment ≤ moment }
+        requires below { moment < 2 ^ 48 }
+        requires live { self.old.ended ≡ None }
+        ensures { (show : Tables) (base : ℕ) (history : List Act)
+            → StandsFor F.stands_for show base self.old history
+            → let act : Act = record { moment = moment; call = tick } in
+            StandsFor F.stands_for show base self.new (act ∷ history) }
+    {
+        self.keep_floors();
         let mut channels = ArrayVec::<u16, FEW>::new();
-        match channels.try_extend_from_slice(moving) {
-            Ok(()) => self.tick_few(moment, &channels),
-            Err(_) => self.tick_all(moment),
+        match self.movable(moment) {
+            Some(moving) if channels.try_extend_from_slice(moving).is_ok() => {
+                self.tick_few(moment, &channels)
+            }
+            _ => self.tick_all(moment),
         }
     }
 
@@ -302,9 +329,7 @@ impl<F: Fader> Desk<F> {
         self.last_tick = Some(moment);
     }
 
-    // Draws these channels anew: each other one has the level that it had. It is called, as is
-    // `tick_all`, so that a tick at which nothing moves saves no registers.
-    #[inline(never)]
+    // Draws these channels anew: each other one has the level that it had.
     fn tick_few(&mut self, moment: u64, channels: &[u16])
         requires not_before { self.old.last_moment ≤ moment }
         requires below { moment < 2 ^ 48 }
@@ -341,7 +366,6 @@ impl<F: Fader> Desk<F> {
     }
 
     // Draws every channel.
-    #[inline(never)]
     fn tick_all(&mut self, moment: u64)
         requires not_before { self.old.last_moment ≤ moment }
         requires below { moment < 2 ^ 48 }

@@ -1,4 +1,4 @@
-ghost use Rattle.std.specs.Prelude.{◌≡◌, ℕ, ◌+◌, ◌<◌, IfOk, length, slice_index};
+ghost use Rattle.std.specs.Prelude.{◌≡◌, ℕ, ◌+◌, ◌<◌, ◌≤◌, IfOk, length, slice_index};
 ghost use Rattle.std.specs.List.Sorted.{IsPermutation, IsNonDecreasingBy};
 ghost use Rattle.patch_core.specs.Index.{IsBegin};
 
@@ -19,15 +19,16 @@ pub fn sorted_by_channel(
 }
 
 // For each channel from 0 to 4096, the place where the dimmers of the channels above it begin.
-pub fn begins_of(alloc: Global, sorted: &[(u16, (u16, u8))]) -> Result<Vec<usize>, AllocError>
-    requires { IsNonDecreasingBy (λ e. e.1.0) sorted.now }
+pub fn begins_of(alloc: Global, sorted: &[(u16, (u16, u8))]) -> Result<Vec<u16>, AllocError>
+    requires rising { IsNonDecreasingBy (λ e. e.1.0) sorted.now }
+    requires few { length sorted.now ≤ 8192 }
     ensures each { IfOk result (λ begins. length begins.items ≡ 4097) }
     ensures places { IfOk result (λ begins. (c : ℕ) → c < 4097
         → IsBegin sorted.now (c + 1) (slice_index begins.items c)) }
 {
     let mut begins = Vec::with_capacity(alloc, usize::from(CHANNELS) + 1)?;
     for channel in 1..=CHANNELS + 1 {
-        begins.push(first_of(sorted, channel))?;
+        begins.push(first_of(sorted, channel) as u16)?;
     }
     Ok(begins)
 }

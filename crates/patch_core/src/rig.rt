@@ -26,7 +26,7 @@ pub struct Rig {
     base: u16,
     dimmers: Vec<(u16, (u16, u8))>,
     by_channel: Vec<(u16, (u16, u8))>,
-    begins: Vec<usize>,
+    begins: Vec<u16>,
     sources: Vec<u16>,
     bytes: Vec<u8>,
     kinds: Vec<Bytes>,

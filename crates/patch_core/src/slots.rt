@@ -13,7 +13,7 @@ use show_core::{SLOTS, slot};
 pub fn redraw_channels(
     frames: &mut [[u8; 512]],
     by_channel: &[(u16, (u16, u8))],
-    begins: &[usize],
+    begins: &[u16],
     channels: &[u16],
     levels: &[u16],
     grand: u8,
@@ -42,8 +42,8 @@ pub fn redraw_channels(
 {
     for channel in channels {
         let place = usize::from(*channel);
-        let from = begins[place - 1];
-        let to = begins[place];
+        let from = usize::from(begins[place - 1]);
+        let to = usize::from(begins[place]);
         let level = u32::from(levels[place - 1]);
         redraw_run(frames, by_channel, from, to, level, grand);
     }

@@ -31,9 +31,12 @@ loop-channel-preserved c = record {
       (want patch c.args.by_channel.now c.args.begins.now index after c.args.grand k one_up few
       old)
       (λ at at_is unlisted. kept patch c.args.by_channel.now c.args.begins.now index after
-      c.args.grand k one_up few old at unlisted)
+      c.args.grand k one_up few old at
+      (λ p low high. unlisted p (omega (arith, low, c.from-from.ensures))
+      (omega (arith, high, c.from-to.ensures))))
       (λ p low high. drawn patch c.args.by_channel.now c.args.begins.now index after c.args.grand k
-      one_up few old c.from-level.result p (c.from-level.ensures ∙ level_is) low high)
+      one_up few old c.from-level.result p (c.from-level.ensures ∙ level_is)
+      (omega (arith, low, c.from-from.ensures)) (omega (arith, high, c.from-to.ensures)))
       dimmer is
       ∙ next patch c.args.by_channel.now c.args.begins.now index after c.args.grand k one_up few old
       c.args.channels.now j dimmer here

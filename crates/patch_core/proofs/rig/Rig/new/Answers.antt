@@ -1,8 +1,11 @@
-use Rattle.std.proofs.Common.{◌≡◌, ℕ, ◌+◌, ◌<◌, List, IsTrue, get_or, sym, subst, ap, ◌∙◌}
+use Rattle.std.proofs.Common.{◌≡◌, ℕ, ◌+◌, ◌<◌, List, IsTrue, get_or, length, sym, subst, ap, ◌∙◌}
 use Rattle.std.proofs.Common.{◌*◌, arith}
 use Rattle.std.specs.Option.{option_map_or}
 use Rattle.std.specs.Vec.{with_items}
 use Rattle.std.proofs.lemmas.List.{with_items_is}
+use Rattle.std.proofs.lemmas.List.Elements.{All-map}
+use Rattle.std.proofs.lemmas.List.Sorted.{length_permutation}
+use Rattle.show_core.proofs.Ranges.{len_fits}
 use Rattle.show_core.specs.Readers.{slot_of}
 use Rattle.patch_core.specs.Sources.{AreOf, AreSources}
 use Rattle.patch_core.specs.declared.sources.Bytes.TheVariants.{Mixed}
@@ -89,6 +92,24 @@ invariant_of-result c =
       base_in = subst (λ p. IsTrue (is_base p c.args.base)) (sym is)
           (sym c.has_numbers.ensures ∙ c.if-not-has_numbers.false);
     }
+
+pub begins_of-requires-clause-few : goal.begins_of-requires-clause-few
+begins_of-requires-clause-few c =
+    let patch : PatchMap = c.args.show.now.patch in
+    let keys : All (λ k. IsTrue (is_dimmer k)) (map.keys patch) =
+    All-map (λ k. IsTrue (is_dimmer k)) (λ e. e.0) (map.entries patch)
+    (subst (λ es. All (λ e. IsTrue (is_dimmer e.0)) es) c.patch.ensures.entries
+    (λ k d lt. (c.patch.ensures.range k d lt).0)) in
+    omega (
+      arith,
+      len_fits 8192 patch keys,
+      map.len-entries patch,
+      ap length (c.in_ok-dimmers.ensures.items ∙ c.patch.ensures.entries),
+      length_permutation c.deref.result.now c.in_ok-by_channel.by_channel.items
+      c.in_ok-by_channel.ensures.same,
+      ap length c.deref.ensures.value,
+      ap length c.deref-2.ensures.value,
+    )
 
 pub write_sources-requires-clause-sorted : goal.write_sources-requires-clause-sorted
 write_sources-requires-clause-sorted c =
