@@ -3,7 +3,7 @@ use Rattle.std.proofs.Common.{◌≡◌, ℕ, zero, suc, ◌+◌, ◌-◌, ◌�
 use Rattle.std.proofs.Common.{List, [], ◌∷◌, ◌++◌, length, length-append, arith, take}
 use Rattle.std.proofs.Common.{◌<◌, subst, true, Option, Some, None}
 use Rattle.std.specs.Prelude.{slice_get, is_some}
-use Rattle.std.specs.Option.{option_to_list}
+use Rattle.std.specs.Option.{option_map, option_to_list}
 use Rattle.std.proofs.lemmas.List.{append_assoc, length-take, take-append-le, take_all}
 use Rattle.wire_world.specs.Shelves.{IsRest}
 
@@ -68,12 +68,12 @@ rest_less gone packet kept all r = record {
   count = omega (arith, length-append r.before (packet ∷ []), r.count);
 }
 
-pub rest_popped : (gone : ℕ) (first : Option (List ℕ)) (was kept all : List (List ℕ))
-    → was ≡ option_to_list first ++ kept → is_some first ≡ true → IsRest gone was all
-    → IsRest (gone + 1) kept all
-rest_popped gone None was kept all e some r = cc
-rest_popped gone (Some packet) was kept all e some r =
-    rest_less gone packet kept all (subst (λ xs. IsRest gone xs all) e r)
+pub rest_popped : {A : Type 0} (of : A → List ℕ) (gone : ℕ) (first : Option A)
+    (was kept all : List (List ℕ)) → was ≡ option_to_list (option_map of first) ++ kept
+    → is_some first ≡ true → IsRest gone was all → IsRest (gone + 1) kept all
+rest_popped of gone None was kept all e some r = cc
+rest_popped of gone (Some packet) was kept all e some r =
+    rest_less gone (of packet) kept all (subst (λ xs. IsRest gone xs all) e r)
 
 behind : {A : Type 0} (xs ys : List A) (k : ℕ) → length xs ≤ k
     → slice_get ys (k - length xs) ≡ slice_get (xs ++ ys) k

@@ -171,21 +171,21 @@ module _ (shelves : List Shelf) (u : ℕ) (new : Shelf)
           none ∙ sym (none_had shelves u new missed name (λ (s : Shelf). s.gone) 0 v q)
       go false q = refl
 
-  pub kept_first : (last : ℕ) (bytes : List ℕ) → new.packets.items ≡ bytes ∷ []
+  pub kept_first : (last : ℕ) (bytes : List ℕ) → new.packets ≡ bytes ∷ []
       → (v : ℕ) (all : List (List ℕ))
       → IsRest (gone_of shelves v) (kept_of shelves v) (take (last + 1) all)
       → IsRest (gone_of (shelves ++ new ∷ []) v) (kept_of (shelves ++ new ∷ []) v)
       (take (last + 1) (if nat_eq u v then all ++ bytes ∷ [] else all))
   kept_first last bytes one v all r =
-      rw (gone_none v, added shelves u new missed name (λ (s : Shelf). s.packets.items) [] v)
+      rw (gone_none v, added shelves u new missed name (λ (s : Shelf). s.packets) [] v)
       (go (nat_eq u v) refl)
     where
       go : (b : Bool) → nat_eq u v ≡ b
-          → IsRest (gone_of shelves v) (if b then new.packets.items else kept_of shelves v)
+          → IsRest (gone_of shelves v) (if b then new.packets else kept_of shelves v)
           (take (last + 1) (if b then all ++ bytes ∷ [] else all))
       go true q =
           let no_gone = none_had shelves u new missed name (λ (s : Shelf). s.gone) 0 v q in
-          let no_kept = none_had shelves u new missed name (λ (s : Shelf). s.packets.items) [] v q
+          let no_kept = none_had shelves u new missed name (λ (s : Shelf). s.packets) [] v q
           in
           rw (no_gone, one)
           (rest_first last all bytes
@@ -200,26 +200,26 @@ module _ (shelves : List Shelf) (u i low : ℕ) (was d new : Shelf)
     (is : was ≡ get_or shelves i d) (name : new.universe ≡ was.universe) where
   -- what its shelf keeps is the rest of others
   pub rest_changed : (v : ℕ) (xs : List (List ℕ)) (ys : Bool → List (List ℕ)) → ys false ≡ xs
-      → (IsRest was.gone was.packets.items xs → IsRest new.gone new.packets.items (ys true))
+      → (IsRest was.gone was.packets xs → IsRest new.gone new.packets (ys true))
       → IsRest (gone_of shelves v) (kept_of shelves v) xs
       → IsRest (gone_of (slice_set shelves i new) v) (kept_of (slice_set shelves i new) v)
       (ys (nat_eq u v))
   rest_changed v xs ys same rests r =
       rw (
         content shelves u i was d found is (λ (s : Shelf). s.gone) 0 new v name,
-        content shelves u i was d found is (λ (s : Shelf). s.packets.items) [] new v name,
+        content shelves u i was d found is (λ (s : Shelf). s.packets) [] new v name,
       )
       (go (nat_eq u v) refl)
     where
       go : (b : Bool) → nat_eq u v ≡ b
           → IsRest (if b then new.gone else gone_of shelves v)
-          (if b then new.packets.items else kept_of shelves v) (ys b)
+          (if b then new.packets else kept_of shelves v) (ys b)
       go true q =
           rests
-          (subst (λ n. IsRest n was.packets.items xs)
+          (subst (λ n. IsRest n was.packets xs)
           (had shelves u i was d found is (λ (s : Shelf). s.gone) 0 v q)
           (subst (λ kept. IsRest (gone_of shelves v) kept xs)
-          (had shelves u i was d found is (λ (s : Shelf). s.packets.items) [] v q) r))
+          (had shelves u i was d found is (λ (s : Shelf). s.packets) [] v q) r))
       go false q = rw same r
 
   pub gone_released : ((k : ℕ) → was.gone ≤ k → low ≤ k → new.gone ≤ k)

@@ -7,7 +7,7 @@ use Rattle.wire_world.specs.declared.shelf.Shelf.{Shelf}
 -- the packets of a universe that are kept
 abbrev pub kept_of : List Shelf → ℕ → List (List ℕ)
 kept_of shelves universe =
-    option_map_or (λ shelf. shelf.packets.items)
+    option_map_or (λ shelf. shelf.packets)
     (find (λ shelf. shelf.universe == universe) shelves) []
 
 -- how many packets of a universe are gone, the first ones

@@ -20,6 +20,7 @@ mod lows;
 mod opening;
 mod packets;
 mod perform;
+mod queue;
 mod rehearsal;
 mod releasing;
 mod replay;

@@ -1,4 +1,4 @@
-use std::collections::VecDeque;
+use crate::queue::Queue;
 
 /// The packets of a universe, but for the first ones, which no event to come delivers.
 #[derive(Debug, Drop)]
@@ -8,5 +8,5 @@ pub struct Shelf {
     /// How many packets are gone, the first ones.
     pub gone: u64,
     /// The others, the first first.
-    pub packets: VecDeque<[u8; 638]>,
+    pub packets: Queue,
 }

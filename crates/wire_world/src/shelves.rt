@@ -5,10 +5,10 @@ ghost use Rattle.std.specs.Option.{option_map};
 ghost use Rattle.wire_world.specs.Sends.{send_of, sent_to};
 ghost use Rattle.wire_world.specs.Shelves.{IsRest, gone_of, kept_of};
 
+use crate::queue::Queue;
 use crate::row::Row;
 use crate::shelf::Shelf;
 use std::alloc::{AllocError, Global};
-use std::collections::VecDeque;
 
 // Puts packets on the shelves of their universes, of each universe none behind packet `last`.
 pub(crate) fn keep_all(
@@ -40,10 +40,10 @@ fn keep(alloc: Global, shelves: &mut Vec<Shelf>, last: u64, row: &Row) -> Result
         ≡ gone_of shelves.old.items u) }
 {
     match place_of(shelves.as_slice(), row.universe) {
-        Some(i) => shelves[i].keep(last, &row.bytes)?,
+        Some(i) => shelves[i].keep(alloc, last, &row.bytes)?,
         None => {
-            let mut packets = VecDeque::new(alloc);
-            packets.push_back(row.bytes)?;
+            let mut packets = Queue::new(alloc);
+            packets.push_back(alloc, &row.bytes)?;
             shelves.push(Shelf {
                 universe: row.universe,
                 gone: 0,
@@ -61,8 +61,7 @@ pub(crate) fn packet(shelves: &[Shelf], universe: u16, k: u64) -> Option<&[u8]>
         ≡ slice_get (kept_of shelves.now universe) (k - gone_of shelves.now universe) }
 {
     let shelf = shelf_at(shelves, universe)?;
-    let packet = shelf.packets.get((k - shelf.gone) as usize)?;
-    Some(packet)
+    shelf.packets.get((k - shelf.gone) as usize)
 }
 
 // Lets the packets of a universe go that are before packet `low`.
@@ -95,17 +94,17 @@ fn place_of(shelves: &[Shelf], universe: u16) -> Option<usize>
 
 impl Shelf {
     // Keeps a packet more, where it is none behind packet `last`.
-    fn keep(&mut self, last: u64, packet: &[u8; 638]) -> Result<(), AllocError>
+    fn keep(&mut self, alloc: Global, last: u64, packet: &[u8; 638]) -> Result<(), AllocError>
         ensures universe { OnOk result (self.new.universe ≡ self.old.universe) }
         ensures gone { OnOk result (self.new.gone ≡ self.old.gone) }
         ensures rest { OnOk result ((all : List (List ℕ))
-            → IsRest self.old.gone self.old.packets.items (take (last + 1) all)
-            → IsRest self.new.gone self.new.packets.items
+            → IsRest self.old.gone self.old.packets (take (last + 1) all)
+            → IsRest self.new.gone self.new.packets
             (take (last + 1) (all ++ packet.now ∷ []))) }
     {
         let kept = self.packets.len() as u64;
         if self.gone <= last && kept <= last - self.gone {
-            self.packets.push_back(*packet)?;
+            self.packets.push_back(alloc, packet)?;
         }
         Ok(())
     }
@@ -113,8 +112,8 @@ impl Shelf {
     // Lets the packets before packet `low` go.
     fn release(&mut self, low: u64)
         ensures universe { self.new.universe ≡ self.old.universe }
-        ensures rest { (all : List (List ℕ)) → IsRest self.old.gone self.old.packets.items all
-            → IsRest self.new.gone self.new.packets.items all }
+        ensures rest { (all : List (List ℕ)) → IsRest self.old.gone self.old.packets all
+            → IsRest self.new.gone self.new.packets all }
         ensures gone { (k : ℕ) → self.old.gone ≤ k → low ≤ k → self.new.gone ≤ k }
     {
         for gone in self.gone..low {

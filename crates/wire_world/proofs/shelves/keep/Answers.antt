@@ -33,7 +33,7 @@ returns-in_ok-push-in-None c =
       rest = λ u all r. rw c.in_ok-push-in-None.ensures.items
           (kept_first c.args.shelves.now.items c.args.row.now.universe _ missed refl refl
           c.args.last c.args.row.now.bytes
-          (c.in_ok-push_back-in-None.ensures.items ∙ rw c.new-packets.ensures.items refl) u all r);
+          (c.in_ok-push_back-in-None.ensures ∙ rw c.new-packets.ensures refl) u all r);
       gone = λ u. rw c.in_ok-push-in-None.ensures.items
           (gone_none c.args.shelves.now.items c.args.row.now.universe _ missed refl refl u);
     }

@@ -1,0 +1,64 @@
+ghost use Rattle.std.specs.Prelude.{◌≡◌, ◌++◌, ◌∷◌, [], length, slice_get, OnOk};
+ghost use Rattle.std.specs.Option.{option_map, option_to_list};
+
+use std::alloc::{AllocError, Global};
+use std::collections::VecDeque;
+use std::marker::Model;
+
+/// Packets, the first first. Each lies in a box of its own, so that the memory of one that goes is
+/// that of the next.
+#[derive(Debug, Drop)]
+pub struct Queue {
+    boxes: VecDeque<Box<[u8; 638]>>,
+}
+
+impl Model for Queue {
+    ghost use Rattle.std.specs.Prelude.{ℕ, List, map};
+
+    ghost Value = { List (List ℕ) };
+
+    ghost view = { λ queue. map (λ packet. packet.value) queue.boxes.items };
+}
+
+impl Queue {
+    /// No packet yet.
+    pub fn new(alloc: Global) -> Self
+        ensures { result ≡ [] }
+    {
+        Queue {
+            boxes: VecDeque::new(alloc),
+        }
+    }
+
+    /// How many there are.
+    pub fn len(&self) -> usize
+        ensures { result ≡ length self.now }
+    {
+        self.boxes.len()
+    }
+
+    /// The packet at a place, the first at 0.
+    pub fn get(&self, place: usize) -> Option<&[u8]>
+        ensures { option_map (λ bytes. bytes.now) result ≡ slice_get self.now place }
+    {
+        let packet = self.boxes.get(place)?;
+        Some(packet.as_slice())
+    }
+
+    /// Puts a packet behind the others.
+    pub fn push_back(&mut self, alloc: Global, packet: &[u8; 638]) -> Result<(), AllocError>
+        ensures { OnOk result (self.new ≡ self.old ++ packet.now ∷ []) }
+    {
+        let packet = Box::new(alloc, *packet)?;
+        self.boxes.push_back(packet)?;
+        Ok(())
+    }
+
+    /// Takes the first packet away.
+    pub fn pop_front(&mut self) -> Option<Box<[u8; 638]>>
+        ensures { self.old ≡ option_to_list (option_map (λ packet. packet.value) result)
+            ++ self.new }
+    {
+        self.boxes.pop_front()
+    }
+}
