@@ -23,7 +23,7 @@ FUNCTION = re.compile(r"^( *)(pub )?(?:const )?fn (\w+)", re.M)
 IMPL = r"impl(?:<[^>]*>)? (?:([\w:]+)(?:<[^>]*>)? for )?(\w+)"
 OWNER = re.compile(rf"^(?:{IMPL}|pub trait (\w+))", re.M)
 # A clause of a contract, with the comment above it; the name may be left out.
-CLAUSE = re.compile(r"\s*(?://[^\n]*\n\s*)*(requires|ensures)(?: (\w+))? \{")
+CLAUSE = re.compile(r"\s*(?://[^\n]*\n\s*)*(requires|ensures)\*?(?: (\w+))? \{")
 # The doc comment above a function; in it, when the call refuses.
 DOC = re.compile(r"((?:^ *///[^\n]*\n)+)(?: *#\[[^\n]*\n)*\Z", re.M)
 ERRORS = re.compile(r"^# Errors\n\n(.*?)(?:\n\n|\Z)", re.M | re.S)
