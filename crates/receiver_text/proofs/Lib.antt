@@ -1,2 +1,3 @@
 pub mod SlotsLines
+pub mod Digits
 mod Rows

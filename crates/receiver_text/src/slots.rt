@@ -1,4 +1,4 @@
-ghost use Rattle.std.specs.Prelude.{◌≡◌, ◌≤◌, ◌+◌, ◌++◌, length, codes, decimal};
+ghost use Rattle.std.specs.Prelude.{◌≡◌, ◌≤◌, ◌<◌, ◌+◌, ◌++◌, ◌∷◌, [], length, codes, decimal};
 ghost use Rattle.receiver_text.specs.Replies.{end_line, slot_text, slots_line};
 
 use arrayvec::ArrayString;
@@ -54,14 +54,39 @@ fn push_slots(line: &mut SlotsLine, slots: &[u8; 512])
 }
 
 fn push_slot(line: &mut SlotsLine, slot: u16, value: u8)
-    requires { length line.old.bytes + 10 ≤ 5147 }
+    requires number { slot ≤ 512 }
+    requires space { length line.old.bytes + 10 ≤ 5147 }
     ensures text { line.new.bytes ≡ line.old.bytes ++ slot_text (slot, value) }
     ensures room { length line.new.bytes ≤ length line.old.bytes + 10 }
 {
     if value != 0 {
         line.push_str(" ");
-        line.push_str(Buffer::new().format(slot));
+        push_number(line, slot);
         line.push_str(":");
-        line.push_str(Buffer::new().format(value));
+        push_number(line, u16::from(value));
     }
+}
+
+// A number digit by digit: a line may have a thousand.
+fn push_number(line: &mut SlotsLine, number: u16)
+    requires small { number < 1000 }
+    requires space { length line.old.bytes + 3 ≤ 5147 }
+    ensures text { line.new.bytes ≡ line.old.bytes ++ decimal number }
+    ensures room { length line.new.bytes ≤ length line.old.bytes + 3 }
+{
+    if number >= 100 {
+        push_digit(line, number / 100);
+    }
+    if number >= 10 {
+        push_digit(line, number / 10 % 10);
+    }
+    push_digit(line, number % 10);
+}
+
+fn push_digit(line: &mut SlotsLine, digit: u16)
+    requires one { digit < 10 }
+    requires space { length line.old.bytes < 5147 }
+    ensures { line.new.bytes ≡ line.old.bytes ++ (48 + digit) ∷ [] }
+{
+    line.push(char::from(b'0' + digit as u8));
 }
