@@ -1,4 +1,4 @@
-ghost use Rattle.std.specs.Prelude.{◌≡◌, ◌≤◌, IfSome, option_map};
+ghost use Rattle.std.specs.Prelude.{◌≡◌, ◌≤◌, IfOk, IfSome, option_map};
 ghost use Rattle.clap.specs.Words.{first_of, found_of, rows_of};
 ghost use Rattle.uuid.specs.Text.{parsed};
 ghost use Rattle.ascii_text.specs.Forms.{cue_number_of};
@@ -6,8 +6,10 @@ ghost use Rattle.cueplayer_words.specs.Job.{number_between, value_by, value_or};
 ghost use Rattle.cueplayer_words.specs.Address.{address_of};
 
 use crate::address::address;
+use crate::job::Name;
 use ascii_text::{cue_number, whole};
 use clap::ArgMatches;
+use std::alloc::{AllocError, Global};
 use uuid::Uuid;
 
 /// The text of an argument.
@@ -16,6 +18,20 @@ pub(crate) fn text_at<'a>(matches: &ArgMatches<'a>, id: &str) -> Option<&'a str>
         ≡ first_of id.now (rows_of (found_of matches.now)) }
 {
     matches.get_str(id)
+}
+
+/// The name that an argument gives.
+pub(crate) fn name_at(
+    alloc: Global,
+    matches: &ArgMatches<'_>,
+    id: &str,
+) -> Result<Option<Name>, AllocError>
+    ensures { IfOk result (λ name. name ≡ first_of id.now (rows_of (found_of matches.now))) }
+{
+    match text_at(matches, id) {
+        Some(text) => Ok(Some(Name::new(alloc, text)?)),
+        None => Ok(None),
+    }
 }
 
 /// The cue number that an argument spells, in thousandths.

@@ -1,18 +1,18 @@
-ghost use Rattle.std.specs.Prelude.{◌≡◌, IfOk, false};
-ghost use Rattle.clap.specs.Words.{app_of, new_app, rule_of};
-ghost use Rattle.clap.specs.declared.builder.Command.TheViews.{out-Command as fields_of};
-ghost use Rattle.cueplayer_words.specs.Program.{required, required_option, option, check_line};
-ghost use Rattle.cueplayer_words.specs.Program.{explain_line, look_line, slots_line};
-ghost use Rattle.cueplayer_words.specs.Program.{rehearse_line};
-ghost use Rattle.cueplayer_words.specs.Program.{short_play_line, named_play_line, play_line};
-ghost use Rattle.cueplayer_words.specs.Program.{live_line, listen_line};
-ghost use Rattle.cueplayer_words.specs.Program.{without_lines, telling_lines, printing_lines};
-ghost use Rattle.cueplayer_words.specs.Program.{playing_lines, program};
+ghost use Rattle.std.specs.Prelude.{◌≡◌, IfOk};
+ghost use Rattle.clap.specs.Words.{app_of, new_app};
+ghost use Rattle.cueplayer_words.specs.Program.{IsArgument, IsLine, required, required_option};
+ghost use Rattle.cueplayer_words.specs.Program.{option, show_line, cue_line, look_line};
+ghost use Rattle.cueplayer_words.specs.Program.{slots_line, short_play_line, play_line, live_line};
+ghost use Rattle.cueplayer_words.specs.Program.{rehearse_line, listen_line, without_lines};
+ghost use Rattle.cueplayer_words.specs.Program.{telling_lines, printing_lines, playing_lines};
+ghost use Rattle.cueplayer_words.specs.Program.{program};
 
 use clap::{Arg, Command};
 use std::alloc::{AllocError, Global};
 
 const CID_FORM: &str = "The sender's CID, its own for good: 32 hex digits, as uuidgen prints them";
+
+const BASE_FORM: &str = "The number of the first universe, 1 to 63999; 1 where it is absent";
 
 /// The command whose subcommands are the program's lines.
 pub(crate) fn program<'a>(alloc: Global) -> Result<Command<'a>, AllocError>
@@ -27,7 +27,12 @@ fn playing_lines<'a>(alloc: Global) -> Result<Command<'a>, AllocError>
     ensures { IfOk result (λ command. app_of command ≡ playing_lines) }
 {
     printing_lines(alloc)?
-        .subcommand(play_line(alloc)?)?
+        .subcommand(play_line(
+            alloc,
+            "play",
+            "Plays the lines of standard input to the network",
+            "Example: cueplayer play night.asc --to 10.0.0.7 --cid c0ffee00-0000-4000-8000-00000000e131",
+        )?)?
         .subcommand(live_line(alloc)?)
 }
 
@@ -43,8 +48,18 @@ fn telling_lines<'a>(alloc: Global) -> Result<Command<'a>, AllocError>
     ensures { IfOk result (λ command. app_of command ≡ telling_lines) }
 {
     without_lines(alloc)?
-        .subcommand(check_line(alloc)?)?
-        .subcommand(explain_line(alloc)?)
+        .subcommand(show_line(
+            alloc,
+            "check",
+            "Reads a show and prints its counts",
+            "Example: cueplayer check night.asc",
+        )?)?
+        .subcommand(show_line(
+            alloc,
+            "explain",
+            "Prints which lines of a show are skipped, and why, and notes for its author",
+            "Example: cueplayer explain night.asc",
+        )?)
 }
 
 fn without_lines<'a>(alloc: Global) -> Result<Command<'a>, AllocError>
@@ -56,100 +71,66 @@ fn without_lines<'a>(alloc: Global) -> Result<Command<'a>, AllocError>
         .bin_name("cueplayer")
 }
 
-fn check_line<'a>(alloc: Global) -> Result<Command<'a>, AllocError>
-    ensures app { IfOk result (λ command. app_of command ≡ check_line) }
-    ensures local { IfOk result (λ command. (fields_of command).has_globals ≡ false) }
+// A line over a show.
+fn show_line<'a>(
+    alloc: Global,
+    name: &'a str,
+    about: &'a str,
+    example: &'a str,
+) -> Result<Command<'a>, AllocError>
+    ensures { IfOk result (IsLine (show_line name.now)) }
 {
-    explained_line(
+    explained_line(alloc, name, about, example).arg(required(
         alloc,
-        "check",
-        "Reads a show and prints its counts",
-        "Example: cueplayer check night.asc",
-    )
-    .arg(required(alloc, "SHOW", "The show's file, or - for standard input"))
-}
-
-fn explain_line<'a>(alloc: Global) -> Result<Command<'a>, AllocError>
-    ensures app { IfOk result (λ command. app_of command ≡ explain_line) }
-    ensures local { IfOk result (λ command. (fields_of command).has_globals ≡ false) }
-{
-    explained_line(
-        alloc,
-        "explain",
-        "Prints which lines of a show are skipped, and why, and notes for its author",
-        "Example: cueplayer explain night.asc",
-    )
-    .arg(required(alloc, "SHOW", "The show's file, or - for standard input"))
+        "SHOW",
+        "The show's file, or - for standard input",
+    ))
 }
 
 fn look_line<'a>(alloc: Global) -> Result<Command<'a>, AllocError>
-    ensures app { IfOk result (λ command. app_of command ≡ look_line) }
-    ensures local { IfOk result (λ command. (fields_of command).has_globals ≡ false) }
+    ensures { IfOk result (IsLine look_line) }
 {
-    explained_line(
+    cue_line(
         alloc,
         "look",
         "Prints the packets of one cue at full",
         "Example: cueplayer look night.asc 1.5 --cid c0ffee00-0000-4000-8000-00000000e131",
-    )
-    .arg(required(alloc, "SHOW", "The show's file, or - for standard input"))?
-    .arg(required(
-        alloc,
-        "CUE",
-        "The number of the cue, as the show spells it: 1, 1.5, .25",
-    ))?
+    )?
     .arg(required_option(alloc, "cid", "UUID", CID_FORM))
 }
 
 fn slots_line<'a>(alloc: Global) -> Result<Command<'a>, AllocError>
-    ensures app { IfOk result (λ command. app_of command ≡ slots_line) }
-    ensures local { IfOk result (λ command. (fields_of command).has_globals ≡ false) }
+    ensures { IfOk result (IsLine slots_line) }
 {
-    explained_line(
+    cue_line(
         alloc,
         "slots",
         "Prints the levels of one cue at full, for people",
         "Example: cueplayer slots night.asc 1.5 --base 1",
-    )
-    .arg(required(alloc, "SHOW", "The show's file, or - for standard input"))?
-    .arg(required(
+    )?
+    .arg(option(alloc, "base", "U", BASE_FORM))
+}
+
+// A line over a cue of a show.
+fn cue_line<'a>(
+    alloc: Global,
+    name: &'a str,
+    about: &'a str,
+    example: &'a str,
+) -> Result<Command<'a>, AllocError>
+    ensures { IfOk result (IsLine (cue_line name.now)) }
+{
+    show_line(alloc, name, about, example)?.arg(required(
         alloc,
         "CUE",
         "The number of the cue, as the show spells it: 1, 1.5, .25",
-    ))?
-    .arg(option(
-        alloc,
-        "base",
-        "U",
-        "The number of the first universe, 1 to 63999; 1 where it is absent",
     ))
 }
 
-// A line before it has arguments, with an example at the end of its help.
-fn explained_line<'a>(alloc: Global, name: &'a str, about: &'a str, example: &'a str) -> Command<'a>
-    ensures app { app_of result ≡ new_app name.now }
-    ensures local { (fields_of result).has_globals ≡ false }
-{
-    Command::new(alloc, name).about(about).after_help(example)
-}
-
-fn play_line<'a>(alloc: Global) -> Result<Command<'a>, AllocError>
-    ensures app { IfOk result (λ command. app_of command ≡ play_line) }
-    ensures local { IfOk result (λ command. (fields_of command).has_globals ≡ false) }
-{
-    named_play_line(
-        alloc,
-        "play",
-        "Plays the lines of standard input to the network",
-        "Example: cueplayer play night.asc --to 10.0.0.7 --cid c0ffee00-0000-4000-8000-00000000e131",
-    )
-}
-
 fn live_line<'a>(alloc: Global) -> Result<Command<'a>, AllocError>
-    ensures app { IfOk result (λ command. app_of command ≡ live_line) }
-    ensures local { IfOk result (λ command. (fields_of command).has_globals ≡ false) }
+    ensures { IfOk result (IsLine live_line) }
 {
-    named_play_line(
+    play_line(
         alloc,
         "live",
         "Plays what is typed to the network, by the clock",
@@ -164,14 +145,13 @@ fn live_line<'a>(alloc: Global) -> Result<Command<'a>, AllocError>
 }
 
 // A line that plays.
-fn named_play_line<'a>(
+fn play_line<'a>(
     alloc: Global,
     name: &'a str,
     about: &'a str,
     example: &'a str,
 ) -> Result<Command<'a>, AllocError>
-    ensures app { IfOk result (λ command. app_of command ≡ named_play_line name.now) }
-    ensures local { IfOk result (λ command. (fields_of command).has_globals ≡ false) }
+    ensures { IfOk result (IsLine (play_line name.now)) }
 {
     short_play_line(alloc, name, about, example)?
         .arg(option(
@@ -180,12 +160,7 @@ fn named_play_line<'a>(
             "P",
             "The priority, 0 to 200; 100 where it is absent",
         ))?
-        .arg(option(
-            alloc,
-            "base",
-            "U",
-            "The number of the first universe, 1 to 63999; 1 where it is absent",
-        ))
+        .arg(option(alloc, "base", "U", BASE_FORM))
 }
 
 // What it cannot do without.
@@ -195,8 +170,7 @@ fn short_play_line<'a>(
     about: &'a str,
     example: &'a str,
 ) -> Result<Command<'a>, AllocError>
-    ensures app { IfOk result (λ command. app_of command ≡ short_play_line name.now) }
-    ensures local { IfOk result (λ command. (fields_of command).has_globals ≡ false) }
+    ensures { IfOk result (IsLine (short_play_line name.now)) }
 {
     explained_line(alloc, name, about, example)
         .arg(required(alloc, "SHOW", "The show's file"))?
@@ -210,8 +184,7 @@ fn short_play_line<'a>(
 }
 
 fn rehearse_line<'a>(alloc: Global) -> Result<Command<'a>, AllocError>
-    ensures app { IfOk result (λ command. app_of command ≡ rehearse_line) }
-    ensures local { IfOk result (λ command. (fields_of command).has_globals ≡ false) }
+    ensures { IfOk result (IsLine rehearse_line) }
 {
     explained_line(
         alloc,
@@ -224,8 +197,7 @@ fn rehearse_line<'a>(alloc: Global) -> Result<Command<'a>, AllocError>
 }
 
 fn listen_line<'a>(alloc: Global) -> Result<Command<'a>, AllocError>
-    ensures app { IfOk result (λ command. app_of command ≡ listen_line) }
-    ensures local { IfOk result (λ command. (fields_of command).has_globals ≡ false) }
+    ensures { IfOk result (IsLine listen_line) }
 {
     explained_line(
         alloc,
@@ -246,23 +218,27 @@ fn listen_line<'a>(alloc: Global) -> Result<Command<'a>, AllocError>
     ))
 }
 
+// A line before it has arguments, with an example at the end of its help.
+fn explained_line<'a>(alloc: Global, name: &'a str, about: &'a str, example: &'a str) -> Command<'a>
+    ensures { IsLine (new_app name.now) result }
+{
+    Command::new(alloc, name).about(about).after_help(example)
+}
+
 fn required<'a>(alloc: Global, id: &'a str, help: &'a str) -> Arg<'a>
-    ensures rule { rule_of result ≡ required id.now }
-    ensures local { result.global ≡ false }
+    ensures { IsArgument (required id.now) result }
 {
     Arg::new(alloc, id).required(true).help(help)
 }
 
 fn option<'a>(alloc: Global, id: &'a str, value: &'a str, help: &'a str) -> Arg<'a>
-    ensures rule { rule_of result ≡ option id.now }
-    ensures local { result.global ≡ false }
+    ensures { IsArgument (option id.now) result }
 {
     Arg::new(alloc, id).help(help).long(id).value_name(value)
 }
 
 fn required_option<'a>(alloc: Global, id: &'a str, value: &'a str, help: &'a str) -> Arg<'a>
-    ensures rule { rule_of result ≡ required_option id.now }
-    ensures local { result.global ≡ false }
+    ensures { IsArgument (required_option id.now) result }
 {
     required(alloc, id, help).long(id).value_name(value)
 }

@@ -15,7 +15,7 @@ returns-in-Ok-Some-clause-ok g c =
       passes_words (app_of c.in-Ok.program) words c.in-Ok.ensures parse.ensures.kinds,
       job_of_words (app_of c.in-Ok.program) words parse.matches (Some c.in-Ok-Some.job)
           c.in-Ok.ensures
-          parse.ensures.matches (sym c.in-Ok-Some.field-0-is ∙ c.in-Ok-Some.ensures.job),
+          parse.ensures.matches (sym c.in-Ok-Some.field-0-is ∙ c.in-Ok-Some.ensures.0),
     )
 
 pub returns-in-Ok-None-clause-err : goal.returns-in-Ok-None-clause-err
@@ -24,5 +24,5 @@ returns-in-Ok-None-clause-err g c =
     let words = map g.S.AsStr.text c.args.words.now in (
       passes_words (app_of c.in-Ok.program) words c.in-Ok.ensures parse.ensures.kinds,
       job_of_words (app_of c.in-Ok.program) words parse.matches None c.in-Ok.ensures
-          parse.ensures.matches (sym c.in-Ok-None.field-0-is ∙ c.in-Ok-None.ensures.job),
+          parse.ensures.matches (sym c.in-Ok-None.field-0-is ∙ c.in-Ok-None.ensures.0),
     )
