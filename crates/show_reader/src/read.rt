@@ -76,11 +76,7 @@ fn is_skipped(statement: &Statement<'_>) -> bool
 
 // The record that owns the lines below a line: what that opens, if it may own; else its own owner,
 // `above`.
-fn owner_below(
-    above: Option<Record>,
-    keyword: Keyword,
-    statement: &Statement<'_>,
-) -> Option<Record>
+fn owner_below(above: Option<Record>, keyword: Keyword, statement: &Statement<'_>) -> Option<Record>
     ensures { result ≡ if may_own keyword then opened statement.now else above }
 {
     if keyword.may_own() {

@@ -12,22 +12,32 @@ returns-clause-text c =
     ∙ elim c.if-number-ge10.branch [
       | then-number-ge10 v ↦ rw (v.line-is, v.push_digit-then-number-ge10.ensures)
           elim c.if-number-ge100.branch [
-            | then-number-ge100 w ↦ rw (w.line-is, w.push_digit.ensures,
-                three_digits n (omega (arith, w.if-number-ge100.true)) c.requires.small)
+            | then-number-ge100 w ↦ rw (
+              w.line-is,
+              w.push_digit.ensures,
+              three_digits n (omega (arith, w.if-number-ge100.true)) c.requires.small,
+            )
                 (append_assoc (text ++ (48 + n / 100) ∷ []) ((48 + n / 10 % 10) ∷ [])
                 ((48 + n % 10) ∷ [])
                 ∙ append_assoc text ((48 + n / 100) ∷ [])
                 ((48 + n / 10 % 10) ∷ (48 + n % 10) ∷ []))
-            | else-number-ge100 w ↦ rw (w.line-is,
-                two_digits n (omega (arith, v.if-number-ge10.true))
-                (omega (arith, w.if-number-ge100.false)))
+            | else-number-ge100 w ↦ rw (
+              w.line-is,
+              two_digits n (omega (arith, v.if-number-ge10.true))
+                  (omega (arith, w.if-number-ge100.false)),
+            )
                 (append_assoc text ((48 + n / 10 % 10) ∷ []) ((48 + n % 10) ∷ []))
           ]
       | else-number-ge10 v ↦ rw (v.line-is)
           elim c.if-number-ge100.branch [
-            | then-number-ge100 w ↦ absurd (omega (arith, v.if-number-ge10.false,
-                w.if-number-ge100.true))
-            | else-number-ge100 w ↦ rw (w.line-is,
-                one_digit n (omega (arith, v.if-number-ge10.false))) refl
+            | then-number-ge100 w ↦ absurd (omega (
+              arith,
+              v.if-number-ge10.false,
+              w.if-number-ge100.true,
+            ))
+            | else-number-ge100 w ↦ rw (
+              w.line-is,
+              one_digit n (omega (arith, v.if-number-ge10.false)),
+            ) refl
           ]
     ]

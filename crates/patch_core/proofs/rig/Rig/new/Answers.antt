@@ -106,7 +106,7 @@ begins_of-requires-clause-few c =
       map.len-entries patch,
       ap length (c.in_ok-dimmers.ensures.items ∙ c.patch.ensures.entries),
       length_permutation c.deref.result.now c.in_ok-by_channel.by_channel.items
-      c.in_ok-by_channel.ensures.same,
+          c.in_ok-by_channel.ensures.same,
       ap length c.deref.ensures.value,
       ap length c.deref-2.ensures.value,
     )
