@@ -1,42 +1,129 @@
--- The consoles' packets that came to a receiver: all that it has accepted is of them, and so are
--- the deliveries of each console.
-use Rattle.std.proofs.Common.{◌≡◌, ℕ, ◌<◌, ◌≤◌, Bool, true, false, refl, ap, sym, subst, inl}
-use Rattle.std.proofs.Common.{inr, ◌∙◌, arith, List, [], ◌∷◌, map, length, Option, Some, None, get_or}
-use Rattle.std.specs.Prelude.{if◌then◌else◌, nat_eq, slice_get, slice_range, filter, is_some}
-use Rattle.std.specs.Prelude.{Contains, IsTrue, find}
-use Rattle.std.specs.Option.{option_map}
+-- Events that were not skipped: each is at its time, and names what is there. So of the packets of
+-- the consoles that came to a receiver: all that it has accepted is of them, and so are the
+-- deliveries of each console.
+use Rattle.std.proofs.Common.{◌≡◌, ℕ, ◌<◌, ◌≤◌, ◌^◌, Bool, true, false, not, refl, arith, List, []}
+use Rattle.std.proofs.Common.{◌∷◌, length, Option, Some, None, ap, sym, subst, inl, inr, ◌∙◌, map}
+use Rattle.std.proofs.Common.{get_or}
+use Rattle.std.specs.Prelude.{if◌then◌else◌, nat_lt, nat_le, is_some, slice_get, nat_eq}
+use Rattle.std.specs.Prelude.{slice_range, filter, Contains, IsTrue, find}
+use Rattle.std.specs.List.{fold}
+use Rattle.std.specs.Option.{option_map_or, option_map}
+use Rattle.std.proofs.lemmas.Bool.{ltb-true, ltb-false, eqb-true, cond_both}
+use Rattle.std.proofs.lemmas.Option.{slice_get-get_or, none-some, same_Some}
+use Rattle.sacn_packet.specs.Reading.{front_packet}
+use Rattle.sacn_source.specs.Stream.{Packet, last_packet}
+use Rattle.sacn_receiver.specs.declared.answer.Ignored.{Ignored}
+use Rattle.sacn_receiver.specs.Source as source
+use Rattle.sacn_receiver.specs.Taking.{entry_of, ignored, answer, heard}
+use Rattle.wire_laws.specs.declared.event.Event.{Event}
+use Rattle.wire_laws.specs.declared.event.What.TheVariants.{Deliver, Stray}
+use Rattle.wire_laws.specs.declared.reply.Skip.{Skip}
+use Rattle.wire_laws.specs.declared.reply.Skip.TheVariants.{Backwards, TooLarge, NoConsole}
+use Rattle.wire_laws.specs.declared.reply.Skip.TheVariants.{NoReceiver, NotSent}
+use Rattle.wire_laws.specs.World.{World, universe_at, console_at, no_console, IsWorld}
+use Rattle.wire_laws.specs.Happened.{sent, handed, hears, accepted_by}
+use Rattle.wire_laws.specs.Replies.{last_moment, missing, skipped, done_one, done}
 use Rattle.std.specs.Str.{bytes_eq}
-use Rattle.std.proofs.lemmas.Bool.{eqb-true, cond_both}
 use Rattle.std.proofs.lemmas.Cmp.{nat_list_eq_equiv}
 use Rattle.std.proofs.lemmas.List.{get_or-map, length-map}
-use Rattle.std.proofs.lemmas.Option.{none-some, same_Some}
 use Rattle.std.proofs.lemmas.List.Elements.{All-cons, All-map, Contains-get_or}
-use Rattle.sacn_packet.specs.Reading.{front_packet}
 use Rattle.console.specs.Streams.{Production}
 use Rattle.sacn_source.specs.Identity.{Identity}
-use Rattle.sacn_source.specs.Stream.{Packet}
 use Rattle.sacn_receiver.specs.Arrivals.{Arrival, heard_all, last_arrival, NeverFall, not_heard}
 use Rattle.sacn_receiver.specs.Arrivals.{is_heard, is_from, HeardAreFrom, packets_heard}
 use Rattle.sacn_receiver.specs.Laws.{accepted}
 use Rattle.sacn_receiver.specs.Source.{Entry, same_cid, is_accepted}
-use Rattle.sacn_receiver.specs.Taking.{answer, entry_of, heard}
 use Rattle.sacn_receiver.proofs.Members.{by_test, In, In_mapped}
 use Rattle.sacn_receiver.proofs.Independent.{in_from_place, heard_accepted, records_independent}
 use Rattle.sacn_receiver.proofs.Independent.{answers_independent}
 use Rattle.wire_laws.specs.Datagrams.{packet_bytes}
-use Rattle.wire_laws.specs.declared.event.Event.{Event}
 use Rattle.wire_laws.specs.declared.event.What.{What}
-use Rattle.wire_laws.specs.declared.event.What.TheVariants.{Deliver, Stray}
-use Rattle.wire_laws.specs.World.{World, console_at, no_console, universe_at, IsWorld}
-use Rattle.wire_laws.specs.Happened.{sent, handed, hears, accepted_by}
-use Rattle.wire_laws.specs.Replies.{last_moment, missing, done}
 use Rattle.wire_laws.specs.Delivery.{Delivery, delivered_more, delivered_by, delivered}
-use Rattle.wire_laws.specs.Laws.{CidsDiffer, IsAlone, IsUnheard, NoStray, handed_from, accepted_from}
-use Rattle.wire_laws.specs.Laws.{ConsolesAreIndependent}
-use Rattle.wire_laws.proofs.Bytes.{IsSendable, entry, cid_is, entry_is, heard_here, unheard_there}
-use Rattle.wire_laws.proofs.Bytes.{unheard_left}
-use Rattle.wire_laws.proofs.Wire.{sent_is, sent_stays}
-use Rattle.wire_laws.proofs.Runs.{IsRun, timely, deliverer, done_runs}
+use Rattle.wire_laws.specs.Laws.{CidsDiffer, IsAlone, IsUnheard, NoStray, handed_from}
+use Rattle.wire_laws.specs.Laws.{accepted_from, ConsolesAreIndependent}
+use Rattle.wire_laws.proofs.Wire.{IsSendable, entry, cid_is, entry_is, heard_here, unheard_there}
+use Rattle.wire_laws.proofs.Wire.{unheard_left, sent_is, sent_stays}
+
+-- none of these was skipped after those before it
+abbrev pub IsRun : World → List Event → Type 0
+IsRun w [] = Unit {0}
+IsRun w (e ∷ past) = (skipped w past e ≡ None) × IsRun w past
+
+one_runs : (w : World) (past : List Event) (e : Event) → IsRun w past → IsRun w (done_one w past e)
+one_runs w past e run = go (skipped w past e) refl
+  where
+    go : (o : Option Skip) → skipped w past e ≡ o → IsRun w (if is_some o then past else e ∷ past)
+    go None q = (q, run)
+    go (Some s) q = run
+
+more_runs : (w : World) (events past : List Event) → IsRun w past
+    → IsRun w (fold (done_one w) past events)
+more_runs w [] past run = run
+more_runs w (e ∷ events) past run = more_runs w events (done_one w past e) (one_runs w past e run)
+
+pub done_runs : (w : World) (events : List Event) → IsRun w (done w events)
+done_runs w events = more_runs w events [] tt
+
+-- what is not skipped
+pub record IsTimely (w : World) (past : List Event) (e : Event) : Type 0 where
+  pub after : last_moment past ≤ e.moment
+  pub there : missing w past e.what ≡ None
+
+pub timely : (w : World) (past : List Event) (e : Event) → skipped w past e ≡ None
+    → IsTimely w past e
+timely w past e s = go (nat_lt e.moment (last_moment past)) (nat_le (2 ^ 48) e.moment) refl s
+  where
+    go : (b c : Bool) → nat_lt e.moment (last_moment past) ≡ b → (if b then Some Backwards
+        else (if c then Some TooLarge else missing w past e.what)) ≡ None → IsTimely w past e
+    go true c p s = cc
+    go false true p s = cc
+    go false false p s = record {
+      after = ltb-false e.moment (last_moment past) p;
+      there = s;
+    }
+
+-- what is delivered was sent by a console that is there
+pub record IsDelivered (w : World) (past : List Event) (i u k : ℕ) : Type 0 where
+  pub there : i < length w.consoles
+  pub packet : Packet
+  pub is_sent : slice_get (sent w i u past) k ≡ Some packet
+
+pub deliverer : (w : World) (past : List Event) (r i u k : ℕ)
+    → missing w past (Deliver r i u k) ≡ None → IsDelivered w past i u k
+deliverer w past r i u k h =
+    go (nat_lt i (length w.consoles)) (nat_lt r (length w.receivers))
+    (nat_lt k (length (sent w i u past))) refl refl h
+  where
+    go : (a b c : Bool) → nat_lt i (length w.consoles) ≡ a
+        → nat_lt k (length (sent w i u past)) ≡ c
+        → (if not a then Some NoConsole else (if not b then Some NoReceiver
+        else (if c then None else Some NotSent))) ≡ None → IsDelivered w past i u k
+    go true true true p q h = record {
+      there = ltb-true i (length w.consoles) p;
+      packet = _;
+      is_sent = slice_get-get_or (sent w i u past) k last_packet (ltb-true k _ q);
+    }
+    go true true false p q h = cc
+    go true false c p q h = cc
+    go false b c p q h = cc
+
+-- a receiver's last packet is not after the last event
+hears_last : (u : ℕ) (h : List source.Entry) (t : ℕ) (o : Option (List ℕ))
+    → source.last_moment h ≤ t → source.last_moment (hears u t o h) ≤ t
+hears_last u h t None l = l
+hears_last u h t (Some d) l = go (ignored 4 u h t d)
+  where
+    go : (o : Option Ignored)
+        → source.last_moment (option_map_or (λ _. h) o (entry_of t (front_packet d) ∷ h)) ≤ t
+    go None = omega arith
+    go (Some x) = l
+
+pub last_accepted : (w : World) (r : ℕ) (past : List Event) → IsRun w past
+    → source.last_moment (accepted_by w r past) ≤ last_moment past
+last_accepted w r [] run = omega arith
+last_accepted w r (e ∷ past) run =
+    hears_last (universe_at w r) (accepted_by w r past) e.moment (handed w r past e.what)
+    (omega (arith, last_accepted w r past run.1, (timely w past e run.0).after))
 
 -- a delivery, with the number of its console
 abbrev Coming : Type 0
@@ -133,11 +220,11 @@ module _ (w : World) (v : IsWorld w) (r : ℕ) (e : Event) (past : List Event)
   }
 
   -- as a datagram that is not for the receiver, or is not heard by it
-  ignored : (bytes : List ℕ) → is_some (not_heard (universe_at w r) bytes) ≡ true
+  unheard : (bytes : List ℕ) → is_some (not_heard (universe_at w r) bytes) ≡ true
       → (b : Bool) (h : List Entry)
       → hears (universe_at w r) e.moment (if b then Some bytes else None) h ≡ h
-  ignored bytes s true h = unheard_left (universe_at w r) h e.moment bytes s
-  ignored bytes s false h = refl
+  unheard bytes s true h = unheard_left (universe_at w r) h e.moment bytes s
+  unheard bytes s false h = refl
 
   -- or a packet of its universe, from console j
   packet : (j k : ℕ) (p : Packet) → j < length w.consoles
@@ -188,11 +275,11 @@ module _ (w : World) (v : IsWorld w) (r : ℕ) (e : Event) (past : List Event)
       let none : is_some (not_heard (universe_at w r) bytes) ≡ true =
       unheard_there (source_of w j) x k d.packet
       (sent_is w j x k past d.packet d.is_sent (v j d.there)) (universe_at w r) c in
-      rw (b, c, d.is_sent) (nothing _ _ (ignored bytes none true (accepted_by w r past))
-      (λ i. ignored bytes none (nat_eq j i) (accepted_from w r i past)))))
+      rw (b, c, d.is_sent) (nothing _ _ (unheard bytes none true (accepted_by w r past))
+      (λ i. unheard bytes none (nat_eq j i) (accepted_from w r i past)))))
       (λ b. rw b (nothing _ _ refl (λ i. refl)))
   leaves (Stray q from to) m s =
-      by_test (nat_eq q r) (λ b. rw b (nothing _ _ (ignored (slice_range w.strays from to)
+      by_test (nat_eq q r) (λ b. rw b (nothing _ _ (unheard (slice_range w.strays from to)
       (s (eqb-true q r b)) true (accepted_by w r past)) (λ i. refl)))
       (λ b. rw b (nothing _ _ refl (λ i. refl)))
   leaves _ m s = nothing _ _ refl (λ i. refl)

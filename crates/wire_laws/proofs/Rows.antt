@@ -21,9 +21,7 @@ use Rattle.wire_laws.specs.Replies.{last_moment, done, reply_to}
 use Rattle.wire_laws.specs.Delivery.{delivered, IsInWindow}
 use Rattle.wire_laws.specs.Laws.{CidsDiffer, HearsOne, HearsAll, IsFresh, AreSettled, slots_at}
 use Rattle.wire_laws.specs.Laws.{lights, IsOneOf}
-use Rattle.wire_laws.proofs.Shown.{headline, silence_dark, window_law}
-use Rattle.wire_laws.proofs.Shown.{merge_law}
-use Rattle.wire_laws.proofs.Kept.{history}
+use Rattle.wire_laws.proofs.Shown.{headline, silence_dark, window_law, merge_law, history}
 use Rattle.desk_core.proofs.Small.{small, cues, subs, numbers, based, first_at, frame_1000}
 use Rattle.desk_core.proofs.Small.{frame_2000, frame_full, frame_half}
 use Rattle.desk_core.proofs.Small.{no_move, after_first, after_second}

@@ -1,41 +1,211 @@
--- What receivers show: the headline, the window law and the merge law.
-use Rattle.std.proofs.Common.{◌≡◌, ℕ, suc, ◌+◌, ◌-◌, ◌<◌, ◌≤◌, ◌⊎◌, Bool, true, false, not}
-use Rattle.std.proofs.Common.{◌&&◌, refl, ap, arith, sym, subst, max, inl, inr, ◌∙◌, List, [], ◌∷◌, map}
-use Rattle.std.proofs.Common.{length, Option, Some, None}
-use Rattle.std.specs.Prelude.{nat_lt, nat_le, nat_eq, if◌then◌else◌, slice_index, slice_get, find}
+-- What a receiver keeps of one source: in the window, one of its newest packets. So what receivers
+-- show: the headline, the window law and the merge law; and so the laws of the replies.
+use Rattle.std.proofs.Common.{◌≡◌, ℕ, ◌+◌, ◌-◌, ◌%◌, ◌<◌, ◌≤◌, true, false, ◌||◌, ◌⊎◌, refl, ap}
+use Rattle.std.proofs.Common.{arith, sym, inl, inr, ◌∙◌, List, [], ◌∷◌, map, length, Some, None}
+use Rattle.std.proofs.Common.{suc, Bool, not, ◌&&◌, subst, max, Option, take}
+use Rattle.std.specs.Prelude.{nat_lt, nat_le, find, nat_eq, if◌then◌else◌, slice_index, slice_get}
 use Rattle.std.specs.Prelude.{filter, IsTrue}
-use Rattle.std.specs.List.{list_all, range_with_len}
-use Rattle.std.proofs.lemmas.Bool.{lt-ltb, le-ltb, ltb-true, and_parts, and_from, cond-true, eq-eqb, cond-false, leb-true}
+use Rattle.std.proofs.lemmas.Bool.{cases_lt, cases_order, cond-true, cond-false, lt-ltb, le-ltb}
+use Rattle.std.proofs.lemmas.Bool.{ltb-true, and_parts, and_from, eq-eqb, leb-true}
 use Rattle.std.proofs.lemmas.Bool.Decides.{nat_tests}
+use Rattle.std.proofs.lemmas.Cmp.{nat_list_eq_equiv}
+use Rattle.sacn_source.specs.Identity.{Identity}
+use Rattle.sacn_receiver.specs.Source.{Entry, same_cid, records, while_there, record_of, is_after}
+use Rattle.sacn_receiver.specs.Source.{is_accepted, is_there, newest}
+use Rattle.sacn_receiver.specs.Laws.{accepted}
+use Rattle.sacn_receiver.proofs.Apart.{AllIn, newest_found, found_newest}
+use Rattle.sacn_receiver.proofs.Independent.{room_for, accepted_in, one_of, in_from_place}
+use Rattle.sacn_receiver.proofs.Independent.{place_from_in}
+use Rattle.sacn_receiver.proofs.Members.{by_test, In, In_filter, In_filtered, In_map, In_mapped}
+use Rattle.sacn_receiver.proofs.Members.{found_in}
+use Rattle.wire_laws.specs.Delivery.{Delivery, newest_of, arrived, IsInWindow, delivered}
+use Rattle.wire_laws.proofs.Wire.{entry, sent_is, newest_sent}
+use Rattle.wire_laws.proofs.Came.{IsInTime, source_of, were_in_time, were_sent, from_one, all_from}
+use Rattle.wire_laws.proofs.Came.{from_alone, from_console, follows, consoles_independent, IsRun}
+use Rattle.wire_laws.proofs.Came.{done_runs, timely, deliverer}
+use Rattle.std.specs.List.{list_all, range_with_len}
 use Rattle.std.proofs.lemmas.List.{get_or-replicate}
-use Rattle.std.proofs.lemmas.Option.{none-some, cond_some}
+use Rattle.std.proofs.lemmas.Option.{none-some, cond_some, slice_get_within, get_or_from_slice_get}
+use Rattle.std.proofs.lemmas.Option.{same_Some}
 use Rattle.std.proofs.lemmas.List.FromFn.{length-range_with_len, get_or-range_with_len}
 use Rattle.std.proofs.lemmas.List.FromFn.{get_or-map-range_with_len, fill_by_all}
+use Rattle.std.proofs.lemmas.List.FromFn.{length-map-range_with_len}
 use Rattle.desk_core.specs.Meaning.{dark}
 use Rattle.desk_core.proofs.FrameSlots.{latest_full, unpatched_latest}
 use Rattle.sacn_source.specs.Stream.{Packet}
 use Rattle.console.proofs.Streams.{latest}
-use Rattle.sacn_receiver.specs.Source.{Entry, same_cid, is_there, newest, records}
 use Rattle.sacn_receiver.specs.Shown.{Light, light_of, live, merged, shown, shown_slots}
-use Rattle.sacn_receiver.proofs.Members.{by_test, In, In_filter, In_filtered, In_map, In_mapped}
-use Rattle.sacn_receiver.proofs.Members.{found_in}
-use Rattle.sacn_receiver.proofs.Apart.{newest_found, found_newest}
 use Rattle.sacn_receiver.proofs.Same.{merged_same}
-use Rattle.sacn_receiver.proofs.Independent.{in_from_place, place_from_in}
 use Rattle.wire_laws.specs.declared.event.Event.{Event}
 use Rattle.wire_laws.specs.World.{World, console_at, universe_at, IsWorld}
-use Rattle.wire_laws.specs.Happened.{acts, sent, accepted_by}
-use Rattle.wire_laws.specs.Replies.{last_moment, done}
-use Rattle.wire_laws.specs.Delivery.{Delivery, delivered, newest_of, arrived, IsInWindow}
+use Rattle.wire_laws.specs.Happened.{acts, sent, accepted_by, datagram}
+use Rattle.wire_laws.specs.Replies.{last_moment, done, skipped, taken_reply, replied, reply_to}
+use Rattle.wire_laws.specs.Replies.{AreReplies, last_slots}
 use Rattle.wire_laws.specs.Laws.{IsAlone, NoStray, IsFreshIn, IsFresh, is_silent, is_live, is_lit}
-use Rattle.wire_laws.specs.Laws.{light, meant, slots_at, accepted_from, Headline, IsOneOf, WindowLaw}
-use Rattle.wire_laws.specs.Laws.{UnpatchedSlotsAreZero, SilenceIsDark, MergeLaw}
-use Rattle.wire_laws.proofs.Bytes.{entry}
-use Rattle.wire_laws.proofs.Came.{source_of, were_in_time, were_sent, from_one, all_from}
-use Rattle.wire_laws.proofs.Came.{from_alone, from_console, follows}
-use Rattle.wire_laws.proofs.Wire.{sent_is, newest_sent}
-use Rattle.wire_laws.proofs.Kept.{history, KeptOne, kept_of}
-use Rattle.wire_laws.proofs.Runs.{IsRun, done_runs}
+use Rattle.wire_laws.specs.Laws.{light, meant, slots_at, accepted_from, Headline, IsOneOf}
+use Rattle.wire_laws.specs.Laws.{WindowLaw, UnpatchedSlotsAreZero, SilenceIsDark, MergeLaw}
+use Rattle.wire_laws.specs.Laws.{HearsOne, HearsAll, CidsDiffer, AreSettled, IsUnpatched, lights}
+use Rattle.std.specs.Option.{option_map, option_map_or}
+use Rattle.wire_laws.specs.declared.event.What.TheVariants.{Deliver, Show}
+use Rattle.wire_laws.specs.declared.reply.Skip.{Skip}
+use Rattle.wire_laws.specs.declared.reply.Reply.{Reply}
+use Rattle.wire_laws.specs.declared.reply.Reply.TheVariants.{Shown, Skipped}
+use Rattle.wire_laws.specs.Datagrams.{packet_bytes}
+use Rattle.wire_laws.specs.Shows.{IsShown, reply_alone}
+
+-- how far k is ahead of a, as bytes count it
+abbrev steps : ℕ → ℕ → ℕ
+steps a k = (k % 256 + 256 - a % 256) % 256
+
+-- in the window, of two packets the numbers tell which is later
+in_sequence : (a k : ℕ) → k ≤ a + 236 → a ≤ k + 19 → is_after (a % 256) (k % 256) ≡ nat_lt a k
+in_sequence a k h g =
+    elim (cases_order a k) [
+      | inl e ↦ (let s : steps a k ≡ 0 = omega arith in grind (arith, nat_tests))
+      | inr o ↦
+          elim o [
+            | inl l ↦ (let s : steps a k ≡ k - a = omega arith in grind (arith, nat_tests))
+            | inr l ↦ (let s : steps a k ≡ 256 + k - a = omega arith in grind (arith, nat_tests))
+          ]
+    ]
+
+-- what is known of the packet that is kept at moment t
+pub record Keeps (t : ℕ) (ds : List Delivery) (a : Delivery) : Type 0 where
+  pub not_far_behind : newest_of ds ≤ a.k + 19
+  pub not_ahead : a.k ≤ newest_of ds
+  pub newest_or_late : (a.k ≡ newest_of ds) ⊎ (arrived ds + 2500 ≤ a.moment)
+  pub after_arrival : arrived ds ≤ a.moment
+  pub past : a.moment ≤ t
+
+-- one delivery more, in the window: when the newest arrived, and what is kept
+module _ (t : ℕ) (d e a : Delivery) (ds : List Delivery) (h : Keeps d.moment (e ∷ ds) a)
+    (low : newest_of (e ∷ ds) ≤ d.k + 19) (time : d.moment ≤ t) where
+  arrived_newer : newest_of (e ∷ ds) < d.k → arrived (d ∷ e ∷ ds) ≡ d.moment
+  arrived_newer l = cond-true _ d.moment (arrived (e ∷ ds)) (lt-ltb (newest_of (e ∷ ds)) d.k l)
+
+  arrived_older : d.k ≤ newest_of (e ∷ ds) → arrived (d ∷ e ∷ ds) ≡ arrived (e ∷ ds)
+  arrived_older l = cond-false _ d.moment (arrived (e ∷ ds)) (le-ltb (newest_of (e ∷ ds)) d.k l)
+
+  still_late : d.k ≤ newest_of (e ∷ ds) → (a.moment + 2500 ≤ d.moment) ⊎ (a.k < d.k)
+      → arrived (e ∷ ds) + 2500 ≤ d.moment
+  still_late l (inl gone) = omega (arith, h.after_arrival)
+  still_late l (inr newer) = elim h.newest_or_late [
+    | inl same ↦ absurd (omega arith)
+    | inr late ↦ omega (arith, h.past)
+  ]
+
+  taken : (a.moment + 2500 ≤ d.moment) ⊎ (a.k < d.k) → Keeps t (d ∷ e ∷ ds) d
+  taken why = elim (cases_lt (newest_of (e ∷ ds)) d.k) [
+    | inl newer ↦ record {
+      not_far_behind = omega arith;
+      not_ahead = omega arith;
+      newest_or_late = inl (omega arith);
+      after_arrival = omega (arith, arrived_newer newer);
+      past = time;
+    }
+    | inr older ↦ record {
+      not_far_behind = omega arith;
+      not_ahead = omega arith;
+      newest_or_late = inr (rw (arrived_older older) (still_late older why));
+      after_arrival = omega (arith, arrived_older older, h.after_arrival, h.past);
+      past = time;
+    }
+  ]
+
+  discarded : d.k ≤ a.k → Keeps t (d ∷ e ∷ ds) a
+  discarded older =
+      let same : arrived (d ∷ e ∷ ds) ≡ arrived (e ∷ ds) =
+      arrived_older (omega (arith, h.not_ahead)) in
+      record {
+        not_far_behind = omega (arith, h.not_far_behind, h.not_ahead);
+        not_ahead = omega (arith, h.not_ahead);
+        newest_or_late = rw same (elim h.newest_or_late [
+          | inl at_newest ↦ inl (omega (arith, h.not_ahead))
+          | inr late ↦ inr late
+        ]);
+        after_arrival = omega (arith, same, h.after_arrival);
+        past = omega (arith, h.past);
+      }
+
+-- the test of acceptance, at plain numbers
+taken_means : (x y a k : ℕ) → (nat_le x y || nat_lt a k) ≡ true → (x ≤ y) ⊎ (a < k)
+taken_means x y a k h = grind (arith, nat_tests)
+
+discarded_means : (x y a k : ℕ) → (nat_le x y || nat_lt a k) ≡ false → k ≤ a
+discarded_means x y a k h = grind (arith, nat_tests)
+
+module _ (c : Identity) where
+  abbrev pub history : List Delivery → List Entry
+  history ds = accepted 4 (map (entry c) ds)
+
+  all_one : (ds : List Delivery) → AllIn (c.cid ∷ []) (map (entry c) ds)
+  all_one [] = tt
+  all_one (d ∷ ds) = (one_of (entry c d) (c.cid ∷ []) (inl refl), all_one ds)
+
+  -- what is kept of the source, over all its deliveries
+  pub record KeptOne (t : ℕ) (ds : List Delivery) : Type 0 where
+    pub one : Delivery
+    pub is_kept : find (same_cid c.cid) (history ds) ≡ Some (entry c one)
+    pub came : In one ds
+    pub facts : Keeps t ds one
+
+  -- in the window a packet is accepted where the record is gone, or where it is a later one
+  accepts : (ds : List Delivery) (a d : Delivery)
+      → find (same_cid c.cid) (history ds) ≡ Some (entry c a) → d.k ≤ a.k + 236 → a.k ≤ d.k + 19
+      → is_accepted 4 (history ds) d.moment c.cid (d.k % 256)
+      ≡ (nat_le (a.moment + 2500) d.moment || nat_lt a.k d.k)
+  accepts ds a d f ahead behind = by_test (nat_lt (d.moment - a.moment) 2500) (λ q.
+      let l : nat_le (a.moment + 2500) d.moment ≡ false = grind (arith, nat_tests) in
+      rw (ap (while_there d.moment) f ∙ cond-true _ (Some (entry c a)) None q, l)
+      (in_sequence a.k d.k ahead behind))
+      (λ q. let n : record_of (history ds) d.moment c.cid ≡ None =
+      ap (while_there d.moment) f ∙ cond-false _ (Some (entry c a)) None q in
+      let l : nat_le (a.moment + 2500) d.moment ≡ true = grind (arith, nat_tests) in
+      rw (n, l) (lt-ltb (length (records (history ds) d.moment)) 4 (omega (
+        arith,
+        room_for (c.cid ∷ []) (entry c d) d.moment (history ds)
+            (accepted_in 4 (c.cid ∷ []) (map (entry c) ds) (all_one ds))
+            (one_of (entry c d) (c.cid ∷ []) (inl refl)) n,
+      ))))
+
+  kept_in_window : (t : ℕ) (d : Delivery) (ds : List Delivery) → IsInWindow (d ∷ ds)
+      → IsInTime t (d ∷ ds) → KeptOne t (d ∷ ds)
+  kept_in_window t d [] w i = record {
+    one = d;
+    is_kept = rw (nat_list_eq_equiv.refl c.cid);
+    came = inl refl;
+    facts = record {
+      not_far_behind = omega arith;
+      not_ahead = omega arith;
+      newest_or_late = inl (omega arith);
+      after_arrival = omega arith;
+      past = i.0;
+    };
+  }
+  kept_in_window t d (e ∷ ds) w i =
+      let k = kept_in_window d.moment e ds w.2 i.1 in
+      let h : List Entry = history (e ∷ ds) in
+      let means = accepts (e ∷ ds) k.one d k.is_kept (omega (arith, k.facts.not_far_behind, w.1))
+      (omega (arith, k.facts.not_ahead, w.0)) in
+      by_test (is_accepted 4 h d.moment c.cid (d.k % 256)) (λ q. record {
+        one = d;
+        is_kept = rw (q, nat_list_eq_equiv.refl c.cid);
+        came = inl refl;
+        facts = taken t d e k.one ds k.facts w.0 i.0
+            (taken_means _ _ k.one.k d.k (sym means ∙ q));
+      }) (λ q. record {
+        one = k.one;
+        is_kept = rw q k.is_kept;
+        came = inr k.came;
+        facts = discarded t d e k.one ds k.facts w.0 i.0
+            (discarded_means _ _ k.one.k d.k (sym means ∙ q));
+      })
+
+  -- unless nothing came
+  pub kept_of : (t : ℕ) (ds : List Delivery) → IsInWindow ds → IsInTime t ds
+      → (ds ≡ []) ⊎ KeptOne t ds
+  kept_of t [] w i = inl refl
+  kept_of t (d ∷ ds) w i = inr (kept_in_window t d ds w i)
 
 -- the light of what is kept, while it is there and has not ended
 abbrev lit_by : ℕ → Option Entry → Option Light
@@ -294,3 +464,123 @@ unpatched_zero w events r i t slot v time hears fresh below none =
     ap (λ l. slice_index l slot) (headline w events r i t v time hears fresh)
     ∙ unpatched_latest (console_at w i).show (acts w i (done w events))
     (universe_at w r - (console_at w i).base) slot below none
+
+was_shown : (w : World) (past : List Event) (r t : ℕ) (slots : List ℕ)
+    → reply_to w past (record { moment = t; what = Show r }) ≡ Shown slots
+    → (skipped w past (record { moment = t; what = Show r }) ≡ None)
+    × (slots ≡ slots_at w r past t)
+was_shown w past r t slots = go (skipped w past (record { moment = t; what = Show r }))
+  where
+    go : (o : Option Skip) → option_map_or Skipped o (replied w past t (Show r)) ≡ Shown slots
+        → (o ≡ None) × (slots ≡ slots_at w r past t)
+    go (Some s) k = cc
+    go None k = (refl, cc)
+
+-- the slots of a receiver at the end
+left_at : (w : World) (past : List Event) (r : ℕ) (slots : List ℕ)
+    → slice_get (last_slots w past) r ≡ Some slots → slots ≡ slots_at w r past (last_moment past)
+left_at w past r slots s =
+    let f : ℕ → List ℕ = λ r. slots_at w r past (last_moment past) in
+    let count : ℕ = length w.receivers in
+    sym (get_or_from_slice_get (last_slots w past) r slots [] s)
+    ∙ get_or-map-range_with_len f 0 count r r [] (omega (
+      arith,
+      slice_get_within (last_slots w past) r slots s,
+      length-map-range_with_len f 0 count,
+    )) (omega arith)
+
+-- ---- the laws, of a rehearsal with these replies and these last slots
+
+module _ (w : World) (events : List Event) (replies : List Reply) (last : List (List ℕ))
+    (v : IsWorld w) (are : AreReplies w events replies)
+    (left : last ≡ last_slots w (done w events)) where
+  -- whatever is true of the slots of a receiver is true of the slots shown
+  at_shown : (P : List Event → List ℕ → Type 0) (r t : ℕ) (past : List Event) (slots : List ℕ)
+      → IsShown w events replies last r t past slots
+      → ((es : List Event) → last_moment (done w es) ≤ t
+      → P (done w es) (slots_at w r (done w es) t)) → P past slots
+  at_shown P r t past slots (inl is) law =
+      let es : List Event = take is.place events in
+      let x : Event = record { moment = t; what = Show r } in
+      let k = was_shown w (done w es) r t slots (same_Some (reply_to w (done w es) x) (Shown slots)
+      (sym (are.1 is.place x is.asked) ∙ is.answered)) in
+      rw (is.before, k.1) (law es (timely w (done w es) x k.0).after)
+  at_shown P r t past slots (inr is) law =
+      let all : List Event = done w events in
+      let at : t ≡ last_moment all = is.at_last ∙ ap last_moment is.all in
+      let k = left_at w all r slots (ap (λ l. slice_get l r) (sym left) ∙ is.left) in
+      rw (is.all, k) (subst (λ t. P all (slots_at w r all t)) at (law events (omega arith)))
+
+  pub shows_meaning : (r i t : ℕ) (past : List Event) (slots : List ℕ)
+      → IsShown w events replies last r t past slots
+      → IsAlone w r i past → NoStray w r past
+      → IsInWindow (delivered w r i past) → IsFresh w r i past t
+      → slots ≡ meant w r i past
+  shows_meaning r i t past slots shown alone no_stray window =
+      at_shown (λ p s. HearsOne w r i p → IsFresh w r i p t → s ≡ meant w r i p) r t past slots
+      shown (λ es after. headline w es r i t v after)
+      (record { alone = alone; no_stray = no_stray; window = window })
+
+  pub shows_zero : (r i t slot : ℕ) (past : List Event) (slots : List ℕ)
+      → IsShown w events replies last r t past slots
+      → IsAlone w r i past → NoStray w r past
+      → IsInWindow (delivered w r i past) → IsFresh w r i past t
+      → slot < 512 → IsUnpatched w r i slot → slice_index slots slot ≡ 0
+  shows_zero r i t slot past slots shown alone no_stray window fresh below none =
+      at_shown (λ p s. HearsOne w r i p → IsFresh w r i p t → slice_index s slot ≡ 0) r t past
+      slots shown
+      (λ es after hears fresh. unpatched_zero w es r i t slot v after hears fresh below none)
+      (record { alone = alone; no_stray = no_stray; window = window }) fresh
+
+  pub shows_near : (r i t : ℕ) (past : List Event) (slots : List ℕ)
+      → IsShown w events replies last r t past slots
+      → IsAlone w r i past → NoStray w r past
+      → IsInWindow (delivered w r i past)
+      → (IsOneOf t slots (sent w i (universe_at w r) past) (delivered w r i past)
+      ⊎ (slots ≡ dark)) × (IsTrue (is_silent w r i past t) → slots ≡ dark)
+  shows_near r i t past slots shown alone no_stray window =
+      at_shown (λ p s. HearsOne w r i p
+      → (IsOneOf t s (sent w i (universe_at w r) p) (delivered w r i p) ⊎ (s ≡ dark))
+      × (IsTrue (is_silent w r i p t) → s ≡ dark)) r t past slots shown
+      (λ es after hears. (
+        window_law w es r i t v after hears,
+        silence_dark w es r i t v after hears,
+      )) (record { alone = alone; no_stray = no_stray; window = window })
+
+  pub shows_merged : length w.consoles ≤ 4 → (r t slot : ℕ) (past : List Event) (slots : List ℕ)
+      → IsShown w events replies last r t past slots
+      → CidsDiffer w → NoStray w r past
+      → ((i : ℕ) → i < length w.consoles → IsInWindow (delivered w r i past))
+      → AreSettled w r past t
+      → slot < 512 → slice_index slots slot ≡ merged (lights w r past t) slot
+  shows_merged few r t slot past slots shown apart no_stray window settled below =
+      at_shown (λ p s. HearsAll w r p → AreSettled w r p t
+      → slice_index s slot ≡ merged (lights w r p t) slot) r t past slots shown
+      (λ es after hears settled. merge_law w es r t v after hears settled slot below)
+      (record { apart = apart; few = few; no_stray = no_stray; window = window }) settled
+
+pub answers_alone : (w : World) (events : List Event) (replies : List Reply) → IsWorld w
+    → AreReplies w events replies → length w.consoles ≤ 4
+    → (j r i universe k t : ℕ) (past : List Event)
+    → slice_get events j ≡ Some (record { moment = t; what = Deliver r i universe k })
+    → past ≡ done w (take j events)
+    → skipped w past (record { moment = t; what = Deliver r i universe k }) ≡ None
+    → CidsDiffer w → NoStray w r past
+    → slice_get replies j ≡ Some (reply_alone w past t r i universe k)
+answers_alone w events replies v are few j r i u k t past e is s apart no_stray =
+    subst (λ p. skipped w p x ≡ None → NoStray w r p
+    → slice_get replies j ≡ Some (reply_alone w p t r i u k)) (sym is) (λ s no_stray.
+    let m = timely w before x s in
+    let d = deliverer w before r i u k m.there in
+    let here : datagram w i u k before ≡ Some (packet_bytes (console_at w i).source u k d.packet) =
+    ap (option_map (packet_bytes (console_at w i).source u k)) d.is_sent in
+    are.1 j x e
+    ∙ ap (λ o. Some (option_map_or Skipped o (replied w before t (Deliver r i u k)))) s
+    ∙ rw here (ap (λ a. Some (taken_reply a)) (consoles_independent w (take j events) r i u k t _ v
+    apart few d.there m.after no_stray here))) s no_stray
+  where
+    before : List Event
+    before = done w (take j events)
+
+    x : Event
+    x = record { moment = t; what = Deliver r i u k }

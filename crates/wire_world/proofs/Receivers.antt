@@ -19,7 +19,7 @@ use Rattle.wire_laws.specs.declared.reply.Reply.TheVariants as reply
 use Rattle.wire_laws.specs.World.{World, universe_at}
 use Rattle.wire_laws.specs.Happened.{handed, accepted_by}
 use Rattle.wire_laws.specs.Replies.{last_moment, no_receiver_at, taken_reply, taken_by}
-use Rattle.wire_laws.proofs.Runs.{IsRun, last_accepted}
+use Rattle.wire_laws.proofs.Came.{IsRun, last_accepted}
 use Rattle.wire_world.specs.Stands.{AllHear, AllBy, unless_skipped}
 use Rattle.wire_world.proofs.Stages.{all_set, lt_true, neq_false}
 use Rattle.std.proofs.lemmas.Result.{on_ok_weaker}

@@ -13,7 +13,7 @@ use Rattle.wire_laws.specs.declared.event.Event.{Event}
 use Rattle.wire_laws.specs.declared.reply.Reply.{Reply}
 use Rattle.wire_laws.specs.World.{World}
 use Rattle.wire_laws.specs.Replies.{last_moment, done_one, done, reply_to}
-use Rattle.wire_laws.proofs.Runs.{done_runs}
+use Rattle.wire_laws.proofs.Came.{done_runs}
 use Rattle.wire_world.specs.Stands.{AllAre, AllBy, IsStep, Replayed}
 use Rattle.wire_world.proofs.Receivers.{all_by}
 
