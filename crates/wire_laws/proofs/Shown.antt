@@ -275,9 +275,6 @@ fresh_parts : (t : ℕ) (ps : List Packet) (ds : List Delivery) → IsFreshIn t 
 fresh_parts t ps [] f = absurd f
 fresh_parts t ps (d ∷ ds) f = f
 
-recent_as : (t m : ℕ) → m ≤ t → nat_lt (t - m) 2500 ≡ nat_lt t (m + 2500)
-recent_as t m l = grind (arith, nat_tests)
-
 module _ (w : World) (v : IsWorld w) (r : ℕ) (past : List Event) (run : IsRun w past)
     (no_stray : NoStray w r past) (t : ℕ) (time : last_moment past ≤ t) (i : ℕ)
     (window : IsInWindow (delivered w r i past)) where
@@ -316,7 +313,7 @@ module _ (w : World) (v : IsWorld w) (r : ℕ) (past : List Event) (run : IsRun 
       ))) (λ q. q)
 
   recent : (k : Kept) → nat_lt (t - k.one.moment) 2500 ≡ nat_lt t (k.one.moment + 2500)
-  recent k = recent_as t k.one.moment (omega (arith, k.facts.past))
+  recent k = let l : k.one.moment ≤ t = omega (arith, k.facts.past) in grind (arith, nat_tests)
 
   -- what console i is to light with
   abbrev due : Option Light
@@ -438,7 +435,7 @@ pub merge_law : MergeLaw
 merge_law w events r t v time hears state slot below =
     get_or-map-range_with_len (shown (accepted_by w r past) t) 0 512 slot slot 0 below (omega arith)
     ∙ shown_lit t (accepted_by w r past) (λ j. (source_of w j).cid) (range_with_len 0 n)
-    (λ e m. let c = from_console w v r past run hears.no_stray e m in (
+    (λ e m. let c = from_console w v r past (done_runs w events) hears.no_stray e m in (
       c.0,
       in_from_place c.0 (range_with_len 0 n) c.0 (omega (arith, c.1, length-range_with_len 0 n))
           (omega (arith, get_or-range_with_len 0 n c.0 c.0 c.1)),
@@ -447,14 +444,12 @@ merge_law w events r t v time hears state slot below =
     let place = place_from_in j (range_with_len 0 n) m in
     let k : place.0 < n = omega (arith, place.1, length-range_with_len 0 n) in
     let l : j < n = omega (arith, place.2, get_or-range_with_len 0 n place.0 j k) in
-    ap (lit_by t) (follows w v r past run hears.no_stray hears.apart hears.few j l)
-    ∙ lit_settled w v r past run hears.no_stray t time j (hears.window j l) (state j l)) slot
+    ap (lit_by t) (follows w v r past (done_runs w events) hears.no_stray hears.apart hears.few j l)
+    ∙ lit_settled w v r past (done_runs w events) hears.no_stray t time j (hears.window j l)
+    (state j l)) slot
   where
     past : List Event
     past = done w events
-
-    run : IsRun w (done w events)
-    run = done_runs w events
 
     n : ℕ
     n = length w.consoles
