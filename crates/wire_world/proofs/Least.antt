@@ -7,7 +7,7 @@ use Rattle.std.proofs.lemmas.List.{get_or-set_other, get_or-set_same}
 use Rattle.std.proofs.Math.ListN.{length-set}
 use Rattle.wire_laws.specs.declared.event.Event.{Event}
 use Rattle.wire_laws.specs.declared.event.What.{What}
-use Rattle.wire_laws.specs.declared.event.What.TheVariants.{Order, Tick, Deliver, Stray, Show}
+use Rattle.wire_laws.specs.declared.event.What.TheVariants.{Deliver}
 use Rattle.wire_world.specs.Wanted.{IsUpTo, Spares, row_of}
 
 -- a delivery is of no packet before the least of its row
@@ -34,29 +34,20 @@ index_less (x ∷ xs) (suc i) (suc j) y l = index_less xs i j y l
 
 least_less : (least : List ℕ) (row y : ℕ) → y ≤ slice_index least row → (what : What)
     → IsLeast least what → IsLeast (set least row y) what
-least_less least row y l (Order i c) h = tt
-least_less least row y l (Tick i) h = tt
-least_less least row y l (Stray r from to) h = tt
-least_less least row y l (Show r) h = tt
 least_less least row y l (Deliver r i u k) h =
     omega (arith, index_less least row (row_of i u) y l, h)
+least_less least row y l _ h = tt
 
 -- what is no delivery
 no_least : (least : List ℕ) (what : What) → ((r i u k : ℕ) → what ≡ Deliver r i u k → ⊥)
     → IsLeast least what
-no_least least (Order i c) other = tt
-no_least least (Tick i) other = tt
-no_least least (Stray r from to) other = tt
-no_least least (Show r) other = tt
 no_least least (Deliver r i u k) other = absurd (other r i u k refl)
+no_least least _ other = tt
 
 no_spares : (what : What) → ((r i u k : ℕ) → what ≡ Deliver r i u k → ⊥) → (low : ℕ)
     (later : What) → Spares what low later
-no_spares (Order i c) other low later = tt
-no_spares (Tick i) other low later = tt
-no_spares (Stray r from to) other low later = tt
-no_spares (Show r) other low later = tt
 no_spares (Deliver r i u k) other low later = absurd (other r i u k refl)
+no_spares _ other low later = tt
 
 -- an event before these, and what it changes
 module _ (events : List Event) (lows least : List ℕ) (n : ℕ) (e : Event)
@@ -123,13 +114,10 @@ module _ (events : List Event) (lows least : List ℕ) (n : ℕ) (e : Event)
       first = omega (arith, get_or-set_same least (row_of c u) y 0 inside, low)
 
       spared : (later : What) → IsLeast least later → Spares (Deliver r c u k) row later
-      spared (Order i x) h = tt
-      spared (Tick i) h = tt
-      spared (Stray i from to) h = tt
-      spared (Show i) h = tt
       spared (Deliver q d v m) h = λ a b.
           let same : row_of c u ≡ row_of d v = ap (λ x. row_of x u) a ∙ ap (row_of d) b in
           omega (arith, ap (slice_index least) same, h)
+      spared _ h = tt
 
 -- ---- the last packet of all
 
@@ -139,11 +127,8 @@ AreUpToBefore events last n = (j : ℕ) (e : Event) → j < n → slice_get even
     → IsUpTo last e.what
 
 pub up_to_more : (last new : ℕ) → last ≤ new → (what : What) → IsUpTo last what → IsUpTo new what
-up_to_more last new l (Order i x) h = tt
-up_to_more last new l (Tick i) h = tt
-up_to_more last new l (Stray r from to) h = tt
-up_to_more last new l (Show r) h = tt
 up_to_more last new l (Deliver r i u k) h = omega (arith, l, h)
+up_to_more last new l _ h = tt
 
 -- one event more
 pub up_to_next : (events : List Event) (last new n : ℕ) (e : Event) → slice_get events n ≡ Some e

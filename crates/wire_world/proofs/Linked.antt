@@ -7,16 +7,15 @@ use Rattle.std.proofs.lemmas.List.{map-append, take_all}
 use Rattle.std.proofs.lemmas.List.Elements.{filter-append}
 use Rattle.std.proofs.Common.{arith, append-nil, add-one}
 use Rattle.std.specs.Prelude.{slice_get, if◌then◌else◌, nat_eq, unwrap_or, get_or, ◌≢◌}
-use Rattle.std.specs.Prelude.{◌||◌}
+use Rattle.std.specs.Prelude.{◌||◌, filter}
 use Rattle.std.specs.List.{list_any}
 use Rattle.std.specs.List.{AllPairs}
 use Rattle.std.specs.Option.{option_map, option_map_or}
-use Rattle.std.proofs.lemmas.Bool.{eqb-true}
+use Rattle.std.proofs.lemmas.Bool.{cond_both, eqb-true}
 use Rattle.std.proofs.lemmas.List.Kept.{AllPairs-from_increasing}
 use Rattle.devices.specs.Send.{Send}
 use Rattle.desk_core.specs.declared.command.Command.{Command}
-use Rattle.desk_core.specs.declared.command.Command.TheVariants.{Go, Back, Goto, Sub, Group}
-use Rattle.desk_core.specs.declared.command.Command.TheVariants.{Master, End}
+use Rattle.desk_core.specs.declared.command.Command.TheVariants.{End}
 use Rattle.desk_core.specs.Played.{Act, order, tick, ended, ended_by}
 use Rattle.desk_core.proofs.Universes.{numbers_rise}
 use Rattle.sacn_source.specs.declared.offered.Offered.{Offered}
@@ -24,7 +23,7 @@ use Rattle.sacn_source.specs.declared.offered.Offered.TheVariants.{Sent, Quiet}
 use Rattle.sacn_source.specs.Identify.{IsStreamPacket, options_of}
 use Rattle.sacn_source.specs.Identity.{Identity}
 use Rattle.sacn_source.specs.Offering.{answer_of}
-use Rattle.sacn_source.specs.Stream.{Packet, sends, frames_sent, packets, live_packet}
+use Rattle.sacn_source.specs.Stream.{Packet, sends, packets, live_packet}
 use Rattle.console.specs.Offering.{AreOffered, Offers, none, quiet, sent}
 use Rattle.console.specs.Streams.{Production, Due, due_at, dues_at, offer_at, offered_by}
 use Rattle.console.specs.Streams.{offers_of}
@@ -90,12 +89,9 @@ IsFull (Some p) = length p.slots ≡ 512
 due_full : (p : Production) (h : List Act) (m u : ℕ) → IsFull (due_at p h m u).packet
 due_full p h m u = go (ended h)
   where
-    live : (b : Bool) → IsFull (if b then Some (live_packet (offer_at p u h m).frame) else None)
-    live true = frame_full p.show h m (u - p.base)
-    live false = tt
-
     go : (n : Option ℕ) → IsFull (packet_due n (offer_at p u h m ∷ offers_of p u h))
-    go None = live (sends (offer_at p u h m ∷ offers_of p u h))
+    go None = cond_both (sends (offer_at p u h m ∷ offers_of p u h)) _ _ IsFull
+        (λ _. frame_full p.show h m (u - p.base)) (λ _. tt)
     go (Some n) = refl
 
 -- a tick more leaves the stream, and adds what is due
@@ -103,22 +99,18 @@ ticked_more : (p : Production) (h : List Act) (m u : ℕ)
     → stream p u (tick_at m ∷ h) ≡ stream p u h ++ due_list (due_at p h m u).packet
 ticked_more p h m u = go (ended h)
   where
-    live : (b : Bool)
-        → map live_packet
-        (if b then frames_sent (offers_of p u h) ++ (offer_at p u h m).frame ∷ []
-        else frames_sent (offers_of p u h))
-        ≡ map live_packet (frames_sent (offers_of p u h))
-        ++ due_list (if b then Some (live_packet (offer_at p u h m).frame) else None)
-    live true =
-        map-append live_packet (frames_sent (offers_of p u h)) ((offer_at p u h m).frame ∷ [])
-    live false = sym (append-nil _)
+    live : (b : Bool) (fs : List (List ℕ)) (f : List ℕ)
+        → map live_packet (if b then fs ++ f ∷ [] else fs)
+        ≡ map live_packet fs ++ due_list (if b then Some (live_packet f) else None)
+    live true fs f = map-append live_packet fs (f ∷ [])
+    live false fs f = sym (append-nil _)
 
     go : (n : Option ℕ)
         → packets (offered_by tick n (offer_at p u h m) (offers_of p u h))
         (unwrap_or (ended_by tick n) 0)
         ≡ packets (offers_of p u h) (unwrap_or n 0)
         ++ due_list (packet_due n (offer_at p u h m ∷ offers_of p u h))
-    go None = live (sends (offer_at p u h m ∷ offers_of p u h))
+    go None = live (sends (offer_at p u h m ∷ offers_of p u h)) _ _
     go (Some n) = ap (packets (offers_of p u h)) (add-one n)
 
 -- what is added to the packets of a universe
@@ -137,20 +129,8 @@ sent_added p h m u = go (plays p u)
 
 -- a command leaves the streams
 ended_same : (c : Command) (n : Option ℕ) → unwrap_or (ended_by (order c) n) 0 ≡ unwrap_or n 0
-ended_same Go None = refl
-ended_same Back None = refl
-ended_same (Goto m) None = refl
-ended_same (Sub m b) None = refl
-ended_same (Group m b) None = refl
-ended_same (Master b) None = refl
 ended_same End None = refl
-ended_same Go (Some n) = refl
-ended_same Back (Some n) = refl
-ended_same (Goto m) (Some n) = refl
-ended_same (Sub m b) (Some n) = refl
-ended_same (Group m b) (Some n) = refl
-ended_same (Master b) (Some n) = refl
-ended_same End (Some n) = refl
+ended_same _ n = refl
 
 pub sent_ordered : (p : Production) (h : List Act) (m : ℕ) (c : Command) (u : ℕ)
     → packets_of p (order_at m c ∷ h) u ≡ packets_of p h u
@@ -180,30 +160,21 @@ one_sent : (source : Identity) (u : ℕ) (d : Due) (p : Packet) (x : Send) (xs :
     (ds : List Due) → d.packet ≡ Some p → x.universe ≡ d.universe
     → x.bytes ≡ packet_bytes source d.universe d.place p
     → sent_to u xs ≡ due_bytes source ds u → sent_to u (x ∷ xs) ≡ due_bytes source (d ∷ ds) u
-one_sent source u d p x xs ds e f g ih = go (nat_eq d.universe u) refl
+one_sent source u d p x xs ds e f g ih = rw (← f, e, ← ih) (go (nat_eq x.universe u) refl)
   where
-    go : (b : Bool) → nat_eq d.universe u ≡ b
-        → sent_to u (x ∷ xs)
-        ≡ (if b then numbered source u d.place (due_list d.packet) ++ due_bytes source ds u
-        else due_bytes source ds u)
-    go true q =
-        let t : nat_eq x.universe u ≡ true = ap (λ n. nat_eq n u) f ∙ q in
-        let k : x.bytes ≡ packet_bytes source u d.place p =
-        g ∙ ap (λ n. packet_bytes source n d.place p) (eqb-true d.universe u q) in
-        simp t (ap (λ l. l ∷ sent_to u xs) k ∙ ap (λ l. packet_bytes source u d.place p ∷ l) ih
-        ∙ sym (ap (λ o. numbered source u d.place (due_list o) ++ due_bytes source ds u) e))
-    go false q = let t : nat_eq x.universe u ≡ false = ap (λ n. nat_eq n u) f ∙ q in simp t ih
+    go : (b : Bool) → nat_eq x.universe u ≡ b
+        → map (λ (s : Send). s.bytes)
+        (if b then x ∷ filter (λ (s : Send). nat_eq s.universe u) xs
+        else filter (λ (s : Send). nat_eq s.universe u) xs)
+        ≡ (if b then packet_bytes source u d.place p ∷ sent_to u xs else sent_to u xs)
+    go true q = ap (λ l. l ∷ sent_to u xs) (g
+        ∙ ap (λ n. packet_bytes source n d.place p) (sym f ∙ eqb-true x.universe u q))
+    go false q = refl
 
 none_sent : (source : Identity) (u : ℕ) (d : Due) (ds : List Due) → d.packet ≡ None
     → due_bytes source ds u ≡ due_bytes source (d ∷ ds) u
-none_sent source u d ds e = go (nat_eq d.universe u)
-  where
-    go : (b : Bool)
-        → due_bytes source ds u
-        ≡ (if b then numbered source u d.place (due_list d.packet) ++ due_bytes source ds u
-        else due_bytes source ds u)
-    go true = sym (ap (λ o. numbered source u d.place (due_list o) ++ due_bytes source ds u) e)
-    go false = refl
+none_sent source u d ds e = rw e (cond_both (nat_eq d.universe u) _ _
+    (λ l. due_bytes source ds u ≡ l) (λ _. refl) (λ _. refl))
 
 -- the sends of a tick to a universe are what is due on it
 pub sent_due : {source : Identity} (u : ℕ) {ds : List Due} {xs : List Send}
@@ -343,11 +314,7 @@ answers_ticked p h m rows before pairs o =
 
 -- before the first tick there is none
 pub first_packets : (p : Production) (u : ℕ) → packets_of p [] u ≡ []
-first_packets p u = go (plays p u)
-  where
-    go : (b : Bool) → (if b then stream p u [] else []) ≡ []
-    go true = refl
-    go false = refl
+first_packets p u = cond_both (plays p u) _ _ (λ ps. ps ≡ []) (λ _. refl) (λ _. refl)
 
 none_at_first : (p : Production) (u n : ℕ)
     → take n (numbered p.source u 0 (packets_of p [] u)) ≡ []

@@ -19,7 +19,7 @@ use Rattle.wire_world.specs.Refusing.{are_consoles, are_receivers, are_universes
 use Rattle.wire_world.specs.Refusing.{Answers, has_base, has_show, setup_fault}
 use Rattle.wire_laws.specs.declared.event.Event.{Event}
 use Rattle.wire_laws.specs.declared.event.What.{What}
-use Rattle.wire_laws.specs.declared.event.What.TheVariants.{Order, Tick, Deliver, Stray, Show}
+use Rattle.wire_laws.specs.declared.event.What.TheVariants.{Stray}
 use Rattle.wire_world.specs.Refusing.{are_within, is_within}
 use Rattle.wire_world.specs.Stands.{AreSources, IsWithin, cast, world_of}
 
@@ -77,10 +77,7 @@ fine shows setups universes = go (are_consoles (length setups)) (are_receivers u
         → IsFine shows setups universes
     go true true true true o p q r h =
         record { consoles = o; receivers = p; shown = q; based = r }
-    go true true true false o p q r h = cc
-    go true true false d o p q r h = cc
-    go true false c d o p q r h = cc
-    go false b c d o p q r h = cc
+    go _ _ _ _ o p q r h = cc
 
 few_consoles : (shows : List Tables) (setups : List Setup) (universes : List ℕ)
     → IsFine shows setups universes → length setups ≤ 4
@@ -141,10 +138,7 @@ within_one : (size : ℕ) (x : What) → is_within size x ≡ true → IsWithin 
 within_one size (Stray receiver from to) h =
     let b = both (nat_le from to) (nat_le to size) h in
     (le from to b.0, le to size b.1)
-within_one size (Order i c) h = tt
-within_one size (Tick i) h = tt
-within_one size (Deliver r i u k) h = tt
-within_one size (Show r) h = tt
+within_one size _ h = tt
 
 pub all_within : (size : ℕ) (events : List Event) → are_within size events ≡ true
     → All (λ e. IsWithin size e.what) events

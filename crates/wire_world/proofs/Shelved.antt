@@ -2,239 +2,115 @@
 use Rattle.std.proofs.Common.{◌≡◌, ℕ, ◌+◌, ◌<◌, ◌≤◌, Bool, true, false, refl, ap}
 use Rattle.std.proofs.Common.{sym, subst, ◌∙◌}
 use Rattle.std.proofs.Common.{List, [], ◌∷◌, ◌++◌, length, map, Option, Some, None}
-use Rattle.std.proofs.Common.{arith, append-nil, take}
-use Rattle.std.specs.Prelude.{slice_get, find, if◌then◌else◌, nat_eq}
-use Rattle.std.proofs.Common.{get_or, cond}
-use Rattle.std.specs.Prelude.{nat_lt, ◌==◌, slice_set}
+use Rattle.std.proofs.Common.{arith, append-nil, take, get_or}
+use Rattle.std.specs.Prelude.{find, if◌then◌else◌, nat_eq, ◌==◌, slice_get, slice_set}
 use Rattle.std.specs.List.{position, position_or_len}
 use Rattle.std.specs.Option.{option_map_or, option_or}
-use Rattle.std.proofs.lemmas.Bool.{eqb-true}
-use Rattle.std.proofs.lemmas.Bool.Decides.{nat_tests}
+use Rattle.std.proofs.lemmas.Bool.{eq-eqb, eqb-true}
+use Rattle.std.proofs.lemmas.Grind.{common_steps}
 use Rattle.std.proofs.lemmas.List.{append_assoc, map-append, take_more}
 use Rattle.std.proofs.lemmas.List.Folds.{find_at, find-set, find_past, find-append}
-use Rattle.std.proofs.lemmas.List.Sums.{passes_at_first}
+use Rattle.std.proofs.lemmas.List.Quantifiers.{position-Some}
 use Rattle.std.proofs.lemmas.Option.{slice_get-get_or, slice_get_past}
+use Rattle.devices.specs.Send.{Send}
 use Rattle.wire_world.specs.declared.row.Row.{Row}
 use Rattle.wire_world.specs.declared.shelf.Shelf.{Shelf}
 use Rattle.wire_world.specs.Sends.{send_of, sent_to}
 use Rattle.wire_world.specs.Shelves.{IsRest, gone_of, kept_of}
 use Rattle.wire_world.proofs.Linked.{sent_more}
-use Rattle.wire_world.proofs.Rests.{rest_first}
 
 -- ---- the shelf of a universe
 
-found_by : (b : Bool) (p i n : ℕ) → nat_lt p n ≡ b → cond b (Some p) None ≡ Some i
-    → (i ≡ p) × (i < n)
-found_by true p i n h e =
-    let same : i ≡ p = cc in
-    (same, grind (arith, nat_tests))
-found_by false p i n h e = cc
+abbrev pub shelf_of : ℕ → List Shelf → Option Shelf
+shelf_of u shelves = find (λ (s : Shelf). s.universe == u) shelves
 
-missed_by : (b : Bool) (p n : ℕ) → nat_lt p n ≡ b → cond b (Some p) None ≡ None → n ≤ p
-missed_by true p n h e = cc
-missed_by false p n h e = grind (arith, nat_tests)
+abbrev pub gone : Option Shelf → ℕ
+gone shelf = option_map_or (λ s. s.gone) shelf 0
 
--- the universe has a shelf
-module _ (shelves : List Shelf) (u i : ℕ) (was d : Shelf)
-    (found : position (λ (s : Shelf). s.universe == u) shelves ≡ Some i)
-    (is : was ≡ get_or shelves i d) where
-  at : (i ≡ position_or_len (λ (s : Shelf). s.universe == u) shelves) × (i < length shelves)
-  at = found_by _ _ i (length shelves) refl found
+abbrev pub kept : Option Shelf → List (List ℕ)
+kept shelf = option_map_or (λ s. s.packets) shelf []
 
-  named : nat_eq (get_or shelves i d).universe u ≡ true
-  named = ap (λ k. nat_eq (get_or shelves k d).universe u) at.0
-      ∙ passes_at_first (λ (s : Shelf). s.universe == u) shelves d (omega (arith, at.0, at.1))
+-- a universe has a new shelf in place of what it had, and the others have theirs
+pub record IsPut (u : ℕ) (was : Option Shelf) (new : Shelf) (shelves after : List Shelf)
+    : Type 0 where
+  pub own : shelf_of u shelves ≡ was
+  pub own_after : shelf_of u after ≡ Some new
+  pub others : (v : ℕ) → nat_eq u v ≡ false → shelf_of v after ≡ shelf_of v shelves
 
-  pub here : find (λ (s : Shelf). s.universe == u) shelves ≡ Some was
-  here =
-      find_at (λ (s : Shelf). s.universe == u) shelves ∙ ap (slice_get shelves) (sym at.0)
-      ∙ slice_get-get_or shelves i d at.1 ∙ ap Some (sym is)
-
-  pub written : (new : Shelf) (v : ℕ) → new.universe ≡ was.universe
-      → find (λ (s : Shelf). s.universe == v) (slice_set shelves i new)
-      ≡ (if nat_eq u v then Some new else find (λ (s : Shelf). s.universe == v) shelves)
-  written new v name = go (nat_eq u v) refl
-    where
-      new_named : nat_eq new.universe u ≡ true
-      new_named = ap (λ n. nat_eq n u) (name ∙ ap (λ (s : Shelf). s.universe) is) ∙ named
-
-      go : (b : Bool) → nat_eq u v ≡ b
-          → find (λ (s : Shelf). s.universe == v) (slice_set shelves i new)
-          ≡ (if b then Some new else find (λ (s : Shelf). s.universe == v) shelves)
-      go true q =
-          subst (λ n. find (λ (s : Shelf). s.universe == n) (slice_set shelves i new) ≡ Some new)
-          (eqb-true u v q)
-          (find-set (λ (s : Shelf). s.universe == u) shelves i new at.0 at.1 new_named)
-      go false q =
-          find_past (λ (s : Shelf). s.universe == v) shelves i new d
-          (ap (λ n. nat_eq n v) (eqb-true _ u named) ∙ q)
-          (ap (λ n. nat_eq n v) (eqb-true _ u new_named) ∙ q)
-
-  -- with another content, of a universe's shelf
-  pub content : {X : Type 0} (of : Shelf → X) (none : X) (new : Shelf) (v : ℕ)
-      → new.universe ≡ was.universe
-      → option_map_or of (find (λ (s : Shelf). s.universe == v) (slice_set shelves i new)) none
-      ≡ (if nat_eq u v then of new
-      else option_map_or of (find (λ (s : Shelf). s.universe == v) shelves) none)
-  content of none new v name =
-      ap (λ o. option_map_or of o none) (written new v name) ∙ go (nat_eq u v)
-    where
-      go : (b : Bool)
-          → option_map_or of
-          (if b then Some new else find (λ (s : Shelf). s.universe == v) shelves) none
-          ≡ (if b then of new
-          else option_map_or of (find (λ (s : Shelf). s.universe == v) shelves) none)
-      go true = refl
-      go false = refl
-
-  -- and the content that it had
-  pub had : {X : Type 0} (of : Shelf → X) (none : X) (v : ℕ) → nat_eq u v ≡ true
-      → option_map_or of (find (λ (s : Shelf). s.universe == v) shelves) none ≡ of was
-  had of none v q =
-      subst (λ n. option_map_or of (find (λ (s : Shelf). s.universe == n) shelves) none ≡ of was)
-      (eqb-true u v q) (ap (λ o. option_map_or of o none) here)
-
--- the universe has none yet
-module _ (shelves : List Shelf) (u : ℕ) (new : Shelf)
-    (missed : position (λ (s : Shelf). s.universe == u) shelves ≡ None)
-    (name : new.universe ≡ u) where
-  pub none_here : find (λ (s : Shelf). s.universe == u) shelves ≡ None
-  none_here = find_at (λ (s : Shelf). s.universe == u) shelves
-      ∙ slice_get_past shelves _ (missed_by _ _ (length shelves) refl missed)
-
-  pub none_had : {X : Type 0} (of : Shelf → X) (none : X) (v : ℕ) → nat_eq u v ≡ true
-      → option_map_or of (find (λ (s : Shelf). s.universe == v) shelves) none ≡ none
-  none_had of none v q =
-      subst (λ n. option_map_or of (find (λ (s : Shelf). s.universe == n) shelves) none ≡ none)
-      (eqb-true u v q) (ap (λ o. option_map_or of o none) none_here)
-
-  pub added : {X : Type 0} (of : Shelf → X) (none : X) (v : ℕ)
-      → option_map_or of (find (λ (s : Shelf). s.universe == v) (shelves ++ new ∷ [])) none
-      ≡ (if nat_eq u v then of new
-      else option_map_or of (find (λ (s : Shelf). s.universe == v) shelves) none)
-  added of none v =
-      ap (λ o. option_map_or of o none)
-      (find-append (λ (s : Shelf). s.universe == v) shelves (new ∷ [])) ∙ go (nat_eq u v) refl
-    where
-      or_none : (o : Option Shelf) → option_or o None ≡ o
-      or_none None = refl
-      or_none (Some s) = refl
-
-      go : (b : Bool) → nat_eq u v ≡ b
-          → option_map_or of (option_or (find (λ (s : Shelf). s.universe == v) shelves)
-          (find (λ (s : Shelf). s.universe == v) (new ∷ []))) none
-          ≡ (if b then of new
-          else option_map_or of (find (λ (s : Shelf). s.universe == v) shelves) none)
-      go true q =
-          let one : find (λ (s : Shelf). s.universe == v) (new ∷ []) ≡ Some new =
-          simp (ap (λ n. nat_eq n v) name ∙ q) refl in
-          let was : find (λ (s : Shelf). s.universe == v) shelves ≡ None =
-          subst (λ n. find (λ (s : Shelf). s.universe == n) shelves ≡ None) (eqb-true u v q)
-          none_here in
-          ap (λ o. option_map_or of (option_or o (find (λ (s : Shelf). s.universe == v)
-          (new ∷ []))) none) was ∙ ap (λ o. option_map_or of o none) one
-      go false q =
-          let one : find (λ (s : Shelf). s.universe == v) (new ∷ []) ≡ None =
-          simp (ap (λ n. nat_eq n v) name ∙ q) refl in
-          ap (λ o. option_map_or of (option_or (find (λ (s : Shelf). s.universe == v) shelves) o)
-          none) one
-          ∙ ap (λ o. option_map_or of o none) (or_none _)
-
--- ---- a packet more
-
--- as many are gone as were
-pub gone_same : (shelves : List Shelf) (u i : ℕ) (was d new : Shelf)
+-- in place of its shelf
+pub set_put : (shelves : List Shelf) (u i : ℕ) (was d new : Shelf)
     → position (λ (s : Shelf). s.universe == u) shelves ≡ Some i → was ≡ get_or shelves i d
-    → new.universe ≡ was.universe → new.gone ≡ was.gone
-    → (v : ℕ) → gone_of (slice_set shelves i new) v ≡ gone_of shelves v
-gone_same shelves u i was d new found is name same v =
-    content shelves u i was d found is (λ (s : Shelf). s.gone) 0 new v name
-    ∙ go (nat_eq u v) refl
+    → new.universe ≡ was.universe → IsPut u (Some was) new shelves (slice_set shelves i new)
+set_put shelves u i was d new found is name =
+    let here = position-Some (λ (s : Shelf). s.universe == u) shelves i d found in
+    let at : i ≡ position_or_len (λ (s : Shelf). s.universe == u) shelves =
+    grind (arith, common_steps) in
+    let named : nat_eq new.universe u ≡ true =
+    ap (λ n. nat_eq n u) (name ∙ ap (λ (s : Shelf). s.universe) is) ∙ here.1 in
+    record {
+      own = find_at (λ (s : Shelf). s.universe == u) shelves ∙ ap (slice_get shelves) (sym at)
+          ∙ slice_get-get_or shelves i d here.0 ∙ ap Some (sym is);
+      own_after = find-set (λ (s : Shelf). s.universe == u) shelves i new at here.0 named;
+      others = λ v q. find_past (λ (s : Shelf). s.universe == v) shelves i new d
+          (ap (λ n. nat_eq n v) (eqb-true _ u here.1) ∙ q)
+          (ap (λ n. nat_eq n v) (eqb-true _ u named) ∙ q);
+    }
+
+-- where it has none yet
+pub push_put : (shelves : List Shelf) (u : ℕ) (new : Shelf)
+    → position (λ (s : Shelf). s.universe == u) shelves ≡ None → new.universe ≡ u
+    → IsPut u None new shelves (shelves ++ new ∷ [])
+push_put shelves u new missed name =
+    let past : length shelves ≤ position_or_len (λ (s : Shelf). s.universe == u) shelves =
+    grind (arith, common_steps) in
+    let own : shelf_of u shelves ≡ None = find_at (λ (s : Shelf). s.universe == u) shelves
+    ∙ slice_get_past shelves _ past in
+    let named : nat_eq new.universe u ≡ true = eq-eqb new.universe u name in
+    record {
+      own = own;
+      own_after = find-append (λ (s : Shelf). s.universe == u) shelves (new ∷ [])
+          ∙ simp (own, named);
+      others = λ v q. let other : nat_eq new.universe v ≡ false = ap (λ n. nat_eq n v) name ∙ q in
+          find-append (λ (s : Shelf). s.universe == v) shelves (new ∷ [])
+          ∙ simp other (or_none (shelf_of v shelves));
+    }
   where
-    go : (b : Bool) → nat_eq u v ≡ b
-        → (if b then new.gone else gone_of shelves v) ≡ gone_of shelves v
-    go true q =
-        same ∙ sym (had shelves u i was d found is (λ (s : Shelf). s.gone) 0 v q)
-    go false q = refl
+    or_none : (o : Option Shelf) → option_or o None ≡ o
+    or_none None = refl
+    or_none (Some s) = refl
 
--- on a new shelf
-module _ (shelves : List Shelf) (u : ℕ) (new : Shelf)
-    (missed : position (λ (s : Shelf). s.universe == u) shelves ≡ None)
-    (name : new.universe ≡ u) (none : new.gone ≡ 0) where
-  pub gone_none : (v : ℕ) → gone_of (shelves ++ new ∷ []) v ≡ gone_of shelves v
-  gone_none v =
-      added shelves u new missed name (λ (s : Shelf). s.gone) 0 v ∙ go (nat_eq u v) refl
+module _ {u : ℕ} {was : Option Shelf} {new : Shelf} {shelves after : List Shelf}
+    (put : IsPut u was new shelves after) where
+  -- what holds of that universe, and of any shelf that is as it was, holds of each
+  each : (P : ℕ → Bool → Option Shelf → Option Shelf → Type 0) → P u true was (Some new)
+      → ((v : ℕ) (o : Option Shelf) → P v false o o) → (v : ℕ)
+      → P v (nat_eq u v) (shelf_of v shelves) (shelf_of v after)
+  each P own other v = go (nat_eq u v) refl
     where
-      go : (b : Bool) → nat_eq u v ≡ b
-          → (if b then new.gone else gone_of shelves v) ≡ gone_of shelves v
-      go true q =
-          none ∙ sym (none_had shelves u new missed name (λ (s : Shelf). s.gone) 0 v q)
-      go false q = refl
+      go : (b : Bool) → nat_eq u v ≡ b → P v b (shelf_of v shelves) (shelf_of v after)
+      go true q = subst (λ v. P v true (shelf_of v shelves) (shelf_of v after)) (eqb-true u v q)
+          (rw (put.own, put.own_after) own)
+      go false q = rw (put.others v q) (other v _)
 
-  pub kept_first : (last : ℕ) (bytes : List ℕ) → new.packets ≡ bytes ∷ []
-      → (v : ℕ) (all : List (List ℕ))
-      → IsRest (gone_of shelves v) (kept_of shelves v) (take (last + 1) all)
-      → IsRest (gone_of (shelves ++ new ∷ []) v) (kept_of (shelves ++ new ∷ []) v)
-      (take (last + 1) (if nat_eq u v then all ++ bytes ∷ [] else all))
-  kept_first last bytes one v all r =
-      rw (gone_none v, added shelves u new missed name (λ (s : Shelf). s.packets) [] v)
-      (go (nat_eq u v) refl)
-    where
-      go : (b : Bool) → nat_eq u v ≡ b
-          → IsRest (gone_of shelves v) (if b then new.packets else kept_of shelves v)
-          (take (last + 1) (if b then all ++ bytes ∷ [] else all))
-      go true q =
-          let no_gone = none_had shelves u new missed name (λ (s : Shelf). s.gone) 0 v q in
-          let no_kept = none_had shelves u new missed name (λ (s : Shelf). s.packets) [] v q
-          in
-          rw (no_gone, one)
-          (rest_first last all bytes
-          (subst (λ n. IsRest n [] (take (last + 1) all)) no_gone
-          (subst (λ xs. IsRest (gone_of shelves v) xs (take (last + 1) all)) no_kept r)))
-      go false q = r
+  -- as many are gone as were
+  pub gone_same : new.gone ≡ gone was → (v : ℕ) → gone_of after v ≡ gone_of shelves v
+  gone_same same = each (λ v b o n. gone n ≡ gone o) same (λ v o. refl)
 
--- ---- packets that are let go
-
-module _ (shelves : List Shelf) (u i low : ℕ) (was d new : Shelf)
-    (found : position (λ (s : Shelf). s.universe == u) shelves ≡ Some i)
-    (is : was ≡ get_or shelves i d) (name : new.universe ≡ was.universe) where
   -- what its shelf keeps is the rest of others
   pub rest_changed : (v : ℕ) (xs : List (List ℕ)) (ys : Bool → List (List ℕ)) → ys false ≡ xs
-      → (IsRest was.gone was.packets xs → IsRest new.gone new.packets (ys true))
+      → (IsRest (gone was) (kept was) xs → IsRest new.gone new.packets (ys true))
       → IsRest (gone_of shelves v) (kept_of shelves v) xs
-      → IsRest (gone_of (slice_set shelves i new) v) (kept_of (slice_set shelves i new) v)
-      (ys (nat_eq u v))
-  rest_changed v xs ys same rests r =
-      rw (
-        content shelves u i was d found is (λ (s : Shelf). s.gone) 0 new v name,
-        content shelves u i was d found is (λ (s : Shelf). s.packets) [] new v name,
-      )
-      (go (nat_eq u v) refl)
-    where
-      go : (b : Bool) → nat_eq u v ≡ b
-          → IsRest (if b then new.gone else gone_of shelves v)
-          (if b then new.packets else kept_of shelves v) (ys b)
-      go true q =
-          rests
-          (subst (λ n. IsRest n was.packets xs)
-          (had shelves u i was d found is (λ (s : Shelf). s.gone) 0 v q)
-          (subst (λ kept. IsRest (gone_of shelves v) kept xs)
-          (had shelves u i was d found is (λ (s : Shelf). s.packets) [] v q) r))
-      go false q = rw same r
+      → IsRest (gone_of after v) (kept_of after v) (ys (nat_eq u v))
+  rest_changed v xs ys same rests =
+      each (λ v b o n. IsRest (gone o) (kept o) xs → IsRest (gone n) (kept n) (ys b)) rests
+      (λ v o r. rw same r) v
 
-  pub gone_released : ((k : ℕ) → was.gone ≤ k → low ≤ k → new.gone ≤ k)
-      → (v k : ℕ) → gone_of shelves v ≤ k → (u ≡ v → low ≤ k)
-      → gone_of (slice_set shelves i new) v ≤ k
-  gone_released less v k l h =
-      rw (content shelves u i was d found is (λ (s : Shelf). s.gone) 0 new v name)
-      (go (nat_eq u v) refl)
-    where
-      go : (b : Bool) → nat_eq u v ≡ b → (if b then new.gone else gone_of shelves v) ≤ k
-      go true q =
-          less k
-          (omega (arith, l, had shelves u i was d found is (λ (s : Shelf). s.gone) 0 v q))
-          (h (eqb-true u v q))
-      go false q = l
+  -- packets that are let go
+  pub gone_released : (low : ℕ) → ((k : ℕ) → gone was ≤ k → low ≤ k → new.gone ≤ k)
+      → (v k : ℕ) → gone_of shelves v ≤ k → (u ≡ v → low ≤ k) → gone_of after v ≤ k
+  gone_released low less v k =
+      each (λ v b o n. gone o ≤ k → (u ≡ v → low ≤ k) → gone n ≤ k)
+      (λ l h. less k l (h refl)) (λ v o l h. l) v
 
 -- one row more of those that are kept
 pub sent_row : (u : ℕ) (rows : List Row) (i : ℕ) (d : Row) → i < length rows
@@ -244,25 +120,19 @@ pub sent_row : (u : ℕ) (rows : List Row) (i : ℕ) (d : Row) → i < length ro
     else kept ++ sent_to u (map send_of (take i rows)))
     ≡ kept ++ sent_to u (map send_of (take (i + 1) rows))
 sent_row u rows i d l kept =
-    go (nat_eq row.universe u) refl
-    ∙ ap (λ xs. kept ++ xs)
-    (sym (sent_more u (map send_of (take i rows)) (send_of row ∷ []))
-    ∙ ap (sent_to u)
-    (sym (map-append send_of (take i rows) (row ∷ []))
-    ∙ ap (map send_of) (sym (take_more rows i d l))))
+    go (nat_eq row.universe u)
+    ∙ ap (λ xs. kept ++ xs) (sym (sent_more u (map send_of (take i rows)) (send_of row ∷ [])))
+    ∙ ap (λ xs. kept ++ sent_to u xs) (sym (ap (map send_of) (take_more rows i d l)
+    ∙ map-append send_of (take i rows) (row ∷ [])))
   where
     row : Row
     row = get_or rows i d
 
-    go : (b : Bool) → nat_eq row.universe u ≡ b
-        → (if b then (kept ++ sent_to u (map send_of (take i rows))) ++ row.bytes ∷ []
-        else kept ++ sent_to u (map send_of (take i rows)))
-        ≡ kept ++ (sent_to u (map send_of (take i rows)) ++ sent_to u (send_of row ∷ []))
-    go true q =
-        let one : sent_to u (send_of row ∷ []) ≡ row.bytes ∷ [] = simp q refl in
-        append_assoc kept (sent_to u (map send_of (take i rows))) (row.bytes ∷ [])
-        ∙ ap (λ xs. kept ++ (sent_to u (map send_of (take i rows)) ++ xs)) (sym one)
-    go false q =
-        let none : sent_to u (send_of row ∷ []) ≡ [] = simp q refl in
-        ap (λ xs. kept ++ xs) (sym (append-nil (sent_to u (map send_of (take i rows)))))
-        ∙ ap (λ xs. kept ++ (sent_to u (map send_of (take i rows)) ++ xs)) (sym none)
+    sent : List (List ℕ)
+    sent = sent_to u (map send_of (take i rows))
+
+    go : (b : Bool)
+        → (if b then (kept ++ sent) ++ row.bytes ∷ [] else kept ++ sent)
+        ≡ kept ++ (sent ++ map (λ (s : Send). s.bytes) (if b then send_of row ∷ [] else []))
+    go true = append_assoc kept sent (row.bytes ∷ [])
+    go false = ap (λ xs. kept ++ xs) (sym (append-nil sent))

@@ -22,7 +22,7 @@ use Rattle.wire_laws.specs.Happened.{call_of, unless_refused, acts}
 use Rattle.sacn_source.specs.Stream.{Packet}
 use Rattle.sacn_receiver.specs.Kept.{Kept}
 use Rattle.wire_laws.specs.declared.event.What.TheVariants.{Deliver}
-use Rattle.wire_laws.specs.declared.reply.Skip.TheVariants.{NoConsole, NotSent}
+use Rattle.wire_laws.specs.declared.reply.Skip.TheVariants.{NotSent}
 use Rattle.wire_laws.specs.Happened.{bytes_of, datagram, sent}
 use Rattle.wire_laws.specs.Datagrams.{packet_bytes}
 use Rattle.wire_laws.specs.Replies.{no_console_at, missing}
@@ -60,12 +60,6 @@ lt_false m n h = grind (arith, nat_tests)
 pub tell_set : {S : Type 0} (tells : S → Type 0) (stages : List S) (k : ℕ) (is : S) → tells is
     → AllTell tells stages → AllTell tells (set stages k is)
 tell_set tells stages k is new all = all_set (λ _. tells) stages k is new (λ j s _. all j s)
-
--- a console that is not there
-pub no_console : {here : ℕ} (w : World) (k n : ℕ) → here ≡ length w.consoles → k ≡ n → here ≤ k
-    → no_console_at w n ≡ Some NoConsole
-no_console w k n each same l =
-    rw (lt_false n (length w.consoles) (omega (arith, each, same, l)))
 
 -- what a call leaves of a console
 pub moved : {S A : Type 0} (P : List Act → S → Type 0) (was is : S) (act : Act) (h : List Act)

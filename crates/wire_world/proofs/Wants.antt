@@ -11,7 +11,7 @@ use Rattle.console.specs.Streams.{Production}
 use Rattle.desk_core.specs.Played.{Act}
 use Rattle.wire_laws.specs.declared.event.Event.{Event}
 use Rattle.wire_laws.specs.declared.event.What.{What}
-use Rattle.wire_laws.specs.declared.event.What.TheVariants.{Order, Tick, Deliver, Stray, Show}
+use Rattle.wire_laws.specs.declared.event.What.TheVariants.{Deliver}
 use Rattle.wire_laws.specs.World.{World, console_at}
 use Rattle.wire_laws.specs.Happened.{acts}
 use Rattle.wire_world.specs.declared.stage.Stage.{Stage}
@@ -65,12 +65,9 @@ pub holds_less : {F : Type 0} (stages : List (Stage F)) (receiver i universe k l
     → is.last ≡ was.last → (later : What) → Holds stages later
     → Spares (Deliver receiver i universe k) low later
     → Holds (set stages i is) later
-holds_less stages receiver i universe k low was is at less last (Order j c) h s = tt
-holds_less stages receiver i universe k low was is at less last (Tick j) h s = tt
-holds_less stages receiver i universe k low was is at less last (Stray r from to) h s = tt
-holds_less stages receiver i universe k low was is at less last (Show r) h s = tt
 holds_less stages receiver i universe k low was is at less last (Deliver r j u n) h s =
     gone_less stages i universe low was is at less last r j u n h s
+holds_less stages receiver i universe k low was is at less last _ h s = tt
 
 -- the packet of an event is between those that are gone and the last
 pub kept_at : {F : Type 0} (stages : List (Stage F)) (i receiver universe k : ℕ) (s : Stage F)
@@ -84,11 +81,8 @@ kept_at stages i receiver universe k s at h =
 pub holds_same : {F : Type 0} (old new : List (Stage F))
     → ((i u : ℕ) → span_at new i u ≡ span_at old i u) → (what : What) → Holds old what
     → Holds new what
-holds_same old new same (Order j c) h = tt
-holds_same old new same (Tick j) h = tt
-holds_same old new same (Stray r from to) h = tt
-holds_same old new same (Show r) h = tt
 holds_same old new same (Deliver r j u n) h = rw (same j u) h
+holds_same old new same _ h = tt
 
 -- a console that still stands for its history
 pub stand_still : {S : Type 0} (st : S → Production → List Act → Type 0) (stages : List S)
@@ -136,11 +130,8 @@ hold_first {F} sf stages w events all tell wanted j e l g =
 
     go : (what : What) → ((i : ℕ) (s : Stage F) → slice_get stages i ≡ Some s
         → IsUpTo s.last what) → Holds stages what
-    go (Order i c) up = tt
-    go (Tick i) up = tt
-    go (Stray r from to) up = tt
-    go (Show r) up = tt
     go (Deliver r i u n) up = span u n i (slice_get stages i) refl (up i)
+    go _ up = tt
 
 -- one event later
 pub hold_next : {F : Type 0} (old stepped new : List (Stage F)) (events : List Event)

@@ -1,8 +1,9 @@
-use Rattle.std.proofs.Common.{◌<◌, ap, sym, ◌∙◌, refl, None, Some, arith}
+use Rattle.std.proofs.Common.{◌≡◌, ◌<◌, ap, sym, ◌∙◌, refl, None, Some, arith}
 use Rattle.std.specs.Prelude.{length, nat_eq, if◌then◌else◌}
 use Rattle.std.specs.Option.{option_map}
 use Rattle.wire_laws.specs.declared.event.Event.{Event}
 use Rattle.wire_laws.specs.declared.event.What.TheVariants.{Deliver}
+use Rattle.wire_laws.specs.World.{World}
 use Rattle.wire_world.proofs.Stages.{at_number, is_found, lt_false, lt_true, missed}
 use Rattle.wire_world.specs.StageStands.{StageStands, Tells}
 use Rattle.wire_world.proofs.Wants.{kept_at}
@@ -59,31 +60,24 @@ returns-in-Some g c =
     }
 
 pub returns-then-i-stages : goal.returns-then-i-stages
-returns-then-i-stages g c = record {
-  reply = λ w past all tell hear.
-      rw (lt_false c.args.console (length w.consoles)
-      (omega (arith, all.each, c.from-i.ensures, c.if-i-stages.true))) refl;
-  hear = λ w past all tell hear.
-      rw (lt_false c.args.console (length w.consoles)
-      (omega (arith, all.each, c.from-i.ensures, c.if-i-stages.true))) hear;
-}
+returns-then-i-stages g c =
+    let none = λ (w : World) (same : length c.args.stages.now ≡ length w.consoles).
+    lt_false c.args.console (length w.consoles)
+    (omega (arith, same, c.from-i.ensures, c.if-i-stages.true)) in
+    record {
+      reply = λ w past all tell hear. rw (none w all.each) refl;
+      hear = λ w past all tell hear. rw (none w all.each) hear;
+    }
 
 pub returns-then-from-receivers : goal.returns-then-from-receivers
-returns-then-from-receivers g c = record {
-  reply = λ w past all tell hear.
-      rw (
-        lt_true c.args.console (length w.consoles)
-            (omega (arith, all.each, c.from-i.ensures, c.if-i-stages.false)),
-        lt_false c.args.receiver (length w.receivers)
-            (omega (arith, hear.each, c.from.ensures, c.if-from-receivers.true)),
-      )
-      refl;
-  hear = λ w past all tell hear.
-      rw (
-        lt_true c.args.console (length w.consoles)
-            (omega (arith, all.each, c.from-i.ensures, c.if-i-stages.false)),
-        lt_false c.args.receiver (length w.receivers)
-            (omega (arith, hear.each, c.from.ensures, c.if-from-receivers.true)),
-      )
-      hear;
-}
+returns-then-from-receivers g c =
+    let here = λ (w : World) (same : length c.args.stages.now ≡ length w.consoles).
+    lt_true c.args.console (length w.consoles)
+    (omega (arith, same, c.from-i.ensures, c.if-i-stages.false)) in
+    let none = λ (w : World) (same : length c.args.receivers.now ≡ length w.receivers).
+    lt_false c.args.receiver (length w.receivers)
+    (omega (arith, same, c.from.ensures, c.if-from-receivers.true)) in
+    record {
+      reply = λ w past all tell hear. rw (here w all.each, none w hear.each) refl;
+      hear = λ w past all tell hear. rw (here w all.each, none w hear.each) hear;
+    }

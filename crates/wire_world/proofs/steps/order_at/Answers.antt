@@ -6,7 +6,7 @@ use Rattle.std.proofs.lemmas.Result.{on_err_weaker}
 use Rattle.desk_core.specs.Played.{order}
 use Rattle.wire_laws.specs.World.{console_at}
 use Rattle.wire_laws.specs.Happened.{acts}
-use Rattle.wire_world.proofs.Stages.{tell_set, err_of, stand_call, stood, no_console, no_skip}
+use Rattle.wire_world.proofs.Stages.{tell_set, err_of, stand_call, stood, no_skip}
 use Rattle.wire_world.proofs.Stages.{order_answer}
 use Rattle.wire_world.proofs.Wants.{spans_set}
 use Rattle.wire_world.specs.Stands.{order_reply}
@@ -39,13 +39,3 @@ returns g c =
           subst (λ y. StageStands g.F.Fader.stands_for y d h) (sym same) s)
           c.order.ensures.unchanged));
     }
-
-pub returns-then-i-stages : goal.returns-then-i-stages
-returns-then-i-stages g c = record {
-  tell = λ all. all;
-  spans = λ i u. refl;
-  reply = λ w past all.
-      rw (no_console w _ c.args.console all.each c.from-i.ensures c.if-i-stages.true) refl;
-  stands = λ w past all.
-      rw (no_console w _ c.args.console all.each c.from-i.ensures c.if-i-stages.true) all;
-}

@@ -5,7 +5,7 @@ use Rattle.std.proofs.lemmas.Option.{slice_get-get_or}
 use Rattle.desk_core.specs.Played.{tick}
 use Rattle.wire_laws.specs.World.{console_at}
 use Rattle.wire_laws.specs.Happened.{acts}
-use Rattle.wire_world.proofs.Stages.{always, err_of, no_console, no_skip, stand_call}
+use Rattle.wire_world.proofs.Stages.{always, err_of, no_skip, stand_call}
 use Rattle.wire_world.proofs.Stages.{stood, tell_set, tick_answer}
 use Rattle.std.proofs.lemmas.Result.{IfOk-weaker}
 use Rattle.wire_world.proofs.Wants.{spans_set}
@@ -51,13 +51,3 @@ returns g c =
           (λ d h s. ap result_err (c.tick-answer.ensures.answer d h s tells) ∙ err_of _ _)
           c.tick-answer.ensures.stands c.tick-answer.ensures.kept));
     }
-
-pub returns-then-i-stages : goal.returns-then-i-stages
-returns-then-i-stages g c = record {
-  tell = λ all. all;
-  spans = λ i u. refl;
-  reply = λ w past all.
-      rw (no_console w _ c.args.console all.each c.from-i.ensures c.if-i-stages.true) refl;
-  stands = λ w past all.
-      rw (no_console w _ c.args.console all.each c.from-i.ensures c.if-i-stages.true) all;
-}
