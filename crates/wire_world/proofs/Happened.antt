@@ -1,10 +1,10 @@
 -- One event, in plain variables.
 use Rattle.console.specs.Streams.{Production}
-use Rattle.std.proofs.Common.{◌≡◌, ℕ, ◌<◌, ◌≤◌, ◌^◌, true, false, refl, ap, sym, subst, ◌∙◌, List}
-use Rattle.std.proofs.Common.{Option, Some, None, Result, Ok, Err, arith}
-use Rattle.std.specs.Prelude.{if◌then◌else◌, nat_le, is_some}
+use Rattle.std.proofs.Common.{◌≡◌, ℕ, ◌<◌, ◌≤◌, ◌^◌, false, refl, ap, sym, subst, ◌∙◌, List}
+use Rattle.std.proofs.lemmas.Bool.{le-leb, le-ltb, lt-leb, lt-ltb}
+use Rattle.std.proofs.Common.{Option, Some, None, Result, Ok, Err}
+use Rattle.std.specs.Prelude.{if◌then◌else◌, is_some}
 use Rattle.std.specs.Option.{option_map_or}
-use Rattle.std.proofs.lemmas.Bool.Decides.{nat_tests}
 use Rattle.desk_core.specs.declared.answer.Refused.{Refused}
 use Rattle.desk_core.specs.Played.{Act}
 use Rattle.sacn_receiver.specs.Kept.{Kept}
@@ -21,13 +21,6 @@ use Rattle.wire_laws.specs.World.{World}
 use Rattle.wire_laws.specs.Replies.{last_moment, missing, skipped, done_one, taken_reply, replied}
 use Rattle.wire_world.specs.Stands.{AllStand, AllHear, AllTell, AllAre, IsStep, is_skip}
 use Rattle.wire_world.specs.Stands.{unless_skipped}
-use Rattle.wire_world.proofs.Stages.{lt_false, lt_true}
-
-le_false : (m n : ℕ) → n < m → nat_le m n ≡ false
-le_false m n h = grind (arith, nat_tests)
-
-le_true : (m n : ℕ) → m ≤ n → nat_le m n ≡ true
-le_true m n h = grind (arith, nat_tests)
 
 taken_no_skip : (r : Result Taken Ignored) → is_skip (taken_reply r) ≡ false
 taken_no_skip (Ok x) = refl
@@ -55,7 +48,7 @@ module _ {S : Type 0} (st : S → Production → List Act → Type 0) (tells : S
     (stages : List S) (receivers : List Kept) (w : World) (past : List Event) (e : Event) where
   pub timely : last_moment past ≤ e.moment → e.moment < 2 ^ 48
       → skipped w past e ≡ missing w past e.what
-  timely a b = rw (lt_false e.moment (last_moment past) a, le_false (2 ^ 48) e.moment b)
+  timely a b = rw (le-ltb e.moment (last_moment past) a, lt-leb (2 ^ 48) e.moment b)
 
   -- an event that is skipped
   pub step_skipped : (s : Skip) (last : ℕ) → skipped w past e ≡ Some s
@@ -71,11 +64,11 @@ module _ {S : Type 0} (st : S → Production → List Act → Type 0) (tells : S
       same = ap (λ o. unless_skipped o e past) k
 
   pub backwards : e.moment < last_moment past → skipped w past e ≡ Some Backwards
-  backwards h = rw (lt_true e.moment (last_moment past) h)
+  backwards h = rw (lt-ltb e.moment (last_moment past) h)
 
   pub too_large : last_moment past ≤ e.moment → 2 ^ 48 ≤ e.moment
       → skipped w past e ≡ Some TooLarge
-  too_large a b = rw (lt_false e.moment (last_moment past) a, le_true (2 ^ 48) e.moment b)
+  too_large a b = rw (le-ltb e.moment (last_moment past) a, le-leb (2 ^ 48) e.moment b)
 
   -- one that happens
   pub step_done : (r : Reply) (was last : ℕ) → skipped w past e ≡ missing w past e.what

@@ -11,7 +11,7 @@ use Rattle.std.specs.Prelude.{◌||◌, filter}
 use Rattle.std.specs.List.{list_any}
 use Rattle.std.specs.List.{AllPairs}
 use Rattle.std.specs.Option.{option_map, option_map_or}
-use Rattle.std.proofs.lemmas.Bool.{cond_both, eqb-true}
+use Rattle.std.proofs.lemmas.Bool.{cond_both, eqb-true, ne_eqb}
 use Rattle.std.proofs.lemmas.List.Kept.{AllPairs-from_increasing}
 use Rattle.devices.specs.Send.{Send}
 use Rattle.desk_core.specs.declared.command.Command.{Command}
@@ -39,7 +39,6 @@ use Rattle.wire_world.specs.Sends.{send_of, sent_to, numbered}
 use Rattle.wire_world.specs.Shelves.{IsRest}
 use Rattle.wire_world.proofs.Rests.{get_taken, none_gone, rest_at}
 use Rattle.wire_world.proofs.Sources.{source_of}
-use Rattle.wire_world.proofs.Stages.{neq_false}
 
 -- ---- bytes
 
@@ -230,7 +229,7 @@ none_due : (source : Identity) (p : Production) (h : List Act) (m u : ℕ) (ns :
     → due_bytes source (map (due_at p h m) ns) u ≡ []
 none_due source p h m u [] apart = refl
 none_due source p h m u (n ∷ ns) apart =
-    let q : nat_eq n u ≡ false = neq_false n u (apart 0 (omega arith)) in
+    let q : nat_eq n u ≡ false = ne_eqb n u (apart 0 (omega arith)) in
     simp q (none_due source p h m u ns (λ k l. apart (suc k) (omega (arith, l))))
 
 own_due : (source : Identity) (p : Production) (h : List Act) (m u : ℕ) (ns : List ℕ)

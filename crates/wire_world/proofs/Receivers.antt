@@ -4,7 +4,7 @@ use Rattle.std.proofs.Common.{◌∷◌, length, set, Option, Some, None, Result
 use Rattle.std.proofs.Common.{arith}
 use Rattle.std.specs.Prelude.{if◌then◌else◌, slice_get, nat_eq, OnOk, OnErr}
 use Rattle.std.specs.Option.{option_map_or}
-use Rattle.std.proofs.lemmas.Bool.{eq-eqb}
+use Rattle.std.proofs.lemmas.Bool.{eq-eqb, lt-ltb, ne_eqb}
 use Rattle.std.proofs.lemmas.Option.{slice_get_within}
 use Rattle.std.proofs.Math.ListN.{length-set}
 use Rattle.sacn_packet.specs.Reading.{front_packet}
@@ -21,7 +21,7 @@ use Rattle.wire_laws.specs.Happened.{handed, accepted_by}
 use Rattle.wire_laws.specs.Replies.{last_moment, no_receiver_at, taken_reply, taken_by}
 use Rattle.wire_laws.proofs.Came.{IsRun, last_accepted}
 use Rattle.wire_world.specs.Stands.{AllHear, AllBy, unless_skipped}
-use Rattle.wire_world.proofs.Stages.{all_set, lt_true, neq_false}
+use Rattle.wire_world.proofs.Stages.{all_set}
 use Rattle.std.proofs.lemmas.Result.{on_ok_weaker}
 
 -- what a datagram leaves of a receiver
@@ -40,14 +40,14 @@ took was is h t d res e ok un s = go (ignored 4 was.universe h t d) refl res e o
     go (Some i) q (Ok x) e ok un = cc
     go (Some i) q (Err x) e ok un = subst (λ (k : Kept). StandsFor k h) (sym un) s
 
-module _ (receivers : List Kept) (w : World) (past : List Event)
+module _ {receivers : List Kept} {w : World} {past : List Event}
     (all : AllHear receivers w past) (k : ℕ) (was : Kept)
     (at : slice_get receivers k ≡ Some was) where
   pub within : k < length w.receivers
   within = omega (arith, slice_get_within receivers k was at, all.each)
 
   pub no_skip : no_receiver_at w k ≡ None
-  no_skip = rw (lt_true k (length w.receivers) within)
+  no_skip = rw (lt-ltb k (length w.receivers) within)
 
   pub stood : StandsFor was (accepted_by w k past)
   stood = all.stand k was at
@@ -74,7 +74,7 @@ module _ (receivers : List Kept) (w : World) (past : List Event)
         (let own : handed w k past x.what ≡ Some d =
         hands k ∙ ap (λ b. if b then Some d else None) (eq-eqb k k refl) in rw (own, time) new)
         (λ r y apart g. let other : handed w r past x.what ≡ None =
-        hands r ∙ ap (λ b. if b then Some d else None) (neq_false k r apart) in
+        hands r ∙ ap (λ b. if b then Some d else None) (ne_eqb k r apart) in
         rw other (all.stand r y g));
   })
     where

@@ -1,11 +1,11 @@
 -- The checks of a setup.
 use Rattle.std.proofs.Common.{◌≡◌, ℕ, zero, suc, ◌<◌, ◌≤◌, Bool, true, false, not, ◌&&◌}
+use Rattle.std.proofs.lemmas.Bool.{leb-true, ltb-true}
 use Rattle.std.proofs.Common.{refl, ap, sym, subst, ◌∙◌, List, [], ◌∷◌, length, get_or}
 use Rattle.std.proofs.Common.{arith, Option, Some, None, Ok}
-use Rattle.std.specs.Prelude.{nat_le, nat_lt, All, if◌then◌else◌, slice_get}
+use Rattle.std.specs.Prelude.{nat_le, All, if◌then◌else◌, slice_get}
 use Rattle.std.specs.List.{list_all}
 use Rattle.std.specs.Option.{option_map_or}
-use Rattle.std.proofs.lemmas.Bool.Decides.{nat_tests}
 use Rattle.std.proofs.lemmas.List.{length-map, get_or-map}
 use Rattle.std.proofs.lemmas.Option.{get_or_from_slice_get}
 use Rattle.show_core.specs.Tables.{Tables}
@@ -41,12 +41,6 @@ all_at p [] a k d h = absurd (omega arith)
 all_at p (x ∷ xs) a zero d h = (both (p x) (list_all p xs) a).0
 all_at p (x ∷ xs) a (suc k) d h = all_at p xs (both (p x) (list_all p xs) a).1 k d (omega arith)
 
-le : (m n : ℕ) → nat_le m n ≡ true → m ≤ n
-le m n h = grind (arith, nat_tests)
-
-lt : (m n : ℕ) → nat_lt m n ≡ true → m < n
-lt m n h = grind (arith, nat_tests)
-
 universe_at_place : (xs : List ℕ) → are_universes xs ≡ true → (k d : ℕ) → k < length xs
     → (1 ≤ get_or xs k d) × (get_or xs k d ≤ 63999)
 universe_at_place [] a k d h = absurd (omega arith)
@@ -54,7 +48,7 @@ universe_at_place (x ∷ xs) a zero d h =
     let b = both (is_new_at x xs) (are_universes xs) a in
     let r = both (nat_le 1 x && nat_le x 63999) _ b.0 in
     let s = both (nat_le 1 x) (nat_le x 63999) r.0 in
-    (le 1 x s.0, le x 63999 s.1)
+    (leb-true 1 x s.0, leb-true x 63999 s.1)
 universe_at_place (x ∷ xs) a (suc k) d h =
     universe_at_place xs (both (is_new_at x xs) (are_universes xs) a).1 k d (omega arith)
 
@@ -82,12 +76,12 @@ fine shows setups universes = go (are_consoles (length setups)) (are_receivers u
 few_consoles : (shows : List Tables) (setups : List Setup) (universes : List ℕ)
     → IsFine shows setups universes → length setups ≤ 4
 few_consoles shows setups universes f =
-    le (length setups) 4 (both (nat_le 1 (length setups)) (nat_le (length setups) 4) f.consoles).1
+    leb-true (length setups) 4 (both (nat_le 1 (length setups)) (nat_le (length setups) 4) f.consoles).1
 
 pub shows_there : (shows : List Tables) (setups : List Setup) (universes : List ℕ)
     → IsFine shows setups universes → All (λ s. s.show < length shows) setups
 shows_there shows setups universes f =
-    λ k d h. lt _ (length shows) (all_at (has_show shows) setups f.shown k d h)
+    λ k d h. ltb-true _ (length shows) (all_at (has_show shows) setups f.shown k d h)
 
 pub universes_there : (shows : List Tables) (setups : List Setup) (universes : List ℕ)
     → IsFine shows setups universes → All (λ u. (1 ≤ u) × (u ≤ 63999)) universes
@@ -137,7 +131,7 @@ fine_world shows setups universes strays none who =
 within_one : (size : ℕ) (x : What) → is_within size x ≡ true → IsWithin size x
 within_one size (Stray receiver from to) h =
     let b = both (nat_le from to) (nat_le to size) h in
-    (le from to b.0, le to size b.1)
+    (leb-true from to b.0, leb-true to size b.1)
 within_one size _ h = tt
 
 pub all_within : (size : ℕ) (events : List Event) → are_within size events ≡ true

@@ -32,20 +32,17 @@ done_more : (w : World) (es : List Event) (i : ℕ) (d : Event) → i < length e
     → done w (take (i + 1) es) ≡ done_one w (done w (take i es)) (get_or es i d)
 done_more w es i d h = grind (arith, common_steps)
 
-module _ {S : Type 0} (st : S → Production → List Act → Type 0) (tells : S → Type 0) (w : World)
-    (es : List Event) (i : ℕ) (d : Event) (within : i < length es) where
-  more : done w (take (i + 1) es) ≡ done_one w (done w (take i es)) (get_or es i d)
-  more = done_more w es i d within
-
-  pub replayed_more : (stages : List S) (receivers : List Kept) (was last : ℕ) (rs : List Reply)
-      (r : Reply) (old : List S) (heard : List Kept)
+module _ {S : Type 0} {st : S → Production → List Act → Type 0} {tells : S → Type 0} {w : World}
+    {es : List Event} {i : ℕ} (d : Event) (within : i < length es) where
+  pub replayed_more : {stages : List S} {receivers : List Kept} {was last : ℕ} {rs : List Reply}
+      {r : Reply} {old : List S} {heard : List Kept}
       → Replayed st tells old heard was rs w es i
       → IsStep st tells stages receivers last r w (done w (take i es)) (get_or es i d)
       → Replayed st tells stages receivers last (rs ++ r ∷ []) w es (i + 1)
-  replayed_more stages receivers was last rs r old heard all step = record {
+  replayed_more {stages} {receivers} {was} {last} {rs} {r} all step = record {
     long = omega (arith, length-append rs (r ∷ []), all.long);
-    last_is = step.last_is ∙ ap last_moment (sym more);
-    are = subst (AllAre st tells stages receivers w) (sym more) step.are;
+    last_is = step.last_is ∙ ap last_moment (sym (done_more w es i d within));
+    are = subst (AllAre st tells stages receivers w) (sym (done_more w es i d within)) step.are;
     below = λ j f l g. go j f g (cases_lt j i) l;
   }
     where
@@ -60,10 +57,10 @@ module _ {S : Type 0} (st : S → Production → List Act → Type 0) (tells : S
           ap (λ m. slice_get (rs ++ r ∷ []) m) (sym all.long) ∙ get_end rs r
           ∙ ap Some (step.replied ∙ ap (reply_to w (done w (take i es))) s)) g
 
-pub early : {S : Type 0} (st : S → Production → List Act → Type 0) (tells : S → Type 0)
-    (stages : List S) (receivers : List Kept) (last : ℕ) (rs : List Reply) (w : World)
-    (es : List Event) (i : ℕ) → Replayed st tells stages receivers last rs w es i
+pub early : {S : Type 0} {st : S → Production → List Act → Type 0} {tells : S → Type 0}
+    {stages : List S} {receivers : List Kept} {last : ℕ} {rs : List Reply} {w : World}
+    {es : List Event} {i : ℕ} → Replayed st tells stages receivers last rs w es i
     → AllBy receivers last
-early st tells stages receivers last rs w es i all =
+early {receivers = receivers} {last = last} {w = w} {es = es} {i = i} all =
     all_by receivers w (done w (take i es)) last (done_runs w (take i es))
     (omega (arith, all.last_is)) all.are.hear

@@ -1,14 +1,13 @@
 -- One event at one of the consoles.
 use Rattle.console.specs.Streams.{Production}
-use Rattle.std.proofs.Common.{◌≡◌, ℕ, zero, suc, ◌<◌, ◌≤◌, true, false, refl, ap, sym}
+use Rattle.std.proofs.Common.{◌≡◌, ℕ, zero, suc, ◌<◌, true, refl, ap, sym}
 use Rattle.std.proofs.Common.{subst, ◌∙◌, List, [], ◌∷◌, length, set, get_or, Option, Some, None}
 use Rattle.std.proofs.Common.{Result, Ok, Err, inl, inr, arith}
 use Rattle.std.specs.Prelude.{if◌then◌else◌, is_some, slice_get, nat_eq, nat_lt, IfOk, OnOk}
 use Rattle.std.specs.Prelude.{OnErr}
 use Rattle.std.specs.Option.{option_map, option_map_or}
 use Rattle.std.specs.Result.{result_err}
-use Rattle.std.proofs.lemmas.Bool.{eq-eqb}
-use Rattle.std.proofs.lemmas.Bool.Decides.{nat_tests}
+use Rattle.std.proofs.lemmas.Bool.{eq-eqb, le-ltb, lt-ltb, ne_eqb}
 use Rattle.std.proofs.lemmas.Option.{slice_get_within, slice_get_read, slice_get_cases}
 use Rattle.std.proofs.lemmas.Result.{on_ok_weaker, on_err_weaker}
 use Rattle.std.proofs.Math.ListN.{length-set}
@@ -48,15 +47,6 @@ pub at_number : {A : Type 0} (xs : List A) (i n : ℕ) (x : A) → i ≡ n → i
 at_number xs i n x same l is =
     ap (slice_get xs) (sym same) ∙ slice_get_read xs (length xs) i x refl l is
 
-pub neq_false : (a b : ℕ) → (a ≡ b → ⊥) → nat_eq a b ≡ false
-neq_false a b h = grind (arith, nat_tests)
-
-pub lt_true : (m n : ℕ) → m < n → nat_lt m n ≡ true
-lt_true m n h = grind (arith, nat_tests)
-
-pub lt_false : (m n : ℕ) → n ≤ m → nat_lt m n ≡ false
-lt_false m n h = grind (arith, nat_tests)
-
 pub tell_set : {S : Type 0} (tells : S → Type 0) (stages : List S) (k : ℕ) (is : S) → tells is
     → AllTell tells stages → AllTell tells (set stages k is)
 tell_set tells stages k is new all = all_set (λ _. tells) stages k is new (λ j s _. all j s)
@@ -75,11 +65,11 @@ pub err_of : {A : Type 0} (o : Option Refused) (x : A) → result_err (outcome o
 err_of None x = refl
 err_of (Some r) x = refl
 
-module _ {S : Type 0} (st : S → Production → List Act → Type 0) (stages : List S) (w : World)
-    (past : List Event) (all : AllStand st stages w past) (k : ℕ) (was : S)
+module _ {S : Type 0} {st : S → Production → List Act → Type 0} {stages : List S} {w : World}
+    {past : List Event} (all : AllStand st stages w past) (k : ℕ) (was : S)
     (at : slice_get stages k ≡ Some was) where
   here : nat_lt k (length w.consoles) ≡ true
-  here = lt_true k (length w.consoles) (omega (arith, slice_get_within stages k was at, all.each))
+  here = lt-ltb k (length w.consoles) (omega (arith, slice_get_within stages k was at, all.each))
 
   pub no_skip : no_console_at w k ≡ None
   no_skip = rw here
@@ -102,7 +92,7 @@ module _ {S : Type 0} (st : S → Production → List Act → Type 0) (stages : 
         (let own : call_of k e.what ≡ Some call =
         calls k ∙ ap (λ b. if b then Some call else None) (eq-eqb k k refl) in rw own new)
         (λ j s apart g. let other : call_of j e.what ≡ None =
-        calls j ∙ ap (λ b. if b then Some call else None) (neq_false k j apart) in
+        calls j ∙ ap (λ b. if b then Some call else None) (ne_eqb k j apart) in
         rw other (all.stand j s g));
   })
     where
@@ -136,8 +126,8 @@ tick_answer (Some r) x y = refl
 is_sent : {B : Type 0} (f : Packet → B) (ps : List Packet) (k : ℕ)
     → nat_lt k (length ps) ≡ is_some (option_map f (slice_get ps k))
 is_sent f ps k = elim (slice_get_cases ps k).1 [
-  | inl h ↦ lt_true k (length ps) h.1 ∙ ap (λ o. is_some (option_map f o)) (sym h.2)
-  | inr h ↦ lt_false k (length ps) h.0 ∙ ap (λ o. is_some (option_map f o)) (sym h.1)
+  | inl h ↦ lt-ltb k (length ps) h.1 ∙ ap (λ o. is_some (option_map f o)) (sym h.2)
+  | inr h ↦ le-ltb k (length ps) h.0 ∙ ap (λ o. is_some (option_map f o)) (sym h.1)
 ]
 
 -- a packet of a console that was looked up
@@ -151,15 +141,15 @@ module _ {S : Type 0} (st : S → Production → List Act → Type 0) (tells : S
     (tell : AllTell tells stages) (hear : AllHear receivers w past) where
   pub is_found : o ≡ datagram w console universe n past
   is_found = found (console_at w console) (acts w console past)
-      (stood st stages w past all console was at) (tell console was at)
+      (stood all console was at) (tell console was at)
 
   pub is_receiver : nat_lt receiver (length w.receivers) ≡ true
-  is_receiver = lt_true receiver (length w.receivers) (omega (arith, few, hear.each))
+  is_receiver = lt-ltb receiver (length w.receivers) (omega (arith, few, hear.each))
 
   pub missed : missing w past (Deliver receiver console universe n)
       ≡ (if is_some o then None else Some NotSent)
   missed = rw (
-    here st stages w past all console was at,
+    here all console was at,
     is_receiver,
     is_sent (packet_bytes (console_at w console).source universe n)
         (sent w console universe past) n,

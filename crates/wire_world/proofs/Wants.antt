@@ -145,14 +145,14 @@ hold_next old stepped new events lows i e at are same released all = λ j f l g.
     (are i j e f (omega (arith, l)) at g)
 
 -- a step after which packets were let go
-pub step_released : {S : Type 0} (st : S → Production → List Act → Type 0) (tells : S → Type 0)
-    (stages new : List S) (receivers : List Kept) (last : ℕ) (reply : Reply) (w : World)
-    (past : List Event) (e : Event)
+pub step_released : {S : Type 0} {st : S → Production → List Act → Type 0} {tells : S → Type 0}
+    {stages new : List S} {receivers : List Kept} {last : ℕ} {reply : Reply} {w : World}
+    {past : List Event} {e : Event}
     → ((w : World) (past : List Event) → AllStand st stages w past → AllStand st new w past)
     → (AllTell tells stages → AllTell tells new)
     → IsStep st tells stages receivers last reply w past e
     → IsStep st tells new receivers last reply w past e
-step_released st tells stages new receivers last reply w past e stand tell step = record {
+step_released {w = w} {past = past} {e = e} stand tell step = record {
   replied = step.replied;
   last_is = step.last_is;
   are = record {

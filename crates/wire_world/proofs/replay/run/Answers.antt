@@ -1,4 +1,4 @@
-use Rattle.std.proofs.Common.{◌≡◌, ◌<◌, ◌≤◌, ◌∙◌, length, map, get_or, take, ap}
+use Rattle.std.proofs.Common.{◌≡◌, ◌<◌, ◌≤◌, ◌∙◌, length, get_or, take, ap}
 use Rattle.std.proofs.Common.{arith, refl, List, ℕ, subst, sym}
 use Rattle.std.specs.Prelude.{slice_index}
 use Rattle.std.proofs.lemmas.Option.{slice_get-get_or, slice_get_within}
@@ -10,16 +10,12 @@ use Rattle.std.proofs.lemmas.List.{get_or_default, map_push, take_all}
 use Rattle.wire_world.proofs.Replays.{early, replayed_more}
 use Rattle.wire_world.proofs.Wants.{hold_first, hold_next, step_released}
 use Rattle.wire_world.specs.Brief.{reply_of}
-use Rattle.wire_world.specs.StageStands.{StageStands, Tells}
 use Rattle.wire_world.specs.Wanted.{Spares}
 use Rattle.wire_world.proofs.replay.run.Goals as goal
 
 pub step-requires-clause-early : goal.step-requires-clause-early
 step-requires-clause-early g c =
-    let b = c.requires.begun in
-    early (StageStands g.F.Fader.stands_for) Tells c.loop-i.stages c.loop-i.receivers
-    c.loop-i.last (map reply_of c.loop-i.replies.items) b.0 c.args.events.now c.loop-i.i
-    (c.loop-i.invariant.1 b.0 b.1 b.2)
+    let b = c.requires.begun in early (c.loop-i.invariant.1 b.0 b.1 b.2)
 
 pub loop-i-init : goal.loop-i-init
 loop-i-init g c =
@@ -56,14 +52,8 @@ loop-i-preserved g c = (
         c.in_ok-push.ensures.items,
         map_push reply_of c.loop-i.replies.items c.in_ok-reply.reply,
       )
-      (replayed_more (StageStands g.F.Fader.stands_for) Tells w c.args.events.now c.loop-i.i _
-      c.loop-i-test.true c.release.new.stages c.step.new.receivers c.loop-i.last c.step.new.last
-      (map reply_of c.loop-i.replies.items) (reply_of c.in_ok-reply.reply) c.loop-i.stages
-      c.loop-i.receivers all
-      (step_released (StageStands g.F.Fader.stands_for) Tells c.step.new.stages
-      c.release.new.stages c.step.new.receivers c.step.new.last (reply_of c.in_ok-reply.reply) w
-      (done w (take c.loop-i.i c.args.events.now)) _ c.release.ensures.stand
-      c.release.ensures.tell s)),
+      (replayed_more _ c.loop-i-test.true all
+      (step_released c.release.ensures.stand c.release.ensures.tell s)),
 )
 
 pub returns-clause-replies : goal.returns-clause-replies
@@ -87,10 +77,7 @@ step-requires-clause-real g c =
 
 pub show_all-requires : goal.show_all-requires
 show_all-requires g c =
-    let b = c.requires.begun in
-    early (StageStands g.F.Fader.stands_for) Tells c.loop-i.stages c.loop-i.receivers
-    c.loop-i.last (map reply_of c.loop-i.replies.items) b.0 c.args.events.now c.loop-i.i
-    (c.loop-i.invariant.1 b.0 b.1 b.2)
+    let b = c.requires.begun in early (c.loop-i.invariant.1 b.0 b.1 b.2)
 
 pub returns-clause-last : goal.returns-clause-last
 returns-clause-last g c = λ w same are.

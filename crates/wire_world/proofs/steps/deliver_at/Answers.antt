@@ -1,10 +1,11 @@
 use Rattle.std.proofs.Common.{◌≡◌, ◌<◌, ap, sym, ◌∙◌, refl, None, Some, arith}
+use Rattle.std.proofs.lemmas.Bool.{le-ltb, lt-ltb}
 use Rattle.std.specs.Prelude.{length, nat_eq, if◌then◌else◌}
 use Rattle.std.specs.Option.{option_map}
 use Rattle.wire_laws.specs.declared.event.Event.{Event}
 use Rattle.wire_laws.specs.declared.event.What.TheVariants.{Deliver}
 use Rattle.wire_laws.specs.World.{World}
-use Rattle.wire_world.proofs.Stages.{at_number, is_found, lt_false, lt_true, missed}
+use Rattle.wire_world.proofs.Stages.{at_number, is_found, missed}
 use Rattle.wire_world.specs.StageStands.{StageStands, Tells}
 use Rattle.wire_world.proofs.Wants.{kept_at}
 use Rattle.wire_world.proofs.steps.deliver_at.Goals as goal
@@ -45,7 +46,7 @@ returns-in-Some g c =
     record {
       reply = λ w past all tell hear.
           rw (missing w past all tell hear, ← found w past all tell hear)
-          (rw (lt_true c.args.receiver (length w.receivers) (omega (arith, few, hear.each)))
+          (rw (lt-ltb c.args.receiver (length w.receivers) (omega (arith, few, hear.each)))
           at (c.hear_at.ensures.reply w past hear));
       hear = λ w past all tell hear.
           let e : Event = record {
@@ -53,7 +54,7 @@ returns-in-Some g c =
             what = Deliver c.args.receiver c.args.console c.args.universe c.args.k;
           } in
           rw (missing w past all tell hear)
-          (rw (lt_true c.args.receiver (length w.receivers) (omega (arith, few, hear.each)))
+          (rw (lt-ltb c.args.receiver (length w.receivers) (omega (arith, few, hear.each)))
           at (c.hear_at.ensures.hear w past e hear refl
           (λ r. ap (λ o. if nat_eq c.args.receiver r then o else None)
           (sym (found w past all tell hear)))));
@@ -62,7 +63,7 @@ returns-in-Some g c =
 pub returns-then-i-stages : goal.returns-then-i-stages
 returns-then-i-stages g c =
     let none = λ (w : World) (same : length c.args.stages.now ≡ length w.consoles).
-    lt_false c.args.console (length w.consoles)
+    le-ltb c.args.console (length w.consoles)
     (omega (arith, same, c.from-i.ensures, c.if-i-stages.true)) in
     record {
       reply = λ w past all tell hear. rw (none w all.each) refl;
@@ -72,10 +73,10 @@ returns-then-i-stages g c =
 pub returns-then-from-receivers : goal.returns-then-from-receivers
 returns-then-from-receivers g c =
     let here = λ (w : World) (same : length c.args.stages.now ≡ length w.consoles).
-    lt_true c.args.console (length w.consoles)
+    lt-ltb c.args.console (length w.consoles)
     (omega (arith, same, c.from-i.ensures, c.if-i-stages.false)) in
     let none = λ (w : World) (same : length c.args.receivers.now ≡ length w.receivers).
-    lt_false c.args.receiver (length w.receivers)
+    le-ltb c.args.receiver (length w.receivers)
     (omega (arith, same, c.from.ensures, c.if-from-receivers.true)) in
     record {
       reply = λ w past all tell hear. rw (here w all.each, none w hear.each) refl;

@@ -24,14 +24,12 @@ returns g c =
       spans = rw c.from-i.ensures (spans_set c.args.stages.now k _ c.order.new.self at
           c.order.ensures.gone c.order.ensures.last);
       reply = λ w past all.
-          rw (no_skip (StageStands g.F.Fader.stands_for) c.args.stages.now w past all k _ at)
+          rw (no_skip all k _ at)
           (c.ordered.ensures ∙ ap order_reply
-          (c.order.ensures.answer (console_at w k) (acts w k past)
-          (stood (StageStands g.F.Fader.stands_for) c.args.stages.now w past all k _ at))
+          (c.order.ensures.answer (console_at w k) (acts w k past) (stood all k _ at))
           ∙ order_answer _);
       stands = λ w past all. rw c.from-i.ensures (
-          stand_call (StageStands g.F.Fader.stands_for) c.args.stages.now w past all k _ at
-          c.order.new.self (record { moment = c.args.moment; what = _ }) (order c.args.command)
+          stand_call all k _ at c.order.new.self (record { moment = c.args.moment; what = _ }) (order c.args.command)
           c.order.result (λ j. refl)
           (λ d h s. ap result_err (c.order.ensures.answer d h s) ∙ err_of _ _)
           c.order.ensures.stands

@@ -15,7 +15,7 @@ pub returns : goal.returns
 returns c = λ w past all.
     let at = at_number c.args.receivers.now _ _ _ c.from-r.ensures c.if-r-receivers.false
     c.index-receivers-r.is in
-    rw (no_skip c.args.receivers.now w past all c.args.receiver c.index-receivers-r.result at)
+    rw (no_skip all c.args.receiver c.index-receivers-r.result at)
     (ap reply.Shown (c.in_ok-slots.ensures.ok
     ∙ c.slots.ensures (accepted_by w c.args.receiver past)
-    (stood c.args.receivers.now w past all c.args.receiver c.index-receivers-r.result at)))
+    (stood all c.args.receiver c.index-receivers-r.result at)))

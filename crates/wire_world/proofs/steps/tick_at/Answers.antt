@@ -10,7 +10,7 @@ use Rattle.wire_world.proofs.Stages.{stood, tell_set, tick_answer}
 use Rattle.std.proofs.lemmas.Result.{IfOk-weaker}
 use Rattle.wire_world.proofs.Wants.{spans_set}
 use Rattle.wire_world.specs.Stands.{tick_reply}
-use Rattle.wire_world.specs.StageStands.{StageStands, Tells}
+use Rattle.wire_world.specs.StageStands.{Tells}
 use Rattle.wire_world.proofs.steps.tick_at.Goals as goal
 
 pub tick-answer-requires : goal.tick-answer-requires
@@ -39,14 +39,12 @@ returns g c =
           (spans_set c.args.stages.now k _ c.tick-answer.new.self at
           (c.tick-answer.ensures.gone tells) c.tick-answer.ensures.last));
       reply = IfOk-weaker c.ticked.result _ _ (λ reply is w past all.
-          rw (no_skip (StageStands g.F.Fader.stands_for) c.args.stages.now w past all k _ at)
+          rw (no_skip all k _ at)
           (is ∙ ap tick_reply
-          (c.tick-answer.ensures.answer (console_at w k) (acts w k past)
-          (stood (StageStands g.F.Fader.stands_for) c.args.stages.now w past all k _ at) tells)
+          (c.tick-answer.ensures.answer (console_at w k) (acts w k past) (stood all k _ at) tells)
           ∙ tick_answer _ _ _)) c.ticked.ensures;
       stands = always c.ticked.result _ (λ _ w past all. rw c.from-i.ensures
-          (stand_call (StageStands g.F.Fader.stands_for) c.args.stages.now w past all k _ at
-          c.tick-answer.new.self (record { moment = c.args.moment; what = _ }) tick
+          (stand_call all k _ at c.tick-answer.new.self (record { moment = c.args.moment; what = _ }) tick
           c.tick-answer.result (λ j. refl)
           (λ d h s. ap result_err (c.tick-answer.ensures.answer d h s tells) ∙ err_of _ _)
           c.tick-answer.ensures.stands c.tick-answer.ensures.kept));
