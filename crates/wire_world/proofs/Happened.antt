@@ -44,12 +44,20 @@ skip_is : (o : Option Skip) (r : Reply) → is_skip r ≡ false
 skip_is None r h = h
 skip_is (Some s) r h = refl
 
-module _ {S : Type 0} (st : S → Production → List Act → Type 0) (tells : S → Type 0)
-    (stages : List S) (receivers : List Kept) (w : World) (past : List Event) (e : Event) where
+module _ (w : World) (past : List Event) (e : Event) where
   pub timely : last_moment past ≤ e.moment → e.moment < 2 ^ 48
       → skipped w past e ≡ missing w past e.what
   timely a b = rw (le-ltb e.moment (last_moment past) a, lt-leb (2 ^ 48) e.moment b)
 
+  pub backwards : e.moment < last_moment past → skipped w past e ≡ Some Backwards
+  backwards h = rw (lt-ltb e.moment (last_moment past) h)
+
+  pub too_large : last_moment past ≤ e.moment → 2 ^ 48 ≤ e.moment
+      → skipped w past e ≡ Some TooLarge
+  too_large a b = rw (le-ltb e.moment (last_moment past) a, le-leb (2 ^ 48) e.moment b)
+
+module _ {S : Type 0} {st : S → Production → List Act → Type 0} {tells : S → Type 0}
+    {stages : List S} {receivers : List Kept} (w : World) (past : List Event) (e : Event) where
   -- an event that is skipped
   pub step_skipped : (s : Skip) (last : ℕ) → skipped w past e ≡ Some s
       → last ≡ last_moment past → AllAre st tells stages receivers w past
@@ -62,13 +70,6 @@ module _ {S : Type 0} (st : S → Production → List Act → Type 0) (tells : S
     where
       same : done_one w past e ≡ past
       same = ap (λ o. unless_skipped o e past) k
-
-  pub backwards : e.moment < last_moment past → skipped w past e ≡ Some Backwards
-  backwards h = rw (lt-ltb e.moment (last_moment past) h)
-
-  pub too_large : last_moment past ≤ e.moment → 2 ^ 48 ≤ e.moment
-      → skipped w past e ≡ Some TooLarge
-  too_large a b = rw (le-ltb e.moment (last_moment past) a, le-leb (2 ^ 48) e.moment b)
 
   -- one that happens
   pub step_done : (r : Reply) (was last : ℕ) → skipped w past e ≡ missing w past e.what

@@ -22,19 +22,20 @@ all_push P (z ∷ xs) x new old zero y e = old zero y e
 all_push P (z ∷ xs) x new old (suc j) y e =
     all_push (λ i. P (suc i)) xs x new (λ i. old (suc i)) j y e
 
-pub opened_more : {S : Type 0} (st : S → Production → List Act → Type 0) (tells : S → Type 0)
-    (stages : List S) (shows : List Tables) (setups : List Setup) (i : ℕ) (s : S) (setup : Setup)
-    (t : Tables)
+pub opened_more : {S : Type 0} {st : S → Production → List Act → Type 0} {tells : S → Type 0}
+    {stages : List S} {shows : List Tables} {setups : List Setup} {i : ℕ} {s : S} {setup : Setup}
+    {t : Tables}
     → Opened st tells stages shows setups i → slice_get setups i ≡ Some setup
     → slice_get shows setup.show ≡ Some t
     → st s (record { show = t; base = setup.base; source = setup.identity }) [] × tells s
     → Opened st tells (stages ++ s ∷ []) shows setups (i + 1)
-opened_more st tells stages shows setups i s setup t all here show new = record {
-  long = omega (arith, length-append stages (s ∷ []), all.long);
-  each = λ j y d e f. all_push
-      (λ j y. (d : Setup) → slice_get setups j ≡ Some d → st y (cast shows d) [] × tells y)
-      stages s added (λ j y h d f. all.each j y d h f) j y e d f;
-}
+opened_more {st = st} {tells = tells} {stages = stages} {shows = shows} {setups = setups} {s = s}
+    {setup = setup} {t = t} all here show new = record {
+      long = omega (arith, length-append stages (s ∷ []), all.long);
+      each = λ j y d e f. all_push
+          (λ j y. (d : Setup) → slice_get setups j ≡ Some d → st y (cast shows d) [] × tells y)
+          stages s added (λ j y h d f. all.each j y d h f) j y e d f;
+    }
   where
     is : get_or shows setup.show no_console.show ≡ t
     is = get_or_from_slice_get shows setup.show t no_console.show show
@@ -61,13 +62,13 @@ listening_more receivers universes i u k all is named new = record {
 }
 
 -- what was opened stands for a world in which nothing happened yet
-pub begun : {S : Type 0} (st : S → Production → List Act → Type 0) (tells : S → Type 0)
-    (stages : List S) (receivers : List Kept) (shows : List Tables) (setups : List Setup)
-    (universes strays : List ℕ)
+pub begun : {S : Type 0} {st : S → Production → List Act → Type 0} {tells : S → Type 0}
+    {stages : List S} {receivers : List Kept} {shows : List Tables} {setups : List Setup}
+    {universes : List ℕ} (strays : List ℕ)
     → Opened st tells stages shows setups (length setups)
     → Listening receivers universes (length universes)
     → AllAre st tells stages receivers (world_of shows setups universes strays) []
-begun {S} st tells stages receivers shows setups universes strays opened hear = record {
+begun {S} {st} {tells} {stages} {receivers} {shows} {setups} strays opened hear = record {
   stand = record {
     each = opened.long ∙ sym (length-map setups (cast shows));
     stand = λ i s e. (each i s e).0;

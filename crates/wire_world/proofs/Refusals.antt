@@ -76,7 +76,8 @@ fine shows setups universes = go (are_consoles (length setups)) (are_receivers u
 few_consoles : (shows : List Tables) (setups : List Setup) (universes : List ℕ)
     → IsFine shows setups universes → length setups ≤ 4
 few_consoles shows setups universes f =
-    leb-true (length setups) 4 (both (nat_le 1 (length setups)) (nat_le (length setups) 4) f.consoles).1
+    leb-true (length setups) 4
+    (both (nat_le 1 (length setups)) (nat_le (length setups) 4) f.consoles).1
 
 pub shows_there : (shows : List Tables) (setups : List Setup) (universes : List ℕ)
     → IsFine shows setups universes → All (λ s. s.show < length shows) setups

@@ -21,9 +21,7 @@ loop-i-preserved g c =
     slice_get_read c.args.shows.now (length c.args.shows.now) setup.show
     c.index-shows-setup.result refl within c.index-shows-setup.is in
     rw c.in_ok-push.ensures.items (
-      opened_more (StageStands g.F.Fader.stands_for) Tells c.loop-i.stages.items c.args.shows.now
-          c.args.setups.now c.loop-i.i c.in_ok-stage.stage setup c.index-shows-setup.result
-          c.loop-i.invariant.0 here show c.in_ok-stage.ensures.stands,
+      opened_more c.loop-i.invariant.0 here show c.in_ok-stage.ensures.stands,
       All-push (λ stage. stage.last ≡ c.args.last) c.loop-i.stages.items c.in_ok-stage.stage
           c.loop-i.invariant.1 c.in_ok-stage.ensures.last,
     )

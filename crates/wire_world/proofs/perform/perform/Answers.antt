@@ -4,7 +4,6 @@ use Rattle.wire_world.specs.Stands.{world_of}
 use Rattle.wire_world.proofs.Openings.{begun}
 use Rattle.wire_world.proofs.Sources.{sources}
 use Rattle.wire_world.specs.Wanted.{AreUpTo}
-use Rattle.wire_world.specs.StageStands.{StageStands, Tells}
 use Rattle.wire_world.proofs.perform.perform.Goals as goal
 
 pub run-requires-clause-begun : goal.run-requires-clause-begun
@@ -12,18 +11,14 @@ run-requires-clause-begun g c = (
   world_of c.args.shows.now c.args.consoles.now c.args.receivers.now c.args.strays.now,
   refl,
   rw (c.as_mut_slice.ensures.value, c.as_mut_slice-2.ensures.value)
-      (begun (StageStands g.F.Fader.stands_for) Tells c.in_ok-stages.stages.items
-      c.in_ok-listeners.listeners.items c.args.shows.now c.args.consoles.now c.args.receivers.now
-      c.args.strays.now c.in_ok-stages.ensures.opened c.in_ok-listeners.ensures),
+      (begun c.args.strays.now c.in_ok-stages.ensures.opened c.in_ok-listeners.ensures),
 )
 
 pub returns : goal.returns
 returns g c =
     let w = world_of c.args.shows.now c.args.consoles.now c.args.receivers.now
     c.args.strays.now in
-    let are = begun (StageStands g.F.Fader.stands_for) Tells c.in_ok-stages.stages.items
-    c.in_ok-listeners.listeners.items c.args.shows.now c.args.consoles.now c.args.receivers.now
-    c.args.strays.now c.in_ok-stages.ensures.opened c.in_ok-listeners.ensures in
+    let are = begun c.args.strays.now c.in_ok-stages.ensures.opened c.in_ok-listeners.ensures in
     record {
       replies = IfOk-weaker c.run.result _ _
           (λ report h. h w refl

@@ -29,8 +29,8 @@ returns g c =
           (c.order.ensures.answer (console_at w k) (acts w k past) (stood all k _ at))
           ∙ order_answer _);
       stands = λ w past all. rw c.from-i.ensures (
-          stand_call all k _ at c.order.new.self (record { moment = c.args.moment; what = _ }) (order c.args.command)
-          c.order.result (λ j. refl)
+          stand_call all k _ at c.order.new.self (record { moment = c.args.moment; what = _ })
+          (order c.args.command) c.order.result (λ j. refl)
           (λ d h s. ap result_err (c.order.ensures.answer d h s) ∙ err_of _ _)
           c.order.ensures.stands
           (on_err_weaker c.order.result (λ same d h s.
