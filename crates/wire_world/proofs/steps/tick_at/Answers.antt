@@ -44,8 +44,8 @@ returns g c =
           (c.tick-answer.ensures.answer (console_at w k) (acts w k past) (stood all k _ at) tells)
           ∙ tick_answer _ _ _)) c.ticked.ensures;
       stands = always c.ticked.result _ (λ _ w past all. rw c.from-i.ensures
-          (stand_call all k _ at c.tick-answer.new.self (record { moment = c.args.moment; what = _ })
-          tick c.tick-answer.result (λ j. refl)
+          (stand_call all k _ at c.tick-answer.new.self
+          (record { moment = c.args.moment; what = _ }) tick c.tick-answer.result (λ j. refl)
           (λ d h s. ap result_err (c.tick-answer.ensures.answer d h s tells) ∙ err_of _ _)
           c.tick-answer.ensures.stands c.tick-answer.ensures.kept));
     }
