@@ -13,18 +13,18 @@ use Rattle.std.proofs.lemmas.Result.{on_ok_weaker, on_err_weaker}
 use Rattle.std.proofs.Math.ListN.{length-set}
 use Rattle.desk_core.specs.declared.answer.Refused.{Refused}
 use Rattle.desk_core.specs.Played.{Call, Act, refusal, outcome}
-use Rattle.wire_laws.specs.declared.event.Event.{Event}
-use Rattle.wire_laws.specs.declared.reply.Skip.{Skip}
-use Rattle.wire_laws.specs.declared.reply.Reply.TheVariants as reply
-use Rattle.wire_laws.specs.World.{World, console_at}
-use Rattle.wire_laws.specs.Happened.{call_of, unless_refused, acts}
+use Rattle.wire_world.specs.declared.event.Event.{Event}
+use Rattle.wire_world.specs.declared.reply.Skip.{Skip}
+use Rattle.wire_world.specs.declared.reply.Reply.TheVariants as reply
+use Rattle.wire_world.specs.World.{World, console_at}
+use Rattle.wire_world.specs.Happened.{call_of, unless_refused, acts}
 use Rattle.sacn_source.specs.Stream.{Packet}
 use Rattle.sacn_receiver.specs.Kept.{Kept}
-use Rattle.wire_laws.specs.declared.event.What.TheVariants.{Deliver}
-use Rattle.wire_laws.specs.declared.reply.Skip.TheVariants.{NotSent}
-use Rattle.wire_laws.specs.Happened.{bytes_of, datagram, sent}
-use Rattle.wire_laws.specs.Datagrams.{packet_bytes}
-use Rattle.wire_laws.specs.Replies.{no_console_at, missing}
+use Rattle.wire_world.specs.declared.event.What.TheVariants.{Deliver}
+use Rattle.wire_world.specs.declared.reply.Skip.TheVariants.{NotSent}
+use Rattle.wire_world.specs.Happened.{bytes_of, datagram, sent}
+use Rattle.wire_world.specs.Datagrams.{packet_bytes}
+use Rattle.wire_world.specs.Replies.{no_console_at, missing}
 use Rattle.desk_core.specs.declared.answer.Ticked.{Ticked}
 use Rattle.sacn_source.specs.declared.offered.Offered.{Offered}
 use Rattle.wire_world.specs.Stands.{AllHear, AllStand, AllTell, order_reply, tick_reply}

@@ -2,21 +2,21 @@ ghost use Rattle.wire_world.specs.Brief.{reply_of};
 ghost use Rattle.wire_world.specs.StageStands.{StageStands, Tells};
 ghost use Rattle.std.specs.Prelude.{◌≡◌, ℕ, List, length, IfOk, OnOk};
 ghost use Rattle.std.specs.Option.{option_map_or};
-ghost use Rattle.wire_laws.specs.declared.event.Event.{Event as EventData};
-ghost use Rattle.wire_laws.specs.declared.reply.Reply.TheVariants as reply;
-ghost use Rattle.wire_laws.specs.World.{World};
-ghost use Rattle.wire_laws.specs.Replies.{missing, replied};
+ghost use Rattle.wire_world.specs.declared.event.Event.{Event as EventData};
+ghost use Rattle.wire_world.specs.declared.reply.Reply.TheVariants as reply;
+ghost use Rattle.wire_world.specs.World.{World};
+ghost use Rattle.wire_world.specs.Replies.{missing, replied};
 ghost use Rattle.wire_world.specs.Stands.{AllStand, AllHear, AllTell, AllBy, IsWithin};
 ghost use Rattle.wire_world.specs.Stands.{unless_skipped};
 ghost use Rattle.wire_world.specs.Wanted.{Holds, span_at};
 
+use crate::What;
 use crate::brief::BriefReply;
 use crate::stage::Stage;
 use crate::steps::{deliver_at, hear_at, order_at, show_at, tick_at};
 use fade_core::Fader;
 use sacn_receiver::Receiver;
 use std::alloc::{AllocError, Global};
-use wire_laws::What;
 
 // What happens at a moment that is not before the last.
 pub(crate) fn happen<F: Fader>(

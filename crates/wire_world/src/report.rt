@@ -1,10 +1,10 @@
 ghost use Rattle.std.specs.Prelude.{◌≡◌, IfOk, map};
 ghost use Rattle.wire_world.specs.Brief.{reply_of};
 
+use crate::Reply;
 use crate::brief::BriefReply;
 use std::alloc::{AllocError, Global};
 use std::marker::Model;
-use wire_laws::Reply;
 
 /// What came of a rehearsal.
 #[derive(Debug, Drop)]

@@ -5,11 +5,12 @@ ghost use Rattle.patch_core.specs.Frame.{is_base};
 ghost use Rattle.patch_core.specs.declared.fault.RigFault.TheVariants.{Universe};
 ghost use Rattle.desk_core.specs.Played.{Act, ended, outcome, refusal, ticked};
 ghost use Rattle.console.specs.Streams.{Production, dues_at, order_at, tick_at};
-ghost use Rattle.wire_laws.specs.Happened.{bytes_of};
-ghost use Rattle.wire_laws.specs.Replies.{due_answer};
+ghost use Rattle.wire_world.specs.Happened.{bytes_of};
+ghost use Rattle.wire_world.specs.Replies.{due_answer};
 ghost use Rattle.wire_world.specs.Sends.{sends_of, sent_to};
 ghost use Rattle.wire_world.specs.Shelves.{IsRest, gone_of, kept_of};
 
+use crate::Offers;
 use crate::packets::Packets;
 use crate::shelf::Shelf;
 use crate::shelves::{keep_all, packet, release};
@@ -20,7 +21,6 @@ use patch_core::RigFault;
 use sacn_source::Identity;
 use show_core::Show;
 use std::alloc::Global;
-use wire_laws::Offers;
 
 // A console of a rehearsal, the packets of its latest tick, and those that an event to come may
 // deliver.

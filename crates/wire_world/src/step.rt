@@ -1,19 +1,19 @@
 ghost use Rattle.wire_world.specs.Brief.{reply_of};
 ghost use Rattle.wire_world.specs.StageStands.{StageStands, Tells};
 ghost use Rattle.std.specs.Prelude.{◌≡◌, ℕ, List, length, IfOk, OnOk, if◌then◌else◌};
-ghost use Rattle.wire_laws.specs.declared.event.Event.{Event as EventData};
-ghost use Rattle.wire_laws.specs.World.{World};
-ghost use Rattle.wire_laws.specs.Replies.{last_moment};
+ghost use Rattle.wire_world.specs.declared.event.Event.{Event as EventData};
+ghost use Rattle.wire_world.specs.World.{World};
+ghost use Rattle.wire_world.specs.Replies.{last_moment};
 ghost use Rattle.wire_world.specs.Stands.{AllAre, AllStand, AllBy, IsStep, IsWithin, is_skip};
 ghost use Rattle.wire_world.specs.Wanted.{Holds, span_at};
 
 use crate::brief::BriefReply;
 use crate::happen::happen;
 use crate::stage::Stage;
+use crate::{Event, Skip};
 use fade_core::Fader;
 use sacn_receiver::Receiver;
 use std::alloc::{AllocError, Global};
-use wire_laws::{Event, Skip};
 
 const MOMENTS: u64 = 0x1_0000_0000_0000;
 

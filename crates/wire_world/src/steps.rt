@@ -3,15 +3,16 @@ ghost use Rattle.wire_world.specs.StageStands.{StageStands, Tells};
 ghost use Rattle.std.specs.Prelude.{◌≡◌, ◌≤◌, ◌==◌, ℕ, List, ◌∷◌, length, IfOk, OnOk};
 ghost use Rattle.std.specs.Prelude.{if◌then◌else◌, Option, Some, None};
 ghost use Rattle.std.specs.Option.{option_map_or};
-ghost use Rattle.wire_laws.specs.declared.event.Event.{Event as EventData};
-ghost use Rattle.wire_laws.specs.declared.event.What.TheVariants.{Order, Tick, Deliver, Show};
-ghost use Rattle.wire_laws.specs.declared.reply.Reply.TheVariants as reply;
-ghost use Rattle.wire_laws.specs.World.{World};
-ghost use Rattle.wire_laws.specs.Happened.{handed};
-ghost use Rattle.wire_laws.specs.Replies.{missing, no_receiver_at, replied, taken_by};
+ghost use Rattle.wire_world.specs.declared.event.Event.{Event as EventData};
+ghost use Rattle.wire_world.specs.declared.event.What.TheVariants.{Order, Tick, Deliver, Show};
+ghost use Rattle.wire_world.specs.declared.reply.Reply.TheVariants as reply;
+ghost use Rattle.wire_world.specs.World.{World};
+ghost use Rattle.wire_world.specs.Happened.{handed};
+ghost use Rattle.wire_world.specs.Replies.{missing, no_receiver_at, replied, taken_by};
 ghost use Rattle.wire_world.specs.Stands.{AllStand, AllHear, AllTell, AllBy, unless_skipped};
 ghost use Rattle.wire_world.specs.Wanted.{Holds, span_at};
 
+use crate::Skip;
 use crate::answers::{ordered, taken, ticked};
 use crate::brief::BriefReply;
 use crate::stage::Stage;
@@ -19,7 +20,6 @@ use desk_core::Command;
 use fade_core::Fader;
 use sacn_receiver::Receiver;
 use std::alloc::{AllocError, Global};
-use wire_laws::Skip;
 
 pub(crate) fn order_at<F: Fader>(
     stages: &mut [Stage<F>],

@@ -1,8 +1,8 @@
 use Rattle.std.proofs.Common.{◌≤◌, ◌<◌, ◌^◌, arith}
-use Rattle.wire_laws.specs.declared.event.Event.{Event}
-use Rattle.wire_laws.specs.Replies.{last_moment}
-use Rattle.wire_world.proofs.Happened.{timely, step_done, step_skipped, backwards, too_large}
-use Rattle.wire_laws.specs.declared.reply.Skip.TheVariants.{Backwards, TooLarge}
+use Rattle.wire_world.specs.declared.event.Event.{Event}
+use Rattle.wire_world.specs.Replies.{last_moment}
+use Rattle.wire_world.proofs.Stepped.{timely, step_done, step_skipped, backwards, too_large}
+use Rattle.wire_world.specs.declared.reply.Skip.TheVariants.{Backwards, TooLarge}
 use Rattle.wire_world.specs.Brief.{reply_of}
 use Rattle.wire_world.proofs.step.step.Goals as goal
 

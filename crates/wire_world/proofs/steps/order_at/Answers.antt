@@ -4,8 +4,8 @@ use Rattle.std.specs.Result.{result_err}
 use Rattle.std.proofs.lemmas.Option.{slice_get-get_or}
 use Rattle.std.proofs.lemmas.Result.{on_err_weaker}
 use Rattle.desk_core.specs.Played.{order}
-use Rattle.wire_laws.specs.World.{console_at}
-use Rattle.wire_laws.specs.Happened.{acts}
+use Rattle.wire_world.specs.World.{console_at}
+use Rattle.wire_world.specs.Happened.{acts}
 use Rattle.wire_world.proofs.Stages.{tell_set, err_of, stand_call, stood, no_skip}
 use Rattle.wire_world.proofs.Stages.{order_answer}
 use Rattle.wire_world.proofs.Wants.{spans_set}

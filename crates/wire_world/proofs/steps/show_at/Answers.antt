@@ -1,6 +1,6 @@
 use Rattle.std.proofs.Common.{ap, ◌∙◌}
-use Rattle.wire_laws.specs.declared.reply.Reply.TheVariants as reply
-use Rattle.wire_laws.specs.Happened.{accepted_by}
+use Rattle.wire_world.specs.declared.reply.Reply.TheVariants as reply
+use Rattle.wire_world.specs.Happened.{accepted_by}
 use Rattle.wire_world.proofs.Receivers.{no_skip, stood}
 use Rattle.wire_world.proofs.Stages.{at_number}
 use Rattle.wire_world.proofs.steps.show_at.Goals as goal

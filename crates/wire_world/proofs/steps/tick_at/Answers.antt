@@ -3,8 +3,8 @@ use Rattle.std.specs.Prelude.{slice_get}
 use Rattle.std.specs.Result.{result_err}
 use Rattle.std.proofs.lemmas.Option.{slice_get-get_or}
 use Rattle.desk_core.specs.Played.{tick}
-use Rattle.wire_laws.specs.World.{console_at}
-use Rattle.wire_laws.specs.Happened.{acts}
+use Rattle.wire_world.specs.World.{console_at}
+use Rattle.wire_world.specs.Happened.{acts}
 use Rattle.wire_world.proofs.Stages.{always, err_of, no_skip, stand_call}
 use Rattle.wire_world.proofs.Stages.{stood, tell_set, tick_answer}
 use Rattle.std.proofs.lemmas.Result.{IfOk-weaker}
