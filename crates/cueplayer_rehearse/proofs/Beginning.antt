@@ -24,11 +24,11 @@ use Rattle.script_text.specs.Script.{Parts, script_of}
 use Rattle.wire_faults.specs.declared.fault.Fault.{Fault}
 use Rattle.wire_faults.specs.declared.fault.Fault.TheVariants.{Consoles, Receivers, NoShow}
 use Rattle.wire_faults.specs.declared.fault.Fault.TheVariants.{Universe, Memory}
-use Rattle.wire_laws.specs.declared.reply.Reply.{Reply}
-use Rattle.wire_laws.specs.declared.setup.Setup.{Setup}
+use Rattle.wire_world.specs.declared.reply.Reply.{Reply}
+use Rattle.wire_world.specs.declared.setup.Setup.{Setup}
 use Rattle.sacn_receiver.specs.Shown.{shown_slots}
-use Rattle.wire_laws.specs.Happened.{accepted_by}
-use Rattle.wire_laws.specs.Replies.{AreReplies, done, last_moment, last_slots}
+use Rattle.wire_world.specs.Happened.{accepted_by}
+use Rattle.wire_world.specs.Replies.{AreReplies, done, last_moment, last_slots}
 use Rattle.wire_world.specs.Refusing.{Answers, are_consoles, are_receivers, has_base, has_show}
 use Rattle.wire_world.specs.Refusing.{setup_fault}
 use Rattle.wire_world.proofs.Refusals.{fine}

@@ -16,14 +16,14 @@ use Rattle.sacn_source.specs.declared.offered.Offered.TheVariants.{Sent}
 use Rattle.script_text.specs.Forms.{setup}
 use Rattle.script_text.specs.Script.{Parts, script_of}
 use Rattle.show_core.specs.Tables.{Tables}
-use Rattle.wire_laws.specs.declared.event.Event.{Event}
-use Rattle.wire_laws.specs.declared.event.What.{What}
-use Rattle.wire_laws.specs.declared.event.What.TheVariants.{Order, Stray, Show}
-use Rattle.wire_laws.specs.declared.reply.Reply.{Reply}
-use Rattle.wire_laws.specs.declared.reply.Reply.TheVariants as reply
-use Rattle.wire_laws.specs.declared.reply.Skip.TheVariants.{Backwards, TooLarge, NoConsole}
-use Rattle.wire_laws.specs.declared.reply.Skip.TheVariants.{NoReceiver, NotSent}
-use Rattle.wire_laws.specs.Replies.{done, reply_to}
+use Rattle.wire_world.specs.declared.event.Event.{Event}
+use Rattle.wire_world.specs.declared.event.What.{What}
+use Rattle.wire_world.specs.declared.event.What.TheVariants.{Order, Stray, Show}
+use Rattle.wire_world.specs.declared.reply.Reply.{Reply}
+use Rattle.wire_world.specs.declared.reply.Reply.TheVariants as reply
+use Rattle.wire_world.specs.declared.reply.Skip.TheVariants.{Backwards, TooLarge, NoConsole}
+use Rattle.wire_world.specs.declared.reply.Skip.TheVariants.{NoReceiver, NotSent}
+use Rattle.wire_world.specs.Replies.{done, reply_to}
 use Rattle.cueplayer_rehearse.specs.Printed.{AreLines, world}
 use Rattle.cueplayer_rehearse.specs.Texts.{rehearsal_lines}
 

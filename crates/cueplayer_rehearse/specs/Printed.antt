@@ -5,9 +5,9 @@ use Rattle.devices.specs.Tape.{Tape, with_more, with_failure}
 use Rattle.show_core.specs.Tables.{Tables}
 use Rattle.show_reader.specs.ItsShow.{OfItsShow}
 use Rattle.script_text.specs.Script.{Parts, script_of}
-use Rattle.wire_laws.specs.declared.reply.Reply.{Reply}
-use Rattle.wire_laws.specs.World.{World}
-use Rattle.wire_laws.specs.Replies.{AreReplies, done, last_slots}
+use Rattle.wire_world.specs.declared.reply.Reply.{Reply}
+use Rattle.wire_world.specs.World.{World}
+use Rattle.wire_world.specs.Replies.{AreReplies, done, last_slots}
 use Rattle.wire_world.specs.Stands.{world_of}
 use Rattle.cueplayer_faults.specs.declared.fault.RunFault.{RunFault}
 use Rattle.cueplayer_faults.specs.declared.fault.RunFault.TheVariants as run

@@ -3,11 +3,11 @@ use Rattle.std.specs.Prelude.{ℕ, List, ◌++◌, map, Ok, Err, codes}
 use Rattle.std.specs.List.{enumerate_from, zip}
 use Rattle.console_text.specs.Texts.{done_text, refused_text, ticked_text, numbered}
 use Rattle.receiver_text.specs.Replies.{reply_text as datagram_text, slots_text, end_line}
-use Rattle.wire_laws.specs.declared.reply.Skip.{Skip}
-use Rattle.wire_laws.specs.declared.reply.Skip.TheVariants.{Backwards, TooLarge, NoConsole}
-use Rattle.wire_laws.specs.declared.reply.Skip.TheVariants.{NoReceiver, NotSent}
-use Rattle.wire_laws.specs.declared.reply.Reply.{Reply}
-use Rattle.wire_laws.specs.declared.reply.Reply.TheVariants as reply
+use Rattle.wire_world.specs.declared.reply.Skip.{Skip}
+use Rattle.wire_world.specs.declared.reply.Skip.TheVariants.{Backwards, TooLarge, NoConsole}
+use Rattle.wire_world.specs.declared.reply.Skip.TheVariants.{NoReceiver, NotSent}
+use Rattle.wire_world.specs.declared.reply.Reply.{Reply}
+use Rattle.wire_world.specs.declared.reply.Reply.TheVariants as reply
 
 -- why an event was skipped, by its name
 abbrev pub skip_name : Skip → List ℕ

@@ -10,8 +10,7 @@ use console_text::{done_line, refused_line, ticked_line};
 use devices::{LinkFault, Output};
 use itoa::Buffer;
 use receiver_text::{numbered_slots, reply_line};
-use wire_laws::Skip;
-use wire_world::BriefReply;
+use wire_world::{BriefReply, Skip};
 
 // There is room for a number of 20 digits, ` skipped NoReceiver` and LF.
 type SkippedLine = ArrayString<40>;

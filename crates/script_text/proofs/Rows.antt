@@ -5,8 +5,8 @@ use Rattle.hex.proofs.OnLiterals.{hex_on_literals}
 use Rattle.uuid.proofs.OnLiterals.{uuid_on_literals}
 use Rattle.ascii_text.specs.Text.{words_of}
 use Rattle.desk_core.specs.declared.command.Command.TheVariants.{Go, End}
-use Rattle.wire_laws.specs.declared.event.What.TheVariants.{Order, Tick, Deliver, Show}
-use Rattle.wire_laws.specs.declared.event.What.TheVariants as what
+use Rattle.wire_world.specs.declared.event.What.TheVariants.{Order, Tick, Deliver, Show}
+use Rattle.wire_world.specs.declared.event.What.TheVariants as what
 use Rattle.script_text.specs.declared.said.Said.{Said}
 use Rattle.script_text.specs.declared.said.Said.TheVariants.{Nothing, Console, Receiver, Stray}
 use Rattle.script_text.specs.declared.said.Said.TheVariants.{Malformed}

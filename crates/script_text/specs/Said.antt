@@ -4,8 +4,8 @@ use Rattle.std.specs.Prelude.{length, Option, Some, None, option_map, option_and
 use Rattle.ascii_text.specs.Forms.{same_word, moment_of, whole_of}
 use Rattle.uuid.specs.Text.{parsed}
 use Rattle.console_text.specs.Spelling.{command_of}
-use Rattle.wire_laws.specs.declared.event.What.{What}
-use Rattle.wire_laws.specs.declared.event.What.TheVariants.{Order, Tick, Deliver, Show}
+use Rattle.wire_world.specs.declared.event.What.{What}
+use Rattle.wire_world.specs.declared.event.What.TheVariants.{Order, Tick, Deliver, Show}
 use Rattle.script_text.specs.Forms.{universe_of, place_of, bytes_of, digits_in, setup}
 use Rattle.script_text.specs.declared.said.Said.{Said}
 use Rattle.script_text.specs.declared.said.Said.TheVariants.{Nothing, Console, Receiver, Happens}

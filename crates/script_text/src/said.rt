@@ -12,7 +12,7 @@ use ascii_text::{Words, moment, same_word, whole};
 use console_text::command_in;
 use sacn_packet::TOP_UNIVERSE;
 use uuid::Uuid;
-use wire_laws::{Event, What};
+use wire_world::{Event, What};
 
 // What a line says.
 #[derive(Debug, Drop)]

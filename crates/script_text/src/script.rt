@@ -8,7 +8,7 @@ use crate::said::{Said, read_line};
 use ascii_text::{Line, Lines};
 use std::alloc::{AllocError, Global};
 use thiserror::Error;
-use wire_laws::{Event, Setup, What};
+use wire_world::{Event, Setup, What};
 
 /// A script: what a rehearsal is given.
 #[derive(Debug, Drop)]

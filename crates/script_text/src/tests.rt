@@ -4,7 +4,7 @@ use sacn_packet::SourceName;
 use sacn_source::Identity;
 use std::alloc::Global;
 use std::test::Fail;
-use wire_laws::{Event, Setup, What};
+use wire_world::{Event, Setup, What};
 
 // The header of the rows: lines 1 and 2.
 const HEADER: &str = "console 1 100 c0ffee00-0000-4000-8000-00000000e131\nreceiver 1\n";

@@ -1,10 +1,14 @@
+pub mod Wire
+pub mod Came
+pub mod Shown
+mod Rows
 pub mod Rests
 pub mod Shelved
 pub mod Linked
 pub mod Ticks
 pub mod Stages
 pub mod Receivers
-pub mod Happened
+pub mod Stepped
 pub mod Replays
 pub mod Wants
 pub mod Least

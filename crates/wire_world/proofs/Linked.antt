@@ -28,12 +28,12 @@ use Rattle.console.specs.Offering.{AreOffered, Offers, none, quiet, sent}
 use Rattle.console.specs.Streams.{Production, Due, due_at, dues_at, offer_at, offered_by}
 use Rattle.console.specs.Streams.{offers_of}
 use Rattle.console.specs.Streams.{order_at, packet_due, tick_at, universes_of}
-use Rattle.wire_laws.specs.Datagrams.{packet_bytes}
-use Rattle.wire_laws.specs.Happened.{bytes_of, packets_of, stream}
-use Rattle.wire_laws.specs.World.{plays}
-use Rattle.wire_laws.specs.Replies.{due_answer}
+use Rattle.wire_world.specs.Datagrams.{packet_bytes}
+use Rattle.wire_world.specs.Happened.{bytes_of, packets_of, stream}
+use Rattle.wire_world.specs.World.{plays}
+use Rattle.wire_world.specs.Replies.{due_answer}
 use Rattle.desk_core.proofs.FrameSlots.{frame_full}
-use Rattle.wire_laws.proofs.Wire.{bytes_are}
+use Rattle.wire_world.proofs.Wire.{bytes_are}
 use Rattle.wire_world.specs.declared.row.Row.{Row}
 use Rattle.wire_world.specs.Sends.{send_of, sent_to, numbered}
 use Rattle.wire_world.specs.Shelves.{IsRest}

@@ -6,8 +6,8 @@ use Rattle.std.specs.Prelude.{slice_get, slice_index, map}
 use Rattle.std.proofs.lemmas.Option.{get_or_from_slice_get, slice_get_within, slice_get-get_or}
 use Rattle.show_core.specs.Tables.{Tables}
 use Rattle.desk_core.specs.Played.{Act}
-use Rattle.wire_laws.specs.declared.setup.Setup.{Setup}
-use Rattle.wire_laws.specs.World.{no_console}
+use Rattle.wire_world.specs.declared.setup.Setup.{Setup}
+use Rattle.wire_world.specs.World.{no_console}
 use Rattle.sacn_receiver.specs.Kept.{Kept, StandsFor}
 use Rattle.std.proofs.lemmas.List.{length-map, get_or-map}
 use Rattle.wire_world.specs.Stands.{cast, Opened, Listening, AllAre, world_of}

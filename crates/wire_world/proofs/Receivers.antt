@@ -13,13 +13,13 @@ use Rattle.sacn_receiver.specs.declared.answer.Ignored.{Ignored}
 use Rattle.sacn_receiver.specs.Source as source
 use Rattle.sacn_receiver.specs.Taking.{entry_of, ignored, taken_of, answer, heard}
 use Rattle.sacn_receiver.specs.Kept.{Kept, StandsFor}
-use Rattle.wire_laws.specs.declared.event.Event.{Event}
-use Rattle.wire_laws.specs.declared.reply.Skip.{Skip}
-use Rattle.wire_laws.specs.declared.reply.Reply.TheVariants as reply
-use Rattle.wire_laws.specs.World.{World, universe_at}
-use Rattle.wire_laws.specs.Happened.{handed, accepted_by}
-use Rattle.wire_laws.specs.Replies.{last_moment, no_receiver_at, taken_reply, taken_by}
-use Rattle.wire_laws.proofs.Came.{IsRun, last_accepted}
+use Rattle.wire_world.specs.declared.event.Event.{Event}
+use Rattle.wire_world.specs.declared.reply.Skip.{Skip}
+use Rattle.wire_world.specs.declared.reply.Reply.TheVariants as reply
+use Rattle.wire_world.specs.World.{World, universe_at}
+use Rattle.wire_world.specs.Happened.{handed, accepted_by}
+use Rattle.wire_world.specs.Replies.{last_moment, no_receiver_at, taken_reply, taken_by}
+use Rattle.wire_world.proofs.Came.{IsRun, last_accepted}
 use Rattle.wire_world.specs.Stands.{AllHear, AllBy, unless_skipped}
 use Rattle.wire_world.proofs.Stages.{all_set}
 use Rattle.std.proofs.lemmas.Result.{on_ok_weaker}

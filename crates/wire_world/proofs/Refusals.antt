@@ -13,13 +13,13 @@ use Rattle.patch_core.specs.Frame.{is_base}
 use Rattle.wire_faults.specs.declared.fault.Fault.{Fault}
 use Rattle.wire_faults.specs.declared.fault.Fault.TheVariants.{Consoles, Receivers, NoShow}
 use Rattle.wire_faults.specs.declared.fault.Fault.TheVariants.{Universe}
-use Rattle.wire_laws.specs.declared.setup.Setup.{Setup}
-use Rattle.wire_laws.specs.World.{IsConsole, IsWorld, no_console}
+use Rattle.wire_world.specs.declared.setup.Setup.{Setup}
+use Rattle.wire_world.specs.World.{IsConsole, IsWorld, no_console}
 use Rattle.wire_world.specs.Refusing.{are_consoles, are_receivers, are_universes, is_new_at}
 use Rattle.wire_world.specs.Refusing.{Answers, has_base, has_show, setup_fault}
-use Rattle.wire_laws.specs.declared.event.Event.{Event}
-use Rattle.wire_laws.specs.declared.event.What.{What}
-use Rattle.wire_laws.specs.declared.event.What.TheVariants.{Stray}
+use Rattle.wire_world.specs.declared.event.Event.{Event}
+use Rattle.wire_world.specs.declared.event.What.{What}
+use Rattle.wire_world.specs.declared.event.What.TheVariants.{Stray}
 use Rattle.wire_world.specs.Refusing.{are_within, is_within}
 use Rattle.wire_world.specs.Stands.{AreSources, IsWithin, cast, world_of}
 

@@ -9,11 +9,11 @@ use Rattle.std.proofs.lemmas.Bool.{cases_lt}
 use Rattle.std.proofs.lemmas.Grind.{common_steps}
 use Rattle.desk_core.specs.Played.{Act}
 use Rattle.sacn_receiver.specs.Kept.{Kept}
-use Rattle.wire_laws.specs.declared.event.Event.{Event}
-use Rattle.wire_laws.specs.declared.reply.Reply.{Reply}
-use Rattle.wire_laws.specs.World.{World}
-use Rattle.wire_laws.specs.Replies.{last_moment, done_one, done, reply_to}
-use Rattle.wire_laws.proofs.Came.{done_runs}
+use Rattle.wire_world.specs.declared.event.Event.{Event}
+use Rattle.wire_world.specs.declared.reply.Reply.{Reply}
+use Rattle.wire_world.specs.World.{World}
+use Rattle.wire_world.specs.Replies.{last_moment, done_one, done, reply_to}
+use Rattle.wire_world.proofs.Came.{done_runs}
 use Rattle.wire_world.specs.Stands.{AllAre, AllBy, IsStep, Replayed}
 use Rattle.wire_world.proofs.Receivers.{all_by}
 

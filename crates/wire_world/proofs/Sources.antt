@@ -15,8 +15,8 @@ use Rattle.sacn_source.specs.Identity.{Identity}
 use Rattle.sacn_source.specs.Kept.{Lane}
 use Rattle.sacn_source.specs.Stands.{StandsAt, lane_of}
 use Rattle.console.specs.Streams.{universes_of}
-use Rattle.wire_laws.specs.declared.setup.Setup.{Setup}
-use Rattle.wire_laws.specs.World.{IsIdentity, plays}
+use Rattle.wire_world.specs.declared.setup.Setup.{Setup}
+use Rattle.wire_world.specs.World.{IsIdentity, plays}
 use Rattle.wire_world.specs.declared.stage.Stage.{Stage}
 use Rattle.wire_world.specs.StageStands.{StageStands, Tells}
 use Rattle.wire_world.specs.Stands.{AreSources, Opened, cast}

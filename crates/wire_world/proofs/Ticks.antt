@@ -12,7 +12,7 @@ use Rattle.console.specs.Offering.{Offers}
 use Rattle.console.specs.Stands.{StandsFor}
 use Rattle.console.specs.Streams.{Production, dues_at, tick_at}
 use Rattle.wire_world.specs.declared.stage.Stage.{Stage}
-use Rattle.wire_laws.specs.Replies.{due_answer}
+use Rattle.wire_world.specs.Replies.{due_answer}
 use Rattle.wire_world.specs.Sends.{Kept, send_of, sends_of, sent_to}
 use Rattle.wire_world.specs.Shelves.{IsRest, gone_of, kept_of}
 use Rattle.wire_world.specs.StageStands.{StageStands, Tells}

@@ -9,17 +9,17 @@ use Rattle.std.proofs.Math.ListN.{length-set}
 use Rattle.fade_core.specs.Level.{Start}
 use Rattle.console.specs.Streams.{Production}
 use Rattle.desk_core.specs.Played.{Act}
-use Rattle.wire_laws.specs.declared.event.Event.{Event}
-use Rattle.wire_laws.specs.declared.event.What.{What}
-use Rattle.wire_laws.specs.declared.event.What.TheVariants.{Deliver}
-use Rattle.wire_laws.specs.World.{World, console_at}
-use Rattle.wire_laws.specs.Happened.{acts}
+use Rattle.wire_world.specs.declared.event.Event.{Event}
+use Rattle.wire_world.specs.declared.event.What.{What}
+use Rattle.wire_world.specs.declared.event.What.TheVariants.{Deliver}
+use Rattle.wire_world.specs.World.{World, console_at}
+use Rattle.wire_world.specs.Happened.{acts}
 use Rattle.wire_world.specs.declared.stage.Stage.{Stage}
 use Rattle.wire_world.specs.Shelves.{gone_of}
 use Rattle.wire_world.specs.StageStands.{StageStands, Tells}
 use Rattle.wire_world.specs.Stands.{AllStand, AllTell, IsStep}
-use Rattle.wire_laws.specs.declared.reply.Reply.{Reply}
-use Rattle.wire_laws.specs.Replies.{done_one}
+use Rattle.wire_world.specs.declared.reply.Reply.{Reply}
+use Rattle.wire_world.specs.Replies.{done_one}
 use Rattle.sacn_receiver.specs.Kept.{Kept}
 use Rattle.wire_world.specs.Wanted.{AreLows, AreUpTo, Holds, IsUpTo, Spares, span_at}
 use Rattle.wire_world.proofs.Linked.{first_gone}

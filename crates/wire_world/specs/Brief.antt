@@ -1,6 +1,6 @@
 -- The reply that a reply in little room is.
-use Rattle.wire_laws.specs.declared.reply.Reply.{Reply}
-use Rattle.wire_laws.specs.declared.reply.Reply.TheVariants as reply
+use Rattle.wire_world.specs.declared.reply.Reply.{Reply}
+use Rattle.wire_world.specs.declared.reply.Reply.TheVariants as reply
 use Rattle.wire_world.specs.declared.brief.BriefReply.{BriefReply}
 use Rattle.wire_world.specs.declared.brief.BriefReply.TheVariants as brief
 

@@ -1,3 +1,10 @@
+pub mod World
+pub mod Datagrams
+pub mod Happened
+pub mod Replies
+pub mod Delivery
+pub mod Laws
+pub mod Shows
 pub mod Sends
 pub mod Shelves
 pub mod StageStands

@@ -3,7 +3,7 @@ use Rattle.std.specs.Prelude.{ℕ, ◌+◌, ◌==◌, Bool, false, List, [], ◌
 use Rattle.devices.specs.Send.{Send}
 use Rattle.sacn_source.specs.Identity.{Identity}
 use Rattle.sacn_source.specs.Stream.{Packet}
-use Rattle.wire_laws.specs.Datagrams.{packet_bytes}
+use Rattle.wire_world.specs.Datagrams.{packet_bytes}
 use Rattle.wire_world.specs.declared.row.Row.{Row}
 
 -- the packets, in the order in which they were sent; and whether there was no room for one

@@ -5,7 +5,7 @@ use Rattle.fade_core.specs.Level.{Start}
 use Rattle.desk_core.specs.Played.{Act}
 use Rattle.console.specs.Stands as console
 use Rattle.console.specs.Streams.{Production}
-use Rattle.wire_laws.specs.Happened.{packets_of}
+use Rattle.wire_world.specs.Happened.{packets_of}
 use Rattle.wire_world.specs.declared.stage.Stage.{Stage}
 use Rattle.wire_world.specs.Sends.{numbered}
 use Rattle.wire_world.specs.Shelves.{IsRest, gone_of, kept_of}

@@ -2,7 +2,7 @@
 -- Of use inside the crate: what its public calls answer is said without these.
 use Rattle.console.specs.Streams.{Production}
 use Rattle.show_core.specs.Tables.{Tables}
-use Rattle.wire_laws.specs.declared.setup.Setup.{Setup}
+use Rattle.wire_world.specs.declared.setup.Setup.{Setup}
 use Rattle.std.specs.Prelude.{map, slice_index, slice_index_or, [], take, ◌<◌, Bool, true, false}
 use Rattle.std.specs.Prelude.{◌≡◌, ◌≤◌, ℕ, List, ◌∷◌, length, if◌then◌else◌, is_some, Option}
 use Rattle.std.specs.Prelude.{Some, Result, Ok, Err, slice_get, All, IsTrue}
@@ -11,16 +11,16 @@ use Rattle.desk_core.specs.declared.answer.Ticked.{Ticked}
 use Rattle.desk_core.specs.Played.{Act}
 use Rattle.sacn_source.specs.declared.offered.Offered.{Offered}
 use Rattle.sacn_receiver.specs.Kept.{Kept, StandsFor}
-use Rattle.wire_laws.specs.declared.event.Event.{Event}
-use Rattle.wire_laws.specs.declared.event.What.{What}
-use Rattle.wire_laws.specs.declared.event.What.TheVariants.{Stray}
-use Rattle.wire_laws.specs.declared.reply.Skip.{Skip}
-use Rattle.wire_laws.specs.declared.reply.Reply.{Reply}
-use Rattle.wire_laws.specs.declared.reply.Reply.TheVariants as reply
-use Rattle.wire_laws.specs.World.{World, no_console, console_at, universe_at, plays}
-use Rattle.wire_laws.specs.World.{IsIdentity}
-use Rattle.wire_laws.specs.Happened.{acts, accepted_by}
-use Rattle.wire_laws.specs.Replies.{last_moment, done_one, done, reply_to}
+use Rattle.wire_world.specs.declared.event.Event.{Event}
+use Rattle.wire_world.specs.declared.event.What.{What}
+use Rattle.wire_world.specs.declared.event.What.TheVariants.{Stray}
+use Rattle.wire_world.specs.declared.reply.Skip.{Skip}
+use Rattle.wire_world.specs.declared.reply.Reply.{Reply}
+use Rattle.wire_world.specs.declared.reply.Reply.TheVariants as reply
+use Rattle.wire_world.specs.World.{World, no_console, console_at, universe_at, plays}
+use Rattle.wire_world.specs.World.{IsIdentity}
+use Rattle.wire_world.specs.Happened.{acts, accepted_by}
+use Rattle.wire_world.specs.Replies.{last_moment, done_one, done, reply_to}
 
 abbrev pub order_reply : Result (Unit {0}) Refused → Reply
 order_reply (Ok u) = reply.Done

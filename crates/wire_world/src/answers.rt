@@ -1,13 +1,13 @@
 ghost use Rattle.std.specs.Prelude.{◌≡◌, IfOk};
 ghost use Rattle.wire_world.specs.Brief.{reply_of};
 ghost use Rattle.wire_world.specs.Stands.{order_reply, tick_reply};
-ghost use Rattle.wire_laws.specs.Replies.{taken_reply};
+ghost use Rattle.wire_world.specs.Replies.{taken_reply};
 
+use crate::Offers;
 use crate::brief::BriefReply;
 use desk_core::{Refused, Ticked};
 use sacn_receiver::{Ignored, Taken};
 use std::alloc::{AllocError, Global};
-use wire_laws::Offers;
 
 pub(crate) fn ordered(answer: Result<(), Refused>) -> BriefReply
     ensures { reply_of result ≡ order_reply answer }

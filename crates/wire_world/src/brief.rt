@@ -1,9 +1,9 @@
 ghost use Rattle.std.specs.Prelude.{◌≡◌};
 ghost use Rattle.wire_world.specs.Brief.{reply_of};
 
+use crate::{Offers, Reply, Skip};
 use desk_core::{Refused, Ticked};
 use sacn_receiver::{Ignored, Taken};
-use wire_laws::{Offers, Reply, Skip};
 
 /// The reply to an event, a [`Reply`] in little room: what is large lies in a box.
 #[derive(Debug, Drop)]

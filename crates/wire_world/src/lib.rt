@@ -1,8 +1,10 @@
-//! The rehearsal of a list of events: consoles, receivers and the network between them, in memory.
+//! The rehearsal of a list of events: consoles, receivers and the network between them, in memory;
+//! and what holds of every such list.
 //!
 //! [`rehearse`] answers a reply for each event, and each receiver's slots at the end. Its contract
 //! is the product's headline: in the window, the slots are the levels that the show means at the
-//! latest tick.
+//! latest tick. The [`laws`] say so of the definitions alone, which know no link, no desk and no
+//! receiver's records; a law is called where its words are needed, and does nothing when it runs.
 //!
 //! ```
 //! let setup = Setup { show: 0, base: 1, identity };
@@ -14,7 +16,9 @@
 
 mod answers;
 mod brief;
+mod event;
 mod happen;
+pub mod laws;
 mod listening;
 mod lows;
 mod opening;
@@ -24,6 +28,7 @@ mod queue;
 mod rehearsal;
 mod releasing;
 mod replay;
+mod reply;
 mod report;
 mod row;
 mod setup;
@@ -35,8 +40,13 @@ mod step;
 mod steps;
 
 pub use brief::BriefReply;
+pub use console::Offers;
+pub use event::{Event, What};
 pub use rehearsal::{rehearse, rehearse_briefly};
+pub use reply::{Reply, Skip};
 pub use report::{BriefReport, Report};
+pub use setup::Setup;
+pub use wire_faults::Fault;
 
 #[cfg(test)]
 mod tests;

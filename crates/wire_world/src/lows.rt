@@ -1,8 +1,8 @@
 ghost use Rattle.std.specs.Prelude.{◌≡◌, ◌<◌, IfOk, length};
 ghost use Rattle.wire_world.specs.Wanted.{AreLows, AreUpTo, IsUpTo, row_of};
 
+use crate::{Event, What};
 use std::alloc::{AllocError, Global};
-use wire_laws::{Event, What};
 
 // Of each delivery the number of a packet of its universe, before which no later event delivers
 // one: such packets need not be kept.

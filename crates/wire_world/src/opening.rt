@@ -2,11 +2,11 @@ ghost use Rattle.wire_world.specs.StageStands.{StageStands, Tells};
 ghost use Rattle.std.specs.Prelude.{◌≡◌, ◌<◌, ◌∷◌, ◌++◌, [], length, IfOk, OnOk, All};
 ghost use Rattle.wire_world.specs.Stands.{Opened};
 
+use crate::Setup;
 use crate::stage::Stage;
 use fade_core::Fader;
 use show_core::Show;
 use std::alloc::{AllocError, Global};
-use wire_laws::Setup;
 
 // The consoles, each with its show. No event delivers a packet behind packet `last`.
 pub(crate) fn open_all<F: Fader>(

@@ -1,5 +1,5 @@
 ghost use Rattle.std.specs.Prelude.{◌≡◌, ◌<◌, ◌≤◌, length, IfOk, All};
-ghost use Rattle.wire_laws.specs.Replies.{AreReplies, done, last_slots};
+ghost use Rattle.wire_world.specs.Replies.{AreReplies, done, last_slots};
 ghost use Rattle.wire_world.specs.Stands.{AreSources, IsWithin, world_of};
 
 use crate::listening::listen_all;
@@ -8,10 +8,10 @@ use crate::opening::open_all;
 use crate::replay::run;
 use crate::report::BriefReport;
 use crate::stage::Stage;
+use crate::{Event, Setup};
 use fade_core::Fader;
 use show_core::Show;
 use std::alloc::{AllocError, Global};
-use wire_laws::{Event, Setup};
 
 // A rehearsal whose setup was checked.
 pub(crate) fn perform<F: Fader>(

@@ -2,25 +2,25 @@ ghost use Rattle.std.specs.Prelude.{◌≡◌, ◌<◌, ◌⊎◌, ℕ, List, le
 ghost use Rattle.std.specs.Prelude.{IfOk, IsTrue};
 ghost use Rattle.desk_core.specs.Meaning.{dark};
 ghost use Rattle.sacn_receiver.specs.Shown.{merged};
-ghost use Rattle.wire_laws.specs.declared.event.Event.{Event as EventData};
-ghost use Rattle.wire_laws.specs.declared.event.What.TheVariants.{Deliver};
-ghost use Rattle.wire_laws.specs.Delivery.{delivered, IsInWindow};
-ghost use Rattle.wire_laws.specs.Happened.{sent};
-ghost use Rattle.wire_laws.specs.Laws.{AreSettled, CidsDiffer, IsAlone, IsFresh, IsOneOf};
-ghost use Rattle.wire_laws.specs.Laws.{IsUnpatched, NoStray, is_silent, lights, meant};
-ghost use Rattle.wire_laws.specs.Replies.{AreReplies, done, last_slots, skipped};
-ghost use Rattle.wire_laws.specs.Shows.{IsShown, reply_alone};
-ghost use Rattle.wire_laws.specs.World.{universe_at};
+ghost use Rattle.wire_world.specs.declared.event.Event.{Event as EventData};
+ghost use Rattle.wire_world.specs.declared.event.What.TheVariants.{Deliver};
+ghost use Rattle.wire_world.specs.Delivery.{delivered, IsInWindow};
+ghost use Rattle.wire_world.specs.Happened.{sent};
+ghost use Rattle.wire_world.specs.Laws.{AreSettled, CidsDiffer, IsAlone, IsFresh, IsOneOf};
+ghost use Rattle.wire_world.specs.Laws.{IsUnpatched, NoStray, is_silent, lights, meant};
+ghost use Rattle.wire_world.specs.Replies.{AreReplies, done, last_slots, skipped};
+ghost use Rattle.wire_world.specs.Shows.{IsShown, reply_alone};
+ghost use Rattle.wire_world.specs.World.{universe_at};
 ghost use Rattle.wire_world.specs.Refusing.{Answers, are_within, setup_fault};
 ghost use Rattle.wire_world.specs.Stands.{AreSources, world_of};
 
 use crate::perform::perform;
 use crate::report::{BriefReport, Report};
 use crate::setup::check;
+use crate::{Event, Fault, Setup};
 use fade_core::Fader;
 use show_core::Show;
 use std::alloc::{AllocError, Global};
-use wire_laws::{Event, Fault, Setup};
 
 /// Carries out the events, one after another, among one to four consoles, each with one of the
 /// shows, and at most eight receivers, each of a universe of its own, 1 to 63999. Loss is a packet

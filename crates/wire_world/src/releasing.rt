@@ -1,14 +1,14 @@
 ghost use Rattle.std.specs.Prelude.{ℕ, List};
-ghost use Rattle.wire_laws.specs.declared.event.Event.{Event as EventData};
-ghost use Rattle.wire_laws.specs.declared.event.What.{What as WhatData};
-ghost use Rattle.wire_laws.specs.World.{World};
+ghost use Rattle.wire_world.specs.declared.event.Event.{Event as EventData};
+ghost use Rattle.wire_world.specs.declared.event.What.{What as WhatData};
+ghost use Rattle.wire_world.specs.World.{World};
 ghost use Rattle.wire_world.specs.StageStands.{StageStands, Tells};
 ghost use Rattle.wire_world.specs.Stands.{AllStand, AllTell};
 ghost use Rattle.wire_world.specs.Wanted.{Holds, Spares};
 
+use crate::What;
 use crate::stage::Stage;
 use fade_core::Fader;
-use wire_laws::What;
 
 // After a delivery, lets the packets of its universe go that are before packet `low`.
 pub(crate) fn release<F: Fader>(stages: &mut [Stage<F>], what: What, low: u64)

@@ -1,10 +1,11 @@
 ghost use Rattle.std.specs.Prelude.{◌≡◌, ℕ, List, [], ◌∷◌, length, IfOk, All};
-ghost use Rattle.wire_laws.specs.World.{World};
-ghost use Rattle.wire_laws.specs.Replies.{AreReplies, done, last_slots};
+ghost use Rattle.wire_world.specs.World.{World};
+ghost use Rattle.wire_world.specs.Replies.{AreReplies, done, last_slots};
 ghost use Rattle.wire_world.specs.StageStands.{StageStands, Tells};
 ghost use Rattle.wire_world.specs.Stands.{AllAre, IsWithin};
 ghost use Rattle.wire_world.specs.Wanted.{AreUpTo};
 
+use crate::Event;
 use crate::lows::lows;
 use crate::releasing::release;
 use crate::report::BriefReport;
@@ -14,7 +15,6 @@ use crate::step::step;
 use fade_core::Fader;
 use sacn_receiver::Receiver;
 use std::alloc::{AllocError, Global};
-use wire_laws::Event;
 
 // The replies to all events, and the slots after them.
 pub(crate) fn run<F: Fader>(

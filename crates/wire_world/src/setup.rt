@@ -7,8 +7,20 @@ ghost use Rattle.std.specs.Result.{result_err};
 
 use patch_core::has_numbers;
 use sacn_packet::TOP_UNIVERSE;
+use sacn_source::Identity;
 use show_core::Show;
-use wire_laws::{Fault, Setup};
+use wire_faults::Fault;
+
+/// A console of a rehearsal.
+#[derive(Clone, Copy, Debug, PartialEq, Eq)]
+pub struct Setup {
+    /// Which of the shows it plays, counted from 0.
+    pub show: usize,
+    /// The number of its universe of ordinal 0: 1 to 63999.
+    pub base: u16,
+    /// Who sends its streams.
+    pub identity: Identity,
+}
 
 // Why nothing is rehearsed, where a reason applies: the first of them.
 pub(crate) fn check(shows: &[Show], setups: &[Setup], universes: &[u16]) -> Result<(), Fault>

@@ -1,7 +1,7 @@
 ghost use Rattle.std.specs.Prelude.{◌≡◌, ℕ, List, IfOk};
-ghost use Rattle.wire_laws.specs.declared.event.Event.{Event as EventData};
-ghost use Rattle.wire_laws.specs.World.{World};
-ghost use Rattle.wire_laws.specs.Replies.{last_moment, last_slots};
+ghost use Rattle.wire_world.specs.declared.event.Event.{Event as EventData};
+ghost use Rattle.wire_world.specs.World.{World};
+ghost use Rattle.wire_world.specs.Replies.{last_moment, last_slots};
 ghost use Rattle.wire_world.specs.Stands.{AllBy, AllHear};
 
 use sacn_receiver::Receiver;

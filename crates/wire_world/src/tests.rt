@@ -2,7 +2,7 @@ ghost use Rattle.std.specs.Prelude.{◌≡◌, length};
 ghost use Rattle.wire_world.specs.Refusing.{are_within as are_within_size};
 ghost use Rattle.wire_world.specs.Refusing.{is_within as is_within_size};
 
-use crate::{Report, rehearse};
+use crate::{Event, Fault, Reply, Report, Setup, Skip, What, laws, rehearse};
 use desk_core::{Command, Refused, Ticked};
 use fade_core::PlainFader;
 use sacn_packet::SourceName;
@@ -12,7 +12,6 @@ use show_core::{BuildFault, Rate, Show};
 use std::alloc::Global;
 use std::process::Abort;
 use std::test::Fail;
-use wire_laws::{Event, Fault, Reply, Setup, Skip, What};
 
 // Adds a cue with one channel at full.
 fn add_cue(rt: &impl Abort, show: &mut Show, n: u32, channel: u16) -> Result<(), BuildFault> {
@@ -461,4 +460,57 @@ fn each_growth_refused(rt: HostRuntime) -> Result<(), Fail> {
     let report = answer?;
     assert!(rt; report.replies.len() == 2 && report.last.len() == 1);
     Ok(())
+}
+
+#[test]
+fn skips_in_words(rt: HostRuntime) -> Result<(), Fail> {
+    for (skip, name) in [
+        (Skip::Backwards, "Backwards"),
+        (Skip::TooLarge, "TooLarge"),
+        (Skip::NoConsole, "NoConsole"),
+        (Skip::NoReceiver, "NoReceiver"),
+        (Skip::NotSent, "NotSent"),
+    ] {
+        let told = format!(in rt.alloc(); "{skip}")?;
+        assert_eq!(rt; told.as_str(), name);
+    }
+    Ok(())
+}
+
+#[test]
+fn faults_in_words(rt: HostRuntime) -> Result<(), Fail> {
+    for (fault, words) in [
+        (Fault::Consoles, "a rehearsal has one to four consoles"),
+        (
+            Fault::Receivers,
+            "a rehearsal has at most eight receivers, each of its own universe of 1 to 63999",
+        ),
+        (Fault::NoShow, "a console has no show"),
+        (Fault::Universe, "a universe of a console is not 1 to 63999"),
+        (Fault::Memory, "out of memory"),
+    ] {
+        let told = format!(in rt.alloc(); "{fault}")?;
+        assert_eq!(rt; told.as_str(), words);
+    }
+    Ok(())
+}
+
+#[test]
+fn replies_in_words(rt: HostRuntime) -> Result<(), Fail> {
+    let reply = Reply::Refused(Refused::TooSoon);
+    let told = format!(in rt.alloc(); "{reply:?}")?;
+    assert_eq!(rt; told.as_str(), "Refused(TooSoon)");
+    let reply = Reply::Skipped(Skip::NotSent);
+    let told = format!(in rt.alloc(); "{reply:?}")?;
+    assert_eq!(rt; told.as_str(), "Skipped(NotSent)");
+    Ok(())
+}
+
+#[test]
+fn every_law() {
+    laws::headline();
+    laws::window_law();
+    laws::merge_law();
+    laws::consoles_are_independent();
+    laws::datagrams_are_packets();
 }

@@ -2,7 +2,7 @@ use super::{HEADER, SMALL, is_refused, with_header};
 use cueplayer_faults::RunFault;
 use show_reader::ShowFault;
 use std::test::Fail;
-use wire_laws::Fault;
+use wire_world::Fault;
 
 const CONSOLE: &str = "console 1 100 c0ffee00-0000-4000-8000-00000000e131\n";
 

@@ -1,13 +1,13 @@
 use Rattle.std.proofs.Common.{List, ℕ, ap, refl, sym, ◌∙◌, Some, None}
 use Rattle.std.specs.Prelude.{if◌then◌else◌, nat_eq, slice_range}
 use Rattle.std.specs.Option.{option_map_or}
-use Rattle.wire_laws.specs.declared.event.What.TheVariants.{Order, Tick, Deliver, Stray, Show}
-use Rattle.wire_laws.specs.declared.reply.Reply.TheVariants as reply
-use Rattle.wire_laws.specs.Replies.{no_receiver_at, taken_by}
+use Rattle.wire_world.specs.declared.event.What.TheVariants.{Order, Tick, Deliver, Stray, Show}
+use Rattle.wire_world.specs.declared.reply.Reply.TheVariants as reply
+use Rattle.wire_world.specs.Replies.{no_receiver_at, taken_by}
 use Rattle.wire_world.proofs.Receivers.{hear_same}
 use Rattle.wire_world.proofs.Stages.{always, stand_same}
 use Rattle.std.proofs.lemmas.Result.{IfOk-weaker}
-use Rattle.wire_laws.specs.declared.event.Event.{Event}
+use Rattle.wire_world.specs.declared.event.Event.{Event}
 use Rattle.wire_world.specs.StageStands.{StageStands}
 use Rattle.wire_world.proofs.happen.happen.Goals as goal
 

@@ -2,7 +2,7 @@ use Rattle.std.proofs.Common.{◌≡◌, ◌<◌, ℕ, length, Some, sym, subst,
 use Rattle.std.specs.Prelude.{slice_get}
 use Rattle.std.proofs.lemmas.List.Elements.{All-nil, All-push}
 use Rattle.std.proofs.lemmas.Option.{slice_get_read}
-use Rattle.wire_laws.specs.declared.setup.Setup.{Setup}
+use Rattle.wire_world.specs.declared.setup.Setup.{Setup}
 use Rattle.wire_world.proofs.Openings.{opened_more}
 use Rattle.wire_world.specs.StageStands.{StageStands, Tells}
 use Rattle.wire_world.specs.Stands.{Opened}

@@ -1,7 +1,7 @@
 use Rattle.std.proofs.Common.{ap, sym, subst, ◌∙◌}
-use Rattle.wire_laws.specs.Replies.{AreReplies}
-use Rattle.wire_laws.proofs.Shown.{answers_alone, shows_meaning, shows_merged, shows_near}
-use Rattle.wire_laws.proofs.Shown.{shows_zero}
+use Rattle.wire_world.specs.Replies.{AreReplies}
+use Rattle.wire_world.proofs.Shown.{answers_alone, shows_meaning, shows_merged, shows_near}
+use Rattle.wire_world.proofs.Shown.{shows_zero}
 use Rattle.wire_world.specs.Reported.{Reported}
 use Rattle.wire_world.specs.Stands.{world_of}
 use Rattle.wire_world.proofs.Refusals.{fine_world, no_fault}

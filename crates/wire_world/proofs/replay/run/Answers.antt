@@ -2,10 +2,10 @@ use Rattle.std.proofs.Common.{◌≡◌, ◌<◌, ◌≤◌, ◌∙◌, length, 
 use Rattle.std.proofs.Common.{arith, refl, List, ℕ, subst, sym}
 use Rattle.std.specs.Prelude.{slice_index}
 use Rattle.std.proofs.lemmas.Option.{slice_get-get_or, slice_get_within}
-use Rattle.wire_laws.specs.Replies.{done, last_slots}
+use Rattle.wire_world.specs.Replies.{done, last_slots}
 use Rattle.desk_core.specs.declared.command.Command.TheVariants.{Go}
-use Rattle.wire_laws.specs.declared.event.Event.{Event}
-use Rattle.wire_laws.specs.declared.event.What.TheVariants.{Order}
+use Rattle.wire_world.specs.declared.event.Event.{Event}
+use Rattle.wire_world.specs.declared.event.What.TheVariants.{Order}
 use Rattle.std.proofs.lemmas.List.{get_or_default, map_push, take_all}
 use Rattle.wire_world.proofs.Replays.{early, replayed_more}
 use Rattle.wire_world.proofs.Wants.{hold_first, hold_next, step_released}

@@ -1,5 +1,5 @@
 use Rattle.std.proofs.Common.{◌≡◌, [], map}
-use Rattle.wire_laws.specs.World.{World}
+use Rattle.wire_world.specs.World.{World}
 use Rattle.wire_world.specs.Brief.{reply_of}
 use Rattle.wire_world.specs.Stands.{AllAre, Replayed}
 use Rattle.wire_world.specs.StageStands.{StageStands, Tells}

@@ -5,7 +5,7 @@ use Rattle.std.specs.List.{range_with_len}
 use Rattle.std.proofs.lemmas.List.FromFn.{map-range_with_len_more}
 use Rattle.std.proofs.lemmas.Option.{slice_get-get_or}
 use Rattle.sacn_receiver.specs.Shown.{shown_slots}
-use Rattle.wire_laws.specs.Happened.{accepted_by}
+use Rattle.wire_world.specs.Happened.{accepted_by}
 use Rattle.wire_world.proofs.showing.show_all.Goals as goal
 
 pub loop-i-preserved : goal.loop-i-preserved

@@ -1,9 +1,9 @@
 use Rattle.std.proofs.Common.{◌≡◌, List, map}
 use Rattle.std.specs.List.{range_with_len}
 use Rattle.sacn_receiver.specs.Shown.{shown_slots}
-use Rattle.wire_laws.specs.declared.event.Event.{Event}
-use Rattle.wire_laws.specs.World.{World}
-use Rattle.wire_laws.specs.Happened.{accepted_by}
+use Rattle.wire_world.specs.declared.event.Event.{Event}
+use Rattle.wire_world.specs.World.{World}
+use Rattle.wire_world.specs.Happened.{accepted_by}
 use Rattle.wire_world.specs.Stands.{AllHear}
 use Rattle.wire_world.proofs.showing.show_all.Given as goal
 

@@ -2,14 +2,14 @@
 -- slots after all events.
 use Rattle.std.specs.Prelude.{◌≡◌, ℕ, ◌⊎◌, List, [], take, Some, slice_get, unwrap_or}
 use Rattle.sacn_receiver.specs.Taking.{answer}
-use Rattle.wire_laws.specs.declared.event.Event.{Event}
-use Rattle.wire_laws.specs.declared.event.What.TheVariants.{Show}
-use Rattle.wire_laws.specs.declared.reply.Reply.{Reply}
-use Rattle.wire_laws.specs.declared.reply.Reply.TheVariants.{Shown}
-use Rattle.wire_laws.specs.World.{World, universe_at}
-use Rattle.wire_laws.specs.Happened.{datagram}
-use Rattle.wire_laws.specs.Replies.{last_moment, done, taken_reply}
-use Rattle.wire_laws.specs.Laws.{accepted_from}
+use Rattle.wire_world.specs.declared.event.Event.{Event}
+use Rattle.wire_world.specs.declared.event.What.TheVariants.{Show}
+use Rattle.wire_world.specs.declared.reply.Reply.{Reply}
+use Rattle.wire_world.specs.declared.reply.Reply.TheVariants.{Shown}
+use Rattle.wire_world.specs.World.{World, universe_at}
+use Rattle.wire_world.specs.Happened.{datagram}
+use Rattle.wire_world.specs.Replies.{last_moment, done, taken_reply}
+use Rattle.wire_world.specs.Laws.{accepted_from}
 
 -- an event asks at moment t for the slots of receiver r, these are the reply, and `past` is what
 -- was done before it

@@ -10,15 +10,15 @@ use Rattle.desk_core.specs.Played.{Act}
 use Rattle.sacn_receiver.specs.Kept.{Kept}
 use Rattle.sacn_receiver.specs.declared.answer.Taken.{Taken}
 use Rattle.sacn_receiver.specs.declared.answer.Ignored.{Ignored}
-use Rattle.wire_laws.specs.declared.event.Event.{Event}
-use Rattle.wire_laws.specs.declared.event.What.{What}
-use Rattle.wire_laws.specs.declared.event.What.TheVariants.{Order, Tick, Deliver, Stray, Show}
-use Rattle.wire_laws.specs.declared.reply.Skip.{Skip}
-use Rattle.wire_laws.specs.declared.reply.Skip.TheVariants.{Backwards, TooLarge}
-use Rattle.wire_laws.specs.declared.reply.Reply.{Reply}
-use Rattle.wire_laws.specs.declared.reply.Reply.TheVariants as reply
-use Rattle.wire_laws.specs.World.{World}
-use Rattle.wire_laws.specs.Replies.{last_moment, missing, skipped, done_one, taken_reply, replied}
+use Rattle.wire_world.specs.declared.event.Event.{Event}
+use Rattle.wire_world.specs.declared.event.What.{What}
+use Rattle.wire_world.specs.declared.event.What.TheVariants.{Order, Tick, Deliver, Stray, Show}
+use Rattle.wire_world.specs.declared.reply.Skip.{Skip}
+use Rattle.wire_world.specs.declared.reply.Skip.TheVariants.{Backwards, TooLarge}
+use Rattle.wire_world.specs.declared.reply.Reply.{Reply}
+use Rattle.wire_world.specs.declared.reply.Reply.TheVariants as reply
+use Rattle.wire_world.specs.World.{World}
+use Rattle.wire_world.specs.Replies.{last_moment, missing, skipped, done_one, taken_reply, replied}
 use Rattle.wire_world.specs.Stands.{AllStand, AllHear, AllTell, AllAre, IsStep, is_skip}
 use Rattle.wire_world.specs.Stands.{unless_skipped}
 

@@ -1,5 +1,5 @@
-use Rattle.wire_laws.proofs.Shown.{headline, unpatched_zero}
-use Rattle.wire_laws.proofs.laws.headline.Goals as goal
+use Rattle.wire_world.proofs.Shown.{headline, unpatched_zero}
+use Rattle.wire_world.proofs.laws.headline.Goals as goal
 
 pub returns-clause-means : goal.returns-clause-means
 returns-clause-means c = headline

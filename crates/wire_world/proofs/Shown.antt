@@ -18,11 +18,11 @@ use Rattle.sacn_receiver.proofs.Independent.{room_for, accepted_in, one_of, in_f
 use Rattle.sacn_receiver.proofs.Independent.{place_from_in}
 use Rattle.sacn_receiver.proofs.Members.{by_test, In, In_filter, In_filtered, In_map, In_mapped}
 use Rattle.sacn_receiver.proofs.Members.{found_in}
-use Rattle.wire_laws.specs.Delivery.{Delivery, newest_of, arrived, IsInWindow, delivered}
-use Rattle.wire_laws.proofs.Wire.{entry, sent_is, newest_sent}
-use Rattle.wire_laws.proofs.Came.{IsInTime, source_of, were_in_time, were_sent, from_one, all_from}
-use Rattle.wire_laws.proofs.Came.{from_alone, from_console, follows, consoles_independent, IsRun}
-use Rattle.wire_laws.proofs.Came.{done_runs, timely, deliverer}
+use Rattle.wire_world.specs.Delivery.{Delivery, newest_of, arrived, IsInWindow, delivered}
+use Rattle.wire_world.proofs.Wire.{entry, sent_is, newest_sent}
+use Rattle.wire_world.proofs.Came.{IsInTime, source_of, were_in_time, were_sent, from_one, all_from}
+use Rattle.wire_world.proofs.Came.{from_alone, from_console, follows, consoles_independent, IsRun}
+use Rattle.wire_world.proofs.Came.{done_runs, timely, deliverer}
 use Rattle.std.specs.List.{list_all, range_with_len}
 use Rattle.std.proofs.lemmas.List.{get_or-replicate}
 use Rattle.std.proofs.lemmas.Option.{none-some, cond_some, slice_get_within, get_or_from_slice_get}
@@ -36,22 +36,22 @@ use Rattle.sacn_source.specs.Stream.{Packet}
 use Rattle.console.proofs.Streams.{latest}
 use Rattle.sacn_receiver.specs.Shown.{Light, light_of, live, merged, shown, shown_slots}
 use Rattle.sacn_receiver.proofs.Same.{merged_same}
-use Rattle.wire_laws.specs.declared.event.Event.{Event}
-use Rattle.wire_laws.specs.World.{World, console_at, universe_at, IsWorld}
-use Rattle.wire_laws.specs.Happened.{acts, sent, accepted_by, datagram}
-use Rattle.wire_laws.specs.Replies.{last_moment, done, skipped, taken_reply, replied, reply_to}
-use Rattle.wire_laws.specs.Replies.{AreReplies, last_slots}
-use Rattle.wire_laws.specs.Laws.{IsAlone, NoStray, IsFreshIn, IsFresh, is_silent, is_live, is_lit}
-use Rattle.wire_laws.specs.Laws.{light, meant, slots_at, accepted_from, Headline, IsOneOf}
-use Rattle.wire_laws.specs.Laws.{WindowLaw, UnpatchedSlotsAreZero, SilenceIsDark, MergeLaw}
-use Rattle.wire_laws.specs.Laws.{HearsOne, HearsAll, CidsDiffer, AreSettled, IsUnpatched, lights}
+use Rattle.wire_world.specs.declared.event.Event.{Event}
+use Rattle.wire_world.specs.World.{World, console_at, universe_at, IsWorld}
+use Rattle.wire_world.specs.Happened.{acts, sent, accepted_by, datagram}
+use Rattle.wire_world.specs.Replies.{last_moment, done, skipped, taken_reply, replied, reply_to}
+use Rattle.wire_world.specs.Replies.{AreReplies, last_slots}
+use Rattle.wire_world.specs.Laws.{IsAlone, NoStray, IsFreshIn, IsFresh, is_silent, is_live, is_lit}
+use Rattle.wire_world.specs.Laws.{light, meant, slots_at, accepted_from, Headline, IsOneOf}
+use Rattle.wire_world.specs.Laws.{WindowLaw, UnpatchedSlotsAreZero, SilenceIsDark, MergeLaw}
+use Rattle.wire_world.specs.Laws.{HearsOne, HearsAll, CidsDiffer, AreSettled, IsUnpatched, lights}
 use Rattle.std.specs.Option.{option_map, option_map_or}
-use Rattle.wire_laws.specs.declared.event.What.TheVariants.{Deliver, Show}
-use Rattle.wire_laws.specs.declared.reply.Skip.{Skip}
-use Rattle.wire_laws.specs.declared.reply.Reply.{Reply}
-use Rattle.wire_laws.specs.declared.reply.Reply.TheVariants.{Shown, Skipped}
-use Rattle.wire_laws.specs.Datagrams.{packet_bytes}
-use Rattle.wire_laws.specs.Shows.{IsShown, reply_alone}
+use Rattle.wire_world.specs.declared.event.What.TheVariants.{Deliver, Show}
+use Rattle.wire_world.specs.declared.reply.Skip.{Skip}
+use Rattle.wire_world.specs.declared.reply.Reply.{Reply}
+use Rattle.wire_world.specs.declared.reply.Reply.TheVariants.{Shown, Skipped}
+use Rattle.wire_world.specs.Datagrams.{packet_bytes}
+use Rattle.wire_world.specs.Shows.{IsShown, reply_alone}
 
 -- how far k is ahead of a, as bytes count it
 abbrev steps : ℕ → ℕ → ℕ

@@ -1,8 +1,8 @@
 //! What holds of every rehearsal. Each law is the contract of a function that does nothing: call
 //! it where its fact is wanted.
 
-ghost use Rattle.wire_laws.specs.Laws.{Headline, UnpatchedSlotsAreZero, WindowLaw, SilenceIsDark};
-ghost use Rattle.wire_laws.specs.Laws.{MergeLaw, ConsolesAreIndependent, DatagramsArePackets};
+ghost use Rattle.wire_world.specs.Laws.{Headline, UnpatchedSlotsAreZero, WindowLaw, SilenceIsDark};
+ghost use Rattle.wire_world.specs.Laws.{MergeLaw, ConsolesAreIndependent, DatagramsArePackets};
 
 /// While losses, repeats and reorderings stay in the window, whenever the newest packet sent first
 /// arrived less than 2,500 ms ago, a receiver of one console shows what that console's show means

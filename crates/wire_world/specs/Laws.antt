@@ -16,13 +16,13 @@ use Rattle.sacn_receiver.specs.Source.{Entry}
 use Rattle.sacn_receiver.specs.Taking.{answer}
 use Rattle.sacn_receiver.specs.Shown.{Light, merged, shown_slots}
 use Rattle.console.specs.Streams.{terminations_of}
-use Rattle.wire_laws.specs.declared.event.Event.{Event}
-use Rattle.wire_laws.specs.declared.event.What.{What}
-use Rattle.wire_laws.specs.declared.event.What.TheVariants.{Deliver, Stray}
-use Rattle.wire_laws.specs.World.{World, console_at, universe_at, IsWorld}
-use Rattle.wire_laws.specs.Happened.{acts, sent, datagram, hears, accepted_by}
-use Rattle.wire_laws.specs.Replies.{last_moment, done}
-use Rattle.wire_laws.specs.Delivery.{Delivery, delivered, newest_of, arrived, IsInWindow}
+use Rattle.wire_world.specs.declared.event.Event.{Event}
+use Rattle.wire_world.specs.declared.event.What.{What}
+use Rattle.wire_world.specs.declared.event.What.TheVariants.{Deliver, Stray}
+use Rattle.wire_world.specs.World.{World, console_at, universe_at, IsWorld}
+use Rattle.wire_world.specs.Happened.{acts, sent, datagram, hears, accepted_by}
+use Rattle.wire_world.specs.Replies.{last_moment, done}
+use Rattle.wire_world.specs.Delivery.{Delivery, delivered, newest_of, arrived, IsInWindow}
 
 -- ---- what the laws ask of the events
 

@@ -15,14 +15,14 @@ use Rattle.sacn_source.specs.Stream.{Packet, last_packet}
 use Rattle.sacn_receiver.specs.declared.answer.Ignored.{Ignored}
 use Rattle.sacn_receiver.specs.Source as source
 use Rattle.sacn_receiver.specs.Taking.{entry_of, ignored, answer, heard}
-use Rattle.wire_laws.specs.declared.event.Event.{Event}
-use Rattle.wire_laws.specs.declared.event.What.TheVariants.{Deliver, Stray}
-use Rattle.wire_laws.specs.declared.reply.Skip.{Skip}
-use Rattle.wire_laws.specs.declared.reply.Skip.TheVariants.{Backwards, TooLarge, NoConsole}
-use Rattle.wire_laws.specs.declared.reply.Skip.TheVariants.{NoReceiver, NotSent}
-use Rattle.wire_laws.specs.World.{World, universe_at, console_at, no_console, IsWorld}
-use Rattle.wire_laws.specs.Happened.{sent, handed, hears, accepted_by}
-use Rattle.wire_laws.specs.Replies.{last_moment, missing, skipped, done_one, done}
+use Rattle.wire_world.specs.declared.event.Event.{Event}
+use Rattle.wire_world.specs.declared.event.What.TheVariants.{Deliver, Stray}
+use Rattle.wire_world.specs.declared.reply.Skip.{Skip}
+use Rattle.wire_world.specs.declared.reply.Skip.TheVariants.{Backwards, TooLarge, NoConsole}
+use Rattle.wire_world.specs.declared.reply.Skip.TheVariants.{NoReceiver, NotSent}
+use Rattle.wire_world.specs.World.{World, universe_at, console_at, no_console, IsWorld}
+use Rattle.wire_world.specs.Happened.{sent, handed, hears, accepted_by}
+use Rattle.wire_world.specs.Replies.{last_moment, missing, skipped, done_one, done}
 use Rattle.std.specs.Str.{bytes_eq}
 use Rattle.std.proofs.lemmas.Cmp.{nat_list_eq_equiv}
 use Rattle.std.proofs.lemmas.List.{get_or-map, length-map}
@@ -36,13 +36,13 @@ use Rattle.sacn_receiver.specs.Source.{Entry, same_cid, is_accepted}
 use Rattle.sacn_receiver.proofs.Members.{by_test, In, In_mapped}
 use Rattle.sacn_receiver.proofs.Independent.{in_from_place, heard_accepted, records_independent}
 use Rattle.sacn_receiver.proofs.Independent.{answers_independent}
-use Rattle.wire_laws.specs.Datagrams.{packet_bytes}
-use Rattle.wire_laws.specs.declared.event.What.{What}
-use Rattle.wire_laws.specs.Delivery.{Delivery, delivered_more, delivered_by, delivered}
-use Rattle.wire_laws.specs.Laws.{CidsDiffer, IsAlone, IsUnheard, NoStray, handed_from}
-use Rattle.wire_laws.specs.Laws.{accepted_from, ConsolesAreIndependent}
-use Rattle.wire_laws.proofs.Wire.{IsSendable, entry, cid_is, entry_is, heard_here, unheard_there}
-use Rattle.wire_laws.proofs.Wire.{unheard_left, sent_is, sent_stays}
+use Rattle.wire_world.specs.Datagrams.{packet_bytes}
+use Rattle.wire_world.specs.declared.event.What.{What}
+use Rattle.wire_world.specs.Delivery.{Delivery, delivered_more, delivered_by, delivered}
+use Rattle.wire_world.specs.Laws.{CidsDiffer, IsAlone, IsUnheard, NoStray, handed_from}
+use Rattle.wire_world.specs.Laws.{accepted_from, ConsolesAreIndependent}
+use Rattle.wire_world.proofs.Wire.{IsSendable, entry, cid_is, entry_is, heard_here, unheard_there}
+use Rattle.wire_world.proofs.Wire.{unheard_left, sent_is, sent_stays}
 
 -- none of these was skipped after those before it
 abbrev pub IsRun : World → List Event → Type 0

@@ -10,18 +10,18 @@ use Rattle.sacn_source.specs.declared.offered.Offered.TheVariants.{Sent}
 use Rattle.sacn_receiver.specs.Source.{Entry}
 use Rattle.sacn_receiver.specs.Shown.{merged, shown}
 use Rattle.console.specs.Streams.{Production}
-use Rattle.wire_laws.specs.declared.event.Event.{Event}
-use Rattle.wire_laws.specs.declared.event.What.{What}
-use Rattle.wire_laws.specs.declared.event.What.TheVariants.{Order, Tick, Deliver, Show}
-use Rattle.wire_laws.specs.declared.reply.Skip.TheVariants as skip
-use Rattle.wire_laws.specs.declared.reply.Reply.TheVariants.{Done, Refused, Ticked, Skipped}
-use Rattle.wire_laws.specs.World.{World, IsConsole, IsWorld}
-use Rattle.wire_laws.specs.Happened.{sent}
-use Rattle.wire_laws.specs.Replies.{last_moment, done, reply_to}
-use Rattle.wire_laws.specs.Delivery.{delivered, IsInWindow}
-use Rattle.wire_laws.specs.Laws.{CidsDiffer, HearsOne, HearsAll, IsFresh, AreSettled, slots_at}
-use Rattle.wire_laws.specs.Laws.{lights, IsOneOf}
-use Rattle.wire_laws.proofs.Shown.{headline, silence_dark, window_law, merge_law, history}
+use Rattle.wire_world.specs.declared.event.Event.{Event}
+use Rattle.wire_world.specs.declared.event.What.{What}
+use Rattle.wire_world.specs.declared.event.What.TheVariants.{Order, Tick, Deliver, Show}
+use Rattle.wire_world.specs.declared.reply.Skip.TheVariants as skip
+use Rattle.wire_world.specs.declared.reply.Reply.TheVariants.{Done, Refused, Ticked, Skipped}
+use Rattle.wire_world.specs.World.{World, IsConsole, IsWorld}
+use Rattle.wire_world.specs.Happened.{sent}
+use Rattle.wire_world.specs.Replies.{last_moment, done, reply_to}
+use Rattle.wire_world.specs.Delivery.{delivered, IsInWindow}
+use Rattle.wire_world.specs.Laws.{CidsDiffer, HearsOne, HearsAll, IsFresh, AreSettled, slots_at}
+use Rattle.wire_world.specs.Laws.{lights, IsOneOf}
+use Rattle.wire_world.proofs.Shown.{headline, silence_dark, window_law, merge_law, history}
 use Rattle.desk_core.proofs.Small.{small, cues, subs, numbers, based, first_at, frame_1000}
 use Rattle.desk_core.proofs.Small.{frame_2000, frame_full, frame_half}
 use Rattle.desk_core.proofs.Small.{no_move, after_first, after_second}

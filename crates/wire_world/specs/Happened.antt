@@ -10,11 +10,11 @@ use Rattle.sacn_source.specs.Stream.{Packet, packets}
 use Rattle.sacn_receiver.specs.Source.{Entry}
 use Rattle.sacn_receiver.specs.Taking.{heard}
 use Rattle.console.specs.Streams.{Production, offers_of, terminations_of}
-use Rattle.wire_laws.specs.declared.event.Event.{Event}
-use Rattle.wire_laws.specs.declared.event.What.{What}
-use Rattle.wire_laws.specs.declared.event.What.TheVariants.{Order, Tick, Deliver, Stray}
-use Rattle.wire_laws.specs.World.{World, console_at, universe_at, plays}
-use Rattle.wire_laws.specs.Datagrams.{packet_bytes}
+use Rattle.wire_world.specs.declared.event.Event.{Event}
+use Rattle.wire_world.specs.declared.event.What.{What}
+use Rattle.wire_world.specs.declared.event.What.TheVariants.{Order, Tick, Deliver, Stray}
+use Rattle.wire_world.specs.World.{World, console_at, universe_at, plays}
+use Rattle.wire_world.specs.Datagrams.{packet_bytes}
 
 -- ---- consoles
 

@@ -21,9 +21,9 @@ use Rattle.sacn_receiver.specs.Arrivals.{not_heard}
 use Rattle.sacn_receiver.specs.Source.{Entry, last_moment}
 use Rattle.sacn_receiver.specs.Taking.{entry_of, unheard, heard}
 use Rattle.sacn_receiver.proofs.Members.{by_test}
-use Rattle.wire_laws.specs.Datagrams.{fields_at, packet_bytes}
-use Rattle.wire_laws.specs.Delivery.{Delivery}
-use Rattle.wire_laws.specs.World.{IsIdentity, World, console_at, plays, IsConsole}
+use Rattle.wire_world.specs.Datagrams.{fields_at, packet_bytes}
+use Rattle.wire_world.specs.Delivery.{Delivery}
+use Rattle.wire_world.specs.World.{IsIdentity, World, console_at, plays, IsConsole}
 use Rattle.std.proofs.lemmas.List.Elements.{All-contains}
 use Rattle.std.proofs.lemmas.Map.Views.{Contains-from_any}
 use Rattle.std.proofs.lemmas.Option.{get_or_from_slice_get, slice_get_within}
@@ -36,9 +36,9 @@ use Rattle.sacn_source.specs.Identify.{IsStreamPacket}
 use Rattle.sacn_source.proofs.Streams.{HoldsFull}
 use Rattle.console.specs.Streams.{Production, universes_of}
 use Rattle.console.proofs.Streams.{stream_full, packet_stays, newest_means}
-use Rattle.wire_laws.specs.declared.event.Event.{Event}
-use Rattle.wire_laws.specs.Happened.{call_of, unless_refused, acted, acts, stream, sent}
-use Rattle.wire_laws.specs.Laws.{is_live, DatagramsArePackets}
+use Rattle.wire_world.specs.declared.event.Event.{Event}
+use Rattle.wire_world.specs.Happened.{call_of, unless_refused, acted, acts, stream, sent}
+use Rattle.wire_world.specs.Laws.{is_live, DatagramsArePackets}
 
 -- what a delivery of a source's packet is to a receiver
 abbrev pub entry : Identity → Delivery → Entry

@@ -1,5 +1,5 @@
-use Rattle.wire_laws.proofs.Shown.{window_law, silence_dark}
-use Rattle.wire_laws.proofs.laws.window_law.Goals as goal
+use Rattle.wire_world.proofs.Shown.{window_law, silence_dark}
+use Rattle.wire_world.proofs.laws.window_law.Goals as goal
 
 pub returns-clause-near : goal.returns-clause-near
 returns-clause-near c = window_law

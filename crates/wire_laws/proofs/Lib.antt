@@ -1,4 +1,0 @@
-pub mod Wire
-pub mod Came
-pub mod Shown
-mod Rows
