@@ -1,15 +1,12 @@
 -- What a link keeps of a universe is its stream, packet by packet.
 use Rattle.std.proofs.Common.{◌≡◌, ℕ, zero, suc, ◌+◌, ◌-◌, ◌%◌, ◌<◌, ◌≤◌, Bool, true, false, refl}
-use Rattle.std.proofs.Common.{ap, sym}
-use Rattle.std.proofs.Common.{subst, ◌∙◌, List, [], ◌∷◌, ◌++◌, length, map, Option}
-use Rattle.std.proofs.Common.{Some, None, take}
+use Rattle.std.proofs.Common.{ap, sym, subst, ◌∙◌, List, [], ◌∷◌, ◌++◌, length, map, Option, Some}
+use Rattle.std.proofs.Common.{None, take, arith, append-nil, add-one}
 use Rattle.std.proofs.lemmas.List.{map-append, take_all}
 use Rattle.std.proofs.lemmas.List.Elements.{filter-append}
-use Rattle.std.proofs.Common.{arith, append-nil, add-one}
-use Rattle.std.specs.Prelude.{slice_get, if◌then◌else◌, nat_eq, unwrap_or, get_or, ◌≢◌}
-use Rattle.std.specs.Prelude.{◌||◌, filter}
-use Rattle.std.specs.List.{list_any}
-use Rattle.std.specs.List.{AllPairs}
+use Rattle.std.specs.Prelude.{slice_get, if◌then◌else◌, nat_eq, unwrap_or, get_or, ◌≢◌, ◌||◌}
+use Rattle.std.specs.Prelude.{filter}
+use Rattle.std.specs.List.{list_any, AllPairs}
 use Rattle.std.specs.Option.{option_map, option_map_or}
 use Rattle.std.proofs.lemmas.Bool.{cond_both, eqb-true, ne_eqb}
 use Rattle.std.proofs.lemmas.List.Kept.{AllPairs-from_increasing}
@@ -25,8 +22,7 @@ use Rattle.sacn_source.specs.Identity.{Identity}
 use Rattle.sacn_source.specs.Offering.{answer_of}
 use Rattle.sacn_source.specs.Stream.{Packet, sends, packets, live_packet}
 use Rattle.console.specs.Offering.{AreOffered, Offers, none, quiet, sent}
-use Rattle.console.specs.Streams.{Production, Due, due_at, dues_at, offer_at, offered_by}
-use Rattle.console.specs.Streams.{offers_of}
+use Rattle.console.specs.Streams.{Production, Due, due_at, dues_at, offer_at, offered_by, offers_of}
 use Rattle.console.specs.Streams.{order_at, packet_due, tick_at, universes_of}
 use Rattle.wire_world.specs.Datagrams.{packet_bytes}
 use Rattle.wire_world.specs.Happened.{bytes_of, packets_of, stream}

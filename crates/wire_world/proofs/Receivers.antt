@@ -1,7 +1,6 @@
 -- One datagram at one of the receivers.
-use Rattle.std.proofs.Common.{◌≡◌, ℕ, ◌<◌, ◌≤◌, refl, ap, sym, subst, ◌∙◌, List}
-use Rattle.std.proofs.Common.{◌∷◌, length, set, Option, Some, None, Result, Ok, Err}
-use Rattle.std.proofs.Common.{arith}
+use Rattle.std.proofs.Common.{◌≡◌, ℕ, ◌<◌, ◌≤◌, refl, ap, sym, subst, ◌∙◌, List, ◌∷◌, length, set}
+use Rattle.std.proofs.Common.{Option, Some, None, Result, Ok, Err, arith}
 use Rattle.std.specs.Prelude.{if◌then◌else◌, slice_get, nat_eq, OnOk, OnErr}
 use Rattle.std.specs.Option.{option_map_or}
 use Rattle.std.proofs.lemmas.Bool.{eq-eqb, lt-ltb, ne_eqb}

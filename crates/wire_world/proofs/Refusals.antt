@@ -1,6 +1,6 @@
 -- The checks of a setup.
 use Rattle.std.proofs.Common.{◌≡◌, ℕ, zero, suc, ◌<◌, ◌≤◌, Bool, true, false, not, ◌&&◌}
-use Rattle.std.proofs.lemmas.Bool.{leb-true, ltb-true}
+use Rattle.std.proofs.lemmas.Bool.{and_parts, leb-true, ltb-true}
 use Rattle.std.proofs.Common.{refl, ap, sym, subst, ◌∙◌, List, [], ◌∷◌, length, get_or}
 use Rattle.std.proofs.Common.{arith, Option, Some, None, Ok}
 use Rattle.std.specs.Prelude.{nat_le, All, if◌then◌else◌, slice_get}
@@ -30,27 +30,23 @@ no_fault (Some fault) x answer = cc
 
 -- ---- what holds where no reason applies
 
-both : (a b : Bool) → (a && b) ≡ true → (a ≡ true) × (b ≡ true)
-both true true h = (refl, refl)
-both true false h = cc
-both false b h = cc
-
 all_at : {X : Type 0} (p : X → Bool) (xs : List X) → list_all p xs ≡ true → (k : ℕ) (d : X)
     → k < length xs → p (get_or xs k d) ≡ true
 all_at p [] a k d h = absurd (omega arith)
-all_at p (x ∷ xs) a zero d h = (both (p x) (list_all p xs) a).0
-all_at p (x ∷ xs) a (suc k) d h = all_at p xs (both (p x) (list_all p xs) a).1 k d (omega arith)
+all_at p (x ∷ xs) a zero d h = (and_parts (p x) (list_all p xs) a).0
+all_at p (x ∷ xs) a (suc k) d h =
+    all_at p xs (and_parts (p x) (list_all p xs) a).1 k d (omega arith)
 
 universe_at_place : (xs : List ℕ) → are_universes xs ≡ true → (k d : ℕ) → k < length xs
     → (1 ≤ get_or xs k d) × (get_or xs k d ≤ 63999)
 universe_at_place [] a k d h = absurd (omega arith)
 universe_at_place (x ∷ xs) a zero d h =
-    let b = both (is_new_at x xs) (are_universes xs) a in
-    let r = both (nat_le 1 x && nat_le x 63999) _ b.0 in
-    let s = both (nat_le 1 x) (nat_le x 63999) r.0 in
+    let b = and_parts (is_new_at x xs) (are_universes xs) a in
+    let r = and_parts (nat_le 1 x && nat_le x 63999) _ b.0 in
+    let s = and_parts (nat_le 1 x) (nat_le x 63999) r.0 in
     (leb-true 1 x s.0, leb-true x 63999 s.1)
 universe_at_place (x ∷ xs) a (suc k) d h =
-    universe_at_place xs (both (is_new_at x xs) (are_universes xs) a).1 k d (omega arith)
+    universe_at_place xs (and_parts (is_new_at x xs) (are_universes xs) a).1 k d (omega arith)
 
 -- none of the reasons applies
 pub record IsFine (shows : List Tables) (setups : List Setup) (universes : List ℕ) : Type 0 where
@@ -77,7 +73,7 @@ few_consoles : (shows : List Tables) (setups : List Setup) (universes : List ℕ
     → IsFine shows setups universes → length setups ≤ 4
 few_consoles shows setups universes f =
     leb-true (length setups) 4
-    (both (nat_le 1 (length setups)) (nat_le (length setups) 4) f.consoles).1
+    (and_parts (nat_le 1 (length setups)) (nat_le (length setups) 4) f.consoles).1
 
 pub shows_there : (shows : List Tables) (setups : List Setup) (universes : List ℕ)
     → IsFine shows setups universes → All (λ s. s.show < length shows) setups
@@ -87,7 +83,7 @@ shows_there shows setups universes f =
 pub universes_there : (shows : List Tables) (setups : List Setup) (universes : List ℕ)
     → IsFine shows setups universes → All (λ u. (1 ≤ u) × (u ≤ 63999)) universes
 universes_there shows setups universes f =
-    let b = both (nat_le (length universes) 8) (are_universes universes) f.receivers in
+    let b = and_parts (nat_le (length universes) 8) (are_universes universes) f.receivers in
     λ k d h. universe_at_place universes b.1 k d h
 
 based_at : (shows : List Tables) (s : Setup) → has_base shows s ≡ true
@@ -131,7 +127,7 @@ fine_world shows setups universes strays none who =
 -- what a stray is within
 within_one : (size : ℕ) (x : What) → is_within size x ≡ true → IsWithin size x
 within_one size (Stray receiver from to) h =
-    let b = both (nat_le from to) (nat_le to size) h in
+    let b = and_parts (nat_le from to) (nat_le to size) h in
     (leb-true from to b.0, leb-true to size b.1)
 within_one size _ h = tt
 

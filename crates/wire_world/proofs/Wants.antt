@@ -1,9 +1,8 @@
 -- What the events to come want is kept.
-use Rattle.std.proofs.Common.{◌≡◌, ℕ, zero, suc, ◌+◌, ◌≤◌, refl, ap, subst}
-use Rattle.std.proofs.Common.{List, [], ◌∷◌, set, Option, Some, None, arith}
-use Rattle.std.specs.Prelude.{slice_get, slice_index}
+use Rattle.std.proofs.Common.{◌≡◌, ℕ, zero, suc, ◌+◌, ◌≤◌, refl, ap, subst, List, [], ◌∷◌, set}
+use Rattle.std.proofs.Common.{Option, Some, None, arith}
+use Rattle.std.specs.Prelude.{slice_get, slice_index, All, IfSome}
 use Rattle.std.specs.Option.{option_map}
-use Rattle.std.specs.Prelude.{All, IfSome}
 use Rattle.std.proofs.lemmas.Option.{get_or_from_slice_get, slice_get_within}
 use Rattle.std.proofs.Math.ListN.{length-set}
 use Rattle.fade_core.specs.Level.{Start}
