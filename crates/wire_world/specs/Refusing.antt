@@ -1,8 +1,6 @@
 -- Why nothing is rehearsed: the first reason that applies.
-use Rattle.std.specs.Prelude.{◌≡◌, ℕ, ◌==◌, Bool, not, ◌&&◌, List, [], ◌∷◌, length, nat_lt}
-use Rattle.std.specs.Prelude.{nat_le}
-use Rattle.std.specs.Prelude.{find, slice_get, Option, Some, None, Result, Err, IfErr}
-use Rattle.std.specs.Prelude.{true, false}
+use Rattle.std.specs.Prelude.{◌≡◌, ℕ, ◌==◌, Bool, not, ◌&&◌, List, [], ◌∷◌, length, nat_lt, nat_le}
+use Rattle.std.specs.Prelude.{find, slice_get, Option, Some, None, Result, Err, IfErr, true, false}
 use Rattle.std.specs.List.{list_all, list_any}
 use Rattle.std.specs.Option.{option_map_or}
 use Rattle.show_core.specs.Tables.{Tables}

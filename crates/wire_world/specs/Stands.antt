@@ -4,8 +4,8 @@ use Rattle.console.specs.Streams.{Production}
 use Rattle.show_core.specs.Tables.{Tables}
 use Rattle.wire_world.specs.declared.setup.Setup.{Setup}
 use Rattle.std.specs.Prelude.{map, slice_index, slice_index_or, [], take, ◌<◌, Bool, true, false}
-use Rattle.std.specs.Prelude.{◌≡◌, ◌≤◌, ℕ, List, ◌∷◌, length, if◌then◌else◌, is_some, Option}
-use Rattle.std.specs.Prelude.{Some, Result, Ok, Err, slice_get, All, IsTrue}
+use Rattle.std.specs.Prelude.{◌≡◌, ◌≤◌, ℕ, List, ◌∷◌, length, if◌then◌else◌, is_some, Option, Some}
+use Rattle.std.specs.Prelude.{Result, Ok, Err, slice_get, All, IsTrue}
 use Rattle.desk_core.specs.declared.answer.Refused.{Refused}
 use Rattle.desk_core.specs.declared.answer.Ticked.{Ticked}
 use Rattle.desk_core.specs.Played.{Act}
@@ -17,8 +17,7 @@ use Rattle.wire_world.specs.declared.event.What.TheVariants.{Stray}
 use Rattle.wire_world.specs.declared.reply.Skip.{Skip}
 use Rattle.wire_world.specs.declared.reply.Reply.{Reply}
 use Rattle.wire_world.specs.declared.reply.Reply.TheVariants as reply
-use Rattle.wire_world.specs.World.{World, no_console, console_at, universe_at, plays}
-use Rattle.wire_world.specs.World.{IsIdentity}
+use Rattle.wire_world.specs.World.{World, no_console, console_at, universe_at, plays, IsIdentity}
 use Rattle.wire_world.specs.Happened.{acts, accepted_by}
 use Rattle.wire_world.specs.Replies.{last_moment, done_one, done, reply_to}
 
