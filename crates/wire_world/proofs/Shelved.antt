@@ -1,14 +1,14 @@
 -- Packets on the shelves of their universes.
-use Rattle.std.proofs.Common.{◌≡◌, ℕ, ◌+◌, ◌<◌, ◌≤◌, Bool, true, false, refl, ap}
+use Rattle.std.proofs.Common.{◌≡◌, ℕ, ◌≤◌, Bool, true, false, refl, ap}
 use Rattle.std.proofs.Common.{sym, subst, ◌∙◌}
 use Rattle.std.proofs.Common.{List, [], ◌∷◌, ◌++◌, length, map, Option, Some, None}
-use Rattle.std.proofs.Common.{arith, append-nil, take, get_or}
+use Rattle.std.proofs.Common.{arith, append-nil, get_or}
 use Rattle.std.specs.Prelude.{find, if◌then◌else◌, nat_eq, ◌==◌, slice_get, slice_set}
 use Rattle.std.specs.List.{position, position_or_len}
 use Rattle.std.specs.Option.{option_map_or, option_or}
 use Rattle.std.proofs.lemmas.Bool.{eq-eqb, eqb-true}
 use Rattle.std.proofs.lemmas.Grind.{common_steps}
-use Rattle.std.proofs.lemmas.List.{append_assoc, map-append, take_more}
+use Rattle.std.proofs.lemmas.List.{append_assoc, map-append}
 use Rattle.std.proofs.lemmas.List.Folds.{find_at, find-set, find_past, find-append}
 use Rattle.std.proofs.lemmas.List.Quantifiers.{position-Some}
 use Rattle.std.proofs.lemmas.Option.{slice_get-get_or, slice_get_past}
@@ -113,26 +113,21 @@ module _ {u : ℕ} {was : Option Shelf} {new : Shelf} {shelves after : List Shel
       (λ l h. less k l (h refl)) (λ v o l h. l) v
 
 -- one row more of those that are kept
-pub sent_row : (u : ℕ) (rows : List Row) (i : ℕ) (d : Row) → i < length rows
-    → (kept : List (List ℕ))
-    → (if nat_eq (get_or rows i d).universe u
-    then (kept ++ sent_to u (map send_of (take i rows))) ++ (get_or rows i d).bytes ∷ []
-    else kept ++ sent_to u (map send_of (take i rows)))
-    ≡ kept ++ sent_to u (map send_of (take (i + 1) rows))
-sent_row u rows i d l kept =
+pub sent_row : (u : ℕ) (rows : List Row) (row : Row) (kept : List (List ℕ))
+    → (if nat_eq row.universe u
+    then (kept ++ sent_to u (map send_of rows)) ++ row.bytes.items ∷ []
+    else kept ++ sent_to u (map send_of rows))
+    ≡ kept ++ sent_to u (map send_of (rows ++ row ∷ []))
+sent_row u rows row kept =
     go (nat_eq row.universe u)
-    ∙ ap (λ xs. kept ++ xs) (sym (sent_more u (map send_of (take i rows)) (send_of row ∷ [])))
-    ∙ ap (λ xs. kept ++ sent_to u xs) (sym (ap (map send_of) (take_more rows i d l)
-    ∙ map-append send_of (take i rows) (row ∷ [])))
+    ∙ ap (λ xs. kept ++ xs) (sym (sent_more u (map send_of rows) (send_of row ∷ [])))
+    ∙ ap (λ xs. kept ++ sent_to u xs) (sym (map-append send_of rows (row ∷ [])))
   where
-    row : Row
-    row = get_or rows i d
-
     sent : List (List ℕ)
-    sent = sent_to u (map send_of (take i rows))
+    sent = sent_to u (map send_of rows)
 
     go : (b : Bool)
-        → (if b then (kept ++ sent) ++ row.bytes ∷ [] else kept ++ sent)
+        → (if b then (kept ++ sent) ++ row.bytes.items ∷ [] else kept ++ sent)
         ≡ kept ++ (sent ++ map (λ (s : Send). s.bytes) (if b then send_of row ∷ [] else []))
-    go true = append_assoc kept sent (row.bytes ∷ [])
+    go true = append_assoc kept sent (row.bytes.items ∷ [])
     go false = ap (λ xs. kept ++ xs) (sym (append-nil sent))

@@ -38,44 +38,42 @@ err_from : {A E : Type 0} (r : Result A E) (P Q R : Type 0) → (P → Q → R) 
 err_from (Ok a) P Q R f p q = tt
 err_from (Err e) P Q R f p q = f p q
 
--- what a tick leaves of a console, its link emptied first and its packets then put on the shelves
+-- what a tick leaves of a console, whose packets are then moved to the shelves
 module _ {F : Type 0} (sf : F → List Start → Type 0) (old new : Stage F) (m : ℕ)
-    (r : Result (Ticked × List (ℕ × Offered)) Refused) (empty sent : Kept)
-    (is_empty : empty.rows ≡ []) (told : sent.full ≡ false → old.link.full ≡ false)
+    (r : Result (Ticked × List (ℕ × Offered)) Refused) (sent : Kept)
+    (told : sent.full ≡ false → old.link.full ≡ false)
     (tells : new.link.full ≡ false → sent.full ≡ false)
-    (last : new.last ≡ old.last)
+    (last : new.last ≡ old.last) (emptied : new.link.rows ≡ [])
     (rest : new.link.full ≡ false → (u : ℕ) (all : List (List ℕ))
     → IsRest (gone_of old.shelves.items u) (kept_of old.shelves.items u) (take (old.last + 1) all)
     → IsRest (gone_of new.shelves.items u) (kept_of new.shelves.items u)
     (take (old.last + 1) (all ++ sent_to u (sends_of sent))))
     (offered : IfOk r (λ a. (p : Production) (h : List Act) → StandsFor sf p old.console h
-    → sent.full ≡ false → Offers p.source (dues_at p h m) a.1 (sends_of empty) (sends_of sent)))
+    → sent.full ≡ false → Offers p.source (dues_at p h m) a.1 (sends_of old.link) (sends_of sent)))
     (stands : OnOk r ((p : Production) (h : List Act) → StandsFor sf p old.console h
     → StandsFor sf p new.console (tick_at m ∷ h)))
     (same : OnErr r (new.console ≡ old.console))
-    (quiet : OnErr r (sent.full ≡ false → sends_of sent ≡ sends_of empty)) where
-  nothing : sends_of empty ≡ []
-  nothing = ap (map send_of) is_empty
-
-  none_more : (u : ℕ) → sends_of sent ≡ sends_of empty → (xs : List (List ℕ))
+    (quiet : OnErr r (sent.full ≡ false → sends_of sent ≡ sends_of old.link)) where
+  none_more : (u : ℕ) → sends_of sent ≡ [] → (xs : List (List ℕ))
       → xs ++ sent_to u (sends_of sent) ≡ xs
-  none_more u e xs = ap (λ l. xs ++ sent_to u l) (e ∙ nothing) ∙ append-nil xs
+  none_more u e xs = ap (λ l. xs ++ sent_to u l) e ∙ append-nil xs
 
-  answers : (p : Production) (h : List Act) → StandsFor sf p old.console h → Tells new
+  answers : (p : Production) (h : List Act) → StageStands sf old p h → Tells new
       → IfOk r (λ a. a.1 ≡ map due_answer (dues_at p h m))
   answers p h s t = IfOk-weaker r _ _ (λ a o. answers_ticked p h m sent.rows [] a.1
-      (subst (λ before. Offers p.source (dues_at p h m) a.1 before (sends_of sent)) nothing
-      (o p h s (tells t)))) offered
+      (subst (λ before. Offers p.source (dues_at p h m) a.1 before (sends_of sent))
+      (ap (map send_of) s.link_empty) (o p h s.console_stands (tells t)))) offered
 
   stands_ticked : OnOk r ((p : Production) (h : List Act) → StageStands sf old p h
       → StageStands sf new p (tick_at m ∷ h))
   stands_ticked = ok_from r _ _ _ (λ a stands o p h s. record {
     console_stands = stands p h s.console_stands;
+    link_empty = emptied;
     packets_kept = λ t u. rw (
       last,
       sym (stream_ticked p h m (sends_of sent) a.1
-          (subst (λ before. Offers p.source (dues_at p h m) a.1 before (sends_of sent)) nothing
-          (o p h s.console_stands (tells t))) u),
+          (subst (λ before. Offers p.source (dues_at p h m) a.1 before (sends_of sent))
+          (ap (map send_of) s.link_empty) (o p h s.console_stands (tells t))) u),
     )
         (rest t u _ (s.packets_kept (told (tells t)) u));
   }) stands offered
@@ -83,15 +81,16 @@ module _ {F : Type 0} (sf : F → List Start → Type 0) (old new : Stage F) (m 
   stands_refused : OnErr r ((p : Production) (h : List Act) → StageStands sf old p h
       → StageStands sf new p h)
   stands_refused = err_from r (new.console ≡ old.console)
-      (sent.full ≡ false → sends_of sent ≡ sends_of empty) _ (λ same quiet p h s. record {
+      (sent.full ≡ false → sends_of sent ≡ sends_of old.link) _ (λ same quiet p h s. record {
         console_stands = subst (λ c. StandsFor sf p c h) (sym same) s.console_stands;
+        link_empty = emptied;
         packets_kept = λ t u. rw last
             (subst (λ (xs : List (List ℕ)). IsRest (gone_of new.shelves.items u)
             (kept_of new.shelves.items u) (take (old.last + 1) xs))
-            (none_more u (quiet (tells t)) _) (rest t u _ (s.packets_kept (told (tells t)) u)));
+            (none_more u (quiet (tells t) ∙ ap (map send_of) s.link_empty) _) (rest t u _ (s.packets_kept (told (tells t)) u)));
       }) same quiet
 
-  pub leaves : ((p : Production) (h : List Act) → StandsFor sf p old.console h → Tells new
+  pub leaves : ((p : Production) (h : List Act) → StageStands sf old p h → Tells new
       → IfOk r (λ a. a.1 ≡ map due_answer (dues_at p h m)))
       × OnOk r ((p : Production) (h : List Act) → StageStands sf old p h
       → StageStands sf new p (tick_at m ∷ h))

@@ -13,7 +13,7 @@ pub record Kept : Type 0 where
 
 -- a packet is a send that did not fail
 abbrev pub send_of : Row → Send
-send_of row = record { universe = row.universe; bytes = row.bytes; failed = false }
+send_of row = record { universe = row.universe; bytes = row.bytes.items; failed = false }
 
 -- what the link was offered
 abbrev pub sends_of : Kept → List Send

@@ -1,6 +1,6 @@
 -- What a console of a rehearsal and its link keep, against the console's history.
 -- Of use inside the crate: what its public calls answer is said without these.
-use Rattle.std.specs.Prelude.{◌≡◌, ℕ, ◌+◌, false, List, take}
+use Rattle.std.specs.Prelude.{◌≡◌, ℕ, ◌+◌, false, List, [], take}
 use Rattle.fade_core.specs.Level.{Start}
 use Rattle.desk_core.specs.Played.{Act}
 use Rattle.console.specs.Stands as console
@@ -14,11 +14,12 @@ use Rattle.wire_world.specs.Shelves.{IsRest, gone_of, kept_of}
 abbrev pub Tells : {F : Type 0} → Stage F → Type 0
 Tells {F} stage = stage.link.full ≡ false
 
--- the console stands for its history, and where the link tells, what is kept of each universe is
--- the rest of the packets of its stream, up to the last that an event delivers
+-- the console stands for its history, the link is empty, and where it tells, what is kept of each
+-- universe is the rest of the packets of its stream, up to the last that an event delivers
 pub record StageStands {F : Type 0} (fader_stands_for : F → List Start → Type 0) (stage : Stage F)
     (p : Production) (history : List Act) : Type 0 where
   pub console_stands : console.StandsFor fader_stands_for p stage.console history
+  pub link_empty : stage.link.rows ≡ []
   pub packets_kept : Tells stage → (universe : ℕ)
       → IsRest (gone_of stage.shelves.items universe) (kept_of stage.shelves.items universe)
       (take (stage.last + 1) (numbered p.source universe 0 (packets_of p history universe)))

@@ -1,5 +1,5 @@
-ghost use Rattle.std.specs.Prelude.{◌≡◌, ◌++◌, ◌∷◌, [], true, false, OnOk};
-ghost use Rattle.wire_world.specs.Sends.{sends_of};
+ghost use Rattle.std.specs.Prelude.{◌≡◌, ◌++◌, ◌∷◌, [], map, false, OnOk};
+ghost use Rattle.wire_world.specs.Sends.{send_of, sends_of};
 
 use crate::row::Row;
 use devices::{Link, LinkFault};
@@ -10,8 +10,10 @@ use std::marker::Model;
 /// telling where memory for a packet is refused.
 #[derive(Debug, Drop)]
 pub struct Packets {
-    rows: Vec<Row>,
-    full: bool,
+    /// The packets, the first first.
+    pub rows: Vec<Row>,
+    /// Memory for a packet was refused.
+    pub full: bool,
 }
 
 impl Model for Packets {
@@ -33,52 +35,16 @@ impl Packets {
             full: false,
         }
     }
-
-    /// Memory for a packet was refused.
-    pub fn is_full(&self) -> bool
-        ensures { result ≡ self.now.full }
-    {
-        self.full
-    }
-
-    /// The packets, the first first.
-    pub fn rows(&self) -> &[Row]
-        ensures { result.now ≡ self.now.rows }
-    {
-        self.rows.as_slice()
-    }
-
-    /// Lets all packets go.
-    pub fn clear(&mut self)
-        ensures rows { self.new.rows ≡ [] }
-        ensures full { self.new.full ≡ self.old.full }
-    {
-        self.rows.clear();
-    }
-
-    /// Notes that memory for a packet was refused.
-    pub fn fill(&mut self)
-        ensures rows { self.new.rows ≡ self.old.rows }
-        ensures full { self.new.full ≡ true }
-    {
-        self.full = true;
-    }
 }
 
-// Keeps a packet of 638 bytes.
-fn keep(rows: &mut Vec<Row>, universe: u16, bytes: &[u8]) -> Result<(), AllocError>
-    ensures { OnOk result (rows.new.items ≡ rows.old.items
-        ++ record { universe = universe; bytes = bytes.now } ∷ []) }
+// Keeps a packet.
+fn keep(rows: &mut Vec<Row>, universe: u16, packet: &[u8]) -> Result<(), AllocError>
+    ensures { OnOk result (map send_of rows.new.items ≡ map send_of rows.old.items
+        ++ record { universe = universe; bytes = packet.now; failed = false } ∷ []) }
 {
-    let mut row = Row {
-        universe,
-        bytes: [0; 638],
-    };
-    if bytes.len() != row.bytes.len() {
-        return Err(AllocError);
-    }
-    row.bytes.copy_from_slice(bytes);
-    rows.push(row)?;
+    let mut bytes = Vec::new(*rows.allocator());
+    bytes.extend_from_slice(packet)?;
+    rows.push(Row { universe, bytes })?;
     Ok(())
 }
 

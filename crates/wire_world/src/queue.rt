@@ -5,11 +5,11 @@ use std::alloc::{AllocError, Global};
 use std::collections::VecDeque;
 use std::marker::Model;
 
-/// Packets, the first first. Each lies in a box of its own, so that the memory of one that goes is
-/// that of the next.
+/// Packets, the first first. Each has memory of its own, so that what one that goes leaves is that
+/// of the next.
 #[derive(Debug, Drop)]
 pub struct Queue {
-    boxes: VecDeque<Box<[u8; 638]>>,
+    packets: VecDeque<Vec<u8>>,
 }
 
 impl Model for Queue {
@@ -17,7 +17,7 @@ impl Model for Queue {
 
     ghost Value = { List (List ℕ) };
 
-    ghost view = { λ queue. map (λ packet. packet.value) queue.boxes.items };
+    ghost view = { λ queue. map (λ packet. packet.items) queue.packets.items };
 }
 
 impl Queue {
@@ -26,7 +26,7 @@ impl Queue {
         ensures { result ≡ [] }
     {
         Queue {
-            boxes: VecDeque::new(alloc),
+            packets: VecDeque::new(alloc),
         }
     }
 
@@ -34,31 +34,30 @@ impl Queue {
     pub fn len(&self) -> usize
         ensures { result ≡ length self.now }
     {
-        self.boxes.len()
+        self.packets.len()
     }
 
     /// The packet at a place, the first at 0.
     pub fn get(&self, place: usize) -> Option<&[u8]>
         ensures { option_map (λ bytes. bytes.now) result ≡ slice_get self.now place }
     {
-        let packet = self.boxes.get(place)?;
+        let packet = self.packets.get(place)?;
         Some(packet.as_slice())
     }
 
     /// Puts a packet behind the others.
-    pub fn push_back(&mut self, alloc: Global, packet: &[u8; 638]) -> Result<(), AllocError>
-        ensures { OnOk result (self.new ≡ self.old ++ packet.now ∷ []) }
+    pub fn push_back(&mut self, packet: Vec<u8>) -> Result<(), AllocError>
+        ensures { OnOk result (self.new ≡ self.old ++ packet.items ∷ []) }
     {
-        let packet = Box::new(alloc, *packet)?;
-        self.boxes.push_back(packet)?;
+        self.packets.push_back(packet)?;
         Ok(())
     }
 
     /// Takes the first packet away.
-    pub fn pop_front(&mut self) -> Option<Box<[u8; 638]>>
-        ensures { self.old ≡ option_to_list (option_map (λ packet. packet.value) result)
+    pub fn pop_front(&mut self) -> Option<Vec<u8>>
+        ensures { self.old ≡ option_to_list (option_map (λ packet. packet.items) result)
             ++ self.new }
     {
-        self.boxes.pop_front()
+        self.packets.pop_front()
     }
 }

@@ -1,7 +1,8 @@
 /// One packet that was sent.
-#[derive(Clone, Copy, Debug)]
+#[derive(Debug, Drop)]
 pub struct Row {
     /// The number of its universe.
     pub universe: u16,
-    pub bytes: [u8; 638],
+    /// The bytes of its datagram, the first first.
+    pub bytes: Vec<u8>,
 }

@@ -10,40 +10,41 @@ use crate::row::Row;
 use crate::shelf::Shelf;
 use std::alloc::{AllocError, Global};
 
-// Puts packets on the shelves of their universes, of each universe none behind packet `last`.
+// Moves packets to the shelves of their universes, of each universe none behind packet `last`.
 pub(crate) fn keep_all(
     alloc: Global,
     shelves: &mut Vec<Shelf>,
     last: u64,
-    rows: &[Row],
+    rows: &mut Vec<Row>,
 ) -> Result<(), AllocError>
     ensures rest { OnOk result ((u : ℕ) (all : List (List ℕ))
         → IsRest (gone_of shelves.old.items u) (kept_of shelves.old.items u) (take (last + 1) all)
         → IsRest (gone_of shelves.new.items u) (kept_of shelves.new.items u)
-        (take (last + 1) (all ++ sent_to u (map send_of rows.now)))) }
+        (take (last + 1) (all ++ sent_to u (map send_of rows.old.items)))) }
     ensures gone { OnOk result ((u : ℕ) → gone_of shelves.new.items u
         ≡ gone_of shelves.old.items u) }
+    ensures empty { rows.new.items ≡ [] }
 {
-    for i in 0..rows.len() {
-        keep(alloc, shelves, last, &rows[i])?;
+    for row in rows.drain(..) {
+        keep(alloc, shelves, last, row)?;
     }
     Ok(())
 }
 
 // Puts a packet on the shelf of its universe, where it is none behind packet `last`.
-fn keep(alloc: Global, shelves: &mut Vec<Shelf>, last: u64, row: &Row) -> Result<(), AllocError>
+fn keep(alloc: Global, shelves: &mut Vec<Shelf>, last: u64, row: Row) -> Result<(), AllocError>
     ensures rest { OnOk result ((u : ℕ) (all : List (List ℕ))
         → IsRest (gone_of shelves.old.items u) (kept_of shelves.old.items u) (take (last + 1) all)
         → IsRest (gone_of shelves.new.items u) (kept_of shelves.new.items u)
-        (take (last + 1) (if row.now.universe == u then all ++ row.now.bytes ∷ [] else all))) }
+        (take (last + 1) (if row.universe == u then all ++ row.bytes.items ∷ [] else all))) }
     ensures gone { OnOk result ((u : ℕ) → gone_of shelves.new.items u
         ≡ gone_of shelves.old.items u) }
 {
     match place_of(shelves.as_slice(), row.universe) {
-        Some(i) => shelves[i].keep(alloc, last, &row.bytes)?,
+        Some(i) => shelves[i].keep(last, row.bytes)?,
         None => {
             let mut packets = Queue::new(alloc);
-            packets.push_back(alloc, &row.bytes)?;
+            packets.push_back(row.bytes)?;
             shelves.push(Shelf {
                 universe: row.universe,
                 gone: 0,
@@ -94,17 +95,17 @@ fn place_of(shelves: &[Shelf], universe: u16) -> Option<usize>
 
 impl Shelf {
     // Keeps a packet more, where it is none behind packet `last`.
-    fn keep(&mut self, alloc: Global, last: u64, packet: &[u8; 638]) -> Result<(), AllocError>
+    fn keep(&mut self, last: u64, packet: Vec<u8>) -> Result<(), AllocError>
         ensures universe { OnOk result (self.new.universe ≡ self.old.universe) }
         ensures gone { OnOk result (self.new.gone ≡ self.old.gone) }
         ensures rest { OnOk result ((all : List (List ℕ))
             → IsRest self.old.gone self.old.packets (take (last + 1) all)
             → IsRest self.new.gone self.new.packets
-            (take (last + 1) (all ++ packet.now ∷ []))) }
+            (take (last + 1) (all ++ packet.items ∷ []))) }
     {
         let kept = self.packets.len() as u64;
         if self.gone <= last && kept <= last - self.gone {
-            self.packets.push_back(alloc, packet)?;
+            self.packets.push_back(packet)?;
         }
         Ok(())
     }

@@ -34,7 +34,7 @@ pub struct Stage<F: Fader> {
     pub last: u64,
 }
 
-// Puts the packets of a tick on their shelves.
+// Moves the packets of a tick to their shelves.
 fn shelve(alloc: Global, shelves: &mut Vec<Shelf>, last: u64, link: &mut Packets)
     ensures tells { link.new.full ≡ false → link.old.full ≡ false }
     ensures rest { link.new.full ≡ false → (u : ℕ) (all : List (List ℕ))
@@ -43,9 +43,10 @@ fn shelve(alloc: Global, shelves: &mut Vec<Shelf>, last: u64, link: &mut Packets
         (take (last + 1) (all ++ sent_to u (sends_of link.old))) }
     ensures gone { link.new.full ≡ false → (u : ℕ)
         → gone_of shelves.new.items u ≡ gone_of shelves.old.items u }
+    ensures empty { link.new.rows ≡ [] }
 {
-    if keep_all(alloc, shelves, last, link.rows()).is_err() {
-        link.fill();
+    if keep_all(alloc, shelves, last, &mut link.rows).is_err() {
+        link.full = true;
     }
 }
 
@@ -111,7 +112,6 @@ impl<F: Fader> Stage<F> {
             → gone_of self.new.shelves.items u ≡ gone_of self.old.shelves.items u }
         ensures last { self.new.last ≡ self.old.last }
     {
-        self.link.clear();
         let answer = self.console.tick(moment, &mut self.link);
         shelve(alloc, &mut self.shelves, self.last, &mut self.link);
         answer
@@ -121,7 +121,7 @@ impl<F: Fader> Stage<F> {
     pub fn is_full(&self) -> bool
         ensures { result ≡ self.now.link.full }
     {
-        self.link.is_full()
+        self.link.full
     }
 
     // Packet k of a universe, where it was sent.

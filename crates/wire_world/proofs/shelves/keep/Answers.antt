@@ -8,27 +8,27 @@ use Rattle.wire_world.proofs.shelves.keep.Goals as goal
 
 pub returns-in_ok-keep-in-Some : goal.returns-in_ok-keep-in-Some
 returns-in_ok-keep-in-Some c =
-    let put = set_put c.args.shelves.now.items c.args.row.now.universe c.in-Some.i
+    let put = set_put c.args.shelves.now.items c.args.row.universe c.in-Some.i
     c.index_mut.result.now _ _
-    (ap (position (λ (s : Shelf). s.universe == c.args.row.now.universe))
+    (ap (position (λ (s : Shelf). s.universe == c.args.row.universe))
     (sym c.as_slice.ensures.value) ∙ sym c.place_of.ensures ∙ c.in-Some.is)
     c.index_mut.ensures.value c.in_ok-keep-in-Some.ensures.universe in
     record {
       rest = λ u all. rest_changed put u (take (c.args.last + 1) all)
-          (λ b. take (c.args.last + 1) (if b then all ++ c.args.row.now.bytes ∷ [] else all)) refl
+          (λ b. take (c.args.last + 1) (if b then all ++ c.args.row.bytes.items ∷ [] else all)) refl
           (c.in_ok-keep-in-Some.ensures.rest all);
       gone = gone_same put c.in_ok-keep-in-Some.ensures.gone;
     }
 
 pub returns-in_ok-push-in-None : goal.returns-in_ok-push-in-None
 returns-in_ok-push-in-None c =
-    let put = push_put c.args.shelves.now.items c.args.row.now.universe _
-    (ap (position (λ (s : Shelf). s.universe == c.args.row.now.universe))
+    let put = push_put c.args.shelves.now.items c.args.row.universe _
+    (ap (position (λ (s : Shelf). s.universe == c.args.row.universe))
     (sym c.as_slice.ensures.value) ∙ sym c.place_of.ensures ∙ c.in-None.is) refl in
     let one = c.in_ok-push_back-in-None.ensures ∙ rw c.new-packets.ensures refl in
     rw c.in_ok-push-in-None.ensures.items (record {
       rest = λ u all. rest_changed put u (take (c.args.last + 1) all)
-          (λ b. take (c.args.last + 1) (if b then all ++ c.args.row.now.bytes ∷ [] else all)) refl
-          (λ r. rw one (rest_first c.args.last all c.args.row.now.bytes r));
+          (λ b. take (c.args.last + 1) (if b then all ++ c.args.row.bytes.items ∷ [] else all)) refl
+          (λ r. rw one (rest_first c.args.last all c.args.row.bytes.items r));
       gone = gone_same put refl;
     })

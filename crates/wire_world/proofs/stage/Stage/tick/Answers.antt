@@ -1,4 +1,4 @@
-use Rattle.std.proofs.Common.{◌∙◌, refl, sym}
+use Rattle.std.proofs.Common.{refl}
 use Rattle.wire_world.proofs.Ticks.{answer_is, leaves}
 use Rattle.wire_world.proofs.stage.Stage.tick.Goals as goal
 
@@ -11,14 +11,13 @@ returns g c =
       shelves = c.shelve.new.shelves;
       last = c.args.self.now.last;
     })
-    c.args.moment c.tick-answer.result c.clear.new.self c.tick-answer.new.link
-    c.clear.ensures.rows (λ t. sym c.clear.ensures.full ∙ c.tick-answer.ensures.told t)
-    c.shelve.ensures.tells refl c.shelve.ensures.rest c.tick-answer.ensures.offered
+    c.args.moment c.tick-answer.result c.tick-answer.new.link c.tick-answer.ensures.told
+    c.shelve.ensures.tells refl c.shelve.ensures.empty c.shelve.ensures.rest c.tick-answer.ensures.offered
     c.tick-answer.ensures.stands c.tick-answer.ensures.unchanged c.tick-answer.ensures.quiet in
     record {
       answer = λ p h s tells. answer_is c.tick-answer.result _ _ _
           (c.tick-answer.ensures.answer p h s.console_stands)
-          (left.0 p h s.console_stands tells);
+          (left.0 p h s tells);
       stands = left.1;
       kept = left.2;
       gone = c.shelve.ensures.gone;
