@@ -87,7 +87,8 @@ module _ {F : Type 0} (sf : F → List Start → Type 0) (old new : Stage F) (m 
         packets_kept = λ t u. rw last
             (subst (λ (xs : List (List ℕ)). IsRest (gone_of new.shelves.items u)
             (kept_of new.shelves.items u) (take (old.last + 1) xs))
-            (none_more u (quiet (tells t) ∙ ap (map send_of) s.link_empty) _) (rest t u _ (s.packets_kept (told (tells t)) u)));
+            (none_more u (quiet (tells t) ∙ ap (map send_of) s.link_empty) _)
+            (rest t u _ (s.packets_kept (told (tells t)) u)));
       }) same quiet
 
   pub leaves : ((p : Production) (h : List Act) → StageStands sf old p h → Tells new

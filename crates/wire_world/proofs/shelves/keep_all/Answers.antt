@@ -1,4 +1,5 @@
-use Rattle.std.proofs.Common.{◌+◌, ◌++◌, ◌∷◌, [], ◌∙◌, List, ℕ, ap, append_assoc, map, subst, sym, take}
+use Rattle.std.proofs.Common.{◌+◌, ◌++◌, ◌∷◌, [], ◌∙◌, List, ℕ, ap, append_assoc, map, subst}
+use Rattle.std.proofs.Common.{sym, take}
 use Rattle.wire_world.specs.Sends.{send_of, sent_to}
 use Rattle.wire_world.specs.Shelves.{IsRest, gone_of, kept_of}
 use Rattle.wire_world.proofs.Shelved.{sent_row}

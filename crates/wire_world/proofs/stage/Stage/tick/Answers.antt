@@ -12,7 +12,8 @@ returns g c =
       last = c.args.self.now.last;
     })
     c.args.moment c.tick-answer.result c.tick-answer.new.link c.tick-answer.ensures.told
-    c.shelve.ensures.tells refl c.shelve.ensures.empty c.shelve.ensures.rest c.tick-answer.ensures.offered
+    c.shelve.ensures.tells refl c.shelve.ensures.empty c.shelve.ensures.rest
+    c.tick-answer.ensures.offered
     c.tick-answer.ensures.stands c.tick-answer.ensures.unchanged c.tick-answer.ensures.quiet in
     record {
       answer = λ p h s tells. answer_is c.tick-answer.result _ _ _
