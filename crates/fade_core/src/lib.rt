@@ -15,20 +15,18 @@
 #![tactic(auto)]
 
 mod course;
+mod course_fader;
 mod digits;
 mod divide;
 mod fader;
 pub mod laws;
-mod plain;
 mod share;
-mod step;
 mod target;
 mod walk;
 
+pub use course_fader::{PlainFader, StepFader};
 pub use fader::Fader;
-pub use plain::PlainFader;
 pub use show_core::Rate;
-pub use step::StepFader;
 
 #[cfg(test)]
 mod tests;

@@ -5,8 +5,8 @@ use Rattle.fade_core.proofs.tests.same_levels.Given as goal
 abbrev pub invariant-loop-round : goal.invariant-loop-round
 invariant-loop-round g l = record {
   moment : l.moment ≤ 32768 * l.round;
-  plain_latest : l.plain.latest ≤ l.moment;
-  step_latest : l.step.latest ≤ l.moment;
-  plain_channels : length l.plain.from ≡ 1500;
-  step_channels : length l.step.from ≡ 1500;
+  plain_latest : l.plain.course.latest ≤ l.moment;
+  step_latest : l.step.course.latest ≤ l.moment;
+  plain_channels : length l.plain.course.from ≡ 1500;
+  step_channels : length l.step.course.from ≡ 1500;
 }
