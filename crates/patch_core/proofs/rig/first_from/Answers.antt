@@ -5,18 +5,14 @@ use Rattle.std.proofs.lemmas.List.Sorted.{IsPartitionedBy-ltb}
 use Rattle.patch_core.proofs.Dimmers.{rising}
 use Rattle.patch_core.proofs.rig.first_from.Goals as goal
 
-pub returns-clause-below : goal.returns-clause-below
-returns-clause-below c =
+pub returns : goal.returns
+returns c =
     let parted = IsPartitionedBy-ltb (λ e. e.0) c.args.dimmers.now c.args.dimmer
     (rising c.args.dimmers.now c.requires) in
     let point = c.partition_point.ensures.partitioned (λ e. ltb e.0 c.args.dimmer)
     (always_returns_same _ _ _ (λ a r f k. search (rules, of_calls))) parted in
-    λ k d low h. grind (arith, nat_tests, point.0 k d low h)
-
-pub returns-clause-from_on : goal.returns-clause-from_on
-returns-clause-from_on c =
-    let parted = IsPartitionedBy-ltb (λ e. e.0) c.args.dimmers.now c.args.dimmer
-    (rising c.args.dimmers.now c.requires) in
-    let point = c.partition_point.ensures.partitioned (λ e. ltb e.0 c.args.dimmer)
-    (always_returns_same _ _ _ (λ a r f k. search (rules, of_calls))) parted in
-    λ k d low h. grind (arith, nat_tests, point.1 k d low h)
+    record {
+      range = search rules;
+      below = λ k d low h. grind (arith, nat_tests, point.0 k d low h);
+      from_on = λ k d low h. grind (arith, nat_tests, point.1 k d low h);
+    }

@@ -1,10 +1,9 @@
-use Rattle.std.proofs.Common.{◌≡◌, ℕ, ◌-◌, ◌+◌, ◌*◌, ◌<◌, IsTrue, get_or, map, sym, subst, ap, ◌∙◌}
+use Rattle.std.proofs.Common.{◌≡◌, ℕ, ◌-◌, ◌+◌, ◌<◌, IsTrue, get_or, sym, subst, ap, ◌∙◌}
 use Rattle.std.proofs.Common.{arith}
 use Rattle.std.proofs.lemmas.List.{get_or-replicate}
 use Rattle.show_core.specs.Numbers.{is_sub, is_group}
-use Rattle.show_core.specs.Readers.{level_in}
 use Rattle.master_core.specs.Inside.{masters_view}
-use Rattle.master_core.specs.Merged.{greatest, greatest_in}
+use Rattle.master_core.specs.Merged.{level_after}
 use Rattle.master_core.specs.Settings.{StandsFor, sub_after, group_after}
 use Rattle.master_core.proofs.Greatest.{highest_is}
 use Rattle.master_core.proofs.Raised.{in_place}
@@ -21,27 +20,18 @@ returns-clause-levels c = λ settings stands channel is.
     let dark : get_or c.fill.new.self place 0 ≡ 0 =
     ap (λ xs. get_or xs place 0) (c.fill.ensures.after (λ y e. e))
     ∙ get_or-replicate _ place 0 0 (omega (arith, c.requires)) in
-    let sub : greatest (map (λ e. level_in e.1 (place + 1) * get_or c.self.inside.subs e.0 0)
-    c.subs.result.now)
-    ≡ greatest_in c.args.show.now.subs (sub_after settings) channel =
-    ap (λ n. greatest (map (λ e. level_in e.1 n * get_or c.self.inside.subs e.0 0)
-    c.subs.result.now)) next
-    ∙ highest_is (λ n. IsTrue (is_sub n)) c.args.show.now.subs c.subs.result.now
-    c.subs.ensures.entries c.subs.ensures.range c.self.inside.subs (sub_after settings)
-    channel own.subs_are in
-    let group : greatest (map (λ e. level_in e.1 (place + 1) * get_or c.self.inside.groups e.0 0)
-    c.groups.result.now)
-    ≡ greatest_in c.args.show.now.groups (group_after settings) channel =
-    ap (λ n. greatest (map (λ e. level_in e.1 n * get_or c.self.inside.groups e.0 0)
-    c.groups.result.now)) next
-    ∙ highest_is (λ n. IsTrue (is_group n)) c.args.show.now.groups c.groups.result.now
+    let sub = highest_is (λ n. IsTrue (is_sub n)) c.args.show.now.subs c.subs.result.now
+    c.subs.ensures.entries c.subs.ensures.range c.self.inside.subs (sub_after settings) (place + 1)
+    own.subs_are in
+    let group = highest_is (λ n. IsTrue (is_group n)) c.args.show.now.groups c.groups.result.now
     c.groups.ensures.entries c.groups.ensures.range c.self.inside.groups (group_after settings)
-    channel own.groups_are in
-    omega (
+    (place + 1) own.groups_are in
+    subst (λ n. get_or c.raise-2.new.floors place 0 ≡ level_after c.args.show.now settings n 0) next
+    (omega (
       arith,
       dark,
       sub,
       group,
       c.raise.ensures.raised place (omega arith),
       c.raise-2.ensures.raised place (omega arith),
-    )
+    ))
