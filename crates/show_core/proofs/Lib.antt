@@ -6,3 +6,4 @@ pub mod Entries
 pub mod InRange
 pub mod Ordinals
 mod Rows
+pub mod LevelLemmas

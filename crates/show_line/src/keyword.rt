@@ -1,4 +1,5 @@
 ghost use Rattle.std.specs.Prelude.{◌≡◌};
+ghost use Rattle.std.specs.Option.{option_or};
 ghost use Rattle.show_line.specs.Keywords.{named, primary_keywords, secondary_keywords};
 ghost use Rattle.show_line.specs.Keywords.{keyword_of, may_own, is_end};
 
@@ -53,10 +54,26 @@ impl Keyword {
     }
 }
 
-fn primary(word: &[u8]) -> Option<Keyword>
-    ensures { result ≡ named primary_keywords word.now }
+// The secondary keywords come first, since most lines have one of these.
+fn named(word: &[u8]) -> Option<Keyword>
+    ensures { result ≡ option_or (named secondary_keywords word.now)
+        (named primary_keywords word.now) }
 {
-    let keyword = if same_word(word, b"clear") {
+    let keyword = if same_word(word, b"chan") {
+        Keyword::Chan
+    } else if same_word(word, b"down") {
+        Keyword::Down
+    } else if same_word(word, b"followon") {
+        Keyword::FollowOn
+    } else if same_word(word, b"link") {
+        Keyword::Remark
+    } else if same_word(word, b"part") {
+        Keyword::Remark
+    } else if same_word(word, b"text") {
+        Keyword::Remark
+    } else if same_word(word, b"up") {
+        Keyword::Up
+    } else if same_word(word, b"clear") {
         Keyword::Clear
     } else if same_word(word, b"console") {
         Keyword::Setting
@@ -82,29 +99,6 @@ fn primary(word: &[u8]) -> Option<Keyword>
     Some(keyword)
 }
 
-fn secondary(word: &[u8]) -> Option<Keyword>
-    ensures { result ≡ named secondary_keywords word.now }
-{
-    let keyword = if same_word(word, b"chan") {
-        Keyword::Chan
-    } else if same_word(word, b"down") {
-        Keyword::Down
-    } else if same_word(word, b"followon") {
-        Keyword::FollowOn
-    } else if same_word(word, b"link") {
-        Keyword::Remark
-    } else if same_word(word, b"part") {
-        Keyword::Remark
-    } else if same_word(word, b"text") {
-        Keyword::Remark
-    } else if same_word(word, b"up") {
-        Keyword::Up
-    } else {
-        return None;
-    };
-    Some(keyword)
-}
-
 /// The keyword that a word is, without regard to ASCII case.
 pub(crate) fn keyword_of(word: &[u8]) -> Keyword
     ensures { result ≡ keyword_of word.now }
@@ -115,8 +109,5 @@ pub(crate) fn keyword_of(word: &[u8]) -> Keyword
     if word.starts_with(b"$") {
         return Keyword::Maker;
     }
-    match secondary(word) {
-        Some(keyword) => keyword,
-        None => primary(word).unwrap_or(Keyword::Unknown),
-    }
+    named(word).unwrap_or(Keyword::Unknown)
 }

@@ -1,4 +1,4 @@
-use Rattle.std.proofs.Common.{Some}
+use Rattle.std.proofs.Common.{Some, rules}
 use Rattle.show_core.specs.Inside.{show_view}
 use Rattle.show_core.proofs.InRange.{changed_cue_in_range}
 use Rattle.show_core.proofs.show.Show.set_up.Goals as goal
@@ -7,9 +7,4 @@ pub invariant_of-self : goal.invariant_of-self
 invariant_of-self c =
     rw c.set_up.ensures
     (changed_cue_in_range (show_view c.self.inside) c.self.invariant c.args.n
-    (λ cue. record cue { up = Some c.args.rate })
-    (λ cue has. record {
-      up_in = (c.requires.time, c.requires.delay);
-      down_in = has.down_in;
-      follow_in = has.follow_in;
-    }))
+    (λ cue. record cue { up = Some c.args.rate }) (λ cue has. search rules))
