@@ -3,3 +3,4 @@ pub mod Drawn
 pub mod Small
 mod Rows
 pub mod FrameSlots
+pub mod LiveTick

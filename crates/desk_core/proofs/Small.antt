@@ -16,6 +16,7 @@ use Rattle.patch_core.specs.Frame.{frame_of, is_base}
 use Rattle.desk_core.specs.declared.command.Command.TheVariants.{Go, Sub}
 use Rattle.playback_core.specs.Played.{Move, with_due}
 use Rattle.playback_core.proofs.Due.{with_due-none}
+use Rattle.playback_core.proofs.Places.{move_to}
 use Rattle.desk_core.specs.Played.{Act, ended, order, settings, tick}
 use Rattle.desk_core.specs.Meaning.{channel_level, frame, universe_numbers}
 
@@ -64,17 +65,13 @@ pub no_move : (moment : ℕ) → with_due small moment [] ≡ []
 no_move moment = with_due-none small moment [] tt
 
 pub after_first : (moment at : ℕ) (older : List Move)
-    → with_due small moment (record { cue = 1000; moment = at } ∷ older)
-    ≡ record { cue = 1000; moment = at } ∷ older
-after_first moment at older =
-    with_due-none small moment (record { cue = 1000; moment = at } ∷ older)
+    → with_due small moment (move_to 1000 at ∷ older) ≡ move_to 1000 at ∷ older
+after_first moment at older = with_due-none small moment (move_to 1000 at ∷ older)
     (simp (map.get-entries small.cues 1000, cues_are) tt)
 
 pub after_second : (moment at : ℕ) (older : List Move)
-    → with_due small moment (record { cue = 2000; moment = at } ∷ older)
-    ≡ record { cue = 2000; moment = at } ∷ older
-after_second moment at older =
-    with_due-none small moment (record { cue = 2000; moment = at } ∷ older)
+    → with_due small moment (move_to 2000 at ∷ older) ≡ move_to 2000 at ∷ older
+after_second moment at older = with_due-none small moment (move_to 2000 at ∷ older)
     (simp (map.get-entries small.cues 2000, cues_are) tt)
 
 subs_are : map.entries small.subs ≡ (1, one_level 1 128) ∷ []

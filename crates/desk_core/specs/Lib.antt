@@ -4,3 +4,4 @@ pub mod Meaning
 pub mod DeskState
 pub mod Stands
 pub mod Inside
+pub mod Ticks

@@ -5,8 +5,7 @@ ghost use Rattle.std.specs.Option.{OnSome};
 ghost use Rattle.std.specs.List.Sorted.{IsStrictlyIncreasing};
 ghost use Rattle.show_core.specs.Numbers.{is_channel};
 ghost use Rattle.show_core.specs.Tables.{Tables};
-ghost use Rattle.playback_core.specs.Played.{Move, current_after, with_due, is_by};
-ghost use Rattle.playback_core.specs.Played.{playback_level};
+ghost use Rattle.playback_core.specs.Played.{current_after, with_due};
 ghost use Rattle.playback_core.specs.Stands as playback_stands;
 ghost use Rattle.master_core.specs.Settings as masters_stand;
 ghost use Rattle.patch_core.specs.Frame.{is_universe, is_base};
@@ -16,6 +15,7 @@ ghost use Rattle.desk_core.specs.Played.{untimely, is_over, is_soon, lacking, re
 ghost use Rattle.desk_core.specs.Played.{outcome, ticked};
 ghost use Rattle.desk_core.specs.Meaning.{latest_frame, universe_numbers};
 ghost use Rattle.desk_core.specs.Stands.{StandsFor, keeps_floors};
+ghost use Rattle.desk_core.specs.Ticks.{Ticks, IsKeptBut};
 
 use crate::answer::{Refused, Ticked};
 use crate::command::Command;
@@ -222,10 +222,7 @@ impl<F: Fader> Desk<F> {
         requires not_before { self.old.last_moment ≤ moment }
         requires below { moment < 2 ^ 48 }
         requires live { self.old.ended ≡ None }
-        ensures { (show : Tables) (base : ℕ) (history : List Act)
-            → StandsFor F.stands_for show base self.old history
-            → let act : Act = record { moment = moment; call = tick } in
-            StandsFor F.stands_for show base self.new (act ∷ history) }
+        ensures { Ticks F.stands_for self.old self.new moment }
     {
         if self.is_still(moment) {
             self.tick_still(moment);
@@ -236,14 +233,7 @@ impl<F: Fader> Desk<F> {
 
     // Whether no channel moves, and what is kept is what the commands before mean.
     fn is_still(&self, moment: u64) -> bool
-        ensures kept { IsTrue result → IsTrue self.now.is_kept }
-        ensures none_due { IsTrue result → IsFalse (is_by self.now.playback.due moment) }
-        ensures still { IsTrue result → (show : Tables) (moves : List Move) (stopped : Bool)
-            (channel later : ℕ)
-            → playback_stands.StandsFor F.stands_for show self.now.playback moves stopped
-            → IsTrue (is_channel channel) → F.latest self.now.playback.fader ≤ later
-            → playback_level show moves channel later
-            ≡ playback_level show moves channel (F.latest self.now.playback.fader) }
+        ensures { IsTrue result → IsKeptBut F.stands_for F.latest self.now moment [] }
     {
         self.movable(moment).is_some_and(|moving| moving.is_empty())
     }
@@ -255,10 +245,7 @@ impl<F: Fader> Desk<F> {
         requires not_before { self.old.last_moment ≤ moment }
         requires below { moment < 2 ^ 48 }
         requires live { self.old.ended ≡ None }
-        ensures { (show : Tables) (base : ℕ) (history : List Act)
-            → StandsFor F.stands_for show base self.old history
-            → let act : Act = record { moment = moment; call = tick } in
-            StandsFor F.stands_for show base self.new (act ∷ history) }
+        ensures { Ticks F.stands_for self.old self.new moment }
     {
         self.keep_floors();
         let mut channels = ArrayVec::<u16, FEW>::new();
@@ -289,17 +276,10 @@ impl<F: Fader> Desk<F> {
     // The channels that may move, where the rest of the frames may be kept, since no cue follows by
     // itself.
     fn movable(&self, moment: u64) -> Option<&[u16]>
-        ensures kept { OnSome result (IsTrue self.now.is_kept) }
-        ensures none_due { OnSome result (IsFalse (is_by self.now.playback.due moment)) }
         ensures in_range { IfSome result (λ channels.
             All (λ channel. IsTrue (is_channel channel)) channels.now) }
-        ensures others { IfSome result (λ channels. (show : Tables) (moves : List Move)
-            (stopped : Bool) (channel moment : ℕ)
-            → playback_stands.StandsFor F.stands_for show self.now.playback moves stopped
-            → IsTrue (is_channel channel) → ¬ Contains channels.now channel
-            → F.latest self.now.playback.fader ≤ moment
-            → playback_level show moves channel moment
-            ≡ playback_level show moves channel (F.latest self.now.playback.fader)) }
+        ensures kept { IfSome result (λ channels.
+            IsKeptBut F.stands_for F.latest self.now moment channels.now) }
     {
         if !self.is_kept || self.playback.is_due(moment) {
             return None;
@@ -311,19 +291,9 @@ impl<F: Fader> Desk<F> {
     // on.
     fn tick_still(&mut self, moment: u64)
         requires not_before { self.old.last_moment ≤ moment }
-        requires below { moment < 2 ^ 48 }
         requires live { self.old.ended ≡ None }
-        requires kept { IsTrue self.old.is_kept }
-        requires none_due { IsFalse (is_by self.old.playback.due moment) }
-        requires still { (show : Tables) (moves : List Move) (stopped : Bool) (channel later : ℕ)
-            → playback_stands.StandsFor F.stands_for show self.old.playback moves stopped
-            → IsTrue (is_channel channel) → F.latest self.old.playback.fader ≤ later
-            → playback_level show moves channel later
-            ≡ playback_level show moves channel (F.latest self.old.playback.fader) }
-        ensures { (show : Tables) (base : ℕ) (history : List Act)
-            → StandsFor F.stands_for show base self.old history
-            → let act : Act = record { moment = moment; call = tick } in
-            StandsFor F.stands_for show base self.new (act ∷ history) }
+        requires kept { IsKeptBut F.stands_for F.latest self.old moment [] }
+        ensures { Ticks F.stands_for self.old self.new moment }
     {
         self.last_moment = moment;
         self.last_tick = Some(moment);
@@ -334,20 +304,10 @@ impl<F: Fader> Desk<F> {
         requires not_before { self.old.last_moment ≤ moment }
         requires below { moment < 2 ^ 48 }
         requires live { self.old.ended ≡ None }
-        requires kept { IsTrue self.old.is_kept }
         requires floors { IsTrue self.old.are_floors }
         requires in_range { All (λ channel. IsTrue (is_channel channel)) channels.now }
-        requires none_due { IsFalse (is_by self.old.playback.due moment) }
-        requires others { (show : Tables) (moves : List Move) (stopped : Bool) (channel later : ℕ)
-            → playback_stands.StandsFor F.stands_for show self.old.playback moves stopped
-            → IsTrue (is_channel channel) → ¬ Contains channels.now channel
-            → F.latest self.old.playback.fader ≤ later
-            → playback_level show moves channel later
-            ≡ playback_level show moves channel (F.latest self.old.playback.fader) }
-        ensures { (show : Tables) (base : ℕ) (history : List Act)
-            → StandsFor F.stands_for show base self.old history
-            → let act : Act = record { moment = moment; call = tick } in
-            StandsFor F.stands_for show base self.new (act ∷ history) }
+        requires kept { IsKeptBut F.stands_for F.latest self.old moment channels.now }
+        ensures { Ticks F.stands_for self.old self.new moment }
     {
         self.playback.advance(&self.show, moment);
         let grand = self.masters.grand();
@@ -371,10 +331,7 @@ impl<F: Fader> Desk<F> {
         requires below { moment < 2 ^ 48 }
         requires live { self.old.ended ≡ None }
         requires floors { IsTrue self.old.are_floors }
-        ensures { (show : Tables) (base : ℕ) (history : List Act)
-            → StandsFor F.stands_for show base self.old history
-            → let act : Act = record { moment = moment; call = tick } in
-            StandsFor F.stands_for show base self.new (act ∷ history) }
+        ensures { Ticks F.stands_for self.old self.new moment }
     {
         self.playback.advance(&self.show, moment);
         let grand = self.masters.grand();
@@ -398,10 +355,7 @@ impl<F: Fader> Desk<F> {
         requires not_before { self.old.last_moment ≤ moment }
         requires ending { self.old.ended ≡ Some (ticks - 1) }
         requires from_one { 1 ≤ ticks }
-        ensures { (show : Tables) (base : ℕ) (history : List Act)
-            → StandsFor F.stands_for show base self.old history
-            → let act : Act = record { moment = moment; call = tick } in
-            StandsFor F.stands_for show base self.new (act ∷ history) }
+        ensures { Ticks F.stands_for self.old self.new moment }
     {
         darken(&mut self.frames);
         self.is_kept = false;

@@ -85,7 +85,12 @@ fn merge_levels<F: Fader>(levels: &mut [u16], playback: &Playback<F>, floors: &[
 {
     match playback.levels() {
         Some(playing) => merge_all(levels, playing, floors),
-        None => merge_each(levels, playback, floors),
+        None => {
+            for channel in 1..=CHANNELS {
+                let place = usize::from(channel) - 1;
+                levels[place] = floors[place].max(playback.level(channel) as u16);
+            }
+        }
     }
 }
 
@@ -102,25 +107,6 @@ fn merge_all(levels: &mut [u16], playing: &[u16], floors: &[u16])
 {
     for place in 0..levels.len() {
         levels[place] = playing[place].max(floors[place]);
-    }
-}
-
-// The same where the playback tells the level of one channel at a time.
-fn merge_each<F: Fader>(levels: &mut [u16], playback: &Playback<F>, floors: &[u16])
-    requires levels { length levels.old ≡ 4096 }
-    requires floors { length floors.now ≡ 4096 }
-    requires full { All (λ floor. floor ≤ 65025) floors.now }
-    ensures merged { (show : Tables) (moves : List Move) (stopped : Bool)
-        → playback_stands.StandsFor F.stands_for show playback.now moves stopped
-        → (channel : ℕ) → IsTrue (is_channel channel)
-        → level_in levels.new channel
-        ≡ max (playback_level show moves channel (F.latest playback.now.fader))
-        (level_in floors.now channel) }
-    ensures full { All (λ level. level ≤ 65025) levels.new }
-{
-    for channel in 1..=CHANNELS {
-        let place = usize::from(channel) - 1;
-        levels[place] = floors[place].max(playback.level(channel) as u16);
     }
 }
 

@@ -1,5 +1,7 @@
-use Rattle.std.proofs.Common.{ap, ◌∙◌, arith}
+use Rattle.std.proofs.Common.{◌≡◌, ℕ, IsTrue, ap, ◌∙◌, arith, rules}
+use Rattle.std.specs.Vec.{with_items}
 use Rattle.std.proofs.lemmas.List.{with_items_is}
+use Rattle.show_core.specs.Numbers.{is_channel}
 use Rattle.master_core.specs.Merged.{level_after}
 use Rattle.patch_core.specs.Frame.{level_in}
 use Rattle.desk_core.specs.Played.{settings}
@@ -7,24 +9,19 @@ use Rattle.desk_core.proofs.desk.Desk.keep_floors.Goals as goal
 
 pub returns-then-not-self-clause-stands : goal.returns-then-not-self-clause-stands
 returns-then-not-self-clause-stands g c =
-    rw (← c.self.view_is) (λ show base history stands. record {
-      show_is = stands.show_is;
-      base_is = stands.base_is;
-      playback_stands = stands.playback_stands;
-      masters_stand = stands.masters_stand;
-      moment_is = stands.moment_is;
-      tick_is = stands.tick_is;
-      ended_is = stands.ended_is;
-      frames_are = stands.frames_are;
-      floors_are = λ kept channel is.
-          ap (λ fs. level_in fs channel) (with_items_is c.self.inside.floors
-          c.write_floors.new.floors (omega (
-            arith,
-            c.write_floors.auto.floors,
-            c.deref_mut.ensures.len,
-            c.self.inside.floors.ok.0,
-          )))
-          ∙ c.write_floors.ensures.levels (settings history) stands.masters_stand channel is
-          ∙ ap (λ s. level_after s (settings history) channel 0) stands.show_is;
-      kept = stands.kept;
-    })
+    rw (← c.self.view_is) (λ show base history stands.
+    let written : (with_items c.self.inside.floors c.write_floors.new.floors).items
+    ≡ c.write_floors.new.floors = with_items_is c.self.inside.floors c.write_floors.new.floors
+    (omega (
+      arith,
+      c.write_floors.auto.floors,
+      c.deref_mut.ensures.len,
+      c.self.inside.floors.ok.0,
+    )) in
+    let floors_are : (channel : ℕ) → IsTrue (is_channel channel)
+    → level_in (with_items c.self.inside.floors c.write_floors.new.floors).items channel
+    ≡ level_after show (settings history) channel 0 = λ channel is.
+    ap (λ fs. level_in fs channel) written
+    ∙ c.write_floors.ensures.levels (settings history) stands.masters_stand channel is
+    ∙ ap (λ s. level_after s (settings history) channel 0) stands.show_is in
+    search rules)

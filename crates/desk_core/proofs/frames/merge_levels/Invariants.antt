@@ -3,7 +3,7 @@ use Rattle.std.specs.Prelude.{max}
 use Rattle.show_core.specs.Tables.{Tables}
 use Rattle.playback_core.specs.Played.{Move, playback_level}
 use Rattle.playback_core.specs.Stands as playback
-use Rattle.desk_core.proofs.frames.merge_each.Given as goal
+use Rattle.desk_core.proofs.frames.merge_levels.Given as goal
 
 -- the levels so far are merged, and in their range
 abbrev pub invariant-loop-channel : goal.invariant-loop-channel
