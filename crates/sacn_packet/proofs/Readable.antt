@@ -1,10 +1,13 @@
 -- What the ten faults rule out, fault by fault.
-use Rattle.std.proofs.Common.{◌≡◌, ℕ, ◌+◌, ◌≤◌, nat_lt, Bool, true, false, not, cond, List, [], ◌∷◌}
+use Rattle.std.proofs.Common.{◌≡◌, ℕ, ◌+◌, ◌≤◌, nat_lt, Bool, true, false, not, List, [], ◌∷◌}
 use Rattle.std.proofs.Common.{length, slice_index, refl, ap, arith}
-use Rattle.std.specs.Prelude.{◌==◌, ◌||◌, find, Option, Some, None}
+use Rattle.std.specs.Prelude.{◌==◌, ◌||◌, find, None}
+use Rattle.std.specs.List.{AllByRecursion}
+use Rattle.std.proofs.lemmas.Bool.{cond_both}
 use Rattle.std.proofs.lemmas.Bool.Decides.{nat_tests}
 use Rattle.std.proofs.lemmas.Slice.Eq.{bytes_eq-Decides}
 use Rattle.byteorder.specs.Endian.{big_bytes}
+use Rattle.sacn_packet.specs.declared.unreadable.Unreadable.{Unreadable}
 use Rattle.sacn_packet.specs.declared.unreadable.Unreadable.TheVariants.{Short, Preamble}
 use Rattle.sacn_packet.specs.declared.unreadable.Unreadable.TheVariants.{Identifier, RootVector}
 use Rattle.sacn_packet.specs.declared.unreadable.Unreadable.TheVariants.{Length, FramingVector}
@@ -12,7 +15,7 @@ use Rattle.sacn_packet.specs.declared.unreadable.Unreadable.TheVariants.{Priorit
 use Rattle.sacn_packet.specs.declared.unreadable.Unreadable.TheVariants.{Count}
 use Rattle.sacn_packet.specs.Wire.{bytes_at, packet_identifier}
 use Rattle.sacn_packet.specs.Reading.{number_at, flags_at, length_at}
-use Rattle.sacn_packet.specs.Faults.{differs_at, applies, fault_of}
+use Rattle.sacn_packet.specs.Faults.{all_faults, differs_at, applies, fault_of}
 
 -- what stands in a datagram to which no fault applies
 pub record IsReadable (d : List ℕ) : Type 0 where
@@ -41,17 +44,22 @@ or_false : (a b : Bool) → (a || b) ≡ false → (a ≡ false) × (b ≡ false
 or_false true b h = cc
 or_false false b h = (refl, h)
 
-cond_none : {X : Type 0} (b : Bool) (x : X) (r : Option X) → cond b (Some x) r ≡ None → (b ≡ false)
-    × (r ≡ None)
-cond_none true x r h = cc
-cond_none false x r h = (refl, h)
+-- of tests that find nothing, each fails
+each_fails : {X : Type 0} (test : X → Bool) (xs : List X) → find test xs ≡ None
+    → AllByRecursion (λ x. test x ≡ false) xs
+each_fails test [] h = tt
+each_fails test (x ∷ xs) h =
+    cond_both (test x) _ _ (λ found. found ≡ None → (test x ≡ false)
+    × AllByRecursion (λ y. test y ≡ false) xs) (λ _ some. cc)
+    (λ fails none. (fails, each_fails test xs none)) h
+
+none_found : {X : Type 0} (test : X → Bool) (xs : List X) → ((x : X) → test x ≡ false)
+    → find test xs ≡ None
+none_found test [] fails = refl
+none_found test (x ∷ xs) fails = rw (fails x) (none_found test xs fails)
 
 both_false : {a b : Bool} → a ≡ false → b ≡ false → (a || b) ≡ false
 both_false h k = rw (h, k)
-
-none_cond : {X : Type 0} (x : X) {b : Bool} {r : Option X} → b ≡ false → r ≡ None
-    → cond b (Some x) r ≡ None
-none_cond x h k = rw (h, k)
 
 not_false : (b : Bool) → not b ≡ false → b ≡ true
 not_false true h = refl
@@ -86,47 +94,25 @@ at_same : (d : List ℕ) (offset : ℕ) (bytes : List ℕ) → bytes_at d offset
     → differs_at d offset bytes ≡ false
 at_same d offset bytes h = ap not ((bytes_eq-Decides (bytes_at d offset (length bytes)) bytes).1 h)
 
--- a datagram without a fault can be read
-pub readable_from_none : (d : List ℕ) → fault_of d ≡ None → IsReadable d
-readable_from_none d none =
-    let f1 : (applies d Short ≡ false)
-    × (find (applies d) (Preamble ∷ Identifier ∷ RootVector ∷ Length ∷ FramingVector ∷ Priority
-    ∷ Universe ∷ Dmp ∷ Count ∷ []) ≡ None) = cond_none _ _ _ none in
-    let f2 : (applies d Preamble ≡ false)
-    × (find (applies d) (Identifier ∷ RootVector ∷ Length ∷ FramingVector ∷ Priority ∷ Universe
-    ∷ Dmp ∷ Count ∷ []) ≡ None) = cond_none _ _ _ f1.1 in
-    let f3 : (applies d Identifier ≡ false)
-    × (find (applies d) (RootVector ∷ Length ∷ FramingVector ∷ Priority ∷ Universe ∷ Dmp ∷ Count
-    ∷ []) ≡ None) = cond_none _ _ _ f2.1 in
-    let f4 : (applies d RootVector ≡ false)
-    × (find (applies d) (Length ∷ FramingVector ∷ Priority ∷ Universe ∷ Dmp ∷ Count ∷ []) ≡ None)
-    = cond_none _ _ _ f3.1 in
-    let f5 : (applies d Length ≡ false)
-    × (find (applies d) (FramingVector ∷ Priority ∷ Universe ∷ Dmp ∷ Count ∷ []) ≡ None) =
-    cond_none _ _ _ f4.1 in
-    let f6 : (applies d FramingVector ≡ false)
-    × (find (applies d) (Priority ∷ Universe ∷ Dmp ∷ Count ∷ []) ≡ None) = cond_none _ _ _ f5.1 in
-    let f7 : (applies d Priority ≡ false)
-    × (find (applies d) (Universe ∷ Dmp ∷ Count ∷ []) ≡ None) = cond_none _ _ _ f6.1 in
-    let f8 : (applies d Universe ≡ false) × (find (applies d) (Dmp ∷ Count ∷ []) ≡ None) =
-    cond_none _ _ _ f7.1 in
-    let f9 : (applies d Dmp ≡ false) × (find (applies d) (Count ∷ []) ≡ None) =
-    cond_none _ _ _ f8.1 in
-    let f10 : (applies d Count ≡ false) × (find (applies d) [] ≡ None) = cond_none _ _ _ f9.1 in
-    let l7 = or_false _ _ f5.0 in
+-- what each fault asks, where none applies
+readable : (d : List ℕ) → AllByRecursion (λ fault. applies d fault ≡ false) all_faults
+    → IsReadable d
+readable d (short, (preamble, (identifier, (root, (lengths, (framing, (priority, (universe, (dmp,
+    (count, _)))))))))) =
+    let l7 = or_false _ _ lengths in
     let l6 = or_false _ _ l7.0 in
     let l5 = or_false _ _ l6.0 in
     let l4 = or_false _ _ l5.0 in
     let l3 = or_false _ _ l4.0 in
     let l2 = or_false _ _ l3.0 in
-    let u = or_false _ _ f8.0 in
-    let c3 = or_false _ _ f10.0 in
+    let u = or_false _ _ universe in
+    let c3 = or_false _ _ count in
     let c2 = or_false _ _ c3.0 in
     record {
-      long = lt_fails _ _ f1.0;
-      preamble = same_at d 0 (big_bytes 4 0x00100000) f2.0;
-      identifier = same_at d 4 packet_identifier f3.0;
-      root_vector = same_at d 18 (big_bytes 4 4) f4.0;
+      long = lt_fails _ _ short;
+      preamble = same_at d 0 (big_bytes 4 0x00100000) preamble;
+      identifier = same_at d 4 packet_identifier identifier;
+      root_vector = same_at d 18 (big_bytes 4 4) root;
       root_flags = ne_fails _ _ l2.0;
       framing_flags = ne_fails _ _ l2.1;
       dmp_flags = ne_fails _ _ l3.1;
@@ -134,25 +120,28 @@ readable_from_none d none =
       root_fits = lt_fails _ _ l5.1;
       framing_length = ne_fails _ _ l6.1;
       dmp_length = ne_fails _ _ l7.1;
-      framing_vector = same_at d 40 (big_bytes 4 2) f6.0;
-      priority = lt_fails _ _ f7.0;
+      framing_vector = same_at d 40 (big_bytes 4 2) framing;
+      priority = lt_fails _ _ priority;
       universe_from_1 = zero_fails _ u.0;
       universe_to_63999 = lt_fails _ _ u.1;
-      dmp = same_at d 117 (0x02 ∷ 0xa1 ∷ 0 ∷ 0 ∷ 0 ∷ 1 ∷ []) f9.0;
+      dmp = same_at d 117 (0x02 ∷ 0xa1 ∷ 0 ∷ 0 ∷ 0 ∷ 1 ∷ []) dmp;
       count_least = zero_fails _ c2.0;
       count_most = lt_fails _ _ c2.1;
       count_sum = ne_fails _ _ c3.1;
     }
 
+-- a datagram without a fault can be read
+pub readable_from_none : (d : List ℕ) → fault_of d ≡ None → IsReadable d
+readable_from_none d none = readable d (each_fails (applies d) all_faults none)
+
 -- no fault applies to a datagram that can be read
-pub none_from_readable : (d : List ℕ) → IsReadable d → fault_of d ≡ None
-none_from_readable d r =
-    none_cond _ (fails_lt _ _ r.long)
-    (none_cond _ (at_same d 0 (big_bytes 4 0x00100000) r.preamble)
-    (none_cond _ (at_same d 4 packet_identifier r.identifier)
-    (none_cond _ (at_same d 18 (big_bytes 4 4) r.root_vector)
-    (none_cond _
-    (both_false
+no_fault : (d : List ℕ) → IsReadable d → (fault : Unreadable) → applies d fault ≡ false
+no_fault d r Short = fails_lt _ _ r.long
+no_fault d r Preamble = at_same d 0 (big_bytes 4 0x00100000) r.preamble
+no_fault d r Identifier = at_same d 4 packet_identifier r.identifier
+no_fault d r RootVector = at_same d 18 (big_bytes 4 4) r.root_vector
+no_fault d r Length =
+    both_false
     (both_false
     (both_false
     (both_false
@@ -161,10 +150,15 @@ none_from_readable d r =
     (fails_lt _ _ r.root_least))
     (fails_lt _ _ r.root_fits))
     (fails_ne _ _ r.framing_length))
-    (fails_ne _ _ r.dmp_length))
-    (none_cond _ (at_same d 40 (big_bytes 4 2) r.framing_vector)
-    (none_cond _ (fails_lt _ _ r.priority)
-    (none_cond _ (both_false (fails_zero _ r.universe_from_1) (fails_lt _ _ r.universe_to_63999))
-    (none_cond _ (at_same d 117 (0x02 ∷ 0xa1 ∷ 0 ∷ 0 ∷ 0 ∷ 1 ∷ []) r.dmp)
-    (none_cond _ (both_false (both_false (fails_zero _ r.count_least) (fails_lt _ _ r.count_most))
-    (fails_ne _ _ r.count_sum)) refl)))))))))
+    (fails_ne _ _ r.dmp_length)
+no_fault d r FramingVector = at_same d 40 (big_bytes 4 2) r.framing_vector
+no_fault d r Priority = fails_lt _ _ r.priority
+no_fault d r Universe =
+    both_false (fails_zero _ r.universe_from_1) (fails_lt _ _ r.universe_to_63999)
+no_fault d r Dmp = at_same d 117 (0x02 ∷ 0xa1 ∷ 0 ∷ 0 ∷ 0 ∷ 1 ∷ []) r.dmp
+no_fault d r Count =
+    both_false (both_false (fails_zero _ r.count_least) (fails_lt _ _ r.count_most))
+    (fails_ne _ _ r.count_sum)
+
+pub none_from_readable : (d : List ℕ) → IsReadable d → fault_of d ≡ None
+none_from_readable d r = none_found (applies d) all_faults (no_fault d r)
