@@ -120,6 +120,13 @@ module _ (rs : List Record) (t : ℕ) (cid : List ℕ) (number : ℕ) (few : len
       ∙ ap (λ o. if is_taken 4 (while_there t o) there number then None
       else Some (reason_of (while_there t o))) e
 
+  -- what is answered to a packet of the CID: its place, or why it is refused
+  abbrev IsPlaced : Result ℕ Ignored → Type 0
+  IsPlaced r = record {
+    place : IfOk r (λ i. IsPlace (entries rs) t cid i);
+    refused : result_err r ≡ refusal 4 (entries rs) t cid number;
+  }
+
   -- a CID with a record, at a place
   module _ (i : ℕ) (is : position (own t cid) rs ≡ Some i) where
     at : (nat_lt (position_or_len (own t cid) rs) (length rs) ≡ true)
@@ -129,14 +136,7 @@ module _ (rs : List Record) (t : ℕ) (cid : List ℕ) (number : ℕ) (few : len
     within : i < length rs
     within = omega (arith, ltb-true (position_or_len (own t cid) rs) (length rs) at.0, at.1)
 
-    pub known_place : IsPlace (entries rs) t cid i
-    known_place = record {
-      within = omega (arith, within, length-map rs kept_entry);
-      room = omega (arith, within, few);
-      free = subst (IsFree t cid (entries rs)) at.1 (own_free t cid rs apart);
-    }
-
-    pub known_refused : (d : Record) (b : Bool) → b ≡ (is_there t (kept_entry (get_or rs i d))
+    known_refused : (d : Record) (b : Bool) → b ≡ (is_there t (kept_entry (get_or rs i d))
         && not (is_after (get_or rs i d).number number))
         → refusal 4 (entries rs) t cid number ≡ (if b then Some OutOfSequence else None)
     known_refused d b overtaken = rw overtaken (
@@ -159,6 +159,19 @@ module _ (rs : List Record) (t : ℕ) (cid : List ℕ) (number : ℕ) (few : len
           )),
         )))
 
+    pub known : (d : Record) (b : Bool) → b ≡ (is_there t (kept_entry (get_or rs i d))
+        && not (is_after (get_or rs i d).number number))
+        → IsPlaced (if b then Err OutOfSequence else Ok i)
+    known d true overtaken = record { place = tt; refused = sym (known_refused d true overtaken) }
+    known d false overtaken = record {
+      place = record {
+        within = omega (arith, within, length-map rs kept_entry);
+        room = omega (arith, within, few);
+        free = subst (IsFree t cid (entries rs)) at.1 (own_free t cid rs apart);
+      };
+      refused = sym (known_refused d false overtaken);
+    }
+
   -- a CID without one
   module _ (r : Result ℕ Ignored) (is : position (own t cid) rs ≡ None)
       (f : r ≡ (if nat_lt (position_or_len (gone t) rs) 4 then Ok (position_or_len (gone t) rs)
@@ -167,25 +180,22 @@ module _ (rs : List Record) (t : ℕ) (cid : List ℕ) (number : ℕ) (few : len
     nowhere = own_found t cid rs
         ∙ ap (λ o. option_map kept_entry (option_and_then (slice_get rs) o)) is
 
-    pub new_place : IfOk r (λ i. IsPlace (entries rs) t cid i)
-    new_place = rw f (cond_both (nat_lt (position_or_len (gone t) rs) 4)
-        (Ok (position_or_len (gone t) rs)) (Err SourcesFull)
-        (λ r. IfOk r (λ i. IsPlace (entries rs) t cid i)) (λ h. record {
-          within = omega (
-            arith,
-            prefix_len-le-length (λ r. not (gone t r)) rs,
-            length-map rs kept_entry,
-          );
-          room = ltb-true _ 4 h;
-          free = gone_free t cid rs nowhere;
-        }) (λ h. tt))
-
-    pub new_refused : result_err r ≡ refusal 4 (entries rs) t cid number
-    new_refused =
-        ap result_err f
-        ∙ by_test (nat_lt (position_or_len (gone t) rs) 4) (λ h. rw h) (λ h. rw h)
-        ∙ ap (λ b. if b then None else Some SourcesFull) (room t 4 rs few)
-        ∙ sym (refused None nowhere)
+    pub new : IsPlaced r
+    new = record {
+      place = rw f (cond_both (nat_lt (position_or_len (gone t) rs) 4)
+          (Ok (position_or_len (gone t) rs)) (Err SourcesFull)
+          (λ r. IfOk r (λ i. IsPlace (entries rs) t cid i)) (λ h.
+          let most = prefix_len-le-length (λ r. not (gone t r)) rs in record {
+            within = omega (arith, most, length-map rs kept_entry);
+            room = ltb-true _ 4 h;
+            free = gone_free t cid rs nowhere;
+          }) (λ h. tt));
+      refused =
+          ap result_err f
+          ∙ by_test (nat_lt (position_or_len (gone t) rs) 4) (λ h. rw h) (λ h. rw h)
+          ∙ ap (λ b. if b then None else Some SourcesFull) (room t 4 rs few)
+          ∙ sym (refused None nowhere);
+    }
 
 -- a record stays away once it is gone
 still_gone : (t u m : ℕ) → t ≤ u → nat_lt (t - m) 2500 ≡ false → nat_lt (u - m) 2500 ≡ false

@@ -13,9 +13,8 @@ use Rattle.sacn_source.specs.Offering.{Answers, Offers, answer_of, number_of}
 use Rattle.sacn_source.specs.Pacing as pacing
 use Rattle.sacn_source.specs.Pacing.{Paces}
 use Rattle.sacn_source.specs.Stands.{LaneStands}
-use Rattle.sacn_source.specs.Stream.{Offer, Packet, is_change, newest_frame, sends}
+use Rattle.sacn_source.specs.Stream.{Offer, Packet, due, is_change, live_packet, newest_frame}
 use Rattle.sacn_source.specs.declared.offered.Offered.{Offered}
-use Rattle.sacn_source.specs.declared.offered.Offered.TheVariants.{Quiet}
 use Rattle.sacn_source.proofs.PaceLemmas.{due_same, takes_offer}
 
 -- an offer is a change where it has other slots than the newest frame, or is the first
@@ -52,33 +51,11 @@ module _ (who : Identity) (lane : Lane) (offers : List Offer) (o : Offer) (diffe
       → Paces pace (o ∷ offers) 0
   paces_on pace e = rw e (takes_offer lane.pace offers o _ changed s.paces)
 
-  pub sends_as : (due b : Bool)
-      → due ≡ pacing.is_due lane.pace (pacing.is_change lane.pace differs) o.moment → due ≡ b
-      → sends (o ∷ offers) ≡ b
-  sends_as due b e is = sym (due_same lane.pace offers o _ changed s.paces) ∙ sym e ∙ is
-
--- with and without a packet that is due
-pub unanswered : (due : Bool) (place : ℕ) (p : Packet) → due ≡ false
-    → Answers place (if due then Some p else None) Quiet
-unanswered true place p e = cc
-unanswered false place p e = refl
-
-pub quiet : (due : Bool) (who : Identity) (u place : ℕ) (p : Packet) (before after : List Send)
-    → after ≡ before → due ≡ false
-    → Offers who u place (if due then Some p else None) Quiet before after
-quiet true who u place p before after same e = cc
-quiet false who u place p before after same e = (refl, same)
-
-pub offered : (due : Bool) (who : Identity) (u place : ℕ) (p : Packet) (answer : Offered)
-    (before after : List Send) → due ≡ true → Offers who u place (Some p) answer before after
-    → Offers who u place (if due then Some p else None) answer before after
-offered true who u place p answer before after e h = h
-offered false who u place p answer before after e h = cc
-
-pub answered : (due : Bool) (place : ℕ) (p : Packet) (answer : Offered) → due ≡ true
-    → Answers place (Some p) answer → Answers place (if due then Some p else None) answer
-answered true place p answer e a = a
-answered false place p answer e a = cc
+  pub due_as : (is_due b : Bool)
+      → is_due ≡ pacing.is_due lane.pace (pacing.is_change lane.pace differs) o.moment → is_due ≡ b
+      → due (o ∷ offers) ≡ (if b then Some (live_packet o.frame) else None)
+  due_as is_due b e is = ap (λ (d : Bool). if d then Some (live_packet o.frame) else None)
+      (sym (due_same lane.pace offers o _ changed s.paces) ∙ sym e ∙ is)
 
 -- the packet that was sent, at the place that the definitions give
 pub sent_packet : (who : Identity) (u place at : ℕ) (p : Packet) (bytes : List ℕ) (answer : Offered)

@@ -65,7 +65,7 @@ found_if false p n h e =
     let past : n ≤ p = grind (arith, nat_tests) in
     absurd (e past)
 
-pub is_found : (universes : List ℕ) (u : ℕ) → Contains universes u
+is_found : (universes : List ℕ) (u : ℕ) → Contains universes u
     → IsSome (position (λ v. v == u) universes)
 is_found universes u here =
     found_if _ _ (length universes) refl (λ past.
@@ -74,6 +74,13 @@ is_found universes u here =
     prefix_len_passes (λ v. not (v == u)) universes here.0 u k in
     let same : (get_or universes here.0 u == u) ≡ true = is_it _ _ here.2 in
     cc)
+
+pub place_found : {lanes now : List Lane} {universes : List ℕ} {found : Option ℕ} (u : ℕ)
+    → lanes ≡ now → universes ≡ universes_of lanes → found ≡ position (λ v. v == u) universes
+    → Contains (universes_of now) u → IsSome found
+place_found {universes = universes} u same are found here =
+    subst IsSome (sym found) (is_found universes u
+    (subst (λ (us : List ℕ). Contains us u) (sym (are ∙ ap universes_of same)) here))
 
 -- the lane of a universe, at its place
 pub record LaneAt (lanes now : List Lane) (u i : ℕ) (lane : Lane) : Type 0 where
@@ -84,13 +91,13 @@ pub record LaneAt (lanes now : List Lane) (u i : ℕ) (lane : Lane) : Type 0 whe
   pub is : lane.universe ≡ u
   pub at : lane_of now u ≡ Some lane
 
-pub lane_at : (lanes now : List Lane) (universes : List ℕ) (u i : ℕ) (lane d : Lane) → lanes ≡ now
-    → universes ≡ universes_of lanes → position (λ v. v == u) universes ≡ Some i
-    → lane ≡ get_or lanes i d
+pub lane_found : {lanes now : List Lane} {universes : List ℕ} {i : ℕ} {found : Option ℕ}
+    {lane : Lane} (u : ℕ) (d : Lane) → lanes ≡ now → universes ≡ universes_of lanes
+    → found ≡ position (λ v. v == u) universes → found ≡ Some i → lane ≡ get_or lanes i d
     → LaneAt lanes now u i lane
-lane_at lanes now universes u i lane d same are found is =
+lane_found {lanes} {now} {universes} {i} {found} {lane} u d same are result some is =
     let there : position (λ v. v == u) (universes_of lanes) ≡ Some i =
-    ap (λ (us : List ℕ). position (λ v. v == u) us) (sym are) ∙ found in
+    ap (λ (us : List ℕ). position (λ v. v == u) us) (sym are) ∙ sym result ∙ some in
     let found_in = found_by _ _ i (length (universes_of lanes)) refl there in
     let within : i < length lanes =
     omega (arith, found_in.1, length-map lanes (λ (l : Lane). l.universe)) in
@@ -110,15 +117,6 @@ lane_at lanes now universes u i lane d same are found is =
           ∙ ap (slice_get lanes) (sym first) ∙ get;
     }
 
-pub lane_found : {lanes now : List Lane} {universes slice : List ℕ} {i : ℕ} {found : Option ℕ}
-    {lane : Lane} (u : ℕ) (d : Lane) → lanes ≡ now → universes ≡ universes_of lanes
-    → slice ≡ universes
-    → found ≡ position (λ v. v == u) slice → found ≡ Some i → lane ≡ get_or lanes i d
-    → LaneAt lanes now u i lane
-lane_found {lanes} {now} {universes} {slice} {i} {found} {lane} u d same are is result some at =
-    lane_at lanes now universes u i lane d same are
-    (ap (λ (us : List ℕ). position (λ v. v == u) us) (sym is) ∙ sym result ∙ some) at
-
 -- what is kept of a universe is what its lane keeps
 pub earliest_at : {lanes now : List Lane} {u i : ℕ} {lane : Lane} → LaneAt lanes now u i lane
     → earliest_of now u ≡ lane.pace.earliest
@@ -128,10 +126,11 @@ pub ended_at : {lanes now : List Lane} {u i : ℕ} {lane : Lane} → LaneAt lane
     → ended_of now u ≡ lane.pace.ended
 ended_at p = ap (λ (o : Option Lane). option_map_or (λ l. l.pace.ended) o 0) p.at
 
-pub lane_stands : {lanes now : List Lane} {u i : ℕ} {lane : Lane} (who : Identity)
-    (offers : List Offer) (n : ℕ) → LaneAt lanes now u i lane → StandsFor who now u offers n
+pub lane_stands : {lanes now : List Lane} {u i : ℕ} {lane : Lane} {who : Identity}
+    {offers : List Offer} {n : ℕ} → LaneAt lanes now u i lane → StandsFor who now u offers n
     → LaneStands who lane offers n
-lane_stands who offers n p s = subst (λ (o : Option Lane). StandsAt who o offers n) p.at s
+lane_stands {who = who} {offers = offers} {n = n} p s =
+    subst (λ (o : Option Lane). StandsAt who o offers n) p.at s
 
 -- the lane changes, and keeps its universe
 pub record Changes (lanes now : List Lane) (u i : ℕ) (new : Lane) : Type 0 where
@@ -154,10 +153,11 @@ changes {lanes} {now} {u} {i} {lane} new p kept =
           ∙ ap (λ (ls : List Lane). lane_of ls v) p.same;
     }
 
-pub sender_stands : {lanes now : List Lane} {u i : ℕ} {new : Lane} (who : Identity)
-    (offers : List Offer) (n : ℕ) → Changes lanes now u i new → LaneStands who new offers n
+pub sender_stands : {lanes now : List Lane} {u i : ℕ} {new : Lane} {who : Identity}
+    {offers : List Offer} {n : ℕ} → Changes lanes now u i new → LaneStands who new offers n
     → StandsFor who (slice_set lanes i new) u offers n
-sender_stands who offers n p s = subst (λ (o : Option Lane). StandsAt who o offers n) (sym p.at) s
+sender_stands {who = who} {offers = offers} {n = n} p s =
+    subst (λ (o : Option Lane). StandsAt who o offers n) (sym p.at) s
 
 pub earliest_now : {lanes now : List Lane} {u i : ℕ} {new : Lane} → Changes lanes now u i new
     → earliest_of (slice_set lanes i new) u ≡ new.pace.earliest
@@ -216,8 +216,7 @@ opened who lanes universes u are all here =
       length-map lanes (λ (l : Lane). l.universe),
     ) in
     let some = some_at lanes found.0 within in
-    let p = lane_at lanes lanes (universes_of lanes) u found.0 some.0 some.0 refl refl found.1
-    some.1 in
+    let p = lane_found u some.0 refl refl refl found.1 some.1 in
     subst (λ (o : Option Lane). StandsAt who o [] 0) (sym p.at)
     (subst (λ (l : Lane). LaneStands who l [] 0) (sym some.1) (all found.0 some.0 within))
 
