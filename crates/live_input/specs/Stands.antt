@@ -1,5 +1,5 @@
 -- What a live input keeps, against what happened to it.
-use Rattle.std.specs.Prelude.{◌≡◌, ◌∷◌, ℕ, List, length, drop, fold}
+use Rattle.std.specs.Prelude.{◌≡◌, ◌∷◌, ◌++◌, [], ℕ, List, length, drop, fold, Option, Some, None}
 use Rattle.live_input.specs.Kept.{Kept, TypedKept}
 use Rattle.live_input.specs.Night.{Happening, answers, bytes_come, is_closed, lines_answered, now}
 use Rattle.live_input.specs.Told.{Leaves}
@@ -15,6 +15,15 @@ TypedStands kept bytes taken =
 abbrev pub IsNext : List ℕ → List ℕ → List (List ℕ) → Type 0
 IsNext line bytes taken =
     (later : List (List ℕ)) × (drop (length taken) (typed_of bytes).lines ≡ line ∷ later)
+
+-- a line was taken, or none was left to be taken of what is kept
+abbrev pub TakesLine : TypedKept → TypedKept → Option (List ℕ) → Type 0
+TakesLine old new None =
+    (bytes : List ℕ) (taken : List (List ℕ)) → TypedStands old bytes taken
+    → TypedStands new bytes taken
+TakesLine old new (Some line) =
+    (bytes : List ℕ) (taken : List (List ℕ)) → TypedStands old bytes taken
+    → IsNext line bytes taken × TypedStands new bytes (taken ++ line ∷ [])
 
 -- each part that it keeps is what the happenings leave
 pub record StandsFor (kept : Kept) (happenings : List Happening) : Type 0 where

@@ -18,9 +18,8 @@ pub struct TypedLines {
 }
 
 impl TypedLines {
-    ghost use Rattle.std.specs.Prelude.{◌≡◌, ◌≤◌, ◌<◌, ◌+◌, ◌++◌, ◌∷◌, ℕ, [], List, length};
-    ghost use Rattle.std.specs.Prelude.{IfNone, IfSome};
-    ghost use Rattle.live_input.specs.Stands.{IsNext, TypedStands};
+    ghost use Rattle.std.specs.Prelude.{◌≡◌, ◌≤◌, ◌<◌, ◌+◌, [], length, option_map, IfNone};
+    ghost use Rattle.live_input.specs.Stands.{TakesLine};
     ghost use Rattle.live_input.specs.TypedView.{typed_kept};
 
     pub fn new() -> Self
@@ -48,14 +47,8 @@ impl TypedLines {
     // bytes that came were taken.
     pub fn next_line(&mut self) -> Option<Line>
         ensures none { IfNone result ((typed_kept self.new).unread ≡ []) }
-        ensures stands { IfNone result ((bytes : List ℕ) (taken : List (List ℕ))
-            → TypedStands (typed_kept self.old) bytes taken
-            → TypedStands (typed_kept self.new) bytes taken) }
-        ensures next { IfSome result (λ line. (bytes : List ℕ) (taken : List (List ℕ))
-            → TypedStands (typed_kept self.old) bytes taken → IsNext line.items bytes taken) }
-        ensures taken { IfSome result (λ line. (bytes : List ℕ) (taken : List (List ℕ))
-            → TypedStands (typed_kept self.old) bytes taken
-            → TypedStands (typed_kept self.new) bytes (taken ++ line.items ∷ [])) }
+        ensures takes { TakesLine (typed_kept self.old) (typed_kept self.new)
+            (option_map (λ line. line.items) result) }
     {
         while self.taken < self.came.len() {
             if let Some(line) = self.take_byte() {
@@ -68,14 +61,8 @@ impl TypedLines {
     // Takes a byte, and answers the line that it ends, where that says something.
     fn take_byte(&mut self) -> Option<Line>
         requires { self.old.taken < length self.old.came.items }
-        ensures stands { IfNone result ((bytes : List ℕ) (taken : List (List ℕ))
-            → TypedStands (typed_kept self.old) bytes taken
-            → TypedStands (typed_kept self.new) bytes taken) }
-        ensures next { IfSome result (λ line. (bytes : List ℕ) (taken : List (List ℕ))
-            → TypedStands (typed_kept self.old) bytes taken → IsNext line.items bytes taken) }
-        ensures taken { IfSome result (λ line. (bytes : List ℕ) (taken : List (List ℕ))
-            → TypedStands (typed_kept self.old) bytes taken
-            → TypedStands (typed_kept self.new) bytes (taken ++ line.items ∷ [])) }
+        ensures takes { TakesLine (typed_kept self.old) (typed_kept self.new)
+            (option_map (λ line. line.items) result) }
         ensures same { self.new.came ≡ self.old.came }
         ensures one_more { self.new.taken ≡ self.old.taken + 1 }
     {
