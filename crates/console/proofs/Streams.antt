@@ -7,21 +7,29 @@ use Rattle.std.proofs.lemmas.Bool.{cond_both}
 use Rattle.std.proofs.lemmas.Bool.Decides.{nat_tests}
 use Rattle.std.proofs.lemmas.List.{map-append}
 use Rattle.std.proofs.lemmas.List.Elements.{All-nil, All-cons}
-use Rattle.std.specs.Prelude.{if◌then◌else◌, slice_get, nat_eq, unwrap_or, All}
+use Rattle.std.specs.Prelude.{if◌then◌else◌, slice_get, nat_eq, unwrap_or, All, IfSome}
+use Rattle.std.specs.Option.{option_to_list}
+use Rattle.desk_core.specs.declared.command.Command.{Command}
 use Rattle.desk_core.specs.declared.command.Command.TheVariants.{End}
 use Rattle.desk_core.specs.Played.{Call, order, tick, Act, ended, ended_by}
 use Rattle.desk_core.specs.Meaning.{dark, frame, latest_frame}
 use Rattle.desk_core.proofs.FrameSlots.{frame_full}
-use Rattle.sacn_source.specs.Stream.{Packet, sends, frames_sent, packets, live_packet}
+use Rattle.sacn_source.specs.Stream.{Packet, sends, packets, live_packet}
 use Rattle.sacn_source.specs.Stream.{last_packet, newest_frame}
 use Rattle.sacn_source.proofs.Streams.{OffersFull, HoldsFull, packets_full, newest_is}
-use Rattle.console.specs.Streams.{Production, offer_at, offered_by, offers_of, terminations_of}
+use Rattle.console.specs.Streams.{Production, due_at, offer_at, offered_by, offers_of, packet_due}
+use Rattle.console.specs.Streams.{terminations_of, tick_at}
 
 get_front : {A : Type 0} (xs ys : List A) (k : ℕ) (x : A) → slice_get xs k ≡ Some x
     → slice_get (xs ++ ys) k ≡ Some x
 get_front [] ys k x e = cc
 get_front (y ∷ xs) ys zero x e = e
 get_front (y ∷ xs) ys (suc k) x e = get_front xs ys k x e
+
+-- a command leaves the streams
+pub ended_same : (c : Command) (n : Option ℕ) → unwrap_or (ended_by (order c) n) 0 ≡ unwrap_or n 0
+ended_same End None = refl
+ended_same _ n = refl
 
 module _ (c : Production) (u : ℕ) where
   abbrev pub stream : List Act → List Packet
@@ -40,26 +48,46 @@ module _ (c : Production) (u : ℕ) where
   pub stream_full : (h : List Act) → All HoldsFull (stream h)
   stream_full h = packets_full (offers_of c u h) (terminations_of h) (offers_full h)
 
-  -- one call more leaves the packets, and adds at most one
+  -- a packet that is due has 512 slots
+  pub due_full : (h : List Act) (m : ℕ) → IfSome (due_at c h m u).packet HoldsFull
+  due_full h m = go (ended h)
+    where
+      go : (n : Option ℕ) → IfSome (packet_due n (offer_at c u h m ∷ offers_of c u h)) HoldsFull
+      go None = cond_both (sends (offer_at c u h m ∷ offers_of c u h)) _ _
+          (λ o. IfSome o HoldsFull) (λ _. frame_full c.show h m (u - c.base)) (λ _. tt)
+      go (Some n) = refl
+
+  -- one tick more leaves the packets, and adds what is due
+  pub stream_ticked : (h : List Act) (m : ℕ)
+      → stream (tick_at m ∷ h) ≡ stream h ++ option_to_list (due_at c h m u).packet
+  stream_ticked h m = go (ended h)
+    where
+      live : (b : Bool) (fs : List (List ℕ)) (f : List ℕ)
+          → map live_packet (if b then fs ++ f ∷ [] else fs)
+          ≡ map live_packet fs ++ option_to_list (if b then Some (live_packet f) else None)
+      live true fs f = map-append live_packet fs (f ∷ [])
+      live false fs f = sym (append-nil _)
+
+      go : (n : Option ℕ)
+          → packets (offered_by tick n (offer_at c u h m) (offers_of c u h))
+          (unwrap_or (ended_by tick n) 0)
+          ≡ packets (offers_of c u h) (unwrap_or n 0)
+          ++ option_to_list (packet_due n (offer_at c u h m ∷ offers_of c u h))
+      go None = live (sends (offer_at c u h m ∷ offers_of c u h)) _ _
+      go (Some n) = ap (packets (offers_of c u h)) (add-one n)
+
+  -- one call more leaves them, and adds at most one
   stream_more : (a : Act) (h : List Act)
       → (rest : List Packet) × (stream (a ∷ h) ≡ stream h ++ rest)
-  stream_more a h = go a.call (ended h)
+  stream_more a h = go a.call
     where
-      go : (call : Call) (n : Option ℕ) → (rest : List Packet)
-          × (packets (offered_by call n (offer_at c u h a.moment) (offers_of c u h))
-          (unwrap_or (ended_by call n) 0) ≡ packets (offers_of c u h) (unwrap_or n 0) ++ rest)
-      go tick None = cond_both (sends (offer_at c u h a.moment ∷ offers_of c u h))
-          (frames_sent (offers_of c u h) ++ (offer_at c u h a.moment).frame ∷ [])
-          (frames_sent (offers_of c u h)) (λ fs. (rest : List Packet)
-          × (map live_packet fs ≡ map live_packet (frames_sent (offers_of c u h)) ++ rest))
-          (λ _. (
-            _,
-            map-append live_packet (frames_sent (offers_of c u h))
-                ((offer_at c u h a.moment).frame ∷ []),
-          )) (λ _. ([], sym (append-nil _)))
-      go tick (Some n) = (last_packet ∷ [], ap (packets (offers_of c u h)) (add-one n))
-      go (order End) None = ([], sym (append-nil _))
-      go _ n = ([], sym (append-nil _))
+      go : (call : Call) → (rest : List Packet)
+          × (stream (record { moment = a.moment; call = call } ∷ h) ≡ stream h ++ rest)
+      go tick = (_, stream_ticked h a.moment)
+      go (order o) = (
+        [],
+        ap (packets (offers_of c u h)) (ended_same o (ended h)) ∙ sym (append-nil _),
+      )
 
   pub packet_stays : (a : Act) (h : List Act) (k : ℕ) (p : Packet)
       → slice_get (stream h) k ≡ Some p → slice_get (stream (a ∷ h)) k ≡ Some p

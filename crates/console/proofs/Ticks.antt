@@ -1,7 +1,7 @@
 -- What an accepted tick offers, and what it leaves.
 use Rattle.std.proofs.Common.{◌≡◌, ◌≤◌, ◌<◌, ◌+◌, ℕ, refl, ap, arith, sym, subst, ◌∙◌, List, []}
 use Rattle.std.proofs.Common.{◌∷◌, ◌++◌, Some, None, Ok, Err, Result, append-nil, append_assoc}
-use Rattle.std.specs.Prelude.{Option, unwrap_or}
+use Rattle.std.specs.Prelude.{Option}
 use Rattle.std.specs.Option.{option_map_or}
 use Rattle.std.proofs.lemmas.Bool.Decides.{nat_tests}
 use Rattle.fade_core.specs.Level.{Start}
@@ -24,6 +24,7 @@ use Rattle.sacn_source.specs.declared.offered.Offered.{Offered}
 use Rattle.console.specs.ConsoleState.{ConsoleState}
 use Rattle.console.specs.Offering.{AreOffered, none, quiet, sent, Offers}
 use Rattle.console.specs.Stands.{HasStreams, IsTick, StandsFor}
+use Rattle.console.proofs.Streams.{ended_same}
 use Rattle.console.specs.Streams.{Due, Production, offers_of, order_at, tick_at, universes_of}
 
 -- ---- what the link is offered
@@ -145,11 +146,6 @@ tick_stands {F} {sf} {p} {view} {state} {history} new moment same is answers sta
       },
       t.streams_stand,
     )
-
--- a command leaves the streams
-ended_same : (c : Command) (n : Option ℕ) → unwrap_or (ended_by (order c) n) 0 ≡ unwrap_or n 0
-ended_same End None = refl
-ended_same _ n = refl
 
 pub streams_ordered : (p : Production) (lanes : List Lane) (moment : ℕ) (c : Command)
     (history : List Act)

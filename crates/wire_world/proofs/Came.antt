@@ -1,14 +1,15 @@
 -- Events that were not skipped: each is at its time, and names what is there. So of the packets of
 -- the consoles that came to a receiver: all that it has accepted is of them, and so are the
 -- deliveries of each console.
-use Rattle.std.proofs.Common.{◌≡◌, ℕ, ◌<◌, ◌≤◌, ◌^◌, Bool, true, false, not, refl, arith, List, []}
+use Rattle.std.proofs.Common.{◌≡◌, ℕ, ◌<◌, ◌≤◌, Bool, true, false, refl, arith, List, []}
 use Rattle.std.proofs.Common.{◌∷◌, length, Option, Some, None, ap, sym, subst, inl, inr, ◌∙◌, map}
 use Rattle.std.proofs.Common.{get_or}
-use Rattle.std.specs.Prelude.{if◌then◌else◌, nat_lt, nat_le, is_some, slice_get, nat_eq}
+use Rattle.std.specs.Prelude.{if◌then◌else◌, is_some, slice_get, nat_eq}
 use Rattle.std.specs.Prelude.{slice_range, filter, Contains, IsTrue, find}
 use Rattle.std.specs.List.{fold}
 use Rattle.std.specs.Option.{option_map_or, option_map}
-use Rattle.std.proofs.lemmas.Bool.{ltb-true, ltb-false, eqb-true, cond_both}
+use Rattle.std.proofs.lemmas.Bool.Decides.{nat_tests}
+use Rattle.std.proofs.lemmas.Bool.{eqb-true, cond_both}
 use Rattle.std.proofs.lemmas.Option.{slice_get-get_or, none-some, same_Some}
 use Rattle.sacn_packet.specs.Reading.{front_packet}
 use Rattle.sacn_source.specs.Stream.{Packet, last_packet}
@@ -17,9 +18,6 @@ use Rattle.sacn_receiver.specs.Source as source
 use Rattle.sacn_receiver.specs.Taking.{entry_of, ignored, answer, heard}
 use Rattle.wire_world.specs.declared.event.Event.{Event}
 use Rattle.wire_world.specs.declared.event.What.TheVariants.{Deliver, Stray}
-use Rattle.wire_world.specs.declared.reply.Skip.{Skip}
-use Rattle.wire_world.specs.declared.reply.Skip.TheVariants.{Backwards, TooLarge, NoConsole}
-use Rattle.wire_world.specs.declared.reply.Skip.TheVariants.{NoReceiver, NotSent}
 use Rattle.wire_world.specs.World.{World, universe_at, console_at, no_console, IsWorld}
 use Rattle.wire_world.specs.Happened.{sent, handed, hears, accepted_by}
 use Rattle.wire_world.specs.Replies.{last_moment, missing, skipped, done_one, done}
@@ -50,11 +48,8 @@ IsRun w [] = Unit {0}
 IsRun w (e ∷ past) = (skipped w past e ≡ None) × IsRun w past
 
 one_runs : (w : World) (past : List Event) (e : Event) → IsRun w past → IsRun w (done_one w past e)
-one_runs w past e run = go (skipped w past e) refl
-  where
-    go : (o : Option Skip) → skipped w past e ≡ o → IsRun w (if is_some o then past else e ∷ past)
-    go None q = (q, run)
-    go (Some s) q = run
+one_runs w past e run = cond_both (is_some (skipped w past e)) _ _ (IsRun w) (λ _. run)
+    (λ q. (grind (arith, nat_tests), run))
 
 more_runs : (w : World) (events past : List Event) → IsRun w past
     → IsRun w (fold (done_one w) past events)
@@ -71,16 +66,7 @@ pub record IsTimely (w : World) (past : List Event) (e : Event) : Type 0 where
 
 pub timely : (w : World) (past : List Event) (e : Event) → skipped w past e ≡ None
     → IsTimely w past e
-timely w past e s = go (nat_lt e.moment (last_moment past)) (nat_le (2 ^ 48) e.moment) refl s
-  where
-    go : (b c : Bool) → nat_lt e.moment (last_moment past) ≡ b → (if b then Some Backwards
-        else (if c then Some TooLarge else missing w past e.what)) ≡ None → IsTimely w past e
-    go true c p s = cc
-    go false true p s = cc
-    go false false p s = record {
-      after = ltb-false e.moment (last_moment past) p;
-      there = s;
-    }
+timely w past e s = record { after = grind (arith, nat_tests); there = grind (arith, nat_tests) }
 
 -- what is delivered was sent by a console that is there
 pub record IsDelivered (w : World) (past : List Event) (i u k : ℕ) : Type 0 where
@@ -90,22 +76,11 @@ pub record IsDelivered (w : World) (past : List Event) (i u k : ℕ) : Type 0 wh
 
 pub deliverer : (w : World) (past : List Event) (r i u k : ℕ)
     → missing w past (Deliver r i u k) ≡ None → IsDelivered w past i u k
-deliverer w past r i u k h =
-    go (nat_lt i (length w.consoles)) (nat_lt r (length w.receivers))
-    (nat_lt k (length (sent w i u past))) refl refl h
-  where
-    go : (a b c : Bool) → nat_lt i (length w.consoles) ≡ a
-        → nat_lt k (length (sent w i u past)) ≡ c
-        → (if not a then Some NoConsole else (if not b then Some NoReceiver
-        else (if c then None else Some NotSent))) ≡ None → IsDelivered w past i u k
-    go true true true p q h = record {
-      there = ltb-true i (length w.consoles) p;
-      packet = _;
-      is_sent = slice_get-get_or (sent w i u past) k last_packet (ltb-true k _ q);
-    }
-    go true true false p q h = cc
-    go true false c p q h = cc
-    go false b c p q h = cc
+deliverer w past r i u k h = record {
+  there = grind (arith, nat_tests);
+  packet = _;
+  is_sent = slice_get-get_or (sent w i u past) k last_packet (grind (arith, nat_tests));
+}
 
 -- a receiver's last packet is not after the last event
 hears_last : (u : ℕ) (h : List source.Entry) (t : ℕ) (o : Option (List ℕ))

@@ -1,6 +1,7 @@
 -- The least numbers of the packets that later events deliver.
-use Rattle.std.proofs.Common.{◌≡◌, ◌⊎◌, ℕ, zero, suc, ◌+◌, ◌<◌, ◌≤◌, refl, ap, sym, subst, ◌∙◌}
+use Rattle.std.proofs.Common.{◌≡◌, ℕ, zero, suc, ◌+◌, ◌<◌, ◌≤◌, refl, ap, sym, subst, ◌∙◌}
 use Rattle.std.proofs.Common.{List, [], ◌∷◌, length, set, Some, inl, inr, arith}
+use Rattle.std.proofs.lemmas.Option.{same_Some}
 use Rattle.std.specs.Prelude.{slice_get, slice_index}
 use Rattle.std.proofs.lemmas.Bool.{cases_eq}
 use Rattle.std.proofs.lemmas.List.{get_or-set_other, get_or-set_same}
@@ -12,8 +13,7 @@ use Rattle.wire_world.specs.Wanted.{IsUpTo, Spares, row_of}
 
 -- a delivery is of no packet before the least of its row
 abbrev pub IsLeast : List ℕ → What → Type 0
-IsLeast least (Deliver r i u k) = slice_index least (row_of i u) ≤ k
-IsLeast least _ = Unit {0}
+IsLeast least what = (r i u k : ℕ) → what ≡ Deliver r i u k → slice_index least (row_of i u) ≤ k
 
 -- so for the events from event n on
 pub record AreLowsFrom (events : List Event) (lows least : List ℕ) (n : ℕ) : Type 0 where
@@ -32,92 +32,73 @@ index_less (x ∷ xs) zero (suc j) y l = omega arith
 index_less (x ∷ xs) (suc i) zero y l = omega arith
 index_less (x ∷ xs) (suc i) (suc j) y l = index_less xs i j y l
 
-least_less : (least : List ℕ) (row y : ℕ) → y ≤ slice_index least row → (what : What)
-    → IsLeast least what → IsLeast (set least row y) what
-least_less least row y l (Deliver r i u k) h =
-    omega (arith, index_less least row (row_of i u) y l, h)
-least_less least row y l _ h = tt
-
--- what is no delivery
-no_least : (least : List ℕ) (what : What) → ((r i u k : ℕ) → what ≡ Deliver r i u k → ⊥)
-    → IsLeast least what
-no_least least (Deliver r i u k) other = absurd (other r i u k refl)
-no_least least _ other = tt
-
-no_spares : (what : What) → ((r i u k : ℕ) → what ≡ Deliver r i u k → ⊥) → (low : ℕ)
-    (later : What) → Spares what low later
-no_spares (Deliver r i u k) other low later = absurd (other r i u k refl)
-no_spares _ other low later = tt
+-- what holds of each event: of event n, and of the others
+one_more : (P : ℕ → Event → Type 0) (events : List Event) (n : ℕ) (e : Event)
+    → slice_get events n ≡ Some e → P n e
+    → ((j : ℕ) (f : Event) → (n ≡ j → ⊥) → slice_get events j ≡ Some f → P j f)
+    → (j : ℕ) (f : Event) → slice_get events j ≡ Some f → P j f
+one_more P events n e at new old j f g = elim (cases_eq n j) [
+  | inl q ↦
+      (let same : e ≡ f = same_Some e f (sym at ∙ ap (slice_get events) q ∙ g) in
+      subst (λ (n : ℕ). P n f) q (subst (P n) same new))
+  | inr q ↦ old j f q g
+]
 
 -- an event before these, and what it changes
-module _ (events : List Event) (lows least : List ℕ) (n : ℕ) (e : Event)
-    (at : slice_get events n ≡ Some e) (all : AreLowsFrom events lows least (n + 1)) where
+module _ (events : List Event) (lows least : List ℕ) (from n : ℕ) (e : Event)
+    (next : from ≡ n + 1) (at : slice_get events n ≡ Some e)
+    (all : AreLowsFrom events lows least from) where
   lows_with : (new_lows new_least : List ℕ) → length new_lows ≡ length lows
       → length new_least ≡ length least
-      → ((what : What) → IsLeast least what → IsLeast new_least what) → IsLeast new_least e.what
+      → ((row : ℕ) → slice_index new_least row ≤ slice_index least row)
+      → IsLeast new_least e.what
       → ((i : ℕ) → n < i → slice_index new_lows i ≡ slice_index lows i)
       → ((later : What) → IsLeast least later → Spares e.what (slice_index new_lows n) later)
       → AreLowsFrom events new_lows new_least n
   lows_with new_lows new_least long wide less first past spared = record {
     long = long ∙ all.long;
     wide = wide ∙ all.wide;
-    least_are = λ j f l g. here j f g (cases_eq n j) l;
-    lows_are = λ i j d f l m a b. there i j d f a b m (cases_eq n i) l;
+    least_are = λ j f l g. one_more (λ j f. n ≤ j → IsLeast new_least f.what) events n e at
+        (λ _. first) (λ j f q g l r i u k is. omega (
+          arith,
+          less (row_of i u),
+          all.least_are j f (omega (arith, l, q)) g r i u k is,
+        )) j f g l;
+    lows_are = λ i j d f l m a b. one_more
+        (λ i d. n ≤ i → i < j → Spares d.what (slice_index new_lows i) f.what) events n e at
+        (λ _ m. spared f.what (all.least_are j f (omega (arith, m)) b))
+        (λ i d q a l m. rw (past i (omega (arith, l, q)))
+        (all.lows_are i j d f (omega (arith, l, q)) m a b)) i d a l m;
   }
-    where
-      same : (j : ℕ) (f : Event) → slice_get events j ≡ Some f → n ≡ j → e ≡ f
-      same j f g q = let h : Some e ≡ Some f = sym at ∙ ap (slice_get events) q ∙ g in cc
-
-      here : (j : ℕ) (f : Event) → slice_get events j ≡ Some f → (n ≡ j) ⊎ (n ≡ j → ⊥) → n ≤ j
-          → IsLeast new_least f.what
-      here j f g (inl q) l =
-          subst (λ (d : Event). IsLeast new_least d.what) (same j f g q) first
-      here j f g (inr q) l = less f.what (all.least_are j f (omega (arith, l, q)) g)
-
-      there : (i j : ℕ) (d f : Event) → slice_get events i ≡ Some d → slice_get events j ≡ Some f
-          → i < j → (n ≡ i) ⊎ (n ≡ i → ⊥) → n ≤ i
-          → Spares d.what (slice_index new_lows i) f.what
-      there i j d f a b m (inl q) l =
-          subst (λ (i : ℕ). Spares d.what (slice_index new_lows i) f.what) q
-          (subst (λ (x : Event). Spares x.what (slice_index new_lows n) f.what) (same i d a q)
-          (spared f.what (all.least_are j f (omega (arith, l, m, q)) b)))
-      there i j d f a b m (inr q) l =
-          let later : n < i = omega (arith, l, q) in
-          subst (λ (x : ℕ). Spares d.what x f.what) (sym (past i later))
-          (all.lows_are i j d f (omega (arith, later)) m a b)
 
   -- no delivery
   pub lows_still : ((r i u k : ℕ) → e.what ≡ Deliver r i u k → ⊥)
       → AreLowsFrom events lows least n
-  lows_still other =
-      lows_with lows least refl refl (λ what h. h) (no_least least e.what other) (λ i l. refl)
-      (λ later h. no_spares e.what other (slice_index lows n) later)
+  lows_still other = lows_with lows least refl refl (λ row. omega arith)
+      (λ r i u k is. absurd (other r i u k is)) (λ i l. refl)
+      (λ later h r i u k q m is. absurd (other r i u k is))
 
   -- a delivery
-  pub lows_more : (r c u k y : ℕ) → e.what ≡ Deliver r c u k → n < length events
-      → row_of c u < length least → y ≤ slice_index least (row_of c u) → y ≤ k
-      → AreLowsFrom events (set lows n (slice_index least (row_of c u)))
-      (set least (row_of c u) y) n
-  lows_more r c u k y is within inside less low =
-      lows_with (set lows n row) (set least (row_of c u) y) (length-set lows n row)
-      (length-set least (row_of c u) y) (least_less least (row_of c u) y less)
-      (subst (IsLeast (set least (row_of c u) y)) (sym is) first)
-      (λ i l. get_or-set_other lows n i row 0 (λ q. omega (arith, l, q)))
-      (λ later h. subst (λ (x : What). Spares x (slice_index (set lows n row) n) later) (sym is)
-      (subst (λ (x : ℕ). Spares (Deliver r c u k) x later)
-      (sym (get_or-set_same lows n row 0 (omega (arith, within, all.long)))) (spared later h)))
-    where
-      row : ℕ
-      row = slice_index least (row_of c u)
-
-      first : IsLeast (set least (row_of c u) y) (Deliver r c u k)
-      first = omega (arith, get_or-set_same least (row_of c u) y 0 inside, low)
-
-      spared : (later : What) → IsLeast least later → Spares (Deliver r c u k) row later
-      spared (Deliver q d v m) h = λ a b.
-          let same : row_of c u ≡ row_of d v = ap (λ x. row_of x u) a ∙ ap (row_of d) b in
-          omega (arith, ap (slice_index least) same, h)
-      spared _ h = tt
+  pub lows_more : (r c u k row y : ℕ) → e.what ≡ Deliver r c u k → row ≡ row_of c u
+      → n < length events → row < length least → y ≤ slice_index least row → y ≤ k
+      → AreLowsFrom events (set lows n (slice_index least row)) (set least row y) n
+  lows_more r c u k row y is named within inside less low =
+      lows_with (set lows n (slice_index least row)) (set least row y) (length-set lows n _)
+      (length-set least row y) (λ j. index_less least row j y less)
+      (λ q d v m e. let same : row ≡ row_of d v = cc in let k_is : k ≡ m = cc in
+      omega (
+        arith,
+        get_or-set_same least row y 0 inside,
+        ap (slice_index (set least row y)) same,
+        low,
+      ))
+      (λ i l. get_or-set_other lows n i (slice_index least row) 0 (λ q. omega (arith, l, q)))
+      (λ later h r d v k q m e f. let same : row ≡ row_of d v = cc in omega (
+        arith,
+        get_or-set_same lows n (slice_index least row) 0 (omega (arith, within, all.long)),
+        ap (slice_index least) same,
+        h q d v m f,
+      ))
 
 -- ---- the last packet of all
 
@@ -126,18 +107,10 @@ abbrev pub AreUpToBefore : List Event → ℕ → ℕ → Type 0
 AreUpToBefore events last n = (j : ℕ) (e : Event) → j < n → slice_get events j ≡ Some e
     → IsUpTo last e.what
 
-pub up_to_more : (last new : ℕ) → last ≤ new → (what : What) → IsUpTo last what → IsUpTo new what
-up_to_more last new l (Deliver r i u k) h = omega (arith, l, h)
-up_to_more last new l _ h = tt
-
 -- one event more
 pub up_to_next : (events : List Event) (last new n : ℕ) (e : Event) → slice_get events n ≡ Some e
     → last ≤ new → IsUpTo new e.what → AreUpToBefore events last n
     → AreUpToBefore events new (n + 1)
-up_to_next events last new n e at l first all j f m g = here (cases_eq n j)
-  where
-    here : (n ≡ j) ⊎ (n ≡ j → ⊥) → IsUpTo new f.what
-    here (inl q) =
-        let h : Some e ≡ Some f = sym at ∙ ap (slice_get events) q ∙ g in
-        let same : e ≡ f = cc in subst (λ (x : Event). IsUpTo new x.what) same first
-    here (inr q) = up_to_more last new l f.what (all j f (omega (arith, m, q)) g)
+up_to_next events last new n e at l first all j f m g =
+    one_more (λ j f. j < n + 1 → IsUpTo new f.what) events n e at (λ _. first)
+    (λ j f q g m r i u k is. omega (arith, l, all j f (omega (arith, m, q)) g r i u k is)) j f g m

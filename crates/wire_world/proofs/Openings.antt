@@ -2,13 +2,14 @@
 use Rattle.console.specs.Streams.{Production}
 use Rattle.std.proofs.Common.{◌≡◌, ℕ, zero, suc, ◌+◌, ◌<◌, ap, sym, subst, ◌∙◌, List}
 use Rattle.std.proofs.Common.{[], ◌∷◌, ◌++◌, length, get_or, Some, arith, length-append}
-use Rattle.std.specs.Prelude.{slice_get, slice_index, map}
+use Rattle.std.specs.Prelude.{slice_get, map}
 use Rattle.std.proofs.lemmas.Option.{get_or_from_slice_get, slice_get_within, slice_get-get_or}
+use Rattle.std.proofs.lemmas.Option.{same_Some}
 use Rattle.show_core.specs.Tables.{Tables}
 use Rattle.desk_core.specs.Played.{Act}
 use Rattle.wire_world.specs.declared.setup.Setup.{Setup}
 use Rattle.wire_world.specs.World.{no_console}
-use Rattle.sacn_receiver.specs.Kept.{Kept, StandsFor}
+use Rattle.sacn_receiver.specs.Kept.{Kept}
 use Rattle.std.proofs.lemmas.List.{length-map, get_or-map}
 use Rattle.wire_world.specs.Stands.{cast, Opened, Listening, AllAre, world_of}
 
@@ -37,29 +38,13 @@ opened_more {st = st} {tells = tells} {stages = stages} {shows = shows} {setups 
           stages s added (λ j y h d f. all.each j y d h f) j y e d f;
     }
   where
-    is : get_or shows setup.show no_console.show ≡ t
-    is = get_or_from_slice_get shows setup.show t no_console.show show
-
     added : (d : Setup) → slice_get setups (length stages) ≡ Some d
         → st s (cast shows d) [] × tells s
     added d f =
-        let g : Some setup ≡ Some d = sym here ∙ ap (slice_get setups) (sym all.long) ∙ f in
-        let same : setup ≡ d = cc in
+        let same : setup ≡ d =
+        same_Some setup d (sym here ∙ ap (slice_get setups) (sym all.long) ∙ f) in
         subst (λ (x : Setup). st s (cast shows x) [] × tells s) same
-        (subst (λ (x : Tables). st s (record {
-          show = x;
-          base = setup.base;
-          source = setup.identity;
-        }) [] × tells s) (sym is) new)
-
-pub listening_more : (receivers : List Kept) (universes : List ℕ) (i u : ℕ) (k : Kept)
-    → Listening receivers universes i → u ≡ slice_index universes i → (k.universe ≡ u)
-    → StandsFor k [] → Listening (receivers ++ k ∷ []) universes (i + 1)
-listening_more receivers universes i u k all is named new = record {
-  long = omega (arith, length-append receivers (k ∷ []), all.long);
-  each = all_push (λ r y. (y.universe ≡ slice_index universes r) × StandsFor y []) receivers k
-      (named ∙ is ∙ ap (slice_index universes) (sym all.long), new) all.each;
-}
+        (rw (get_or_from_slice_get shows setup.show t no_console.show show) new)
 
 -- what was opened stands for a world in which nothing happened yet
 pub begun : {S : Type 0} {st : S → Production → List Act → Type 0} {tells : S → Type 0}

@@ -53,12 +53,6 @@ rest_passed last gone kept all packet l r =
     (omega (arith, length-take (last + 1) all, rest_length gone kept _ r, l)))
     r
 
--- the first of all
-pub rest_first : (last : ℕ) (all : List (List ℕ)) (packet : List ℕ)
-    → IsRest 0 [] (take (last + 1) all)
-    → IsRest 0 (packet ∷ []) (take (last + 1) (all ++ packet ∷ []))
-rest_first last all packet r = rest_kept last 0 [] all packet (omega arith) r
-
 -- with its first one gone
 pub rest_less : (gone : ℕ) (packet : List ℕ) (kept all : List (List ℕ))
     → IsRest gone (packet ∷ kept) all → IsRest (gone + 1) kept all

@@ -44,7 +44,7 @@ use Rattle.wire_world.specs.Replies.{AreReplies, last_slots}
 use Rattle.wire_world.specs.Laws.{IsAlone, NoStray, IsFreshIn, IsFresh, is_silent, is_live, is_lit}
 use Rattle.wire_world.specs.Laws.{light, meant, slots_at, accepted_from, Headline, IsOneOf}
 use Rattle.wire_world.specs.Laws.{WindowLaw, UnpatchedSlotsAreZero, SilenceIsDark, MergeLaw}
-use Rattle.wire_world.specs.Laws.{HearsOne, HearsAll, CidsDiffer, AreSettled, IsUnpatched, lights}
+use Rattle.wire_world.specs.Laws.{HearsAll, CidsDiffer, AreSettled, IsUnpatched, lights}
 use Rattle.std.specs.Option.{option_map, option_map_or}
 use Rattle.wire_world.specs.declared.event.What.TheVariants.{Deliver, Show}
 use Rattle.wire_world.specs.declared.reply.Skip.{Skip}
@@ -370,7 +370,7 @@ module _ (w : World) (v : IsWorld w) (r : ℕ) (past : List Event) (run : IsRun 
         (λ e m. (i, inl refl, from_alone w v r past run no_stray i e m)) p f
         (λ j m. elim m [ inl e ↦ rw e lit | inr n ↦ absurd n ]) slot
 
-    means : IsFresh w r i past t → slots_at w r past t ≡ meant w r i past
+    pub means : IsFresh w r i past t → slots_at w r past t ≡ meant w r i past
     means fresh = elim kept [
       | inl none ↦ absurd (subst (IsFreshIn t _) none fresh)
       | inr k ↦
@@ -385,12 +385,13 @@ module _ (w : World) (v : IsWorld w) (r : ℕ) (past : List Event) (run : IsRun 
           ∙ get_or-replicate 512 slot 0 0 l))))
     ]
 
-    silence : is_silent w r i past t ≡ true → slots_at w r past t ≡ dark
+    pub silence : is_silent w r i past t ≡ true → slots_at w r past t ≡ dark
     silence silent = dark_slots (accepted_by w r past) t (λ slot.
         shown_alone (is_lit w r past t) (light w r past) (lit_settled (λ _. inr silent)) slot
         ∙ rw silent)
 
-    near : IsOneOf t (slots_at w r past t) (sent w i (universe_at w r) past) (delivered w r i past)
+    pub near :
+        IsOneOf t (slots_at w r past t) (sent w i (universe_at w r) past) (delivered w r i past)
         ⊎ (slots_at w r past t ≡ dark)
     near = elim kept [
       | inl none ↦
@@ -417,9 +418,44 @@ module _ (w : World) (v : IsWorld w) (r : ℕ) (past : List Event) (run : IsRun 
           })) (λ q. inr (dark_slots (accepted_by w r past) t (λ slot. shows slot ∙ rw q))))
     ]
 
+    pub zero : IsFresh w r i past t → (slot : ℕ) → slot < 512 → IsUnpatched w r i slot
+        → slice_index (slots_at w r past t) slot ≡ 0
+    zero fresh slot below none = ap (λ l. slice_index l slot) (means fresh)
+        ∙ unpatched_latest (console_at w i).show (acts w i past)
+        (universe_at w r - (console_at w i).base) slot below none
+
+-- ---- several consoles
+
+pub merges : (w : World) → IsWorld w → (r : ℕ) (past : List Event) → IsRun w past → (t : ℕ)
+    → last_moment past ≤ t → HearsAll w r past → AreSettled w r past t → (slot : ℕ) → slot < 512
+    → slice_index (slots_at w r past t) slot ≡ merged (lights w r past t) slot
+merges w v r past run t time hears state slot below =
+    get_or-map-range_with_len (shown (accepted_by w r past) t) 0 512 slot slot 0 below (omega arith)
+    ∙ shown_lit t (accepted_by w r past) (λ j. (source_of w j).cid) (range_with_len 0 n)
+    (λ e m. let c = from_console w v r past run hears.no_stray e m in (
+      c.0,
+      in_from_place c.0 (range_with_len 0 n) c.0 (omega (arith, c.1, length-range_with_len 0 n))
+          (omega (arith, get_or-range_with_len 0 n c.0 c.0 c.1)),
+      c.2,
+    )) (is_lit w r past t) (light w r past) (λ j m.
+    let place = place_from_in j (range_with_len 0 n) m in
+    let k : place.0 < n = omega (arith, place.1, length-range_with_len 0 n) in
+    let l : j < n = omega (arith, place.2, get_or-range_with_len 0 n place.0 j k) in
+    ap (lit_by t) (follows w v r past run hears.no_stray hears.apart hears.few j l)
+    ∙ lit_settled w v r past run hears.no_stray t time j (hears.window j l) (state j l)) slot
+  where
+    n : ℕ
+    n = length w.consoles
+
+-- ---- the laws, of the events that were done
+
 pub headline : Headline
 headline w events r i t v time hears = means w v r (done w events) (done_runs w events)
     hears.no_stray t time i hears.window hears.alone
+
+pub unpatched_zero : UnpatchedSlotsAreZero
+unpatched_zero w events r i t slot v time hears fresh = zero w v r (done w events)
+    (done_runs w events) hears.no_stray t time i hears.window hears.alone fresh slot
 
 pub window_law : WindowLaw
 window_law w events r i t v time hears = near w v r (done w events) (done_runs w events)
@@ -429,130 +465,55 @@ pub silence_dark : SilenceIsDark
 silence_dark w events r i t v time hears = silence w v r (done w events) (done_runs w events)
     hears.no_stray t time i hears.window hears.alone
 
--- ---- several consoles
-
 pub merge_law : MergeLaw
-merge_law w events r t v time hears state slot below =
-    get_or-map-range_with_len (shown (accepted_by w r past) t) 0 512 slot slot 0 below (omega arith)
-    ∙ shown_lit t (accepted_by w r past) (λ j. (source_of w j).cid) (range_with_len 0 n)
-    (λ e m. let c = from_console w v r past (done_runs w events) hears.no_stray e m in (
-      c.0,
-      in_from_place c.0 (range_with_len 0 n) c.0 (omega (arith, c.1, length-range_with_len 0 n))
-          (omega (arith, get_or-range_with_len 0 n c.0 c.0 c.1)),
-      c.2,
-    )) (is_lit w r past t) (light w r past) (λ j m.
-    let place = place_from_in j (range_with_len 0 n) m in
-    let k : place.0 < n = omega (arith, place.1, length-range_with_len 0 n) in
-    let l : j < n = omega (arith, place.2, get_or-range_with_len 0 n place.0 j k) in
-    ap (lit_by t) (follows w v r past (done_runs w events) hears.no_stray hears.apart hears.few j l)
-    ∙ lit_settled w v r past (done_runs w events) hears.no_stray t time j (hears.window j l)
-    (state j l)) slot
+merge_law w events r t v = merges w v r (done w events) (done_runs w events) t
+
+-- ---- the laws, of what a rehearsal shows
+
+-- what is shown: after these events, none of which was skipped, the slots at a moment not before
+pub record WasShown (w : World) (past : List Event) (r t : ℕ) (slots : List ℕ) : Type 0 where
+  pub run : IsRun w past
+  pub time : last_moment past ≤ t
+  pub are : slots ≡ slots_at w r past t
+
+pub was_shown : (w : World) (events : List Event) (replies : List Reply) (last : List (List ℕ))
+    → AreReplies w events replies → last ≡ last_slots w (done w events)
+    → (r t : ℕ) (past : List Event) (slots : List ℕ)
+    → IsShown w events replies last r t past slots → WasShown w past r t slots
+was_shown w events replies last are left r t past slots (inl is) =
+    rw is.before (go (skipped w before x) refl (same_Some (reply_to w before x) (Shown slots)
+    (sym (are.1 is.place x is.asked) ∙ is.answered)))
   where
-    past : List Event
-    past = done w events
+    before : List Event
+    before = done w (take is.place events)
 
-    n : ℕ
-    n = length w.consoles
+    x : Event
+    x = record { moment = t; what = Show r }
 
-pub unpatched_zero : UnpatchedSlotsAreZero
-unpatched_zero w events r i t slot v time hears fresh below none =
-    ap (λ l. slice_index l slot) (headline w events r i t v time hears fresh)
-    ∙ unpatched_latest (console_at w i).show (acts w i (done w events))
-    (universe_at w r - (console_at w i).base) slot below none
-
-was_shown : (w : World) (past : List Event) (r t : ℕ) (slots : List ℕ)
-    → reply_to w past (record { moment = t; what = Show r }) ≡ Shown slots
-    → (skipped w past (record { moment = t; what = Show r }) ≡ None)
-    × (slots ≡ slots_at w r past t)
-was_shown w past r t slots = go (skipped w past (record { moment = t; what = Show r }))
-  where
-    go : (o : Option Skip) → option_map_or Skipped o (replied w past t (Show r)) ≡ Shown slots
-        → (o ≡ None) × (slots ≡ slots_at w r past t)
-    go (Some s) k = cc
-    go None k = (refl, cc)
-
--- the slots of a receiver at the end
-left_at : (w : World) (past : List Event) (r : ℕ) (slots : List ℕ)
-    → slice_get (last_slots w past) r ≡ Some slots → slots ≡ slots_at w r past (last_moment past)
-left_at w past r slots s =
-    let f : ℕ → List ℕ = λ r. slots_at w r past (last_moment past) in
+    go : (o : Option Skip) → skipped w before x ≡ o
+        → option_map_or Skipped o (replied w before t (Show r)) ≡ Shown slots
+        → WasShown w before r t slots
+    go (Some s) e k = cc
+    go None e k = record {
+      run = done_runs w (take is.place events);
+      time = (timely w before x e).after;
+      are = cc;
+    }
+was_shown w events replies last are left r t past slots (inr is) =
+    let shown : slice_get (last_slots w (done w events)) r ≡ Some slots =
+    ap (λ l. slice_get l r) (sym left) ∙ is.left in
+    let f : ℕ → List ℕ = λ r. slots_at w r (done w events) (last_moment (done w events)) in
     let count : ℕ = length w.receivers in
-    sym (get_or_from_slice_get (last_slots w past) r slots [] s)
-    ∙ get_or-map-range_with_len f 0 count r r [] (omega (
-      arith,
-      slice_get_within (last_slots w past) r slots s,
-      length-map-range_with_len f 0 count,
-    )) (omega arith)
-
--- ---- the laws, of a rehearsal with these replies and these last slots
-
-module _ (w : World) (events : List Event) (replies : List Reply) (last : List (List ℕ))
-    (v : IsWorld w) (are : AreReplies w events replies)
-    (left : last ≡ last_slots w (done w events)) where
-  -- whatever is true of the slots of a receiver is true of the slots shown
-  at_shown : (P : List Event → List ℕ → Type 0) (r t : ℕ) (past : List Event) (slots : List ℕ)
-      → IsShown w events replies last r t past slots
-      → ((es : List Event) → last_moment (done w es) ≤ t
-      → P (done w es) (slots_at w r (done w es) t)) → P past slots
-  at_shown P r t past slots (inl is) law =
-      let es : List Event = take is.place events in
-      let x : Event = record { moment = t; what = Show r } in
-      let k = was_shown w (done w es) r t slots (same_Some (reply_to w (done w es) x) (Shown slots)
-      (sym (are.1 is.place x is.asked) ∙ is.answered)) in
-      rw (is.before, k.1) (law es (timely w (done w es) x k.0).after)
-  at_shown P r t past slots (inr is) law =
-      let all : List Event = done w events in
-      let at : t ≡ last_moment all = is.at_last ∙ ap last_moment is.all in
-      let k = left_at w all r slots (ap (λ l. slice_get l r) (sym left) ∙ is.left) in
-      rw (is.all, k) (subst (λ t. P all (slots_at w r all t)) at (law events (omega arith)))
-
-  pub shows_meaning : (r i t : ℕ) (past : List Event) (slots : List ℕ)
-      → IsShown w events replies last r t past slots
-      → IsAlone w r i past → NoStray w r past
-      → IsInWindow (delivered w r i past) → IsFresh w r i past t
-      → slots ≡ meant w r i past
-  shows_meaning r i t past slots shown alone no_stray window =
-      at_shown (λ p s. HearsOne w r i p → IsFresh w r i p t → s ≡ meant w r i p) r t past slots
-      shown (λ es after. headline w es r i t v after)
-      (record { alone = alone; no_stray = no_stray; window = window })
-
-  pub shows_zero : (r i t slot : ℕ) (past : List Event) (slots : List ℕ)
-      → IsShown w events replies last r t past slots
-      → IsAlone w r i past → NoStray w r past
-      → IsInWindow (delivered w r i past) → IsFresh w r i past t
-      → slot < 512 → IsUnpatched w r i slot → slice_index slots slot ≡ 0
-  shows_zero r i t slot past slots shown alone no_stray window fresh below none =
-      at_shown (λ p s. HearsOne w r i p → IsFresh w r i p t → slice_index s slot ≡ 0) r t past
-      slots shown
-      (λ es after hears fresh. unpatched_zero w es r i t slot v after hears fresh below none)
-      (record { alone = alone; no_stray = no_stray; window = window }) fresh
-
-  pub shows_near : (r i t : ℕ) (past : List Event) (slots : List ℕ)
-      → IsShown w events replies last r t past slots
-      → IsAlone w r i past → NoStray w r past
-      → IsInWindow (delivered w r i past)
-      → (IsOneOf t slots (sent w i (universe_at w r) past) (delivered w r i past)
-      ⊎ (slots ≡ dark)) × (IsTrue (is_silent w r i past t) → slots ≡ dark)
-  shows_near r i t past slots shown alone no_stray window =
-      at_shown (λ p s. HearsOne w r i p
-      → (IsOneOf t s (sent w i (universe_at w r) p) (delivered w r i p) ⊎ (s ≡ dark))
-      × (IsTrue (is_silent w r i p t) → s ≡ dark)) r t past slots shown
-      (λ es after hears. (
-        window_law w es r i t v after hears,
-        silence_dark w es r i t v after hears,
-      )) (record { alone = alone; no_stray = no_stray; window = window })
-
-  pub shows_merged : length w.consoles ≤ 4 → (r t slot : ℕ) (past : List Event) (slots : List ℕ)
-      → IsShown w events replies last r t past slots
-      → CidsDiffer w → NoStray w r past
-      → ((i : ℕ) → i < length w.consoles → IsInWindow (delivered w r i past))
-      → AreSettled w r past t
-      → slot < 512 → slice_index slots slot ≡ merged (lights w r past t) slot
-  shows_merged few r t slot past slots shown apart no_stray window settled below =
-      at_shown (λ p s. HearsAll w r p → AreSettled w r p t
-      → slice_index s slot ≡ merged (lights w r p t) slot) r t past slots shown
-      (λ es after hears settled. merge_law w es r t v after hears settled slot below)
-      (record { apart = apart; few = few; no_stray = no_stray; window = window }) settled
+    rw (is.at_last, is.all) (record {
+      run = done_runs w events;
+      time = omega arith;
+      are = sym (get_or_from_slice_get _ r slots [] shown)
+          ∙ get_or-map-range_with_len f 0 count r r [] (omega (
+            arith,
+            slice_get_within _ r slots shown,
+            length-map-range_with_len f 0 count,
+          )) (omega arith);
+    })
 
 pub answers_alone : (w : World) (events : List Event) (replies : List Reply) → IsWorld w
     → AreReplies w events replies → length w.consoles ≤ 4
@@ -563,16 +524,14 @@ pub answers_alone : (w : World) (events : List Event) (replies : List Reply) →
     → CidsDiffer w → NoStray w r past
     → slice_get replies j ≡ Some (reply_alone w past t r i universe k)
 answers_alone w events replies v are few j r i u k t past e is s apart no_stray =
-    subst (λ p. skipped w p x ≡ None → NoStray w r p
-    → slice_get replies j ≡ Some (reply_alone w p t r i u k)) (sym is) (λ s no_stray.
-    let m = timely w before x s in
+    let m = timely w before x (rw is at s) in
     let d = deliverer w before r i u k m.there in
     let here : datagram w i u k before ≡ Some (packet_bytes (console_at w i).source u k d.packet) =
     ap (option_map (packet_bytes (console_at w i).source u k)) d.is_sent in
-    are.1 j x e
-    ∙ ap (λ o. Some (option_map_or Skipped o (replied w before t (Deliver r i u k)))) s
+    rw is (are.1 j x e
+    ∙ ap (λ o. Some (option_map_or Skipped o (replied w before t (Deliver r i u k)))) (rw is at s)
     ∙ rw here (ap (λ a. Some (taken_reply a)) (consoles_independent w (take j events) r i u k t _ v
-    apart few d.there m.after no_stray here))) s no_stray
+    apart few d.there m.after (rw is at no_stray) here)))
   where
     before : List Event
     before = done w (take j events)

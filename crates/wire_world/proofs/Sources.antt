@@ -1,9 +1,9 @@
 -- Who sends for a console that was opened is a source.
-use Rattle.std.proofs.Common.{◌≡◌, ◌⊎◌, ℕ, suc, ◌<◌, ◌≤◌, Bool, true, false, refl, ap, sym}
-use Rattle.std.proofs.Common.{subst, ◌∙◌, List, [], ◌∷◌, length, take, drop, get_or, Option, Some}
+use Rattle.std.proofs.Common.{◌≡◌, ℕ, true, ap, sym}
+use Rattle.std.proofs.Common.{subst, ◌∙◌, List, [], length, take, drop, get_or, Option, Some}
 use Rattle.std.proofs.Common.{None, inl, inr, arith}
-use Rattle.std.specs.Prelude.{◌||◌, slice_get, nat_eq}
-use Rattle.std.specs.List.{list_any}
+use Rattle.std.specs.Prelude.{nat_eq, Contains}
+use Rattle.std.proofs.lemmas.Map.Views.{Contains-from_any}
 use Rattle.std.proofs.lemmas.Bool.{eqb-true}
 use Rattle.std.proofs.lemmas.List.{length-take, length-drop}
 use Rattle.std.proofs.lemmas.Option.{slice_get_cases, slice_get-get_or}
@@ -14,7 +14,7 @@ use Rattle.sacn_source.specs.Identify.{fields_of}
 use Rattle.sacn_source.specs.Identity.{Identity}
 use Rattle.sacn_source.specs.Kept.{Lane}
 use Rattle.sacn_source.specs.Stands.{StandsAt, lane_of}
-use Rattle.console.specs.Streams.{universes_of}
+use Rattle.console.specs.Streams.{Production, universes_of}
 use Rattle.wire_world.specs.declared.setup.Setup.{Setup}
 use Rattle.wire_world.specs.World.{IsIdentity, plays}
 use Rattle.wire_world.specs.declared.stage.Stage.{Stage}
@@ -43,38 +43,24 @@ lane_source who (Some lane) stands =
     let packet = stands.packet in
     source_of who lane.universe packet.0 packet.1 lane.packet _ packet.2
 
--- where a number stands that is among these
-place_of : (u : ℕ) (us : List ℕ) → list_any (λ n. nat_eq n u) us ≡ true
-    → (k : ℕ) × (k < length us) × (get_or us k u ≡ u)
-place_of u [] h = cc
-place_of u (n ∷ us) h = go (nat_eq n u) refl h (place_of u us)
-  where
-    go : (b : Bool) → nat_eq n u ≡ b → (b || list_any (λ n. nat_eq n u) us) ≡ true
-        → (list_any (λ n. nat_eq n u) us ≡ true
-        → (k : ℕ) × (k < length us) × (get_or us k u ≡ u))
-        → (k : ℕ) × (k < length (n ∷ us)) × (get_or (n ∷ us) k u ≡ u)
-    go true e h later = (0, omega arith, eqb-true n u e)
-    go false e h later = let k = later h in (suc k.0, omega (arith, k.1), k.2)
+-- a universe that is played is one of the console's
+pub played_in : (p : Production) (u : ℕ) → plays p u ≡ true → Contains (universes_of p) u
+played_in p u =
+    Contains-from_any {eq = λ a b. nat_eq b a} (λ a b e. sym (eqb-true b a e)) u (universes_of p)
 
 pub sources : {F : Type 0} (fs : F → List Start → Type 0) (stages : List (Stage F))
     (shows : List Tables) (setups : List Setup)
     → Opened (StageStands fs) Tells stages shows setups (length setups)
     → AreSources shows setups
 sources {F} fs stages shows setups opened = λ i d within universe played.
-    go i (get_or setups i d) (slice_get-get_or setups i d within) within universe played
-    (slice_get_cases stages i).1
-  where
-    go : (i : ℕ) (d : Setup) → slice_get setups i ≡ Some d → i < length setups → (universe : ℕ)
-        → plays (cast shows d) universe ≡ true
-        → ((s : Stage F) × (i < length stages) × (slice_get stages i ≡ Some s)
-        × (get_or stages i s ≡ s)) ⊎ ((length stages ≤ i) × (slice_get stages i ≡ None))
-        → IsIdentity d.identity
-    go i d here within universe played (inl s) =
-        let stands = (opened.each i s.0 d s.2 here).0.console_stands.streams_stand in
-        let k = place_of universe (universes_of (cast shows d)) played in
-        let lanes : List Lane = s.0.console.sender in
-        let at : StandsAt d.identity (lane_of lanes universe) [] 0 =
-        subst (λ u. StandsAt d.identity (lane_of lanes u) [] 0) k.2
-        (stands.streams k.0 universe k.1) in
-        lane_source d.identity (lane_of lanes universe) at
-    go i d here within universe played (inr n) = absurd (omega (arith, n.0, opened.long, within))
+    elim (slice_get_cases stages i).1 [
+      | inl s ↦
+          let setup : Setup = get_or setups i d in
+          let stands = (opened.each i s.0 setup s.2 (slice_get-get_or setups i d within)).0 in
+          let k = played_in (cast shows setup) universe played in
+          let lanes : List Lane = s.0.console.sender in
+          lane_source setup.identity (lane_of lanes universe)
+          (subst (λ u. StandsAt setup.identity (lane_of lanes u) [] 0) k.2
+          (stands.console_stands.streams_stand.streams k.0 universe k.1))
+      | inr n ↦ absurd (omega (arith, n.0, opened.long, within))
+    ]

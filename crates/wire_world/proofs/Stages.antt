@@ -15,7 +15,6 @@ use Rattle.desk_core.specs.declared.answer.Refused.{Refused}
 use Rattle.desk_core.specs.Played.{Call, Act, refusal, outcome}
 use Rattle.wire_world.specs.declared.event.Event.{Event}
 use Rattle.wire_world.specs.declared.reply.Skip.{Skip}
-use Rattle.wire_world.specs.declared.reply.Reply.TheVariants as reply
 use Rattle.wire_world.specs.World.{World, console_at}
 use Rattle.wire_world.specs.Happened.{call_of, unless_refused, acts}
 use Rattle.sacn_source.specs.Stream.{Packet}
@@ -25,9 +24,7 @@ use Rattle.wire_world.specs.declared.reply.Skip.TheVariants.{NotSent}
 use Rattle.wire_world.specs.Happened.{bytes_of, datagram, sent}
 use Rattle.wire_world.specs.Datagrams.{packet_bytes}
 use Rattle.wire_world.specs.Replies.{no_console_at, missing}
-use Rattle.desk_core.specs.declared.answer.Ticked.{Ticked}
-use Rattle.sacn_source.specs.declared.offered.Offered.{Offered}
-use Rattle.wire_world.specs.Stands.{AllHear, AllStand, AllTell, order_reply, tick_reply}
+use Rattle.wire_world.specs.Stands.{AllHear, AllStand, AllTell}
 use Rattle.wire_world.specs.Stands.{unless_skipped}
 
 -- what holds of each element after a write: of the new one at its place, of an old one elsewhere
@@ -111,15 +108,10 @@ module _ {S : Type 0} {st : S → Production → List Act → Type 0} {stages : 
 
 -- ---- replies
 
-pub order_answer : (o : Option Refused)
-    → order_reply (outcome o tt) ≡ option_map_or reply.Refused o reply.Done
-order_answer None = refl
-order_answer (Some r) = refl
-
-pub tick_answer : (o : Option Refused) (x : Ticked) (y : List (ℕ × Offered))
-    → tick_reply (outcome o (x, y)) ≡ option_map_or reply.Refused o (reply.Ticked x y)
-tick_answer None x y = refl
-tick_answer (Some r) x y = refl
+pub told : {A B : Type 0} (reply : Result A Refused → B) (x : A) (o : Option Refused)
+    → reply (outcome o x) ≡ option_map_or (λ r. reply (Err r)) o (reply (Ok x))
+told reply x None = refl
+told reply x (Some r) = refl
 
 -- ---- deliveries
 
@@ -139,22 +131,28 @@ module _ {S : Type 0} (st : S → Production → List Act → Type 0) (tells : S
     → o ≡ bytes_of p h universe n)
     (w : World) (past : List Event) (all : AllStand st stages w past)
     (tell : AllTell tells stages) (hear : AllHear receivers w past) where
-  pub is_found : o ≡ datagram w console universe n past
+  is_receiver : nat_lt receiver (length w.receivers) ≡ true
+  is_receiver = lt-ltb receiver (length w.receivers) (omega (arith, few, hear.each))
+
+  is_found : o ≡ datagram w console universe n past
   is_found = found (console_at w console) (acts w console past)
       (stood all console was at) (tell console was at)
 
-  pub is_receiver : nat_lt receiver (length w.receivers) ≡ true
-  is_receiver = lt-ltb receiver (length w.receivers) (omega (arith, few, hear.each))
-
-  pub missed : missing w past (Deliver receiver console universe n)
-      ≡ (if is_some o then None else Some NotSent)
-  missed = rw (
-    here all console was at,
+  pub looked_up : (nat_lt receiver (length w.receivers) ≡ true)
+      × (o ≡ datagram w console universe n past)
+      × (missing w past (Deliver receiver console universe n)
+      ≡ (if is_some o then None else Some NotSent))
+  looked_up = (
     is_receiver,
-    is_sent (packet_bytes (console_at w console).source universe n)
-        (sent w console universe past) n,
+    is_found,
+    rw (
+      here all console was at,
+      is_receiver,
+      is_sent (packet_bytes (console_at w console).source universe n)
+          (sent w console universe past) n,
+      is_found,
+    ) refl,
   )
-      (ap (λ o. if is_some o then None else Some NotSent) (sym is_found))
 
 -- what holds of any value
 pub always : {A E : Type 0} (r : Result A E) (P : A → Type 0) → ((a : A) → P a) → IfOk r P

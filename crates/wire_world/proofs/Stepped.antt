@@ -1,9 +1,9 @@
 -- One event, in plain variables.
 use Rattle.console.specs.Streams.{Production}
-use Rattle.std.proofs.Common.{◌≡◌, ℕ, ◌<◌, ◌≤◌, ◌^◌, false, refl, ap, sym, subst, ◌∙◌, List}
+use Rattle.std.proofs.Common.{◌≡◌, ℕ, ◌<◌, ◌≤◌, ◌^◌, false, refl, ◌∙◌, List}
 use Rattle.std.proofs.lemmas.Bool.{le-leb, le-ltb, lt-leb, lt-ltb}
 use Rattle.std.proofs.Common.{Option, Some, None, Result, Ok, Err}
-use Rattle.std.specs.Prelude.{if◌then◌else◌, is_some}
+use Rattle.std.specs.Prelude.{if◌then◌else◌}
 use Rattle.std.specs.Option.{option_map_or}
 use Rattle.desk_core.specs.declared.answer.Refused.{Refused}
 use Rattle.desk_core.specs.Played.{Act}
@@ -18,7 +18,7 @@ use Rattle.wire_world.specs.declared.reply.Skip.TheVariants.{Backwards, TooLarge
 use Rattle.wire_world.specs.declared.reply.Reply.{Reply}
 use Rattle.wire_world.specs.declared.reply.Reply.TheVariants as reply
 use Rattle.wire_world.specs.World.{World}
-use Rattle.wire_world.specs.Replies.{last_moment, missing, skipped, done_one, taken_reply, replied}
+use Rattle.wire_world.specs.Replies.{last_moment, missing, skipped, taken_reply, replied}
 use Rattle.wire_world.specs.Stands.{AllStand, AllHear, AllTell, AllAre, IsStep, is_skip}
 use Rattle.wire_world.specs.Stands.{unless_skipped}
 
@@ -39,11 +39,6 @@ no_skip w past t (Deliver r i u k) = taken_no_skip _
 no_skip w past t (Stray r from to) = taken_no_skip _
 no_skip w past t (Show r) = refl
 
-skip_is : (o : Option Skip) (r : Reply) → is_skip r ≡ false
-    → is_skip (option_map_or reply.Skipped o r) ≡ is_some o
-skip_is None r h = h
-skip_is (Some s) r h = refl
-
 module _ (w : World) (past : List Event) (e : Event) where
   pub timely : last_moment past ≤ e.moment → e.moment < 2 ^ 48
       → skipped w past e ≡ missing w past e.what
@@ -62,14 +57,8 @@ module _ {S : Type 0} {st : S → Production → List Act → Type 0} {tells : S
   pub step_skipped : (s : Skip) (last : ℕ) → skipped w past e ≡ Some s
       → last ≡ last_moment past → AllAre st tells stages receivers w past
       → IsStep st tells stages receivers last (reply.Skipped s) w past e
-  step_skipped s last k l are = record {
-    replied = sym (ap (λ o. option_map_or reply.Skipped o (replied w past e.moment e.what)) k);
-    last_is = l ∙ ap last_moment (sym same);
-    are = subst (AllAre st tells stages receivers w) (sym same) are;
-  }
-    where
-      same : done_one w past e ≡ past
-      same = ap (λ o. unless_skipped o e past) k
+  step_skipped s last k l are =
+      record { replied = rw k refl; last_is = rw k l; are = rw k are }
 
   -- one that happens
   pub step_done : (r : Reply) (was last : ℕ) → skipped w past e ≡ missing w past e.what
@@ -80,23 +69,13 @@ module _ {S : Type 0} {st : S → Production → List Act → Type 0} {tells : S
       → AllTell tells stages → AllHear receivers w (unless_skipped (missing w past e.what) e past)
       → IsStep st tells stages receivers last r w past e
   step_done r was last k l is n stand tell hear = record {
-    replied = is ∙ ap (λ o. option_map_or reply.Skipped o (replied w past e.moment e.what))
-        (sym k);
-    last_is = n
-        ∙ ap (λ b. if b then was else e.moment) (ap is_skip is
-        ∙ skip_is (missing w past e.what) (replied w past e.moment e.what)
-        (no_skip w past e.moment e.what))
-        ∙ ap (λ x. if is_some (missing w past e.what) then x else e.moment) l
-        ∙ go (missing w past e.what) ∙ ap last_moment (sym same);
-    are = subst (AllAre st tells stages receivers w) (sym same)
-        (record { stand = stand; tell = tell; hear = hear });
+    replied = rw k is;
+    last_is = n ∙ rw (k, is, l) (go (missing w past e.what));
+    are = rw k (record { stand = stand; tell = tell; hear = hear });
   }
     where
-      same : done_one w past e ≡ unless_skipped (missing w past e.what) e past
-      same = ap (λ o. unless_skipped o e past) k
-
       go : (o : Option Skip)
-          → (if is_some o then last_moment past else e.moment)
-          ≡ last_moment (unless_skipped o e past)
-      go None = refl
+          → (if is_skip (option_map_or reply.Skipped o (replied w past e.moment e.what))
+          then last_moment past else e.moment) ≡ last_moment (unless_skipped o e past)
+      go None = rw (no_skip w past e.moment e.what) refl
       go (Some s) = refl

@@ -58,43 +58,35 @@ module _ {F : Type 0} (sf : F → List Start → Type 0) (old new : Stage F) (m 
       → xs ++ sent_to u (sends_of sent) ≡ xs
   none_more u e xs = ap (λ l. xs ++ sent_to u l) e ∙ append-nil xs
 
-  answers : (p : Production) (h : List Act) → StageStands sf old p h → Tells new
-      → IfOk r (λ a. a.1 ≡ map due_answer (dues_at p h m))
-  answers p h s t = IfOk-weaker r _ _ (λ a o. answers_ticked p h m sent.rows [] a.1
-      (subst (λ before. Offers p.source (dues_at p h m) a.1 before (sends_of sent))
-      (ap (map send_of) s.link_empty) (o p h s.console_stands (tells t)))) offered
-
-  stands_ticked : OnOk r ((p : Production) (h : List Act) → StageStands sf old p h
-      → StageStands sf new p (tick_at m ∷ h))
-  stands_ticked = ok_from r _ _ _ (λ a stands o p h s. record {
-    console_stands = stands p h s.console_stands;
-    link_empty = emptied;
-    packets_kept = λ t u. rw (
-      last,
-      sym (stream_ticked p h m (sends_of sent) a.1
-          (subst (λ before. Offers p.source (dues_at p h m) a.1 before (sends_of sent))
-          (ap (map send_of) s.link_empty) (o p h s.console_stands (tells t))) u),
-    )
-        (rest t u _ (s.packets_kept (told (tells t)) u));
-  }) stands offered
-
-  stands_refused : OnErr r ((p : Production) (h : List Act) → StageStands sf old p h
-      → StageStands sf new p h)
-  stands_refused = err_from r (new.console ≡ old.console)
-      (sent.full ≡ false → sends_of sent ≡ sends_of old.link) _ (λ same quiet p h s. record {
-        console_stands = subst (λ c. StandsFor sf p c h) (sym same) s.console_stands;
-        link_empty = emptied;
-        packets_kept = λ t u. rw last
-            (subst (λ (xs : List (List ℕ)). IsRest (gone_of new.shelves.items u)
-            (kept_of new.shelves.items u) (take (old.last + 1) xs))
-            (none_more u (quiet (tells t) ∙ ap (map send_of) s.link_empty) _)
-            (rest t u _ (s.packets_kept (told (tells t)) u)));
-      }) same quiet
-
   pub leaves : ((p : Production) (h : List Act) → StageStands sf old p h → Tells new
       → IfOk r (λ a. a.1 ≡ map due_answer (dues_at p h m)))
       × OnOk r ((p : Production) (h : List Act) → StageStands sf old p h
       → StageStands sf new p (tick_at m ∷ h))
       × OnErr r ((p : Production) (h : List Act) → StageStands sf old p h
       → StageStands sf new p h)
-  leaves = (answers, stands_ticked, stands_refused)
+  leaves = (
+    λ p h s t. IfOk-weaker r _ _ (λ a o. answers_ticked p h m sent.rows [] a.1
+        (subst (λ before. Offers p.source (dues_at p h m) a.1 before (sends_of sent))
+        (ap (map send_of) s.link_empty) (o p h s.console_stands (tells t)))) offered,
+    ok_from r _ _ _ (λ a stands o p h s. record {
+      console_stands = stands p h s.console_stands;
+      link_empty = emptied;
+      packets_kept = λ t u. rw (
+        last,
+        sym (stream_ticked p h m (sends_of sent) a.1
+            (subst (λ before. Offers p.source (dues_at p h m) a.1 before (sends_of sent))
+            (ap (map send_of) s.link_empty) (o p h s.console_stands (tells t))) u),
+      )
+          (rest t u _ (s.packets_kept (told (tells t)) u));
+    }) stands offered,
+    err_from r (new.console ≡ old.console)
+        (sent.full ≡ false → sends_of sent ≡ sends_of old.link) _ (λ same quiet p h s. record {
+          console_stands = subst (λ c. StandsFor sf p c h) (sym same) s.console_stands;
+          link_empty = emptied;
+          packets_kept = λ t u. rw last
+              (subst (λ (xs : List (List ℕ)). IsRest (gone_of new.shelves.items u)
+              (kept_of new.shelves.items u) (take (old.last + 1) xs))
+              (none_more u (quiet (tells t) ∙ ap (map send_of) s.link_empty) _)
+              (rest t u _ (s.packets_kept (told (tells t)) u)));
+        }) same quiet,
+  )

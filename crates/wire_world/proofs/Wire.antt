@@ -6,7 +6,7 @@ use Rattle.std.proofs.Common.{None, suc, [], ◌∷◌}
 use Rattle.std.specs.Prelude.{if◌then◌else◌, nat_lt, nat_eq, is_some, bit_and, nat_le, slice_get}
 use Rattle.std.specs.Option.{option_or, option_map}
 use Rattle.std.proofs.lemmas.List.{take_all}
-use Rattle.std.proofs.lemmas.Bool.{eq-eqb, and_parts, cond-true, eqb-true, leb-true}
+use Rattle.std.proofs.lemmas.Bool.{eq-eqb, and_parts, cond-true, leb-true}
 use Rattle.sacn_packet.specs.Wire.{Packet as WirePacket, IsData, HasPacket}
 use Rattle.sacn_packet.specs.Faults.{fault_of}
 use Rattle.sacn_packet.specs.Reading.{front_packet}
@@ -25,20 +25,20 @@ use Rattle.wire_world.specs.Datagrams.{fields_at, packet_bytes}
 use Rattle.wire_world.specs.Delivery.{Delivery}
 use Rattle.wire_world.specs.World.{IsIdentity, World, console_at, plays, IsConsole}
 use Rattle.std.proofs.lemmas.List.Elements.{All-contains}
-use Rattle.std.proofs.lemmas.Map.Views.{Contains-from_any}
 use Rattle.std.proofs.lemmas.Option.{get_or_from_slice_get, slice_get_within}
 use Rattle.patch_core.specs.Frame.{is_universe}
 use Rattle.desk_core.specs.declared.answer.Refused.{Refused}
 use Rattle.desk_core.specs.Played.{Call, Act, refusal}
 use Rattle.desk_core.specs.Meaning.{latest_frame}
 use Rattle.desk_core.proofs.Universes.{numbers_in}
-use Rattle.sacn_source.specs.Identify.{IsStreamPacket}
+use Rattle.sacn_source.specs.Identify.{IsStreamPacket, options_of}
 use Rattle.sacn_source.proofs.Streams.{HoldsFull}
 use Rattle.console.specs.Streams.{Production, universes_of}
 use Rattle.console.proofs.Streams.{stream_full, packet_stays, newest_means}
 use Rattle.wire_world.specs.declared.event.Event.{Event}
 use Rattle.wire_world.specs.Happened.{call_of, unless_refused, acted, acts, stream, sent}
 use Rattle.wire_world.specs.Laws.{is_live, DatagramsArePackets}
+use Rattle.wire_world.proofs.Sources.{source_of, played_in}
 
 -- what a delivery of a source's packet is to a receiver
 abbrev pub entry : Identity → Delivery → Entry
@@ -161,8 +161,7 @@ module _ (w : World) (i u k : ℕ) (past : List Event) (p : Packet)
       let number : is_universe u ≡ true =
       All-contains (λ n. is_universe n ≡ true) (universes_of (console_at w i)) u
       (numbers_in (console_at w i).show.patch (console_at w i).base c.base_in)
-      (Contains-from_any {eq = λ a b. nat_eq b a} (λ a b e. sym (eqb-true b a e)) u
-      (universes_of (console_at w i)) sent_plays.0) in
+      (played_in (console_at w i) u sent_plays.0) in
       let range = and_parts (nat_le 1 u) (nat_le u 63999) number in
       record {
         who = c.source_in u sent_plays.0;
@@ -185,13 +184,17 @@ module _ (w : World) (i u k : ℕ) (past : List Event) (p : Packet)
 
 -- a packet of a stream has no other bytes: what a link was offered is what is handed over
 pub bytes_are : (source : Identity) (universe k : ℕ) (packet : Packet) (bytes : List ℕ)
-    → IsIdentity source → length packet.slots ≡ 512 → 1 ≤ universe → universe ≤ 63999
-    → IsStreamPacket source universe k packet bytes → bytes ≡ packet_bytes source universe k packet
-bytes_are source universe k packet bytes who size low high is =
+    → length packet.slots ≡ 512 → IsStreamPacket source universe k packet bytes
+    → bytes ≡ packet_bytes source universe k packet
+bytes_are source universe k packet bytes size is =
     same_packet bytes (fields_at source universe k packet) packet.slots is
     ∙ sym (same_packet (packet_bytes source universe k packet)
-    (fields_at source universe k packet) packet.slots (is_data source universe k packet
-    (record { who = who; size = size; low = low; high = high })))
+    (fields_at source universe k packet) packet.slots (is_data source universe k packet (record {
+      who = source_of source universe (k % 256) (options_of packet.ends) bytes packet.slots is;
+      size = size;
+      low = is.universe_from_1;
+      high = is.universe_to_63999;
+    })))
 
 pub datagrams_packets : DatagramsArePackets
 datagrams_packets w i universe k past packet v l e =
@@ -200,5 +203,5 @@ datagrams_packets w i universe k past packet v l e =
       packet_bytes source universe k packet,
       ap (option_map (packet_bytes source universe k)) e,
       is_data source universe k packet s,
-      λ other is. bytes_are source universe k packet other s.who s.size s.low s.high is,
+      λ other. bytes_are source universe k packet other s.size,
     )

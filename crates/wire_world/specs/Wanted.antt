@@ -1,7 +1,7 @@
 -- Which packets the events to come want.
 -- Of use inside the crate: what its public calls answer is said without these.
 use Rattle.std.specs.Prelude.{◌≡◌, ℕ, ◌+◌, ◌*◌, ◌%◌, ◌<◌, ◌≤◌, List, Some, slice_get, slice_index}
-use Rattle.std.specs.Prelude.{Option, IfSome}
+use Rattle.std.specs.Prelude.{Option}
 use Rattle.std.specs.Option.{option_map}
 use Rattle.wire_world.specs.declared.event.Event.{Event}
 use Rattle.wire_world.specs.declared.event.What.{What}
@@ -16,14 +16,13 @@ span_at stages console universe = option_map
 
 -- a packet that an event delivers is not gone, and will be kept
 abbrev pub Holds : {F : Type 0} → List (Stage F) → What → Type 0
-Holds stages (Deliver receiver console universe k) =
-    IfSome (span_at stages console universe) (λ span. (span.0 ≤ k) × (k ≤ span.1))
-Holds stages _ = Unit {0}
+Holds {F} stages what =
+    (r i u k : ℕ) (s : Stage F) → what ≡ Deliver r i u k → slice_get stages i ≡ Some s
+    → (gone_of s.shelves.items u ≤ k) × (k ≤ s.last)
 
 -- an event delivers no packet behind packet `last`
 abbrev pub IsUpTo : ℕ → What → Type 0
-IsUpTo last (Deliver receiver console universe k) = k ≤ last
-IsUpTo last _ = Unit {0}
+IsUpTo last what = (r i u k : ℕ) → what ≡ Deliver r i u k → k ≤ last
 
 -- none of them does
 abbrev pub AreUpTo : List Event → ℕ → Type 0
@@ -31,8 +30,8 @@ AreUpTo events last = (i : ℕ) (e : Event) → slice_get events i ≡ Some e �
 
 -- the later of two deliveries of one universe is of no packet before packet `low`
 abbrev pub Spares : What → ℕ → What → Type 0
-Spares (Deliver r i u k) low (Deliver q j v n) = i ≡ j → u ≡ v → low ≤ n
-Spares _ low _ = Unit {0}
+Spares what low later = (r i u k q n : ℕ) → what ≡ Deliver r i u k → later ≡ Deliver q i u n
+    → low ≤ n
 
 -- the row of a universe of a console in a table of 64
 abbrev pub row_of : ℕ → ℕ → ℕ

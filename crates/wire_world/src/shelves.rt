@@ -5,6 +5,7 @@ ghost use Rattle.std.specs.Option.{option_map};
 ghost use Rattle.wire_world.specs.Sends.{send_of, sent_to};
 ghost use Rattle.wire_world.specs.Shelves.{IsRest, gone_of, kept_of};
 
+use crate::packets::Spare;
 use crate::queue::Queue;
 use crate::row::Row;
 use crate::shelf::Shelf;
@@ -66,7 +67,7 @@ pub(crate) fn packet(shelves: &[Shelf], universe: u16, k: u64) -> Option<&[u8]>
 }
 
 // Lets the packets of a universe go that are before packet `low`.
-pub(crate) fn release(shelves: &mut [Shelf], universe: u16, low: u64)
+pub(crate) fn release(shelves: &mut [Shelf], universe: u16, low: u64, spare: &mut Spare)
     ensures rest { (u : ℕ) (all : List (List ℕ))
         → IsRest (gone_of shelves.old u) (kept_of shelves.old u) all
         → IsRest (gone_of shelves.new u) (kept_of shelves.new u) all }
@@ -74,7 +75,7 @@ pub(crate) fn release(shelves: &mut [Shelf], universe: u16, low: u64)
         → gone_of shelves.new u ≤ k }
 {
     if let Some(i) = place_of(shelves, universe) {
-        shelves[i].release(low);
+        shelves[i].release(low, spare);
     }
 }
 
@@ -111,17 +112,20 @@ impl Shelf {
     }
 
     // Lets the packets before packet `low` go.
-    fn release(&mut self, low: u64)
+    fn release(&mut self, low: u64, spare: &mut Spare)
         ensures universe { self.new.universe ≡ self.old.universe }
         ensures rest { (all : List (List ℕ)) → IsRest self.old.gone self.old.packets all
             → IsRest self.new.gone self.new.packets all }
         ensures gone { (k : ℕ) → self.old.gone ≤ k → low ≤ k → self.new.gone ≤ k }
     {
         for gone in self.gone..low {
-            if self.packets.pop_front().is_none() {
+            let Some(packet) = self.packets.pop_front() else {
                 return;
-            }
+            };
             self.gone = gone + 1;
+            if !spare.is_full() {
+                spare.push(packet);
+            }
         }
     }
 }

@@ -145,6 +145,11 @@ impl<F: Fader> Stage<F> {
             → gone_of self.new.shelves.items u ≤ k }
         ensures last { self.new.last ≡ self.old.last }
     {
-        release(self.shelves.as_mut_slice(), universe, low);
+        release(
+            self.shelves.as_mut_slice(),
+            universe,
+            low,
+            &mut self.link.spare,
+        );
     }
 }

@@ -1,6 +1,6 @@
 use Rattle.std.proofs.Common.{arith}
 use Rattle.std.proofs.lemmas.Option.{slice_get-get_or, slice_get_within}
-use Rattle.wire_world.proofs.Least.{up_to_more, up_to_next}
+use Rattle.wire_world.proofs.Least.{up_to_next}
 use Rattle.wire_world.proofs.lows.last_wanted.Goals as goal
 
 pub loop-i-preserved : goal.loop-i-preserved
@@ -8,8 +8,7 @@ loop-i-preserved c =
     up_to_next c.args.events.now c.loop-i.last c.max-last.result c.loop-i.i _
     (slice_get-get_or c.args.events.now c.loop-i.i _ c.loop-i-test.true)
     (omega (arith, c.max-last.ensures))
-    (up_to_more c.wanted.result c.max-last.result (omega (arith, c.max-last.ensures)) _
-    c.wanted.ensures)
+    (λ r i u k is. omega (arith, c.max-last.ensures, c.wanted.ensures r i u k is))
     c.loop-i.invariant
 
 pub returns : goal.returns

@@ -1,4 +1,4 @@
-use Rattle.std.proofs.Common.{◌≡◌, ◌<◌, ℕ, length, Some, sym, subst, refl, rules, arith}
+use Rattle.std.proofs.Common.{◌≡◌, ◌<◌, ℕ, length, Some, subst, refl, rules, arith, ap}
 use Rattle.std.specs.Prelude.{slice_get}
 use Rattle.std.proofs.lemmas.List.Elements.{All-nil, All-push}
 use Rattle.std.proofs.lemmas.Option.{slice_get_read}
@@ -14,12 +14,13 @@ loop-i-preserved g c =
     let here : slice_get c.args.setups.now c.loop-i.i ≡ Some setup =
     slice_get_read c.args.setups.now (length c.args.setups.now) c.loop-i.i setup refl
     c.loop-i-test.true c.index-setups-i.is in
-    let within : setup.show < length c.args.shows.now =
-    subst (λ (x : Setup). x.show < length c.args.shows.now) (sym c.index-setups-i.is)
-    (c.requires c.loop-i.i setup c.loop-i-test.true) in
     let show : slice_get c.args.shows.now setup.show ≡ Some c.index-shows-setup.result =
     slice_get_read c.args.shows.now (length c.args.shows.now) setup.show
-    c.index-shows-setup.result refl within c.index-shows-setup.is in
+    c.index-shows-setup.result refl (omega (
+      arith,
+      c.requires c.loop-i.i setup c.loop-i-test.true,
+      ap (λ (s : Setup). s.show) c.index-setups-i.is,
+    )) c.index-shows-setup.is in
     rw c.in_ok-push.ensures.items (
       opened_more c.loop-i.invariant.0 here show c.in_ok-stage.ensures.stands,
       All-push (λ stage. stage.last ≡ c.args.last) c.loop-i.stages.items c.in_ok-stage.stage
@@ -40,12 +41,16 @@ loop-i-init g c = rw c.new-stages.ensures.items (
 )
 
 pub bounds-shows-setup : goal.bounds-shows-setup
-bounds-shows-setup g c =
-    subst (λ (x : Setup). x.show < length c.args.shows.now) (sym c.index-setups-i.is)
-    (c.requires c.loop-i.i c.index-setups-i.result c.loop-i-test.true)
+bounds-shows-setup g c = omega (
+  arith,
+  c.requires c.loop-i.i c.index-setups-i.result c.loop-i-test.true,
+  ap (λ (s : Setup). s.show) c.index-setups-i.is,
+)
 
 pub offset_bounds-shows-setup : goal.offset_bounds-shows-setup
 offset_bounds-shows-setup g c =
-    let within : c.index-setups-i.result.show < length c.args.shows.now =
-    subst (λ (x : Setup). x.show < length c.args.shows.now) (sym c.index-setups-i.is)
-    (c.requires c.loop-i.i c.index-setups-i.result c.loop-i-test.true) in search rules
+    let within : c.index-setups-i.result.show < length c.args.shows.now = omega (
+      arith,
+      c.requires c.loop-i.i c.index-setups-i.result c.loop-i-test.true,
+      ap (λ (s : Setup). s.show) c.index-setups-i.is,
+    ) in search rules

@@ -18,16 +18,11 @@ pub returns : goal.returns
 returns g c =
     let w = world_of c.args.shows.now c.args.consoles.now c.args.receivers.now
     c.args.strays.now in
-    let are = begun c.args.strays.now c.in_ok-stages.ensures.opened c.in_ok-listeners.ensures in
+    let start = begun c.args.strays.now c.in_ok-stages.ensures.opened c.in_ok-listeners.ensures in
+    let are = rw (← c.as_mut_slice.ensures.value, ← c.as_mut_slice-2.ensures.value) at start in
     record {
-      replies = IfOk-weaker c.run.result _ _
-          (λ report h. h w refl
-          (rw (c.as_mut_slice.ensures.value, c.as_mut_slice-2.ensures.value) are))
-          c.run.ensures.replies;
-      last = IfOk-weaker c.run.result _ _
-          (λ report h. h w refl
-          (rw (c.as_mut_slice.ensures.value, c.as_mut_slice-2.ensures.value) are))
-          c.run.ensures.last;
+      replies = IfOk-weaker c.run.result _ _ (λ report h. h w refl are) c.run.ensures.replies;
+      last = IfOk-weaker c.run.result _ _ (λ report h. h w refl are) c.run.ensures.last;
       sources = IfOk-weaker c.run.result _ _
           (λ report h. sources g.F.Fader.stands_for c.in_ok-stages.stages.items
           c.args.shows.now c.args.consoles.now c.in_ok-stages.ensures.opened)

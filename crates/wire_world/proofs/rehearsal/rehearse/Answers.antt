@@ -1,7 +1,7 @@
-use Rattle.std.proofs.Common.{ap, sym, subst, ◌∙◌}
+use Rattle.std.proofs.Common.{ap, sym, subst, ◌∙◌, List, ℕ}
+use Rattle.std.specs.Prelude.{slice_index}
 use Rattle.wire_world.specs.Replies.{AreReplies}
-use Rattle.wire_world.proofs.Shown.{answers_alone, shows_meaning, shows_merged, shows_near}
-use Rattle.wire_world.proofs.Shown.{shows_zero}
+use Rattle.wire_world.proofs.Shown.{answers_alone, means, merges, near, silence, was_shown, zero}
 use Rattle.wire_world.specs.Reported.{Reported}
 use Rattle.wire_world.specs.Stands.{world_of}
 use Rattle.wire_world.proofs.Refusals.{fine_world, no_fault}
@@ -20,13 +20,26 @@ returns-in-Ok g c =
     let are = subst (λ (r : Reported). AreReplies w events r.replies) (sym c.in-Ok.ensures)
     brief.replies in
     let last = ap (λ (r : Reported). r.last) c.in-Ok.ensures ∙ brief.last in
+    let at = was_shown w events _ _ are last in
     record {
       faults = rw none tt;
       replies = are;
       last = last;
-      headline = shows_meaning _ events _ _ fine.0 are last;
-      unpatched = shows_zero _ events _ _ fine.0 are last;
-      window_law = shows_near _ events _ _ fine.0 are last;
-      merge_law = shows_merged _ events _ _ fine.0 are last fine.1;
+      headline = λ r i t past slots shown alone no_stray window fresh.
+          let k = at r t past slots shown in
+          k.are ∙ means w fine.0 r past k.run no_stray t k.time i window alone fresh;
+      unpatched = λ r i t slot past slots shown alone no_stray window fresh below none.
+          let k = at r t past slots shown in ap (λ (s : List ℕ). slice_index s slot) k.are
+          ∙ zero w fine.0 r past k.run no_stray t k.time i window alone fresh slot below none;
+      window_law = λ r i t past slots shown alone no_stray window.
+          let k = at r t past slots shown in rw k.are (
+            near w fine.0 r past k.run no_stray t k.time i window alone,
+            silence w fine.0 r past k.run no_stray t k.time i window alone,
+          );
+      merge_law = λ r t slot past slots shown apart no_stray window settled below.
+          let k = at r t past slots shown in
+          ap (λ (s : List ℕ). slice_index s slot) k.are ∙ merges w fine.0 r past k.run t k.time
+          (record { apart = apart; few = fine.1; no_stray = no_stray; window = window }) settled
+          slot below;
       independent = answers_alone _ events _ fine.0 are fine.1;
     }

@@ -1,11 +1,12 @@
-use Rattle.std.proofs.Common.{ℕ, subst, sym}
+use Rattle.std.proofs.Common.{◌≡◌, ◌≤◌, arith}
+use Rattle.std.proofs.Math.ListN.{length-set}
 use Rattle.std.proofs.lemmas.Option.{slice_get-get_or}
-use Rattle.wire_world.specs.declared.event.What.{What}
 use Rattle.wire_world.specs.declared.event.What.TheVariants.{Deliver}
 use Rattle.wire_world.specs.StageStands.{StageStands, Tells}
-use Rattle.wire_world.specs.Wanted.{Spares}
-use Rattle.wire_world.proofs.Stages.{tell_set}
-use Rattle.wire_world.proofs.Wants.{holds_less, stand_still}
+use Rattle.wire_world.specs.World.{console_at}
+use Rattle.wire_world.specs.Happened.{acts}
+use Rattle.wire_world.specs.Shelves.{gone_of}
+use Rattle.wire_world.proofs.Stages.{all_set, tell_set}
 use Rattle.wire_world.proofs.releasing.release.Goals as goal
 
 pub returns-then-i-stages : goal.returns-then-i-stages
@@ -15,14 +16,18 @@ returns-then-i-stages g c =
     record {
       tell = λ all. tell_set Tells c.args.stages.now i c.release.new.self
           (c.release.ensures.tells (all i _ at)) all;
-      stand = λ w past all.
-          stand_still (StageStands g.F.Fader.stands_for) c.args.stages.now w past i _
-          c.release.new.self at c.release.ensures.stands all;
-      holds = λ later h s.
-          holds_less c.args.stages.now c.in-Deliver.receiver i c.in-Deliver.universe
-          c.in-Deliver.k c.args.low _ c.release.new.self at c.release.ensures.gone
-          c.release.ensures.last later h
-          (subst (λ (i : ℕ). Spares (Deliver c.in-Deliver.receiver i c.in-Deliver.universe
-          c.in-Deliver.k) c.args.low later) (sym c.from-i.ensures)
-          (subst (λ (x : What). Spares x c.args.low later) c.in-Deliver.is s));
+      stand = λ w past all. record {
+        each = omega (arith, length-set c.args.stages.now i c.release.new.self, all.each);
+        stand = all_set
+            (λ j s. StageStands g.F.Fader.stands_for s (console_at w j) (acts w j past))
+            c.args.stages.now i c.release.new.self
+            (c.release.ensures.stands _ _ (all.stand i _ at)) (λ j s _. all.stand j s);
+      };
+      holds = λ later h spared r j u n s e found.
+          all_set (λ j s. later ≡ Deliver r j u n
+          → (gone_of s.shelves.items u ≤ n) × (n ≤ s.last)) c.args.stages.now i
+          c.release.new.self (λ e. let was = h r i u n _ e at in (
+            c.release.ensures.gone u n was.0 (λ same. spared _ _ _ _ r n c.in-Deliver.is (cc)),
+            omega (arith, c.release.ensures.last, was.1),
+          )) (λ j s _ at e. h r j u n s e at) j s found e;
     }

@@ -8,7 +8,7 @@ use Rattle.wire_world.specs.declared.event.Event.{Event}
 use Rattle.wire_world.specs.declared.event.What.TheVariants.{Order}
 use Rattle.std.proofs.lemmas.List.{get_or_default, map_push, take_all}
 use Rattle.wire_world.proofs.Replays.{early, replayed_more}
-use Rattle.wire_world.proofs.Wants.{hold_first, hold_next, step_released}
+use Rattle.wire_world.proofs.Wants.{hold_first, hold_next}
 use Rattle.wire_world.specs.Brief.{reply_of}
 use Rattle.wire_world.specs.Wanted.{Spares}
 use Rattle.wire_world.proofs.replay.run.Goals as goal
@@ -52,8 +52,15 @@ loop-i-preserved g c = (
         c.in_ok-push.ensures.items,
         map_push reply_of c.loop-i.replies.items c.in_ok-reply.reply,
       )
-      (replayed_more _ c.loop-i-test.true all
-      (step_released c.release.ensures.stand c.release.ensures.tell s)),
+      (replayed_more _ c.loop-i-test.true all (record {
+        replied = s.replied;
+        last_is = s.last_is;
+        are = record {
+          stand = c.release.ensures.stand _ _ s.are.stand;
+          tell = c.release.ensures.tell s.are.tell;
+          hear = s.are.hear;
+        };
+      })),
 )
 
 pub returns-clause-replies : goal.returns-clause-replies

@@ -1,8 +1,8 @@
-use Rattle.std.proofs.Common.{◌+◌, ◌∷◌, ◌++◌, [], refl, ap, sym, take, ◌∙◌}
+use Rattle.std.proofs.Common.{◌+◌, ◌∷◌, ◌++◌, [], refl, ap, sym, take, ◌∙◌, ◌≤◌, arith}
 use Rattle.std.specs.Prelude.{◌==◌, if◌then◌else◌}
 use Rattle.std.specs.List.{position}
 use Rattle.wire_world.specs.declared.shelf.Shelf.{Shelf}
-use Rattle.wire_world.proofs.Rests.{rest_first}
+use Rattle.wire_world.proofs.Rests.{rest_kept}
 use Rattle.wire_world.proofs.Shelved.{gone_same, push_put, rest_changed, set_put}
 use Rattle.wire_world.proofs.shelves.keep.Goals as goal
 
@@ -22,6 +22,7 @@ returns-in_ok-keep-in-Some c =
 
 pub returns-in_ok-push-in-None : goal.returns-in_ok-push-in-None
 returns-in_ok-push-in-None c =
+    let few : 0 ≤ c.args.last = omega arith in
     let put = push_put c.args.shelves.now.items c.args.row.universe _
     (ap (position (λ (s : Shelf). s.universe == c.args.row.universe))
     (sym c.as_slice.ensures.value) ∙ sym c.place_of.ensures ∙ c.in-None.is) refl in
@@ -29,6 +30,6 @@ returns-in_ok-push-in-None c =
     rw c.in_ok-push-in-None.ensures.items (record {
       rest = λ u all. rest_changed put u (take (c.args.last + 1) all)
           (λ b. take (c.args.last + 1) (if b then all ++ c.args.row.bytes.items ∷ [] else all)) refl
-          (λ r. rw one (rest_first c.args.last all c.args.row.bytes.items r));
+          (λ r. rw one (rest_kept c.args.last 0 [] all c.args.row.bytes.items few r));
       gone = gone_same put refl;
     })

@@ -7,7 +7,7 @@ use Rattle.desk_core.specs.Played.{order}
 use Rattle.wire_world.specs.World.{console_at}
 use Rattle.wire_world.specs.Happened.{acts}
 use Rattle.wire_world.proofs.Stages.{tell_set, err_of, stand_call, stood, no_skip}
-use Rattle.wire_world.proofs.Stages.{order_answer}
+use Rattle.wire_world.proofs.Stages.{told}
 use Rattle.wire_world.proofs.Wants.{spans_set}
 use Rattle.wire_world.specs.Stands.{order_reply}
 use Rattle.wire_world.specs.StageStands.{StageStands, Tells}
@@ -27,7 +27,7 @@ returns g c =
           rw (no_skip all k _ at)
           (c.ordered.ensures ∙ ap order_reply
           (c.order.ensures.answer (console_at w k) (acts w k past) (stood all k _ at))
-          ∙ order_answer _);
+          ∙ told order_reply tt _);
       stands = λ w past all. rw c.from-i.ensures (
           stand_call all k _ at c.order.new.self (record { moment = c.args.moment; what = _ })
           (order c.args.command) c.order.result (λ j. refl)

@@ -6,7 +6,7 @@ use Rattle.desk_core.specs.Played.{tick}
 use Rattle.wire_world.specs.World.{console_at}
 use Rattle.wire_world.specs.Happened.{acts}
 use Rattle.wire_world.proofs.Stages.{always, err_of, no_skip, stand_call}
-use Rattle.wire_world.proofs.Stages.{stood, tell_set, tick_answer}
+use Rattle.wire_world.proofs.Stages.{stood, tell_set, told}
 use Rattle.std.proofs.lemmas.Result.{IfOk-weaker}
 use Rattle.wire_world.proofs.Wants.{spans_set}
 use Rattle.wire_world.specs.Stands.{tick_reply}
@@ -42,7 +42,7 @@ returns g c =
           rw (no_skip all k _ at)
           (is ∙ ap tick_reply
           (c.tick-answer.ensures.answer (console_at w k) (acts w k past) (stood all k _ at) tells)
-          ∙ tick_answer _ _ _)) c.ticked.ensures;
+          ∙ told tick_reply _ _)) c.ticked.ensures;
       stands = always c.ticked.result _ (λ _ w past all. rw c.from-i.ensures
           (stand_call all k _ at c.tick-answer.new.self
           (record { moment = c.args.moment; what = _ }) tick c.tick-answer.result (λ j. refl)
