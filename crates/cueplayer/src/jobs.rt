@@ -24,6 +24,9 @@ use sacn_packet::SourceName;
 use sacn_source::Identity;
 use std::io::{BufWriter, ErrorKind};
 
+// Bytes that a rehearsal gathers before it writes them.
+const PRINTED: usize = 65_536;
+
 /// Runs what the words ask for.
 pub fn run(rt: &HostRuntime, job: Job) -> Result<(), Failure>
     requires { IsInRange job }
@@ -214,7 +217,7 @@ fn rehearse(rt: &HostRuntime, show: &str, script: &str) -> Result<(), Failure> {
     let show = show.as_slice();
     let script = script_text(rt, script)?;
     let script = script.as_slice();
-    let Ok(buffer) = BufWriter::new(rt.alloc(), rt.stdout()) else {
+    let Ok(buffer) = BufWriter::with_capacity(rt.alloc(), PRINTED, rt.stdout()) else {
         return Err(Failure::from(RunFault::Memory));
     };
     let mut out = SystemOutput::new(buffer);

@@ -42,13 +42,7 @@ use Rattle.cueplayer_rehearse.specs.Texts.{rehearsal_lines}
 -- want of memory is no fault of a text
 no_line_fault : (n : ℕ) (f : LineFault) → fault_at n f ≡ show_fault.Memory → ⊥
 no_line_fault n line.Ident e = cc
-no_line_fault n line.MissingNumber e = cc
-no_line_fault n line.BadNumber e = cc
-no_line_fault n line.BadLevel e = cc
-no_line_fault n line.BadTime e = cc
-no_line_fault n line.HalfPair e = cc
-no_line_fault n line.HalfTriple e = cc
-no_line_fault n line.Limit e = cc
+no_line_fault n f e = cc
 
 not_at : (n : ℕ) (o : Option LineFault) (above : Option ShowFault)
     → (above ≡ Some show_fault.Memory → ⊥)
@@ -89,24 +83,7 @@ pub unread : (show script : List ℕ) (fault : ShowFault)
 unread show script show_fault.Memory why sure long =
     let short : 1048576 < length show → ⊥ = λ over. let e = long over in cc in
     inl (omega (arith, short), λ nothing. no_memory_fault show (sure nothing))
-unread show script show_fault.TooLong why sure long =
-    found show show_fault.TooLong (λ e. cc) why
-unread show script (show_fault.Ident n) why sure long =
-    found show (show_fault.Ident n) (λ e. cc) why
-unread show script (show_fault.MissingNumber n) why sure long =
-    found show (show_fault.MissingNumber n) (λ e. cc) why
-unread show script (show_fault.BadNumber n) why sure long =
-    found show (show_fault.BadNumber n) (λ e. cc) why
-unread show script (show_fault.BadLevel n) why sure long =
-    found show (show_fault.BadLevel n) (λ e. cc) why
-unread show script (show_fault.BadTime n) why sure long =
-    found show (show_fault.BadTime n) (λ e. cc) why
-unread show script (show_fault.HalfPair n) why sure long =
-    found show (show_fault.HalfPair n) (λ e. cc) why
-unread show script (show_fault.HalfTriple n) why sure long =
-    found show (show_fault.HalfTriple n) (λ e. cc) why
-unread show script (show_fault.Limit n) why sure long =
-    found show (show_fault.Limit n) (λ e. cc) why
+unread show script fault why sure long = found show fault (λ e. cc) why
 
 -- ---- the consoles and receivers
 
@@ -133,6 +110,16 @@ pub record IsRead (show script : List ℕ) (s : Tables) (p : Parts) : Type 0 whe
   pub show_is : IsShowOf (statements_of desk_limits show) s
   pub script_is : script_of script ≡ Ok p
 
+pub is_read : {show script : List ℕ} {s : Tables} {p : Parts} → fault_of desk_limits show ≡ None
+    → length script ≤ longest_script → IsShowOf (statements_of desk_limits show) s
+    → script_of script ≡ Ok p → IsRead show script s p
+is_read faultless short show_is script_is = record {
+  faultless = faultless;
+  short = short;
+  show_is = show_is;
+  script_is = script_is;
+}
+
 -- of the parts of a script something is known
 of_script : (script : List ℕ) (p : Parts) (P : Parts → Type 0) → script_of script ≡ Ok p → P p
     → IsOkAnd (script_of script) P
@@ -157,10 +144,7 @@ refused_for : (show script : List ℕ) (s : Tables) (p : Parts) (fault : Fault)
     → Prevents show script (of_setup fault)
 refused_for show script s p Memory read is =
     absurd (no_setup_memory (s ∷ []) p.consoles p.receivers is)
-refused_for show script s p Consoles read is = set_up show script s p (Some Consoles) read is
-refused_for show script s p Receivers read is = set_up show script s p (Some Receivers) read is
-refused_for show script s p NoShow read is = set_up show script s p (Some NoShow) read is
-refused_for show script s p Universe read is = set_up show script s p (Some Universe) read is
+refused_for show script s p fault read is = set_up show script s p (Some fault) read is
 
 -- what a rehearsal answers in place of a report prevents it
 pub refused : (X : Type 0) (show script : List ℕ) (s : Tables) (p : Parts) (o : Option Fault)

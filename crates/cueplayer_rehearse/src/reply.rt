@@ -1,15 +1,18 @@
 ghost use Rattle.std.specs.Prelude.{◌≡◌, ◌≤◌, length, OnOk, OnErr};
 ghost use Rattle.devices.specs.Tape.{with_failure, with_more};
-ghost use Rattle.console_text.specs.Texts.{numbered};
-ghost use Rattle.receiver_text.specs.Replies.{slots_text};
+ghost use Rattle.console_text.specs.Texts.{done_text, numbered, refused_text, ticked_text};
+ghost use Rattle.receiver_text.specs.Replies.{reply_text as datagram_text, slots_text};
 ghost use Rattle.wire_world.specs.Brief.{reply_of};
 ghost use Rattle.cueplayer_rehearse.specs.Texts.{event_line, skip_name, skipped_text};
 
 use arrayvec::ArrayString;
+use console::Offers;
 use console_text::{done_line, refused_line, ticked_line};
+use desk_core::{Refused, Ticked};
 use devices::{LinkFault, Output};
 use itoa::Buffer;
 use receiver_text::{numbered_slots, reply_line};
+use sacn_receiver::{Ignored, Taken};
 use wire_world::{BriefReply, Skip};
 
 // There is room for a number of 20 digits, ` skipped NoReceiver` and LF.
@@ -29,24 +32,72 @@ pub(crate) fn print_reply<W: Output>(
 {
     let number = u64::from(number);
     match reply {
-        BriefReply::Done => out.write(done_line(number).as_str().as_bytes()),
-        BriefReply::Refused(refused) => out.write(
-            refused_line(number, *refused).as_str().as_bytes(),
-        ),
-        BriefReply::Ticked(ticked, offers) => {
-            out.write(ticked_line(number, *ticked, offers).as_str().as_bytes())
-        }
-        BriefReply::Taken(taken) => out.write(reply_line(number, Ok(*taken)).as_str().as_bytes()),
-        BriefReply::Ignored(reason) => out.write(
-            reply_line(number, Err(*reason)).as_str().as_bytes(),
-        ),
+        BriefReply::Done => print_done(number, out),
+        BriefReply::Refused(refused) => print_refused(number, *refused, out),
+        BriefReply::Ticked(ticked, offers) => print_ticked(number, *ticked, offers, out),
+        BriefReply::Taken(taken) => print_taken(number, Ok(*taken), out),
+        BriefReply::Ignored(reason) => print_taken(number, Err(*reason), out),
         BriefReply::Shown(slots) => print_slots(number, slots, out),
-        BriefReply::Skipped(skip) => out.write(skipped_line(number, *skip).as_str().as_bytes()),
+        BriefReply::Skipped(skip) => print_skipped(number, *skip, out),
     }
 }
 
-// Prints the slots of a receiver. It is called, so that no other reply waits until a line of their
-// length is cleared.
+// Each kind of reply is printed by a call, so that none waits until the lines of the others are
+// cleared.
+
+#[inline(never)]
+fn print_done<W: Output>(number: u64, out: &mut W) -> Result<(), LinkFault>
+    ensures told { W.tells out.new → W.tells out.old }
+    ensures ok { OnOk result (W.tells out.new
+        → W.tape out.new ≡ with_more (W.tape out.old) (numbered number done_text)) }
+    ensures err { OnErr result (W.tells out.new
+        → W.tape out.new ≡ with_failure (W.tape out.old)) }
+{
+    out.write(done_line(number).as_str().as_bytes())
+}
+
+#[inline(never)]
+fn print_refused<W: Output>(number: u64, refused: Refused, out: &mut W) -> Result<(), LinkFault>
+    ensures told { W.tells out.new → W.tells out.old }
+    ensures ok { OnOk result (W.tells out.new
+        → W.tape out.new ≡ with_more (W.tape out.old) (numbered number (refused_text refused))) }
+    ensures err { OnErr result (W.tells out.new
+        → W.tape out.new ≡ with_failure (W.tape out.old)) }
+{
+    out.write(refused_line(number, refused).as_str().as_bytes())
+}
+
+#[inline(never)]
+fn print_ticked<W: Output>(
+    number: u64,
+    ticked: Ticked,
+    offers: &Offers,
+    out: &mut W,
+) -> Result<(), LinkFault>
+    ensures told { W.tells out.new → W.tells out.old }
+    ensures ok { OnOk result (W.tells out.new
+        → W.tape out.new ≡ with_more (W.tape out.old) (numbered number (ticked_text ticked offers.now))) }
+    ensures err { OnErr result (W.tells out.new
+        → W.tape out.new ≡ with_failure (W.tape out.old)) }
+{
+    out.write(ticked_line(number, ticked, offers).as_str().as_bytes())
+}
+
+#[inline(never)]
+fn print_taken<W: Output>(
+    number: u64,
+    reply: Result<Taken, Ignored>,
+    out: &mut W,
+) -> Result<(), LinkFault>
+    ensures told { W.tells out.new → W.tells out.old }
+    ensures ok { OnOk result (W.tells out.new
+        → W.tape out.new ≡ with_more (W.tape out.old) (numbered number (datagram_text reply))) }
+    ensures err { OnErr result (W.tells out.new
+        → W.tape out.new ≡ with_failure (W.tape out.old)) }
+{
+    out.write(reply_line(number, reply).as_str().as_bytes())
+}
+
 #[inline(never)]
 fn print_slots<W: Output>(number: u64, slots: &[u8; 512], out: &mut W) -> Result<(), LinkFault>
     ensures told { W.tells out.new → W.tells out.old }
@@ -56,6 +107,17 @@ fn print_slots<W: Output>(number: u64, slots: &[u8; 512], out: &mut W) -> Result
         → W.tape out.new ≡ with_failure (W.tape out.old)) }
 {
     out.write(numbered_slots(number, slots).as_str().as_bytes())
+}
+
+#[inline(never)]
+fn print_skipped<W: Output>(number: u64, skip: Skip, out: &mut W) -> Result<(), LinkFault>
+    ensures told { W.tells out.new → W.tells out.old }
+    ensures ok { OnOk result (W.tells out.new
+        → W.tape out.new ≡ with_more (W.tape out.old) (numbered number (skipped_text skip))) }
+    ensures err { OnErr result (W.tells out.new
+        → W.tape out.new ≡ with_failure (W.tape out.old)) }
+{
+    out.write(skipped_line(number, skip).as_str().as_bytes())
 }
 
 fn skipped_line(number: u64, skip: Skip) -> SkippedLine

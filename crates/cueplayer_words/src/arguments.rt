@@ -1,4 +1,4 @@
-ghost use Rattle.std.specs.Prelude.{◌≡◌, ◌≤◌, IfOk, IfSome, option_map};
+ghost use Rattle.std.specs.Prelude.{◌≡◌, ◌≤◌, IfOk, IfSome, codes, option_map};
 ghost use Rattle.clap.specs.Words.{first_of, found_of, rows_of};
 ghost use Rattle.uuid.specs.Text.{parsed};
 ghost use Rattle.ascii_text.specs.Forms.{cue_number_of};
@@ -50,14 +50,27 @@ pub(crate) fn number_at(matches: &ArgMatches<'_>, id: &str, least: u32, most: u3
     number_between(text_at(matches, id)?, least, most)
 }
 
-/// The number from `least` to `most` that an argument spells; where it is absent, this one.
-pub(crate) fn number_or(
-    matches: &ArgMatches<'_>,
-    id: &str,
-    absent: u32,
-    least: u32,
-    most: u32,
-) -> Option<u32>
+/// The priority; 100 where it is absent.
+pub(crate) fn priority_at(matches: &ArgMatches<'_>) -> Option<u8>
+    ensures value { result ≡ value_or 100 (number_between 0 200) (codes "priority")
+        (rows_of (found_of matches.now)) }
+    ensures within { IfSome result (λ priority. priority ≤ 200) }
+{
+    let priority = number_or(matches, "priority", 100, 0, 200)?;
+    Some(priority as u8)
+}
+
+/// The number of the first universe; 1 where it is absent.
+pub(crate) fn base_at(matches: &ArgMatches<'_>) -> Option<u16>
+    ensures { result ≡ value_or 1 (number_between 1 63999) (codes "base")
+        (rows_of (found_of matches.now)) }
+{
+    let base = number_or(matches, "base", 1, 1, 63999)?;
+    Some(base as u16)
+}
+
+// The number from `least` to `most` that an argument spells; where it is absent, this one.
+fn number_or(matches: &ArgMatches<'_>, id: &str, absent: u32, least: u32, most: u32) -> Option<u32>
     requires { (least ≤ absent) × (absent ≤ most) }
     ensures value { result
         ≡ value_or absent (number_between least most) id.now (rows_of (found_of matches.now)) }

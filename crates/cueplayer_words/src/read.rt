@@ -5,7 +5,9 @@ ghost use Rattle.cueplayer_words.specs.Job.{look_of, slots_of, play_of, live_of,
 ghost use Rattle.cueplayer_words.specs.Job.{rehearse_of, listen_of};
 ghost use Rattle.cueplayer_words.specs.Asked.{Explains, IsAsked, RefusedBy};
 
-use crate::arguments::{address_at, cid_at, cue_at, name_at, number_at, number_or, text_at};
+use crate::arguments::{
+    address_at, base_at, cid_at, cue_at, name_at, number_at, priority_at, text_at,
+};
 use crate::job::{Job, Name, WordsFault};
 use crate::program::program;
 use clap::error::ErrorKind;
@@ -107,12 +109,11 @@ fn read_slots(alloc: Global, matches: &ArgMatches<'_>) -> Result<Option<Job>, Al
 {
     let show = text_at(matches, "SHOW");
     let cue = cue_at(matches, "CUE");
-    let base = number_or(matches, "base", 1, 1, 63999);
+    let base = base_at(matches);
     let (Some(show), Some(cue), Some(base)) = (show, cue, base) else {
         return Ok(None);
     };
     let show = Name::new(alloc, show)?;
-    let base = base as u16;
     Ok(Some(Job::Slots { show, cue, base }))
 }
 
@@ -122,16 +123,14 @@ fn read_play(alloc: Global, matches: &ArgMatches<'_>) -> Result<Option<Job>, All
     let show = text_at(matches, "SHOW");
     let to = address_at(matches, "to");
     let cid = cid_at(matches, "cid");
-    let priority = number_or(matches, "priority", 100, 0, 200);
-    let base = number_or(matches, "base", 1, 1, 63999);
+    let priority = priority_at(matches);
+    let base = base_at(matches);
     let (Some(show), Some(to), Some(cid), Some(priority), Some(base)) = (
         show, to, cid, priority, base,
     ) else {
         return Ok(None);
     };
     let show = Name::new(alloc, show)?;
-    let priority = priority as u8;
-    let base = base as u16;
     Ok(Some(Job::Play {
         show,
         to,

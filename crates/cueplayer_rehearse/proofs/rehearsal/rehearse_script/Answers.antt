@@ -5,7 +5,7 @@ use Rattle.wire_world.specs.Refusing.{setup_fault}
 use Rattle.wire_world.specs.Reported.{Reported}
 use Rattle.cueplayer_faults.specs.declared.fault.RunFault.{RunFault}
 use Rattle.wire_world.proofs.Refusals.{no_fault}
-use Rattle.cueplayer_rehearse.proofs.Beginning.{IsRead, few_receivers, lines_of, refused}
+use Rattle.cueplayer_rehearse.proofs.Beginning.{few_receivers, is_read, lines_of, refused}
 use Rattle.cueplayer_rehearse.proofs.Beginning.{set_up, unread}
 use Rattle.cueplayer_rehearse.proofs.rehearsal.rehearse_script.Goals as goal
 
@@ -25,24 +25,13 @@ returns-in_err-loaded-clause-fault g c =
 pub returns-in_err-report-clause-fault : goal.returns-in_err-report-clause-fault
 returns-in_err-report-clause-fault g c =
     let s = c.in_ok-loaded.loaded.show in
-    let p : Parts = record {
-      consoles = c.as_slice.result.now;
-      receivers = c.as_slice-2.result.now;
-      events = c.as_slice-3.result.now;
-      strays = c.as_slice-4.result.now;
-      lines = c.in_ok-script.script.lines.items;
-    } in
-    let same : parts c.in_ok-script.script ≡ p = cc in
-    let read : IsRead c.args.show.now c.args.script.now s p = record {
-      faultless = c.in_ok-loaded.ensures.faultless;
-      short = c.in_ok-script.ensures.short;
-      show_is = c.in_ok-loaded.ensures.show;
-      script_is = c.in_ok-script.ensures.script ∙ ap Ok same;
-    } in
+    let p = parts c.in_ok-script.script in
+    let read = is_read c.in_ok-loaded.ensures.faultless c.in_ok-script.ensures.short
+    c.in_ok-loaded.ensures.show c.in_ok-script.ensures.script in
     of_fault c.from_residual-in_err-report.result _ _ c.from_residual-in_err-report.ensures.1
     (refused Reported c.args.show.now c.args.script.now s p
     (setup_fault (s ∷ []) p.consoles p.receivers) c.in_err-report.field-0.0 read refl
-    c.in_err-report.ensures.faults)
+    (rw (c.as_slice.ensures.value, c.as_slice-2.ensures.value) at c.in_err-report.ensures.faults))
 
 pub returns : goal.returns
 returns g c =
@@ -55,12 +44,8 @@ returns g c =
       lines = c.in_ok-script.script.lines.items;
     } in
     let same : parts c.in_ok-script.script ≡ p = cc in
-    let read : IsRead c.args.show.now c.args.script.now s p = record {
-      faultless = c.in_ok-loaded.ensures.faultless;
-      short = c.in_ok-script.ensures.short;
-      show_is = c.in_ok-loaded.ensures.show;
-      script_is = c.in_ok-script.ensures.script ∙ ap Ok same;
-    } in
+    let read = is_read c.in_ok-loaded.ensures.faultless c.in_ok-script.ensures.short
+    c.in_ok-loaded.ensures.show (c.in_ok-script.ensures.script ∙ ap Ok same) in
     let report = c.in_ok-report.report in
     let none = no_fault (setup_fault (s ∷ []) p.consoles p.receivers) report
     c.in_ok-report.ensures.faults in
