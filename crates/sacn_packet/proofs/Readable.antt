@@ -97,8 +97,34 @@ at_same d offset bytes h = ap not ((bytes_eq-Decides (bytes_at d offset (length 
 -- what each fault asks, where none applies
 readable : (d : List ℕ) → AllByRecursion (λ fault. applies d fault ≡ false) all_faults
     → IsReadable d
-readable d (short, (preamble, (identifier, (root, (lengths, (framing, (priority, (universe, (dmp,
-    (count, _)))))))))) =
+readable d (
+  short,
+  (
+    preamble,
+    (
+      identifier,
+      (
+        root,
+        (
+          lengths,
+          (
+            framing,
+            (
+              priority,
+              (
+                universe,
+                (
+                  dmp,
+                  (count, _),
+                ),
+              ),
+            ),
+          ),
+        ),
+      ),
+    ),
+  ),
+) =
     let l7 = or_false _ _ lengths in
     let l6 = or_false _ _ l7.0 in
     let l5 = or_false _ _ l6.0 in
