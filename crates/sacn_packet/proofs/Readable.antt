@@ -97,42 +97,15 @@ at_same d offset bytes h = ap not ((bytes_eq-Decides (bytes_at d offset (length 
 -- what each fault asks, where none applies
 readable : (d : List ℕ) → AllByRecursion (λ fault. applies d fault ≡ false) all_faults
     → IsReadable d
-readable d (
-  short,
-  (
-    preamble,
-    (
-      identifier,
-      (
-        root,
-        (
-          lengths,
-          (
-            framing,
-            (
-              priority,
-              (
-                universe,
-                (
-                  dmp,
-                  (count, _),
-                ),
-              ),
-            ),
-          ),
-        ),
-      ),
-    ),
-  ),
-) =
+readable d (short, (preamble, (identifier, (root, (lengths, later))))) =
     let l7 = or_false _ _ lengths in
     let l6 = or_false _ _ l7.0 in
     let l5 = or_false _ _ l6.0 in
     let l4 = or_false _ _ l5.0 in
     let l3 = or_false _ _ l4.0 in
     let l2 = or_false _ _ l3.0 in
-    let u = or_false _ _ universe in
-    let c3 = or_false _ _ count in
+    let u = or_false _ _ later.1.1.0 in
+    let c3 = or_false _ _ later.1.1.1.1.0 in
     let c2 = or_false _ _ c3.0 in
     record {
       long = lt_fails _ _ short;
@@ -146,11 +119,11 @@ readable d (
       root_fits = lt_fails _ _ l5.1;
       framing_length = ne_fails _ _ l6.1;
       dmp_length = ne_fails _ _ l7.1;
-      framing_vector = same_at d 40 (big_bytes 4 2) framing;
-      priority = lt_fails _ _ priority;
+      framing_vector = same_at d 40 (big_bytes 4 2) later.0;
+      priority = lt_fails _ _ later.1.0;
       universe_from_1 = zero_fails _ u.0;
       universe_to_63999 = lt_fails _ _ u.1;
-      dmp = same_at d 117 (0x02 ∷ 0xa1 ∷ 0 ∷ 0 ∷ 0 ∷ 1 ∷ []) dmp;
+      dmp = same_at d 117 (0x02 ∷ 0xa1 ∷ 0 ∷ 0 ∷ 0 ∷ 1 ∷ []) later.1.1.1.0;
       count_least = zero_fails _ c2.0;
       count_most = lt_fails _ _ c2.1;
       count_sum = ne_fails _ _ c3.1;
