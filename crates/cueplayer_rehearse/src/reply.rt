@@ -76,7 +76,8 @@ fn print_ticked<W: Output>(
 ) -> Result<(), LinkFault>
     ensures told { W.tells out.new → W.tells out.old }
     ensures ok { OnOk result (W.tells out.new
-        → W.tape out.new ≡ with_more (W.tape out.old) (numbered number (ticked_text ticked offers.now))) }
+        → W.tape out.new ≡ with_more (W.tape out.old)
+        (numbered number (ticked_text ticked offers.now))) }
     ensures err { OnErr result (W.tells out.new
         → W.tape out.new ≡ with_failure (W.tape out.old)) }
 {

@@ -75,7 +75,8 @@ without_lines = record (new_app (codes "cueplayer")) {
 -- the program with `check SHOW` and `explain SHOW`
 abbrev pub telling_lines : App
 telling_lines = with_subcommand
-    (with_subcommand without_lines (show_line (codes "check")).top) (show_line (codes "explain")).top
+    (with_subcommand without_lines (show_line (codes "check")).top)
+    (show_line (codes "explain")).top
 
 -- and with those that print a cue
 abbrev pub printing_lines : App

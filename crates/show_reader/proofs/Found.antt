@@ -1,7 +1,8 @@
 -- What a statement does to a show is what it says: at each key the show answers as it did, but for
 -- the statement's news.
 use Rattle.std.proofs.Common.{◌≡◌, ℕ, ◌+◌, Bool, true, false, cond, ◌&&◌, IsTrue, List, [], ◌∷◌}
-use Rattle.std.proofs.Common.{refl, sym, ap, ◌∙◌, Option, Some, None, is_some, arith, ◌++◌, inl, inr}
+use Rattle.std.proofs.Common.{refl, sym, ap, ◌∙◌, Option, Some, None, is_some, arith, ◌++◌, inl}
+use Rattle.std.proofs.Common.{inr}
 use Rattle.std.specs.Prelude.{◌==◌, option_and_then}
 use Rattle.std.specs.Option.{option_map_or}
 use Rattle.std.specs.Ordering.{nat_cmp}
@@ -26,7 +27,8 @@ use Rattle.show_reader.specs.Reads.{with_listing}
 -- ---- news
 
 -- older news first, and then newer
-pub after_newer : {X : Type 0} (a b : News X) (o : Option X) → after a (after b o) ≡ after (newer a b) o
+pub after_newer : {X : Type 0} (a b : News X) (o : Option X)
+    → after a (after b o) ≡ after (newer a b) o
 after_newer (Is x) b o = refl
 after_newer Gone b o = refl
 after_newer Silent b o = refl

@@ -1,6 +1,6 @@
--- What a draft of a show means: its show, with what is kept aside carried out; and what a reader has
--- made of the lines so far. Of use inside the crate: what its public calls answer is said without
--- these.
+-- What a draft of a show means: its show, with what is kept aside carried out; and what a reader
+-- has made of the lines so far. Of use inside the crate: what its public calls answer is said
+-- without these.
 use Rattle.std.specs.Prelude.{◌≡◌, ℕ, false, IsTrue, IfSome, List, [], Option, Some, None, ◌⊎◌, ◌∷◌}
 use Rattle.std.specs.Prelude.{length, count_by, All}
 use Rattle.show_reader.specs.Terms.{Tables, Record, Statement}

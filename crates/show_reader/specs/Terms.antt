@@ -10,8 +10,9 @@ pub use Rattle.show_line.specs.declared.statement.Table.TheVariants.{Cues, Group
 pub use Rattle.show_line.specs.declared.statement.Cleared.{Cleared}
 pub use Rattle.show_line.specs.declared.statement.Cleared.TheVariants.{All, Only}
 pub use Rattle.show_line.specs.declared.statement.Statement.{Statement}
-pub use Rattle.show_line.specs.declared.statement.Statement.TheVariants.{Opens, Levels, Rises, Falls}
-pub use Rattle.show_line.specs.declared.statement.Statement.TheVariants.{Follows, Patches, Clears}
+pub use Rattle.show_line.specs.declared.statement.Statement.TheVariants.{Opens, Levels, Rises}
+pub use Rattle.show_line.specs.declared.statement.Statement.TheVariants.{Falls, Follows, Patches}
+pub use Rattle.show_line.specs.declared.statement.Statement.TheVariants.{Clears}
 pub use Rattle.show_line.specs.declared.statement.Statement.TheVariants.{Quiet, Skipped, Faulty}
 pub use Rattle.show_line.specs.declared.triples.Triple.{Triple}
 pub use Rattle.show_line.specs.Pairs.{Limits}

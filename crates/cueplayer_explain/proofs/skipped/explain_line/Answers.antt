@@ -11,7 +11,8 @@ use Rattle.cueplayer_explain.proofs.skipped.explain_line.Goals.{After-may_own, e
 use Rattle.cueplayer_explain.proofs.skipped.explain_line.Goals.{then-is_skipped+in_ok-push_skipped}
 
 -- what was appended explains the line
-appended : (c : After-may_own) (lines : List (List ℕ)) → c.args.above ≡ heading_below (words_in lines)
+appended : (c : After-may_own) (lines : List (List ℕ))
+    → c.args.above ≡ heading_below (words_in lines)
     → c.args.line.number ≡ length lines + 1
     → c.if-is_skipped.out.items ≡ c.args.out.now.items ++ line_explained lines c.args.line.bytes.now
 appended c lines heads numbered =
