@@ -33,17 +33,17 @@ BUILDERS += ("cue_levels", "sub_levels", "group_levels", "set_patches")
 EACH = ("each_growth_refused",)
 WORDS_OF = ("explain", "listen", "live", "look_one", "play", "rehearse", "slots")
 TESTED = {
-    "show_core": Tested((*(f"Show::{name}" for name in BUILDERS), "Show::clone_in"), EACH),
-    "fade_core": Tested(
+    "show_tests::show": Tested((*(f"Show::{name}" for name in BUILDERS), "Show::clone_in"), EACH),
+    "desk_tests::fade": Tested(
         ("Fader::new",),
         ("each_growth_of_plain_refused", "each_growth_of_step_refused"),
     ),
-    "patch_core": Tested(("Rig::new",), EACH),
-    "playback_core": Tested(("Playback::new",), EACH),
-    "sacn_source": Tested(("Sender::open",), EACH),
-    "desk_core": Tested(("Desk::open",), EACH),
-    "wire_world": Tested(("rehearse", "rehearse_briefly"), EACH),
-    "show_reader": Tested(
+    "desk_tests::patch": Tested(("Rig::new",), EACH),
+    "desk_tests::playback": Tested(("Playback::new",), EACH),
+    "stream_tests::source": Tested(("Sender::open",), EACH),
+    "desk_tests::desk": Tested(("Desk::open",), EACH),
+    "console_tests::world": Tested(("rehearse", "rehearse_briefly"), EACH),
+    "show_tests::reader": Tested(
         ("read_show",),
         (
             *("any_order", "clear_cues", "console_style_file", "follow_faults"),
@@ -51,13 +51,13 @@ TESTED = {
             *("skipped_lines", "top_channel", "universe_limit"),
         ),
     ),
-    "script_text": Tested(
+    "console_tests::script": Tested(
         ("read_script",), ("first_malformed_line", "forms_at_their_limits", "strays")
     ),
-    "cueplayer_words": Tested(
+    "program_tests::words": Tested(
         ("read_words",), ("look_words", *(f"words_of_{job}" for job in WORDS_OF))
     ),
-    "cueplayer_runs": Tested(
+    "program_tests::runs": Tested(
         ("check", "look", "slots"),
         (
             *("check_rows", "each_device_fails", "look_missing_cue", "look_rows"),
@@ -65,39 +65,47 @@ TESTED = {
             *("listening::every_reply", "listening::listen_three", "listening::long_datagrams"),
         ),
     ),
-    "cueplayer_explain": Tested(("explain",), ("faults", "notes", "skipped_lines")),
-    "cueplayer_play": Tested(("play", "Console::open"), ("rows::each_growth_refused",)),
-    "cueplayer_rehearse": Tested(
+    "program_tests::explain": Tested(("explain",), ("faults", "notes", "skipped_lines")),
+    "program_tests::play": Tested(("play", "Console::open"), ("rows::each_growth_refused",)),
+    "program_tests::rehearsal": Tested(
         ("rehearse_text",), ("devices_fail::each_device_fails", "rows::rehearse_basic")
     ),
 }
 # Whose growths are thousands of their own texts, or which take long.
 LEFT_OUT = {
-    "show_reader": ("too_many_cues",),
-    "playback_core": ("every_millisecond",),
-    "cueplayer_play": ("devices_fail::each_send_fails",),
-    "cueplayer_rehearse": ("window::window_edge", "window::window_wrap"),
+    "show_tests::reader": ("too_many_cues",),
+    "desk_tests::playback": ("every_millisecond",),
+    "program_tests::play": ("devices_fail::each_send_fails",),
+    "program_tests::rehearsal": ("window::window_edge", "window::window_wrap"),
 }
 # How a test fails: by a failed assertion, or by an error that it answers.
 ABORTED, ANSWERED = -signal.SIGABRT, 101
 WANT_OF_MEMORY = re.compile(r"error: (AllocError|AllocFailed|Memory)\b")
 
 
-def program_of(crate):
+def program_of(place):
+    crate = place.partition("::")[0]
     return TOP / f"crates/{crate}/out/{crate}_tests"
 
 
+def module_of(place):
+    return "tests::" + place.partition("::")[2]
+
+
 @functools.lru_cache(maxsize=None)
-def tests_of(crate):
-    """The tests of a crate, by its program."""
-    words = [program_of(crate), "--list"]
+def tests_of(place):
+    """The tests of a crate, by the program that has its module of them."""
+    words = [program_of(place), "--list"]
     listed = subprocess.run(words, stdout=subprocess.PIPE, check=True, text=True).stdout
     names = [line.partition(": ")[0] for line in listed.splitlines()]
-    return [name.removeprefix("tests::") for name in names if name.startswith("tests::")]
+    module = module_of(place) + "::"
+    return [name.removeprefix(module) for name in names if name.startswith(module)]
 
 
-def tested_crates():
-    return sorted(file.parents[1].name for file in (TOP / "crates").glob("*/src/tests.rt"))
+def tested_places():
+    """The modules of tests, each after its crate of tests."""
+    modules = (TOP / "crates").glob("*_tests/src/tests/*.rt")
+    return sorted(f"{file.parents[2].name}::{file.stem}" for file in modules)
 
 
 class CrateGrowths(Growths):
@@ -109,10 +117,10 @@ class CrateGrowths(Growths):
         cls.addClassCleanup(resource.setrlimit, resource.RLIMIT_CORE, limits)
         resource.setrlimit(resource.RLIMIT_CORE, (0, limits[1]))
 
-    def run_without(self, crate, test, growth):
+    def run_without(self, place, test, growth):
         """How a test ends where the growth of this number is refused, and what it says."""
         done = subprocess.run(
-            [program_of(crate), f"tests::{test}"],
+            [program_of(place), f"{module_of(place)}::{test}"],
             stdin=subprocess.DEVNULL,
             capture_output=True,
             timeout=60,
@@ -120,25 +128,25 @@ class CrateGrowths(Growths):
         )
         return done.returncode, (done.stdout + done.stderr).decode(errors="replace")
 
-    def assertEachRefused(self, crate, test, may_fail=False):
+    def assertEachRefused(self, place, test, may_fail=False):
         """It passes where no growth is refused, and where one is, or fails as a test does."""
-        passed = self.run_without(crate, test, 0)
+        passed = self.run_without(place, test, 0)
         self.assertEqual(0, passed[0], passed[1])
         growths, _ = self.growths()
         for growth in range(1, growths + 1):
-            with self.subTest(crate=crate, test=test, growth=growth):
-                status, told = self.run_without(crate, test, growth)
+            with self.subTest(place=place, test=test, growth=growth):
+                status, told = self.run_without(place, test, growth)
                 failed = status == ABORTED or status == ANSWERED and WANT_OF_MEMORY.match(told)
                 self.assertTrue(status == 0 or may_fail and failed, f"{status}: {told}")
-        self.assertEqual(passed, self.run_without(crate, test, growths + 1))
+        self.assertEqual(passed, self.run_without(place, test, growths + 1))
         self.assertEqual(growths, self.growths()[0])
         return growths
 
-    def programs(self, crates):
-        """Those of the crates whose test program is there."""
-        built = [crate for crate in crates if program_of(crate).is_file()]
+    def programs(self, places):
+        """Those of the modules whose test program is there."""
+        built = [place for place in places if program_of(place).is_file()]
         if "GATE" in os.environ:
-            self.assertEqual(list(crates), built)
+            self.assertEqual(list(places), built)
         elif not built:
             self.skipTest("no test program of a crate was built")
         return built
@@ -148,26 +156,27 @@ class CrateGrowths(Growths):
         one of its tests beside it."""
         calls = [call for calls in all_calls().values() for call in calls]
         growing = {call.name(): call.said for call in calls if call.may_grow()}
-        listed = {name: crate for crate, tested in TESTED.items() for name in tested.calls}
+        listed = {name: place for place, tested in TESTED.items() for name in tested.calls}
         self.assertEqual(sorted(growing), sorted(listed))
         beside = {said: only_tested for _, said, (_, only_tested) in rows(PAGE.read_text())}
-        for name, crate in listed.items():
+        for name, place in listed.items():
             with self.subTest(name):
-                named = re.findall(rf"`{crate}::tests::([\w:]+)`", beside[growing[name]])
-                self.assertTrue(set(named) & set(TESTED[crate].tests), beside[growing[name]])
+                crate, module = place.split("::")
+                named = re.findall(rf"`{crate}::tests::{module}::([\w:]+)`", beside[growing[name]])
+                self.assertTrue(set(named) & set(TESTED[place].tests), beside[growing[name]])
 
     def test_growths(self):
         """Where a growth is refused the call answers that, and the test passes."""
-        for crate in self.programs(sorted(TESTED)):
-            for test in TESTED[crate].tests:
-                with self.subTest(crate=crate, test=test):
-                    self.assertIn(test, tests_of(crate))
-                    self.assertGreater(self.assertEachRefused(crate, test), 0)
+        for place in self.programs(sorted(TESTED)):
+            for test in TESTED[place].tests:
+                with self.subTest(place=place, test=test):
+                    self.assertIn(test, tests_of(place))
+                    self.assertGreater(self.assertEachRefused(place, test), 0)
 
     def test_other_tests(self):
         """Nothing falls, and nothing hangs."""
-        for crate in self.programs(tested_crates()):
-            named = TESTED[crate].tests if crate in TESTED else ()
-            for test in sorted(set(tests_of(crate)) - {*named, *LEFT_OUT.get(crate, ())}):
-                with self.subTest(crate=crate, test=test):
-                    self.assertEachRefused(crate, test, may_fail=True)
+        for place in self.programs(tested_places()):
+            named = TESTED[place].tests if place in TESTED else ()
+            for test in sorted(set(tests_of(place)) - {*named, *LEFT_OUT.get(place, ())}):
+                with self.subTest(place=place, test=test):
+                    self.assertEachRefused(place, test, may_fail=True)

@@ -223,10 +223,12 @@ class Proved(unittest.TestCase):
 
     def test_tests(self):
         """Each test that the page names is there: as `file.Class.test`, as a file's, or as
-        `crate::tests::name`."""
-        for crate, name in re.findall(r"`(\w+)::tests::(?:\w+::)*(\w+)`", PAGE.read_text()):
-            files = (TOP / "crates" / crate / "src").rglob("*.rt")
-            texts = [file.read_text() for file in files if "tests" in file.as_posix()]
+        `crate::tests::module::name`."""
+        inside = re.findall(r"`(\w+)::tests::(\w+)::(?:\w+::)*(\w+)`", PAGE.read_text())
+        self.assertTrue(inside)
+        for crate, module, name in inside:
+            files = (TOP / "crates" / crate / "src/tests").rglob("*.rt")
+            texts = [file.read_text() for file in files if module in (file.stem, file.parent.name)]
             self.assertTrue(any(f"fn {name}(rt: " in text for text in texts), f"{crate}: {name}")
         named = re.findall(r"`(test_\w+)((?:\.\w+)*)`", PAGE.read_text())
         self.assertTrue(named)

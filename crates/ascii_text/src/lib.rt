@@ -19,6 +19,3 @@ mod text;
 
 pub use forms::{cue_number, level, moment, number, same_word, time, whole};
 pub use text::{Line, Lines, Words};
-
-#[cfg(test)]
-mod tests;

@@ -20,6 +20,3 @@ mod reading;
 pub use answer::{AnswerLine, done_line, refused_line, ticked_line};
 pub use call::{Call, call_in, command_in};
 pub use reading::{Reading, read_call};
-
-#[cfg(test)]
-mod tests;

@@ -19,6 +19,3 @@ mod reason;
 mod skipped;
 
 pub use explanation::explain;
-
-#[cfg(test)]
-mod tests;

@@ -15,6 +15,3 @@ mod status;
 
 pub use fault::RunFault;
 pub use status::exit_status;
-
-#[cfg(test)]
-mod tests;

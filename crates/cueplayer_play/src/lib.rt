@@ -24,6 +24,3 @@ mod run;
 mod stage;
 
 pub use run::play;
-
-#[cfg(test)]
-mod tests;

@@ -21,6 +21,3 @@ mod script;
 
 pub use run::rehearse_text;
 pub use script::LONGEST_SCRIPT;
-
-#[cfg(test)]
-mod tests;

@@ -19,6 +19,3 @@ mod texts;
 pub use levels::slots;
 pub use listening::listen;
 pub use runs::{check, look};
-
-#[cfg(test)]
-mod tests;

@@ -17,6 +17,3 @@ mod read;
 
 pub use job::{Job, Name, WordsFault};
 pub use read::read_words;
-
-#[cfg(test)]
-mod tests;

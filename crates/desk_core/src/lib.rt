@@ -22,6 +22,3 @@ mod frames;
 pub use answer::{Refused, Ticked};
 pub use command::Command;
 pub use desk::Desk;
-
-#[cfg(test)]
-mod tests;

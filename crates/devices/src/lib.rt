@@ -23,6 +23,3 @@ pub use datagrams::Datagrams;
 pub use feed::Feed;
 pub use link::Link;
 pub use output::{LinkFault, Output};
-
-#[cfg(test)]
-mod tests;

@@ -27,6 +27,3 @@ mod walk;
 pub use course_fader::{PlainFader, StepFader};
 pub use fader::Fader;
 pub use show_core::Rate;
-
-#[cfg(test)]
-mod tests;

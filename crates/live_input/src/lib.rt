@@ -22,6 +22,3 @@ mod typed;
 pub use given::{Given, InputLine, RefusedText};
 pub use live::LiveInput;
 pub use reply::is_shown;
-
-#[cfg(test)]
-mod tests;

@@ -20,6 +20,3 @@ mod masters;
 
 pub use fault::NoMaster;
 pub use masters::Masters;
-
-#[cfg(test)]
-mod tests;

@@ -25,6 +25,3 @@ mod sources;
 pub use fault::RigFault;
 pub use greatest::max_into;
 pub use rig::{Rig, TOP_UNIVERSE, has_numbers};
-
-#[cfg(test)]
-mod tests;

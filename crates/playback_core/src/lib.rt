@@ -17,6 +17,3 @@ mod place;
 mod playback;
 
 pub use playback::{NoMove, Playback};
-
-#[cfg(test)]
-mod tests;

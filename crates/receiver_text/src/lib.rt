@@ -17,6 +17,3 @@ mod slots;
 
 pub use replies::{ReplyLine, reply_line};
 pub use slots::{SlotsLine, end_line, numbered_slots, slots_line};
-
-#[cfg(test)]
-mod tests;

@@ -35,6 +35,3 @@ pub use reader::{TOP_UNIVERSE, parse};
 pub use source_name::SourceName;
 pub use unreadable::Unreadable;
 pub use writer::{Header, encode};
-
-#[cfg(test)]
-mod tests;

@@ -23,6 +23,3 @@ mod record;
 
 pub use answer::{Ignored, Taken};
 pub use receiver::{Receiver, SOURCES};
-
-#[cfg(test)]
-mod tests;

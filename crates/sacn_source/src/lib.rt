@@ -26,6 +26,3 @@ pub use devices::{Link, LinkFault};
 pub use identity::Identity;
 pub use offered::Offered;
 pub use sender::Sender;
-
-#[cfg(test)]
-mod tests;

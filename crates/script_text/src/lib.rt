@@ -16,6 +16,3 @@ mod said;
 mod script;
 
 pub use script::{Script, ScriptFault, read_script};
-
-#[cfg(test)]
-mod tests;

@@ -39,6 +39,3 @@ pub use limits::{
 pub use rate::Rate;
 pub use show::{Counts, Show};
 pub use slots::slot;
-
-#[cfg(test)]
-mod tests;

@@ -17,8 +17,6 @@ mod keyword;
 mod line;
 mod pairs;
 mod statement;
-#[cfg(test)]
-mod tests;
 mod triples;
 
 pub use fault::LineFault;

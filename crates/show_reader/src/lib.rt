@@ -20,6 +20,3 @@ mod read;
 pub use fault::{LONGEST_TEXT, ShowFault};
 pub use law::{limits_law, one_show_law};
 pub use read::{Loaded, read_show};
-
-#[cfg(test)]
-mod tests;

@@ -47,6 +47,3 @@ pub use reply::{Reply, Skip};
 pub use report::{BriefReport, Report};
 pub use setup::Setup;
 pub use wire_faults::Fault;
-
-#[cfg(test)]
-mod tests;

@@ -1,0 +1,4 @@
+mod calls;
+mod live;
+mod script;
+mod world;

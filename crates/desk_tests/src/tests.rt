@@ -1,0 +1,6 @@
+mod desk;
+mod fade;
+mod masters;
+mod patch;
+mod playback;
+mod shows;

@@ -1,0 +1,6 @@
+mod explain;
+mod faults;
+mod play;
+mod rehearsal;
+mod runs;
+mod words;

@@ -1,0 +1,290 @@
+use show_core::Rate;
+use show_line::{
+    Cleared, Keyword, LineFault, Reading, Record, Statement, Table, Triple, read_line,
+};
+use std::test::Fail;
+
+const CUE: Option<Record> = Some(Record::Cue(1000));
+
+fn fault_of(line: &[u8]) -> Option<LineFault> {
+    match read_line(CUE, line) {
+        Some(
+            Reading {
+                statement: Statement::Faulty(fault),
+                ..
+            },
+        ) => Some(fault),
+        _ => None,
+    }
+}
+
+#[test]
+fn show_faults(rt: HostRuntime) {
+    for (line, fault) in [
+        (b"CHAN 1@101".as_slice(), Some(LineFault::BadLevel)),
+        (b"CHAN 1", Some(LineFault::HalfPair)),
+        (b"UP 1:60", Some(LineFault::BadTime)),
+        (b"CUE", Some(LineFault::MissingNumber)),
+        (b"CUE x", Some(LineFault::BadNumber)),
+        (b"PATCH 1 1<1", Some(LineFault::HalfTriple)),
+        (b"PATCH 1 1<8193@FL", Some(LineFault::Limit)),
+        (b"CHAN 5000@101", Some(LineFault::BadLevel)),
+        (b"IDENT 2:0", Some(LineFault::Ident)),
+        (b"IDENT 3:0", None),
+    ] {
+        assert_eq!(rt; fault_of(line), fault, "{line:?}");
+    }
+}
+
+#[test]
+fn lowest_fault_of_a_line(rt: HostRuntime) {
+    for (line, fault) in [
+        (b"SUB 101 x".as_slice(), Some(LineFault::BadNumber)),
+        (b"SUB 101 2", Some(LineFault::Limit)),
+        (b"CUE x 2", Some(LineFault::BadNumber)),
+        (b"CUE 10000", Some(LineFault::BadNumber)),
+        (b"GROUP 0", Some(LineFault::Limit)),
+        (b"CHAN 1234567890@FL", Some(LineFault::BadNumber)),
+        (b"CHAN 5000", Some(LineFault::HalfPair)),
+        (b"CHAN 1 FL x", Some(LineFault::BadNumber)),
+        (b"PATCH 1 0<1@101", Some(LineFault::BadLevel)),
+        (b"PATCH 2 x", None),
+        (b"IDENT 3:0 x", None),
+        (b"DOWN 5 6000", Some(LineFault::BadTime)),
+    ] {
+        assert_eq!(rt; fault_of(line), fault, "{line:?}");
+    }
+}
+
+// One beyond each end of a range.
+#[test]
+fn numbers_out_of_range(rt: HostRuntime) {
+    for (line, fault) in [
+        (b"CUE 0".as_slice(), LineFault::BadNumber),
+        (b"CUE 10000", LineFault::BadNumber),
+        (b"GROUP 0", LineFault::Limit),
+        (b"GROUP 501", LineFault::Limit),
+        (b"SUB 0", LineFault::Limit),
+        (b"SUB 101", LineFault::Limit),
+        (b"CHAN 0@FL", LineFault::Limit),
+        (b"CHAN 4097@FL", LineFault::Limit),
+        (b"PATCH 1 4097<1@FL", LineFault::Limit),
+        (b"PATCH 1 1<0@FL", LineFault::Limit),
+        (b"PATCH 1 1<8193@FL", LineFault::Limit),
+    ] {
+        assert_eq!(rt; fault_of(line), Some(fault), "{line:?}");
+    }
+}
+
+#[test]
+fn faults_in_words(rt: HostRuntime) -> Result<(), Fail> {
+    for (fault, words) in [
+        (LineFault::Ident, "IDENT is not 3:0"),
+        (LineFault::MissingNumber, "a number is missing"),
+        (LineFault::BadNumber, "not a number"),
+        (LineFault::BadLevel, "not a level"),
+        (LineFault::BadTime, "not a time"),
+        (LineFault::HalfPair, "a channel without a level"),
+        (LineFault::HalfTriple, "an unfinished triple"),
+        (LineFault::Limit, "beyond a limit"),
+    ] {
+        let told = format!(in rt.alloc(); "{fault}")?;
+        assert_eq!(rt; told.as_str(), words);
+    }
+    let line = format!(in rt.alloc(); "{:?}", read_line(None, b"GROUP 500"))?;
+    assert!(rt; line.contains("Group(500)"), "{line}");
+    let line = format!(in rt.alloc(); "{:?}", read_line(CUE, b"CHAN 7@H9"))?;
+    assert!(rt; line.contains("(7, 9)"), "{line}");
+    Ok(())
+}
+
+#[test]
+fn opened_records(rt: HostRuntime) -> Result<(), Fail> {
+    for (line, opened, keyword) in [
+        (
+            b"cue 9999.999 1 more".as_slice(),
+            Some(Record::Cue(9_999_999)),
+            Keyword::Cue,
+        ),
+        (b"CUE .001", Some(Record::Cue(1)), Keyword::Cue),
+        (b"GROUP 1", Some(Record::Group(1)), Keyword::Group),
+        (b"Group 500", Some(Record::Group(500)), Keyword::Group),
+        (b"SUB 1", Some(Record::Sub(1)), Keyword::Sub),
+        (b"SUB 100 000000001", Some(Record::Sub(100)), Keyword::Sub),
+        (b"CUE 3 2", None, Keyword::Cue),
+        (b"CUE 1 0", None, Keyword::Cue),
+        (b"$CUE 1", None, Keyword::Maker),
+        (b"$$CUE 1", None, Keyword::Unknown),
+        (b"EndData", None, Keyword::EndData),
+        (b"SET Channels 96", None, Keyword::Setting),
+    ] {
+        let reading = read_line(CUE, line).ok_or("words")?;
+        assert_eq!(rt; reading.statement.opened(), opened, "{line:?}");
+        assert_eq!(rt; reading.keyword, keyword, "{line:?}");
+    }
+    assert!(rt; read_line(CUE, b" , ! CUE 1").is_none());
+    assert!(rt; Keyword::Maker.may_own());
+    assert!(rt; Keyword::Clear.may_own());
+    assert!(rt; !Keyword::Unknown.may_own());
+    assert!(rt; Keyword::EndData.is_end());
+    assert!(rt; !Keyword::Clear.is_end());
+    Ok(())
+}
+
+#[test]
+fn lines_without_effect(rt: HostRuntime) -> Result<(), Fail> {
+    for (owner, line, skipped) in [
+        (CUE, b"CUE 3 2".as_slice(), true),
+        (CUE, b"PATCH 2 x", true),
+        (CUE, b"CLEAR x", true),
+        (CUE, b"CLEAR", true),
+        (CUE, b"CLEAR CUE 2", true),
+        (CUE, b"EFFECT 1", true),
+        (None, b"CHAN 1@x", true),
+        (None, b"TEXT Opening", true),
+        (None, b"UP x", true),
+        (None, b"FOLLOWON x", true),
+        (CUE, b"TEXT Opening", false),
+        (Some(Record::Sub(1)), b"UP x", false),
+        (None, b"CLEAR ALL", false),
+        (None, b"ENDDATA", false),
+        (CUE, b"CHAN", false),
+        (CUE, b"PATCH 1", false),
+    ] {
+        let reading = read_line(owner, line).ok_or("words")?;
+        let is_skipped = matches!(reading.statement, Statement::Skipped);
+        assert_eq!(rt; is_skipped, skipped, "{line:?}");
+    }
+    Ok(())
+}
+
+#[test]
+fn pairs_and_triples(rt: HostRuntime) -> Result<(), Fail> {
+    let line = b"Chan 1/Hff 4096/H80,1@0 ! house";
+    let Statement::Levels(record, mut pairs) = read_line(CUE, line).ok_or("words")?.statement else {
+        return Err(Fail::from("levels"));
+    };
+    assert_eq!(rt; record, Record::Cue(1000));
+    for pair in [(1, 255), (4096, 128), (1, 0)] {
+        assert_eq!(rt; pairs.next(), Some(pair));
+    }
+    assert_eq!(rt; pairs.next(), None);
+    let line = b"PATCH 1 1<8192@FL 0<2@50";
+    let Statement::Patches(mut triples) = read_line(None, line).ok_or("words")?.statement else {
+        return Err(Fail::from("triples"));
+    };
+    for (channel, dimmer, level) in [(1, 8192, 255), (0, 2, 128)] {
+        assert_eq!(rt;
+            triples.next(),
+            Some(Triple {
+                channel,
+                dimmer,
+                level
+            })
+        );
+    }
+    assert_eq!(rt; triples.next(), None);
+    Ok(())
+}
+
+// A line longer than what is kept of it.
+#[test]
+fn pairs_of_a_long_line(rt: HostRuntime) -> Result<(), Fail> {
+    let line = b"CHAN 1@H1 2@H2 3@H3 4@H4 5@H5 6@H6 7@H7 8@H8 9@H9 10@HA 11@HB 12@HC 13@HD 14@HE \
+        15@HF 16@H10 17@H11 18@H12";
+    let Statement::Levels(_, mut pairs) = read_line(CUE, line).ok_or("words")?.statement else {
+        return Err(Fail::from("levels"));
+    };
+    for number in 1..=18u8 {
+        assert_eq!(rt; pairs.next(), Some((u16::from(number), number)));
+    }
+    assert_eq!(rt; pairs.next(), None);
+    for (line, fault) in [
+        (
+            b"CHAN 1@1 2@1 3@1 4@1 5@1 6@1 7@1 8@1 9@1 1@1 2@1 3@1 4@1 5@1 6@1 7@1 8".as_slice(),
+            LineFault::HalfPair,
+        ),
+        (
+            b"CHAN 0@1 2@1 3@1 4@1 5@1 6@1 7@1 8@1 9@1 1@1 2@1 3@1 4@1 5@1 6@1 7@1 x@1",
+            LineFault::BadNumber,
+        ),
+    ] {
+        assert_eq!(rt; fault_of(line), Some(fault), "{line:?}");
+    }
+    Ok(())
+}
+
+#[test]
+fn rates(rt: HostRuntime) -> Result<(), Fail> {
+    for (line, rises, time, delay) in [
+        (b"UP 99:59.99 .5 x".as_slice(), true, 5_999_990, 500),
+        (b"DOWN 4", false, 4000, 0),
+    ] {
+        let rate = Rate { time, delay };
+        match read_line(CUE, line).ok_or("words")?.statement {
+            Statement::Rises(cue, got) => {
+                assert!(rt; rises);
+                assert_eq!(rt; (cue, got), (1000, rate));
+            }
+            Statement::Falls(cue, got) => {
+                assert!(rt; !rises);
+                assert_eq!(rt; (cue, got), (1000, rate));
+            }
+            _ => return Err(Fail::from("a rate")),
+        }
+    }
+    Ok(())
+}
+
+#[test]
+fn follow_faults(rt: HostRuntime) -> Result<(), Fail> {
+    for (line, fault) in [
+        (b"FOLLOWON x".as_slice(), Some(LineFault::BadTime)),
+        (b"FOLLOWON", Some(LineFault::MissingNumber)),
+        (b"FOLLOWON 6000", Some(LineFault::BadTime)),
+        (b"FOLLOWON 5 x", None),
+    ] {
+        assert_eq!(rt; fault_of(line), fault, "{line:?}");
+    }
+    for owner in [Record::Group(1), Record::Sub(1)] {
+        let reading = read_line(Some(owner), b"FOLLOWON x").ok_or("words")?;
+        assert!(rt; matches!(reading.statement, Statement::Quiet));
+        assert!(rt; !reading.keyword.may_own());
+    }
+    Ok(())
+}
+
+#[test]
+fn follow_on_times(rt: HostRuntime) -> Result<(), Fail> {
+    for (line, time) in [
+        (b"FOLLOWON 10".as_slice(), 10_000),
+        (b"FollowOn 0 x", 0),
+        (b"FOLLOWON 99:59.99", 5_999_990),
+    ] {
+        let Statement::Follows(cue, got) = read_line(CUE, line).ok_or("words")?.statement else {
+            return Err(Fail::from("a follow-on time"));
+        };
+        assert_eq!(rt; (cue, got), (1000, time), "{line:?}");
+    }
+    Ok(())
+}
+
+#[test]
+fn cleared_tables(rt: HostRuntime) -> Result<(), Fail> {
+    for (line, cleared) in [
+        (b"CLEAR ALL".as_slice(), Cleared::All),
+        (b"Clear cues", Cleared::Only(Table::Cues)),
+        (b"CLEAR CUE", Cleared::Only(Table::Cues)),
+        (b"CLEAR GROUP", Cleared::Only(Table::Groups)),
+        (b"CLEAR GROUPS", Cleared::Only(Table::Groups)),
+        (b"CLEAR SUB", Cleared::Only(Table::Subs)),
+        (b"CLEAR SUBS", Cleared::Only(Table::Subs)),
+        (b"CLEAR PATCH", Cleared::Only(Table::Patch)),
+    ] {
+        let Statement::Clears(got) = read_line(CUE, line).ok_or("words")?.statement else {
+            return Err(Fail::from("a table"));
+        };
+        assert_eq!(rt; got, cleared, "{line:?}");
+    }
+    Ok(())
+}

@@ -1,0 +1,5 @@
+mod memory;
+mod packet;
+mod receiver;
+mod replies;
+mod source;

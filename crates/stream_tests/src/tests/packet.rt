@@ -1,0 +1,219 @@
+ghost use Rattle.std.specs.Prelude.{◌≡◌, ◌∷◌, ◌+◌, ◌≤◌, length, replicate, codes};
+ghost use Rattle.sacn_packet.specs.Name.{padded};
+ghost use Rattle.sacn_packet.specs.Wire.{IsData};
+
+use sacn_packet::{Header, SourceName, Unreadable, encode, laws, parse, refill, slots_in};
+
+const CID: [u8; 16] = [
+    0xc0, 0xff, 0xee, 0, 0, 0, 0x40, 0, 0x80, 0, 0, 0, 0, 0, 0xe1, 0x31,
+];
+
+// The packet of one cue at half, of a source called `cueplayer`.
+fn look_one_packet() -> [u8; 638]
+    ensures { IsData result
+        (record {
+          cid = CID;
+          name = padded (codes "cueplayer");
+          priority = 100;
+          sync = 0;
+          sequence = 0;
+          options = 0;
+          universe = 1;
+          start = 0;
+        })
+        (0x40 ∷ replicate 511 0) }
+{
+    let mut packet = [0; 638];
+    packet[..53].copy_from_slice(&[
+        0x00, 0x10, 0x00, 0x00, 0x41, 0x53, 0x43, 0x2d, 0x45, 0x31, 0x2e, 0x31, 0x37, 0x00, 0x00,
+        0x00, 0x72, 0x6e, 0x00, 0x00, 0x00, 0x04, 0xc0, 0xff, 0xee, 0x00, 0x00, 0x00, 0x40, 0x00,
+        0x80, 0x00, 0x00, 0x00, 0x00, 0x00, 0xe1, 0x31, 0x72, 0x58, 0x00, 0x00, 0x00, 0x02, 0x63,
+        0x75, 0x65, 0x70, 0x6c, 0x61, 0x79, 0x65, 0x72,
+    ]);
+    packet[108..127].copy_from_slice(&[
+        0x64, 0x00, 0x00, 0x00, 0x00, 0x00, 0x01, 0x72, 0x0b, 0x02, 0xa1, 0x00, 0x00, 0x00, 0x01,
+        0x02, 0x01, 0x00, 0x40,
+    ]);
+    packet
+}
+
+fn overwrite(packet: &mut [u8], offset: usize, bytes: &[u8])
+    requires { offset + length bytes.now ≤ length packet.old }
+{
+    packet[offset..offset + bytes.len()].copy_from_slice(bytes);
+}
+
+#[test]
+fn look_one(rt: HostRuntime) {
+    let header = Header {
+        cid: CID,
+        name: SourceName::new("cueplayer").unwrap(),
+        priority: 100,
+        sequence: 0,
+        options: 0,
+        universe: 1,
+    };
+    let mut slots = [0; 512];
+    slots[0] = 64;
+    let mut packet = [0xff; 638];
+    encode(&header, &slots, &mut packet);
+    assert_eq!(rt; packet, look_one_packet());
+}
+
+#[test]
+fn source_name_limits(rt: HostRuntime) {
+    let longest = "012345678901234567890123456789012345678901234567890123456789012";
+    let rows = [
+        ("", true),
+        ("cueplayer", true),
+        ("Bühne", true),
+        (longest, true),
+        (
+            "0123456789012345678901234567890123456789012345678901234567890123",
+            false,
+        ),
+        ("cue\0player", false),
+        ("cueplayer\0", false),
+    ];
+    for (text, accepted) in rows {
+        assert_eq!(rt; SourceName::new(text).is_some(), accepted, "{text:?}");
+    }
+}
+
+#[test]
+fn parse_lengths(rt: HostRuntime) {
+    let whole = look_one_packet();
+    let mut shortest = whole;
+    overwrite(&mut shortest, 16, &[0x70, 0x6e]);
+    overwrite(&mut shortest, 38, &[0x70, 0x58]);
+    overwrite(&mut shortest, 115, &[0x70, 0x0b]);
+    overwrite(&mut shortest, 123, &[0x00, 0x01]);
+    let mut trailed = [0x55; 640];
+    trailed[..638].copy_from_slice(&whole);
+    let slots = Some(&whole[126..]);
+    let rows: [(&[u8], Option<&[u8]>, Option<Unreadable>); 6] = [
+        (&[], None, Some(Unreadable::Short)),
+        (&shortest[..125], None, Some(Unreadable::Short)),
+        (&shortest[..126], Some(&[]), None),
+        (&whole, slots, None),
+        (&trailed, slots, None),
+        (&whole[..637], None, Some(Unreadable::Length)),
+    ];
+    for (datagram, slots, fault) in rows {
+        let length = datagram.len();
+        match parse(datagram) {
+            Ok(packet) => {
+                assert_eq!(rt; Some(packet.slots()), slots, "{length} bytes");
+                assert_eq!(rt; packet.cid(), CID, "{length} bytes");
+                assert_eq!(rt; packet.name(), b"cueplayer".as_slice(), "{length} bytes");
+            }
+            Err(found) => assert_eq!(rt; Some(found), fault, "{length} bytes"),
+        }
+    }
+}
+
+#[test]
+fn cut_packet(rt: HostRuntime) {
+    let whole = look_one_packet();
+    for length in 0..=638 {
+        let fault = match length {
+            0..=125 => Some(Unreadable::Short),
+            126..=637 => Some(Unreadable::Length),
+            _ => None,
+        };
+        assert_eq!(rt; parse(&whole[..length]).err(), fault, "{length} bytes");
+    }
+}
+
+#[test]
+fn turned_bytes(rt: HostRuntime) {
+    for offset in 0..638 {
+        let mut packet = look_one_packet();
+        packet[offset] ^= 0xff;
+        let fault = match offset {
+            0..=3 => Some(Unreadable::Preamble),
+            4..=15 => Some(Unreadable::Identifier),
+            16 | 17 | 38 | 39 | 115 | 116 => Some(Unreadable::Length),
+            18..=21 => Some(Unreadable::RootVector),
+            40..=43 => Some(Unreadable::FramingVector),
+            113 => Some(Unreadable::Universe),
+            117..=122 => Some(Unreadable::Dmp),
+            123 | 124 => Some(Unreadable::Count),
+            _ => None,
+        };
+        assert_eq!(rt; parse(&packet).err(), fault, "offset {offset}");
+        if let Ok(packet) = parse(&packet) {
+            assert_eq!(rt; packet.priority(), if offset == 108 { 155 } else { 100 });
+            assert_eq!(rt; packet.universe(), if offset == 114 { 254 } else { 1 });
+        }
+    }
+}
+
+#[test]
+fn readers(rt: HostRuntime) {
+    let header = Header {
+        cid: CID,
+        name: SourceName::new("Grand Hall").unwrap(),
+        priority: 200,
+        sequence: 5,
+        options: 0xc0,
+        universe: 63999,
+    };
+    let mut bytes = [0; 638];
+    encode(&header, &[7; 512], &mut bytes);
+    overwrite(&mut bytes, 109, &[0x12, 0x34]);
+    overwrite(&mut bytes, 125, &[0xdd]);
+    let packet = parse(&bytes).expect(&rt, "a packet");
+    assert_eq!(rt; packet.cid(), CID);
+    assert_eq!(rt; packet.name(), b"Grand Hall".as_slice());
+    assert_eq!(rt; packet.priority(), 200);
+    assert_eq!(rt; packet.sync(), 0x1234);
+    assert_eq!(rt; packet.sequence(), 5);
+    assert_eq!(rt; packet.options(), 0xc0);
+    assert_eq!(rt; packet.universe(), 63999);
+    assert_eq!(rt; packet.start(), 0xdd);
+    assert_eq!(rt; packet.slots(), [7; 512].as_slice());
+    overwrite(&mut bytes, 44, &[b'x'; 64]);
+    let packet = parse(&bytes).expect(&rt, "a packet");
+    assert_eq!(rt; packet.name(), [b'x'; 64].as_slice());
+}
+
+#[test]
+fn renumber(rt: HostRuntime) {
+    let before = look_one_packet();
+    let mut packet = before;
+    sacn_packet::renumber(&mut packet, 5, 0x40);
+    for offset in 0..638 {
+        let wanted = match offset {
+            111 => 0x05,
+            112 => 0x40,
+            _ => before[offset],
+        };
+        assert_eq!(rt; packet[offset], wanted, "offset {offset}");
+    }
+}
+
+#[test]
+fn refilled_slots(rt: HostRuntime) {
+    let before = look_one_packet();
+    let mut slots = [0; 512];
+    slots[0] = 0x40;
+    assert_eq!(rt; slots_in(&before), slots.as_slice());
+    slots[511] = 0xff;
+    let mut packet = before;
+    refill(&mut packet, &slots);
+    assert_eq!(rt; slots_in(&packet), slots.as_slice());
+    for offset in 0..637 {
+        assert_eq!(rt; packet[offset], before[offset], "offset {offset}");
+    }
+    assert_eq!(rt; packet[637], 0xff);
+}
+
+#[test]
+fn every_law() {
+    laws::only_bytes();
+    laws::only_prefix();
+    laws::front();
+    laws::read_back();
+    laws::name_back();
+}
