@@ -1,5 +1,5 @@
 -- The lowest of several faults.
-use Rattle.std.proofs.Common.{◌≡◌, true, false, refl, sym, ap, ◌∙◌, arith, Option, Some, None}
+use Rattle.std.proofs.Common.{◌≡◌, true, false, refl, sym, arith, Option, Some, None}
 use Rattle.std.specs.Prelude.{nat_lt, if◌then◌else◌}
 use Rattle.std.proofs.lemmas.Bool.Decides.{nat_tests}
 use Rattle.std.proofs.lemmas.Option.{none-some}
@@ -24,17 +24,6 @@ lower_assoc (Some x) (Some y) (Some z) = lower_three x y z
 pub lower_none : (a : Option LineFault) → lower a None ≡ a
 lower_none None = refl
 lower_none (Some x) = refl
-
--- a fault more, with others left: `all` is the lowest of those before, that one and the others
-pub lower_more : {all now : Option LineFault} (before here left : Option LineFault)
-    → all ≡ lower before (lower here left) → now ≡ lower before here → all ≡ lower now left
-lower_more before here left e made = e ∙ sym (lower_assoc before here left)
-    ∙ ap (λ o. lower o left) (sym made)
-
--- the last fault, with none left
-pub lower_last : {all now left last : Option LineFault}
-    → all ≡ last → now ≡ last → left ≡ None → all ≡ lower now left
-lower_last {now = now} e made none = e ∙ sym made ∙ sym (ap (lower now) none ∙ lower_none now)
 
 some_of_two : (x y : LineFault) → lower (Some x) (Some y) ≡ None → ⊥
 some_of_two x y = elim (nat_lt (rank_of y) (rank_of x)) as

@@ -113,6 +113,7 @@ fn keep_pairs(words: &mut Words<'_>, kept: &mut ArrayVec<(u16, u8), KEPT>) -> Op
 }
 
 // The lowest fault of the words of CHAN.
+#[tactic(auto, using(crate::proofs::Lowest::lower_assoc, crate::proofs::Lowest::lower_none))]
 fn pair_fault(mut words: Words<'_>) -> Option<LineFault>
     ensures { result ≡ pair_fault desk_limits (words_left words.entry) }
 {

@@ -76,6 +76,7 @@ impl<'a> Iterator for Triples<'a> {
 }
 
 // The lowest fault of the words behind the page.
+#[tactic(auto, using(crate::proofs::Lowest::lower_assoc, crate::proofs::Lowest::lower_none))]
 fn triple_fault(mut words: Words<'_>) -> Option<LineFault>
     ensures { result ≡ triple_fault desk_limits (words_left words.entry) }
 {

@@ -1,24 +1,22 @@
-use Rattle.std.proofs.Common.{◌≡◌, arith}
-use Rattle.std.specs.Prelude.{unwrap_or}
+use Rattle.std.proofs.Common.{arith}
 use Rattle.std.proofs.lemmas.Grind.{common_steps}
-use Rattle.ascii_text.specs.Forms.{number_of}
 use Rattle.ascii_text.specs.LinesLeft.{words_left}
 use Rattle.show_line.specs.Pairs.{desk_limits}
-use Rattle.show_line.proofs.Ranges.{IsPairFaultless, next_pair, number_in_range}
+use Rattle.show_line.proofs.Ranges.{IsPairFaultless, next_pair, number_fits}
 use Rattle.show_line.proofs.pairs.PairsIterator.next.Goals as goal
 use Rattle.show_line.proofs.pairs.PairsIterator.next.Goals.{In_ok-byte}
 
 -- the two words have no fault, nor have those behind them
 fine : (c : In_ok-byte) → IsPairFaultless desk_limits c.in_ok-channel.channel.now
     c.in_ok-byte.byte.now (words_left c.next-2.new.self)
-fine c = next_pair desk_limits (words_left c.self.inside.words) (grind (arith, common_steps)) c.self.invariant
+fine c =
+    next_pair desk_limits (words_left c.self.inside.words) (grind (arith, common_steps))
+    c.self.invariant
 
 pub overflow_cast-result : goal.overflow_cast-result
 overflow_cast-result c =
-    let word = c.in_ok-channel.channel.now in
-    let none = (fine (goal.at.overflow_cast-result c).In_ok-byte).of_channel in
-    let is : c.unwrap_or.result ≡ unwrap_or (number_of word) 0 = grind (arith, common_steps) in
-    omega (arith, (number_in_range 1 4096 word none).below)
+    number_fits 1 4096 c.in_ok-channel.channel.now (omega arith) (grind (arith, common_steps))
+    (fine (goal.at.overflow_cast-result c).In_ok-byte).of_channel
 
 pub invariant_of-self-2 : goal.invariant_of-self-2
 invariant_of-self-2 c = (fine (goal.at.invariant_of-self-2 c).In_ok-byte).behind
