@@ -1,26 +1,37 @@
 -- A tick before End, from the playback and the frames that it leaves.
 use Rattle.std.proofs.Common.{◌≡◌, ℕ, ◌≤◌, Bool, false, List, ◌∷◌, Some, None, IsTrue, is_some}
 use Rattle.std.proofs.Common.{refl, sym, subst, ap, ◌∙◌, arith}
-use Rattle.std.specs.Prelude.{Contains}
+use Rattle.std.specs.Prelude.{Contains, max}
 use Rattle.show_core.specs.Numbers.{is_channel}
-use Rattle.show_core.specs.Tables.{Tables}
+use Rattle.show_core.specs.Tables.{PatchMap, Tables}
 use Rattle.fade_core.specs.Level.{Start}
-use Rattle.playback_core.specs.Played.{playback_level, with_due}
+use Rattle.playback_core.specs.Played.{Move, moves_by, playback_level, with_due}
 use Rattle.playback_core.specs.Playing.{Playing}
 use Rattle.playback_core.specs.Stands as playback
 use Rattle.playback_core.proofs.Places.{none_made, is_by-before}
 use Rattle.master_core.specs.Merged.{level_after}
-use Rattle.master_core.specs.Settings.{grand_after}
-use Rattle.patch_core.specs.Frame.{AreDrawn}
+use Rattle.master_core.specs.Settings as masters
+use Rattle.master_core.specs.Settings.{Setting, grand_after}
+use Rattle.patch_core.specs.Frame.{level_in, AreDrawn}
 use Rattle.desk_core.specs.DeskState.{DeskState}
 use Rattle.desk_core.specs.Played.{Act, ended, moves, settings, tick}
 use Rattle.desk_core.specs.Meaning.{channel_level}
 use Rattle.desk_core.specs.Stands.{StandsFor}
 use Rattle.desk_core.specs.Ticks.{IsKeptBut}
-use Rattle.desk_core.proofs.Drawn.{live_frame_is, channel_level-tick}
+use Rattle.desk_core.proofs.Drawn.{drawn_same, live_frame_is, merged_level, channel_level-tick}
 
-module _ {F : Type 0} (fader_stands_for : F → List Start → Type 0) (latest : F → ℕ)
-    (show : Tables) (base : ℕ) (history : List Act) (moment : ℕ) (desk : DeskState F)
+-- a desk after a tick, by what it then plays and shows
+abbrev ticked_desk : {F : Type 0} → ℕ → DeskState F → Playing F → List (List ℕ) → Bool → DeskState F
+ticked_desk moment desk playing frames is_kept = record desk {
+  playback = playing;
+  last_moment = moment;
+  last_tick = Some moment;
+  frames = frames;
+  is_kept = is_kept;
+}
+
+module _ {F : Type 0} {fader_stands_for : F → List Start → Type 0} {show : Tables} {base : ℕ}
+    {history : List Act} {desk : DeskState F} (moment : ℕ)
     (stands : StandsFor fader_stands_for show base desk history) (live : desk.ended ≡ None) where
   none_ended : ended history ≡ None
   none_ended = sym stands.ended_is ∙ live
@@ -38,13 +49,8 @@ module _ {F : Type 0} (fader_stands_for : F → List Start → Type 0) (latest :
       (with_due show moment (moves show history)) false
       → AreDrawn show.patch (channel_level show history moment) (grand_after (settings history))
       frames
-      → StandsFor fader_stands_for show base (record desk {
-        playback = playing;
-        last_moment = moment;
-        last_tick = Some moment;
-        frames = frames;
-        is_kept = is_kept;
-      }) (record { moment = moment; call = tick } ∷ history)
+      → StandsFor fader_stands_for show base (ticked_desk moment desk playing frames is_kept)
+      (record { moment = moment; call = tick } ∷ history)
   ticked playing frames is_kept moved drawn = record {
     show_is = stands.show_is;
     base_is = stands.base_is;
@@ -61,7 +67,38 @@ module _ {F : Type 0} (fader_stands_for : F → List Start → Type 0) (latest :
         (sym (channel_level-tick show history moment none_ended)) drawn;
   }
 
-  module _ (channels : List ℕ)
+  -- frames that a rig draws of a playback that has moved on, over the floors that are kept
+  pub redrawn : (latest : F → ℕ) {playing : Playing F} {floors : List ℕ} {patch : PatchMap}
+      {grand : ℕ} {drawn frames : List (List ℕ)} (is_kept : Bool) → IsTrue desk.are_floors
+      → ((made : List Move) (stopped : Bool)
+      → playback.StandsFor fader_stands_for desk.show desk.playback made stopped
+      → playback.StandsFor fader_stands_for desk.show playing
+      (moves_by desk.show stopped moment made) stopped)
+      → latest playing.fader ≡ moment → floors ≡ desk.floors → patch ≡ desk.show.patch
+      → ((made : List Setting) → masters.StandsFor desk.masters made → grand ≡ grand_after made)
+      → frames ≡ drawn
+      → (playback.StandsFor fader_stands_for show playing
+      (with_due show moment (moves show history)) false
+      → ((channel : ℕ) → IsTrue (is_channel channel)
+      → max (playback_level show (with_due show moment (moves show history)) channel
+      (latest playing.fader)) (level_in floors channel) ≡ channel_level show history moment channel)
+      → AreDrawn patch (channel_level show history moment) grand drawn)
+      → StandsFor fader_stands_for show base (ticked_desk moment desk playing frames is_kept)
+      (record { moment = moment; call = tick } ∷ history)
+  redrawn latest {playing} {floors} {patch} {grand} {drawn} {frames} is_kept are advanced at same
+      patch_is grand_is frames_are draws =
+      let now = with_due show moment (moves show history) in
+      let moved : playback.StandsFor fader_stands_for show playing now false =
+      (rw stands.show_is at advanced) (moves show history) false not_stopped in
+      ticked playing frames is_kept moved
+      (drawn_same patch show.patch (channel_level show history moment) grand
+      (grand_after (settings history)) drawn frames (patch_is ∙ ap (λ s. s.patch) stands.show_is)
+      (grand_is (settings history) stands.masters_stand) (sym frames_are)
+      (draws moved (λ channel is.
+      merged_level show history now floors channel moment (latest playing.fader) _ refl at
+      (ap (λ fs. level_in fs channel) same ∙ stands.floors_are are channel is))))
+
+  module _ {latest : F → ℕ} {channels : List ℕ}
       (but : IsKeptBut fader_stands_for latest desk moment channels)
       (not_ahead : latest desk.playback.fader ≤ desk.last_moment)
       (later : desk.last_moment ≤ moment) where
