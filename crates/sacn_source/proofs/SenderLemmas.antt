@@ -117,21 +117,6 @@ lane_found {lanes} {now} {universes} {i} {found} {lane} u d same are result some
           ∙ ap (slice_get lanes) (sym first) ∙ get;
     }
 
--- what is kept of a universe is what its lane keeps
-pub earliest_at : {lanes now : List Lane} {u i : ℕ} {lane : Lane} → LaneAt lanes now u i lane
-    → earliest_of now u ≡ lane.pace.earliest
-earliest_at p = ap (λ (o : Option Lane). option_map_or (λ l. l.pace.earliest) o 0) p.at
-
-pub ended_at : {lanes now : List Lane} {u i : ℕ} {lane : Lane} → LaneAt lanes now u i lane
-    → ended_of now u ≡ lane.pace.ended
-ended_at p = ap (λ (o : Option Lane). option_map_or (λ l. l.pace.ended) o 0) p.at
-
-pub lane_stands : {lanes now : List Lane} {u i : ℕ} {lane : Lane} {who : Identity}
-    {offers : List Offer} {n : ℕ} → LaneAt lanes now u i lane → StandsFor who now u offers n
-    → LaneStands who lane offers n
-lane_stands {who = who} {offers = offers} {n = n} p s =
-    subst (λ (o : Option Lane). StandsAt who o offers n) p.at s
-
 -- the lane changes, and keeps its universe
 pub record Changes (lanes now : List Lane) (u i : ℕ) (new : Lane) : Type 0 where
   pub universes : universes_of (slice_set lanes i new) ≡ universes_of lanes
@@ -152,20 +137,6 @@ changes {lanes} {now} {u} {i} {lane} new p kept =
           (is_not _ _ (λ e. other (sym e ∙ kept ∙ p.is)))
           ∙ ap (λ (ls : List Lane). lane_of ls v) p.same;
     }
-
-pub sender_stands : {lanes now : List Lane} {u i : ℕ} {new : Lane} {who : Identity}
-    {offers : List Offer} {n : ℕ} → Changes lanes now u i new → LaneStands who new offers n
-    → StandsFor who (slice_set lanes i new) u offers n
-sender_stands {who = who} {offers = offers} {n = n} p s =
-    subst (λ (o : Option Lane). StandsAt who o offers n) (sym p.at) s
-
-pub earliest_now : {lanes now : List Lane} {u i : ℕ} {new : Lane} → Changes lanes now u i new
-    → earliest_of (slice_set lanes i new) u ≡ new.pace.earliest
-earliest_now p = ap (λ (o : Option Lane). option_map_or (λ (l : Lane). l.pace.earliest) o 0) p.at
-
-pub ended_now : {lanes now : List Lane} {u i : ℕ} {new : Lane} → Changes lanes now u i new
-    → ended_of (slice_set lanes i new) u ≡ new.pace.ended
-ended_now p = ap (λ (o : Option Lane). option_map_or (λ (l : Lane). l.pace.ended) o 0) p.at
 
 -- a universe that is not found has no lane
 none_by : (b : Bool) (p n : ℕ) → nat_lt p n ≡ b → cond b (Some p) None ≡ None → n ≤ p
@@ -230,22 +201,17 @@ universes_more lanes lane universes i d within is so_far =
     ∙ ap (λ (u : ℕ). take i universes ++ u ∷ []) is ∙ sym (take_more universes i d within)
 
 -- what is kept of a universe, by what it stands for
-earliest_stands : (who : Identity) (o : Option Lane) (offers : List Offer) (n : ℕ)
+paces_stand : (who : Identity) (o : Option Lane) (offers : List Offer) (n : ℕ)
     → StandsAt who o offers n
-    → option_map_or (λ (l : Lane). l.pace.earliest) o 0 ≡ earliest_after offers
-earliest_stands who None offers n s = absurd s
-earliest_stands who (Some l) offers n s = s.paces.earliest_is
-
-ended_stands : (who : Identity) (o : Option Lane) (offers : List Offer) (n : ℕ)
-    → StandsAt who o offers n
-    → option_map_or (λ (l : Lane). l.pace.ended) o 0 ≡ n
-ended_stands who None offers n s = absurd s
-ended_stands who (Some l) offers n s = s.paces.ended_is
+    → (option_map_or (λ (l : Lane). l.pace.earliest) o 0 ≡ earliest_after offers)
+    × (option_map_or (λ (l : Lane). l.pace.ended) o 0 ≡ n)
+paces_stand who None offers n s = absurd s
+paces_stand who (Some l) offers n s = (s.paces.earliest_is, s.paces.ended_is)
 
 pub earliest_is : (who : Identity) (lanes : List Lane) (u : ℕ) (offers : List Offer) (n : ℕ)
     → StandsFor who lanes u offers n → earliest_of lanes u ≡ earliest_after offers
-earliest_is who lanes u offers n s = earliest_stands who (lane_of lanes u) offers n s
+earliest_is who lanes u offers n s = (paces_stand who (lane_of lanes u) offers n s).0
 
 pub ended_is : (who : Identity) (lanes : List Lane) (u : ℕ) (offers : List Offer) (n : ℕ)
     → StandsFor who lanes u offers n → ended_of lanes u ≡ n
-ended_is who lanes u offers n s = ended_stands who (lane_of lanes u) offers n s
+ended_is who lanes u offers n s = (paces_stand who (lane_of lanes u) offers n s).1

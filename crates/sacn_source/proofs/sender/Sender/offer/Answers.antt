@@ -1,25 +1,18 @@
-use Rattle.std.proofs.Common.{◌∙◌, sym, ap, arith}
+use Rattle.std.proofs.Common.{◌∙◌, sym, ap}
 use Rattle.sacn_source.specs.Stands.{universes_of}
-use Rattle.sacn_source.proofs.SenderLemmas.{changes, earliest_at, earliest_now, ended_at}
-use Rattle.sacn_source.proofs.SenderLemmas.{ended_now, lane_found, lane_stands, place_found}
-use Rattle.sacn_source.proofs.SenderLemmas.{sender_stands}
+use Rattle.sacn_source.proofs.SenderLemmas.{changes, lane_found, place_found}
 use Rattle.sacn_source.proofs.sender.Sender.offer.Goals as goal
 
 pub unwrap-place-requires : goal.unwrap-place-requires
 unwrap-place-requires g c =
     place_found c.args.universe c.self.view_is c.self.invariant c.place_of.ensures c.requires.here
 
-pub offer-requires-clause-later : goal.offer-requires-clause-later
-offer-requires-clause-later g c =
+pub offer-requires : goal.offer-requires
+offer-requires g c =
     let p = lane_found c.args.universe _ c.self.view_is c.self.invariant c.place_of.ensures
     c.unwrap-place.ensures c.index_mut.ensures.value in
-    omega (arith, earliest_at p, c.requires.later)
-
-pub offer-requires-clause-live : goal.offer-requires-clause-live
-offer-requires-clause-live g c =
-    let p = lane_found c.args.universe _ c.self.view_is c.self.invariant c.place_of.ensures
-    c.unwrap-place.ensures c.index_mut.ensures.value in
-    sym (ended_at p) ∙ c.requires.live
+    let required = rw p.at at c.requires in
+    record { later = required.later; below = c.requires.below; live = required.live }
 
 pub invariant_of-self : goal.invariant_of-self
 invariant_of-self g c =
@@ -32,15 +25,13 @@ returns g c =
     let p = lane_found c.args.universe _ c.self.view_is c.self.invariant c.place_of.ensures
     c.unwrap-place.ensures c.index_mut.ensures.value in
     let x = changes c.offer.new.self p c.offer.ensures.universe in
-    record {
+    rw (x.at, p.at) (record {
       universes = x.universes ∙ ap universes_of c.self.view_is;
-      stands = λ who offers s.
-          sender_stands x (c.offer.ensures.stands who offers (lane_stands p s));
+      stands = c.offer.ensures.stands;
       others = x.others;
-      answer = λ who offers s. c.offer.ensures.answer who offers (lane_stands p s);
+      answer = c.offer.ensures.answer;
       told = c.offer.ensures.told;
-      offered = λ who offers s tells.
-          rw p.is at (c.offer.ensures.offered who offers (lane_stands p s) tells);
-      earliest = earliest_now x ∙ c.offer.ensures.earliest;
-      ended = ended_now x ∙ c.offer.ensures.ended ∙ sym (ended_at p) ∙ c.requires.live;
-    }
+      offered = λ who offers s. rw p.is at (c.offer.ensures.offered who offers s);
+      earliest = c.offer.ensures.earliest;
+      ended = c.offer.ensures.ended ∙ rw p.at at c.requires.live;
+    })

@@ -1,14 +1,14 @@
 use Rattle.std.proofs.Common.{◌≡◌, ◌∙◌, sym}
 use Rattle.std.specs.Prelude.{◌==◌, None}
 use Rattle.std.specs.List.{position}
-use Rattle.sacn_source.proofs.SenderLemmas.{is_there, lane_found, lane_stands, no_lane}
+use Rattle.sacn_source.proofs.SenderLemmas.{is_there, lane_found, no_lane}
 use Rattle.sacn_source.proofs.sender.Sender.sent.Goals as goal
 
 pub returns-in-Some-clause-sent : goal.returns-in-Some-clause-sent
 returns-in-Some-clause-sent c = λ who offers n s.
     let p = lane_found c.args.universe _ c.self.view_is c.self.invariant c.place_of.ensures
     c.in-Some.is c.index.ensures in
-    c.sent.ensures.value ∙ (lane_stands {who = who} {offers = offers} {n = n} p s).paces.sent_is
+    c.sent.ensures.value ∙ (rw p.at at s).paces.sent_is
 
 pub returns-in-Some-clause-other : goal.returns-in-Some-clause-other
 returns-in-Some-clause-other c = λ other.
