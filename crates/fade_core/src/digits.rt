@@ -86,6 +86,7 @@ impl Digits {
 
     // The level of a channel that goes from `a` to `b`.
     #[inline(always)]
+    #[tactic(auto, unfolding(crate::specs::Share::moved))]
     pub fn level(a: u16, b: u16, rising: Digits, falling: Digits) -> u16
         ensures { result ≡ moved a b (share_by rising) (share_by falling) }
     {
