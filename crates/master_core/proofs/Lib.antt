@@ -1,4 +1,3 @@
 pub mod Raised
 pub mod Greatest
-pub mod Setting
 mod Rows
