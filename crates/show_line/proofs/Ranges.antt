@@ -1,6 +1,5 @@
 -- What the words of a line without a fault are.
-use Rattle.std.proofs.Common.{◌≡◌, ℕ, ◌^◌, ◌<◌, ◌≤◌, Fits, w16, List, ◌∷◌, sym, arith, Option}
-use Rattle.std.proofs.Common.{Some, None}
+use Rattle.std.proofs.Common.{◌≡◌, ℕ, ◌≤◌, List, ◌∷◌, sym, arith, Option, Some, None}
 use Rattle.std.specs.Prelude.{unwrap_or}
 use Rattle.std.proofs.lemmas.Bool.Decides.{nat_tests}
 use Rattle.std.proofs.lemmas.Grind.{common_steps}
@@ -27,12 +26,6 @@ pub number_in_range : (least most : ℕ) (word : List ℕ) → number_fault leas
 number_in_range least most word h =
     let r = in_range least most (number_of word) h in
     record { above = r.0; below = r.1 }
-
--- so what is read of it fits two bytes
-pub number_fits : {n : ℕ} (least most : ℕ) (word : List ℕ) → most < 2 ^ 16
-    → n ≡ unwrap_or (number_of word) 0 → number_fault least most word ≡ None → Fits w16 n
-number_fits least most word few is none =
-    omega (arith, (number_in_range least most word none).below)
 
 -- a pair without a fault, and none behind it
 pub record IsPairFaultless (lim : Limits) (channel level : List ℕ)
