@@ -20,9 +20,9 @@ use Rattle.std.proofs.lemmas.Map.Views.{tells_apart}
 use Rattle.std.proofs.lemmas.Map.Lookups.{exact_unsigned}
 use Rattle.show_core.specs.Numbers.{is_channel}
 use Rattle.show_core.specs.Place.{without}
-use Rattle.show_core.specs.Many.{with_entry, with_entries, IsTableOf}
-use Rattle.show_core.specs.Tables.{LevelMap}
-use Rattle.show_core.specs.Builders.{with_bytes, all_patched}
+use Rattle.show_core.specs.Many.{with_entry, with_entries, with_all, IsTableOf}
+use Rattle.show_core.specs.Tables.{LevelMap, PatchMap}
+use Rattle.show_core.specs.Builders.{with_bytes, patched_with, all_patched}
 use Rattle.show_core.proofs.Sorted.{sorted_put, from_sorted-put, sorted_at, turned, less, not_so}
 use Rattle.show_core.proofs.Sorted.{and_left, and_right, from_true, to_true}
 use Rattle.show_core.proofs.Removed.{sorted_without, from_sorted-without, find-without}
@@ -62,31 +62,39 @@ module _ {V : Type 0} (stays : V → Bool) where
       ∙ sum_by-cons (λ (e : ℕ × V). cond (stays e.1) 1 0) p rest
       ∙ ap (λ x. cond x 1 0 + count_by (λ (e : ℕ × V). stays e.1) rest) says
 
--- the map of levels, with more of them
-pub from_sorted-with_bytes : (es ps : List (ℕ × ℕ)) → IsTrue (map.is_sorted nat_cmp es)
-    → map.from_sorted (with_entries (λ _. true) es ps) ≡ with_bytes (map.from_sorted es) ps
-from_sorted-with_bytes es [] sorted = refl
-from_sorted-with_bytes es (p ∷ ps) sorted =
-    from_sorted-with_bytes (map.put nat_cmp p.0 p.1 es) ps
-    (sorted_put nat_cmp nat_cmp_total es sorted p.0 p.1)
-    ∙ ap (λ m. with_bytes m ps) (from_sorted-put nat_cmp nat_cmp_total es sorted p.0 p.1)
+  -- the map of the entries, with more of them
+  pub from_sorted-with_entries : (es ps : List (ℕ × V)) → IsTrue (map.is_sorted nat_cmp es)
+      → map.from_sorted (with_entries stays es ps) ≡ with_all stays (map.from_sorted es) ps
+  from_sorted-with_entries es [] sorted = refl
+  from_sorted-with_entries es (p ∷ ps) sorted =
+      from_sorted-with_entries (with_entry stays es p) ps (sorted_with_entry es p sorted)
+      ∙ ap (λ m. with_all stays m ps)
+      (elim (stays p.1)
+      as (λ b. map.from_sorted {R = nat_cmp}
+      (cond b (map.put nat_cmp p.0 p.1 es) (without nat_cmp p.0 es))
+      ≡ cond b (map.insert (map.from_sorted es) p.0 p.1) (map.remove (map.from_sorted es) p.0)) [
+        | true ↦ from_sorted-put nat_cmp nat_cmp_total es sorted p.0 p.1
+        | false ↦ from_sorted-without nat_cmp nat_cmp_total p.0 map.nat_cmp-IsAntisymmetric es
+            sorted
+      ])
 
--- the map of the patch, with more dimmers
-pub from_sorted-all_patched : (es ps : List (ℕ × (ℕ × ℕ))) → IsTrue (map.is_sorted nat_cmp es)
-    → map.from_sorted (with_entries (λ v. not (v.0 == 0)) es ps)
-    ≡ all_patched (map.from_sorted es) ps
-from_sorted-all_patched es [] sorted = refl
-from_sorted-all_patched es (p ∷ ps) sorted =
-    from_sorted-all_patched (with_entry (λ v. not (v.0 == 0)) es p) ps
-    (sorted_with_entry (λ v. not (v.0 == 0)) es p sorted)
-    ∙ ap (λ m. all_patched m ps)
+-- each level stays
+pub with_bytes_all : (levels : LevelMap) (ps : List (ℕ × ℕ))
+    → with_all (λ _. true) levels ps ≡ with_bytes levels ps
+with_bytes_all levels [] = refl
+with_bytes_all levels (p ∷ ps) = with_bytes_all (map.insert levels p.0 p.1) ps
+
+-- channel 0 leaves a dimmer unpatched
+pub all_patched_all : (patch : PatchMap) (ps : List (ℕ × (ℕ × ℕ)))
+    → all_patched patch ps ≡ with_all (λ v. not (v.0 == 0)) patch ps
+all_patched_all patch [] = refl
+all_patched_all patch (p ∷ ps) =
+    all_patched_all (patched_with patch p.0 p.1.0 p.1.1) ps
+    ∙ ap (λ m. with_all (λ v. not (v.0 == 0)) m ps)
     (elim (p.1.0 == 0)
-    as (λ b. map.from_sorted {R = nat_cmp}
-    (cond (not b) (map.put nat_cmp p.0 p.1 es) (without nat_cmp p.0 es))
-    ≡ cond b (map.remove (map.from_sorted es) p.0) (map.insert (map.from_sorted es) p.0 p.1)) [
-      | true ↦ from_sorted-without nat_cmp nat_cmp_total p.0 map.nat_cmp-IsAntisymmetric es sorted
-      | false ↦ from_sorted-put nat_cmp nat_cmp_total es sorted p.0 p.1
-    ])
+    as (λ b. cond b (map.remove patch p.0) (map.insert patch p.0 p.1)
+    ≡ cond (not b) (map.insert patch p.0 p.1) (map.remove patch p.0))
+    [ true ↦ refl | false ↦ refl ])
 
 -- the channels of more levels are in their range
 pub keys-with_bytes : (levels : LevelMap) (ps : List (ℕ × ℕ))
@@ -110,6 +118,10 @@ count_none {X} test (x ∷ xs) h =
     sum_by-cons (λ (y : X). cond (not (test y)) 1 0) x xs
     ∙ ap (λ b. cond (not b) 1 0 + count_by (λ y. not (test y)) xs) one
     ∙ omega (arith, rest)
+
+pub ruleset levelled = (with_bytes_all)
+
+pub ruleset patched = (all_patched_all, count_none)
 
 -- ---- entries behind all others
 

@@ -21,7 +21,8 @@ use Rattle.show_core.proofs.Ranges.{values-insert, values-remove, values-changed
 use Rattle.show_core.proofs.Ranges.{no_values}
 
 -- a map of records has only keys of a kind, also with one more
-pub opened_in_range : (P : ℕ → Type 0) (masters : MasterMap) (n : ℕ) → All P (map.keys masters) → P n
+pub opened_in_range : (P : ℕ → Type 0) (masters : MasterMap) (n : ℕ)
+    → All P (map.keys masters) → P n
     → All P (map.keys (opened_in masters n))
 opened_in_range P masters n h p =
     elim (map.contains_key masters n)

@@ -1,9 +1,9 @@
 pub mod Sorted
 pub mod Removed
+pub mod Tables
 pub mod Changes
 pub mod Ranges
 pub mod Entries
 pub mod InRange
 pub mod Ordinals
 mod Rows
-pub mod LevelLemmas

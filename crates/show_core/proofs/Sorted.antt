@@ -1,19 +1,18 @@
 -- Entries sorted by their keys: what a search finds, and what an edit at that place is.
 use Rattle.std.proofs.Common.{◌≡◌, ℕ, zero, suc, ◌+◌, ◌-◌, ◌<◌, Bool, true, false, IsTrue, ◌&&◌, T}
-use Rattle.std.proofs.Common.{List, [], ◌∷◌, ◌++◌, length, get_or, set, Option, Some, None, is_some}
+use Rattle.std.proofs.Common.{List, [], ◌∷◌, ◌++◌, length, get_or, set, Some, None}
 use Rattle.std.proofs.Common.{Result, Ok, Err, IfOk, IfErr, refl, sym, ap, subst}
 use Rattle.std.proofs.Common.{◌∙◌, arith, inl, inr}
-use Rattle.std.specs.Prelude.{map, reverse, option_copied}
-use Rattle.std.specs.Borrow.{Bor}
+use Rattle.std.specs.Prelude.{map, reverse}
 use Rattle.std.specs.declared.cmp.Ordering.{Ordering}
 use Rattle.std.specs.declared.cmp.Ordering.TheVariants.{Less, Equal, Greater}
 use Rattle.std.specs.List.{insert}
 use Rattle.std.specs.List.Sorted.{IsSearchInRange, IsBinarySearchResult, IsNonDecreasingBy}
-use Rattle.std.specs.Ordering.{nat_cmp, is_lt, ordering_index, ordering_reverse}
-use Rattle.std.specs.Cmp.{IsTotalOrder, nat_cmp_total}
-use Rattle.std.specs.FinMap.{FinMap, find, put, is_sorted, from_sorted, get, entries, insert as map_insert}
+use Rattle.std.specs.Ordering.{is_lt, ordering_index, ordering_reverse}
+use Rattle.std.specs.Cmp.{IsTotalOrder}
+use Rattle.std.specs.FinMap.{find, put, is_sorted, from_sorted, get, entries, insert as map_insert}
 use Rattle.std.specs.FinMap.{get-from_sorted, entries-from_sorted, entries-insert, same_entries_map}
-use Rattle.std.specs.FinMap.{empty, empty_of_len, len-entries, len}
+use Rattle.std.specs.FinMap.{empty, empty_of_len, len-entries}
 use Rattle.std.specs.FinMap.Entries.{below_all, is_sorted-put}
 use Rattle.std.proofs.lemmas.Bool.{cases_lt}
 use Rattle.std.proofs.lemmas.List.{reverse-append, map-append}
@@ -194,58 +193,6 @@ module _ {K V : Type 0} (R : K → K → Ordering) (o : IsTotalOrder R) (es : Li
 
 pub from_sorted-nil : {K V : Type 0} (R : K → K → Ordering) → from_sorted {X = V} {R = R} [] ≡ empty
 from_sorted-nil R = empty_of_len _ (len-entries _ ∙ ap length (entries-from_sorted R [] tt))
-
-pub is_some_copied : {V : Type 0} (r : Option (Bor V)) → is_some r ≡ is_some (option_copied r)
-is_some_copied None = refl
-is_some_copied (Some x) = refl
-
--- the same for the tactics, which find the entries that a table is seen from
-module _ {V : Type 0} (es : List (ℕ × V)) where
-  pub listed : IsTrue (is_sorted nat_cmp es) → entries (from_sorted {R = nat_cmp} es) ≡ es
-  listed sorted = entries_are nat_cmp nat_cmp_total es sorted
-
-  pub counted : IsTrue (is_sorted nat_cmp es) → len (from_sorted {R = nat_cmp} es) ≡ length es
-  counted sorted = len-entries (from_sorted es) ∙ ap length (listed sorted)
-
-  pub looked_up : (key : ℕ) → IsTrue (is_sorted nat_cmp es)
-      → find nat_cmp key es ≡ get (from_sorted {R = nat_cmp} es) key
-  looked_up key sorted = sym (get_is nat_cmp nat_cmp_total es sorted key)
-
-  pub put_in : (key : ℕ) (v : V) → IsTrue (is_sorted nat_cmp es)
-      → from_sorted {R = nat_cmp} (put nat_cmp key v es) ≡ map_insert (from_sorted es) key v
-  put_in key v sorted = from_sorted-put nat_cmp nat_cmp_total es sorted key v
-
-  pub sorted_with : (key : ℕ) (v : V) → IsTrue (is_sorted nat_cmp es)
-      → IsTrue (is_sorted nat_cmp (put nat_cmp key v es))
-  sorted_with key v sorted = sorted_put nat_cmp nat_cmp_total es sorted key v
-
-pub ruleset edits = (put_in, sorted_with, looked_up)
-
-pub of_none : {V : Type 0} → from_sorted {X = V} {R = nat_cmp} [] ≡ empty
-of_none = from_sorted-nil nat_cmp
-
--- what a table has, by the entries that it is seen from
-module _ {V : Type 0} (es : List (ℕ × V)) (sorted : IsTrue (is_sorted nat_cmp es))
-    (m : FinMap nat_cmp V) (seen : from_sorted es ≡ m) where
-  find_seen : (key : ℕ) → find nat_cmp key es ≡ get m key
-  find_seen key = looked_up es key sorted ∙ ap (λ x. get x key) seen
-
-  pub none_seen : (key i : ℕ) → IsGap nat_cmp es key i → ◌≡◌ {A = Option V} None (get m key)
-  none_seen key i gap = sym (find_gap nat_cmp nat_cmp_total es key i gap) ∙ find_seen key
-
-  -- the value at the place that a search found, and what writing another one there leaves
-  module _ (key i : ℕ) (e : ℕ × V) (at : IsAt nat_cmp es key i) (is : e ≡ get_or es i e) where
-    pub value_seen : ◌≡◌ {A = Option V} (Some e.1) (get m key)
-    value_seen = ap (λ x. Some x.1) is
-        ∙ sym (find_at nat_cmp nat_cmp_total es key i e at) ∙ find_seen key
-
-    pub sorted_set : (v : V) → IsTrue (is_sorted nat_cmp (set es i (e.0, v)))
-    sorted_set v = rw (set_at nat_cmp nat_cmp_total es sorted key i e v at is)
-        (sorted_put nat_cmp nat_cmp_total es sorted key v)
-
-    pub set_seen : (v : V) → from_sorted (set es i (e.0, v)) ≡ map_insert m key v
-    set_seen v = rw (set_at nat_cmp nat_cmp_total es sorted key i e v at is)
-        (put_in es key v sorted ∙ ap (λ x. map_insert x key v) seen)
 
 -- the keys of the entries in reverse
 pub map-reverse : {A B : Type 0} (f : A → B) (xs : List A) → map f (reverse xs) ≡ reverse (map f xs)

@@ -1,10 +1,9 @@
 pub mod Numbers
-pub mod Pairs
 pub mod Tables
 pub mod Codes
 pub mod Builders
 pub mod Readers
 pub mod Place
+pub mod Keys
 pub mod Many
 pub mod Inside
-pub mod Lends

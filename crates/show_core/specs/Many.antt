@@ -15,6 +15,13 @@ abbrev pub with_entries : {V : Type 0} → (V → Bool) → List (ℕ × V) → 
 with_entries stays es [] = es
 with_entries stays es (p ∷ ps) = with_entries stays (with_entry stays es p) ps
 
+-- the map of such entries, with each of them
+abbrev pub with_all : {V : Type 0} → (V → Bool) → map.FinMap nat_cmp V → List (ℕ × V)
+    → map.FinMap nat_cmp V
+with_all stays m [] = m
+with_all stays m (p ∷ ps) =
+    with_all stays (if stays p.1 then map.insert m p.0 p.1 else map.remove m p.0) ps
+
 -- a table with a place for each key has there what the entries have
 abbrev pub IsTableOf : {V : Type 0} → List (Option V) → List (ℕ × V) → Type 0
 IsTableOf table es =

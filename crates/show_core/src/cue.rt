@@ -5,6 +5,7 @@ ghost use Rattle.show_core.specs.Readers.{rate_of, level_in};
 
 use crate::levels::Levels;
 use crate::rate::Rate;
+use crate::table::CloneIn;
 use std::alloc::{AllocError, Global};
 use std::marker::Model;
 

@@ -1,8 +1,6 @@
-ghost use Rattle.std.specs.Prelude.{◌≡◌, IsTrue, IsOk, IfOk, OnOk, OnErr, IfSome, []};
+ghost use Rattle.std.specs.Prelude.{◌≡◌, IsTrue, IsOk, OnOk, OnErr, IfSome, []};
 ghost use Rattle.std.specs.List.{list_all};
 ghost use Rattle.std.specs.Prelude.{find as find_in, reverse, nat_lt, map as map_list};
-ghost use Rattle.std.specs.Borrow.{sem};
-ghost use Rattle.std.specs.Option.{option_copied_mut};
 ghost use Rattle.std.specs.FinMap as map;
 ghost use Rattle.show_core.specs.Numbers.{is_channel};
 ghost use Rattle.show_core.specs.Builders.{opened, with_level, with_levels, with_up, with_down};
@@ -12,63 +10,15 @@ ghost use Rattle.show_core.specs.Readers.{HasTimes, cue_above, cue_below};
 use crate::cue::{Cue, CueData};
 use crate::heap_cue::HeapCue;
 use crate::levels::Levels;
-use crate::place::{find, place, put};
 use crate::rate::Rate;
+use crate::table::Table;
 use std::alloc::{AllocError, Global};
-use std::marker::Model;
 
 /// The cues, by their numbers in thousandths.
-#[derive(Debug, Drop)]
-pub struct CueTable {
-    entries: Vec<(u32, HeapCue)>,
-}
-
-impl Model for CueTable {
-    ghost use Rattle.std.specs.Prelude.{IsTrue};
-    ghost use Rattle.std.specs.Ordering.{nat_cmp};
-    ghost use Rattle.std.specs.FinMap as map;
-    ghost use Rattle.show_core.specs.Tables.{CueMap};
-
-    ghost Value = { CueMap };
-
-    ghost use Rattle.std.specs.Coded.{coded_ℕ};
-    ghost use Rattle.show_core.specs.contracts.cue.CueData as cue_data;
-
-    ghost coded = { map.code coded_ℕ cue_data.the_row.coded };
-
-    ghost view = { λ t. map.from_sorted t.entries.items };
-
-    ghost invariant = { λ t. IsTrue (map.is_sorted nat_cmp t.entries.items) };
-}
+pub type CueTable = Table<u32, HeapCue>;
 
 impl CueTable {
-    ghost use Rattle.show_core.specs.Lends.{LendsCue};
-
-    #[tactic(auto, using(crate::proofs::Sorted::of_none))]
-    pub fn new(alloc: Global) -> CueTable
-        ensures { result ≡ map.empty }
-    {
-        CueTable {
-            entries: Vec::new(alloc),
-        }
-    }
-
-    #[tactic(auto, using(crate::proofs::Sorted::counted))]
-    pub fn len(&self) -> usize
-        ensures { result ≡ map.len self.now }
-    {
-        self.entries.len()
-    }
-
-    #[tactic(auto, using(crate::proofs::Sorted::looked_up, crate::proofs::Sorted::is_some_copied))]
-    pub fn has(&self, n: u32) -> bool
-        ensures { result ≡ map.contains_key self.now n }
-    {
-        find(&self.entries, n).is_some()
-    }
-
     // Opens cue `n`, or continues it where it is there.
-    #[tactic(auto, using(crate::proofs::Sorted::edits))]
     pub fn open(&mut self, alloc: Global, n: u32) -> Result<(), AllocError>
         ensures opened { OnOk result (self.new ≡ opened self.old n) }
         ensures unchanged { OnErr result (self.new ≡ self.old) }
@@ -81,20 +31,9 @@ impl CueTable {
                 down: None,
                 follow: None,
             };
-            put(&mut self.entries, n, HeapCue::new(alloc, blank)?)?;
+            self.put(n, HeapCue::new(alloc, blank)?)?;
         }
         Ok(())
-    }
-
-    // Cue `n`, to be changed in place.
-    fn cue_mut(&mut self, n: u32) -> Option<&mut HeapCue>
-        ensures* writes_back { sem 𝓛 (LendsCue self.entry n result) }
-        ensures value { option_copied_mut result ≡ map.get self.old n }
-    {
-        match place(&self.entries, n) {
-            Ok(at) => Some(&mut self.entries[at].1),
-            Err(_) => None,
-        }
     }
 
     #[tactic(auto, using(crate::proofs::Changes::insert_there))]
@@ -106,7 +45,7 @@ impl CueTable {
         ensures sure { IfSome (map.get self.old n)
             (λ cue. IsTrue (map.contains_key cue.levels channel) → IsOk result) }
     {
-        if let Some(cue) = self.cue_mut(n) {
+        if let Some(cue) = self.get_mut(n) {
             cue.set_level(channel, byte)?;
         }
         Ok(())
@@ -120,7 +59,7 @@ impl CueTable {
         ensures unchanged { OnErr result (self.new ≡ self.old) }
         ensures sure { pairs.now ≡ [] → IsOk result }
     {
-        if let Some(cue) = self.cue_mut(n) {
+        if let Some(cue) = self.get_mut(n) {
             cue.set_levels(pairs)?;
         }
         Ok(())
@@ -129,7 +68,7 @@ impl CueTable {
     pub fn set_up(&mut self, n: u32, rate: Rate)
         ensures { self.new ≡ with_up self.old n rate }
     {
-        if let Some(cue) = self.cue_mut(n) {
+        if let Some(cue) = self.get_mut(n) {
             cue.set_up(rate);
         }
     }
@@ -137,7 +76,7 @@ impl CueTable {
     pub fn set_down(&mut self, n: u32, rate: Rate)
         ensures { self.new ≡ with_down self.old n rate }
     {
-        if let Some(cue) = self.cue_mut(n) {
+        if let Some(cue) = self.get_mut(n) {
             cue.set_down(rate);
         }
     }
@@ -145,47 +84,31 @@ impl CueTable {
     pub fn set_follow(&mut self, n: u32, time: u32)
         ensures { self.new ≡ with_follow self.old n time }
     {
-        if let Some(cue) = self.cue_mut(n) {
+        if let Some(cue) = self.get_mut(n) {
             cue.set_follow(time);
         }
     }
 
-    #[tactic(auto, using(crate::proofs::Sorted::of_none))]
-    pub fn clear(&mut self)
-        ensures { self.new ≡ map.empty }
-    {
-        self.entries.clear();
-    }
-
-    #[tactic(auto, using(crate::proofs::Sorted::looked_up))]
-    pub fn get(&self, n: u32) -> Option<Cue<'_>>
+    pub fn cue(&self, n: u32) -> Option<Cue<'_>>
         requires { IfSome (map.get self.now n) HasTimes }
         ensures { result ≡ map.get self.now n }
     {
-        let cue = find(&self.entries, n)?;
+        let cue = self.get(n)?;
         Some(Cue::of(cue.data()))
     }
 
     // The least number above `n`.
-    #[tactic(auto, using(crate::proofs::Sorted::listed))]
     pub fn next(&self, n: u32) -> Option<u32>
         ensures { result ≡ cue_above self.now n }
     {
-        first_above(&self.entries, n)
+        first_above(self.entries(), n)
     }
 
     // The greatest number below `n`.
     pub fn before(&self, n: u32) -> Option<u32>
         ensures { result ≡ cue_below self.now n }
     {
-        last_below(&self.entries, n)
-    }
-
-    pub fn clone_in(&self, alloc: Global) -> Result<CueTable, AllocError>
-        ensures { IfOk result (λ copy. copy ≡ self.now) }
-    {
-        let entries = clone_entries(alloc, &self.entries)?;
-        Ok(CueTable { entries })
+        last_below(self.entries(), n)
     }
 }
 
@@ -206,18 +129,4 @@ fn last_below(entries: &[(u32, HeapCue)], n: u32) -> Option<u32>
         .rev()
         .map(|entry| entry.0)
         .find(|number| *number < n)
-}
-
-fn clone_entries(
-    alloc: Global,
-    entries: &[(u32, HeapCue)],
-) -> Result<Vec<(u32, HeapCue)>, AllocError>
-    ensures { IfOk result (λ copy. copy.items ≡ entries.now) }
-{
-    let mut copy = Vec::new(alloc);
-    for entry in entries {
-        let data = entry.1.data().clone_in(alloc)?;
-        copy.push((entry.0, HeapCue::new(alloc, data)?))?;
-    }
-    Ok(copy)
 }

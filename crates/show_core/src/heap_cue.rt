@@ -6,6 +6,7 @@ ghost use Rattle.show_core.specs.Builders.{with_bytes};
 
 use crate::cue::CueData;
 use crate::rate::Rate;
+use crate::table::CloneIn;
 use std::alloc::{AllocError, Global};
 use std::marker::Model;
 
@@ -77,5 +78,12 @@ impl HeapCue {
         ensures { self.new ≡ record self.old { follow = Some time } }
     {
         self.cue.follow = Some(time);
+    }
+}
+
+impl CloneIn for HeapCue {
+    fn clone_in(&self, alloc: Global) -> Result<HeapCue, AllocError> {
+        let data = self.data().clone_in(alloc)?;
+        HeapCue::new(alloc, data)
     }
 }

@@ -1,19 +1,18 @@
-ghost use Rattle.std.specs.Prelude.{◌≡◌, IfOk, OnOk, OnErr, IsOk, IsTrue, []};
+ghost use Rattle.std.specs.Prelude.{◌≡◌, OnOk, OnErr, IsOk, IsTrue, []};
 ghost use Rattle.std.specs.List.{list_all};
 ghost use Rattle.std.specs.FinMap as map;
 ghost use Rattle.show_core.specs.Numbers.{is_channel};
 ghost use Rattle.show_core.specs.Builders.{with_bytes};
 ghost use Rattle.show_core.specs.Readers.{HasChannels, level_in};
 
-use crate::many::put_all;
-use crate::place::{find, put};
+use crate::table::{CloneIn, Table};
 use std::alloc::{AllocError, Global};
 use std::marker::Model;
 
 /// The levels of a record: the level byte of each channel that is listed.
 #[derive(Debug, Drop)]
 pub struct Levels {
-    pairs: Vec<(u16, u8)>,
+    pairs: Table<u16, u8>,
 }
 
 impl Model for Levels {
@@ -26,11 +25,11 @@ impl Model for Levels {
 
     ghost coded = { map.code coded_ℕ coded_ℕ };
 
-    ghost use Rattle.show_core.specs.Pairs.{levels_view, IsLevels};
+    ghost view = { λ l. l.pairs };
 
-    ghost view = { levels_view };
+    ghost use Rattle.show_core.specs.Readers.{HasChannels};
 
-    ghost invariant = { IsLevels };
+    ghost invariant = { λ l. HasChannels l.pairs };
 }
 
 impl Levels {
@@ -38,55 +37,52 @@ impl Levels {
         ensures { result ≡ map.empty }
     {
         Levels {
-            pairs: Vec::new(alloc),
+            pairs: Table::new(alloc),
         }
-    }
-
-    // A copy.
-    pub(crate) fn clone_in(&self, alloc: Global) -> Result<Levels, AllocError>
-        ensures { IfOk result (λ copy. copy ≡ self.now) }
-    {
-        Ok(Levels {
-            pairs: Vec::from_slice(alloc, &self.pairs)?,
-        })
     }
 
     /// The channels that are listed and their level bytes. The entries of a map are sorted, so the
     /// channels strictly ascend.
-    #[tactic(auto, using(crate::proofs::Sorted::listed))]
     pub fn pairs(&self) -> &[(u16, u8)]
         ensures entries { result.now ≡ map.entries self.now }
         ensures range { HasChannels self.now }
     {
-        &self.pairs
+        self.pairs.entries()
     }
 
     /// The level byte of a channel: 0 where none is listed.
-    #[tactic(auto, using(crate::proofs::Sorted::looked_up))]
     pub fn level(&self, channel: u16) -> u8
         ensures { result ≡ level_in self.now channel }
     {
-        find(&self.pairs, channel).copied().unwrap_or(0)
+        self.pairs.get(channel).copied().unwrap_or(0)
     }
 
-    #[tactic(auto, using(crate::proofs::Sorted::edits))]
     pub(crate) fn set(&mut self, channel: u16, byte: u8) -> Result<(), AllocError>
         requires { IsTrue (is_channel channel) }
         ensures ok { OnOk result (self.new ≡ map.insert self.old channel byte) }
         ensures err { OnErr result (self.new ≡ self.old) }
         ensures sure { IsTrue (map.contains_key self.old channel) → IsOk result }
     {
-        put(&mut self.pairs, channel, byte)?;
+        self.pairs.put(channel, byte)?;
         Ok(())
     }
 
+    #[tactic(auto, using(crate::proofs::Entries::levelled))]
     pub(crate) fn set_all(&mut self, pairs: &[(u16, u8)]) -> Result<(), AllocError>
         requires { IsTrue (list_all (λ pair. is_channel pair.0) pairs.now) }
         ensures ok { OnOk result (self.new ≡ with_bytes self.old pairs.now) }
         ensures err { OnErr result (self.new ≡ self.old) }
         ensures sure { pairs.now ≡ [] → IsOk result }
     {
-        put_all(&mut self.pairs, pairs)?;
+        self.pairs.put_all(pairs)?;
         Ok(())
+    }
+}
+
+impl CloneIn for Levels {
+    fn clone_in(&self, alloc: Global) -> Result<Levels, AllocError> {
+        Ok(Levels {
+            pairs: self.pairs.copy_in(alloc)?,
+        })
     }
 }

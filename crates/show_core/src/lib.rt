@@ -29,6 +29,7 @@ mod place;
 mod rate;
 mod show;
 mod slots;
+mod table;
 
 pub use cue::Cue;
 pub use fault::BuildFault;

@@ -1,6 +1,5 @@
 ghost use Rattle.std.specs.Prelude.{◌≡◌, ◌+◌, ◌<◌, ◌≤◌, IsTrue, IsSome, IsOk, IfOk, IfErr};
 ghost use Rattle.std.specs.Prelude.{OnOk, OnErr, vec_len, vec_capacity};
-ghost use Rattle.std.specs.Option.{option_copied};
 ghost use Rattle.std.specs.FinMap as map;
 ghost use Rattle.show_core.specs.Place.{IsAt, IsGap, without};
 
@@ -23,17 +22,6 @@ pub fn place<K: Ord + Copy, V>(entries: &[(K, V)], key: K) -> Result<usize, usiz
         }
     }
     entries.binary_search_by_key(&key, |entry| entry.0)
-}
-
-// The value at the key.
-pub fn find<K: Ord + Copy, V>(entries: &[(K, V)], key: K) -> Option<&V>
-    requires { IsTrue (map.is_sorted K.cmp entries.now) }
-    ensures { option_copied result ≡ map.find K.cmp key entries.now }
-{
-    match place(entries, key) {
-        Ok(at) => Some(&entries[at].1),
-        Err(_) => None,
-    }
 }
 
 // Puts the value at the key.

@@ -23,6 +23,7 @@ use crate::master_table::MasterTable;
 use crate::patch_table::PatchTable;
 use crate::rate::Rate;
 use crate::slots::slot;
+use crate::table::CloneIn;
 use arrayvec::ArrayVec;
 use std::alloc::{AllocError, Global};
 use std::marker::Model;
@@ -363,7 +364,7 @@ impl Show {
     pub fn cue(&self, n: u32) -> Option<Cue<'_>>
         ensures { result ≡ map.get self.now.cues n }
     {
-        self.cues.get(n)
+        self.cues.cue(n)
     }
 
     /// The least cue above `n`; `next(0)` is the first cue.
@@ -386,7 +387,7 @@ impl Show {
         ensures entries { result.now ≡ map.entries self.now.subs }
         ensures range { All (λ e. IsTrue (is_sub e.0)) result.now }
     {
-        self.subs.records()
+        self.subs.entries()
     }
 
     /// The groups that are there, each with its number, 1 to 500, and its levels. The entries of a
@@ -395,7 +396,7 @@ impl Show {
         ensures entries { result.now ≡ map.entries self.now.groups }
         ensures range { All (λ e. IsTrue (is_group e.0)) result.now }
     {
-        self.groups.records()
+        self.groups.entries()
     }
 
     /// The channels of submaster `n` and their level bytes. The entries of a map are sorted, so the
@@ -425,7 +426,7 @@ impl Show {
         ensures patch { result ≡ map.get self.now.patch dimmer }
         ensures range { IfSome result (λ p. IsTrue (is_dimmer dimmer) × IsTrue (is_channel p.0)) }
     {
-        self.patch.get(dimmer)
+        self.patch.get(dimmer).copied()
     }
 
     /// The dimmers that are patched, 1 to 8192, each with its channel, 1 to 4096, and its level
@@ -434,7 +435,7 @@ impl Show {
         ensures entries { result.now ≡ map.entries self.now.patch }
         ensures range { All (λ e. IsTrue (is_dimmer e.0) × IsTrue (is_channel e.1.0)) result.now }
     {
-        self.patch.dimmers()
+        self.patch.entries()
     }
 
     /// The ordinals of the universes that have a patched dimmer, ascending.
@@ -470,7 +471,7 @@ impl Show {
     fn look_slot(&self, look: &Cue<'_>, dimmer: u16) -> u8
         ensures { result ≡ look_slot look.now.levels self.now.patch dimmer }
     {
-        match self.patch.get(dimmer) {
+        match self.patched(dimmer) {
             Some((channel, byte)) => slot(255 * u32::from(look.level(channel)), 255, byte),
             None => 0,
         }
@@ -508,7 +509,7 @@ impl Show {
         let cues = self.cues.clone_in(alloc)?;
         let subs = self.subs.clone_in(alloc)?;
         let groups = self.groups.clone_in(alloc)?;
-        let patch = self.patch.clone_in(alloc)?;
+        let patch = self.patch.copy_in(alloc)?;
         Ok(Show {
             alloc,
             cues,

@@ -1,8 +1,10 @@
-use Rattle.std.proofs.Common.{[], ◌∷◌, refl}
-use Rattle.show_core.proofs.LevelLemmas.{are_levels}
+use Rattle.std.proofs.Common.{IsTrue}
+use Rattle.show_core.specs.Numbers.{is_channel}
+use Rattle.show_core.proofs.Ranges.{keys-insert}
 use Rattle.show_core.proofs.levels.Levels.set.Goals as goal
 
 pub invariant_of-self-2 : goal.invariant_of-self-2
 invariant_of-self-2 c =
-    are_levels c.self.inside _ ((c.args.channel, c.args.byte) ∷ []) c.self.invariant
-    (rw c.requires refl) c.in_ok-put.ensures.ok
+    rw c.in_ok-put.ensures.ok
+    (keys-insert (λ k. IsTrue (is_channel k)) c.self.inside.pairs c.args.channel c.args.byte
+    c.self.invariant c.requires)

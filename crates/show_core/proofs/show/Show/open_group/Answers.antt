@@ -12,5 +12,6 @@ invariant_of-self-2 c =
     rw c.in_ok-open.ensures.opened
     (masters_in_range (show_view c.self.inside) c.self.invariant c.self.inside.subs
     (opened_in c.self.inside.groups c.args.n)
-    c.self.invariant.subs_in (opened_in_range (λ k. IsTrue (is_group k)) c.self.inside.groups c.args.n
+    c.self.invariant.subs_in
+    (opened_in_range (λ k. IsTrue (is_group k)) c.self.inside.groups c.args.n
     c.self.invariant.groups_in number))

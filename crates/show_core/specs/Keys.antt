@@ -1,0 +1,14 @@
+-- Keys that stand for numbers.
+use Rattle.std.specs.Prelude.{◌≡◌, ℕ, List, map}
+use Rattle.std.specs.Ordering.{nat_cmp}
+use Rattle.std.specs.Cmp.{IsTotalOrder}
+use Rattle.std.specs.declared.cmp.Ordering.{Ordering}
+
+-- a key is compared by its number
+pub record IsNumbered {K : Type 0} (R : K → K → Ordering) (number : K → ℕ) : Type 0 where
+  pub total : IsTotalOrder R
+  pub by_number : (a b : K) → R a b ≡ nat_cmp (number a) (number b)
+
+-- the entries by the numbers of their keys
+abbrev pub numbered : {K V : Type 0} → (K → ℕ) → List (K × V) → List (ℕ × V)
+numbered number = map (λ e. (number e.0, e.1))
