@@ -60,10 +60,11 @@ enum Step {
     Current(Option<u32>),
 }
 
-// A desk of the small show takes the steps.
+// A desk of the small show takes the steps, with each fader.
 fn take_steps(rt: &impl Abort, alloc: Global, steps: &[Step]) -> Result<(), Fail> {
     let show = small_show(rt, alloc)?;
-    take_on::<PlainFader>(rt, alloc, &show, steps)
+    take_on::<PlainFader>(rt, alloc, &show, steps)?;
+    take_on::<StepFader>(rt, alloc, &show, steps)
 }
 
 // A desk of the small show with a follow-on time takes the steps, with each fader.

@@ -103,6 +103,32 @@ fn crossfade_levels<F: Fader>(
     Ok([crossed, levels(&playback)])
 }
 
+// The same with each fader.
+fn first_cue_levels(
+    rt: &impl Abort,
+    alloc: Global,
+    show: &Show,
+    pace: Pace,
+    moment: u32,
+) -> Result<[u32; 2], AllocError> {
+    Ok([
+        first_cue_level::<PlainFader>(rt, alloc, show, pace, moment)?,
+        first_cue_level::<StepFader>(rt, alloc, show, pace, moment)?,
+    ])
+}
+
+fn crossfades(
+    rt: &impl Abort,
+    alloc: Global,
+    show: &Show,
+    pace: Pace,
+) -> Result<[[(u32, u32); 2]; 2], AllocError> {
+    Ok([
+        crossfade_levels::<PlainFader>(rt, alloc, show, pace)?,
+        crossfade_levels::<StepFader>(rt, alloc, show, pace)?,
+    ])
+}
+
 #[test]
 fn five_second_fade(rt: HostRuntime) -> Result<(), Fail> {
     let show = two_cues(&rt, rt.alloc())?;
@@ -113,8 +139,8 @@ fn five_second_fade(rt: HostRuntime) -> Result<(), Fail> {
         (2525, 32837),
         (5000, 65025),
     ] {
-        let found = first_cue_level::<PlainFader>(&rt, rt.alloc(), &show, Pace::AtOnce, moment);
-        assert!(rt; found == Ok(level), "at {moment}");
+        let found = first_cue_levels(&rt, rt.alloc(), &show, Pace::AtOnce, moment);
+        assert!(rt; found == Ok([level; 2]), "at {moment}");
     }
     Ok(())
 }
@@ -122,16 +148,18 @@ fn five_second_fade(rt: HostRuntime) -> Result<(), Fail> {
 #[test]
 fn split_crossfade(rt: HostRuntime) -> Result<(), Fail> {
     let show = two_cues(&rt, rt.alloc())?;
-    let [crossed, _] = crossfade_levels::<PlainFader>(&rt, rt.alloc(), &show, Pace::AtOnce)?;
-    assert_eq!(rt; crossed, (48769, 32512));
+    for [crossed, _] in crossfades(&rt, rt.alloc(), &show, Pace::AtOnce)? {
+        assert_eq!(rt; crossed, (48769, 32512));
+    }
     Ok(())
 }
 
 #[test]
 fn goto_mid_fade(rt: HostRuntime) -> Result<(), Fail> {
     let show = two_cues(&rt, rt.alloc())?;
-    let [_, returned] = crossfade_levels::<PlainFader>(&rt, rt.alloc(), &show, Pace::AtOnce)?;
-    assert_eq!(rt; returned, (52020, 26010));
+    for [_, returned] in crossfades(&rt, rt.alloc(), &show, Pace::AtOnce)? {
+        assert_eq!(rt; returned, (52020, 26010));
+    }
     Ok(())
 }
 
@@ -140,11 +168,11 @@ fn every_millisecond(rt: HostRuntime) -> Result<(), Fail> {
     let show = two_cues(&rt, rt.alloc())?;
     let pace = Pace::EveryMillisecond;
     for (moment, level) in [(2500, 32512), (2510, 32642), (2525, 32837), (5000, 65025)] {
-        let found = first_cue_level::<PlainFader>(&rt, rt.alloc(), &show, pace, moment);
-        assert!(rt; found == Ok(level), "at {moment}");
+        let found = first_cue_levels(&rt, rt.alloc(), &show, pace, moment);
+        assert!(rt; found == Ok([level; 2]), "at {moment}");
     }
-    let found = crossfade_levels::<PlainFader>(&rt, rt.alloc(), &show, pace);
-    assert!(rt; found == Ok([(48769, 32512), (52020, 26010)]));
+    let found = crossfades(&rt, rt.alloc(), &show, pace);
+    assert!(rt; found == Ok([[(48769, 32512), (52020, 26010)]; 2]));
     Ok(())
 }
 
