@@ -65,8 +65,7 @@ pub find_newest : (c : List ℕ) (h : List Entry)
 find_newest c [] = refl
 find_newest c (e ∷ h) =
     let p : Entry → Bool = λ f. not (same_cid e.cid f) in
-    by_test (same_cid c e) (λ k. rw k)
-    (λ k. rw k (find_kept p c (newest h) (newest_distinct h)
+    by_test (same_cid c e) (λ k. rw k) (λ k. rw k (find_kept p c (newest h) (newest_distinct h)
     ∙ find_known (same_cid c) p true (λ f q. ap not (ap (bytes_eq e.cid) (sym (own_cid c f q))
     ∙ nat_list_eq_equiv.symm e.cid c ∙ k)) (newest h) ∙ find_newest c h))
 
@@ -92,8 +91,7 @@ in_found (x ∷ es) e s (inl q) =
     (rw (nat_list_eq_equiv.refl x.cid))
 in_found (x ∷ es) e s (inr i) =
     let ih = in_found es e s.1 i in
-    by_test (same_cid e.cid x)
-    (λ k. absurd (let z = alone e.cid x es s k in cc)) (λ k. rw k ih)
+    by_test (same_cid e.cid x) (λ k. absurd (let z = alone e.cid x es s k in cc)) (λ k. rw k ih)
 
 pub newest_found : (h : List Entry) (e : Entry) → In e (newest h) → find (same_cid e.cid) h ≡ Some e
 newest_found h e i =

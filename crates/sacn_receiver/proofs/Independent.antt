@@ -188,8 +188,7 @@ some_never_fall : (p : Arrival → Bool) (older : List Arrival) (m : ℕ) → la
     → NeverFall older → (last_arrival (filter p older) ≤ m) × NeverFall (filter p older)
 some_never_fall p [] m l n = (l, tt)
 some_never_fall p (a ∷ older) m l n =
-    cond_both (p a) (a ∷ filter p older) (filter p older)
-    (λ l. (last_arrival l ≤ m) × NeverFall l)
+    cond_both (p a) (a ∷ filter p older) (filter p older) (λ l. (last_arrival l ≤ m) × NeverFall l)
     (λ _. (l, some_never_fall p older a.moment n.0 n.1))
     (λ _. some_never_fall p older m (omega (arith, l, n.0)) n.1)
 
@@ -210,8 +209,7 @@ pub records_independent : RecordsAreIndependent
 records_independent room universe cids arrivals few from n cid =
     ap (find (same_cid cid)) (heard_accepted room universe arrivals n)
     ∙ independent room cids cid few (packets_heard universe arrivals)
-    (packets_in cids universe arrivals from)
-    ∙ sym (ap (find (same_cid cid))
+    (packets_in cids universe arrivals from) ∙ sym (ap (find (same_cid cid))
     (heard_accepted room universe (filter (is_from cid) arrivals)
     (some_never_fall (is_from cid) arrivals (last_arrival arrivals) (omega arith) n).1
     ∙ ap (accepted room) (packets_from cid universe arrivals)))

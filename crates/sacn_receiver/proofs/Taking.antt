@@ -213,8 +213,7 @@ module _ (e : Entry) (c : List ℕ) where
   put_record t l [] zero f a = refl
   put_record t l [] (suc i) f a = refl
   put_record t l (x ∷ xs) zero f a =
-      by_test (same_cid c e) (λ h. rw h)
-      (λ h. by_test (same_cid c x) (λ k.
+      by_test (same_cid c e) (λ h. rw h) (λ h. by_test (same_cid c x) (λ k.
       let other : same_cid e.cid x ≡ false = alike x k ∙ h in
       let away : is_there t x ≡ false =
       still_gone e.moment t x.moment l (not-true (is_there e.moment x) (rw other at f.0)) in

@@ -21,8 +21,7 @@ pub returns-in_err-place-clause-heard : goal.returns-in_err-place-clause-heard
 returns-in_err-place-clause-heard c = rw (← c.self.view_is) (λ h s.
     heard_by (receiver_view c.self.inside) h _ _ _ c.self.invariant s c.if-moment-self.false
     c.in_ok-packet.ensures.fault c.in_ok-packet.ensures.ok (Some c.in_err-place.field-0.0)
-    (rw c.as_slice.ensures.value at c.in_err-place.ensures.refused) (receiver_view c.self.inside)
-    s)
+    (rw c.as_slice.ensures.value at c.in_err-place.ensures.refused) (receiver_view c.self.inside) s)
 
 pub returns-clause-answer : goal.returns-clause-answer
 returns-clause-answer c =
