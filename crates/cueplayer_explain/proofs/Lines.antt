@@ -10,7 +10,7 @@ use Rattle.show_line.specs.declared.keyword.Keyword.{Keyword}
 use Rattle.show_line.specs.declared.line.Reading.{Reading}
 use Rattle.show_line.specs.declared.statement.Record.{Record}
 use Rattle.show_line.specs.Keywords.{keyword_of}
-use Rattle.show_line.specs.Said.{desk_limits, opened, reading_of, said}
+use Rattle.show_line.specs.Said.{desk_limits, record_opened, reading_of, said}
 use Rattle.show_reader.specs.Meaning.{is_skipped}
 use Rattle.show_reader.specs.Text.{Words, owner_below, owns, said_under, statement_below}
 use Rattle.cueplayer_explain.specs.declared.heading.Heading.{Heading}
@@ -61,10 +61,11 @@ owner_is (l ∷ above) = go (owns l) (owner_is above)
     go : (b : Bool) → owner_of (heading_below above) ≡ owner_below desk_limits above
         → owner_of (cond b (heading_of (keyword_in l) (statement_below desk_limits above l))
         (heading_below above))
-        ≡ cond b (opened (statement_below desk_limits above l)) (owner_below desk_limits above)
+        ≡ cond b (record_opened (statement_below desk_limits above l))
+        (owner_below desk_limits above)
     go true is =
         let s = statement_below desk_limits above l in
-        heading_owner (opened s) (is_skipped s) (keyword_in l)
+        heading_owner (record_opened s) (is_skipped s) (keyword_in l)
     go false is = is
 
 -- ---- a line below others

@@ -6,7 +6,7 @@ use Rattle.show_line.specs.declared.keyword.Keyword.TheVariants as keyword
 use Rattle.show_line.specs.declared.statement.Record.{Record}
 use Rattle.show_line.specs.declared.statement.Statement.{Statement}
 use Rattle.show_line.specs.Keywords.{keyword_of}
-use Rattle.show_line.specs.Said.{desk_limits, opened}
+use Rattle.show_line.specs.Said.{desk_limits, record_opened}
 use Rattle.show_reader.specs.Meaning.{is_skipped}
 use Rattle.show_reader.specs.Text.{Words, owns, statement_below}
 use Rattle.cueplayer_explain.specs.declared.heading.Heading.{Heading}
@@ -43,7 +43,7 @@ heading_by None skipped k = if skipped then heading_skipped k else heading.Nothi
 
 -- a line that may own, by its keyword and what it says
 abbrev pub heading_of : Keyword → Statement → Heading
-heading_of k s = heading_by (opened s) (is_skipped s) k
+heading_of k s = heading_by (record_opened s) (is_skipped s) k
 
 -- the record that owns the lines below
 abbrev pub owner_of : Heading → Option Record

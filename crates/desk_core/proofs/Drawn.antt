@@ -14,9 +14,9 @@ use Rattle.show_core.specs.Tables.{PatchMap}
 use Rattle.show_core.proofs.Ranges.{value_in}
 use Rattle.show_core.specs.Tables.{Tables}
 use Rattle.playback_core.specs.Played.{playback_level}
-use Rattle.master_core.specs.Merged.{greatest_in, level_after}
+use Rattle.master_core.specs.Merged.{greatest_in, merged_after}
 use Rattle.master_core.specs.Settings.{sub_after, group_after, grand_after}
-use Rattle.patch_core.specs.Frame.{level_in, dimmer_slot, frame_of, AreDrawn}
+use Rattle.patch_core.specs.Frame.{listed_level, dimmer_slot, frame_of, AreDrawn}
 use Rattle.desk_core.specs.declared.command.Command.{Command}
 use Rattle.desk_core.specs.declared.command.Command.TheVariants.{Go, Back, Goto, Sub, Group, Master}
 use Rattle.desk_core.specs.declared.command.Command.TheVariants.{End}
@@ -35,11 +35,11 @@ over playback floor = omega arith
 -- submasters and groups make of it
 pub merged_level : (show : Tables) (history : List Act) (made : List Move) (floors : List ℕ)
     (channel moment latest level : ℕ)
-    → level ≡ max (playback_level show made channel latest) (level_in floors channel)
-    → latest ≡ moment → level_in floors channel ≡ level_after show (settings history) channel 0
-    → level ≡ level_after show (settings history) channel (playback_level show made channel moment)
+    → level ≡ max (playback_level show made channel latest) (listed_level floors channel)
+    → latest ≡ moment → listed_level floors channel ≡ merged_after show (settings history) channel 0
+    → level ≡ merged_after show (settings history) channel (playback_level show made channel moment)
 merged_level show history made floors channel moment latest level is same floor =
-    is ∙ ap (λ t. max (playback_level show made channel t) (level_in floors channel)) same
+    is ∙ ap (λ t. max (playback_level show made channel t) (listed_level floors channel)) same
     ∙ ap (max (playback_level show made channel moment)) floor
     ∙ over (playback_level show made channel moment)
     (max (greatest_in show.subs (sub_after (settings history)) channel) (greatest_in show.groups
@@ -48,7 +48,7 @@ merged_level show history made floors channel moment latest level is same floor 
 -- the floors after a command that keeps them
 pub floors_same : (show : Tables) (history : List Act) (moment channel : ℕ) (command : Command)
     → keeps_floors command ≡ true
-    → level_after show (settings history) channel 0 ≡ level_after show (settings (record {
+    → merged_after show (settings history) channel 0 ≡ merged_after show (settings (record {
       moment =
           moment;
       call = order command;
@@ -123,7 +123,7 @@ pub channel_level-tick : (show : Tables) (history : List Act) (moment : ℕ) →
     → channel_level show (record { moment = moment; call = tick } ∷ history) moment
     ≡ channel_level show history moment
 channel_level-tick show history moment live =
-    ap (λ made channel. level_after show (settings history) channel
+    ap (λ made channel. merged_after show (settings history) channel
     (playback_level show made channel moment))
     (ap (λ ended. with_due show moment (moves_by show (is_some ended) moment (moves show history)))
     live ∙ with_due-again show moment (moves show history))

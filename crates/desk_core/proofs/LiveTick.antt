@@ -9,10 +9,10 @@ use Rattle.playback_core.specs.Played.{Move, moves_by, playback_level, with_due}
 use Rattle.playback_core.specs.Playing.{Playing}
 use Rattle.playback_core.specs.Stands as playback
 use Rattle.playback_core.proofs.Places.{none_made, is_by-before}
-use Rattle.master_core.specs.Merged.{level_after}
+use Rattle.master_core.specs.Merged.{merged_after}
 use Rattle.master_core.specs.Settings as masters
 use Rattle.master_core.specs.Settings.{Setting, grand_after}
-use Rattle.patch_core.specs.Frame.{level_in, AreDrawn}
+use Rattle.patch_core.specs.Frame.{listed_level, AreDrawn}
 use Rattle.desk_core.specs.DeskState.{DeskState}
 use Rattle.desk_core.specs.Played.{Act, ended, moves, settings, tick}
 use Rattle.desk_core.specs.Meaning.{channel_level}
@@ -81,7 +81,8 @@ module _ {F : Type 0} {fader_stands_for : F → List Start → Type 0} {show : T
       (with_due show moment (moves show history)) false
       → ((channel : ℕ) → IsTrue (is_channel channel)
       → max (playback_level show (with_due show moment (moves show history)) channel
-      (latest playing.fader)) (level_in floors channel) ≡ channel_level show history moment channel)
+      (latest playing.fader)) (listed_level floors channel)
+      ≡ channel_level show history moment channel)
       → AreDrawn patch (channel_level show history moment) grand drawn)
       → StandsFor fader_stands_for show base (ticked_desk moment desk playing frames is_kept)
       (record { moment = moment; call = tick } ∷ history)
@@ -96,7 +97,7 @@ module _ {F : Type 0} {fader_stands_for : F → List Start → Type 0} {show : T
       (grand_is (settings history) stands.masters_stand) (sym frames_are)
       (draws moved (λ channel is.
       merged_level show history now floors channel moment (latest playing.fader) _ refl at
-      (ap (λ fs. level_in fs channel) same ∙ stands.floors_are are channel is))))
+      (ap (λ fs. listed_level fs channel) same ∙ stands.floors_are are channel is))))
 
   module _ {latest : F → ℕ} {channels : List ℕ}
       (but : IsKeptBut fader_stands_for latest desk moment channels)
@@ -111,12 +112,12 @@ module _ {F : Type 0} {fader_stands_for : F → List Start → Type 0} {show : T
         → desk.last_moment ≤ at
         → with_due show at (moves show history) ≡ moves show history
         → channel_level show history at channel
-        ≡ level_after show (settings history) channel
+        ≡ merged_after show (settings history) channel
         (playback_level show (moves show history) channel (latest desk.playback.fader))
     same_level channel at is lacks le same =
-        ap (λ ms. level_after show (settings history) channel
+        ap (λ ms. merged_after show (settings history) channel
         (playback_level show ms channel at)) same
-        ∙ ap (level_after show (settings history) channel)
+        ∙ ap (merged_after show (settings history) channel)
         (but.others show (moves show history) false channel at not_stopped is lacks (omega arith))
 
     -- each other channel has the level that it had

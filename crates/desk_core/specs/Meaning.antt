@@ -4,7 +4,7 @@ use Rattle.show_core.specs.Readers.{universes_of}
 use Rattle.show_core.specs.Tables.{PatchMap, Tables}
 use Rattle.playback_core.specs.Played.{playback_level, with_due}
 use Rattle.master_core.specs.Settings.{grand_after}
-use Rattle.master_core.specs.Merged.{level_after}
+use Rattle.master_core.specs.Merged.{merged_after}
 use Rattle.patch_core.specs.Frame.{frame_of}
 use Rattle.desk_core.specs.Played.{Call, order, tick, Act, ended, moves, settings}
 
@@ -16,7 +16,7 @@ dark = replicate 512 0
 -- by that moment, submasters and groups
 abbrev pub channel_level : Tables → List Act → ℕ → ℕ → ℕ
 channel_level show history moment channel =
-    level_after show (settings history) channel
+    merged_after show (settings history) channel
     (playback_level show (with_due show moment (moves show history)) channel moment)
 
 -- the frame of an ordinal at a tick of this moment after a history: what the patch and the grand

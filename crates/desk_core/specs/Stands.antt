@@ -6,9 +6,9 @@ use Rattle.show_core.specs.Tables.{Tables}
 use Rattle.fade_core.specs.Level.{Start}
 use Rattle.playback_core.specs.Stands as playback
 use Rattle.master_core.specs.Settings as masters
-use Rattle.master_core.specs.Merged.{level_after}
+use Rattle.master_core.specs.Merged.{merged_after}
 use Rattle.master_core.specs.Settings.{grand_after}
-use Rattle.patch_core.specs.Frame.{level_in, AreDrawn}
+use Rattle.patch_core.specs.Frame.{listed_level, AreDrawn}
 use Rattle.desk_core.specs.declared.command.Command.{Command}
 use Rattle.desk_core.specs.declared.command.Command.TheVariants.{Sub, Group}
 use Rattle.desk_core.specs.DeskState.{DeskState}
@@ -37,7 +37,7 @@ pub record StandsFor {F : Type 0} (fader_stands_for : F → List Start → Type 
       → slice_get desk.frames ordinal ≡ Some (latest_frame show history ordinal)
   -- the floors that are kept are the levels of the channels over a dark playback
   pub floors_are : IsTrue desk.are_floors → (channel : ℕ) → IsTrue (is_channel channel)
-      → level_in desk.floors channel ≡ level_after show (settings history) channel 0
+      → listed_level desk.floors channel ≡ merged_after show (settings history) channel 0
   -- what is kept is what the show means at the moment of the last call
   pub kept : IsTrue desk.is_kept
       → AreDrawn show.patch (channel_level show history desk.last_moment)

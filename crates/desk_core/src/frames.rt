@@ -6,7 +6,7 @@ ghost use Rattle.show_core.specs.Numbers.{is_channel};
 ghost use Rattle.show_core.specs.Tables.{Tables};
 ghost use Rattle.playback_core.specs.Played.{Move, playback_level};
 ghost use Rattle.playback_core.specs.Stands as playback_stands;
-ghost use Rattle.patch_core.specs.Frame.{level_in, AreDrawn};
+ghost use Rattle.patch_core.specs.Frame.{listed_level, AreDrawn};
 ghost use Rattle.desk_core.specs.Meaning.{dark};
 
 use fade_core::Fader;
@@ -56,7 +56,7 @@ pub fn draw_merged<F: Fader>(
         → playback_stands.StandsFor F.stands_for show playback.now moves stopped
         → ((channel : ℕ) → IsTrue (is_channel channel)
         → max (playback_level show moves channel (F.latest playback.now.fader))
-        (level_in floors.now channel) ≡ level channel)
+        (listed_level floors.now channel) ≡ level channel)
         → AreDrawn rig.now.patch level grand frames.new }
     ensures full { All (λ level. level ≤ 65025) levels.new }
 {
@@ -78,9 +78,9 @@ fn merge_levels<F: Fader>(levels: &mut [u16], playback: &Playback<F>, floors: &[
     ensures merged { (show : Tables) (moves : List Move) (stopped : Bool)
         → playback_stands.StandsFor F.stands_for show playback.now moves stopped
         → (channel : ℕ) → IsTrue (is_channel channel)
-        → level_in levels.new channel
+        → listed_level levels.new channel
         ≡ max (playback_level show moves channel (F.latest playback.now.fader))
-        (level_in floors.now channel) }
+        (listed_level floors.now channel) }
     ensures full { All (λ level. level ≤ 65025) levels.new }
 {
     match playback.levels() {
@@ -136,7 +136,7 @@ pub fn redraw_merged<F: Fader>(
         → playback_stands.StandsFor F.stands_for show playback.now moves stopped
         → All (λ channel.
         max (playback_level show moves channel (F.latest playback.now.fader))
-        (level_in floors.now channel) ≡ after channel) channels.now
+        (listed_level floors.now channel) ≡ after channel) channels.now
         → AreDrawn rig.now.patch after grand frames.new }
     ensures full { All (λ level. level ≤ 65025) levels.new }
 {
@@ -163,9 +163,9 @@ fn merge_some<F: Fader>(
     requires floors_full { All (λ floor. floor ≤ 65025) floors.now }
     ensures merged { (show : Tables) (moves : List Move) (stopped : Bool)
         → playback_stands.StandsFor F.stands_for show playback.now moves stopped
-        → All (λ channel. level_in levels.new channel
+        → All (λ channel. listed_level levels.new channel
         ≡ max (playback_level show moves channel (F.latest playback.now.fader))
-        (level_in floors.now channel)) channels.now }
+        (listed_level floors.now channel)) channels.now }
     ensures full { All (λ level. level ≤ 65025) levels.new }
 {
     for channel in channels {

@@ -18,7 +18,7 @@ greatest_in records master channel =
 
 -- the level of a channel after these settings: the highest of the playback level, the submasters
 -- and the groups
-abbrev pub level_after : Tables → List Setting → ℕ → ℕ → ℕ
-level_after show settings channel playback =
+abbrev pub merged_after : Tables → List Setting → ℕ → ℕ → ℕ
+merged_after show settings channel playback =
     max playback (max (greatest_in show.subs (sub_after settings) channel)
     (greatest_in show.groups (group_after settings) channel))

@@ -5,7 +5,7 @@ ghost use Rattle.std.specs.Bool.{OnTrue};
 ghost use Rattle.std.specs.FinMap as map;
 ghost use Rattle.show_core.specs.Numbers.{is_channel, is_sub, is_group};
 ghost use Rattle.master_core.specs.declared.fault.NoMaster.TheVariants.{NoSub, NoGroup};
-ghost use Rattle.master_core.specs.Merged.{level_after};
+ghost use Rattle.master_core.specs.Merged.{merged_after};
 ghost use Rattle.master_core.specs.Settings.{Setting, sub_setting, group_setting, grand_setting};
 ghost use Rattle.master_core.specs.Settings.{grand_after, StandsFor};
 
@@ -119,7 +119,7 @@ impl Masters {
     /// is too. The grand master plays no part.
     pub fn merged(&self, show: &Show, channel: u16, playback: u32) -> u32
         ensures level { (settings : List Setting) → StandsFor self.now settings
-            → result ≡ level_after show.now settings channel playback }
+            → result ≡ merged_after show.now settings channel playback }
         ensures full { playback ≤ 65025 → result ≤ 65025 }
     {
         playback
@@ -133,7 +133,7 @@ impl Masters {
         requires { length floors.old ≡ 4096 }
         ensures levels { (settings : List Setting) → StandsFor self.now settings
             → (channel : ℕ) → IsTrue (is_channel channel)
-            → slice_index floors.new (channel - 1) ≡ level_after show.now settings channel 0 }
+            → slice_index floors.new (channel - 1) ≡ merged_after show.now settings channel 0 }
         ensures full { All (λ floor. floor ≤ 65025) floors.new }
     {
         floors.fill(0);

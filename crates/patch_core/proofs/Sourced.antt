@@ -14,7 +14,7 @@ use Rattle.show_core.specs.Tables.{PatchMap}
 use Rattle.show_core.specs.Readers.{slot_of}
 use Rattle.patch_core.proofs.Dimmers.{other_key, same_key}
 use Rattle.patch_core.proofs.Frames.{find_more, frame_is}
-use Rattle.patch_core.specs.Frame.{dimmer_slot, frame_of, level_in}
+use Rattle.patch_core.specs.Frame.{dimmer_slot, frame_of, listed_level}
 use Rattle.patch_core.specs.Sources.{AreSources}
 
 -- a byte of 0 makes a dark slot
@@ -81,16 +81,16 @@ pub frame_from_sources : (patch : PatchMap) (sources bytes levels : List ℕ)
     → AreSources patch sources bytes → (grand k : ℕ) → k < 16 → (out : List ℕ) → length out ≡ 512
     → ((s : ℕ) → s < 512 → get_or out s 0 ≡ slot_of (get_or levels (get_or sources (512 * k + s) 0)
     0) grand (get_or bytes (512 * k + s) 0))
-    → out ≡ frame_of patch (level_in levels) grand k
+    → out ≡ frame_of patch (listed_level levels) grand k
 frame_from_sources patch sources bytes levels are grand k few out size each =
-    frame_is (dimmer_slot patch (level_in levels) grand) (512 * k + 1) 512 out size (λ s lt.
+    frame_is (dimmer_slot patch (listed_level levels) grand) (512 * k + 1) 512 out size (λ s lt.
     let p : ℕ = 512 * k + s in
     let source : ℕ = get_or sources p 0 in
     let back : source ≡ source + 1 - 1 = omega arith in
     let next : p + 1 ≡ 512 * k + 1 + s = omega arith in
     each s lt ∙ ap (λ n. slot_of (get_or levels n 0) grand (get_or bytes p 0)) back
-    ∙ are.slots p (omega arith) (level_in levels) grand
-    ∙ ap (dimmer_slot patch (level_in levels) grand) next)
+    ∙ are.slots p (omega arith) (listed_level levels) grand
+    ∙ ap (dimmer_slot patch (listed_level levels) grand) next)
 
 -- one frame more is written
 pub frames_more : (f : ℕ → List ℕ) (frames : List (List ℕ)) (next : ℕ) (frame : List ℕ)

@@ -23,8 +23,8 @@ is_base patch base =
     is_universe base && list_all (λ ordinal. is_universe (base + ordinal)) (universes_of patch)
 
 -- the level of a channel in a list that begins with channel 1
-abbrev pub level_in : List ℕ → ℕ → ℕ
-level_in levels channel = slice_index levels (channel - 1)
+abbrev pub listed_level : List ℕ → ℕ → ℕ
+listed_level levels channel = slice_index levels (channel - 1)
 
 -- the slot of a dimmer, from the level of each channel and the grand master; 0 where it is not
 -- patched

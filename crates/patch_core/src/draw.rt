@@ -2,7 +2,7 @@ ghost use Rattle.std.specs.Prelude.{◌≡◌, ◌≢◌, ℕ, ◌+◌, ◌*◌,
 ghost use Rattle.std.specs.Prelude.{All, length, slice_index, slice_index_or};
 ghost use Rattle.show_core.specs.Readers.{slot_of};
 ghost use Rattle.show_core.specs.Tables.{PatchMap};
-ghost use Rattle.patch_core.specs.Frame.{AreDrawn, level_in};
+ghost use Rattle.patch_core.specs.Frame.{AreDrawn, listed_level};
 ghost use Rattle.patch_core.specs.Sources.{AreOf, AreSources};
 ghost use Rattle.patch_core.specs.declared.sources.Bytes.TheVariants.{Mixed};
 
@@ -28,7 +28,7 @@ pub fn draw_frames(
     requires kinds { (k : ℕ) → k < 16
         → AreOf (slice_index_or kinds.now k Mixed) bytes.now (512 * k) }
     ensures { (patch : PatchMap) → AreSources patch sources.now bytes.now
-        → AreDrawn patch (level_in levels.now) grand frames.new }
+        → AreDrawn patch (listed_level levels.now) grand frames.new }
 {
     let mut slots = [0; 4096];
     if grand == 255 {

@@ -4,7 +4,7 @@ ghost use Rattle.std.specs.List.{AllWithin, list_all};
 ghost use Rattle.std.specs.Ordering.{nat_cmp};
 ghost use Rattle.std.specs.FinMap as map;
 ghost use Rattle.show_core.specs.Numbers.{is_channel};
-ghost use Rattle.patch_core.specs.Frame.{is_universe, is_base, level_in, frame_of};
+ghost use Rattle.patch_core.specs.Frame.{is_universe, is_base, listed_level, frame_of};
 ghost use Rattle.patch_core.specs.Frame.{AreDrawn};
 ghost use Rattle.patch_core.specs.declared.fault.RigFault.TheVariants.{Universe, Memory};
 
@@ -103,7 +103,7 @@ impl Rig {
         requires ordinal { k < 16 }
         requires each_channel { length levels.now ≡ 4096 }
         requires full { All (λ level. level ≤ 65025) levels.now }
-        ensures { out.new ≡ frame_of self.now.patch (level_in levels.now) grand k }
+        ensures { out.new ≡ frame_of self.now.patch (listed_level levels.now) grand k }
     {
         let first = SLOTS * k + 1;
         let dimmers = self.dimmers.as_slice();
@@ -123,7 +123,7 @@ impl Rig {
         requires each_ordinal { length frames.old ≡ 16 }
         requires each_channel { length levels.now ≡ 4096 }
         requires full { All (λ level. level ≤ 65025) levels.now }
-        ensures { AreDrawn self.now.patch (level_in levels.now) grand frames.new }
+        ensures { AreDrawn self.now.patch (listed_level levels.now) grand frames.new }
     {
         draw_frames(
             frames,
@@ -148,7 +148,7 @@ impl Rig {
         ensures { (before after : ℕ → ℕ) → AreDrawn self.now.patch before grand frames.old
             → ((channel : ℕ) → IsTrue (is_channel channel) → ¬ Contains channels.now channel
             → before channel ≡ after channel)
-            → All (λ channel. level_in levels.now channel ≡ after channel) channels.now
+            → All (λ channel. listed_level levels.now channel ≡ after channel) channels.now
             → AreDrawn self.now.patch after grand frames.new }
     {
         redraw_channels(

@@ -4,7 +4,7 @@ ghost use Rattle.std.specs.Ordering.{nat_cmp};
 ghost use Rattle.show_core.specs.Numbers.{is_channel, is_dimmer};
 ghost use Rattle.show_core.specs.Readers.{slot_of};
 ghost use Rattle.show_core.specs.Tables.{PatchMap};
-ghost use Rattle.patch_core.specs.Frame.{level_in, dimmer_slot};
+ghost use Rattle.patch_core.specs.Frame.{listed_level, dimmer_slot};
 ghost use Rattle.patch_core.specs.Index.{IsIndex, AreFrames, slot_at, dimmer_at, byte_at};
 
 use show_core::{SLOTS, slot};
@@ -36,7 +36,7 @@ pub fn redraw_channels(
         → ((channel : ℕ) → IsTrue (is_channel channel)
         → ((m : ℕ) → m < length channels.now → slice_index channels.now m ≢ channel)
         → before channel ≡ after channel)
-        → All (λ channel. level_in levels.now channel ≡ after channel) channels.now
+        → All (λ channel. listed_level levels.now channel ≡ after channel) channels.now
         → (dimmer : ℕ) → IsTrue (is_dimmer dimmer)
         → slot_at frames.new dimmer ≡ dimmer_slot patch after grand dimmer }
 {

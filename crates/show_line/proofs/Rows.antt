@@ -1,9 +1,9 @@
 -- What single lines say, evaluated.
 use Rattle.std.specs.Prelude.{◌≡◌, ℕ, List, [], ◌∷◌, codes, Option, Some, None, option_map, refl}
 use Rattle.ascii_text.specs.Text.{words_of}
-use Rattle.show_line.specs.declared.fault.LineFault.TheVariants.{Ident, MissingNumber, BadNumber}
+use Rattle.show_line.specs.declared.fault.LineFault.TheVariants.{MissingNumber, BadNumber}
 use Rattle.show_line.specs.declared.fault.LineFault.TheVariants.{BadLevel}
-use Rattle.show_line.specs.declared.fault.LineFault.TheVariants.{BadTime, HalfPair, HalfTriple}
+use Rattle.show_line.specs.declared.fault.LineFault.TheVariants.{BadTime, HalfPair}
 use Rattle.show_line.specs.declared.fault.LineFault.TheVariants.{Limit}
 use Rattle.show_line.specs.declared.statement.Cleared.TheVariants.{All, Only}
 use Rattle.show_line.specs.declared.statement.Record.TheVariants.{Cue, Group, Sub}
@@ -29,18 +29,6 @@ in_group line =
 -- and below no record
 abbrev alone : List ℕ → Option Statement
 alone line = option_map (λ reading. reading.statement) (reading_of desk_limits None (words_of line))
-
-show_faults : (in_cue (codes "CHAN 1@101") ≡ Some (Faulty BadLevel))
-    × (in_cue (codes "CHAN 1") ≡ Some (Faulty HalfPair))
-    × (in_cue (codes "UP 1:60") ≡ Some (Faulty BadTime))
-    × (alone (codes "CUE") ≡ Some (Faulty MissingNumber))
-    × (alone (codes "CUE x") ≡ Some (Faulty BadNumber))
-    × (alone (codes "PATCH 1 1<1") ≡ Some (Faulty HalfTriple))
-    × (alone (codes "PATCH 1 1<8193@FL") ≡ Some (Faulty Limit))
-    × (in_cue (codes "CHAN 5000@101") ≡ Some (Faulty BadLevel))
-    × (alone (codes "IDENT 2:0") ≡ Some (Faulty Ident))
-    × (alone (codes "IDENT 3:0") ≡ Some Quiet)
-show_faults = (refl, refl, refl, refl, refl, refl, refl, refl, refl, refl)
 
 -- of several faults the lowest, and the form of a word before its range
 lowest_faults : (alone (codes "SUB 101 x") ≡ Some (Faulty BadNumber))

@@ -152,9 +152,9 @@ said lim owner Maker words = Skipped
 said lim owner Unknown words = Skipped
 
 -- the record that a statement opens
-abbrev pub opened : Statement → Option Record
-opened (Opens r) = Some r
-opened _ = None
+abbrev pub record_opened : Statement → Option Record
+record_opened (Opens r) = Some r
+record_opened _ = None
 
 -- what is read of a line: its keyword and what it says; nothing where it has no words
 abbrev pub reading_of : Limits → Option Record → List (List ℕ) → Option Reading

@@ -54,11 +54,11 @@ pub enum Statement<'a> {
 
 impl<'a> Statement<'a> {
     ghost use Rattle.std.specs.Prelude.{◌≡◌};
-    ghost use Rattle.show_line.specs.Said.{opened};
+    ghost use Rattle.show_line.specs.Said.{record_opened};
 
     /// The record that it opens or continues.
     pub fn opened(&self) -> Option<Record>
-        ensures { result ≡ opened self.now }
+        ensures { result ≡ record_opened self.now }
     {
         match self {
             Statement::Opens(record) => Some(*record),

@@ -15,7 +15,7 @@ use Rattle.show_reader.specs.Terms.{CueData, Tables, Limits, Record, Cue, Group,
 use Rattle.show_reader.specs.Terms.{Opens, Levels, Rises, Falls, Follows, Patches, Clears}
 use Rattle.show_line.specs.declared.line.Reading.{Reading}
 use Rattle.show_line.specs.Keywords.{keyword_of, may_own}
-use Rattle.show_line.specs.Said.{desk_limits, said, opened, reading_of}
+use Rattle.show_line.specs.Said.{desk_limits, said, record_opened, reading_of}
 use Rattle.show_line.specs.Sound.{IsSound}
 use Rattle.show_line.proofs.Ranged.{IsSaid, said_is}
 use Rattle.show_reader.specs.declared.apply.Refusal.{Refusal}
@@ -96,7 +96,7 @@ owner_there (l ∷ above) =
   where
     go : (owner : Option Record) (own : Bool) (s : Statement) → IsSaid desk_limits owner own s
         → IfSome owner (λ q. IsTrue (is_there q (said_by above)))
-        → IfSome (cond own (opened s) owner) (λ q. IsTrue (is_there q (s ∷ said_by above)))
+        → IfSome (cond own (record_opened s) owner) (λ q. IsTrue (is_there q (s ∷ said_by above)))
     go owner true (Opens r) of h = opened_there r (said_by above)
     go owner true s of h = tt
     go None false s of h = tt
@@ -173,7 +173,7 @@ module _ (lines : List Words) (l : Words) (r : Reader) (h : Reads lines r) where
       → (IsSettled r.draft → grows s ≡ false → IsSettled d)
       → Reads (l ∷ lines) (record {
         draft = d;
-        owner = cond (owns l) (opened s) r.owner;
+        owner = cond (owns l) (record_opened s) r.owner;
         lines = r.lines + 1;
         skipped = r.skipped + cond (is_skipped s) 1 0;
       })
@@ -187,7 +187,7 @@ module _ (lines : List Words) (l : Words) (r : Reader) (h : Reads lines r) where
             let below = none_grows s ss none in
             settled (h.settled below.0) (below.1 (no_fault sound fine));
         faultless = no_fault sound fine;
-        owner = ap (cond (owns l) (opened s)) h.owner;
+        owner = ap (cond (owns l) (record_opened s)) h.owner;
         count =
             count_step ss s (meant r.draft) h.shows h.count ∙ ap (λ t. maps.len t.cues) (sym ok);
         number = omega (arith, h.number);

@@ -5,7 +5,7 @@ use Rattle.std.specs.Prelude.{None}
 use Rattle.ascii_text.specs.Text.{lines_of, words_of}
 use Rattle.show_reader.specs.Terms.{Record, Statement, Quiet, Limits}
 use Rattle.show_line.specs.Keywords.{keyword_of, may_own, is_end}
-use Rattle.show_line.specs.Said.{said, opened}
+use Rattle.show_line.specs.Said.{said, record_opened}
 
 -- a line, as the list of its words
 abbrev pub Words : Type 0
@@ -38,7 +38,7 @@ said_under lim owner (word ∷ words) = said lim owner (keyword_of word) words
 -- the owner below a line: what the line opens, if it is primary or opens a maker's record; else the
 -- owner above it
 abbrev pub owner_after : Limits → Words → Option Record → Option Record
-owner_after lim l owner = if owns l then opened (said_under lim owner l) else owner
+owner_after lim l owner = if owns l then record_opened (said_under lim owner l) else owner
 
 -- the owner of a secondary line below these lines: the record that the nearest line opens that is
 -- primary or opens a maker's record; none where that line is foreign, a maker's, or of another kind

@@ -2,7 +2,7 @@ ghost use Rattle.std.specs.Prelude.{◌≡◌, ◌⊎◌, ◌+◌, ◌≤◌, �
 ghost use Rattle.std.specs.Prelude.{IfOk, IfErr, OnOk, None, Some, if◌then◌else◌};
 ghost use Rattle.ascii_text.specs.Text.{words_of};
 ghost use Rattle.show_line.specs.Keywords.{may_own};
-ghost use Rattle.show_line.specs.Said.{desk_limits, opened};
+ghost use Rattle.show_line.specs.Said.{desk_limits, record_opened};
 ghost use Rattle.show_reader.specs.declared.fault.ShowFault.TheVariants as show_fault;
 ghost use Rattle.show_reader.specs.Text.{Words, ends, lines_in, statements_of};
 ghost use Rattle.show_reader.specs.Meaning.{is_skipped};
@@ -77,7 +77,7 @@ fn is_skipped(statement: &Statement<'_>) -> bool
 // The record that owns the lines below a line: what that opens, if it may own; else its own owner,
 // `above`.
 fn owner_below(above: Option<Record>, keyword: Keyword, statement: &Statement<'_>) -> Option<Record>
-    ensures { result ≡ if may_own keyword then opened statement.now else above }
+    ensures { result ≡ if may_own keyword then record_opened statement.now else above }
 {
     if keyword.may_own() {
         statement.opened()

@@ -2,29 +2,30 @@ use Rattle.std.proofs.Common.{◌≡◌, ◌∙◌, ◌-◌, arith}
 use Rattle.std.specs.Prelude.{max}
 use Rattle.playback_core.specs.Played.{playback_level}
 use Rattle.std.proofs.lemmas.List.Elements.{All-get_or}
-use Rattle.patch_core.specs.Frame.{level_in}
+use Rattle.patch_core.specs.Frame.{listed_level}
 use Rattle.patch_core.proofs.Redrawn.{channel_range}
 use Rattle.desk_core.proofs.Drawn.{drawn_alike}
 use Rattle.desk_core.proofs.frames.draw_merged.Goals as goal
 
 pub returns-in-Some-clause-drawn : goal.returns-in-Some-clause-drawn
 returns-in-Some-clause-drawn g c = λ show moves stopped level channels stands same.
-    drawn_alike c.args.rig.now.patch channels (level_in c.in-Some.playing.now) level (λ channel is.
-    let none : level_in c.args.floors.now channel ≡ 0 =
+    drawn_alike c.args.rig.now.patch channels (listed_level c.in-Some.playing.now) level
+    (λ channel is.
+    let none : listed_level c.args.floors.now channel ≡ 0 =
     All-get_or (λ floor. floor ≡ 0) c.args.floors.now (channel - 1) 0
     (omega (arith, channel_range channel is, c.requires.floors))
     (c.requires.no_floors c.if-not-has_floors.true) in
-    let playing : level_in c.in-Some.playing.now channel ≡ playback_level show moves channel
+    let playing : listed_level c.in-Some.playing.now channel ≡ playback_level show moves channel
     (g.F.Fader.latest c.args.playback.now.fader) =
     c.in-Some.ensures.levels show moves stopped channel stands is in
     let merged : max (playback_level show moves channel (g.F.Fader.latest
-    c.args.playback.now.fader)) (level_in c.args.floors.now channel) ≡ level channel =
+    c.args.playback.now.fader)) (listed_level c.args.floors.now channel) ≡ level channel =
     same channel is in
     omega arith) c.args.grand c.draw.new.frames c.draw.ensures
 
 pub returns-in_default-clause-drawn : goal.returns-in_default-clause-drawn
 returns-in_default-clause-drawn g c = λ show moves stopped level channels stands same.
-    drawn_alike c.args.rig.now.patch channels (level_in c.merge_levels.new.levels) level
+    drawn_alike c.args.rig.now.patch channels (listed_level c.merge_levels.new.levels) level
     (λ channel is. c.merge_levels.ensures.merged show moves stopped stands channel is
     ∙ same channel is)
     c.args.grand c.draw-in_default.new.frames c.draw-in_default.ensures

@@ -3,7 +3,7 @@ use Rattle.std.specs.Prelude.{All, max}
 use Rattle.show_core.specs.Tables.{Tables}
 use Rattle.playback_core.specs.Played.{Move, playback_level}
 use Rattle.playback_core.specs.Stands as playback
-use Rattle.patch_core.specs.Frame.{level_in}
+use Rattle.patch_core.specs.Frame.{listed_level}
 use Rattle.desk_core.proofs.frames.merge_some.Given as goal
 
 -- the levels of the channels so far are merged, and all are in their range
@@ -12,8 +12,8 @@ invariant-loop-channel g l = record {
   merged : (show : Tables) (moves : List Move) (stopped : Bool)
       → playback.StandsFor g.F.Fader.stands_for
       show l.playback moves stopped → (k : ℕ) → k < l.channel-index
-      → level_in l.levels (get_or l.channels k 0) ≡ max (playback_level show moves (get_or
-      l.channels k 0) (g.F.Fader.latest l.playback.fader)) (level_in l.floors (get_or
+      → listed_level l.levels (get_or l.channels k 0) ≡ max (playback_level show moves (get_or
+      l.channels k 0) (g.F.Fader.latest l.playback.fader)) (listed_level l.floors (get_or
       l.channels k 0));
   full : All (λ level. level ≤ 65025) l.levels;
 }

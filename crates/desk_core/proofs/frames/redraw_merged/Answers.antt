@@ -2,7 +2,7 @@ use Rattle.std.proofs.Common.{◌≡◌, ◌∙◌, ◌-◌, ℕ, arith, get_or}
 use Rattle.std.specs.Prelude.{max}
 use Rattle.playback_core.specs.Played.{playback_level}
 use Rattle.std.proofs.lemmas.List.Elements.{All-get_or}
-use Rattle.patch_core.specs.Frame.{level_in}
+use Rattle.patch_core.specs.Frame.{listed_level}
 use Rattle.patch_core.proofs.Redrawn.{channel_range}
 use Rattle.desk_core.proofs.frames.redraw_merged.Goals as goal
 
@@ -10,15 +10,15 @@ pub returns-in-Some-clause-drawn : goal.returns-in-Some-clause-drawn
 returns-in-Some-clause-drawn g c = λ show moves stopped before after old others stands same.
     c.redraw.ensures before after old others (λ k d lt.
     let channel : ℕ = get_or c.args.channels.now k d in
-    let none : level_in c.args.floors.now channel ≡ 0 =
+    let none : listed_level c.args.floors.now channel ≡ 0 =
     All-get_or (λ floor. floor ≡ 0) c.args.floors.now (channel - 1) 0
     (omega (arith, channel_range channel (c.requires.in_range k d lt), c.requires.floors))
     (c.requires.no_floors c.if-not-has_floors.true) in
-    let playing : level_in c.in-Some.playing.now channel ≡ playback_level show moves channel
+    let playing : listed_level c.in-Some.playing.now channel ≡ playback_level show moves channel
     (g.F.Fader.latest c.args.playback.now.fader) =
     c.in-Some.ensures.levels show moves stopped channel stands (c.requires.in_range k d lt) in
     let merged : max (playback_level show moves channel (g.F.Fader.latest
-    c.args.playback.now.fader)) (level_in c.args.floors.now channel) ≡ after channel =
+    c.args.playback.now.fader)) (listed_level c.args.floors.now channel) ≡ after channel =
     same k d lt in
     omega arith)
 

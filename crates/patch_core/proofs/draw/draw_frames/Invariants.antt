@@ -1,11 +1,11 @@
 use Rattle.std.proofs.Common.{◌≡◌, ◌<◌, ℕ, Some, slice_get}
 use Rattle.show_core.specs.Tables.{PatchMap}
-use Rattle.patch_core.specs.Frame.{level_in, frame_of}
+use Rattle.patch_core.specs.Frame.{listed_level, frame_of}
 use Rattle.patch_core.specs.Sources.{AreSources}
 use Rattle.patch_core.proofs.draw.draw_frames.Given as goal
 
 -- the frames so far are drawn
 abbrev pub invariant-loop-ordinal : goal.invariant-loop-ordinal
 invariant-loop-ordinal l = (patch : PatchMap) → AreSources patch l.sources l.bytes
-    → (k : ℕ) → k < l.ordinal → slice_get l.frames k ≡ Some (frame_of patch (level_in l.levels)
+    → (k : ℕ) → k < l.ordinal → slice_get l.frames k ≡ Some (frame_of patch (listed_level l.levels)
     l.grand k)

@@ -1,5 +1,5 @@
 use Rattle.std.proofs.Common.{◌≡◌, ℕ, ◌-◌, ◌≤◌, get_or, ap, ◌∙◌, arith}
-use Rattle.patch_core.specs.Frame.{level_in}
+use Rattle.patch_core.specs.Frame.{listed_level}
 use Rattle.patch_core.specs.Index.{slot_at}
 use Rattle.patch_core.proofs.Redrawn.{channel_range, same_slot, want, kept, drawn, next}
 use Rattle.patch_core.proofs.slots.redraw_channels.Goals as goal
@@ -24,8 +24,8 @@ loop-channel-preserved c = record {
       let one_up : 1 ≤ k = omega (arith, range.0) in
       let few : k ≤ 4096 = omega (arith, range.1) in
       let level_is : get_or c.args.levels.now (k - 1) 0 ≡ after k =
-      ap (level_in c.args.levels.now) (omega (arith, here)) ∙ listed j 0 c.loop-channel-test.true
-      ∙ ap after here in
+      ap (listed_level c.args.levels.now) (omega (arith, here))
+      ∙ listed j 0 c.loop-channel-test.true ∙ ap after here in
       let old : ℕ → ℕ = slot_at c.loop-channel.frames in
       c.redraw_run.ensures.slots
       (want patch c.args.by_channel.now c.args.begins.now index after c.args.grand k one_up few

@@ -3,7 +3,7 @@ use Rattle.std.specs.Prelude.{All}
 use Rattle.std.specs.FinMap as map
 use Rattle.show_core.specs.Numbers.{is_channel, is_dimmer}
 use Rattle.show_core.specs.Tables.{PatchMap}
-use Rattle.patch_core.specs.Frame.{level_in, dimmer_slot}
+use Rattle.patch_core.specs.Frame.{listed_level, dimmer_slot}
 use Rattle.patch_core.specs.Index.{IsIndex, AreFrames, slot_at}
 use Rattle.patch_core.proofs.slots.redraw_channels.Given as goal
 
@@ -19,7 +19,7 @@ invariant-loop-channel l = record {
       → ((channel : ℕ) → IsTrue (is_channel channel)
       → ((m : ℕ) → m < length l.channels → get_or l.channels m 0 ≢ channel)
       → before channel ≡ after channel)
-      → All (λ channel. level_in l.levels channel ≡ after channel) l.channels
+      → All (λ channel. listed_level l.levels channel ≡ after channel) l.channels
       → (dimmer : ℕ) → IsTrue (is_dimmer dimmer)
       → ((channel byte m : ℕ) → map.get patch dimmer ≡ Some (channel, byte) → l.channel-index ≤ m
       → m < length l.channels → get_or l.channels m 0 ≢ channel)

@@ -2,8 +2,8 @@ use Rattle.std.proofs.Common.{◌≡◌, ℕ, IsTrue, ap, ◌∙◌, arith, rule
 use Rattle.std.specs.Vec.{with_items}
 use Rattle.std.proofs.lemmas.List.{with_items_is}
 use Rattle.show_core.specs.Numbers.{is_channel}
-use Rattle.master_core.specs.Merged.{level_after}
-use Rattle.patch_core.specs.Frame.{level_in}
+use Rattle.master_core.specs.Merged.{merged_after}
+use Rattle.patch_core.specs.Frame.{listed_level}
 use Rattle.desk_core.specs.Played.{settings}
 use Rattle.desk_core.proofs.desk.Desk.keep_floors.Goals as goal
 
@@ -19,9 +19,9 @@ returns-then-not-self-clause-stands g c =
       c.self.inside.floors.ok.0,
     )) in
     let floors_are : (channel : ℕ) → IsTrue (is_channel channel)
-    → level_in (with_items c.self.inside.floors c.write_floors.new.floors).items channel
-    ≡ level_after show (settings history) channel 0 = λ channel is.
-    ap (λ fs. level_in fs channel) written
+    → listed_level (with_items c.self.inside.floors c.write_floors.new.floors).items channel
+    ≡ merged_after show (settings history) channel 0 = λ channel is.
+    ap (λ fs. listed_level fs channel) written
     ∙ c.write_floors.ensures.levels (settings history) stands.masters_stand channel is
-    ∙ ap (λ s. level_after s (settings history) channel 0) stands.show_is in
+    ∙ ap (λ s. merged_after s (settings history) channel 0) stands.show_is in
     search rules)

@@ -3,7 +3,7 @@ use Rattle.std.proofs.Common.{arith}
 use Rattle.std.proofs.lemmas.List.{get_or-replicate}
 use Rattle.show_core.specs.Numbers.{is_sub, is_group}
 use Rattle.master_core.specs.Inside.{masters_view}
-use Rattle.master_core.specs.Merged.{level_after}
+use Rattle.master_core.specs.Merged.{merged_after}
 use Rattle.master_core.specs.Settings.{StandsFor, sub_after, group_after}
 use Rattle.master_core.proofs.Greatest.{highest_is}
 use Rattle.master_core.proofs.Raised.{in_place}
@@ -26,8 +26,8 @@ returns-clause-levels c = λ settings stands channel is.
     let group = highest_is (λ n. IsTrue (is_group n)) c.args.show.now.groups c.groups.result.now
     c.groups.ensures.entries c.groups.ensures.range c.self.inside.groups (group_after settings)
     (place + 1) own.groups_are in
-    subst (λ n. get_or c.raise-2.new.floors place 0 ≡ level_after c.args.show.now settings n 0) next
-    (omega (
+    subst (λ n. get_or c.raise-2.new.floors place 0 ≡ merged_after c.args.show.now settings n 0)
+    next (omega (
       arith,
       dark,
       sub,

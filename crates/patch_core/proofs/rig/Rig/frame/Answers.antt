@@ -7,14 +7,14 @@ use Rattle.std.specs.Option.{option_map_or}
 use Rattle.std.proofs.lemmas.List.{length-set}
 use Rattle.show_core.specs.Readers.{slot_of}
 use Rattle.show_core.proofs.Sorted.{get_is}
-use Rattle.patch_core.specs.Frame.{level_in, dimmer_slot}
+use Rattle.patch_core.specs.Frame.{listed_level, dimmer_slot}
 use Rattle.patch_core.proofs.Frames.{frame_is, find_high, dark_at_first, slots_more}
 use Rattle.patch_core.proofs.rig.Rig.frame.Goals as goal
 
 pub loop-i-init : goal.loop-i-init
 loop-i-init c = record {
   size = refl;
-  so_far = dark_at_first (λ p. slot_of (level_in c.args.levels.now p.0) c.args.grand p.1)
+  so_far = dark_at_first (λ p. slot_of (listed_level c.args.levels.now p.0) c.args.grand p.1)
       c.as_slice-dimmers.result.now (512 * c.args.k + 1) c.first_from-from.result
       c.first_from-from.ensures.range c.first_from-from.ensures.below;
 }
@@ -36,7 +36,7 @@ loop-i-preserved c =
     c.self.invariant.sorted in
     record {
       size = simp length-set c.loop-i.invariant.size;
-      so_far = slots_more (λ p. slot_of (level_in c.args.levels.now p.0) c.args.grand p.1)
+      so_far = slots_more (λ p. slot_of (listed_level c.args.levels.now p.0) c.args.grand p.1)
           c.as_slice-dimmers.result.now (512 * c.args.k + 1) sorted c.loop-i.out
           c.loop-i.invariant.size
           c.loop-i.i _ c.from-in-loop-i.result c.slot.result (omega arith)
@@ -51,11 +51,11 @@ returns c =
     let rest : AllWithin (λ e. first + 512 ≤ e.0) c.as_slice-dimmers.result.now c.loop-i.i
     (length c.as_slice-dimmers.result.now) =
     λ j d le lt. c.first_from-to.ensures.from_on j d (omega arith) lt in
-    frame_is (dimmer_slot c.args.self.now.patch (level_in c.args.levels.now) c.args.grand) first 512
-    c.loop-i.out c.loop-i.invariant.size (λ s lt.
+    frame_is (dimmer_slot c.args.self.now.patch (listed_level c.args.levels.now) c.args.grand)
+    first 512 c.loop-i.out c.loop-i.invariant.size (λ s lt.
     c.loop-i.invariant.so_far s lt
-    ∙ ap (λ o. option_map_or (λ p. slot_of (level_in c.args.levels.now p.0) c.args.grand p.1) o 0)
-    (find_high c.as_slice-dimmers.result.now (first + s) (first + 512) c.loop-i.i rest (omega arith)
+    ∙ ap (λ o. option_map_or
+    (λ p. slot_of (listed_level c.args.levels.now p.0) c.args.grand p.1) o 0) (find_high c.as_slice-dimmers.result.now (first + s) (first + 512) c.loop-i.i rest (omega arith)
     ∙ ap (map.find nat_cmp (first + s)) c.as_slice-dimmers.ensures.value
     ∙ sym (get_is nat_cmp nat_cmp_total c.self.inside.dimmers.items c.self.invariant.sorted
     (first + s))

@@ -3,7 +3,7 @@ use Rattle.std.specs.Option.{option_map_or}
 use Rattle.std.specs.Ordering.{nat_cmp}
 use Rattle.std.specs.FinMap.{find}
 use Rattle.show_core.specs.Readers.{slot_of}
-use Rattle.patch_core.specs.Frame.{level_in}
+use Rattle.patch_core.specs.Frame.{listed_level}
 use Rattle.patch_core.proofs.rig.Rig.frame.Given as goal
 
 -- each slot is that of its dimmer in the part of the patch that is done
@@ -11,6 +11,6 @@ abbrev pub invariant-loop-i : goal.invariant-loop-i
 invariant-loop-i l = record {
   size : length l.out ≡ 512;
   so_far : (s : ℕ) → s < 512 → get_or l.out s 0
-      ≡ option_map_or (λ p. slot_of (level_in l.levels p.0) l.grand p.1)
+      ≡ option_map_or (λ p. slot_of (listed_level l.levels p.0) l.grand p.1)
       (find nat_cmp (l.first + s) (take l.i l.dimmers)) 0;
 }

@@ -2,7 +2,7 @@
 -- fault.
 use Rattle.std.proofs.Common.{◌≡◌, ◌+◌, cond, sym, ap, subst, ◌∙◌, add-zero}
 use Rattle.ascii_text.specs.Text.{words_of}
-use Rattle.show_line.specs.Said.{opened}
+use Rattle.show_line.specs.Said.{record_opened}
 use Rattle.show_reader.specs.Text.{owns}
 use Rattle.show_reader.specs.Meaning.{is_skipped}
 use Rattle.show_reader.specs.Reads.{EndsAt, refusal_at}
@@ -24,8 +24,8 @@ returns-clause-more c = λ lines h.
     let r = c.args.self.now in
     let s = c.in-Some.reading.statement in
     let is = reading_is lines l r c.in-Some.reading h c.in-Some.ensures.means in
-    let owner : c.owner_below-owner.result ≡ cond (owns l) (opened s) r.owner
-    = c.owner_below-owner.ensures ∙ ap (λ own. cond own (opened s) r.owner) is.1 in
+    let owner : c.owner_below-owner.result ≡ cond (owns l) (record_opened s) r.owner
+    = c.owner_below-owner.ensures ∙ ap (λ own. cond own (record_opened s) r.owner) is.1 in
     let applied = c.in_default-apply.ensures in
     let counted : c.if-skipped.self ≡ record {
       draft = c.apply.new.draft;
