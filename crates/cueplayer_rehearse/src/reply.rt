@@ -11,7 +11,7 @@ use console_text::{done_line, refused_line, ticked_line};
 use desk_core::{Refused, Ticked};
 use devices::{LinkFault, Output};
 use itoa::Buffer;
-use receiver_text::{numbered_slots, reply_line};
+use receiver_text::{SlotsLine, reply_line, write_numbered_slots};
 use sacn_receiver::{Ignored, Taken};
 use wire_world::{BriefReply, Skip};
 
@@ -35,6 +35,7 @@ pub(crate) fn print_reply<W: Output>(
         BriefReply::Done => print_done(number, out),
         BriefReply::Refused(refused) => print_refused(number, *refused, out),
         BriefReply::Ticked(ticked, offers) => print_ticked(number, *ticked, offers, out),
+        BriefReply::TickedFew(ticked, few) => print_ticked(number, *ticked, &few.offers(), out),
         BriefReply::Taken(taken) => print_taken(number, Ok(*taken), out),
         BriefReply::Ignored(reason) => print_taken(number, Err(*reason), out),
         BriefReply::Shown(slots) => print_slots(number, slots, out),
@@ -107,7 +108,9 @@ fn print_slots<W: Output>(number: u64, slots: &[u8; 512], out: &mut W) -> Result
     ensures err { OnErr result (W.tells out.new
         → W.tape out.new ≡ with_failure (W.tape out.old)) }
 {
-    out.write(numbered_slots(number, slots).as_str().as_bytes())
+    let mut line = SlotsLine::new();
+    write_numbered_slots(&mut line, number, slots);
+    out.write(line.as_str().as_bytes())
 }
 
 #[inline(never)]

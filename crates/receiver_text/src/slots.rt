@@ -19,15 +19,14 @@ pub fn slots_line(slots: &[u8; 512]) -> SlotsLine
     line
 }
 
-/// That line behind a number.
-pub fn numbered_slots(number: u64, slots: &[u8; 512]) -> SlotsLine
-    ensures { result.bytes ≡ decimal number ++ codes " " ++ slots_line slots.now }
+/// That line behind a number, put into an empty line, since one that is handed out is copied.
+pub fn write_numbered_slots(line: &mut SlotsLine, number: u64, slots: &[u8; 512])
+    requires { line.old.bytes ≡ [] }
+    ensures { line.new.bytes ≡ decimal number ++ codes " " ++ slots_line slots.now }
 {
-    let mut line = SlotsLine::new();
     line.push_str(Buffer::new().format(number));
     line.push_str(" ");
-    push_slots(&mut line, slots);
-    line
+    push_slots(line, slots);
 }
 
 /// The line of the slots of a receiver, counted from 0, at the end of a run.

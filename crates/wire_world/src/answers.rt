@@ -3,8 +3,8 @@ ghost use Rattle.wire_world.specs.Brief.{reply_of};
 ghost use Rattle.wire_world.specs.Stands.{order_reply, tick_reply};
 ghost use Rattle.wire_world.specs.Replies.{taken_reply};
 
-use crate::Offers;
 use crate::brief::BriefReply;
+use crate::{FewOffers, Offers};
 use desk_core::{Refused, Ticked};
 use sacn_receiver::{Ignored, Taken};
 use std::alloc::{AllocError, Global};
@@ -25,10 +25,13 @@ pub(crate) fn ticked(
     ensures { IfOk result (λ reply. reply_of reply ≡ tick_reply answer) }
 {
     match answer {
-        Ok((ticked, offers)) => {
-            let offers = Box::new(alloc, offers)?;
-            Ok(BriefReply::Ticked(ticked, offers))
-        }
+        Ok((ticked, offers)) => match FewOffers::new(&offers) {
+            Some(few) => Ok(BriefReply::TickedFew(ticked, few)),
+            None => {
+                let offers = Box::new(alloc, offers)?;
+                Ok(BriefReply::Ticked(ticked, offers))
+            }
+        },
         Err(refused) => Ok(BriefReply::Refused(refused)),
     }
 }

@@ -1,7 +1,7 @@
 ghost use Rattle.std.specs.Prelude.{◌≡◌};
 ghost use Rattle.wire_world.specs.Brief.{reply_of};
 
-use crate::{Offers, Reply, Skip};
+use crate::{FewOffers, Offers, Reply, Skip};
 use desk_core::{Refused, Ticked};
 use sacn_receiver::{Ignored, Taken};
 
@@ -14,6 +14,8 @@ pub enum BriefReply {
     Refused(Refused),
     /// A tick, and what became of the frames of its console's universes.
     Ticked(Ticked, Box<Offers>),
+    /// The same, of at most four universes.
+    TickedFew(Ticked, FewOffers),
     /// A datagram was accepted.
     Taken(Taken),
     /// A datagram was ignored.
@@ -33,6 +35,7 @@ impl BriefReply {
             BriefReply::Done => Reply::Done,
             BriefReply::Refused(refused) => Reply::Refused(refused),
             BriefReply::Ticked(ticked, offers) => Reply::Ticked(ticked, Box::into_inner(offers)),
+            BriefReply::TickedFew(ticked, few) => Reply::Ticked(ticked, few.offers()),
             BriefReply::Taken(taken) => Reply::Taken(taken),
             BriefReply::Ignored(ignored) => Reply::Ignored(ignored),
             BriefReply::Shown(slots) => Reply::Shown(Box::into_inner(slots)),

@@ -17,6 +17,7 @@
 mod answers;
 mod brief;
 mod event;
+mod few_offers;
 mod happen;
 pub mod laws;
 mod listening;
@@ -42,6 +43,7 @@ mod steps;
 pub use brief::BriefReply;
 pub use console::Offers;
 pub use event::{Event, What};
+pub use few_offers::FewOffers;
 pub use rehearsal::{rehearse, rehearse_briefly};
 pub use reply::{Reply, Skip};
 pub use report::{BriefReport, Report};

@@ -17,6 +17,7 @@ pub(crate) fn keep_all(
     shelves: &mut Vec<Shelf>,
     last: u64,
     rows: &mut Vec<Row>,
+    spare: &mut Spare,
 ) -> Result<(), AllocError>
     ensures rest { OnOk result ((u : ℕ) (all : List (List ℕ))
         → IsRest (gone_of shelves.old.items u) (kept_of shelves.old.items u) (take (last + 1) all)
@@ -27,13 +28,19 @@ pub(crate) fn keep_all(
     ensures empty { rows.new.items ≡ [] }
 {
     for row in rows.drain(..) {
-        keep(alloc, shelves, last, row)?;
+        keep(alloc, shelves, last, row, spare)?;
     }
     Ok(())
 }
 
 // Puts a packet on the shelf of its universe, where it is none behind packet `last`.
-fn keep(alloc: Global, shelves: &mut Vec<Shelf>, last: u64, row: Row) -> Result<(), AllocError>
+fn keep(
+    alloc: Global,
+    shelves: &mut Vec<Shelf>,
+    last: u64,
+    row: Row,
+    spare: &mut Spare,
+) -> Result<(), AllocError>
     ensures rest { OnOk result ((u : ℕ) (all : List (List ℕ))
         → IsRest (gone_of shelves.old.items u) (kept_of shelves.old.items u) (take (last + 1) all)
         → IsRest (gone_of shelves.new.items u) (kept_of shelves.new.items u)
@@ -42,7 +49,7 @@ fn keep(alloc: Global, shelves: &mut Vec<Shelf>, last: u64, row: Row) -> Result<
         ≡ gone_of shelves.old.items u) }
 {
     match place_of(shelves.as_slice(), row.universe) {
-        Some(i) => shelves[i].keep(last, row.bytes)?,
+        Some(i) => shelves[i].keep(last, row.bytes, spare)?,
         None => {
             let mut packets = Queue::new(alloc);
             packets.push_back(row.bytes)?;
@@ -96,7 +103,7 @@ fn place_of(shelves: &[Shelf], universe: u16) -> Option<usize>
 
 impl Shelf {
     // Keeps a packet more, where it is none behind packet `last`.
-    fn keep(&mut self, last: u64, packet: Vec<u8>) -> Result<(), AllocError>
+    fn keep(&mut self, last: u64, packet: Vec<u8>, spare: &mut Spare) -> Result<(), AllocError>
         ensures universe { OnOk result (self.new.universe ≡ self.old.universe) }
         ensures gone { OnOk result (self.new.gone ≡ self.old.gone) }
         ensures rest { OnOk result ((all : List (List ℕ))
@@ -107,6 +114,8 @@ impl Shelf {
         let kept = self.packets.len() as u64;
         if self.gone <= last && kept <= last - self.gone {
             self.packets.push_back(packet)?;
+        } else {
+            lay_by(spare, packet);
         }
         Ok(())
     }
@@ -123,9 +132,14 @@ impl Shelf {
                 return;
             };
             self.gone = gone + 1;
-            if !spare.is_full() {
-                spare.push(packet);
-            }
+            lay_by(spare, packet);
         }
+    }
+}
+
+// Keeps the memory of a packet for one to come, where there is room.
+fn lay_by(spare: &mut Spare, packet: Vec<u8>) {
+    if !spare.is_full() {
+        spare.push(packet);
     }
 }

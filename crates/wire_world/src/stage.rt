@@ -45,7 +45,7 @@ fn shelve(alloc: Global, shelves: &mut Vec<Shelf>, last: u64, link: &mut Packets
         → gone_of shelves.new.items u ≡ gone_of shelves.old.items u }
     ensures empty { link.new.rows ≡ [] }
 {
-    if keep_all(alloc, shelves, last, &mut link.rows).is_err() {
+    if keep_all(alloc, shelves, last, &mut link.rows, &mut link.spare).is_err() {
         link.full = true;
     }
 }

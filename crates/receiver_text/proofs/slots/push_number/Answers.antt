@@ -1,4 +1,4 @@
-use Rattle.std.proofs.Common.{◌≡◌, ◌+◌, ◌++◌, ◌∷◌, [], ◌/◌, ◌%◌, append_assoc, refl, ◌∙◌, arith}
+use Rattle.std.proofs.Common.{◌+◌, ◌++◌, ◌∷◌, [], ◌/◌, ◌%◌, append_assoc, refl, ◌∙◌, arith}
 use Rattle.receiver_text.proofs.Digits.{one_digit, two_digits, three_digits}
 use Rattle.receiver_text.proofs.slots.push_number.Goals as goal
 use Rattle.receiver_text.proofs.slots.push_number.Goals.{then-number-ge100, else-number-ge100}

@@ -55,7 +55,8 @@ returns c =
     first 512 c.loop-i.out c.loop-i.invariant.size (λ s lt.
     c.loop-i.invariant.so_far s lt
     ∙ ap (λ o. option_map_or
-    (λ p. slot_of (listed_level c.args.levels.now p.0) c.args.grand p.1) o 0) (find_high c.as_slice-dimmers.result.now (first + s) (first + 512) c.loop-i.i rest (omega arith)
+    (λ p. slot_of (listed_level c.args.levels.now p.0) c.args.grand p.1) o 0)
+    (find_high c.as_slice-dimmers.result.now (first + s) (first + 512) c.loop-i.i rest (omega arith)
     ∙ ap (map.find nat_cmp (first + s)) c.as_slice-dimmers.ensures.value
     ∙ sym (get_is nat_cmp nat_cmp_total c.self.inside.dimmers.items c.self.invariant.sorted
     (first + s))
