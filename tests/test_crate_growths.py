@@ -46,9 +46,7 @@ TESTED = {
     "show_tests::reader": Tested(
         ("read_show",),
         (
-            *("any_order", "clear_cues", "console_style_file", "follow_faults"),
-            *("last_follow_on_time", "last_rates", "lines_between", "show_faults", "show_texts"),
-            *("skipped_lines", "top_channel", "universe_limit"),
+            *("any_order", "follow_faults", "lines_between", "show_texts", "skipped_lines"),
         ),
     ),
     "console_tests::script": Tested(
@@ -65,7 +63,7 @@ TESTED = {
             *("listening::every_reply", "listening::listen_three", "listening::long_datagrams"),
         ),
     ),
-    "program_tests::explain": Tested(("explain",), ("faults", "notes", "skipped_lines")),
+    "program_tests::explain": Tested(("explain",), ("faults", "notes")),
     "program_tests::play": Tested(("play", "Console::open"), ("rows::each_growth_refused",)),
     "program_tests::rehearsal": Tested(
         ("rehearse_text",), ("devices_fail::each_device_fails", "rows::rehearse_basic")

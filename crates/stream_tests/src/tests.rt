@@ -1,4 +1,3 @@
-mod memory;
 mod packet;
 mod receiver;
 mod replies;

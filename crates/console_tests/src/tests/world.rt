@@ -324,41 +324,6 @@ fn silent_console(rt: HostRuntime) -> Result<(), Fail> {
     Ok(())
 }
 
-// What a rehearsal without events answers.
-fn fault(
-    rt: &impl Abort,
-    alloc: Global,
-    consoles: &[Setup],
-    receivers: &[u16],
-) -> Result<Option<Fault>, Fail> {
-    let mut show = small_show(rt, alloc)?;
-    show.set_patch(513, 1, 255)?;
-    let shows = [show];
-    Ok(rehearse::<PlainFader>(alloc, &shows, consoles, receivers, &[], &[]).err())
-}
-
-#[test]
-fn setup_faults(rt: HostRuntime) -> Result<(), Fail> {
-    let one = console(&rt, 0x31, 100);
-    let high = Setup {
-        base: 63_999,
-        ..one
-    };
-    let absent = Setup { show: 1, ..one };
-    let alloc = rt.alloc();
-    assert!(rt; fault(&rt, alloc, &[], &[1, 1])? == Some(Fault::Consoles));
-    assert!(rt; fault(&rt, alloc, &[one; 5], &[1])? == Some(Fault::Consoles));
-    assert!(rt; fault(&rt, alloc, &[absent], &[1, 1])? == Some(Fault::Receivers));
-    assert!(rt; fault(&rt, alloc, &[one], &[0])? == Some(Fault::Receivers));
-    assert!(rt; fault(&rt, alloc, &[one], &[64_000])? == Some(Fault::Receivers));
-    assert!(rt; fault(&rt, alloc, &[high, absent], &[1])? == Some(Fault::NoShow));
-    assert!(rt; fault(&rt, alloc, &[one, high], &[1])? == Some(Fault::Universe));
-    assert!(rt; fault(&rt, alloc, &[one; 4], &[1, 2, 3, 4, 5, 6, 7, 63_999])?.is_none());
-    let nine = [1, 2, 3, 4, 5, 6, 7, 8, 9];
-    assert!(rt; fault(&rt, alloc, &[one], &nine)? == Some(Fault::Receivers));
-    Ok(())
-}
-
 #[test]
 fn strays(rt: HostRuntime) -> Result<(), Fail> {
     let stray = What::Stray {
@@ -404,25 +369,6 @@ fn window_wrap(rt: HostRuntime) -> Result<(), Fail> {
         steps.push((10475, SHOW, Told::Shown(slot)))?;
     }
     assert!(rt; plays(&rt, rt.alloc(), &consoles, steps.as_slice(), 75)?);
-    Ok(())
-}
-
-// A packet from 19 behind is taken where the record is gone; then 217 ahead of the newest that
-// came is 236 ahead of it, and 218 is outside the window.
-#[test]
-fn window_edge(rt: HostRuntime) -> Result<(), Fail> {
-    let consoles = [console(&rt, 0x31, 100)];
-    for (k, told, slot) in [
-        (236, Told::Taken(236, false), 72),
-        (237, Told::Ignored(Ignored::OutOfSequence), 0),
-    ] {
-        let mut steps = tick_steps(&rt, rt.alloc(), 238)?;
-        steps.push((5925, deliver(0, 19), Told::Taken(19, false)))?;
-        steps.push((8425, deliver(0, 0), Told::Taken(0, false)))?;
-        steps.push((8425, deliver(0, k), told))?;
-        steps.push((8425, SHOW, Told::Shown(slot)))?;
-        assert!(rt; plays(&rt, rt.alloc(), &consoles, steps.as_slice(), slot)?);
-    }
     Ok(())
 }
 

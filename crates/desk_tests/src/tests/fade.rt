@@ -9,14 +9,6 @@ use std::test::Fail;
 
 const AT_ONCE: Rate = Rate { time: 0, delay: 0 };
 
-const FIVE_SECOND_FADE: [(u32, u32); 5] = [
-    (0, 0),
-    (2500, 32512),
-    (2510, 32642),
-    (2525, 32837),
-    (5000, 65025),
-];
-
 // A rate without a delay.
 fn over(time: u32) -> Rate
     ensures time { result.time ≡ time }
@@ -97,7 +89,8 @@ fn start_second<F: Fader>(fader: &mut F, moment: u32)
 
 // The levels of both channels where the first cue goes at 0 and the second at 10000: at 11000, and
 // at 12000 where the first goes again at 11000.
-fn crossfade_levels<F: Fader>(alloc: Global, pace: Pace) -> Result<[(u32, u32); 2], AllocError> {
+fn crossfade_levels<F: Fader>(alloc: Global) -> Result<[(u32, u32); 2], AllocError> {
+    let pace = Pace::EveryMillisecond;
     let mut fader = F::new(alloc, 4)?;
     start_first(&mut fader, 0);
     pass(&mut fader, 0, 10000, pace);
@@ -110,39 +103,13 @@ fn crossfade_levels<F: Fader>(alloc: Global, pace: Pace) -> Result<[(u32, u32); 
 }
 
 #[test]
-fn five_second_fade(rt: HostRuntime) -> Result<(), Fail> {
-    for (moment, level) in FIVE_SECOND_FADE {
-        let found = levels_at(rt.alloc(), over(5000), moment, Pace::AtOnce)?;
-        assert_eq!(rt; found, [level; 2], "at {moment}");
-    }
-    Ok(())
-}
-
-#[test]
-fn split_crossfade(rt: HostRuntime) -> Result<(), Fail> {
-    let [plain, _] = crossfade_levels::<PlainFader>(rt.alloc(), Pace::AtOnce)?;
-    let [step, _] = crossfade_levels::<StepFader>(rt.alloc(), Pace::AtOnce)?;
-    assert_eq!(rt; [plain, step], [(48769, 32512); 2]);
-    Ok(())
-}
-
-#[test]
-fn goto_mid_fade(rt: HostRuntime) -> Result<(), Fail> {
-    let [_, plain] = crossfade_levels::<PlainFader>(rt.alloc(), Pace::AtOnce)?;
-    let [_, step] = crossfade_levels::<StepFader>(rt.alloc(), Pace::AtOnce)?;
-    assert_eq!(rt; [plain, step], [(52020, 26010); 2]);
-    Ok(())
-}
-
-#[test]
 fn every_millisecond(rt: HostRuntime) -> Result<(), Fail> {
-    let pace = Pace::EveryMillisecond;
-    for (moment, level) in FIVE_SECOND_FADE {
-        let found = levels_at(rt.alloc(), over(5000), moment, pace)?;
+    for (moment, level) in [(2500, 32512), (2510, 32642), (2525, 32837), (5000, 65025)] {
+        let found = levels_at(rt.alloc(), over(5000), moment, Pace::EveryMillisecond)?;
         assert_eq!(rt; found, [level; 2], "at {moment}");
     }
-    let plain = crossfade_levels::<PlainFader>(rt.alloc(), pace)?;
-    let step = crossfade_levels::<StepFader>(rt.alloc(), pace)?;
+    let plain = crossfade_levels::<PlainFader>(rt.alloc())?;
+    let step = crossfade_levels::<StepFader>(rt.alloc())?;
     assert_eq!(rt; [plain, step], [[(48769, 32512), (52020, 26010)]; 2]);
     Ok(())
 }

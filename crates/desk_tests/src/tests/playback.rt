@@ -33,22 +33,14 @@ fn goto<F: Fader>(
     playback.goto(show, n, u64::from(moment))
 }
 
-// How often time moves on.
-#[derive(Clone, Copy)]
-enum Pace {
-    AtOnce,
-    EveryMillisecond,
-}
-
-fn pass<F: Fader>(playback: &mut Playback<F>, show: &Show, from: u32, to: u32, pace: Pace)
+// Each millisecond passes.
+fn pass<F: Fader>(playback: &mut Playback<F>, show: &Show, from: u32, to: u32)
     requires not_before { F.latest playback.old.fader ≤ from }
     requires later { from ≤ to }
     ensures { F.latest playback.new.fader ≡ to }
 {
-    if let Pace::EveryMillisecond = pace {
-        for moment in from..to {
-            playback.advance(show, u64::from(moment));
-        }
+    for moment in from..to {
+        playback.advance(show, u64::from(moment));
     }
     playback.advance(show, u64::from(to));
 }
@@ -58,12 +50,11 @@ fn first_cue_level<F: Fader>(
     rt: &impl Abort,
     alloc: Global,
     show: &Show,
-    pace: Pace,
     moment: u32,
 ) -> Result<u32, AllocError> {
     let mut playback: Playback<F> = Playback::new(alloc)?;
     assert_eq!(rt; go(&mut playback, show, 0), Ok(1000));
-    pass(&mut playback, show, 0, moment, pace);
+    pass(&mut playback, show, 0, moment);
     Ok(playback.level(1))
 }
 
@@ -72,19 +63,14 @@ fn levels<F: Fader>(playback: &Playback<F>) -> (u32, u32) {
 }
 
 // The levels of both channels at 11000 where the first cue goes at 0 and the second at 10000.
-fn crossed<F: Fader>(
-    rt: &impl Abort,
-    playback: &mut Playback<F>,
-    show: &Show,
-    pace: Pace,
-) -> (u32, u32)
+fn crossed<F: Fader>(rt: &impl Abort, playback: &mut Playback<F>, show: &Show) -> (u32, u32)
     requires at_0 { F.latest playback.old.fader ≡ 0 }
     ensures { F.latest playback.new.fader ≡ 11000 }
 {
     assert_eq!(rt; go(playback, show, 0), Ok(1000));
-    pass(playback, show, 0, 10000, pace);
+    pass(playback, show, 0, 10000);
     assert_eq!(rt; go(playback, show, 10000), Ok(2000));
-    pass(playback, show, 10000, 11000, pace);
+    pass(playback, show, 10000, 11000);
     levels(playback)
 }
 
@@ -94,12 +80,11 @@ fn crossfade_levels<F: Fader>(
     rt: &impl Abort,
     alloc: Global,
     show: &Show,
-    pace: Pace,
 ) -> Result<[(u32, u32); 2], AllocError> {
     let mut playback: Playback<F> = Playback::new(alloc)?;
-    let crossed = crossed(rt, &mut playback, show, pace);
+    let crossed = crossed(rt, &mut playback, show);
     assert_eq!(rt; goto(&mut playback, show, 1000, 11000), Ok(1000));
-    pass(&mut playback, show, 11000, 12000, pace);
+    pass(&mut playback, show, 11000, 12000);
     Ok([crossed, levels(&playback)])
 }
 
@@ -108,12 +93,11 @@ fn first_cue_levels(
     rt: &impl Abort,
     alloc: Global,
     show: &Show,
-    pace: Pace,
     moment: u32,
 ) -> Result<[u32; 2], AllocError> {
     Ok([
-        first_cue_level::<PlainFader>(rt, alloc, show, pace, moment)?,
-        first_cue_level::<StepFader>(rt, alloc, show, pace, moment)?,
+        first_cue_level::<PlainFader>(rt, alloc, show, moment)?,
+        first_cue_level::<StepFader>(rt, alloc, show, moment)?,
     ])
 }
 
@@ -121,57 +105,21 @@ fn crossfades(
     rt: &impl Abort,
     alloc: Global,
     show: &Show,
-    pace: Pace,
 ) -> Result<[[(u32, u32); 2]; 2], AllocError> {
     Ok([
-        crossfade_levels::<PlainFader>(rt, alloc, show, pace)?,
-        crossfade_levels::<StepFader>(rt, alloc, show, pace)?,
+        crossfade_levels::<PlainFader>(rt, alloc, show)?,
+        crossfade_levels::<StepFader>(rt, alloc, show)?,
     ])
-}
-
-#[test]
-fn five_second_fade(rt: HostRuntime) -> Result<(), Fail> {
-    let show = two_cues(&rt, rt.alloc())?;
-    for (moment, level) in [
-        (0, 0),
-        (2500, 32512),
-        (2510, 32642),
-        (2525, 32837),
-        (5000, 65025),
-    ] {
-        let found = first_cue_levels(&rt, rt.alloc(), &show, Pace::AtOnce, moment);
-        assert!(rt; found == Ok([level; 2]), "at {moment}");
-    }
-    Ok(())
-}
-
-#[test]
-fn split_crossfade(rt: HostRuntime) -> Result<(), Fail> {
-    let show = two_cues(&rt, rt.alloc())?;
-    for [crossed, _] in crossfades(&rt, rt.alloc(), &show, Pace::AtOnce)? {
-        assert_eq!(rt; crossed, (48769, 32512));
-    }
-    Ok(())
-}
-
-#[test]
-fn goto_mid_fade(rt: HostRuntime) -> Result<(), Fail> {
-    let show = two_cues(&rt, rt.alloc())?;
-    for [_, returned] in crossfades(&rt, rt.alloc(), &show, Pace::AtOnce)? {
-        assert_eq!(rt; returned, (52020, 26010));
-    }
-    Ok(())
 }
 
 #[test]
 fn every_millisecond(rt: HostRuntime) -> Result<(), Fail> {
     let show = two_cues(&rt, rt.alloc())?;
-    let pace = Pace::EveryMillisecond;
     for (moment, level) in [(2500, 32512), (2510, 32642), (2525, 32837), (5000, 65025)] {
-        let found = first_cue_levels(&rt, rt.alloc(), &show, pace, moment);
+        let found = first_cue_levels(&rt, rt.alloc(), &show, moment);
         assert!(rt; found == Ok([level; 2]), "at {moment}");
     }
-    let found = crossfades(&rt, rt.alloc(), &show, pace);
+    let found = crossfades(&rt, rt.alloc(), &show);
     assert!(rt; found == Ok([[(48769, 32512), (52020, 26010)]; 2]));
     Ok(())
 }

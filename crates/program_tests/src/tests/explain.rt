@@ -20,42 +20,6 @@ fn end(alloc: Global, show: &[u8], failing: u64) -> (Result<(), RunFault>, Memor
 }
 
 #[test]
-fn skipped_lines(rt: HostRuntime) {
-    for (row, show, text) in [
-        (
-            "empty_show",
-            b"".as_slice(),
-            b"note: no dimmer is patched: no universe is sent\n".as_slice(),
-        ),
-        (
-            "skipped_lines",
-            b"PATCH 1 1<1@FL 2<2@FL\nCUE 1\nCHAN 1@FL\n$$FADE 7\nCHAN 2@50\n$MAKER 9\nCHAN 1@0\n\
-                WHAT\nCUE 2 2\nCHAN 3@FL\n",
-            b"line 4: unknown keyword: $$FADE 7\nline 6: of a maker's record: $MAKER 9\n\
-                line 7: of a maker's record: CHAN 1@0\nline 8: of a maker's record: WHAT\n\
-                line 9: of page 2: CUE 2 2\nline 10: of a record that is skipped: CHAN 3@FL\n",
-        ),
-        (
-            "clear_one_record",
-            b"PATCH 1 1<1@FL\nCHAN 1@FL\nCUE 1\nCLEAR x\nCHAN 1@FL\nPATCH 0\nUP 5\nGROUP 1 007\n\
-                ENDDATA\nWHAT\n",
-            b"line 2: of no record: CHAN 1@FL\nline 4: an unknown CLEAR: CLEAR x\n\
-                line 5: of no record: CHAN 1@FL\nline 6: of page 0: PATCH 0\n\
-                line 7: of a record that is skipped: UP 5\nline 8: of page 7: GROUP 1 007\n",
-        ),
-        (
-            "bytes",
-            b"PATCH 1 1<1@FL\r\n\tMACRO \x00\xe9~\x7f\r\n",
-            b"line 2: unknown keyword:  MACRO ??~? \n",
-        ),
-    ] {
-        let (answer, out) = end(rt.alloc(), show, 0);
-        assert_eq!(rt; answer, Ok(()), "{row}");
-        assert!(rt; out.bytes.as_slice() == text, "{row}");
-    }
-}
-
-#[test]
 fn faults(rt: HostRuntime) {
     let bad_level = Err(RunFault::Show(ShowFault::BadLevel(2)));
     for (show, failing, fault) in [

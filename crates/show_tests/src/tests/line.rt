@@ -1,7 +1,5 @@
 use show_core::Rate;
-use show_line::{
-    Cleared, Keyword, LineFault, Reading, Record, Statement, Table, Triple, read_line,
-};
+use show_line::{Keyword, LineFault, Reading, Record, Statement, Triple, read_line};
 use std::test::Fail;
 
 const CUE: Option<Record> = Some(Record::Cue(1000));
@@ -15,64 +13,6 @@ fn fault_of(line: &[u8]) -> Option<LineFault> {
             },
         ) => Some(fault),
         _ => None,
-    }
-}
-
-#[test]
-fn show_faults(rt: HostRuntime) {
-    for (line, fault) in [
-        (b"CHAN 1@101".as_slice(), Some(LineFault::BadLevel)),
-        (b"CHAN 1", Some(LineFault::HalfPair)),
-        (b"UP 1:60", Some(LineFault::BadTime)),
-        (b"CUE", Some(LineFault::MissingNumber)),
-        (b"CUE x", Some(LineFault::BadNumber)),
-        (b"PATCH 1 1<1", Some(LineFault::HalfTriple)),
-        (b"PATCH 1 1<8193@FL", Some(LineFault::Limit)),
-        (b"CHAN 5000@101", Some(LineFault::BadLevel)),
-        (b"IDENT 2:0", Some(LineFault::Ident)),
-        (b"IDENT 3:0", None),
-    ] {
-        assert_eq!(rt; fault_of(line), fault, "{line:?}");
-    }
-}
-
-#[test]
-fn lowest_fault_of_a_line(rt: HostRuntime) {
-    for (line, fault) in [
-        (b"SUB 101 x".as_slice(), Some(LineFault::BadNumber)),
-        (b"SUB 101 2", Some(LineFault::Limit)),
-        (b"CUE x 2", Some(LineFault::BadNumber)),
-        (b"CUE 10000", Some(LineFault::BadNumber)),
-        (b"GROUP 0", Some(LineFault::Limit)),
-        (b"CHAN 1234567890@FL", Some(LineFault::BadNumber)),
-        (b"CHAN 5000", Some(LineFault::HalfPair)),
-        (b"CHAN 1 FL x", Some(LineFault::BadNumber)),
-        (b"PATCH 1 0<1@101", Some(LineFault::BadLevel)),
-        (b"PATCH 2 x", None),
-        (b"IDENT 3:0 x", None),
-        (b"DOWN 5 6000", Some(LineFault::BadTime)),
-    ] {
-        assert_eq!(rt; fault_of(line), fault, "{line:?}");
-    }
-}
-
-// One beyond each end of a range.
-#[test]
-fn numbers_out_of_range(rt: HostRuntime) {
-    for (line, fault) in [
-        (b"CUE 0".as_slice(), LineFault::BadNumber),
-        (b"CUE 10000", LineFault::BadNumber),
-        (b"GROUP 0", LineFault::Limit),
-        (b"GROUP 501", LineFault::Limit),
-        (b"SUB 0", LineFault::Limit),
-        (b"SUB 101", LineFault::Limit),
-        (b"CHAN 0@FL", LineFault::Limit),
-        (b"CHAN 4097@FL", LineFault::Limit),
-        (b"PATCH 1 4097<1@FL", LineFault::Limit),
-        (b"PATCH 1 1<0@FL", LineFault::Limit),
-        (b"PATCH 1 1<8193@FL", LineFault::Limit),
-    ] {
-        assert_eq!(rt; fault_of(line), Some(fault), "{line:?}");
     }
 }
 
@@ -128,33 +68,6 @@ fn opened_records(rt: HostRuntime) -> Result<(), Fail> {
     assert!(rt; !Keyword::Unknown.may_own());
     assert!(rt; Keyword::EndData.is_end());
     assert!(rt; !Keyword::Clear.is_end());
-    Ok(())
-}
-
-#[test]
-fn lines_without_effect(rt: HostRuntime) -> Result<(), Fail> {
-    for (owner, line, skipped) in [
-        (CUE, b"CUE 3 2".as_slice(), true),
-        (CUE, b"PATCH 2 x", true),
-        (CUE, b"CLEAR x", true),
-        (CUE, b"CLEAR", true),
-        (CUE, b"CLEAR CUE 2", true),
-        (CUE, b"EFFECT 1", true),
-        (None, b"CHAN 1@x", true),
-        (None, b"TEXT Opening", true),
-        (None, b"UP x", true),
-        (None, b"FOLLOWON x", true),
-        (CUE, b"TEXT Opening", false),
-        (Some(Record::Sub(1)), b"UP x", false),
-        (None, b"CLEAR ALL", false),
-        (None, b"ENDDATA", false),
-        (CUE, b"CHAN", false),
-        (CUE, b"PATCH 1", false),
-    ] {
-        let reading = read_line(owner, line).ok_or("words")?;
-        let is_skipped = matches!(reading.statement, Statement::Skipped);
-        assert_eq!(rt; is_skipped, skipped, "{line:?}");
-    }
     Ok(())
 }
 
@@ -232,59 +145,6 @@ fn rates(rt: HostRuntime) -> Result<(), Fail> {
             }
             _ => return Err(Fail::from("a rate")),
         }
-    }
-    Ok(())
-}
-
-#[test]
-fn follow_faults(rt: HostRuntime) -> Result<(), Fail> {
-    for (line, fault) in [
-        (b"FOLLOWON x".as_slice(), Some(LineFault::BadTime)),
-        (b"FOLLOWON", Some(LineFault::MissingNumber)),
-        (b"FOLLOWON 6000", Some(LineFault::BadTime)),
-        (b"FOLLOWON 5 x", None),
-    ] {
-        assert_eq!(rt; fault_of(line), fault, "{line:?}");
-    }
-    for owner in [Record::Group(1), Record::Sub(1)] {
-        let reading = read_line(Some(owner), b"FOLLOWON x").ok_or("words")?;
-        assert!(rt; matches!(reading.statement, Statement::Quiet));
-        assert!(rt; !reading.keyword.may_own());
-    }
-    Ok(())
-}
-
-#[test]
-fn follow_on_times(rt: HostRuntime) -> Result<(), Fail> {
-    for (line, time) in [
-        (b"FOLLOWON 10".as_slice(), 10_000),
-        (b"FollowOn 0 x", 0),
-        (b"FOLLOWON 99:59.99", 5_999_990),
-    ] {
-        let Statement::Follows(cue, got) = read_line(CUE, line).ok_or("words")?.statement else {
-            return Err(Fail::from("a follow-on time"));
-        };
-        assert_eq!(rt; (cue, got), (1000, time), "{line:?}");
-    }
-    Ok(())
-}
-
-#[test]
-fn cleared_tables(rt: HostRuntime) -> Result<(), Fail> {
-    for (line, cleared) in [
-        (b"CLEAR ALL".as_slice(), Cleared::All),
-        (b"Clear cues", Cleared::Only(Table::Cues)),
-        (b"CLEAR CUE", Cleared::Only(Table::Cues)),
-        (b"CLEAR GROUP", Cleared::Only(Table::Groups)),
-        (b"CLEAR GROUPS", Cleared::Only(Table::Groups)),
-        (b"CLEAR SUB", Cleared::Only(Table::Subs)),
-        (b"CLEAR SUBS", Cleared::Only(Table::Subs)),
-        (b"CLEAR PATCH", Cleared::Only(Table::Patch)),
-    ] {
-        let Statement::Clears(got) = read_line(CUE, line).ok_or("words")?.statement else {
-            return Err(Fail::from("a table"));
-        };
-        assert_eq!(rt; got, cleared, "{line:?}");
     }
     Ok(())
 }

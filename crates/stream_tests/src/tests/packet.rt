@@ -2,7 +2,7 @@ ghost use Rattle.std.specs.Prelude.{◌≡◌, ◌∷◌, ◌+◌, ◌≤◌, le
 ghost use Rattle.sacn_packet.specs.Name.{padded};
 ghost use Rattle.sacn_packet.specs.Wire.{IsData};
 
-use sacn_packet::{Header, SourceName, Unreadable, encode, laws, parse, refill, slots_in};
+use sacn_packet::{Header, SourceName, Unreadable, encode, laws, parse};
 
 const CID: [u8; 16] = [
     0xc0, 0xff, 0xee, 0, 0, 0, 0x40, 0, 0x80, 0, 0, 0, 0, 0, 0xe1, 0x31,
@@ -150,35 +150,6 @@ fn turned_bytes(rt: HostRuntime) {
 }
 
 #[test]
-fn readers(rt: HostRuntime) {
-    let header = Header {
-        cid: CID,
-        name: SourceName::new("Grand Hall").unwrap(),
-        priority: 200,
-        sequence: 5,
-        options: 0xc0,
-        universe: 63999,
-    };
-    let mut bytes = [0; 638];
-    encode(&header, &[7; 512], &mut bytes);
-    overwrite(&mut bytes, 109, &[0x12, 0x34]);
-    overwrite(&mut bytes, 125, &[0xdd]);
-    let packet = parse(&bytes).expect(&rt, "a packet");
-    assert_eq!(rt; packet.cid(), CID);
-    assert_eq!(rt; packet.name(), b"Grand Hall".as_slice());
-    assert_eq!(rt; packet.priority(), 200);
-    assert_eq!(rt; packet.sync(), 0x1234);
-    assert_eq!(rt; packet.sequence(), 5);
-    assert_eq!(rt; packet.options(), 0xc0);
-    assert_eq!(rt; packet.universe(), 63999);
-    assert_eq!(rt; packet.start(), 0xdd);
-    assert_eq!(rt; packet.slots(), [7; 512].as_slice());
-    overwrite(&mut bytes, 44, &[b'x'; 64]);
-    let packet = parse(&bytes).expect(&rt, "a packet");
-    assert_eq!(rt; packet.name(), [b'x'; 64].as_slice());
-}
-
-#[test]
 fn renumber(rt: HostRuntime) {
     let before = look_one_packet();
     let mut packet = before;
@@ -191,22 +162,6 @@ fn renumber(rt: HostRuntime) {
         };
         assert_eq!(rt; packet[offset], wanted, "offset {offset}");
     }
-}
-
-#[test]
-fn refilled_slots(rt: HostRuntime) {
-    let before = look_one_packet();
-    let mut slots = [0; 512];
-    slots[0] = 0x40;
-    assert_eq!(rt; slots_in(&before), slots.as_slice());
-    slots[511] = 0xff;
-    let mut packet = before;
-    refill(&mut packet, &slots);
-    assert_eq!(rt; slots_in(&packet), slots.as_slice());
-    for offset in 0..637 {
-        assert_eq!(rt; packet[offset], before[offset], "offset {offset}");
-    }
-    assert_eq!(rt; packet[637], 0xff);
 }
 
 #[test]

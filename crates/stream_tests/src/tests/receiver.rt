@@ -210,50 +210,6 @@ fn lost_third_send(rt: HostRuntime) {
     assert_eq!(rt; shown(&rt, &receiver, 75), (200, 1));
 }
 
-// A terminated record holds its place for 2,500 ms, and its priority does not count. Moment,
-// source, priority, options, answer, and then the first slot and the number of live sources. Each
-// source's level is its number.
-#[test]
-fn terminated_records(rt: HostRuntime) {
-    let mut receiver = Receiver::new(1);
-    for (moment, source, priority, options, answer, after) in [
-        (0, 1, 200, 0x40, Ok(0), (0, 0)),
-        (1, 2, 100, 0, Ok(0), (2, 1)),
-        (1, 3, 100, 0, Ok(0), (3, 2)),
-        (1, 4, 50, 0, Ok(0), (3, 3)),
-        (2, 5, 100, 0x40, Err(Ignored::SourcesFull), (3, 3)),
-        (2, 5, 100, 0xc0, Err(Ignored::Preview), (3, 3)),
-        (2499, 5, 100, 0, Err(Ignored::SourcesFull), (3, 3)),
-        (2500, 5, 100, 0, Ok(0), (5, 4)),
-        (2501, 1, 100, 0, Ok(0), (5, 2)),
-    ] {
-        let mut packet = bytes_of(live(source, 0, source));
-        packet[108] = priority;
-        packet[112] = options;
-        let number = receiver.take(moment, &packet).map(|taken| taken.sequence);
-        assert_eq!(rt; number, answer, "{source} at {moment}");
-        assert_eq!(rt;
-            shown(&rt, &receiver, moment),
-            after,
-            "after {source} at {moment}"
-        );
-    }
-}
-
-// A packet with fewer slots than the one before it darkens the rest.
-#[test]
-fn fewer_slots(rt: HostRuntime) {
-    let mut receiver = Receiver::new(1);
-    assert_eq!(rt; take(&mut receiver, 0, live(1, 0, 9)), Ok(0));
-    let mut packet = bytes_of(live(1, 1, 9));
-    overwrite(&mut packet, 16, &[0x70, 0x6e]);
-    overwrite(&mut packet, 38, &[0x70, 0x58]);
-    overwrite(&mut packet, 115, &[0x70, 0x0b]);
-    overwrite(&mut packet, 123, &[0x00, 0x01]);
-    assert_eq!(rt; receiver.take(1, front(&packet)).is_ok(), true);
-    assert_eq!(rt; shown(&rt, &receiver, 1), (0, 1));
-}
-
 #[test]
 fn every_law() {
     laws::heard_are_accepted();

@@ -1,5 +1,4 @@
-use receiver_text::{end_line, numbered_slots, reply_line, slots_line};
-use sacn_packet::Unreadable;
+use receiver_text::reply_line;
 use sacn_receiver::{Ignored, Taken};
 
 #[test]
@@ -30,48 +29,4 @@ fn replies(rt: HostRuntime) {
     ] {
         assert!(rt; reply_line(number, reply).as_str() == text, "{text}");
     }
-}
-
-#[test]
-fn unreadable(rt: HostRuntime) {
-    for (fault, text) in [
-        (Unreadable::Short, "9 ignored Unreadable Short\n"),
-        (Unreadable::Preamble, "9 ignored Unreadable Preamble\n"),
-        (Unreadable::Identifier, "9 ignored Unreadable Identifier\n"),
-        (Unreadable::RootVector, "9 ignored Unreadable RootVector\n"),
-        (Unreadable::Length, "9 ignored Unreadable Length\n"),
-        (
-            Unreadable::FramingVector,
-            "9 ignored Unreadable FramingVector\n",
-        ),
-        (Unreadable::Priority, "9 ignored Unreadable Priority\n"),
-        (Unreadable::Universe, "9 ignored Unreadable Universe\n"),
-        (Unreadable::Dmp, "9 ignored Unreadable Dmp\n"),
-        (Unreadable::Count, "9 ignored Unreadable Count\n"),
-    ] {
-        let reply = Err(Ignored::Unreadable(fault));
-        assert!(rt; reply_line(9, reply).as_str() == text, "{text}");
-    }
-}
-
-#[test]
-fn slots(rt: HostRuntime) {
-    let dark = [0; 512];
-    assert!(rt; slots_line(&dark).as_str() == "slots\n");
-    assert!(rt; numbered_slots(16, &dark).as_str() == "16 slots\n");
-    assert!(rt; end_line(0, &dark).as_str() == "end 0 slots\n");
-    let mut ends = dark;
-    ends[0] = 51;
-    ends[511] = 255;
-    assert!(rt; slots_line(&ends).as_str() == "slots 1:51 512:255\n");
-    assert!(rt; numbered_slots(7, &ends).as_str() == "7 slots 1:51 512:255\n");
-    assert!(rt; end_line(65535, &ends).as_str() == "end 65535 slots 1:51 512:255\n");
-}
-
-// The longest line that there is.
-#[test]
-fn all_slots_full(rt: HostRuntime) {
-    let line = numbered_slots(u64::MAX, &[255; 512]);
-    assert_eq!(rt; line.len(), 20 + 1 + 5 + 9 * 6 + 90 * 7 + 413 * 8 + 1);
-    assert!(rt; line.as_str().ends_with(" 511:255 512:255\n"));
 }

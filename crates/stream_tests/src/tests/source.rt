@@ -78,32 +78,6 @@ fn identity_priority(rt: HostRuntime) {
 }
 
 #[test]
-fn keep_alive(rt: HostRuntime) {
-    let mut sender = Sender::open(rt.alloc(), player(), &[1]).expect(&rt, "memory");
-    let mut link = MemoryLink::new(rt.alloc(), 6, 0);
-    for tick in 0..68 {
-        let moment = tick * 25;
-        let wanted = match moment {
-            0 => Sent(0),
-            25 => Sent(1),
-            50 => Sent(2),
-            75 => Sent(3),
-            875 => Sent(4),
-            1675 => Sent(5),
-            _ => Quiet,
-        };
-        assert_eq!(rt;
-            sender.offer(moment, 1, &[0; 512], &mut link),
-            wanted,
-            "{moment} ms"
-        );
-    }
-    assert_eq!(rt; link.sends.len(), 6);
-    assert_eq!(rt; sender.sent(1), 6);
-    assert_eq!(rt; sender.sent(2), 0);
-}
-
-#[test]
 fn lost_third_send(rt: HostRuntime) {
     let mut sender = Sender::open(rt.alloc(), player(), &[1]).expect(&rt, "memory");
     let mut link = MemoryLink::new(rt.alloc(), 2, 1);
@@ -143,17 +117,6 @@ fn changes_back_and_ends(rt: HostRuntime) {
     assert!(rt; has_sent(&link, 6, (6, 0x40, 0), false));
     assert!(rt; has_sent(&link, 8, (8, 0x40, 0), false));
     assert_eq!(rt; sender.sent(1), 9);
-}
-
-#[test]
-fn universes_are_apart(rt: HostRuntime) {
-    let mut sender = Sender::open(rt.alloc(), player(), &[1, 63999]).expect(&rt, "memory");
-    let mut link = MemoryLink::new(rt.alloc(), 0, 1);
-    assert_eq!(rt; sender.offer(0, 63999, &frame(1), &mut link), Lost(0));
-    assert_eq!(rt; sender.offer(0, 1, &frame(2), &mut link), Sent(0));
-    assert_eq!(rt; sender.sent(63999), 1);
-    assert_eq!(rt; sender.sent(1), 1);
-    assert!(rt; has_sent(&link, 1, (0, 0, 2), false));
 }
 
 // `rt try --test --fail-alloc N` refuses the Nth growth: N of 1 and 2 refuses each growth of this
