@@ -8,8 +8,8 @@ use std::io::ErrorKind;
 const INPUT_LINE: &str =
     "MOMENT and go, back, goto CUE, sub N LEVEL, group N LEVEL, master LEVEL, end or tick";
 
-const SCRIPT_LINE: &str =
-    "console BASE PRIORITY UUID, receiver UNIVERSE, or MOMENT and do, tick, deliver, stray or slots";
+const SCRIPT_LINE: &str = "console BASE PRIORITY UUID, receiver UNIVERSE, \
+    or MOMENT and do, tick, deliver, stray or slots";
 
 /// Why a job did not end well, and what is told of it behind the line of its fault.
 #[derive(Debug, Drop)]
