@@ -34,6 +34,7 @@ EACH = ("each_growth_refused",)
 WORDS_OF = ("explain", "listen", "live", "look_one", "play", "rehearse", "slots")
 TESTED = {
     "show_tests::show": Tested((*(f"Show::{name}" for name in BUILDERS), "Show::clone_in"), EACH),
+    "show_tests::line": Tested(("Pairs::append_to",), ("pairs_appended",)),
     "desk_tests::fade": Tested(
         ("Fader::new",),
         ("each_growth_of_plain_refused", "each_growth_of_step_refused"),

@@ -30,7 +30,7 @@ impl Default for Offers {
 impl Offers {
     ghost use Rattle.std.specs.Prelude.{◌≡◌, ◌≤◌, ◌<◌, ◌++◌, ◌∷◌, [], length};
 
-    // No offer yet.
+    /// No offer yet.
     pub fn new() -> Self
         ensures { result ≡ [] }
     {
@@ -39,7 +39,7 @@ impl Offers {
         }
     }
 
-    // One offer more.
+    /// One offer more, after at most 15.
     pub fn push(&mut self, universe: u16, offered: Offered)
         requires { length self.old < 16 }
         ensures { self.new ≡ self.old ++ (universe, offered) ∷ [] }

@@ -1,6 +1,6 @@
-ghost use Rattle.std.specs.Prelude.{◌≡◌, ◌≤◌, ◌⊎◌, IfOk, IfErr, IfSome, length, take};
+ghost use Rattle.std.specs.Prelude.{◌≡◌, ◌≤◌, IfOk, IfErr, IfSome, length, take};
 ghost use Rattle.std.specs.Io.KnownBytes.{ReadConsumes};
-ghost use Rattle.cueplayer_faults.specs.declared.fault.RunFault.TheVariants as run;
+ghost use Rattle.cueplayer.specs.Reading.{IsUnread};
 
 use crate::failure::Failure;
 use cueplayer_faults::RunFault;
@@ -22,8 +22,7 @@ const BLOCK: usize = 65536;
 /// As [`file_text`].
 pub fn show_text(rt: &HostRuntime, name: &str) -> Result<Vec<u8>, Failure>
     ensures most { IfOk result (λ bytes. length bytes.items ≤ 1048577) }
-    ensures fault { IfErr result (λ failure.
-        (failure.fault ≡ run.Device) ⊎ (failure.fault ≡ run.Memory)) }
+    ensures fault { IfErr result IsUnread }
 {
     if name == "-" {
         return named("standard input", first_bytes(rt.alloc(), &mut rt.stdin()));
@@ -38,13 +37,10 @@ pub fn show_text(rt: &HostRuntime, name: &str) -> Result<Vec<u8>, Failure>
 /// `Device` where the file cannot be opened or read; `Memory` where a growth was refused.
 pub fn file_text(rt: &HostRuntime, name: &str) -> Result<Vec<u8>, Failure>
     ensures most { IfOk result (λ bytes. length bytes.items ≤ 1048577) }
-    ensures fault { IfErr result (λ failure.
-        (failure.fault ≡ run.Device) ⊎ (failure.fault ≡ run.Memory)) }
+    ensures fault { IfErr result IsUnread }
 {
-    match File::open(rt, name) {
-        Ok(mut file) => named(name, first_bytes(rt.alloc(), &mut file)),
-        Err(error) => Err(Failure::of_device(name, error.kind())),
-    }
+    let mut file = opened(rt, name)?;
+    named(name, first_bytes(rt.alloc(), &mut file))
 }
 
 /// The first bytes of the script in the file of this name.
@@ -54,11 +50,17 @@ pub fn file_text(rt: &HostRuntime, name: &str) -> Result<Vec<u8>, Failure>
 /// As [`file_text`].
 pub fn script_text(rt: &HostRuntime, name: &str) -> Result<Vec<u8>, Failure>
     ensures most { IfOk result (λ bytes. length bytes.items ≤ 16777217) }
-    ensures fault { IfErr result (λ failure.
-        (failure.fault ≡ run.Device) ⊎ (failure.fault ≡ run.Memory)) }
+    ensures fault { IfErr result IsUnread }
+{
+    let mut file = opened(rt, name)?;
+    named(name, script_bytes(rt.alloc(), &mut file))
+}
+
+fn opened(rt: &HostRuntime, name: &str) -> Result<File, Failure>
+    ensures fault { IfErr result IsUnread }
 {
     match File::open(rt, name) {
-        Ok(mut file) => named(name, script_bytes(rt.alloc(), &mut file)),
+        Ok(file) => Ok(file),
         Err(error) => Err(Failure::of_device(name, error.kind())),
     }
 }
@@ -87,8 +89,7 @@ impl From<AllocError> for Unread {
 // What was read of an input of this name.
 fn named(name: &str, bytes: Result<Vec<u8>, Unread>) -> Result<Vec<u8>, Failure>
     ensures bytes { IfOk result (λ read. bytes ≡ Ok read) }
-    ensures fault { IfErr result (λ failure.
-        (failure.fault ≡ run.Device) ⊎ (failure.fault ≡ run.Memory)) }
+    ensures fault { IfErr result IsUnread }
 {
     match bytes {
         Ok(read) => Ok(read),

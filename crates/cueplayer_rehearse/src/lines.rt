@@ -6,6 +6,7 @@ ghost use Rattle.cueplayer_rehearse.specs.Printed.{PrintsLines};
 use crate::reply::print_reply;
 use devices::{LinkFault, Output};
 use receiver_text::end_line;
+use sacn_packet::Slots;
 use wire_world::{BriefReply, BriefReport};
 
 // Prints what came of a script, line by line.
@@ -42,7 +43,7 @@ fn print_replies<W: Output>(
 }
 
 // Prints the slots of the receivers, each by one write.
-fn print_ends<W: Output>(last: &[[u8; 512]], out: &mut W) -> Result<(), LinkFault>
+fn print_ends<W: Output>(last: &[Slots], out: &mut W) -> Result<(), LinkFault>
     requires { length last.now ≤ 8 }
     ensures told { W.tells out.new → W.tells out.old }
     ensures lines { W.tells out.new

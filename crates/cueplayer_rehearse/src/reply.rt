@@ -12,6 +12,7 @@ use desk_core::{Refused, Ticked};
 use devices::{LinkFault, Output};
 use itoa::Buffer;
 use receiver_text::{SlotsLine, reply_line, write_numbered_slots};
+use sacn_packet::Slots;
 use sacn_receiver::{Ignored, Taken};
 use wire_world::{BriefReply, Skip};
 
@@ -101,7 +102,7 @@ fn print_taken<W: Output>(
 }
 
 #[inline(never)]
-fn print_slots<W: Output>(number: u64, slots: &[u8; 512], out: &mut W) -> Result<(), LinkFault>
+fn print_slots<W: Output>(number: u64, slots: &Slots, out: &mut W) -> Result<(), LinkFault>
     ensures told { W.tells out.new → W.tells out.old }
     ensures ok { OnOk result (W.tells out.new
         → W.tape out.new ≡ with_more (W.tape out.old) (numbered number (slots_text slots.now))) }

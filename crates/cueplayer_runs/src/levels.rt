@@ -12,7 +12,7 @@ use devices::Output;
 use itoa::Buffer;
 use patch_core::has_numbers;
 use receiver_text::slots_line;
-use show_core::Show;
+use show_core::{Frame, Show};
 use show_reader::read_show;
 use std::alloc::{AllocError, Global};
 
@@ -84,7 +84,7 @@ fn universes_text(
     Ok(text)
 }
 
-fn push_universe(text: &mut Vec<u8>, universe: u32, slots: &[u8; 512]) -> Result<(), AllocError>
+fn push_universe(text: &mut Vec<u8>, universe: u32, slots: &Frame) -> Result<(), AllocError>
     ensures { OnOk result (text.new.items ≡ text.old.items ++ universe_lines universe slots.now) }
 {
     text.extend_from_slice(b"universe ")?;

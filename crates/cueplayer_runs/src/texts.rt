@@ -6,7 +6,7 @@ ghost use Rattle.cueplayer_runs.specs.Texts.{check_text, counts_line, look_field
 ghost use Rattle.cueplayer_runs.specs.Texts.{IsLookText};
 
 use sacn_packet::{Header, SourceName, encode};
-use show_core::{Counts, Show};
+use show_core::{Counts, Frame, Show};
 use show_reader::Loaded;
 use std::alloc::{AllocError, Global};
 
@@ -34,7 +34,8 @@ fn counts_line(
         dimmers,
     } = counts;
     format!(in alloc;
-        "lines {lines} cues {cues} subs {subs} groups {groups} dimmers {dimmers} skipped {skipped}\n"
+        "lines {lines} cues {cues} subs {subs} groups {groups} dimmers {dimmers} \
+        skipped {skipped}\n"
     )
 }
 
@@ -74,7 +75,7 @@ fn look_lines(
     Ok(text)
 }
 
-fn look_packet(cid: [u8; 16], ordinal: u16, slots: &[u8; 512]) -> [u8; 638]
+fn look_packet(cid: [u8; 16], ordinal: u16, slots: &Frame) -> [u8; 638]
     requires { ordinal < 16 }
     ensures { IsData result (look_fields cid ordinal) slots.now }
 {

@@ -31,7 +31,8 @@ fn playing_lines<'a>(alloc: Global) -> Result<Command<'a>, AllocError>
             alloc,
             "play",
             "Plays the lines of standard input to the network",
-            "Example: cueplayer play night.asc --to 10.0.0.7 --cid c0ffee00-0000-4000-8000-00000000e131",
+            "Example: cueplayer play night.asc --to 10.0.0.7 \
+                --cid c0ffee00-0000-4000-8000-00000000e131",
         )?)?
         .subcommand(live_line(alloc)?)
 }
@@ -134,7 +135,8 @@ fn live_line<'a>(alloc: Global) -> Result<Command<'a>, AllocError>
         alloc,
         "live",
         "Plays what is typed to the network, by the clock",
-        "Example: cueplayer live night.asc --to 10.0.0.7 --cid c0ffee00-0000-4000-8000-00000000e131",
+        "Example: cueplayer live night.asc --to 10.0.0.7 \
+            --cid c0ffee00-0000-4000-8000-00000000e131",
     )?
     .arg(option(
         alloc,
@@ -178,7 +180,8 @@ fn short_play_line<'a>(
             alloc,
             "to",
             "ADDR",
-            "Where to send: a.b.c.d, at port 5568, or a.b.c.d:port; 239.255.0.0 for multicast groups",
+            "Where to send: a.b.c.d, at port 5568, or a.b.c.d:port; \
+                239.255.0.0 for multicast groups",
         ))?
         .arg(required_option(alloc, "cid", "UUID", CID_FORM))
 }

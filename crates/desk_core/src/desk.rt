@@ -25,7 +25,7 @@ use fade_core::Fader;
 use master_core::Masters;
 use patch_core::{Rig, RigFault};
 use playback_core::Playback;
-use show_core::{CHANNELS, Show};
+use show_core::{CHANNELS, Frame, Show};
 use std::alloc::Global;
 use std::fmt;
 use std::marker::Model;
@@ -66,7 +66,7 @@ pub struct Desk<F: Fader> {
     are_floors: bool,
     // Whether a floor may be above 0.
     has_floors: bool,
-    frames: Vec<[u8; 512]>,
+    frames: Vec<Frame>,
     is_kept: bool,
 }
 
@@ -377,7 +377,7 @@ impl<F: Fader> Desk<F> {
 
     /// The 512 slots of one of `universes`, as the latest tick showed them: all 0 before the first,
     /// and from the first after End on.
-    pub fn slots(&self, universe: u16) -> &[u8; 512]
+    pub fn slots(&self, universe: u16) -> &Frame
         requires { Contains (universe_numbers self.now.show.patch self.now.base) universe }
         ensures { (show : Tables) (base : ℕ) (history : List Act)
             → StandsFor F.stands_for show base self.now history

@@ -12,11 +12,11 @@ ghost use Rattle.desk_core.specs.Meaning.{dark};
 use fade_core::Fader;
 use patch_core::Rig;
 use playback_core::Playback;
-use show_core::{CHANNELS, UNIVERSES};
+use show_core::{CHANNELS, Frame, UNIVERSES};
 use std::alloc::{AllocError, Global};
 
 // A frame for each ordinal, with every slot at 0.
-pub fn dark_frames(alloc: Global) -> Result<Vec<[u8; 512]>, AllocError>
+pub fn dark_frames(alloc: Global) -> Result<Vec<Frame>, AllocError>
     ensures { IfOk result (λ frames. frames.items ≡ replicate 16 dark) }
 {
     let mut frames = Vec::with_capacity(alloc, usize::from(UNIVERSES))?;
@@ -37,7 +37,7 @@ pub fn has_floors(floors: &[u16]) -> bool
 // level at the latest moment that the playback was given. Where no floor is above 0 there is
 // nothing to merge.
 pub fn draw_merged<F: Fader>(
-    frames: &mut [[u8; 512]],
+    frames: &mut [Frame],
     levels: &mut [u16],
     rig: &Rig,
     playback: &Playback<F>,
@@ -113,7 +113,7 @@ fn merge_all(levels: &mut [u16], playing: &[u16], floors: &[u16])
 // Draws these channels anew, at levels that are each the higher of the channel's floor and of the
 // playback's level at the latest moment that the playback was given.
 pub fn redraw_merged<F: Fader>(
-    frames: &mut [[u8; 512]],
+    frames: &mut [Frame],
     levels: &mut [u16],
     rig: &Rig,
     channels: &[u16],
@@ -175,7 +175,7 @@ fn merge_some<F: Fader>(
 }
 
 // Puts every slot at 0.
-pub fn darken(frames: &mut [[u8; 512]])
+pub fn darken(frames: &mut [Frame])
     ensures { (ordinal : ℕ) → ordinal < length frames.old
         → slice_get frames.new ordinal ≡ Some dark }
 {

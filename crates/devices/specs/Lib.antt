@@ -1,3 +1,4 @@
 pub mod Tape
 pub mod Send
 pub mod Sends
+pub mod Failing

@@ -7,11 +7,11 @@ ghost use Rattle.patch_core.specs.Sources.{AreOf, AreSources};
 ghost use Rattle.patch_core.specs.declared.sources.Bytes.TheVariants.{Mixed};
 
 use crate::sources::Bytes;
-use show_core::{CHANNELS, SLOTS, slot};
+use show_core::{CHANNELS, Frame, SLOTS, slot};
 
 // Writes the slots of each ordinal, from the level at each dimmer's place and from its byte.
 pub fn draw_frames(
-    frames: &mut [[u8; 512]],
+    frames: &mut [Frame],
     levels: &[u16],
     sources: &[u16],
     bytes: &[u8],
@@ -86,7 +86,7 @@ fn full_slot(level: u16) -> u8
 
 // Writes the 512 slots of an ordinal, whose dimmers lie from `first` on.
 fn draw_frame(
-    out: &mut [u8; 512],
+    out: &mut Frame,
     levels: &[u16],
     slots: &[u8; 4096],
     sources: &[u16],
@@ -124,7 +124,7 @@ fn draw_frame(
 }
 
 // Brings the slot of the channel of each of 512 dimmers.
-fn gather_slots(out: &mut [u8; 512], slots: &[u8; 4096], sources: &[u16], first: usize)
+fn gather_slots(out: &mut Frame, slots: &[u8; 4096], sources: &[u16], first: usize)
     requires sources { first + 512 ≤ length sources.now }
     requires in_range { (p : ℕ) → slice_index sources.now p < 4096 }
     ensures size { length out.new ≡ 512 }
@@ -155,7 +155,7 @@ fn eight_slots(slots: &[u8; 4096], sources: &[u16], first: usize) -> [u8; 8]
 }
 
 // Puts the slots of 512 dimmers at 0 where their byte is 0.
-fn keep_patched(out: &mut [u8; 512], bytes: &[u8], first: usize)
+fn keep_patched(out: &mut Frame, bytes: &[u8], first: usize)
     requires bytes { first + 512 ≤ length bytes.now }
     ensures size { length out.new ≡ 512 }
     ensures dark { (s : ℕ) → s < 512 → slice_index bytes.now (first + s) ≡ 0
@@ -185,7 +185,7 @@ fn gather_levels(own: &mut [u16; 512], levels: &[u16], sources: &[u16], first: u
 }
 
 // The slots of 512 dimmers whose bytes are any.
-fn fill_scaled(out: &mut [u8; 512], own: &[u16; 512], bytes: &[u8], first: usize, grand: u8)
+fn fill_scaled(out: &mut Frame, own: &[u16; 512], bytes: &[u8], first: usize, grand: u8)
     requires full { (s : ℕ) → s < 512 → slice_index own.now s ≤ 65025 }
     requires bytes { first + 512 ≤ length bytes.now }
     ensures size { length out.new ≡ 512 }

@@ -1,8 +1,10 @@
 ghost use Rattle.std.specs.Prelude.{◌≡◌, ◌<◌, ◌≤◌, ℕ, length, max, slice_index};
 
+use show_core::Frame;
+
 /// Each slot of `a` up to the length of `b` becomes the greater of the two slots; the rest of `a`
 /// stays.
-pub fn max_into(a: &mut [u8; 512], b: &[u8])
+pub fn max_into(a: &mut Frame, b: &[u8])
     requires { length b.now ≤ 512 }
     ensures greatest { (s : ℕ) → s < length b.now
         → slice_index a.new s ≡ max (slice_index a.old s) (slice_index b.now s) }

@@ -13,7 +13,7 @@ use crate::fault::RigFault;
 use crate::index::{begins_of, sorted_by_channel};
 use crate::slots::redraw_channels;
 use crate::sources::{Bytes, kinds_of, write_sources};
-use show_core::{DIMMERS, SLOTS, Show, slot};
+use show_core::{DIMMERS, Frame, SLOTS, Show, slot};
 use std::alloc::Global;
 use std::marker::Model;
 
@@ -99,7 +99,7 @@ impl Rig {
     /// byte; 0 for each other dimmer.
     ///
     /// `levels` has a level for each channel, from 0 to 65025, beginning with channel 1.
-    pub fn frame(&self, k: u16, levels: &[u32], grand: u8, out: &mut [u8; 512])
+    pub fn frame(&self, k: u16, levels: &[u32], grand: u8, out: &mut Frame)
         requires ordinal { k < 16 }
         requires each_channel { length levels.now ≡ 4096 }
         requires full { All (λ level. level ≤ 65025) levels.now }
@@ -119,7 +119,7 @@ impl Rig {
     /// Writes the frames of all ordinals, as `frame` writes each.
     ///
     /// `levels` has a level for each channel, from 0 to 65025, beginning with channel 1.
-    pub fn draw(&self, frames: &mut [[u8; 512]], levels: &[u16], grand: u8)
+    pub fn draw(&self, frames: &mut [Frame], levels: &[u16], grand: u8)
         requires each_ordinal { length frames.old ≡ 16 }
         requires each_channel { length levels.now ≡ 4096 }
         requires full { All (λ level. level ≤ 65025) levels.now }
@@ -140,7 +140,7 @@ impl Rig {
     ///
     /// `levels` has a level for each channel, from 0 to 65025, beginning with channel 1; those of
     /// other channels are not read.
-    pub fn redraw(&self, frames: &mut [[u8; 512]], channels: &[u16], levels: &[u16], grand: u8)
+    pub fn redraw(&self, frames: &mut [Frame], channels: &[u16], levels: &[u16], grand: u8)
         requires each_ordinal { length frames.old ≡ 16 }
         requires channels { All (λ channel. IsTrue (is_channel channel)) channels.now }
         requires each_channel { length levels.now ≡ 4096 }

@@ -7,11 +7,11 @@ ghost use Rattle.show_core.specs.Tables.{PatchMap};
 ghost use Rattle.patch_core.specs.Frame.{listed_level, dimmer_slot};
 ghost use Rattle.patch_core.specs.Index.{IsIndex, AreFrames, slot_at, dimmer_at, byte_at};
 
-use show_core::{SLOTS, slot};
+use show_core::{Frame, SLOTS, slot};
 
 // Writes the slots of some channels anew: the dimmers of each lie between two of `begins`.
 pub fn redraw_channels(
-    frames: &mut [[u8; 512]],
+    frames: &mut [Frame],
     by_channel: &[(u16, (u16, u8))],
     begins: &[u16],
     channels: &[u16],
@@ -51,7 +51,7 @@ pub fn redraw_channels(
 
 // Writes the slots of a run of dimmers for one level.
 fn redraw_run(
-    frames: &mut [[u8; 512]],
+    frames: &mut [Frame],
     dimmers: &[(u16, (u16, u8))],
     from: usize,
     to: usize,

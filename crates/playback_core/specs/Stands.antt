@@ -1,9 +1,9 @@
 -- What a playback keeps, against the moves so far.
-use Rattle.std.specs.Prelude.{◌≡◌, Bool, List, map}
+use Rattle.std.specs.Prelude.{◌≡◌, ℕ, Bool, false, List, ◌∷◌, map}
 use Rattle.show_core.specs.Tables.{Tables}
 use Rattle.fade_core.specs.Level.{Start}
 use Rattle.playback_core.specs.Playing.{Playing}
-use Rattle.playback_core.specs.Played.{Move, start_of, current_after, due_moment}
+use Rattle.playback_core.specs.Played.{Move, start_of, current_after, due_moment, moves_by}
 
 -- a playback stands for these moves over a show, the newest first: its current cue is that of the
 -- newest; the next one is due at the moment of the move that is due, and never once it was stopped;
@@ -13,3 +13,11 @@ pub record StandsFor {F : Type 0} (fader_stands_for : F → List Start → Type 
   pub current : playback.current ≡ current_after moves
   pub due : playback.due ≡ due_moment show stopped moves
   pub fader : fader_stands_for playback.fader (map (start_of show) moves)
+
+-- a playback moved to a cue: whatever moves it stood for before, it now stands for these, those
+-- that followed them by themselves up to the moment, and this one
+abbrev pub MovesTo : {F : Type 0} → (F → List Start → Type 0) → Tables → Playing F → Playing F
+    → Move → Type 0
+MovesTo fader_stands_for show before after move =
+    (moves : List Move) (stopped : Bool) → StandsFor fader_stands_for show before moves stopped
+    → StandsFor fader_stands_for show after (move ∷ moves_by show stopped move.moment moves) false

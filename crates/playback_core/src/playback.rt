@@ -8,7 +8,7 @@ ghost use Rattle.playback_core.specs.Placed.{IsAt};
 ghost use Rattle.playback_core.specs.Played.{Move, go_target, back_target, goto_target};
 ghost use Rattle.playback_core.specs.Played.{current_after, moves_by, is_by, start_of};
 ghost use Rattle.playback_core.specs.Played.{playback_level};
-ghost use Rattle.playback_core.specs.Stands.{StandsFor};
+ghost use Rattle.playback_core.specs.Stands.{StandsFor, MovesTo};
 
 use crate::place::Place;
 use fade_core::Fader;
@@ -95,11 +95,8 @@ impl<F: Fader> Playback<F> {
             → StandsFor F.stands_for show.now self.old moves stopped
             → let current = current_after (moves_by show.now stopped moment moves) in
             result ≡ ok_or (go_target show.now.cues current) NoMove.AtEnd }
-        ensures stands { (moves : List Move) (stopped : Bool)
-            → StandsFor F.stands_for show.now self.old moves stopped
-            → IfOk result (λ cue. let move : Move = record { cue = cue; moment = moment } in
-            let made = moves_by show.now stopped moment moves in
-            StandsFor F.stands_for show.now self.new (move ∷ made) false) }
+        ensures stands { IfOk result (λ cue. MovesTo F.stands_for show.now self.old self.new
+            (record { cue = cue; moment = moment })) }
         ensures current { IfOk result (λ cue. self.new.current ≡ Some cue) }
         ensures latest { OnOk result (F.latest self.new.fader ≡ moment) }
         ensures unchanged { OnErr result (self.new ≡ self.old) }
@@ -121,11 +118,8 @@ impl<F: Fader> Playback<F> {
             → StandsFor F.stands_for show.now self.old moves stopped
             → let current = current_after (moves_by show.now stopped moment moves) in
             result ≡ ok_or (back_target show.now.cues current) NoMove.AtStart }
-        ensures stands { (moves : List Move) (stopped : Bool)
-            → StandsFor F.stands_for show.now self.old moves stopped
-            → IfOk result (λ cue. let move : Move = record { cue = cue; moment = moment } in
-            let made = moves_by show.now stopped moment moves in
-            StandsFor F.stands_for show.now self.new (move ∷ made) false) }
+        ensures stands { IfOk result (λ cue. MovesTo F.stands_for show.now self.old self.new
+            (record { cue = cue; moment = moment })) }
         ensures current { IfOk result (λ cue. self.new.current ≡ Some cue) }
         ensures latest { OnOk result (F.latest self.new.fader ≡ moment) }
         ensures unchanged { OnErr result (self.new ≡ self.old) }
@@ -145,11 +139,8 @@ impl<F: Fader> Playback<F> {
         requires not_before { F.latest self.old.fader ≤ moment }
         requires below { moment < 2 ^ 48 }
         ensures answer { result ≡ ok_or (goto_target show.now.cues n) NoMove.NoCue }
-        ensures stands { (moves : List Move) (stopped : Bool)
-            → StandsFor F.stands_for show.now self.old moves stopped
-            → IfOk result (λ cue. let move : Move = record { cue = cue; moment = moment } in
-            let made = moves_by show.now stopped moment moves in
-            StandsFor F.stands_for show.now self.new (move ∷ made) false) }
+        ensures stands { IfOk result (λ cue. MovesTo F.stands_for show.now self.old self.new
+            (record { cue = cue; moment = moment })) }
         ensures current { IfOk result (λ cue. self.new.current ≡ Some cue) }
         ensures latest { OnOk result (F.latest self.new.fader ≡ moment) }
         ensures unchanged { OnErr result (self.new ≡ self.old) }

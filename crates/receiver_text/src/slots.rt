@@ -3,6 +3,7 @@ ghost use Rattle.receiver_text.specs.Replies.{end_line, slot_text, slots_line};
 
 use arrayvec::ArrayString;
 use itoa::Buffer;
+use sacn_packet::Slots;
 
 /// A printed line of slots.
 ///
@@ -11,7 +12,7 @@ use itoa::Buffer;
 pub type SlotsLine = ArrayString<5147>;
 
 /// The line of the slots that are not 0, each 0 to 255.
-pub fn slots_line(slots: &[u8; 512]) -> SlotsLine
+pub fn slots_line(slots: &Slots) -> SlotsLine
     ensures { result.bytes ≡ slots_line slots.now }
 {
     let mut line = SlotsLine::new();
@@ -20,7 +21,7 @@ pub fn slots_line(slots: &[u8; 512]) -> SlotsLine
 }
 
 /// That line behind a number, put into an empty line, since one that is handed out is copied.
-pub fn write_numbered_slots(line: &mut SlotsLine, number: u64, slots: &[u8; 512])
+pub fn write_numbered_slots(line: &mut SlotsLine, number: u64, slots: &Slots)
     requires { line.old.bytes ≡ [] }
     ensures { line.new.bytes ≡ decimal number ++ codes " " ++ slots_line slots.now }
 {
@@ -30,7 +31,7 @@ pub fn write_numbered_slots(line: &mut SlotsLine, number: u64, slots: &[u8; 512]
 }
 
 /// The line of the slots of a receiver, counted from 0, at the end of a run.
-pub fn end_line(receiver: u16, slots: &[u8; 512]) -> SlotsLine
+pub fn end_line(receiver: u16, slots: &Slots) -> SlotsLine
     ensures { result.bytes ≡ end_line receiver slots.now }
 {
     let mut line = SlotsLine::new();
@@ -41,7 +42,7 @@ pub fn end_line(receiver: u16, slots: &[u8; 512]) -> SlotsLine
     line
 }
 
-fn push_slots(line: &mut SlotsLine, slots: &[u8; 512])
+fn push_slots(line: &mut SlotsLine, slots: &Slots)
     requires { length line.old.bytes ≤ 21 }
     ensures { line.new.bytes ≡ line.old.bytes ++ slots_line slots.now }
 {

@@ -2,6 +2,8 @@
 ghost use Rattle.std.specs.Prelude.{◌≡◌, ◌++◌, ℕ, List, take, slice_set};
 ghost use Rattle.sacn_packet.specs.Wire.{Fields, IsData};
 
+use crate::Slots;
+
 /// Gives a packet of 512 slots another sequence number and other options (framing layer: sequence
 /// number and options, offsets 111 and 112).
 pub fn renumber(packet: &mut [u8; 638], sequence: u8, options: u8)
@@ -14,7 +16,7 @@ pub fn renumber(packet: &mut [u8; 638], sequence: u8, options: u8)
 }
 
 /// Gives a packet of 512 slots other slots (DMP layer: property values, from offset 126 on).
-pub fn refill(packet: &mut [u8; 638], slots: &[u8; 512])
+pub fn refill(packet: &mut [u8; 638], slots: &Slots)
     ensures bytes { packet.new ≡ take 126 packet.old ++ slots.now }
     ensures packet { (fields : Fields) (old : List ℕ) → IsData packet.old fields old →
         IsData packet.new fields slots.now }

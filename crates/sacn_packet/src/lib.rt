@@ -34,4 +34,4 @@ pub use kept::{refill, renumber, slots_in};
 pub use reader::{TOP_UNIVERSE, parse};
 pub use source_name::SourceName;
 pub use unreadable::Unreadable;
-pub use writer::{Header, encode};
+pub use writer::{Header, Slots, encode};

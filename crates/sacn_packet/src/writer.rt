@@ -68,7 +68,11 @@ fn write_framing(out: &mut [u8], header: &Header)
     ]);
 }
 
-fn write_dmp(out: &mut [u8], slots: &[u8; 512])
+/// The 512 slots of a packet, slot 1 first (E1.31, DMP Layer: property values behind the START
+/// code).
+pub type Slots = [u8; 512];
+
+fn write_dmp(out: &mut [u8], slots: &Slots)
     requires { length out.old ≡ 523 }
     ensures { out.new ≡ dmp_layer 512 0 slots.now }
 {
@@ -77,7 +81,7 @@ fn write_dmp(out: &mut [u8], slots: &[u8; 512])
 }
 
 /// Writes the data packet of 512 slots with START code 0 and synchronization address 0.
-pub fn encode(header: &Header, slots: &[u8; 512], out: &mut [u8; 638])
+pub fn encode(header: &Header, slots: &Slots, out: &mut [u8; 638])
     requires priority { header.now.priority ≤ 200 }
     requires universe_from_1 { 1 ≤ header.now.universe }
     requires universe_to_63999 { header.now.universe ≤ 63999 }

@@ -5,9 +5,10 @@ ghost use Rattle.sacn_receiver.specs.Records.{top_at, lit};
 ghost use Rattle.sacn_receiver.specs.Shown.{merged};
 
 use crate::record::Record;
+use sacn_packet::Slots;
 
 // The frame of a place without a record that leads.
-const DARK: [u8; 512] = [0; 512];
+const DARK: Slots = [0; 512];
 
 // How many records are live.
 pub(crate) fn count_live(records: &[Record], moment: u64) -> usize
@@ -21,7 +22,7 @@ pub(crate) fn count_live(records: &[Record], moment: u64) -> usize
 
 // Writes the frame of the live records: of those of the greatest priority, the greatest of each
 // slot.
-pub(crate) fn merge(records: &[Record], moment: u64, out: &mut [u8; 512])
+pub(crate) fn merge(records: &[Record], moment: u64, out: &mut Slots)
     requires { length records.now ≤ 4 }
     ensures { (s : ℕ) → s < 512 → slice_index out.new s
         ≡ merged (lights_at moment records.now) s }
@@ -51,7 +52,7 @@ fn top_priority(records: &[Record], moment: u64) -> u8
 }
 
 // The slots of the record at a place, where it leads, else zeros.
-fn leading_slots(records: &[Record], place: usize, moment: u64, top: u8) -> &[u8; 512]
+fn leading_slots(records: &[Record], place: usize, moment: u64, top: u8) -> &Slots
     ensures { (s : ℕ) → slice_index result.now s
         ≡ lit moment top (slice_get records.now place) s }
 {
@@ -62,7 +63,7 @@ fn leading_slots(records: &[Record], place: usize, moment: u64, top: u8) -> &[u8
 }
 
 // Writes the greatest of each slot of four frames.
-fn write_greatest(a: &[u8; 512], b: &[u8; 512], c: &[u8; 512], d: &[u8; 512], out: &mut [u8; 512])
+fn write_greatest(a: &Slots, b: &Slots, c: &Slots, d: &Slots, out: &mut Slots)
     ensures { (s : ℕ) → s < 512 → slice_index out.new s
         ≡ max (max (max (slice_index a.now s) (slice_index b.now s)) (slice_index c.now s))
         (slice_index d.now s) }

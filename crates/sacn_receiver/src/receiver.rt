@@ -14,7 +14,7 @@ use crate::live::{count_live, merge};
 use crate::places::{keep_at, place_for};
 use crate::record::{Record, is_termination};
 use arrayvec::ArrayVec;
-use sacn_packet::{DataPacket, parse};
+use sacn_packet::{DataPacket, Slots, parse};
 use std::marker::Model;
 
 /// The most sources that a receiver keeps at a time.
@@ -89,7 +89,7 @@ impl Receiver {
 
     /// Writes the levels of the 512 slots at `moment`: of the live sources, those of the greatest
     /// priority, and of these the greatest level, slot by slot; zeros where no source is live.
-    pub fn slots(&self, moment: u64, out: &mut [u8; 512])
+    pub fn slots(&self, moment: u64, out: &mut Slots)
         requires { self.now.latest ≤ moment }
         ensures { (h : List Entry) → StandsFor self.now h → out.new ≡ shown_slots h moment }
     {

@@ -3,7 +3,7 @@ ghost use Rattle.sacn_receiver.specs.Records.{kept_entry, is_live_at, leads_at};
 ghost use Rattle.sacn_receiver.specs.Source as source;
 ghost use Rattle.sacn_receiver.specs.Taking.{entry_of, is_termination as ends};
 
-use sacn_packet::DataPacket;
+use sacn_packet::{DataPacket, Slots};
 
 // A record is there for less than this, in milliseconds (E1.31-2018, network data loss).
 const DATA_LOSS: u64 = 2_500;
@@ -15,7 +15,7 @@ const STREAM_TERMINATED: u8 = 0x40;
 #[derive(Clone, Copy, Debug, Default, PartialEq, Eq)]
 pub(crate) struct Record {
     pub(crate) cid: [u8; 16],
-    pub(crate) slots: [u8; 512],
+    pub(crate) slots: Slots,
     pub(crate) moment: u64,
     pub(crate) number: u8,
     pub(crate) priority: u8,
@@ -57,7 +57,7 @@ impl Record {
 }
 
 // Writes the slots that were sent, and 0 behind them.
-fn write_slots(slots: &mut [u8; 512], sent: &[u8])
+fn write_slots(slots: &mut Slots, sent: &[u8])
     requires { length sent.now ≤ 512 }
     ensures { slots.new ≡ sent.now ++ replicate (512 - length sent.now) 0 }
 {

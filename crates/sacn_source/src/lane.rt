@@ -11,7 +11,7 @@ use crate::identity::Identity;
 use crate::offered::Offered;
 use crate::pace::Pace;
 use devices::Link;
-use sacn_packet::{encode, refill, renumber, slots_in};
+use sacn_packet::{Slots, encode, refill, renumber, slots_in};
 use std::marker::Model;
 
 // Options: Stream_Terminated.
@@ -59,7 +59,7 @@ impl Lane {
     }
 
     /// Offers a frame, and sends it where a packet is due.
-    pub fn offer<L: Link>(&mut self, moment: u64, slots: &[u8; 512], link: &mut L) -> Offered
+    pub fn offer<L: Link>(&mut self, moment: u64, slots: &Slots, link: &mut L) -> Offered
         requires later { self.old.pace.earliest ≤ moment }
         requires below { moment < 2 ^ 48 }
         requires live { self.old.pace.ended ≡ 0 }
@@ -111,7 +111,7 @@ impl Lane {
 }
 
 // Gives the packet these slots, and answers whether it had others.
-fn replace_slots(packet: &mut [u8; 638], slots: &[u8; 512]) -> bool
+fn replace_slots(packet: &mut [u8; 638], slots: &Slots) -> bool
     ensures differs { (fields : Fields) (old : List ℕ) → IsData packet.old fields old →
         result ≡ not (pointwise nat_eq slots.now old) }
     ensures packet { (fields : Fields) (old : List ℕ) → IsData packet.old fields old →

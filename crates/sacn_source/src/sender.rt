@@ -10,6 +10,7 @@ use crate::lane::Lane;
 use crate::offered::Offered;
 use crate::universes::Universes;
 use devices::Link;
+use sacn_packet::Slots;
 use std::alloc::{AllocError, Global};
 use std::marker::Model;
 
@@ -68,7 +69,7 @@ impl Sender {
         &mut self,
         moment: u64,
         universe: u16,
-        slots: &[u8; 512],
+        slots: &Slots,
         link: &mut L,
     ) -> Offered
         requires here { Contains (universes_of self.old) universe }

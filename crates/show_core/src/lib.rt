@@ -39,4 +39,4 @@ pub use limits::{
 };
 pub use rate::Rate;
 pub use show::{Counts, Show};
-pub use slots::slot;
+pub use slots::{Frame, slot};

@@ -12,6 +12,7 @@ ghost use Rattle.show_core.specs.Readers.{cue_above, cue_below, universes_of};
 ghost use Rattle.show_core.specs.Readers.{look_slot, look_frame, IsInRange};
 ghost use Rattle.show_core.specs.declared.fault.BuildFault.TheVariants.{Limit, Memory};
 
+use crate::Frame;
 use crate::cue::Cue;
 use crate::cue_table::CueTable;
 use crate::fault::BuildFault;
@@ -453,7 +454,7 @@ impl Show {
 
     /// The 512 slots of the universe of an ordinal below 16, with the cue alone at full and the
     /// grand master at 255.
-    pub fn look_slots(&self, cue: u32, ordinal: u16) -> [u8; 512]
+    pub fn look_slots(&self, cue: u32, ordinal: u16) -> Frame
         requires there { IsTrue (map.contains_key self.now.cues cue) }
         requires range { ordinal < 16 }
         ensures { IfSome (map.get self.now.cues cue)

@@ -1,6 +1,9 @@
 ghost use Rattle.std.specs.Prelude.{◌≡◌, ◌≤◌};
 ghost use Rattle.show_core.specs.Readers.{slot_of};
 
+/// The 512 slots of a universe, slot 1 first: what DMX512-A sends behind its START code.
+pub type Frame = [u8; 512];
+
 // What brings a fine level, times two bytes, back to a byte.
 const SCALE: u32 = 255 * 255 * 255;
 

@@ -1,4 +1,4 @@
-ghost use Rattle.std.specs.Prelude.{◌≡◌, ◌++◌, [], None, MatchResult, drop};
+ghost use Rattle.std.specs.Prelude.{◌≡◌, ◌++◌, [], None, MatchResult, OnOk, OnErr, IsOk, drop};
 ghost use Rattle.std.specs.Iterator.{YieldsFirst, item_count};
 ghost use Rattle.ascii_text.specs.LinesLeft.{words_left};
 ghost use Rattle.ascii_text.specs.Text.{words_of};
@@ -9,6 +9,7 @@ use crate::fault::{LineFault, level_fault, lower, number_fault, number_in};
 use arrayvec::ArrayVec;
 use ascii_text::{Words, level, number};
 use show_core::CHANNELS;
+use std::alloc::AllocError;
 use std::marker::Model;
 
 // How many pairs of a line are kept from the first reading of its words. Most lines have fewer.
@@ -27,7 +28,7 @@ pub struct Pairs<'a> {
 }
 
 impl<'a> Model for Pairs<'a> {
-    ghost use Rattle.std.specs.Prelude.{◌≡◌, ◌++◌, ℕ, List, None, drop};
+    ghost use Rattle.std.specs.Prelude.{◌≡◌, ◌≤◌, ◌++◌, ℕ, List, None, drop, length};
     ghost use Rattle.ascii_text.specs.LinesLeft.{words_left};
     ghost use Rattle.show_line.specs.Pairs.{desk_limits, pair_fault, pairs_in};
 
@@ -36,7 +37,8 @@ impl<'a> Model for Pairs<'a> {
     ghost view = { λ pairs.
         drop pairs.given pairs.kept.items ++ pairs_in (words_left pairs.words) };
 
-    ghost invariant = { λ pairs. pair_fault desk_limits (words_left pairs.words) ≡ None };
+    ghost invariant = { λ pairs. (pairs.given ≤ length pairs.kept.items)
+        × (pair_fault desk_limits (words_left pairs.words) ≡ None) };
 }
 
 impl<'a> Pairs<'a> {
@@ -58,6 +60,28 @@ impl<'a> Pairs<'a> {
                 words,
             }),
         }
+    }
+
+    /// Puts the pairs behind those of a list.
+    ///
+    /// # Errors
+    ///
+    /// Where a growth was refused; then none of them stands there.
+    pub fn append_to(mut self, list: &mut Vec<(u16, u8)>) -> Result<(), AllocError>
+        ensures ok { OnOk result (list.new.items ≡ list.old.items ++ self.entry) }
+        ensures unchanged { OnErr result (list.new.items ≡ list.old.items) }
+        ensures sure { self.entry ≡ [] → IsOk result }
+    {
+        let before = list.len();
+        list.extend_from_slice(&self.kept[self.given..])?;
+        self.given = self.kept.len();
+        for pair in self {
+            if list.push(pair).is_err() {
+                list.truncate(before);
+                return Err(AllocError);
+            }
+        }
+        Ok(())
     }
 }
 
@@ -93,14 +117,12 @@ fn keep_pairs(words: &mut Words<'_>, kept: &mut ArrayVec<(u16, u8), KEPT>) -> Op
         → pairs_in (words_left words.old) ≡ kept.new.items ++ pairs_in (words_left words.new) }
 {
     while !kept.is_full() {
-        let channel = words.next()?;
+        // Read before the next word is looked for: how long this one is, is then still foreseen.
+        let channel = number_in(words.next()?, 1, CHANNELS);
         let Some(byte) = words.next() else {
-            return lower(
-                number_fault(channel, 1, CHANNELS),
-                Some(LineFault::HalfPair),
-            );
+            return lower(channel.err(), Some(LineFault::HalfPair));
         };
-        let channel = match number_in(channel, 1, CHANNELS) {
+        let channel = match channel {
             Ok(channel) => channel,
             Err(fault) => return lower(Some(fault), level_fault(byte)),
         };

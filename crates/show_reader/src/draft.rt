@@ -56,7 +56,7 @@ impl Draft {
             → IsOk result }
     {
         self.turn_to(which)?;
-        keep_pairs(&mut self.levels, pairs)?;
+        pairs.append_to(&mut self.levels)?;
         Ok(())
     }
 
@@ -171,14 +171,4 @@ fn set_levels(show: &mut Show, which: Record, levels: &[(u16, u8)]) -> Result<()
         Record::Group(n) => show.group_levels(n, levels),
         Record::Sub(n) => show.sub_levels(n, levels),
     }
-}
-
-fn keep_pairs(levels: &mut Vec<(u16, u8)>, pairs: Pairs<'_>) -> Result<(), AllocError>
-    ensures ok { OnOk result (levels.new.items ≡ levels.old.items ++ pairs.entry) }
-    ensures sure { pairs.entry ≡ [] → IsOk result }
-{
-    for pair in pairs {
-        levels.push(pair)?;
-    }
-    Ok(())
 }

@@ -4,6 +4,7 @@ ghost use Rattle.wire_world.specs.Brief.{reply_of};
 use crate::{FewOffers, Offers, Reply, Skip};
 use desk_core::{Refused, Ticked};
 use sacn_receiver::{Ignored, Taken};
+use show_core::Frame;
 
 /// The reply to an event, a [`Reply`] in little room: what is large lies in a box.
 #[derive(Debug, Drop)]
@@ -21,7 +22,7 @@ pub enum BriefReply {
     /// A datagram was ignored.
     Ignored(Ignored),
     /// The slots of a receiver, each 0 to 255.
-    Shown(Box<[u8; 512]>),
+    Shown(Box<Frame>),
     /// The event was skipped.
     Skipped(Skip),
 }

@@ -1,6 +1,7 @@
 use console::Offers;
 use desk_core::{Refused, Ticked};
 use sacn_receiver::{Ignored, Taken};
+use show_core::Frame;
 use thiserror::Error;
 
 /// Why an event was skipped. Of several reasons the first of these is given. A skipped event
@@ -38,7 +39,7 @@ pub enum Reply {
     /// A datagram was ignored.
     Ignored(Ignored),
     /// The slots of a receiver, each 0 to 255.
-    Shown([u8; 512]),
+    Shown(Frame),
     /// The event was skipped.
     Skipped(Skip),
 }

@@ -3,6 +3,7 @@ ghost use Rattle.wire_world.specs.Brief.{reply_of};
 
 use crate::Reply;
 use crate::brief::BriefReply;
+use show_core::Frame;
 use std::alloc::{AllocError, Global};
 use std::marker::Model;
 
@@ -13,7 +14,7 @@ pub struct Report {
     pub replies: Vec<Reply>,
     /// The slots of each receiver at the moment of the last event that was not skipped, or at 0
     /// where there is none; each is 0 to 255.
-    pub last: Vec<[u8; 512]>,
+    pub last: Vec<Frame>,
 }
 
 impl Model for Report {
@@ -30,7 +31,7 @@ pub struct BriefReport {
     /// One reply for each event.
     pub replies: Vec<BriefReply>,
     /// As of [`Report`].
-    pub last: Vec<[u8; 512]>,
+    pub last: Vec<Frame>,
 }
 
 impl Model for BriefReport {

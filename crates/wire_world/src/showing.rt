@@ -5,6 +5,7 @@ ghost use Rattle.wire_world.specs.Replies.{last_moment, last_slots};
 ghost use Rattle.wire_world.specs.Stands.{AllBy, AllHear};
 
 use sacn_receiver::Receiver;
+use show_core::Frame;
 use std::alloc::{AllocError, Global};
 
 // The slots of all receivers at a moment.
@@ -12,7 +13,7 @@ pub(crate) fn show_all(
     alloc: Global,
     receivers: &[Receiver],
     moment: u64,
-) -> Result<Vec<[u8; 512]>, AllocError>
+) -> Result<Vec<Frame>, AllocError>
     requires { AllBy receivers.now moment }
     ensures { IfOk result (λ shown. (w : World) (past : List EventData)
         → AllHear receivers.now w past → moment ≡ last_moment past

@@ -1,4 +1,5 @@
 ghost use Rattle.std.specs.Prelude.{◌≡◌, ◌≤◌, false, length, map, take};
+ghost use Rattle.devices.specs.Failing.{AreFirst};
 
 use crate::memory::Faults;
 use crate::{Datagrams, LinkFault};
@@ -23,9 +24,7 @@ impl<'a> MemoryDatagrams<'a> {
         ensures given { result.datagrams.now ≡ datagrams.now }
         ensures unread { result.next ≡ 0 }
         ensures tells { result.exhausted ≡ false }
-        ensures passing { result.faults.passing ≡ passing }
-        ensures failing { result.faults.failing ≡ failing }
-        ensures unfailed { result.faults.failed ≡ 0 }
+        ensures faults { AreFirst passing failing result.faults }
     {
         MemoryDatagrams {
             datagrams,

@@ -14,11 +14,11 @@ pub struct Faults {
 }
 
 impl Faults {
+    ghost use Rattle.devices.specs.Failing.{AreFirst};
+
     /// Before the first call.
     pub fn new(passing: u64, failing: u64) -> Faults
-        ensures passing { result.passing ≡ passing }
-        ensures failing { result.failing ≡ failing }
-        ensures failed { result.failed ≡ 0 }
+        ensures { AreFirst passing failing result }
     {
         Faults {
             passing,

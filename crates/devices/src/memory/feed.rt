@@ -1,4 +1,5 @@
 ghost use Rattle.std.specs.Prelude.{◌≡◌, ◌≤◌, length, take, ⊤};
+ghost use Rattle.devices.specs.Failing.{AreFirst};
 
 use crate::memory::Faults;
 use crate::{Feed, LinkFault};
@@ -25,9 +26,7 @@ impl<'a> MemoryFeed<'a> {
         ensures given { result.bytes.now ≡ bytes.now }
         ensures unread { result.next ≡ 0 }
         ensures step { result.step ≡ step }
-        ensures passing { result.faults.passing ≡ passing }
-        ensures failing { result.faults.failing ≡ failing }
-        ensures unfailed { result.faults.failed ≡ 0 }
+        ensures faults { AreFirst passing failing result.faults }
     {
         MemoryFeed {
             bytes,

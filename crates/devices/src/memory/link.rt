@@ -1,5 +1,6 @@
 ghost use Rattle.std.specs.Prelude.{◌≡◌, [], ◌∷◌, ◌++◌, false, map, OnOk};
 ghost use Rattle.devices.specs.Sends.{send_of};
+ghost use Rattle.devices.specs.Failing.{AreFirst};
 
 use crate::memory::Faults;
 use crate::{Link, LinkFault};
@@ -29,9 +30,7 @@ impl MemoryLink {
     pub fn new(alloc: Global, passing: u64, failing: u64) -> Self
         ensures empty { result.sends.items ≡ [] }
         ensures tells { result.full ≡ false }
-        ensures passing { result.faults.passing ≡ passing }
-        ensures failing { result.faults.failing ≡ failing }
-        ensures unfailed { result.faults.failed ≡ 0 }
+        ensures faults { AreFirst passing failing result.faults }
     {
         MemoryLink {
             alloc,

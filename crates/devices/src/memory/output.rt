@@ -1,5 +1,6 @@
 ghost use Rattle.std.specs.Prelude.{◌≡◌, [], false};
 ghost use Rattle.devices.specs.Tape.{Tape};
+ghost use Rattle.devices.specs.Failing.{AreFirst};
 
 use crate::memory::Faults;
 use crate::{LinkFault, Output};
@@ -20,9 +21,7 @@ impl MemoryOutput {
     pub fn new(alloc: Global, passing: u64, failing: u64) -> Self
         ensures empty { result.bytes.items ≡ [] }
         ensures tells { result.full ≡ false }
-        ensures passing { result.faults.passing ≡ passing }
-        ensures failing { result.faults.failing ≡ failing }
-        ensures unfailed { result.faults.failed ≡ 0 }
+        ensures faults { AreFirst passing failing result.faults }
     {
         MemoryOutput {
             bytes: Vec::new(alloc),

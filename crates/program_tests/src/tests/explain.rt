@@ -44,12 +44,14 @@ fn notes(rt: HostRuntime) {
         (
             b"\xef\xbb\xbfPATCH 1 1<1@FL\nPATCH 1 1<1@FL".as_slice(),
             b"line 1: unknown keyword: ???PATCH 1 1<1@FL\n\
-                note: the file begins with a byte order mark, read as part of its first word: save it as ASCII\n"
+                note: the file begins with a byte order mark, read as part of its first word: \
+                save it as ASCII\n"
                 .as_slice(),
         ),
         (
             b"PATCH 1 1<1@FL\r".as_slice(),
-            b"note: the file's lines end in CR alone, so that it is one line: save it with LF or CR LF\n",
+            b"note: the file's lines end in CR alone, so that it is one line: \
+                save it with LF or CR LF\n",
         ),
         (
             b"\xff\xfeC\x00\n\x00".as_slice(),

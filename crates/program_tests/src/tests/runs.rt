@@ -84,8 +84,8 @@ fn check_rows(rt: HostRuntime) {
 
 // The digits of a packet before its source name's zero bytes, those from the priority to the
 // options, and those from the universe to the START code.
-const UP_TO_NAME: &[u8] =
-    b"001000004153432d45312e3137000000726e00000004c0ffee0000004000800000000000e131725800000002637565706c61796572";
+const UP_TO_NAME: &[u8] = b"001000004153432d45312e3137000000726e00000004\
+    c0ffee0000004000800000000000e131725800000002637565706c61796572";
 
 const UP_TO_OPTIONS: &[u8] = b"6400000000";
 

@@ -100,12 +100,14 @@ fn pairs_and_triples(rt: HostRuntime) -> Result<(), Fail> {
     Ok(())
 }
 
-// A line longer than what is kept of it.
+// Longer than what is kept of a line: each channel at the byte of its own number.
+const LONG_LINE: &[u8] = b"CHAN 1@H1 2@H2 3@H3 4@H4 5@H5 6@H6 7@H7 8@H8 9@H9 10@HA 11@HB 12@HC \
+    13@HD 14@HE 15@HF 16@H10 17@H11 18@H12";
+
 #[test]
 fn pairs_of_a_long_line(rt: HostRuntime) -> Result<(), Fail> {
-    let line = b"CHAN 1@H1 2@H2 3@H3 4@H4 5@H5 6@H6 7@H7 8@H8 9@H9 10@HA 11@HB 12@HC 13@HD 14@HE \
-        15@HF 16@H10 17@H11 18@H12";
-    let Statement::Levels(_, mut pairs) = read_line(CUE, line).ok_or("words")?.statement else {
+    let reading = read_line(CUE, LONG_LINE).ok_or("words")?;
+    let Statement::Levels(_, mut pairs) = reading.statement else {
         return Err(Fail::from("levels"));
     };
     for number in 1..=18u8 {
@@ -123,6 +125,24 @@ fn pairs_of_a_long_line(rt: HostRuntime) -> Result<(), Fail> {
         ),
     ] {
         assert_eq!(rt; fault_of(line), Some(fault), "{line:?}");
+    }
+    Ok(())
+}
+
+// The pairs that are left stand behind those of a list; or the list's growth is refused.
+#[test]
+fn pairs_appended(rt: HostRuntime) -> Result<(), Fail> {
+    let reading = read_line(CUE, LONG_LINE).ok_or("words")?;
+    let Statement::Levels(_, mut pairs) = reading.statement else {
+        return Err(Fail::from("levels"));
+    };
+    assert_eq!(rt; pairs.next(), Some((1, 1)));
+    let mut list = Vec::new(rt.alloc());
+    if pairs.append_to(&mut list).is_ok() {
+        assert_eq!(rt; list.len(), 17);
+        for (pair, number) in list.iter().zip(2..=18u8) {
+            assert_eq!(rt; *pair, (u16::from(number), number));
+        }
     }
     Ok(())
 }

@@ -10,5 +10,5 @@ returns-clause-ok c =
     let r = c.args.which in
     let patched = record d.show { patch = all_patched d.show.patch d.patches.items } in
     let is = c.in_ok-turn_to.ensures.listing in
-    rw (is, c.in_ok-keep_pairs.ensures.ok) (pairs_more patched r d.levels.items c.args.pairs
+    rw (is, c.in_ok-append_to.ensures.ok) (pairs_more patched r d.levels.items c.args.pairs
     ∙ ap (λ show. with_pairs show r c.args.pairs) (rw is at c.in_ok-turn_to.ensures.ok))
