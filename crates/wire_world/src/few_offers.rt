@@ -1,4 +1,4 @@
-ghost use Rattle.std.specs.Prelude.{◌≡◌, ◌≤◌, IfSome};
+ghost use Rattle.std.specs.Prelude.{◌≡◌, ◌≤◌, ◌↔◌, IfSome, IsSome, length};
 
 use crate::Offers;
 use sacn_source::Offered;
@@ -26,7 +26,8 @@ impl Model for FewOffers {
 impl FewOffers {
     // These offers, where they are few.
     pub(crate) fn new(offers: &Offers) -> Option<FewOffers>
-        ensures { IfSome result (λ few. few ≡ offers.now) }
+        ensures offers { IfSome result (λ few. few ≡ offers.now) }
+        ensures few { IsSome result ↔ length offers.now ≤ 4 }
     {
         let offers = offers.pairs();
         let count = offers.len();
