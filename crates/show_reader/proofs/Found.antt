@@ -149,22 +149,18 @@ pair_found : (show : Tables) (r : Record) (p : ℕ × ℕ) → IsTrue (has_recor
 pair_found show (Cue n) p there (There (Cue m)) = keeps show.cues n _ m there_at (λ cue. refl)
 pair_found show (Cue n) p there (Level (Cue m) c) =
     changed_at show.cues n _ m (level_at c) (cond (c == p.0) (Some p.1)) there
-    (λ cue. get-insert cue.levels p.0 p.1 c)
-    ∙ level_news p c (m == n) _
+    (λ cue. get-insert cue.levels p.0 p.1 c) ∙ level_news p c (m == n) _
 pair_found show (Cue n) p there (Up m) = keeps show.cues n _ m up_at (λ cue. refl)
 pair_found show (Cue n) p there (Down m) = keeps show.cues n _ m down_at (λ cue. refl)
 pair_found show (Cue n) p there (Follow m) = keeps show.cues n _ m follow_at (λ cue. refl)
-pair_found show (Group n) p there (There (Group m)) =
-    keeps show.groups n _ m there_at (λ levels. refl)
+pair_found show (Group n) p there (There (Group m)) = keeps show.groups n _ m there_at (λ v. refl)
 pair_found show (Group n) p there (Level (Group m) c) =
     changed_at show.groups n _ m (listed_at c) (cond (c == p.0) (Some p.1)) there
-    (λ levels. get-insert levels p.0 p.1 c)
-    ∙ level_news p c (m == n) _
+    (λ levels. get-insert levels p.0 p.1 c) ∙ level_news p c (m == n) _
 pair_found show (Sub n) p there (There (Sub m)) = keeps show.subs n _ m there_at (λ levels. refl)
 pair_found show (Sub n) p there (Level (Sub m) c) =
     changed_at show.subs n _ m (listed_at c) (cond (c == p.0) (Some p.1)) there
-    (λ levels. get-insert levels p.0 p.1 c)
-    ∙ level_news p c (m == n) _
+    (λ levels. get-insert levels p.0 p.1 c) ∙ level_news p c (m == n) _
 pair_found show r p there k = refl
 
 -- a show has the records that it answers to
@@ -268,29 +264,24 @@ pub applied_found : (s : Statement) (show : Tables) → HasOwner show s → (k :
     → found (applied s show) k ≡ after (says s k) (found show k)
 applied_found (Opens r) show owned k = opens_found show r k
 applied_found (Levels r ps) show owned k = pairs_found show r ps owned k
-applied_found (Rises n rate) show h (There (Cue m)) = keeps show.cues n _ m there_at (λ v. refl)
-applied_found (Rises n rate) show h (Level (Cue m) c) =
-    keeps show.cues n _ m (level_at c) (λ v. refl)
-applied_found (Rises n rate) show h (Up m) =
-    changed_at show.cues n _ m up_at (λ o. Some rate) h (λ v. refl) ∙ after_if (m == n) (Is rate) _
-applied_found (Rises n rate) show h (Down m) = keeps show.cues n _ m down_at (λ v. refl)
-applied_found (Rises n rate) show h (Follow m) = keeps show.cues n _ m follow_at (λ v. refl)
-applied_found (Falls n rate) show h (There (Cue m)) = keeps show.cues n _ m there_at (λ v. refl)
-applied_found (Falls n rate) show h (Level (Cue m) c) =
-    keeps show.cues n _ m (level_at c) (λ v. refl)
-applied_found (Falls n rate) show h (Up m) = keeps show.cues n _ m up_at (λ v. refl)
-applied_found (Falls n rate) show h (Down m) =
-    changed_at show.cues n _ m down_at (λ o. Some rate) h (λ v. refl)
-    ∙ after_if (m == n) (Is rate) _
-applied_found (Falls n rate) show h (Follow m) = keeps show.cues n _ m follow_at (λ v. refl)
-applied_found (Follows n time) show h (There (Cue m)) = keeps show.cues n _ m there_at (λ v. refl)
-applied_found (Follows n time) show h (Level (Cue m) c) =
-    keeps show.cues n _ m (level_at c) (λ v. refl)
-applied_found (Follows n time) show h (Up m) = keeps show.cues n _ m up_at (λ v. refl)
-applied_found (Follows n time) show h (Down m) = keeps show.cues n _ m down_at (λ v. refl)
-applied_found (Follows n time) show h (Follow m) =
-    changed_at show.cues n _ m follow_at (λ o. Some time) h (λ v. refl)
-    ∙ after_if (m == n) (Is time) _
+applied_found (Rises n rate) t h (There (Cue m)) = keeps t.cues n _ m there_at (λ v. refl)
+applied_found (Rises n rate) t h (Level (Cue m) c) = keeps t.cues n _ m (level_at c) (λ v. refl)
+applied_found (Rises n rate) t h (Up m) =
+    changed_at t.cues n _ m up_at (λ o. Some rate) h (λ v. refl) ∙ after_if (m == n) (Is rate) _
+applied_found (Rises n rate) t h (Down m) = keeps t.cues n _ m down_at (λ v. refl)
+applied_found (Rises n rate) t h (Follow m) = keeps t.cues n _ m follow_at (λ v. refl)
+applied_found (Falls n rate) t h (There (Cue m)) = keeps t.cues n _ m there_at (λ v. refl)
+applied_found (Falls n rate) t h (Level (Cue m) c) = keeps t.cues n _ m (level_at c) (λ v. refl)
+applied_found (Falls n rate) t h (Up m) = keeps t.cues n _ m up_at (λ v. refl)
+applied_found (Falls n rate) t h (Down m) =
+    changed_at t.cues n _ m down_at (λ o. Some rate) h (λ v. refl) ∙ after_if (m == n) (Is rate) _
+applied_found (Falls n rate) t h (Follow m) = keeps t.cues n _ m follow_at (λ v. refl)
+applied_found (Follows n at) t h (There (Cue m)) = keeps t.cues n _ m there_at (λ v. refl)
+applied_found (Follows n at) t h (Level (Cue m) c) = keeps t.cues n _ m (level_at c) (λ v. refl)
+applied_found (Follows n at) t h (Up m) = keeps t.cues n _ m up_at (λ v. refl)
+applied_found (Follows n at) t h (Down m) = keeps t.cues n _ m down_at (λ v. refl)
+applied_found (Follows n at) t h (Follow m) =
+    changed_at t.cues n _ m follow_at (λ o. Some at) h (λ v. refl) ∙ after_if (m == n) (Is at) _
 applied_found (Patches ts) show owned k = triples_found show ts k
 applied_found (Clears what) show owned k = clears_found what show k
 applied_found s show owned k = refl

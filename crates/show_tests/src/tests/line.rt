@@ -1,5 +1,6 @@
 use show_core::Rate;
 use show_line::{Keyword, LineFault, Reading, Record, Statement, Triple, read_line};
+use std::alloc::AllocError;
 use std::test::Fail;
 
 const CUE: Option<Record> = Some(Record::Cue(1000));
@@ -129,22 +130,27 @@ fn pairs_of_a_long_line(rt: HostRuntime) -> Result<(), Fail> {
     Ok(())
 }
 
-// The pairs that are left stand behind those of a list; or the list's growth is refused.
-#[test]
-fn pairs_appended(rt: HostRuntime) -> Result<(), Fail> {
-    let reading = read_line(CUE, LONG_LINE).ok_or("words")?;
-    let Statement::Levels(_, mut pairs) = reading.statement else {
-        return Err(Fail::from("levels"));
+// Puts the pairs of the long line behind its first into a list.
+fn append_rest(list: &mut Vec<(u16, u8)>) -> Option<Result<(), AllocError>> {
+    let Statement::Levels(_, mut pairs) = read_line(CUE, LONG_LINE)?.statement else {
+        return None;
     };
-    assert_eq!(rt; pairs.next(), Some((1, 1)));
+    pairs.next()?;
+    Some(pairs.append_to(list))
+}
+
+// Where a growth is refused the list is as it was, and the next call appends all of them.
+#[test]
+fn pairs_appended(rt: HostRuntime) {
     let mut list = Vec::new(rt.alloc());
-    if pairs.append_to(&mut list).is_ok() {
-        assert_eq!(rt; list.len(), 17);
-        for (pair, number) in list.iter().zip(2..=18u8) {
-            assert_eq!(rt; *pair, (u16::from(number), number));
-        }
+    if append_rest(&mut list).expect(&rt, "levels").is_err() {
+        assert!(rt; list.is_empty());
+        assert!(rt; append_rest(&mut list).expect(&rt, "levels").is_ok());
     }
-    Ok(())
+    assert_eq!(rt; list.len(), 17);
+    for (pair, number) in list.iter().zip(2..=18u8) {
+        assert_eq!(rt; *pair, (u16::from(number), number));
+    }
 }
 
 #[test]
