@@ -117,7 +117,7 @@ fn keep_pairs(words: &mut Words<'_>, kept: &mut ArrayVec<(u16, u8), KEPT>) -> Op
         → pairs_in (words_left words.old) ≡ kept.new.items ++ pairs_in (words_left words.new) }
 {
     while !kept.is_full() {
-        // Read before the next word is looked for: how long this one is, is then still foreseen.
+        // Read before the next word is looked for: the processor then still foresees its length.
         let channel = number_in(words.next()?, 1, CHANNELS);
         let Some(byte) = words.next() else {
             return lower(channel.err(), Some(LineFault::HalfPair));
