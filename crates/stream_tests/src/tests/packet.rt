@@ -57,58 +57,82 @@ fn look_one(rt: HostRuntime) {
     slots[0] = 64;
     let mut packet = [0xff; 638];
     encode(&header, &slots, &mut packet);
-    assert_eq!(rt; packet, look_one_packet());
+    assert!(rt; packet == look_one_packet());
 }
 
 #[test]
 fn source_name_limits(rt: HostRuntime) {
-    let longest = "012345678901234567890123456789012345678901234567890123456789012";
-    let rows = [
+    for (text, accepted) in [
         ("", true),
         ("cueplayer", true),
         ("Bühne", true),
-        (longest, true),
+        (
+            "012345678901234567890123456789012345678901234567890123456789012",
+            true,
+        ),
         (
             "0123456789012345678901234567890123456789012345678901234567890123",
             false,
         ),
         ("cue\0player", false),
         ("cueplayer\0", false),
-    ];
-    for (text, accepted) in rows {
-        assert_eq!(rt; SourceName::new(text).is_some(), accepted, "{text:?}");
+    ] {
+        assert!(rt; SourceName::new(text).is_some() == accepted, "{text}");
     }
+}
+
+// Whether a datagram is a packet of the source with these slots, or has this fault.
+fn reads_as(datagram: &[u8], wanted: Result<&[u8], Unreadable>) -> bool {
+    match parse(datagram) {
+        Ok(packet) => {
+            packet.cid() == CID
+                && packet.name() == b"cueplayer".as_slice()
+                && wanted == Ok(packet.slots())
+        }
+        Err(fault) => wanted == Err(fault),
+    }
+}
+
+// A packet without slots, and bytes behind it.
+fn shortest_packet() -> [u8; 638] {
+    let mut packet = look_one_packet();
+    overwrite(&mut packet, 16, &[0x70, 0x6e]);
+    overwrite(&mut packet, 38, &[0x70, 0x58]);
+    overwrite(&mut packet, 115, &[0x70, 0x0b]);
+    overwrite(&mut packet, 123, &[0x00, 0x01]);
+    packet
+}
+
+// A packet with two bytes behind it.
+fn trailed_packet() -> [u8; 640] {
+    let mut datagram = [0x55; 640];
+    datagram[..638].copy_from_slice(&look_one_packet());
+    datagram
 }
 
 #[test]
 fn parse_lengths(rt: HostRuntime) {
     let whole = look_one_packet();
-    let mut shortest = whole;
-    overwrite(&mut shortest, 16, &[0x70, 0x6e]);
-    overwrite(&mut shortest, 38, &[0x70, 0x58]);
-    overwrite(&mut shortest, 115, &[0x70, 0x0b]);
-    overwrite(&mut shortest, 123, &[0x00, 0x01]);
-    let mut trailed = [0x55; 640];
-    trailed[..638].copy_from_slice(&whole);
-    let slots = Some(&whole[126..]);
-    let rows: [(&[u8], Option<&[u8]>, Option<Unreadable>); 6] = [
-        (&[], None, Some(Unreadable::Short)),
-        (&shortest[..125], None, Some(Unreadable::Short)),
-        (&shortest[..126], Some(&[]), None),
-        (&whole, slots, None),
-        (&trailed, slots, None),
-        (&whole[..637], None, Some(Unreadable::Length)),
-    ];
-    for (datagram, slots, fault) in rows {
-        let length = datagram.len();
-        match parse(datagram) {
-            Ok(packet) => {
-                assert_eq!(rt; Some(packet.slots()), slots, "{length} bytes");
-                assert_eq!(rt; packet.cid(), CID, "{length} bytes");
-                assert_eq!(rt; packet.name(), b"cueplayer".as_slice(), "{length} bytes");
-            }
-            Err(found) => assert_eq!(rt; Some(found), fault, "{length} bytes"),
-        }
+    let shortest = shortest_packet();
+    let trailed = trailed_packet();
+    for (datagram, wanted) in [
+        ([].as_slice(), Err(Unreadable::Short)),
+        (&shortest[..125], Err(Unreadable::Short)),
+        (&shortest[..126], Ok([].as_slice())),
+        (&whole, Ok(&whole[126..])),
+        (&trailed, Ok(&whole[126..])),
+        (&whole[..637], Err(Unreadable::Length)),
+    ] {
+        assert!(rt; reads_as(datagram, wanted), "{} bytes", datagram.len());
+    }
+}
+
+// What is wrong with so many of the first bytes of a packet.
+fn fault_of_cut(length: usize) -> Option<Unreadable> {
+    match length {
+        0..=125 => Some(Unreadable::Short),
+        126..=637 => Some(Unreadable::Length),
+        _ => None,
     }
 }
 
@@ -116,12 +140,36 @@ fn parse_lengths(rt: HostRuntime) {
 fn cut_packet(rt: HostRuntime) {
     let whole = look_one_packet();
     for length in 0..=638 {
-        let fault = match length {
-            0..=125 => Some(Unreadable::Short),
-            126..=637 => Some(Unreadable::Length),
-            _ => None,
-        };
-        assert_eq!(rt; parse(&whole[..length]).err(), fault, "{length} bytes");
+        let fault = parse(&whole[..length]).err();
+        assert!(rt; fault == fault_of_cut(length), "{length} bytes");
+    }
+}
+
+// What is wrong with a packet in which the byte at this place is turned.
+fn fault_of_turned(offset: usize) -> Option<Unreadable> {
+    match offset {
+        0..=3 => Some(Unreadable::Preamble),
+        4..=15 => Some(Unreadable::Identifier),
+        16 | 17 | 38 | 39 | 115 | 116 => Some(Unreadable::Length),
+        18..=21 => Some(Unreadable::RootVector),
+        40..=43 => Some(Unreadable::FramingVector),
+        113 => Some(Unreadable::Universe),
+        117..=122 => Some(Unreadable::Dmp),
+        123 | 124 => Some(Unreadable::Count),
+        _ => None,
+    }
+}
+
+// Whether a packet in which the byte at this place is turned has its fault, or the priority and
+// the universe of its bytes.
+fn is_turned(packet: &[u8], offset: usize) -> bool {
+    match parse(packet) {
+        Ok(packet) => {
+            fault_of_turned(offset).is_none()
+                && packet.priority() == if offset == 108 { 155 } else { 100 }
+                && packet.universe() == if offset == 114 { 254 } else { 1 }
+        }
+        Err(fault) => fault_of_turned(offset) == Some(fault),
     }
 }
 
@@ -130,22 +178,7 @@ fn turned_bytes(rt: HostRuntime) {
     for offset in 0..638 {
         let mut packet = look_one_packet();
         packet[offset] ^= 0xff;
-        let fault = match offset {
-            0..=3 => Some(Unreadable::Preamble),
-            4..=15 => Some(Unreadable::Identifier),
-            16 | 17 | 38 | 39 | 115 | 116 => Some(Unreadable::Length),
-            18..=21 => Some(Unreadable::RootVector),
-            40..=43 => Some(Unreadable::FramingVector),
-            113 => Some(Unreadable::Universe),
-            117..=122 => Some(Unreadable::Dmp),
-            123 | 124 => Some(Unreadable::Count),
-            _ => None,
-        };
-        assert_eq!(rt; parse(&packet).err(), fault, "offset {offset}");
-        if let Ok(packet) = parse(&packet) {
-            assert_eq!(rt; packet.priority(), if offset == 108 { 155 } else { 100 });
-            assert_eq!(rt; packet.universe(), if offset == 114 { 254 } else { 1 });
-        }
+        assert!(rt; is_turned(&packet, offset), "offset {offset}");
     }
 }
 
@@ -160,7 +193,7 @@ fn renumber(rt: HostRuntime) {
             112 => 0x40,
             _ => before[offset],
         };
-        assert_eq!(rt; packet[offset], wanted, "offset {offset}");
+        assert!(rt; packet[offset] == wanted, "offset {offset}");
     }
 }
 

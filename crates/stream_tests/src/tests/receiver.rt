@@ -1,5 +1,3 @@
-ghost use Rattle.std.specs.Prelude.{◌+◌, ◌≤◌, length};
-
 use sacn_packet::{Header, SourceName, Unreadable, encode};
 use sacn_receiver::{Ignored, Receiver, Taken, laws};
 use std::process::Abort;
@@ -11,24 +9,6 @@ struct Sent {
     sequence: u8,
     options: u8,
     level: u8,
-}
-
-fn live(source: u8, sequence: u8, level: u8) -> Sent {
-    Sent {
-        source,
-        sequence,
-        options: 0,
-        level,
-    }
-}
-
-fn termination(source: u8, sequence: u8) -> Sent {
-    Sent {
-        source,
-        sequence,
-        options: 0x40,
-        level: 99,
-    }
 }
 
 fn bytes_of(sent: Sent) -> [u8; 638] {
@@ -49,165 +29,213 @@ fn bytes_of(sent: Sent) -> [u8; 638] {
     packet
 }
 
-fn overwrite(packet: &mut [u8], offset: usize, bytes: &[u8])
-    requires { offset + length bytes.now ≤ length packet.old }
-{
-    packet[offset..offset + bytes.len()].copy_from_slice(bytes);
-}
-
-// As many bytes as a packet without slots has.
-fn front(packet: &[u8; 638]) -> &[u8] {
-    &packet[..126]
-}
-
-// The answer to a packet: its number where it is taken.
-fn take(receiver: &mut Receiver, moment: u64, sent: Sent) -> Result<u8, Ignored> {
-    let taken = receiver.take(moment, &bytes_of(sent))?;
-    Ok(taken.sequence)
-}
-
-// The first slot and the number of live sources; all other slots are 0.
-fn shown(rt: &impl Abort, receiver: &Receiver, moment: u64) -> (u8, usize) {
-    assert!(rt; receiver.now() <= moment);
+// The first slot and the number of live sources, where all other slots are 0.
+fn shown(receiver: &Receiver, moment: u64) -> Option<(u8, usize)> {
+    if receiver.now() > moment {
+        return None;
+    }
     let mut slots = [0xff; 512];
     receiver.slots(moment, &mut slots);
-    assert!(rt; slots[1..].iter().all(|level| *level == 0));
-    (slots[0], receiver.live(moment))
+    let (first, others) = slots.split_first()?;
+    let are_dark = others.iter().all(|level| *level == 0);
+    are_dark.then_some((*first, receiver.live(moment)))
+}
+
+// A packet of a source with its answer, the number where it is taken, or what is seen after those
+// so far.
+enum Step {
+    // Moment, source, sequence number and level.
+    Live(u64, u8, u8, u8, Result<u8, Ignored>),
+    // The same with the termination bit.
+    Ended(u64, u8, u8, u8, Result<u8, Ignored>),
+    // Moment, first slot and live sources; all other slots are 0.
+    Shown(u64, u8, usize),
+    Now(u64),
+}
+
+fn take(receiver: &mut Receiver, moment: u64, sent: Sent) -> Result<Taken, Ignored> {
+    receiver.take(moment, &bytes_of(sent))
+}
+
+fn holds(receiver: &mut Receiver, step: &Step) -> bool {
+    match step {
+        Step::Live(moment, source, sequence, level, answer) => {
+            let sent = Sent {
+                source: *source,
+                sequence: *sequence,
+                options: 0,
+                level: *level,
+            };
+            let wanted = answer.map(|sequence| Taken {
+                sequence,
+                terminated: false,
+            });
+            take(receiver, *moment, sent) == wanted
+        }
+        Step::Ended(moment, source, sequence, level, answer) => {
+            let sent = Sent {
+                source: *source,
+                sequence: *sequence,
+                options: 0x40,
+                level: *level,
+            };
+            let wanted = answer.map(|sequence| Taken {
+                sequence,
+                terminated: true,
+            });
+            take(receiver, *moment, sent) == wanted
+        }
+        Step::Shown(moment, level, live) => shown(receiver, *moment) == Some((*level, *live)),
+        Step::Now(moment) => receiver.now() == *moment,
+    }
+}
+
+// A new receiver of universe 1 takes the steps.
+fn take_steps(rt: &impl Abort, steps: &[Step]) {
+    let mut receiver = Receiver::new(1);
+    for (place, step) in steps.iter().enumerate() {
+        assert!(rt; holds(&mut receiver, step), "step {place}");
+    }
 }
 
 #[test]
 fn wrap_order(rt: HostRuntime) {
-    let mut receiver = Receiver::new(1);
-    for (moment, sequence, answer) in [
-        (0, 255, Ok(255)),
-        (10, 254, Err(Ignored::OutOfSequence)),
-        (20, 1, Ok(1)),
-        (30, 0, Err(Ignored::OutOfSequence)),
-    ] {
-        assert_eq!(rt;
-            take(&mut receiver, moment, live(1, sequence, 0)),
-            answer,
-            "{sequence}"
-        );
-    }
+    take_steps(
+        &rt,
+        &[
+            Step::Live(0, 1, 255, 0, Ok(255)),
+            Step::Live(10, 1, 254, 0, Err(Ignored::OutOfSequence)),
+            Step::Live(20, 1, 1, 0, Ok(1)),
+            Step::Live(30, 1, 0, 0, Err(Ignored::OutOfSequence)),
+        ],
+    );
 }
 
+// Each source is heard for itself.
 #[test]
 fn sequence_edges(rt: HostRuntime) {
-    for (last, next, answer) in [
-        (100, 81, Err(Ignored::OutOfSequence)),
-        (100, 80, Ok(80)),
-        (0, 236, Ok(236)),
-        (0, 237, Err(Ignored::OutOfSequence)),
-    ] {
-        let mut receiver = Receiver::new(1);
-        assert_eq!(rt; take(&mut receiver, 0, live(1, last, 0)), Ok(last));
-        assert_eq!(rt;
-            take(&mut receiver, 0, live(1, next, 0)),
-            answer,
-            "{next} after {last}"
-        );
-    }
+    take_steps(
+        &rt,
+        &[
+            Step::Live(0, 1, 100, 0, Ok(100)),
+            Step::Live(0, 1, 81, 0, Err(Ignored::OutOfSequence)),
+            Step::Live(0, 1, 80, 0, Ok(80)),
+            Step::Live(0, 2, 0, 0, Ok(0)),
+            Step::Live(0, 2, 237, 0, Err(Ignored::OutOfSequence)),
+            Step::Live(0, 2, 236, 0, Ok(236)),
+        ],
+    );
 }
 
 #[test]
 fn source_loss(rt: HostRuntime) {
-    let mut receiver = Receiver::new(1);
-    assert_eq!(rt; shown(&rt, &receiver, 0), (0, 0));
-    assert_eq!(rt; take(&mut receiver, 1000, live(1, 10, 7)), Ok(10));
-    assert_eq!(rt; shown(&rt, &receiver, 3499), (7, 1));
-    assert_eq!(rt; shown(&rt, &receiver, 3500), (0, 0));
-    assert_eq!(rt; take(&mut receiver, 3500, live(1, 9, 7)), Ok(9));
+    take_steps(
+        &rt,
+        &[
+            Step::Shown(0, 0, 0),
+            Step::Live(1000, 1, 10, 7, Ok(10)),
+            Step::Shown(3499, 7, 1),
+            Step::Shown(3500, 0, 0),
+            Step::Live(3500, 1, 9, 7, Ok(9)),
+        ],
+    );
 }
 
 #[test]
 fn four_sources(rt: HostRuntime) {
-    let mut receiver = Receiver::new(1);
-    assert_eq!(rt; take(&mut receiver, 0, termination(1, 0)), Ok(0));
-    for (moment, source) in [(1, 2), (2, 3), (3, 4)] {
-        assert_eq!(rt; take(&mut receiver, moment, live(source, 0, 1)), Ok(0));
-    }
-    assert_eq!(rt;
-        take(&mut receiver, 2499, live(5, 0, 1)),
-        Err(Ignored::SourcesFull)
+    take_steps(
+        &rt,
+        &[
+            Step::Ended(0, 1, 0, 99, Ok(0)),
+            Step::Live(1, 2, 0, 1, Ok(0)),
+            Step::Live(2, 3, 0, 1, Ok(0)),
+            Step::Live(3, 4, 0, 1, Ok(0)),
+            Step::Live(2499, 5, 0, 1, Err(Ignored::SourcesFull)),
+            Step::Live(2500, 5, 0, 1, Ok(0)),
+        ],
     );
-    assert_eq!(rt; take(&mut receiver, 2500, live(5, 0, 1)), Ok(0));
 }
 
 #[test]
 fn stranger_termination(rt: HostRuntime) {
-    let mut receiver = Receiver::new(1);
-    let ended = Ok(Taken {
-        sequence: 1,
-        terminated: true,
-    });
-    assert_eq!(rt; receiver.take(5025, &bytes_of(termination(1, 1))), ended);
-    assert_eq!(rt;
-        take(&mut receiver, 5030, live(1, 0, 9)),
-        Err(Ignored::OutOfSequence)
+    take_steps(
+        &rt,
+        &[
+            Step::Ended(5025, 1, 1, 99, Ok(1)),
+            Step::Live(5030, 1, 0, 9, Err(Ignored::OutOfSequence)),
+            Step::Shown(5030, 0, 0),
+            Step::Live(5040, 1, 2, 9, Ok(2)),
+            Step::Shown(5040, 9, 1),
+        ],
     );
-    assert_eq!(rt; shown(&rt, &receiver, 5030), (0, 0));
-    assert_eq!(rt; take(&mut receiver, 5040, live(1, 2, 9)), Ok(2));
-    assert_eq!(rt; shown(&rt, &receiver, 5040), (9, 1));
-}
-
-// Options, universe, START code and priority of a packet, and its answer to a receiver of universe
-// 1.
-#[test]
-fn ignored_kinds(rt: HostRuntime) {
-    let taken = |terminated| {
-        Ok(Taken {
-            sequence: 3,
-            terminated,
-        })
-    };
-    for (options, universe, start, priority, answer) in [
-        (0, 1, 0, 100, taken(false)),
-        (0x80, 1, 0, 100, Err(Ignored::Preview)),
-        (0, 1, 0xdd, 100, Err(Ignored::AltStart)),
-        (0x40, 1, 0xdd, 100, taken(true)),
-        (0, 2, 0, 100, Err(Ignored::OtherUniverse)),
-        (0, 1, 0, 201, Err(Ignored::Unreadable(Unreadable::Priority))),
-        (0xc0, 1, 0, 100, Err(Ignored::Preview)),
-        (0xc0, 2, 0, 100, Err(Ignored::OtherUniverse)),
-    ] {
-        let mut packet = bytes_of(live(1, 3, 9));
-        packet[108] = priority;
-        packet[112] = options;
-        packet[114] = universe;
-        packet[125] = start;
-        let mut receiver = Receiver::new(1);
-        assert_eq!(rt;
-            receiver.take(0, &packet),
-            answer,
-            "{options} {universe} {start} {priority}"
-        );
-    }
 }
 
 #[test]
 fn receiver_backwards(rt: HostRuntime) {
-    let mut receiver = Receiver::new(1);
-    assert_eq!(rt; receiver.now(), 0);
-    assert_eq!(rt; take(&mut receiver, 1000, live(1, 0, 9)), Ok(0));
-    assert_eq!(rt;
-        take(&mut receiver, 999, live(1, 1, 9)),
-        Err(Ignored::Backwards)
+    take_steps(
+        &rt,
+        &[
+            Step::Now(0),
+            Step::Live(1000, 1, 0, 9, Ok(0)),
+            Step::Live(999, 1, 1, 9, Err(Ignored::Backwards)),
+            Step::Now(1000),
+        ],
     );
-    assert_eq!(rt; receiver.now(), 1000);
 }
 
 // The packet with number 2 was lost on the way.
 #[test]
 fn lost_third_send(rt: HostRuntime) {
-    let mut receiver = Receiver::new(1);
-    for (moment, sequence) in [(0, 0), (25, 1), (75, 3)] {
-        assert_eq!(rt;
-            take(&mut receiver, moment, live(1, sequence, 200)),
-            Ok(sequence)
+    take_steps(
+        &rt,
+        &[
+            Step::Live(0, 1, 0, 200, Ok(0)),
+            Step::Live(25, 1, 1, 200, Ok(1)),
+            Step::Live(75, 1, 3, 200, Ok(3)),
+            Step::Shown(75, 200, 1),
+        ],
+    );
+}
+
+// The answer of a receiver of universe 1 to a packet with these options, universe, START code and
+// priority.
+fn answer_to(options: u8, universe: u8, start: u8, priority: u8) -> Result<Taken, Ignored> {
+    let mut packet = bytes_of(Sent {
+        source: 1,
+        sequence: 3,
+        options,
+        level: 9,
+    });
+    packet[108] = priority;
+    packet[114] = universe;
+    packet[125] = start;
+    Receiver::new(1).take(0, &packet)
+}
+
+#[test]
+fn ignored_kinds(rt: HostRuntime) {
+    for (options, universe, start, priority, reason) in [
+        (0, 1, 0, 100, None),
+        (0x80, 1, 0, 100, Some(Ignored::Preview)),
+        (0, 1, 0xdd, 100, Some(Ignored::AltStart)),
+        (0x40, 1, 0xdd, 100, None),
+        (0, 2, 0, 100, Some(Ignored::OtherUniverse)),
+        (
+            0,
+            1,
+            0,
+            201,
+            Some(Ignored::Unreadable(Unreadable::Priority)),
+        ),
+        (0xc0, 1, 0, 100, Some(Ignored::Preview)),
+        (0xc0, 2, 0, 100, Some(Ignored::OtherUniverse)),
+    ] {
+        let answer = answer_to(options, universe, start, priority);
+        assert!(rt;
+            answer.err() == reason,
+            "{options} {universe} {start} {priority}"
         );
     }
-    assert_eq!(rt; shown(&rt, &receiver, 75), (200, 1));
 }
 
 #[test]

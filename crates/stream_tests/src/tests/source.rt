@@ -24,19 +24,16 @@ fn frame(level: u8) -> [u8; 512] {
 // What a packet of the player to universe 1 says: its number, its options and its first slot.
 fn said(bytes: &[u8]) -> Option<(u8, u8, u8)> {
     let packet = parse(bytes).ok()?;
-    let from_player = packet.cid() == CID
+    let (level, others) = packet.slots().split_first()?;
+    let is_from_player = packet.cid() == CID
         && packet.name() == b"cueplayer".as_slice()
         && packet.priority() == 100
         && packet.sync() == 0
         && packet.universe() == 1
         && packet.start() == 0
-        && packet.slots().len() == 512
-        && packet.slots().iter().skip(1).all(|level| *level == 0);
-    if !from_player {
-        return None;
-    }
-    let level = packet.slots().first()?;
-    Some((packet.sequence(), packet.options(), *level))
+        && others.len() == 511
+        && others.iter().all(|level| *level == 0);
+    is_from_player.then_some((packet.sequence(), packet.options(), *level))
 }
 
 // Whether a link was offered this as its send of this place.
@@ -72,9 +69,23 @@ fn answers(sender: &mut Sender, link: &mut MemoryLink, rows: &[(u8, Offered)]) -
 #[test]
 fn identity_priority(rt: HostRuntime) {
     let name = SourceName::new("cueplayer").unwrap();
-    assert_eq!(rt; Identity::new(CID, name, 201), None);
-    assert!(rt; Identity::new(CID, name, 200).is_some());
-    assert!(rt; Identity::new(CID, name, 0).is_some());
+    for (priority, accepted) in [(201, false), (200, true), (0, true)] {
+        let identity = Identity::new(CID, name, priority);
+        assert!(rt; identity.is_some() == accepted, "{priority}");
+    }
+}
+
+// Whether a link was offered these packets, those whose send failed marked.
+fn has_all(link: &MemoryLink, packets: &[((u8, u8, u8), bool)]) -> bool {
+    if link.sends.len() != packets.len() || link.full {
+        return false;
+    }
+    for (place, (wanted, failed)) in packets.iter().enumerate() {
+        if !has_sent(link, place, *wanted, *failed) {
+            return false;
+        }
+    }
+    true
 }
 
 #[test]
@@ -87,12 +98,14 @@ fn lost_third_send(rt: HostRuntime) {
         (200, Lost(2)),
         (200, Sent(3)),
     ];
-    assert!(rt; answers(&mut sender, &mut link, &rows));
-    assert!(rt; has_sent(&link, 0, (0, 0, 200), false));
-    assert!(rt; has_sent(&link, 1, (1, 0, 200), false));
-    assert!(rt; has_sent(&link, 2, (2, 0, 200), true));
-    assert!(rt; has_sent(&link, 3, (3, 0, 200), false));
-    assert!(rt; link.sends.len() == 4 && !link.full);
+    let are_right = answers(&mut sender, &mut link, &rows);
+    let packets = [
+        ((0, 0, 200), false),
+        ((1, 0, 200), false),
+        ((2, 0, 200), true),
+        ((3, 0, 200), false),
+    ];
+    assert!(rt; are_right && has_all(&link, &packets));
 }
 
 #[test]
@@ -108,15 +121,25 @@ fn changes_back_and_ends(rt: HostRuntime) {
         (10, Sent(5)),
         (10, Quiet),
     ];
-    assert!(rt; answers(&mut sender, &mut link, &rows));
-    assert_eq!(rt; sender.terminate(1, &mut link), Sent(6));
-    assert_eq!(rt; sender.terminate(1, &mut link), Sent(7));
-    assert_eq!(rt; sender.terminate(1, &mut link), Sent(8));
-    assert!(rt; has_sent(&link, 1, (1, 0, 20), false));
-    assert!(rt; has_sent(&link, 5, (5, 0, 10), false));
-    assert!(rt; has_sent(&link, 6, (6, 0x40, 0), false));
-    assert!(rt; has_sent(&link, 8, (8, 0x40, 0), false));
-    assert_eq!(rt; sender.sent(1), 9);
+    let are_right = answers(&mut sender, &mut link, &rows);
+    let ends = [
+        sender.terminate(1, &mut link),
+        sender.terminate(1, &mut link),
+        sender.terminate(1, &mut link),
+    ];
+    assert!(rt; are_right && ends == [Sent(6), Sent(7), Sent(8)] && sender.sent(1) == 9);
+    let packets = [
+        ((0, 0, 10), false),
+        ((1, 0, 20), false),
+        ((2, 0, 10), false),
+        ((3, 0, 10), false),
+        ((4, 0, 10), false),
+        ((5, 0, 10), false),
+        ((6, 0x40, 0), false),
+        ((7, 0x40, 0), false),
+        ((8, 0x40, 0), false),
+    ];
+    assert!(rt; has_all(&link, &packets));
 }
 
 // `rt try --test --fail-alloc N` refuses the Nth growth: N of 1 and 2 refuses each growth of this
@@ -127,8 +150,7 @@ fn each_growth_refused(rt: HostRuntime) {
         Ok(sender) => sender,
         Err(_) => Sender::open(rt.alloc(), player(), &[1, 2]).expect(&rt, "memory"),
     };
-    assert_eq!(rt; sender.sent(1), 0);
-    assert_eq!(rt; sender.sent(2), 0);
+    assert!(rt; sender.sent(1) == 0 && sender.sent(2) == 0);
 }
 
 #[test]
