@@ -30,17 +30,28 @@ fn faults_in_words(rt: HostRuntime) -> Result<(), Fail> {
         (LineFault::Limit, "beyond a limit"),
     ] {
         let told = format!(in rt.alloc(); "{fault}")?;
-        assert_eq!(rt; told.as_str(), words);
+        assert!(rt; told.as_str() == words, "{told}");
     }
-    let line = format!(in rt.alloc(); "{:?}", read_line(None, b"GROUP 500"))?;
-    assert!(rt; line.contains("Group(500)"), "{line}");
-    let line = format!(in rt.alloc(); "{:?}", read_line(CUE, b"CHAN 7@H9"))?;
-    assert!(rt; line.contains("(7, 9)"), "{line}");
+    for (line, debugged) in [
+        (b"GROUP 500".as_slice(), "Group(500)"),
+        (b"CHAN 7@H9", "(7, 9)"),
+    ] {
+        let told = format!(in rt.alloc(); "{:?}", read_line(CUE, line))?;
+        assert!(rt; told.contains(debugged), "{told}");
+    }
     Ok(())
 }
 
+// Whether a line opens this record, or none, and begins with this keyword.
+fn opens(line: &[u8], opened: Option<Record>, keyword: Keyword) -> bool {
+    match read_line(CUE, line) {
+        Some(reading) => reading.statement.opened() == opened && reading.keyword == keyword,
+        None => false,
+    }
+}
+
 #[test]
-fn opened_records(rt: HostRuntime) -> Result<(), Fail> {
+fn opened_records(rt: HostRuntime) {
     for (line, opened, keyword) in [
         (
             b"cue 9999.999 1 more".as_slice(),
@@ -59,62 +70,100 @@ fn opened_records(rt: HostRuntime) -> Result<(), Fail> {
         (b"EndData", None, Keyword::EndData),
         (b"SET Channels 96", None, Keyword::Setting),
     ] {
-        let reading = read_line(CUE, line).ok_or("words")?;
-        assert_eq!(rt; reading.statement.opened(), opened, "{line:?}");
-        assert_eq!(rt; reading.keyword, keyword, "{line:?}");
+        assert!(rt; opens(line, opened, keyword), "{line:?}");
     }
     assert!(rt; read_line(CUE, b" , ! CUE 1").is_none());
-    assert!(rt; Keyword::Maker.may_own());
-    assert!(rt; Keyword::Clear.may_own());
-    assert!(rt; !Keyword::Unknown.may_own());
-    assert!(rt; Keyword::EndData.is_end());
-    assert!(rt; !Keyword::Clear.is_end());
-    Ok(())
 }
 
 #[test]
-fn pairs_and_triples(rt: HostRuntime) -> Result<(), Fail> {
-    let line = b"Chan 1/Hff 4096/H80,1@0 ! house";
-    let Statement::Levels(record, mut pairs) = read_line(CUE, line).ok_or("words")?.statement else {
-        return Err(Fail::from("levels"));
-    };
-    assert_eq!(rt; record, Record::Cue(1000));
-    for pair in [(1, 255), (4096, 128), (1, 0)] {
-        assert_eq!(rt; pairs.next(), Some(pair));
-    }
-    assert_eq!(rt; pairs.next(), None);
-    let line = b"PATCH 1 1<8192@FL 0<2@50";
-    let Statement::Patches(mut triples) = read_line(None, line).ok_or("words")?.statement else {
-        return Err(Fail::from("triples"));
-    };
-    for (channel, dimmer, level) in [(1, 8192, 255), (0, 2, 128)] {
-        assert_eq!(rt;
-            triples.next(),
-            Some(Triple {
-                channel,
-                dimmer,
-                level
-            })
+fn keywords(rt: HostRuntime) {
+    for (keyword, owns, ends) in [
+        (Keyword::Maker, true, false),
+        (Keyword::Clear, true, false),
+        (Keyword::Unknown, false, false),
+        (Keyword::EndData, true, true),
+    ] {
+        assert!(rt;
+            keyword.may_own() == owns && keyword.is_end() == ends,
+            "{keyword:?}"
         );
     }
-    assert_eq!(rt; triples.next(), None);
-    Ok(())
+}
+
+// Whether a line has these levels for cue 1, and none behind them.
+fn has_pairs(line: &[u8], wanted: &[(u16, u8)]) -> bool {
+    let Some(reading) = read_line(CUE, line) else {
+        return false;
+    };
+    let Statement::Levels(Record::Cue(1000), mut pairs) = reading.statement else {
+        return false;
+    };
+    for pair in wanted {
+        if pairs.next() != Some(*pair) {
+            return false;
+        }
+    }
+    pairs.next().is_none()
+}
+
+// Whether a line has these patches, each a channel, a dimmer and a level, and none behind them.
+fn has_triples(line: &[u8], wanted: &[(u16, u16, u8)]) -> bool {
+    let Some(reading) = read_line(None, line) else {
+        return false;
+    };
+    let Statement::Patches(mut triples) = reading.statement else {
+        return false;
+    };
+    for (channel, dimmer, level) in wanted {
+        let triple = Triple {
+            channel: *channel,
+            dimmer: *dimmer,
+            level: *level,
+        };
+        if triples.next() != Some(triple) {
+            return false;
+        }
+    }
+    triples.next().is_none()
+}
+
+#[test]
+fn pairs_and_triples(rt: HostRuntime) {
+    let line = b"Chan 1/Hff 4096/H80,1@0 ! house";
+    assert!(rt; has_pairs(line, &[(1, 255), (4096, 128), (1, 0)]));
+    let line = b"PATCH 1 1<8192@FL 0<2@50";
+    assert!(rt; has_triples(line, &[(1, 8192, 255), (0, 2, 128)]));
 }
 
 // Longer than what is kept of a line: each channel at the byte of its own number.
 const LONG_LINE: &[u8] = b"CHAN 1@H1 2@H2 3@H3 4@H4 5@H5 6@H6 7@H7 8@H8 9@H9 10@HA 11@HB 12@HC \
     13@HD 14@HE 15@HF 16@H10 17@H11 18@H12";
 
+// Each channel of the long line from 1 on at the byte of its own number.
+const LONG_PAIRS: [(u16, u8); 18] = [
+    (1, 1),
+    (2, 2),
+    (3, 3),
+    (4, 4),
+    (5, 5),
+    (6, 6),
+    (7, 7),
+    (8, 8),
+    (9, 9),
+    (10, 10),
+    (11, 11),
+    (12, 12),
+    (13, 13),
+    (14, 14),
+    (15, 15),
+    (16, 16),
+    (17, 17),
+    (18, 18),
+];
+
 #[test]
-fn pairs_of_a_long_line(rt: HostRuntime) -> Result<(), Fail> {
-    let reading = read_line(CUE, LONG_LINE).ok_or("words")?;
-    let Statement::Levels(_, mut pairs) = reading.statement else {
-        return Err(Fail::from("levels"));
-    };
-    for number in 1..=18u8 {
-        assert_eq!(rt; pairs.next(), Some((u16::from(number), number)));
-    }
-    assert_eq!(rt; pairs.next(), None);
+fn pairs_of_a_long_line(rt: HostRuntime) {
+    assert!(rt; has_pairs(LONG_LINE, &LONG_PAIRS));
     for (line, fault) in [
         (
             b"CHAN 1@1 2@1 3@1 4@1 5@1 6@1 7@1 8@1 9@1 1@1 2@1 3@1 4@1 5@1 6@1 7@1 8".as_slice(),
@@ -125,9 +174,8 @@ fn pairs_of_a_long_line(rt: HostRuntime) -> Result<(), Fail> {
             LineFault::BadNumber,
         ),
     ] {
-        assert_eq!(rt; fault_of(line), Some(fault), "{line:?}");
+        assert!(rt; fault_of(line) == Some(fault), "{line:?}");
     }
-    Ok(())
 }
 
 // Puts the pairs of the long line behind its first into a list.
@@ -147,30 +195,25 @@ fn pairs_appended(rt: HostRuntime) {
         assert!(rt; list.is_empty());
         assert!(rt; append_rest(&mut list).expect(&rt, "levels").is_ok());
     }
-    assert_eq!(rt; list.len(), 17);
-    for (pair, number) in list.iter().zip(2..=18u8) {
-        assert_eq!(rt; *pair, (u16::from(number), number));
+    assert!(rt; list.as_slice() == &LONG_PAIRS[1..]);
+}
+
+// The rate of a cue that a line sets, and whether it is that of its rising channels.
+fn rate_of(line: &[u8]) -> Option<(bool, u32, Rate)> {
+    match read_line(CUE, line)?.statement {
+        Statement::Rises(cue, rate) => Some((true, cue, rate)),
+        Statement::Falls(cue, rate) => Some((false, cue, rate)),
+        _ => None,
     }
 }
 
 #[test]
-fn rates(rt: HostRuntime) -> Result<(), Fail> {
+fn rates(rt: HostRuntime) {
     for (line, rises, time, delay) in [
         (b"UP 99:59.99 .5 x".as_slice(), true, 5_999_990, 500),
         (b"DOWN 4", false, 4000, 0),
     ] {
         let rate = Rate { time, delay };
-        match read_line(CUE, line).ok_or("words")?.statement {
-            Statement::Rises(cue, got) => {
-                assert!(rt; rises);
-                assert_eq!(rt; (cue, got), (1000, rate));
-            }
-            Statement::Falls(cue, got) => {
-                assert!(rt; !rises);
-                assert_eq!(rt; (cue, got), (1000, rate));
-            }
-            _ => return Err(Fail::from("a rate")),
-        }
+        assert!(rt; rate_of(line) == Some((rises, 1000, rate)), "{line:?}");
     }
-    Ok(())
 }

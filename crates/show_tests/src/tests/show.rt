@@ -39,10 +39,13 @@ fn light_group(
     show.group_level(n, channel, byte)
 }
 
-fn slot(rt: &impl Abort, show: &Show, ordinal: u16, place: usize) -> Option<u8> {
-    assert!(rt; show.cue(1000).is_some());
-    assert!(rt; ordinal < 16);
-    show.look_slots(1000, ordinal).get(place).copied()
+// The slot at a place of a universe where cue 1 is up.
+fn slot(show: &Show, ordinal: u16, place: usize) -> Option<u8> {
+    if ordinal >= 16 || show.cue(1000).is_none() {
+        return None;
+    }
+    let slots = show.look_slots(1000, ordinal);
+    slots.get(place).copied()
 }
 
 fn open_cues(show: &mut Show, numbers: &[u32]) -> Result<(), BuildFault> {
@@ -137,7 +140,7 @@ fn looks_of_each_universe(rt: HostRuntime) -> Result<(), Fail> {
         (15, 511, 255),
     ] {
         assert!(rt;
-            slot(&rt, &show, ordinal, place) == Some(byte),
+            slot(&show, ordinal, place) == Some(byte),
             "place {place} of {ordinal}"
         );
     }
@@ -175,12 +178,20 @@ fn grow(rt: &impl Abort, show: &mut Show, growth: Growth) -> Result<(), BuildFau
     }
 }
 
+fn cue_size(show: &Show) -> Option<usize> {
+    let cue = show.cue(1000)?;
+    Some(cue.pairs().len())
+}
+
+fn size(pairs: Option<&[(u16, u8)]>) -> Option<usize> {
+    Some(pairs?.len())
+}
+
 // How much of each kind there is, the levels of the first records included.
 fn sizes(show: &Show) -> (Counts, Option<usize>, Option<usize>, Option<usize>) {
-    let cue = show.cue(1000).map(|cue| cue.pairs().len());
-    let sub = show.sub(1).map(|pairs| pairs.len());
-    let group = show.group(1).map(|pairs| pairs.len());
-    (show.counts(), cue, sub, group)
+    let sub = size(show.sub(1));
+    let group = size(show.group(1));
+    (show.counts(), cue_size(show), sub, group)
 }
 
 // Whether it grows at once, or is refused, leaves all as it was, and then grows.

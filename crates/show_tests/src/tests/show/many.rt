@@ -66,6 +66,16 @@ pub fn falling_dimmers(channel: u16) -> [(u16, (u16, u8)); 300] {
     entries
 }
 
+// Whether a show has so many dimmers, and these of them.
+fn has_patched(
+    show: &Show,
+    count: u32,
+    first: Option<(u16, u8)>,
+    second: Option<(u16, u8)>,
+) -> bool {
+    show.counts().dimmers == count && show.patched(1) == first && show.patched(2) == second
+}
+
 #[test]
 fn lists_of_patches(rt: HostRuntime) -> Result<(), Fail> {
     let mut show = Show::new(rt.alloc());
@@ -86,11 +96,7 @@ fn lists_of_patches(rt: HostRuntime) -> Result<(), Fail> {
         ([(2, (0, 255)), (2, (0, 255))].as_slice(), 148, None, None),
     ] {
         show.set_patches(entries)?;
-        assert!(rt; show.counts().dimmers == count);
-        assert!(rt;
-            show.patched(1) == first && show.patched(2) == second,
-            "{count} dimmers"
-        );
+        assert!(rt; has_patched(&show, count, first, second), "{count} dimmers");
     }
     Ok(())
 }
