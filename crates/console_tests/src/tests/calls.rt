@@ -4,8 +4,8 @@ use desk_core::{Command, Refused};
 
 #[test]
 fn calls_of_lines(rt: HostRuntime) {
-    for (line, reading) in [
-        (b"".as_slice(), Reading::Blank),
+    let rows: &[(&[u8], Reading)] = &[
+        (b"", Reading::Blank),
         (b"  ! 0 go", Reading::Blank),
         (b"5 jump", Reading::Malformed),
         (b"000 Go ! now", Reading::At(0, Call::Order(Command::Go))),
@@ -34,22 +34,27 @@ fn calls_of_lines(rt: HostRuntime) {
         (b"1000000000000000 tick", Reading::Malformed),
         (b"1 sub 65536 50", Reading::Malformed),
         (b"0 go 1", Reading::Malformed),
-    ] {
-        assert_eq!(rt; read_call(line), reading, "{line:?}");
+    ];
+    for (line, reading) in rows {
+        assert!(rt; read_call(line) == *reading, "{line:?}");
     }
 }
 
 #[test]
 fn commands_of_words(rt: HostRuntime) {
-    assert_eq!(rt;
-        command_in(&mut Words::new(b"goto 2")),
-        Some(Command::Goto(2000))
-    );
-    assert_eq!(rt; command_in(&mut Words::new(b"tick")), None);
+    let rows: &[(&[u8], Option<Command>)] = &[
+        (b"goto 2", Some(Command::Goto(2000))),
+        (b"tick", None),
+    ];
+    for (words, command) in rows {
+        assert!(rt; command_in(&mut Words::new(words)) == *command, "{words:?}");
+    }
 }
 
 #[test]
 fn answers(rt: HostRuntime) {
-    assert!(rt; done_line(0).as_str() == "0 ok\n");
-    assert!(rt; refused_line(69, Refused::Ended).as_str() == "69 refused Ended\n");
+    assert!(rt;
+        done_line(0).as_str() == "0 ok\n"
+            && refused_line(69, Refused::Ended).as_str() == "69 refused Ended\n"
+    );
 }

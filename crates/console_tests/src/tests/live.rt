@@ -1,169 +1,230 @@
-ghost use Rattle.std.specs.Prelude.{◌<◌};
-
 use live_input::{Given, LiveInput, is_shown};
 use std::process::Abort;
 
-// A night, told what is expected of it.
-#[derive(Drop)]
-struct Night {
-    input: LiveInput,
+// What comes while the input waits, or what it gives when it is asked; each at its moment.
+#[derive(Clone, Copy)]
+enum Step<'a> {
+    Typed(u64, &'a [u8]),
+    Closed(u64),
+    Line(u64, &'a [u8]),
+    Refused(u64, &'a [u8]),
+    Until(u64, u64),
+    Over(u64),
 }
 
-impl Night {
-    fn new() -> Self {
-        Night {
-            input: LiveInput::new(),
+fn types(input: &mut LiveInput, moment: u64, bytes: &[u8]) -> bool {
+    match input.next(moment) {
+        Given::Until(_) if bytes.len() <= 4096 => {
+            input.take_bytes(bytes);
+            true
         }
-    }
-
-    // It waits, and bytes come.
-    fn types(&mut self, rt: &impl Abort, moment: u64, bytes: &[u8]) {
-        assert!(rt; bytes.len() <= 4096);
-        match self.input.next(moment) {
-            Given::Until(_) => self.input.take_bytes(bytes),
-            other => panic!(rt; "no wait but {other:?}"),
-        }
-    }
-
-    // It waits, and the input ends.
-    fn closes(&mut self, rt: &impl Abort, moment: u64) {
-        match self.input.next(moment) {
-            Given::Until(_) => self.input.close(),
-            other => panic!(rt; "no wait but {other:?}"),
-        }
-    }
-
-    fn gives(&mut self, moment: u64, line: &str) -> bool {
-        is_line(&self.input.next(moment), line)
-    }
-
-    fn refuses(&mut self, moment: u64, text: &[u8]) -> bool {
-        match self.input.next(moment) {
-            Given::Refused(given) => given.as_slice() == text,
-            _ => false,
-        }
-    }
-
-    fn waits(&mut self, moment: u64, until: u64) -> bool {
-        match self.input.next(moment) {
-            Given::Until(given) => given == until,
-            _ => false,
-        }
-    }
-
-    fn is_over(&mut self, moment: u64) -> bool {
-        match self.input.next(moment) {
-            Given::Over => true,
-            _ => false,
-        }
-    }
-}
-
-fn is_line(given: &Given, line: &str) -> bool {
-    match given {
-        Given::Line(given) => given.as_slice() == line.as_bytes(),
         _ => false,
+    }
+}
+
+fn closes(input: &mut LiveInput, moment: u64) -> bool {
+    match input.next(moment) {
+        Given::Until(_) => {
+            input.close();
+            true
+        }
+        _ => false,
+    }
+}
+
+fn gives(input: &mut LiveInput, moment: u64, line: &[u8]) -> bool {
+    match input.next(moment) {
+        Given::Line(given) => given.as_slice() == line,
+        _ => false,
+    }
+}
+
+fn refuses(input: &mut LiveInput, moment: u64, text: &[u8]) -> bool {
+    match input.next(moment) {
+        Given::Refused(given) => given.as_slice() == text,
+        _ => false,
+    }
+}
+
+fn waits(input: &mut LiveInput, moment: u64, until: u64) -> bool {
+    match input.next(moment) {
+        Given::Until(given) => given == until,
+        _ => false,
+    }
+}
+
+fn is_over(input: &mut LiveInput, moment: u64) -> bool {
+    match input.next(moment) {
+        Given::Over => true,
+        _ => false,
+    }
+}
+
+fn holds(input: &mut LiveInput, step: &Step<'_>) -> bool {
+    match step {
+        Step::Typed(moment, bytes) => types(input, *moment, bytes),
+        Step::Closed(moment) => closes(input, *moment),
+        Step::Line(moment, line) => gives(input, *moment, line),
+        Step::Refused(moment, text) => refuses(input, *moment, text),
+        Step::Until(moment, until) => waits(input, *moment, *until),
+        Step::Over(moment) => is_over(input, *moment),
+    }
+}
+
+fn take_steps(rt: &impl Abort, input: &mut LiveInput, steps: &[Step<'_>]) {
+    for (place, step) in steps.iter().enumerate() {
+        assert!(rt; holds(input, step), "step {place}");
     }
 }
 
 #[test]
 fn ordinary_night(rt: HostRuntime) {
-    let mut night = Night::new();
-    assert!(rt; night.gives(0, "0 tick\n"));
-    night.types(&rt, 3, b"go\n");
-    assert!(rt; night.gives(10, "10 go\n"));
-    assert!(rt; night.waits(10, 25));
-    assert!(rt; night.gives(25, "25 tick\n"));
-    night.types(&rt, 26, b"Sub 3 50 ! the desk\nmaster H80\r\n");
-    assert!(rt; night.gives(50, "50 Sub 3 50 ! the desk\n"));
-    assert!(rt; night.gives(50, "50 master H80\r\n"));
-    assert!(rt; night.gives(51, "51 tick\n"));
-    night.types(&rt, 60, b"end\n");
-    assert!(rt; night.gives(60, "60 end\n"));
-    night.types(&rt, 61, b"go\n");
-    assert!(rt; night.gives(61, "61 go\n"));
-    assert!(rt; night.gives(75, "75 tick\n"));
-    assert!(rt; night.gives(100, "100 tick\n"));
-    night.closes(&rt, 101);
-    assert!(rt; night.waits(101, 125));
-    assert!(rt; night.gives(125, "125 tick\n"));
-    assert!(rt; night.is_over(150));
-    assert!(rt; night.is_over(1000));
+    take_steps(
+        &rt,
+        &mut LiveInput::new(),
+        &[
+            Step::Line(0, b"0 tick\n"),
+            Step::Typed(3, b"go\n"),
+            Step::Line(10, b"10 go\n"),
+            Step::Until(10, 25),
+            Step::Line(25, b"25 tick\n"),
+            Step::Typed(26, b"Sub 3 50 ! the desk\nmaster H80\r\n"),
+            Step::Line(50, b"50 Sub 3 50 ! the desk\n"),
+            Step::Line(50, b"50 master H80\r\n"),
+            Step::Line(51, b"51 tick\n"),
+            Step::Typed(60, b"end\n"),
+            Step::Line(60, b"60 end\n"),
+            Step::Typed(61, b"go\n"),
+            Step::Line(61, b"61 go\n"),
+            Step::Line(75, b"75 tick\n"),
+            Step::Line(100, b"100 tick\n"),
+            Step::Closed(101),
+            Step::Until(101, 125),
+            Step::Line(125, b"125 tick\n"),
+            Step::Over(150),
+            Step::Over(1000),
+        ],
+    );
 }
 
 #[test]
 fn refusals(rt: HostRuntime) {
-    let mut night = Night::new();
-    assert!(rt; night.gives(0, "0 tick\n"));
-    for (line, text) in [
-        (b"jump\n".as_slice(), b"jump".as_slice()),
-        (b"tick\n", b"tick"),
-        (b"25 go\n", b"25 go"),
-        (b"go 1\n", b"go 1"),
-        (b"sub 65536 50\n", b"sub 65536 50"),
-        (b"goto 0\n", b"goto 0"),
-        (b"g\0o\n", b"g?o"),
-        (b"\x1b[2Jgo\xff\n", b"?[2Jgo?"),
-    ] {
-        night.types(&rt, 1, line);
-        assert!(rt; night.refuses(1, text), "{line:?}");
+    take_steps(
+        &rt,
+        &mut LiveInput::new(),
+        &[
+            Step::Line(0, b"0 tick\n"),
+            Step::Typed(1, b"jump\n"),
+            Step::Refused(1, b"jump"),
+            Step::Typed(1, b"tick\n"),
+            Step::Refused(1, b"tick"),
+            Step::Typed(1, b"25 go\n"),
+            Step::Refused(1, b"25 go"),
+            Step::Typed(1, b"go 1\n"),
+            Step::Refused(1, b"go 1"),
+            Step::Typed(1, b"sub 65536 50\n"),
+            Step::Refused(1, b"sub 65536 50"),
+            Step::Typed(1, b"goto 0\n"),
+            Step::Refused(1, b"goto 0"),
+            Step::Typed(1, b"g\0o\n"),
+            Step::Refused(1, b"g?o"),
+            Step::Typed(1, b"\x1b[2Jgo\xff\n"),
+            Step::Refused(1, b"?[2Jgo?"),
+            Step::Typed(1, b"\n ,\t\r\n! go\ngo\n"),
+            Step::Line(1, b"1 go\n"),
+            Step::Until(1, 25),
+        ],
+    );
+}
+
+// A command with 399 spaces behind it.
+fn long_line() -> [u8; 401] {
+    let mut line = [b' '; 401];
+    line[0] = b'g';
+    line[1] = b'o';
+    line
+}
+
+// It waits, and so many bytes of that line come, with an LF.
+fn types_long(input: &mut LiveInput, length: usize) -> bool {
+    let line = long_line();
+    length <= 401 && types(input, 1234, &line[..length]) && types(input, 1234, b"\n")
+}
+
+fn gives_long(input: &mut LiveInput, length: usize) -> bool {
+    match input.next(1234) {
+        Given::Line(given) => given.len() == length,
+        _ => false,
     }
-    night.types(&rt, 1, b"\n ,\t\r\n! go\ngo\n");
-    assert!(rt; night.gives(1, "1 go\n"));
-    assert!(rt; night.waits(1, 25));
+}
+
+// What is refused is shown up to 200 bytes.
+fn refuses_long(input: &mut LiveInput, length: usize) -> bool {
+    let line = long_line();
+    types_long(input, length) && refuses(input, 1234, &line[..length.min(200)])
+}
+
+// It refuses a line of spaces alone, as it is too long, and takes the next one.
+fn refuses_spaces(input: &mut LiveInput) -> bool {
+    types(input, 1234, &[b' '; 201])
+        && types(input, 1234, b"\ngo\n")
+        && refuses(input, 1234, &[b' '; 200])
+        && gives(input, 1234, b"1234 go\n")
 }
 
 // With `1234 ` in front the line has 200 bytes, or one more.
 #[test]
 fn long_lines(rt: HostRuntime) {
-    let mut line = [b' '; 401];
-    line[0] = b'g';
-    line[1] = b'o';
-    let mut night = Night::new();
-    assert!(rt; night.gives(1234, "1234 tick\n"));
-    night.types(&rt, 1234, &line[..195]);
-    night.types(&rt, 1234, b"\n");
-    match night.input.next(1234) {
-        Given::Line(given) => assert_eq!(rt; given.len(), 201),
-        other => panic!(rt; "no line but {other:?}"),
+    let mut input = LiveInput::new();
+    assert!(rt; gives(&mut input, 1234, b"1234 tick\n"));
+    assert!(rt; types_long(&mut input, 195) && gives_long(&mut input, 201));
+    for length in &[196, 200, 201, 400] {
+        assert!(rt; refuses_long(&mut input, *length), "{length} bytes");
     }
-    for length in [196, 200, 201, 400] {
-        night.types(&rt, 1234, &line[..length]);
-        night.types(&rt, 1234, b"\n");
-        assert!(rt; night.refuses(1234, &line[..length.min(200)]));
-    }
-    night.types(&rt, 1234, &line[2..203]);
-    night.types(&rt, 1234, b"\ngo\n");
-    assert!(rt; night.refuses(1234, &line[2..202]));
-    assert!(rt; night.gives(1234, "1234 go\n"));
+    assert!(rt; refuses_spaces(&mut input));
 }
 
 #[test]
 fn bytes_one_by_one(rt: HostRuntime) {
-    let mut night = Night::new();
-    assert!(rt; night.gives(0, "0 tick\n"));
-    for byte in b"goto 2.5" {
-        night.types(&rt, 1, &[*byte]);
-    }
-    assert!(rt; night.gives(25, "25 tick\n"));
-    night.types(&rt, 26, b"\n");
-    assert!(rt; night.gives(26, "26 goto 2.5\n"));
+    take_steps(
+        &rt,
+        &mut LiveInput::new(),
+        &[
+            Step::Line(0, b"0 tick\n"),
+            Step::Typed(1, b"g"),
+            Step::Typed(1, b"o"),
+            Step::Typed(1, b"t"),
+            Step::Typed(1, b"o"),
+            Step::Typed(1, b" "),
+            Step::Typed(1, b"2"),
+            Step::Typed(1, b"."),
+            Step::Typed(1, b"5"),
+            Step::Line(25, b"25 tick\n"),
+            Step::Typed(26, b"\n"),
+            Step::Line(26, b"26 goto 2.5\n"),
+        ],
+    );
 }
 
 #[test]
 fn input_ends(rt: HostRuntime) {
-    let mut night = Night::new();
-    assert!(rt; night.gives(7, "7 tick\n"));
-    night.types(&rt, 8, b"go\nback");
-    assert!(rt; night.gives(8, "8 go\n"));
-    night.closes(&rt, 9);
-    assert!(rt; night.gives(9, "9 back\n"));
-    assert!(rt; night.gives(10, "10 end\n"));
-    assert!(rt; night.waits(10, 30));
-    assert!(rt; night.gives(30, "30 tick\n"));
-    assert!(rt; night.gives(53, "53 tick\n"));
-    assert!(rt; night.gives(76, "76 tick\n"));
-    assert!(rt; night.is_over(76));
+    take_steps(
+        &rt,
+        &mut LiveInput::new(),
+        &[
+            Step::Line(7, b"7 tick\n"),
+            Step::Typed(8, b"go\nback"),
+            Step::Line(8, b"8 go\n"),
+            Step::Closed(9),
+            Step::Line(9, b"9 back\n"),
+            Step::Line(10, b"10 end\n"),
+            Step::Until(10, 30),
+            Step::Line(30, b"30 tick\n"),
+            Step::Line(53, b"53 tick\n"),
+            Step::Line(76, b"76 tick\n"),
+            Step::Over(76),
+        ],
+    );
 }
 
 // Closed from the start: an end, and its ticks.
@@ -171,81 +232,89 @@ fn input_ends(rt: HostRuntime) {
 fn closed_input(rt: HostRuntime) {
     let mut input = LiveInput::new();
     input.close();
-    let mut night = Night { input };
-    assert!(rt; night.gives(0, "0 end\n"));
-    assert!(rt; night.gives(0, "0 tick\n"));
-    assert!(rt; night.gives(25, "25 tick\n"));
-    assert!(rt; night.gives(50, "50 tick\n"));
-    assert!(rt; night.is_over(50));
+    take_steps(
+        &rt,
+        &mut input,
+        &[
+            Step::Line(0, b"0 end\n"),
+            Step::Line(0, b"0 tick\n"),
+            Step::Line(25, b"25 tick\n"),
+            Step::Line(50, b"50 tick\n"),
+            Step::Over(50),
+        ],
+    );
 }
 
 // A tick is late, two are missed; the clock stands still, falls, and leaps to its end.
 #[test]
 fn clocks(rt: HostRuntime) {
-    let mut night = Night::new();
-    assert!(rt; night.gives(0, "0 tick\n"));
-    assert!(rt; night.gives(40, "40 tick\n"));
-    assert!(rt; night.waits(62, 63));
-    assert!(rt; night.gives(63, "63 tick\n"));
-    assert!(rt; night.gives(140, "140 tick\n"));
-    assert!(rt; night.waits(140, 163));
-    assert!(rt; night.waits(20, 163));
-    night.types(&rt, 0, b"go\n");
-    assert!(rt; night.gives(0, "140 go\n"));
-    assert!(rt; night.gives(163, "163 tick\n"));
-    assert!(rt; night.gives(u64::MAX, "281474976710655 tick\n"));
-    assert!(rt; night.waits(u64::MAX, 281_474_976_710_678));
-    night.types(&rt, u64::MAX, b"go\n");
-    assert!(rt; night.gives(0, "281474976710655 go\n"));
+    take_steps(
+        &rt,
+        &mut LiveInput::new(),
+        &[
+            Step::Line(0, b"0 tick\n"),
+            Step::Line(40, b"40 tick\n"),
+            Step::Until(62, 63),
+            Step::Line(63, b"63 tick\n"),
+            Step::Line(140, b"140 tick\n"),
+            Step::Until(140, 163),
+            Step::Until(20, 163),
+            Step::Typed(0, b"go\n"),
+            Step::Line(0, b"140 go\n"),
+            Step::Line(163, b"163 tick\n"),
+            Step::Line(u64::MAX, b"281474976710655 tick\n"),
+            Step::Until(u64::MAX, 281_474_976_710_678),
+            Step::Typed(u64::MAX, b"go\n"),
+            Step::Line(0, b"281474976710655 go\n"),
+        ],
+    );
 }
 
-// A tick every 25 milliseconds, from 0 on.
-fn tick_on(rt: &impl Abort, night: &mut Night, ticks: u64)
-    requires { ticks < 10000000 }
-{
+// Whether a tick comes every 25 milliseconds, from 0 on.
+fn ticks_on(input: &mut LiveInput, ticks: u32) -> bool {
     for number in 0..ticks {
-        match night.input.next(25 * number) {
+        match input.next(25 * u64::from(number)) {
             Given::Line(_) => {}
-            other => panic!(rt; "no tick but {other:?}"),
+            _ => return false,
         }
     }
+    true
 }
 
 // `play` takes 10,000,000 lines: there is room for one more besides an end and its ticks.
 #[test]
 fn longest_night(rt: HostRuntime) {
-    let mut night = Night::new();
-    tick_on(&rt, &mut night, 9_999_995);
-    night.types(&rt, 249_999_851, b"go\ngo\n");
-    assert!(rt; night.gives(249_999_851, "249999851 go\n"));
-    assert!(rt; night.refuses(249_999_851, b"go"));
-    assert!(rt; night.gives(249_999_852, "249999852 end\n"));
-    for (moment, line) in [
-        (249_999_875, "249999875 tick\n"),
-        (249_999_900, "249999900 tick\n"),
-        (249_999_925, "249999925 tick\n"),
-    ] {
-        assert!(rt; night.gives(moment, line));
-    }
-    assert!(rt; night.is_over(249_999_950));
+    let mut input = LiveInput::new();
+    assert!(rt; ticks_on(&mut input, 9_999_995));
+    take_steps(
+        &rt,
+        &mut input,
+        &[
+            Step::Typed(249_999_851, b"go\ngo\n"),
+            Step::Line(249_999_851, b"249999851 go\n"),
+            Step::Refused(249_999_851, b"go"),
+            Step::Line(249_999_852, b"249999852 end\n"),
+            Step::Line(249_999_875, b"249999875 tick\n"),
+            Step::Line(249_999_900, b"249999900 tick\n"),
+            Step::Line(249_999_925, b"249999925 tick\n"),
+            Step::Over(249_999_950),
+        ],
+    );
 }
 
 #[test]
 fn replies_shown(rt: HostRuntime) {
-    for reply in [
-        b"0 ok\n".as_slice(),
-        b"0 refused AtStart\n",
-        b"24 refused TooSoon\n",
-        b"25 live 1:s0 2:x7\n",
-        b"281474976710655 ending 3 63999:x255\n",
-    ] {
-        assert!(rt; is_shown(reply), "{reply:?}");
-    }
-    for reply in [
-        b"0 live\n".as_slice(),
-        b"25 live 1:s0 2:-\n",
-        b"50 ending 1 1:s1\n",
-    ] {
-        assert!(rt; !is_shown(reply), "{reply:?}");
+    let rows: &[(&[u8], bool)] = &[
+        (b"0 ok\n", true),
+        (b"0 refused AtStart\n", true),
+        (b"24 refused TooSoon\n", true),
+        (b"25 live 1:s0 2:x7\n", true),
+        (b"281474976710655 ending 3 63999:x255\n", true),
+        (b"0 live\n", false),
+        (b"25 live 1:s0 2:-\n", false),
+        (b"50 ending 1 1:s1\n", false),
+    ];
+    for (reply, shown) in rows {
+        assert!(rt; is_shown(reply) == *shown, "{reply:?}");
     }
 }
