@@ -1,55 +1,46 @@
-use super::shows::add_two_cues;
+use super::shows::{Part, add_parts, show_of, two_cues};
 use desk_core::{Command, Desk, Refused, Ticked};
 use fade_core::{Fader, PlainFader, StepFader};
 use patch_core::RigFault;
-use show_core::{BuildFault, Rate, Show};
+use show_core::{BuildFault, Show};
 use std::alloc::Global;
 use std::process::Abort;
 use std::test::Fail;
 
 const TOO_LARGE: u64 = 281_474_976_710_656;
 
-fn add_sub_and_dimmers(rt: &impl Abort, show: &mut Show) -> Result<(), BuildFault> {
-    show.open_sub(1)?;
-    assert!(rt; show.sub(1).is_some());
-    show.sub_level(1, 1, 128)?;
-    show.set_patch(1, 1, 255)?;
-    show.set_patch(2, 2, 255)
-}
-
 // The two cues, submaster 1 with channel 1 at half, and dimmers 1 and 2, which are patched to
-// channels 1 and 2 at full.
-fn small_show(rt: &impl Abort, alloc: Global) -> Result<Show, BuildFault> {
-    let mut show = Show::new(alloc);
-    add_two_cues(rt, &mut show)?;
-    add_sub_and_dimmers(rt, &mut show)?;
+// channels 1 and 2 at full; then more parts.
+fn small_show(alloc: Global, more: &[Part]) -> Result<Show, BuildFault> {
+    let mut show = two_cues(alloc)?;
+    add_parts(
+        &mut show,
+        &[
+            Part::Sub(1, 1, 128),
+            Part::Patch(1, 1, 255),
+            Part::Patch(2, 2, 255),
+        ],
+    )?;
+    add_parts(&mut show, more)?;
     Ok(show)
 }
 
-// The small show, in which the second cue follows the first so long after.
-fn follow_on(rt: &impl Abort, alloc: Global, time: u16) -> Result<Show, BuildFault> {
-    let mut show = small_show(rt, alloc)?;
-    assert!(rt; show.cue(1000).is_some());
-    show.set_follow(1000, u32::from(time));
-    Ok(show)
-}
-
-// The frame of the first universe.
-fn first_frame<F: Fader>(desk: &Desk<F>) -> Option<[u8; 512]> {
+// Whether slots 1 and 2 of the first universe are these, and the others 0.
+fn has_slots<F: Fader>(desk: &Desk<F>, first: u8, second: u8) -> bool {
     let universes = desk.universes();
-    let numbers = universes.as_slice();
-    if numbers.is_empty() {
-        None
-    } else {
-        Some(*desk.slots(numbers[0]))
+    match universes.as_slice() {
+        [number, ..] => {
+            let frame = desk.slots(*number);
+            frame[0] == first && frame[1] == second && frame[2..] == [0; 510]
+        }
+        [] => false,
     }
 }
 
-// Slots 1 and 2 of the first universe; the others are 0.
-fn slots<F: Fader>(rt: &impl Abort, desk: &Desk<F>) -> (u8, u8) {
-    let frame = first_frame(desk).expect(rt, "a universe");
-    assert!(rt; frame[2..].iter().all(|slot| *slot == 0));
-    (frame[0], frame[1])
+// How many universes a desk has, and the number of the first.
+fn numbers<F: Fader>(desk: &Desk<F>) -> (usize, Option<u16>) {
+    let universes = desk.universes();
+    (universes.len(), universes.first().copied())
 }
 
 // A call with its answer, or what is seen after the calls so far.
@@ -58,20 +49,17 @@ enum Step {
     Tick(u64, Result<Ticked, Refused>),
     Slots(u8, u8),
     Current(Option<u32>),
+    Universes(usize, Option<u16>),
 }
 
-// A desk of the small show takes the steps, with each fader.
-fn take_steps(rt: &impl Abort, alloc: Global, steps: &[Step]) -> Result<(), Fail> {
-    let show = small_show(rt, alloc)?;
-    take_on::<PlainFader>(rt, alloc, &show, steps)?;
-    take_on::<StepFader>(rt, alloc, &show, steps)
-}
-
-// A desk of the small show with a follow-on time takes the steps, with each fader.
-fn take_follow_on(rt: &impl Abort, alloc: Global, time: u16, steps: &[Step]) -> Result<(), Fail> {
-    let show = follow_on(rt, alloc, time)?;
-    take_on::<PlainFader>(rt, alloc, &show, steps)?;
-    take_on::<StepFader>(rt, alloc, &show, steps)
+fn holds<F: Fader>(desk: &mut Desk<F>, step: &Step) -> bool {
+    match step {
+        Step::Order(moment, command, answer) => desk.command(*moment, *command) == *answer,
+        Step::Tick(moment, answer) => desk.tick(*moment) == *answer,
+        Step::Slots(first, second) => has_slots(desk, *first, *second),
+        Step::Current(cue) => desk.current() == *cue,
+        Step::Universes(count, first) => numbers(desk) == (*count, *first),
+    }
 }
 
 // A desk of this show takes the steps.
@@ -79,18 +67,21 @@ fn take_on<F: Fader>(
     rt: &impl Abort,
     alloc: Global,
     show: &Show,
+    base: u16,
     steps: &[Step],
-) -> Result<(), Fail> {
-    let mut desk: Desk<F> = Desk::open(alloc, show, 1)?;
+) -> Result<(), RigFault> {
+    let mut desk: Desk<F> = Desk::open(alloc, show, base)?;
     for (place, step) in steps.iter().enumerate() {
-        let holds = match step {
-            Step::Order(moment, command, answer) => desk.command(*moment, *command) == *answer,
-            Step::Tick(moment, answer) => desk.tick(*moment) == *answer,
-            Step::Slots(first, second) => slots(rt, &desk) == (*first, *second),
-            Step::Current(cue) => desk.current() == *cue,
-        };
-        assert!(rt; holds, "step {place}");
+        assert!(rt; holds(&mut desk, step), "step {place}");
     }
+    Ok(())
+}
+
+// A desk of the small show, with more parts, takes the steps, with each fader.
+fn take_steps(rt: &impl Abort, alloc: Global, more: &[Part], steps: &[Step]) -> Result<(), Fail> {
+    let show = small_show(alloc, more)?;
+    take_on::<PlainFader>(rt, alloc, &show, 1, steps)?;
+    take_on::<StepFader>(rt, alloc, &show, 1, steps)?;
     Ok(())
 }
 
@@ -99,6 +90,7 @@ fn desk_refusals(rt: HostRuntime) -> Result<(), Fail> {
     take_steps(
         &rt,
         rt.alloc(),
+        &[],
         &[
             Step::Tick(100, Ok(Ticked::Live)),
             Step::Order(99, Command::Go, Err(Refused::Backwards)),
@@ -119,6 +111,7 @@ fn after_end(rt: HostRuntime) -> Result<(), Fail> {
     take_steps(
         &rt,
         rt.alloc(),
+        &[],
         &[
             Step::Order(200, Command::End, Ok(())),
             Step::Order(TOO_LARGE, Command::Go, Err(Refused::MomentTooLarge)),
@@ -135,6 +128,7 @@ fn dark_before_first_tick(rt: HostRuntime) -> Result<(), Fail> {
     take_steps(
         &rt,
         rt.alloc(),
+        &[],
         &[
             Step::Slots(0, 0),
             Step::Order(0, Command::Sub(1, 255), Ok(())),
@@ -150,6 +144,7 @@ fn five_second_fade(rt: HostRuntime) -> Result<(), Fail> {
     take_steps(
         &rt,
         rt.alloc(),
+        &[],
         &[
             Step::Order(0, Command::Go, Ok(())),
             Step::Tick(0, Ok(Ticked::Live)),
@@ -165,6 +160,7 @@ fn five_second_fade(rt: HostRuntime) -> Result<(), Fail> {
     take_steps(
         &rt,
         rt.alloc(),
+        &[],
         &[
             Step::Order(0, Command::Go, Ok(())),
             Step::Tick(2510, Ok(Ticked::Live)),
@@ -179,6 +175,7 @@ fn split_crossfade(rt: HostRuntime) -> Result<(), Fail> {
     take_steps(
         &rt,
         rt.alloc(),
+        &[],
         &[
             Step::Order(0, Command::Go, Ok(())),
             Step::Order(10000, Command::Go, Ok(())),
@@ -193,6 +190,7 @@ fn goto_mid_fade(rt: HostRuntime) -> Result<(), Fail> {
     take_steps(
         &rt,
         rt.alloc(),
+        &[],
         &[
             Step::Order(0, Command::Go, Ok(())),
             Step::Order(10000, Command::Go, Ok(())),
@@ -210,6 +208,7 @@ fn submaster_and_grand(rt: HostRuntime) -> Result<(), Fail> {
     take_steps(
         &rt,
         rt.alloc(),
+        &[],
         &[
             Step::Order(0, Command::Sub(1, 128), Ok(())),
             Step::Tick(0, Ok(Ticked::Live)),
@@ -234,6 +233,7 @@ fn submaster_stays(rt: HostRuntime) -> Result<(), Fail> {
     take_steps(
         &rt,
         rt.alloc(),
+        &[],
         &[
             Step::Order(0, Command::Sub(1, 128), Ok(())),
             Step::Tick(0, Ok(Ticked::Live)),
@@ -260,6 +260,7 @@ fn play_refusals(rt: HostRuntime) -> Result<(), Fail> {
     take_steps(
         &rt,
         rt.alloc(),
+        &[],
         &[
             Step::Order(0, Command::Back, Err(Refused::AtStart)),
             Step::Order(0, Command::Sub(1, 255), Ok(())),
@@ -280,6 +281,7 @@ fn at_end(rt: HostRuntime) -> Result<(), Fail> {
     take_steps(
         &rt,
         rt.alloc(),
+        &[],
         &[
             Step::Order(0, Command::Go, Ok(())),
             Step::Order(0, Command::Go, Ok(())),
@@ -292,10 +294,10 @@ fn at_end(rt: HostRuntime) -> Result<(), Fail> {
 
 #[test]
 fn follow_at_tick(rt: HostRuntime) -> Result<(), Fail> {
-    take_follow_on(
+    take_steps(
         &rt,
         rt.alloc(),
-        10000,
+        &[Part::Follow(1000, 10000)],
         &[
             Step::Order(0, Command::Go, Ok(())),
             Step::Tick(11000, Ok(Ticked::Live)),
@@ -304,10 +306,10 @@ fn follow_at_tick(rt: HostRuntime) -> Result<(), Fail> {
         ],
     )?;
     // Also where the ticks before kept what did not move, and a master is set in between.
-    take_follow_on(
+    take_steps(
         &rt,
         rt.alloc(),
-        10000,
+        &[Part::Follow(1000, 10000)],
         &[
             Step::Order(0, Command::Go, Ok(())),
             Step::Tick(0, Ok(Ticked::Live)),
@@ -328,10 +330,10 @@ fn follow_at_tick(rt: HostRuntime) -> Result<(), Fail> {
 // End makes the moves that are due by its moment, and then none is made.
 #[test]
 fn follow_after_end(rt: HostRuntime) -> Result<(), Fail> {
-    take_follow_on(
+    take_steps(
         &rt,
         rt.alloc(),
-        10000,
+        &[Part::Follow(1000, 10000)],
         &[
             Step::Order(0, Command::Go, Ok(())),
             Step::Order(9999, Command::End, Ok(())),
@@ -340,10 +342,10 @@ fn follow_after_end(rt: HostRuntime) -> Result<(), Fail> {
             Step::Current(Some(1000)),
         ],
     )?;
-    take_follow_on(
+    take_steps(
         &rt,
         rt.alloc(),
-        10000,
+        &[Part::Follow(1000, 10000)],
         &[
             Step::Order(0, Command::Go, Ok(())),
             Step::Order(10000, Command::End, Ok(())),
@@ -352,37 +354,60 @@ fn follow_after_end(rt: HostRuntime) -> Result<(), Fail> {
     )
 }
 
-// How many universes a desk has, and the number of the first.
-fn numbers<F: Fader>(desk: &Desk<F>) -> (usize, Option<u16>) {
-    let universes = desk.universes();
-    (universes.len(), universes.first().copied())
+// A plain desk of a show of these parts takes the steps.
+fn take_plain(
+    rt: &impl Abort,
+    alloc: Global,
+    parts: &[Part],
+    base: u16,
+    steps: &[Step],
+) -> Result<(), Fail> {
+    let show = show_of(alloc, parts)?;
+    take_on::<PlainFader>(rt, alloc, &show, base, steps)?;
+    Ok(())
 }
 
-fn universes(alloc: Global, show: &Show, base: u16) -> Result<(usize, Option<u16>), RigFault> {
-    let desk: Desk<PlainFader> = Desk::open(alloc, show, base)?;
-    Ok(numbers(&desk))
-}
-
-// Dimmer 1 was patched and is not any more.
-fn patch_no_dimmer(show: &mut Show) -> Result<(), BuildFault> {
-    show.set_patch(1, 1, 255)?;
-    show.set_patch(1, 0, 255)
+// No desk of a show of these parts has one of these bases.
+fn refuse(rt: &impl Abort, alloc: Global, parts: &[Part], bases: &[u16]) -> Result<(), BuildFault> {
+    let show = show_of(alloc, parts)?;
+    for base in bases {
+        let answer = take_on::<PlainFader>(rt, alloc, &show, *base, &[]);
+        assert!(rt; answer == Err(RigFault::Universe), "base {base}");
+    }
+    Ok(())
 }
 
 #[test]
 fn universe_limit(rt: HostRuntime) -> Result<(), Fail> {
-    let mut show = Show::new(rt.alloc());
-    patch_no_dimmer(&mut show)?;
-    assert_eq!(rt; universes(rt.alloc(), &show, 1), Ok((0, None)));
-    show.set_patch(513, 1, 255)?;
-    assert_eq!(rt; universes(rt.alloc(), &show, 63998), Ok((1, Some(63999))));
-    for base in [0, 63999, 64000] {
-        assert_eq!(rt;
-            universes(rt.alloc(), &show, base),
-            Err(RigFault::Universe),
-            "base {base}"
-        );
-    }
+    // Dimmer 1 was patched and is not any more.
+    take_plain(
+        &rt,
+        rt.alloc(),
+        &[Part::Patch(1, 1, 255), Part::Patch(1, 0, 255)],
+        1,
+        &[Step::Universes(0, None)],
+    )?;
+    take_plain(
+        &rt,
+        rt.alloc(),
+        &[
+            Part::Patch(1, 1, 255),
+            Part::Patch(1, 0, 255),
+            Part::Patch(513, 1, 255),
+        ],
+        63998,
+        &[Step::Universes(1, Some(63999))],
+    )?;
+    refuse(
+        &rt,
+        rt.alloc(),
+        &[
+            Part::Patch(1, 1, 255),
+            Part::Patch(1, 0, 255),
+            Part::Patch(513, 1, 255),
+        ],
+        &[0, 63999, 64000],
+    )?;
     Ok(())
 }
 
@@ -397,9 +422,7 @@ fn build_again(rt: &impl Abort, show: &mut Show) {
 }
 
 fn opens_dark(rt: &impl Abort, alloc: Global, show: &Show) -> Result<(), RigFault> {
-    let desk: Desk<PlainFader> = Desk::open(alloc, show, 1)?;
-    assert_eq!(rt; slots(rt, &desk), (0, 0));
-    Ok(())
+    take_on::<PlainFader>(rt, alloc, show, 1, &[Step::Slots(0, 0)])
 }
 
 // `rt try --test --fail-alloc N` refuses the Nth growth: N from 1 to 17 refuses each growth of this

@@ -1,5 +1,7 @@
-ghost use Rattle.std.specs.Prelude.{◌<◌};
+ghost use Rattle.std.specs.Prelude.{◌<◌, ◌≤◌, IsTrue, All};
+ghost use Rattle.show_core.specs.Numbers.{is_channel};
 
+use super::shows::{Part, show_of};
 use patch_core::{Rig, RigFault, has_numbers, max_into};
 use show_core::{BuildFault, Show};
 use std::alloc::Global;
@@ -45,108 +47,112 @@ fn max_every_length(rt: HostRuntime) {
 }
 
 // Dimmers of four channels over three universes; dimmer 3 was patched and is not any more.
-fn patched_show(show: &mut Show) -> Result<(), BuildFault> {
-    for (dimmer, channel, byte) in [
-        (1, 7, 128),
-        (2, 1, 255),
-        (3, 7, 255),
-        (512, 7, 255),
-        (513, 2, 255),
-        (514, 7, 64),
-        (8192, 4096, 255),
-        (3, 0, 255),
-    ] {
-        show.set_patch(dimmer, channel, byte)?;
-    }
-    Ok(())
+fn small_show(alloc: Global) -> Result<Show, BuildFault> {
+    show_of(
+        alloc,
+        &[
+            Part::Patch(1, 7, 128),
+            Part::Patch(2, 1, 255),
+            Part::Patch(3, 7, 255),
+            Part::Patch(512, 7, 255),
+            Part::Patch(513, 2, 255),
+            Part::Patch(514, 7, 64),
+            Part::Patch(8192, 4096, 255),
+            Part::Patch(3, 0, 255),
+        ],
+    )
 }
 
-// The slot at a place of the frame of an ordinal, over what was there.
-fn slot_of(
-    rt: &impl Abort,
-    rig: &Rig,
-    k: u16,
-    levels: &[u32],
-    grand: u8,
-    place: usize,
-) -> Option<u8> {
-    assert!(rt; k < 16 && levels.len() == 4096);
-    assert!(rt; levels.iter().all(|level| *level <= 65025));
-    let mut out = [99; 512];
-    rig.frame(k, levels, grand, &mut out);
-    out.get(place).copied()
+fn rig_of(alloc: Global, show: Result<Show, BuildFault>) -> Result<Rig, Fail> {
+    Ok(Rig::new(alloc, &show?, 1)?)
+}
+
+// Whether each level is at most that of a byte at full with a master at full.
+fn are_levels(levels: &[u16]) -> bool
+    ensures { IsTrue result → All (λ level. level ≤ 65025) levels.now }
+{
+    levels.iter().all(|level| *level <= 65025)
+}
+
+fn are_wide_levels(levels: &[u32]) -> bool
+    ensures { IsTrue result → All (λ level. level ≤ 65025) levels.now }
+{
+    levels.iter().all(|level| *level <= 65025)
+}
+
+fn are_channels(channels: &[u16]) -> bool
+    ensures { IsTrue result → All (λ channel. IsTrue (is_channel channel)) channels.now }
+{
+    channels.iter().all(|channel| (1..=4096).contains(channel))
+}
+
+fn widened(levels: &[u16]) -> [u32; 4096] {
+    let mut wide = [0; 4096];
+    for (level, fine) in wide.iter_mut().zip(levels) {
+        *level = u32::from(*fine);
+    }
+    wide
+}
+
+// The frame of an ordinal, over what was there.
+fn frame_of(rt: &impl Abort, rig: &Rig, k: u16, levels: &[u16; 4096], grand: u8) -> [u8; 512] {
+    let wide = widened(levels);
+    assert!(rt; k < 16 && are_wide_levels(&wide));
+    let mut frame = [99; 512];
+    rig.frame(k, &wide, grand, &mut frame);
+    frame
 }
 
 // The frames of all ordinals, over what was there.
-fn drawn(rt: &impl Abort, rig: &Rig, levels: &[u16], grand: u8) -> [[u8; 512]; 16] {
-    assert!(rt; levels.len() == 4096 && levels.iter().all(|level| *level <= 65025));
+fn drawn(rt: &impl Abort, rig: &Rig, levels: &[u16; 4096], grand: u8) -> [[u8; 512]; 16] {
+    assert!(rt; are_levels(levels));
     let mut frames = [[99; 512]; 16];
     rig.draw(&mut frames, levels, grand);
     frames
 }
 
-// The slot at a place of the frame of an ordinal, of the frames that are drawn together.
-fn drawn_slot(
-    rt: &impl Abort,
-    rig: &Rig,
-    k: u16,
-    levels: &[u16],
-    grand: u8,
-    place: usize,
-) -> Option<u8> {
-    let frames = drawn(rt, rig, levels, grand);
-    frames.get(usize::from(k))?.get(place).copied()
-}
-
-// The same slot, drawn alone and drawn together with all others.
-fn both_slots(
-    rt: &impl Abort,
-    rig: &Rig,
-    k: u16,
-    levels: &[u16],
-    grand: u8,
-    place: usize,
-) -> [Option<u8>; 2] {
-    let mut wide = [0; 4096];
-    for (level, fine) in wide.iter_mut().zip(levels) {
-        *level = u32::from(*fine);
+// The slots at some places, each of the frame of an ordinal at a grand master, are these: where
+// the frame is drawn alone, and where it is drawn together with all others.
+fn slots_are(rt: &impl Abort, rig: &Rig, levels: &[u16; 4096], rows: &[(u16, u8, usize, u8)]) {
+    for (k, grand, place, slot) in rows {
+        let alone = frame_of(rt, rig, *k, levels, *grand);
+        let together = drawn(rt, rig, levels, *grand);
+        assert!(rt;
+            alone.get(*place) == Some(slot),
+            "place {place} of {k} at {grand}"
+        );
+        assert!(rt;
+            together.get(usize::from(*k)) == Some(&alone),
+            "{k} at {grand}"
+        );
     }
-    [
-        slot_of(rt, rig, k, &wide, grand, place),
-        drawn_slot(rt, rig, k, levels, grand, place),
-    ]
-}
-
-// A rig of the patched show.
-fn small_rig(rt: &impl Abort, alloc: Global) -> Result<Rig, BuildFault> {
-    let mut show = Show::new(alloc);
-    patched_show(&mut show)?;
-    Ok(Rig::new(alloc, &show, 1).expect(rt, "a rig"))
 }
 
 #[test]
 fn frame_half(rt: HostRuntime) -> Result<(), Fail> {
-    let rig = small_rig(&rt, rt.alloc())?;
+    let rig = rig_of(rt.alloc(), small_show(rt.alloc()))?;
     let mut levels = [0; 4096];
     levels[6] = 32640;
     levels[4095] = 65025;
-    for (k, grand, place, slot) in [
-        (0, 255, 0, 64),
-        (0, 255, 1, 0),
-        (0, 255, 2, 0),
-        (0, 255, 511, 128),
-        (0, 128, 511, 64),
-        (0, 0, 511, 0),
-        (1, 255, 0, 0),
-        (1, 255, 1, 32),
-        (2, 255, 1, 0),
-        (15, 255, 511, 255),
-        (15, 128, 511, 128),
-        (15, 128, 510, 0),
-    ] {
-        let found = both_slots(&rt, &rig, k, &levels, grand, place);
-        assert!(rt; found == [Some(slot); 2], "place {place} of {k} at {grand}");
-    }
+    slots_are(
+        &rt,
+        &rig,
+        &levels,
+        &[
+            (0, 255, 0, 64),
+            (0, 255, 1, 0),
+            (0, 255, 2, 0),
+            (0, 255, 511, 128),
+            (0, 128, 511, 64),
+            (0, 0, 511, 0),
+            (1, 255, 0, 0),
+            (1, 255, 1, 32),
+            (2, 255, 1, 0),
+            (15, 255, 511, 255),
+            (15, 128, 511, 128),
+            (15, 128, 510, 0),
+        ],
+    );
     Ok(())
 }
 
@@ -158,17 +164,16 @@ fn patch_whole_universes(show: &mut Show) -> Result<(), BuildFault> {
     show.set_patch(1100, 0, 255)
 }
 
-// A rig in which each dimmer of the second universe is patched, at full, and all but one of the
-// third.
-fn whole_rig(rt: &impl Abort, alloc: Global) -> Result<Rig, BuildFault> {
+// Each dimmer of the second universe is patched, at full, and all but one of the third.
+fn whole_show(alloc: Global) -> Result<Show, BuildFault> {
     let mut show = Show::new(alloc);
     patch_whole_universes(&mut show)?;
-    Ok(Rig::new(alloc, &show, 1).expect(rt, "a rig"))
+    Ok(show)
 }
 
 #[test]
 fn whole_universe(rt: HostRuntime) -> Result<(), Fail> {
-    let rig = whole_rig(&rt, rt.alloc())?;
+    let rig = rig_of(rt.alloc(), whole_show(rt.alloc()))?;
     let mut levels = [0; 4096];
     for place in 0..4096 {
         levels[place] = 255 * (place % 256) as u16;
@@ -183,78 +188,100 @@ fn whole_universe(rt: HostRuntime) -> Result<(), Fail> {
     Ok(())
 }
 
+// Some channels are at a level.
+fn put(levels: &mut [u16; 4096], channels: &[u16], level: u16) {
+    for channel in channels {
+        if (1..=4096).contains(channel) {
+            levels[usize::from(*channel) - 1] = level;
+        }
+    }
+}
+
 // Puts some channels to a level, and tells whether the frames that are drawn anew for them alone
 // are those that are drawn as a whole.
 fn redraws(
     rt: &impl Abort,
     rig: &Rig,
-    frames: &mut [[u8; 512]],
-    levels: &mut [u16],
+    frames: &mut [[u8; 512]; 16],
+    levels: &mut [u16; 4096],
     channels: &[u16],
     level: u16,
 ) -> bool {
-    for channel in channels {
-        assert!(rt; 1 <= *channel && *channel <= 4096 && levels.len() == 4096);
-        levels[usize::from(*channel) - 1] = level;
-    }
-    assert!(rt; levels.len() == 4096 && frames.len() == 16);
-    assert!(rt; levels.iter().all(|level| *level <= 65025));
-    assert!(rt; channels.iter().all(|channel| (1..=4096).contains(channel)));
+    put(levels, channels, level);
+    assert!(rt; are_levels(levels) && are_channels(channels));
     rig.redraw(frames, channels, levels, 200);
-    let whole = drawn(rt, rig, levels, 200);
-    whole.as_slice() == &*frames
+    *frames == drawn(rt, rig, levels, 200)
 }
 
 // Channel 7 has dimmers in two universes, channels 3 and 5 have none, and 4096 has the last one.
 #[test]
 fn redraw_of_some_channels(rt: HostRuntime) -> Result<(), Fail> {
-    let rig = small_rig(&rt, rt.alloc())?;
+    let rig = rig_of(rt.alloc(), small_show(rt.alloc()))?;
     let mut levels = [0; 4096];
     let mut frames = [[0; 512]; 16];
-    assert!(rt; redraws(&rt, &rig, &mut frames, &mut levels, &[7, 3, 7], 65025));
-    assert!(rt; redraws(&rt, &rig, &mut frames, &mut levels, &[4096, 1, 2], 255));
-    assert!(rt; redraws(&rt, &rig, &mut frames, &mut levels, &[7, 4096, 5], 32640));
-    assert!(rt; redraws(&rt, &rig, &mut frames, &mut levels, &[], 0));
+    let rows: &[(&[u16], u16)] = &[
+        (&[7, 3, 7], 65025),
+        (&[4096, 1, 2], 255),
+        (&[7, 4096, 5], 32640),
+        (&[], 0),
+    ];
+    for (channels, level) in rows {
+        assert!(rt;
+            redraws(&rt, &rig, &mut frames, &mut levels, channels, *level),
+            "to {level}"
+        );
+    }
     Ok(())
 }
 
-fn fault_of(alloc: Global, show: &Show, base: u16) -> Option<RigFault> {
+// Whether a rig has this base, or this fault, and the universes have no numbers just where it has
+// a fault.
+fn has_base(alloc: Global, show: &Show, base: u16, fault: Option<RigFault>) -> bool {
     match Rig::new(alloc, show, base) {
-        Ok(_) => None,
-        Err(fault) => Some(fault),
+        Ok(rig) => fault.is_none() && rig.base() == base && has_numbers(show, base),
+        Err(found) => fault == Some(found) && !has_numbers(show, base),
     }
 }
 
-// Dimmer 1 was patched and is not any more.
-fn patch_no_dimmer(show: &mut Show) -> Result<(), BuildFault> {
-    show.set_patch(1, 1, 255)?;
-    show.set_patch(1, 0, 255)
-}
-
-// Whether a rig has this fault at the base, and the universes have no numbers just where it does.
-fn has_fault(alloc: Global, show: &Show, base: u16, fault: Option<RigFault>) -> bool {
-    fault_of(alloc, show, base) == fault && has_numbers(show, base) == fault.is_none()
+// A rig of a show of these parts has these bases, or these faults.
+fn have_bases(
+    rt: &impl Abort,
+    alloc: Global,
+    parts: &[Part],
+    rows: &[(u16, Option<RigFault>)],
+) -> Result<(), BuildFault> {
+    let show = show_of(alloc, parts)?;
+    for (base, fault) in rows {
+        assert!(rt; has_base(alloc, &show, *base, *fault), "base {base}");
+    }
+    Ok(())
 }
 
 #[test]
 fn universe_limit(rt: HostRuntime) -> Result<(), Fail> {
-    let mut show = Show::new(rt.alloc());
-    patch_no_dimmer(&mut show)?;
-    for (base, fault) in [
-        (0, Some(RigFault::Universe)),
-        (1, None),
-        (63999, None),
-        (64000, Some(RigFault::Universe)),
-        (65535, Some(RigFault::Universe)),
-    ] {
-        assert!(rt; has_fault(rt.alloc(), &show, base, fault), "base {base}");
-    }
-    show.set_patch(513, 1, 255)?;
-    for (base, fault) in [(63998, None), (63999, Some(RigFault::Universe))] {
-        assert!(rt; has_fault(rt.alloc(), &show, base, fault), "base {base}");
-    }
-    let rig = Rig::new(rt.alloc(), &show, 63998).expect(&rt, "a rig");
-    assert!(rt; rig.base() == 63998);
+    // Dimmer 1 was patched and is not any more.
+    have_bases(
+        &rt,
+        rt.alloc(),
+        &[Part::Patch(1, 1, 255), Part::Patch(1, 0, 255)],
+        &[
+            (0, Some(RigFault::Universe)),
+            (1, None),
+            (63999, None),
+            (64000, Some(RigFault::Universe)),
+            (65535, Some(RigFault::Universe)),
+        ],
+    )?;
+    have_bases(
+        &rt,
+        rt.alloc(),
+        &[
+            Part::Patch(1, 1, 255),
+            Part::Patch(1, 0, 255),
+            Part::Patch(513, 1, 255),
+        ],
+        &[(63998, None), (63999, Some(RigFault::Universe))],
+    )?;
     Ok(())
 }
 

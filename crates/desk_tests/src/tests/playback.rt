@@ -1,37 +1,12 @@
 ghost use Rattle.std.specs.Prelude.{◌≡◌, ◌^◌, ◌<◌, ◌≤◌};
 
-use super::shows::add_two_cues;
+use super::shows::{Part, add_parts, set_follow, show_of, two_cues};
 use fade_core::{Fader, PlainFader, StepFader};
 use playback_core::{NoMove, Playback};
-use show_core::{BuildFault, Rate, Show};
+use show_core::{BuildFault, Show};
 use std::alloc::{AllocError, Global};
 use std::process::Abort;
 use std::test::Fail;
-
-fn two_cues(rt: &impl Abort, alloc: Global) -> Result<Show, BuildFault> {
-    let mut show = Show::new(alloc);
-    add_two_cues(rt, &mut show)?;
-    Ok(show)
-}
-
-fn go<F: Fader>(playback: &mut Playback<F>, show: &Show, moment: u32) -> Result<u32, NoMove>
-    requires not_before { F.latest playback.old.fader ≤ moment }
-    ensures { F.latest playback.new.fader ≤ moment }
-{
-    playback.go(show, u64::from(moment))
-}
-
-fn goto<F: Fader>(
-    playback: &mut Playback<F>,
-    show: &Show,
-    n: u32,
-    moment: u32,
-) -> Result<u32, NoMove>
-    requires not_before { F.latest playback.old.fader ≤ moment }
-    ensures { F.latest playback.new.fader ≤ moment }
-{
-    playback.goto(show, n, u64::from(moment))
-}
 
 // Each millisecond passes.
 fn pass<F: Fader>(playback: &mut Playback<F>, show: &Show, from: u32, to: u32)
@@ -45,83 +20,8 @@ fn pass<F: Fader>(playback: &mut Playback<F>, show: &Show, from: u32, to: u32)
     playback.advance(show, u64::from(to));
 }
 
-// The level of channel 1 where the first cue goes at 0.
-fn first_cue_level<F: Fader>(
-    rt: &impl Abort,
-    alloc: Global,
-    show: &Show,
-    moment: u32,
-) -> Result<u32, AllocError> {
-    let mut playback: Playback<F> = Playback::new(alloc)?;
-    assert_eq!(rt; go(&mut playback, show, 0), Ok(1000));
-    pass(&mut playback, show, 0, moment);
-    Ok(playback.level(1))
-}
-
 fn levels<F: Fader>(playback: &Playback<F>) -> (u32, u32) {
     (playback.level(1), playback.level(2))
-}
-
-// The levels of both channels at 11000 where the first cue goes at 0 and the second at 10000.
-fn crossed<F: Fader>(rt: &impl Abort, playback: &mut Playback<F>, show: &Show) -> (u32, u32)
-    requires at_0 { F.latest playback.old.fader ≡ 0 }
-    ensures { F.latest playback.new.fader ≡ 11000 }
-{
-    assert_eq!(rt; go(playback, show, 0), Ok(1000));
-    pass(playback, show, 0, 10000);
-    assert_eq!(rt; go(playback, show, 10000), Ok(2000));
-    pass(playback, show, 10000, 11000);
-    levels(playback)
-}
-
-// The levels of both channels where the first cue goes at 0 and the second at 10000: at 11000,
-// and at 12000 after a goto to the first cue at 11000.
-fn crossfade_levels<F: Fader>(
-    rt: &impl Abort,
-    alloc: Global,
-    show: &Show,
-) -> Result<[(u32, u32); 2], AllocError> {
-    let mut playback: Playback<F> = Playback::new(alloc)?;
-    let crossed = crossed(rt, &mut playback, show);
-    assert_eq!(rt; goto(&mut playback, show, 1000, 11000), Ok(1000));
-    pass(&mut playback, show, 11000, 12000);
-    Ok([crossed, levels(&playback)])
-}
-
-// The same with each fader.
-fn first_cue_levels(
-    rt: &impl Abort,
-    alloc: Global,
-    show: &Show,
-    moment: u32,
-) -> Result<[u32; 2], AllocError> {
-    Ok([
-        first_cue_level::<PlainFader>(rt, alloc, show, moment)?,
-        first_cue_level::<StepFader>(rt, alloc, show, moment)?,
-    ])
-}
-
-fn crossfades(
-    rt: &impl Abort,
-    alloc: Global,
-    show: &Show,
-) -> Result<[[(u32, u32); 2]; 2], AllocError> {
-    Ok([
-        crossfade_levels::<PlainFader>(rt, alloc, show)?,
-        crossfade_levels::<StepFader>(rt, alloc, show)?,
-    ])
-}
-
-#[test]
-fn every_millisecond(rt: HostRuntime) -> Result<(), Fail> {
-    let show = two_cues(&rt, rt.alloc())?;
-    for (moment, level) in [(2500, 32512), (2510, 32642), (2525, 32837), (5000, 65025)] {
-        let found = first_cue_levels(&rt, rt.alloc(), &show, moment);
-        assert!(rt; found == Ok([level; 2]), "at {moment}");
-    }
-    let found = crossfades(&rt, rt.alloc(), &show);
-    assert!(rt; found == Ok([[(48769, 32512), (52020, 26010)]; 2]));
-    Ok(())
 }
 
 // A move with its answer, time that passes, or what is seen after the steps so far.
@@ -131,36 +31,48 @@ enum Step {
     Goto(u32, Result<u32, NoMove>),
     Stop,
     Pass,
+    PassEachMillisecond,
     Due(bool),
     Current(Option<u32>),
     Levels(u32, u32),
 }
 
-fn holds<F: Fader>(playback: &mut Playback<F>, show: &Show, moment: u32, step: &Step) -> bool
-    requires not_before { F.latest playback.old.fader ≤ moment }
+fn holds<F: Fader>(
+    playback: &mut Playback<F>,
+    show: &Show,
+    before: u32,
+    moment: u32,
+    step: &Step,
+) -> bool
+    requires not_before { F.latest playback.old.fader ≤ before }
+    requires later { before ≤ moment }
     ensures { F.latest playback.new.fader ≤ moment }
 {
-    let moment = u64::from(moment);
+    let now = u64::from(moment);
     match step {
-        Step::Go(answer) => playback.go(show, moment) == *answer,
-        Step::Back(answer) => playback.back(show, moment) == *answer,
-        Step::Goto(n, answer) => playback.goto(show, *n, moment) == *answer,
+        Step::Go(answer) => playback.go(show, now) == *answer,
+        Step::Back(answer) => playback.back(show, now) == *answer,
+        Step::Goto(n, answer) => playback.goto(show, *n, now) == *answer,
         Step::Stop => {
-            playback.stop(show, moment);
+            playback.stop(show, now);
             true
         }
         Step::Pass => {
-            playback.advance(show, moment);
+            playback.advance(show, now);
             true
         }
-        Step::Due(due) => playback.is_due(moment) == *due,
+        Step::PassEachMillisecond => {
+            pass(playback, show, before, moment);
+            true
+        }
+        Step::Due(due) => playback.is_due(now) == *due,
         Step::Current(cue) => playback.current() == *cue,
         Step::Levels(first, second) => levels(playback) == (*first, *second),
     }
 }
 
 // A playback takes the steps, each at its moment.
-fn take_steps<F: Fader>(
+fn take_on<F: Fader>(
     rt: &impl Abort,
     alloc: Global,
     show: &Show,
@@ -169,24 +81,75 @@ fn take_steps<F: Fader>(
     let mut playback: Playback<F> = Playback::new(alloc)?;
     let mut now = 0;
     for (moment, step) in steps {
+        let before = now;
         now = now.max(*moment);
-        assert!(rt; holds(&mut playback, show, now, step), "at {moment}");
+        assert!(rt;
+            holds(&mut playback, show, before, now, step),
+            "at {moment}"
+        );
     }
     Ok(())
 }
 
-fn open_three_cues(show: &mut Show) -> Result<(), BuildFault> {
-    for n in &[1000, 1500, 2000] {
-        show.open_cue(*n)?;
-    }
+// A playback of this show takes the steps, with each fader.
+fn take_both(
+    rt: &impl Abort,
+    alloc: Global,
+    show: &Show,
+    steps: &[(u32, Step)],
+) -> Result<(), AllocError> {
+    take_on::<PlainFader>(rt, alloc, show, steps)?;
+    take_on::<StepFader>(rt, alloc, show, steps)
+}
+
+// The same with the show of the two cues and more parts.
+fn take_steps(
+    rt: &impl Abort,
+    alloc: Global,
+    more: &[Part],
+    steps: &[(u32, Step)],
+) -> Result<(), Fail> {
+    let mut show = two_cues(alloc)?;
+    add_parts(&mut show, more)?;
+    take_both(rt, alloc, &show, steps)?;
     Ok(())
+}
+
+// The first cue goes at 0 and the second at 10000; the first goes again at 11000.
+#[test]
+fn every_millisecond(rt: HostRuntime) -> Result<(), Fail> {
+    take_steps(
+        &rt,
+        rt.alloc(),
+        &[],
+        &[
+            (0, Step::Go(Ok(1000))),
+            (2500, Step::PassEachMillisecond),
+            (2500, Step::Levels(32512, 0)),
+            (2510, Step::PassEachMillisecond),
+            (2510, Step::Levels(32642, 0)),
+            (2525, Step::PassEachMillisecond),
+            (2525, Step::Levels(32837, 0)),
+            (5000, Step::PassEachMillisecond),
+            (5000, Step::Levels(65025, 0)),
+            (10000, Step::PassEachMillisecond),
+            (10000, Step::Go(Ok(2000))),
+            (11000, Step::PassEachMillisecond),
+            (11000, Step::Levels(48769, 32512)),
+            (11000, Step::Goto(1000, Ok(1000))),
+            (12000, Step::PassEachMillisecond),
+            (12000, Step::Levels(52020, 26010)),
+        ],
+    )
 }
 
 #[test]
 fn go_back_goto(rt: HostRuntime) -> Result<(), Fail> {
-    let mut show = Show::new(rt.alloc());
-    open_three_cues(&mut show)?;
-    take_steps::<PlainFader>(
+    let show = show_of(
+        rt.alloc(),
+        &[Part::Cue(1000), Part::Cue(1500), Part::Cue(2000)],
+    )?;
+    take_both(
         &rt,
         rt.alloc(),
         &show,
@@ -205,37 +168,12 @@ fn go_back_goto(rt: HostRuntime) -> Result<(), Fail> {
     Ok(())
 }
 
-// The two cues, the second of which follows the first so long after.
-fn follow_on(rt: &impl Abort, alloc: Global, time: u32) -> Result<Show, BuildFault>
-    requires { time ≤ 5999990 }
-{
-    let mut show = two_cues(rt, alloc)?;
-    assert!(rt; show.cue(1000).is_some());
-    show.set_follow(1000, time);
-    Ok(show)
-}
-
-// A playback of the two cues so takes the steps, with each fader.
-fn take_follow_on(
-    rt: &impl Abort,
-    alloc: Global,
-    time: u32,
-    steps: &[(u32, Step)],
-) -> Result<(), Fail>
-    requires { time ≤ 5999990 }
-{
-    let show = follow_on(rt, alloc, time)?;
-    take_steps::<PlainFader>(rt, alloc, &show, steps)?;
-    take_steps::<StepFader>(rt, alloc, &show, steps)?;
-    Ok(())
-}
-
 #[test]
 fn follow_at_tick(rt: HostRuntime) -> Result<(), Fail> {
-    take_follow_on(
+    take_steps(
         &rt,
         rt.alloc(),
-        10000,
+        &[Part::Follow(1000, 10000)],
         &[
             (0, Step::Go(Ok(1000))),
             (9999, Step::Due(false)),
@@ -249,10 +187,10 @@ fn follow_at_tick(rt: HostRuntime) -> Result<(), Fail> {
 
 #[test]
 fn follow_then_go(rt: HostRuntime) -> Result<(), Fail> {
-    take_follow_on(
+    take_steps(
         &rt,
         rt.alloc(),
-        10000,
+        &[Part::Follow(1000, 10000)],
         &[
             (0, Step::Go(Ok(1000))),
             (10000, Step::Go(Err(NoMove::AtEnd))),
@@ -265,10 +203,10 @@ fn follow_then_go(rt: HostRuntime) -> Result<(), Fail> {
 
 #[test]
 fn follow_after_goto(rt: HostRuntime) -> Result<(), Fail> {
-    take_follow_on(
+    take_steps(
         &rt,
         rt.alloc(),
-        10000,
+        &[Part::Follow(1000, 10000)],
         &[
             (0, Step::Go(Ok(1000))),
             (5000, Step::Goto(1000, Ok(1000))),
@@ -284,10 +222,10 @@ fn follow_after_goto(rt: HostRuntime) -> Result<(), Fail> {
 
 #[test]
 fn follow_zero(rt: HostRuntime) -> Result<(), Fail> {
-    take_follow_on(
+    take_steps(
         &rt,
         rt.alloc(),
-        0,
+        &[Part::Follow(1000, 0)],
         &[
             (0, Step::Go(Ok(1000))),
             (0, Step::Current(Some(1000))),
@@ -303,10 +241,10 @@ fn follow_zero(rt: HostRuntime) -> Result<(), Fail> {
 // No cue follows after a stop, until the next move.
 #[test]
 fn follow_after_stop(rt: HostRuntime) -> Result<(), Fail> {
-    take_follow_on(
+    take_steps(
         &rt,
         rt.alloc(),
-        10000,
+        &[Part::Follow(1000, 10000)],
         &[
             (0, Step::Go(Ok(1000))),
             (9999, Step::Stop),
@@ -319,26 +257,24 @@ fn follow_after_stop(rt: HostRuntime) -> Result<(), Fail> {
     )
 }
 
-fn open_followed(rt: &impl Abort, show: &mut Show, n: u32) -> Result<(), BuildFault> {
+fn open_followed(show: &mut Show, n: u32) -> Result<(), BuildFault> {
     show.open_cue(n)?;
-    assert!(rt; show.cue(n).is_some());
-    show.set_follow(n, 0);
-    Ok(())
+    set_follow(show, n, 0)
 }
 
-fn open_chain(rt: &impl Abort, show: &mut Show) -> Result<(), BuildFault> {
+fn chain(alloc: Global) -> Result<Show, BuildFault> {
+    let mut show = Show::new(alloc);
     for n in 1..2001 {
-        open_followed(rt, show, n)?;
+        open_followed(&mut show, n)?;
     }
-    Ok(())
+    Ok(show)
 }
 
 // Two thousand cues, each followed at once by the next, all go at one call.
 #[test]
 fn follow_chain(rt: HostRuntime) -> Result<(), Fail> {
-    let mut show = Show::new(rt.alloc());
-    open_chain(&rt, &mut show)?;
-    take_steps::<StepFader>(
+    let show = chain(rt.alloc())?;
+    take_both(
         &rt,
         rt.alloc(),
         &show,
@@ -354,13 +290,18 @@ fn follow_chain(rt: HostRuntime) -> Result<(), Fail> {
     Ok(())
 }
 
+// The level of the last channel of a new playback; one that was refused is asked for once more.
+fn last_level<F: Fader>(rt: &impl Abort, alloc: Global) -> u32 {
+    let playback: Playback<F> = match Playback::new(alloc) {
+        Ok(playback) => playback,
+        Err(AllocError) => Playback::new(alloc).expect(rt, "memory"),
+    };
+    playback.level(4096)
+}
+
 // `rt try --test --fail-alloc N` refuses the Nth growth: N from 1 to 4 refuses each growth of `new`
 // in turn, and this test passes each time. The other tests then answer their error.
 #[test]
 fn each_growth_refused(rt: HostRuntime) {
-    let playback: Playback<PlainFader> = match Playback::new(rt.alloc()) {
-        Ok(playback) => playback,
-        Err(AllocError) => Playback::new(rt.alloc()).expect(&rt, "memory"),
-    };
-    assert_eq!(rt; playback.level(4096), 0);
+    assert!(rt; last_level::<PlainFader>(&rt, rt.alloc()) == 0);
 }
