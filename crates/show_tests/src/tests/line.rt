@@ -19,7 +19,7 @@ fn fault_of(line: &[u8]) -> Option<LineFault> {
 
 #[test]
 fn faults_in_words(rt: HostRuntime) -> Result<(), Fail> {
-    for (fault, words) in [
+    for (fault, words) in &[
         (LineFault::Ident, "IDENT is not 3:0"),
         (LineFault::MissingNumber, "a number is missing"),
         (LineFault::BadNumber, "not a number"),
@@ -30,9 +30,9 @@ fn faults_in_words(rt: HostRuntime) -> Result<(), Fail> {
         (LineFault::Limit, "beyond a limit"),
     ] {
         let told = format!(in rt.alloc(); "{fault}")?;
-        assert!(rt; told.as_str() == words, "{told}");
+        assert!(rt; told.as_str() == *words, "{told}");
     }
-    for (line, debugged) in [
+    for (line, debugged) in &[
         (b"GROUP 500".as_slice(), "Group(500)"),
         (b"CHAN 7@H9", "(7, 9)"),
     ] {
@@ -52,7 +52,7 @@ fn opens(line: &[u8], opened: Option<Record>, keyword: Keyword) -> bool {
 
 #[test]
 fn opened_records(rt: HostRuntime) {
-    for (line, opened, keyword) in [
+    for (line, opened, keyword) in &[
         (
             b"cue 9999.999 1 more".as_slice(),
             Some(Record::Cue(9_999_999)),
@@ -70,21 +70,21 @@ fn opened_records(rt: HostRuntime) {
         (b"EndData", None, Keyword::EndData),
         (b"SET Channels 96", None, Keyword::Setting),
     ] {
-        assert!(rt; opens(line, opened, keyword), "{line:?}");
+        assert!(rt; opens(line, *opened, *keyword), "{line:?}");
     }
     assert!(rt; read_line(CUE, b" , ! CUE 1").is_none());
 }
 
 #[test]
 fn keywords(rt: HostRuntime) {
-    for (keyword, owns, ends) in [
+    for (keyword, owns, ends) in &[
         (Keyword::Maker, true, false),
         (Keyword::Clear, true, false),
         (Keyword::Unknown, false, false),
         (Keyword::EndData, true, true),
     ] {
         assert!(rt;
-            keyword.may_own() == owns && keyword.is_end() == ends,
+            keyword.may_own() == *owns && keyword.is_end() == *ends,
             "{keyword:?}"
         );
     }
@@ -164,7 +164,7 @@ const LONG_PAIRS: [(u16, u8); 18] = [
 #[test]
 fn pairs_of_a_long_line(rt: HostRuntime) {
     assert!(rt; has_pairs(LONG_LINE, &LONG_PAIRS));
-    for (line, fault) in [
+    for (line, fault) in &[
         (
             b"CHAN 1@1 2@1 3@1 4@1 5@1 6@1 7@1 8@1 9@1 1@1 2@1 3@1 4@1 5@1 6@1 7@1 8".as_slice(),
             LineFault::HalfPair,
@@ -174,7 +174,7 @@ fn pairs_of_a_long_line(rt: HostRuntime) {
             LineFault::BadNumber,
         ),
     ] {
-        assert!(rt; fault_of(line) == Some(fault), "{line:?}");
+        assert!(rt; fault_of(line) == Some(*fault), "{line:?}");
     }
 }
 
@@ -209,11 +209,14 @@ fn rate_of(line: &[u8]) -> Option<(bool, u32, Rate)> {
 
 #[test]
 fn rates(rt: HostRuntime) {
-    for (line, rises, time, delay) in [
+    for (line, rises, time, delay) in &[
         (b"UP 99:59.99 .5 x".as_slice(), true, 5_999_990, 500),
         (b"DOWN 4", false, 4000, 0),
     ] {
-        let rate = Rate { time, delay };
-        assert!(rt; rate_of(line) == Some((rises, 1000, rate)), "{line:?}");
+        let rate = Rate {
+            time: *time,
+            delay: *delay,
+        };
+        assert!(rt; rate_of(line) == Some((*rises, 1000, rate)), "{line:?}");
     }
 }

@@ -48,14 +48,14 @@ fn reads_at_once(alloc: Global, text: &[u8], answer: Result<(u32, u32), ShowFaul
 fn nothing_grows(rt: HostRuntime) {
     limits_law();
     one_show_law();
-    for (text, answer) in [
+    for (text, answer) in &[
         (b"".as_slice(), Ok((0, 0))),
         (b"! a comment\n\n", Ok((2, 0))),
         (b"CUE x\nCUE 1", Err(ShowFault::BadNumber(1))),
         (b"UP 5\nIDENT 3:0\nCLEAR ALL\nEFFECT 1", Ok((4, 2))),
         (b"PATCH 1 0<1@FL\nSUB 101", Err(ShowFault::Limit(2))),
     ] {
-        assert!(rt; reads_at_once(rt.alloc(), text, answer), "{text:?}");
+        assert!(rt; reads_at_once(rt.alloc(), text, *answer), "{text:?}");
     }
 }
 
@@ -97,13 +97,13 @@ fn too_many_cues(rt: HostRuntime) -> Result<(), Fail> {
     for n in 1..=2000 {
         text.push_str(&format!(in rt.alloc(); "CUE {n}\n")?)?;
     }
-    for (last, answer) in [
+    for (last, answer) in &[
         ("CUE 2001\n", Err(ShowFault::Limit(2001))),
         ("CUE 7\nCUE 2001\n", Err(ShowFault::Limit(2002))),
         ("CUE 7\nCLEAR CUES\nCUE 2001\n", Ok((2003, 0))),
     ] {
         let whole = format!(in rt.alloc(); "{text}{last}")?;
-        assert!(rt; reading(rt.alloc(), whole.as_bytes()) == answer, "{last}");
+        assert!(rt; reading(rt.alloc(), whole.as_bytes()) == *answer, "{last}");
     }
     Ok(())
 }
@@ -217,7 +217,7 @@ fn lines_between(rt: HostRuntime) -> Result<(), Fail> {
 // CLEAR takes away what was said so far of its tables, and of no other.
 #[test]
 fn cleared_tables(rt: HostRuntime) -> Result<(), Fail> {
-    for (cleared, cues, dimmers) in [
+    for (cleared, cues, dimmers) in &[
         (
             "CUES",
             [].as_slice(),

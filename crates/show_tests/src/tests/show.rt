@@ -59,7 +59,7 @@ fn open_cues(show: &mut Show, numbers: &[u32]) -> Result<(), BuildFault> {
 fn cues_in_order(rt: HostRuntime) -> Result<(), Fail> {
     let mut show = Show::new(rt.alloc());
     open_cues(&mut show, &[2000, 1500, 1000])?;
-    for (n, next, before) in [
+    for (n, next, before) in &[
         (0, Some(1000), None),
         (1000, Some(1500), None),
         (1001, Some(1500), Some(1000)),
@@ -67,7 +67,7 @@ fn cues_in_order(rt: HostRuntime) -> Result<(), Fail> {
         (2000, None, Some(1500)),
     ] {
         assert!(rt;
-            (show.next(n), show.before(n)) == (next, before),
+            (show.next(*n), show.before(*n)) == (*next, *before),
             "around {n}"
         );
     }
@@ -108,10 +108,10 @@ fn records_of_a_show(rt: HostRuntime) -> Result<(), Fail> {
 // Cue 1 with three channels, and a patch over three universes.
 fn look_show(rt: &impl Abort, show: &mut Show) -> Result<(), BuildFault> {
     show.open_cue(1000)?;
-    for (channel, byte) in [(1, 128), (2, 255), (4096, 255)] {
-        light_cue(rt, show, 1000, channel, byte)?;
+    for (channel, byte) in &[(1, 128), (2, 255), (4096, 255)] {
+        light_cue(rt, show, 1000, *channel, *byte)?;
     }
-    for (dimmer, channel, byte) in [
+    for (dimmer, channel, byte) in &[
         (1, 1, 128),
         (2, 3, 255),
         (512, 1, 255),
@@ -120,7 +120,7 @@ fn look_show(rt: &impl Abort, show: &mut Show) -> Result<(), BuildFault> {
         (9, 1, 255),
         (9, 0, 255),
     ] {
-        show.set_patch(dimmer, channel, byte)?;
+        show.set_patch(*dimmer, *channel, *byte)?;
     }
     Ok(())
 }
@@ -130,7 +130,7 @@ fn looks_of_each_universe(rt: HostRuntime) -> Result<(), Fail> {
     let mut show = Show::new(rt.alloc());
     look_show(&rt, &mut show)?;
     assert!(rt; show.universes().as_slice() == [0, 1, 15].as_slice());
-    for (ordinal, place, byte) in [
+    for (ordinal, place, byte) in &[
         (0, 0, 64),
         (0, 1, 0),
         (0, 8, 0),
@@ -140,7 +140,7 @@ fn looks_of_each_universe(rt: HostRuntime) -> Result<(), Fail> {
         (15, 511, 255),
     ] {
         assert!(rt;
-            slot(&show, ordinal, place) == Some(byte),
+            slot(&show, *ordinal, *place) == Some(*byte),
             "place {place} of {ordinal}"
         );
     }
@@ -217,7 +217,7 @@ fn copied(rt: &impl Abort, alloc: Global, show: &Show) -> Show {
 #[test]
 fn each_growth_refused(rt: HostRuntime) {
     let mut show = Show::new(rt.alloc());
-    for growth in [
+    for growth in &[
         Growth::Cue,
         Growth::CueLevel,
         Growth::Sub,
@@ -230,7 +230,7 @@ fn each_growth_refused(rt: HostRuntime) {
         Growth::GroupLevels,
         Growth::Patches,
     ] {
-        assert!(rt; grows(&rt, &mut show, growth));
+        assert!(rt; grows(&rt, &mut show, *growth));
     }
     let one = Counts {
         cues: 1,

@@ -112,7 +112,7 @@ fn has_lines(text: &[u8], wanted: &[&[u8]]) -> bool {
 
 #[test]
 fn lines_with_numbers(rt: HostRuntime) {
-    for (text, wanted) in [
+    for (text, wanted) in &[
         (
             b"CUE 1\r\n\nEndData\nCUE 9".as_slice(),
             [b"CUE 1\r".as_slice(), b"", b"EndData", b"CUE 9"].as_slice(),
@@ -138,7 +138,7 @@ fn has_words(line: &[u8], wanted: &[&[u8]]) -> bool {
 // Other control bytes, and a byte order mark, belong to words.
 #[test]
 fn words_before_the_comment(rt: HostRuntime) {
-    for (line, wanted) in [
+    for (line, wanted) in &[
         (
             b"\t Patch,1 1<1@H80;/2=>3\x1a\r! Front 9".as_slice(),
             [b"Patch".as_slice(), b"1", b"1", b"1", b"H80", b"2", b"3"].as_slice(),
@@ -154,11 +154,11 @@ fn words_before_the_comment(rt: HostRuntime) {
 
 #[test]
 fn keywords(rt: HostRuntime) {
-    for (word, keyword, same) in [
+    for (word, keyword, same) in &[
         (b"Patch".as_slice(), b"PATCH".as_slice(), true),
         (b"Patched", b"PATCH", false),
         (b"\xEF\xBB\xBFCUE", b"CUE", false),
     ] {
-        assert!(rt; same_word(word, keyword) == same, "{word:?}");
+        assert!(rt; same_word(word, keyword) == *same, "{word:?}");
     }
 }

@@ -62,7 +62,7 @@ fn look_one(rt: HostRuntime) {
 
 #[test]
 fn source_name_limits(rt: HostRuntime) {
-    for (text, accepted) in [
+    for (text, accepted) in &[
         ("", true),
         ("cueplayer", true),
         ("Bühne", true),
@@ -77,7 +77,7 @@ fn source_name_limits(rt: HostRuntime) {
         ("cue\0player", false),
         ("cueplayer\0", false),
     ] {
-        assert!(rt; SourceName::new(text).is_some() == accepted, "{text}");
+        assert!(rt; SourceName::new(text).is_some() == *accepted, "{text}");
     }
 }
 
@@ -115,7 +115,7 @@ fn parse_lengths(rt: HostRuntime) {
     let whole = look_one_packet();
     let shortest = shortest_packet();
     let trailed = trailed_packet();
-    for (datagram, wanted) in [
+    for (datagram, wanted) in &[
         ([].as_slice(), Err(Unreadable::Short)),
         (&shortest[..125], Err(Unreadable::Short)),
         (&shortest[..126], Ok([].as_slice())),
@@ -123,7 +123,7 @@ fn parse_lengths(rt: HostRuntime) {
         (&trailed, Ok(&whole[126..])),
         (&whole[..637], Err(Unreadable::Length)),
     ] {
-        assert!(rt; reads_as(datagram, wanted), "{} bytes", datagram.len());
+        assert!(rt; reads_as(datagram, *wanted), "{} bytes", datagram.len());
     }
 }
 

@@ -214,7 +214,7 @@ fn answer_to(options: u8, universe: u8, start: u8, priority: u8) -> Result<Taken
 
 #[test]
 fn ignored_kinds(rt: HostRuntime) {
-    for (options, universe, start, priority, reason) in [
+    for (options, universe, start, priority, reason) in &[
         (0, 1, 0, 100, None),
         (0x80, 1, 0, 100, Some(Ignored::Preview)),
         (0, 1, 0xdd, 100, Some(Ignored::AltStart)),
@@ -230,9 +230,9 @@ fn ignored_kinds(rt: HostRuntime) {
         (0xc0, 1, 0, 100, Some(Ignored::Preview)),
         (0xc0, 2, 0, 100, Some(Ignored::OtherUniverse)),
     ] {
-        let answer = answer_to(options, universe, start, priority);
+        let answer = answer_to(*options, *universe, *start, *priority);
         assert!(rt;
-            answer.err() == reason,
+            answer.err() == *reason,
             "{options} {universe} {start} {priority}"
         );
     }

@@ -3,7 +3,7 @@ use sacn_receiver::{Ignored, Taken};
 
 #[test]
 fn replies(rt: HostRuntime) {
-    for (number, reply, text) in [
+    for (number, reply, text) in &[
         (
             1,
             Ok(Taken {
@@ -27,6 +27,6 @@ fn replies(rt: HostRuntime) {
         (6, Err(Ignored::OutOfSequence), "6 ignored OutOfSequence\n"),
         (7, Err(Ignored::SourcesFull), "7 ignored SourcesFull\n"),
     ] {
-        assert!(rt; reply_line(number, reply).as_str() == text, "{text}");
+        assert!(rt; reply_line(*number, *reply).as_str() == *text, "{text}");
     }
 }

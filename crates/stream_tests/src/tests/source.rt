@@ -69,9 +69,9 @@ fn answers(sender: &mut Sender, link: &mut MemoryLink, rows: &[(u8, Offered)]) -
 #[test]
 fn identity_priority(rt: HostRuntime) {
     let name = SourceName::new("cueplayer").unwrap();
-    for (priority, accepted) in [(201, false), (200, true), (0, true)] {
-        let identity = Identity::new(CID, name, priority);
-        assert!(rt; identity.is_some() == accepted, "{priority}");
+    for (priority, accepted) in &[(201, false), (200, true), (0, true)] {
+        let identity = Identity::new(CID, name, *priority);
+        assert!(rt; identity.is_some() == *accepted, "{priority}");
     }
 }
 

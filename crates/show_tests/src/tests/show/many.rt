@@ -79,7 +79,7 @@ fn has_patched(
 #[test]
 fn lists_of_patches(rt: HostRuntime) -> Result<(), Fail> {
     let mut show = Show::new(rt.alloc());
-    for (entries, count, first, second) in [
+    for (entries, count, first, second) in &[
         (
             falling_dimmers(9).as_slice(),
             300,
@@ -96,7 +96,10 @@ fn lists_of_patches(rt: HostRuntime) -> Result<(), Fail> {
         ([(2, (0, 255)), (2, (0, 255))].as_slice(), 148, None, None),
     ] {
         show.set_patches(entries)?;
-        assert!(rt; has_patched(&show, count, first, second), "{count} dimmers");
+        assert!(rt;
+            has_patched(&show, *count, *first, *second),
+            "{count} dimmers"
+        );
     }
     Ok(())
 }
