@@ -17,9 +17,18 @@ SUB 1\nCHAN 1@50\nPATCH 1 1<1@FL 2<2@FL\nENDDATA\n";
 // Dimmers of two universes.
 const WIDE: &[u8] = b"PATCH 1 1<1@FL 1<513@FL\n";
 
-// Of each device the calls that pass before one fails; more than there are, where none does.
+const FADE: &[u8] = b"0 go\n0 tick\n2500 tick\n2525 tick\n5000 tick\n";
+
+const FADE_TEXT: &[u8] = b"0 ok\n0 live 1:s0\n2500 live 1:s1\n2525 live 1:s2\n5000 live 1:s3\n";
+
+// What a play is given beside its input.
 #[derive(Clone, Copy)]
-struct Failing {
+struct Setting<'a> {
+    show: &'a [u8],
+    base: u16,
+    // So many bytes of the input come by a read.
+    step: usize,
+    // Of each device the calls that pass before one fails; more than there are, where none does.
     read: u64,
     send: u64,
     write: u64,
@@ -27,7 +36,11 @@ struct Failing {
 
 const NONE: u64 = 1_000_000;
 
-const NOTHING_FAILS: Failing = Failing {
+// The small show and base 1, and nothing fails.
+const PLAIN: Setting<'static> = Setting {
+    show: SMALL,
+    base: 1,
+    step: 4096,
     read: NONE,
     send: NONE,
     write: NONE,
@@ -42,30 +55,29 @@ struct Run {
 }
 
 impl Run {
-    // The input comes `step` bytes by a read.
-    fn of(
-        rt: &impl Abort,
-        alloc: Global,
-        show: &[u8],
-        base: u16,
-        input: &[u8],
-        step: usize,
-        failing: Failing,
-    ) -> Run {
-        assert!(rt; step > 0);
-        let mut feed = MemoryFeed::new(input, step, failing.read, 1);
-        let mut link = MemoryLink::new(alloc, failing.send, 1);
-        let mut out = MemoryOutput::new(alloc, failing.write, 1);
-        let identity = identity(rt);
+    fn of(rt: &impl Abort, alloc: Global, setting: &Setting<'_>, input: &[u8]) -> Run {
+        assert!(rt; setting.step > 0);
+        let mut feed = MemoryFeed::new(input, setting.step, setting.read, 1);
+        let mut link = MemoryLink::new(alloc, setting.send, 1);
+        let mut out = MemoryOutput::new(alloc, setting.write, 1);
         let answer = play::<PlainFader, _, _, _>(
-            alloc, show, identity, base, &mut feed, &mut link, &mut out,
+            alloc,
+            setting.show,
+            identity(rt),
+            setting.base,
+            &mut feed,
+            &mut link,
+            &mut out,
         );
         Run { answer, link, out }
     }
 
-    // It answered so, and printed this.
-    fn is(&self, answer: Result<(), RunFault>, text: &[u8]) -> bool {
-        self.answer == answer && self.out.bytes.as_slice() == text && !self.out.full
+    // It answered so, printed this, and offered so many packets.
+    fn is(&self, answer: Result<(), RunFault>, text: &[u8], packets: usize) -> bool {
+        self.answer == answer
+            && self.out.bytes.as_slice() == text
+            && !self.out.full
+            && self.link.sends.len() == packets
     }
 
     // Slot 1 of a packet.
@@ -88,7 +100,16 @@ fn identity(rt: &impl Abort) -> Identity {
     Identity::new(cid, name, 100).expect(rt, "a priority")
 }
 
-// A play with the small show and base 1, in which nothing fails.
-fn plays(rt: &impl Abort, alloc: Global, input: &[u8]) -> Run {
-    Run::of(rt, alloc, SMALL, 1, input, 4096, NOTHING_FAILS)
+// The input of a play, its answer, what it prints, and how many packets it offers.
+type Row<'a> = (&'a [u8], Result<(), RunFault>, &'a [u8], usize);
+
+fn holds(rt: &impl Abort, alloc: Global, setting: &Setting<'_>, row: &Row<'_>) -> bool {
+    let (input, answer, text, packets) = *row;
+    Run::of(rt, alloc, setting, input).is(answer, text, packets)
+}
+
+fn play_each(rt: &impl Abort, alloc: Global, setting: &Setting<'_>, rows: &[Row<'_>]) {
+    for (place, row) in rows.iter().enumerate() {
+        assert!(rt; holds(rt, alloc, setting, row), "row {place}");
+    }
 }

@@ -4,6 +4,7 @@ use cueplayer_faults::RunFault;
 use cueplayer_runs::{check, look, slots};
 use devices::memory::MemoryOutput;
 use std::alloc::Global;
+use std::process::Abort;
 
 const CID: [u8; 16] = [
     0xc0, 0xff, 0xee, 0x00, 0x00, 0x00, 0x40, 0x00, 0x80, 0x00, 0x00, 0x00, 0x00, 0x00, 0xe1, 0x31,
@@ -11,7 +12,11 @@ const CID: [u8; 16] = [
 
 const ONE_LAMP: &[u8] = b"IDENT 3:0\nCUE 1\nCHAN 1@H80\nPATCH 1 1<1@H80\nENDDATA\n";
 
-#[derive(Clone, Copy, Debug)]
+const NO_PATCH: &[u8] = b"IDENT 3:0\nCUE 1\nCHAN 1@H80\nENDDATA\n";
+
+const CLEAR_CUES: &[u8] = b"CUE 1\nCHAN 1@FL\nCLEAR CUES\nCHAN 2@FL\nCUE 2\nCLEAR CUE 2\n";
+
+#[derive(Clone, Copy)]
 enum Call {
     Check,
     Look(u32),
@@ -48,38 +53,21 @@ fn end(
     (answer, out)
 }
 
-#[test]
-fn check_rows(rt: HostRuntime) {
-    let console_style_file =
-        b"Ident 3:0\r\nManufacturer Example\r\nConsole Example\r\n$$Format 3.20\r\nClear all\r\n\
-            Set Channels 96\r\nPatch 1 1<1@Hff 2<2@Hff\r\nCue 1\r\n  Up 3\r\n\
-              Text Opening ! house\r\n  Chan 1/Hff 2/H80\r\nEndData\r\nCue 9\r\n";
-    for (row, show, text) in [
-        (
-            "empty_show",
-            b"".as_slice(),
-            b"lines 0 cues 0 subs 0 groups 0 dimmers 0 skipped 0\n".as_slice(),
-        ),
-        (
-            "skipped_lines",
-            b"CUE 1\nCHAN 1@FL\n$$FADE 7\nCHAN 2@50\n$MAKER 9\nCHAN 1@0\nCUE 2 2\nCHAN 3@FL\n",
-            b"lines 8 cues 1 subs 0 groups 0 dimmers 0 skipped 5\n",
-        ),
-        (
-            "console_style_file",
-            console_style_file,
-            b"lines 12 cues 1 subs 0 groups 0 dimmers 2 skipped 1\n",
-        ),
-        (
-            "clear_cues",
-            b"CUE 1\nCHAN 1@FL\nCLEAR CUES\nCHAN 2@FL\nCUE 2\nCLEAR CUE 2\n",
-            b"lines 6 cues 1 subs 0 groups 0 dimmers 0 skipped 2\n",
-        ),
-    ] {
-        let (answer, out) = end(rt.alloc(), Call::Check, show, 0);
-        assert_eq!(rt; answer, Ok(()), "{row}");
-        assert!(rt; out.bytes.as_slice() == text, "{row}");
-    }
+// The packet of a universe, its number in hex, with these first and last slots; all others are 0.
+struct Packet {
+    universe: &'static [u8; 4],
+    first: &'static [u8; 2],
+    last: &'static [u8; 2],
+}
+
+// What is wanted of a run.
+enum Wanted<'a> {
+    Text(&'a [u8]),
+    Packets(&'a [Packet]),
+    // Some text.
+    Any,
+    // This answer, and nothing printed.
+    Fault(RunFault),
 }
 
 // The digits of a packet before its source name's zero bytes, those from the priority to the
@@ -91,9 +79,9 @@ const UP_TO_OPTIONS: &[u8] = b"6400000000";
 
 const UP_TO_START: &[u8] = b"720b02a100000001020100";
 
-// Whether a line is the packet of a universe, its number in hex, with these first and last slots
-// and all others at 0.
-fn is_packet_line(line: &[u8], universe: &[u8], first: &[u8], last: &[u8]) -> bool {
+const ZEROS: [u8; 1020] = [b'0'; 1020];
+
+fn is_line_of(packet: &Packet, line: &[u8]) -> bool {
     if line.len() != 1277 {
         return false;
     }
@@ -106,123 +94,249 @@ fn is_packet_line(line: &[u8], universe: &[u8], first: &[u8], last: &[u8]) -> bo
     let (others, rest) = rest.split_at(1020);
     let (slot_512, end) = rest.split_at(2);
     up_to_name == UP_TO_NAME
-        && is_zeros(padding)
+        && padding == &ZEROS[..110]
         && up_to_options == UP_TO_OPTIONS
-        && number == universe
+        && number == packet.universe.as_slice()
         && up_to_start == UP_TO_START
-        && slot_1 == first
-        && is_zeros(others)
-        && slot_512 == last
+        && slot_1 == packet.first.as_slice()
+        && others == ZEROS.as_slice()
+        && slot_512 == packet.last.as_slice()
         && end == b"\n".as_slice()
 }
 
-fn is_zeros(digits: &[u8]) -> bool {
-    digits.iter().all(|digit| *digit == b'0')
+fn are_lines_of(packets: &[Packet], text: &[u8]) -> bool {
+    let mut rest = text;
+    for packet in packets {
+        if rest.len() < 1277 {
+            return false;
+        }
+        let (line, behind) = rest.split_at(1277);
+        if !is_line_of(packet, line) {
+            return false;
+        }
+        rest = behind;
+    }
+    rest.is_empty()
+}
+
+fn is_wanted(wanted: &Wanted<'_>, answer: Result<(), RunFault>, printed: &[u8]) -> bool {
+    match wanted {
+        Wanted::Text(text) => answer.is_ok() && printed == *text,
+        Wanted::Packets(packets) => answer.is_ok() && are_lines_of(packets, printed),
+        Wanted::Any => answer.is_ok() && !printed.is_empty(),
+        Wanted::Fault(fault) => answer == Err(*fault) && printed.is_empty(),
+    }
+}
+
+// A name, a run, its show, and what is wanted of it.
+type Row<'a> = (&'a str, Call, &'a [u8], Wanted<'a>);
+
+fn holds(alloc: Global, row: &Row<'_>) -> bool {
+    let (_, call, show, wanted) = row;
+    let (answer, out) = end(alloc, *call, show, 0);
+    is_wanted(wanted, answer, out.bytes.as_slice())
+}
+
+fn run_each(rt: &impl Abort, alloc: Global, rows: &[Row<'_>]) {
+    for row in rows {
+        assert!(rt; holds(alloc, row), "{}", row.0);
+    }
+}
+
+#[test]
+fn check_rows(rt: HostRuntime) {
+    run_each(
+        &rt,
+        rt.alloc(),
+        &[
+            (
+                "empty_show",
+                Call::Check,
+                b"",
+                Wanted::Text(b"lines 0 cues 0 subs 0 groups 0 dimmers 0 skipped 0\n"),
+            ),
+            (
+                "skipped_lines",
+                Call::Check,
+                b"CUE 1\nCHAN 1@FL\n$$FADE 7\nCHAN 2@50\n$MAKER 9\nCHAN 1@0\nCUE 2 2\nCHAN 3@FL\n",
+                Wanted::Text(b"lines 8 cues 1 subs 0 groups 0 dimmers 0 skipped 5\n"),
+            ),
+            (
+                "console_style_file",
+                Call::Check,
+                b"Ident 3:0\r\nManufacturer Example\r\nConsole Example\r\n$$Format 3.20\r\n\
+                    Clear all\r\nSet Channels 96\r\nPatch 1 1<1@Hff 2<2@Hff\r\nCue 1\r\n  Up 3\r\n\
+                      Text Opening ! house\r\n  Chan 1/Hff 2/H80\r\nEndData\r\nCue 9\r\n",
+                Wanted::Text(b"lines 12 cues 1 subs 0 groups 0 dimmers 2 skipped 1\n"),
+            ),
+            (
+                "clear_cues",
+                Call::Check,
+                CLEAR_CUES,
+                Wanted::Text(b"lines 6 cues 1 subs 0 groups 0 dimmers 0 skipped 2\n"),
+            ),
+        ],
+    );
 }
 
 #[test]
 fn look_rows(rt: HostRuntime) {
-    for (row, show, universe, first, last) in [
-        (
-            "look_one",
-            ONE_LAMP,
-            b"0001".as_slice(),
-            b"40".as_slice(),
-            b"00".as_slice(),
-        ),
-        (
-            "top_channel",
-            b"CUE 1\nCHAN 4096@FL\nPATCH 1 4096<8192@FL\n",
-            b"0010",
-            b"00",
-            b"ff",
-        ),
-    ] {
-        let (answer, out) = end(rt.alloc(), Call::Look(1000), show, 0);
-        assert_eq!(rt; answer, Ok(()), "{row}");
-        assert!(rt;
-            is_packet_line(out.bytes.as_slice(), universe, first, last),
-            "{row}"
-        );
-    }
+    run_each(
+        &rt,
+        rt.alloc(),
+        &[
+            (
+                "look_one",
+                Call::Look(1000),
+                ONE_LAMP,
+                Wanted::Packets(&[Packet {
+                    universe: b"0001",
+                    first: b"40",
+                    last: b"00",
+                }]),
+            ),
+            (
+                "top_channel",
+                Call::Look(1000),
+                b"CUE 1\nCHAN 4096@FL\nPATCH 1 4096<8192@FL\n",
+                Wanted::Packets(&[Packet {
+                    universe: b"0010",
+                    first: b"00",
+                    last: b"ff",
+                }]),
+            ),
+        ],
+    );
 }
 
 #[test]
 fn look_two_universes(rt: HostRuntime) {
-    let show = b"CUE 1\nCHAN 1@FL\nPATCH 1 1<1@FL 1<513@FL\n";
-    let (answer, out) = end(rt.alloc(), Call::Look(1000), show, 0);
-    assert_eq!(rt; answer, Ok(()));
-    assert_eq!(rt; out.bytes.len(), 2554);
-    let (first, second) = out.bytes.as_slice().split_at(1277);
-    assert!(rt; is_packet_line(first, b"0001", b"ff", b"00"));
-    assert!(rt; is_packet_line(second, b"0002", b"ff", b"00"));
+    run_each(
+        &rt,
+        rt.alloc(),
+        &[(
+            "look_two_universes",
+            Call::Look(1000),
+            b"CUE 1\nCHAN 1@FL\nPATCH 1 1<1@FL 1<513@FL\n",
+            Wanted::Packets(&[
+                Packet {
+                    universe: b"0001",
+                    first: b"ff",
+                    last: b"00",
+                },
+                Packet {
+                    universe: b"0002",
+                    first: b"ff",
+                    last: b"00",
+                },
+            ]),
+        )],
+    );
 }
 
 #[test]
 fn look_missing_cue(rt: HostRuntime) {
-    let clear_cues = b"CUE 1\nCHAN 1@FL\nCLEAR CUES\nCHAN 2@FL\nCUE 2\nCLEAR CUE 2\n";
-    for (row, show, cue, answer) in [
-        ("look_missing_cue", ONE_LAMP, 2000, Err(RunFault::NoCue)),
-        (
-            "look_no_patch",
-            b"IDENT 3:0\nCUE 1\nCHAN 1@H80\nENDDATA\n",
-            1000,
-            Ok(()),
-        ),
-        ("clear_cues", clear_cues, 1000, Err(RunFault::NoCue)),
-        ("clear_cues", clear_cues, 2000, Ok(())),
-    ] {
-        let (ended, out) = end(rt.alloc(), Call::Look(cue), show, 0);
-        assert_eq!(rt; ended, answer, "{row}");
-        assert!(rt; out.bytes.is_empty(), "{row}");
-    }
+    run_each(
+        &rt,
+        rt.alloc(),
+        &[
+            (
+                "look_missing_cue",
+                Call::Look(2000),
+                ONE_LAMP,
+                Wanted::Fault(RunFault::NoCue),
+            ),
+            (
+                "look_no_patch",
+                Call::Look(1000),
+                NO_PATCH,
+                Wanted::Text(b""),
+            ),
+            (
+                "clear_cues",
+                Call::Look(1000),
+                CLEAR_CUES,
+                Wanted::Fault(RunFault::NoCue),
+            ),
+            (
+                "clear_cues",
+                Call::Look(2000),
+                CLEAR_CUES,
+                Wanted::Text(b""),
+            ),
+        ],
+    );
 }
+
+const TWO_UNIVERSES: &[u8] = b"CUE 1\nCHAN 1@FL 2@50\nPATCH 1 1<1@FL 2<3@FL 1<513@FL\n";
 
 #[test]
 fn slots_rows(rt: HostRuntime) {
-    let two_universes = b"CUE 1\nCHAN 1@FL 2@50\nPATCH 1 1<1@FL 2<3@FL 1<513@FL\n";
-    for (row, show, base, text) in [
-        (
-            "look_one",
-            ONE_LAMP,
-            1,
-            b"universe 1\nslots 1:64\n".as_slice(),
-        ),
-        (
-            "look_two_universes",
-            two_universes,
-            7,
-            b"universe 7\nslots 1:255 3:128\nuniverse 8\nslots 1:255\n",
-        ),
-        (
-            "look_no_patch",
-            b"IDENT 3:0\nCUE 1\nCHAN 1@H80\nENDDATA\n",
-            1,
-            b"",
-        ),
-    ] {
-        let (answer, out) = end(rt.alloc(), Call::Slots(1000, base), show, 0);
-        assert_eq!(rt; answer, Ok(()), "{row}");
-        assert!(rt; out.bytes.as_slice() == text, "{row}");
-    }
-    for (show, cue, base, answer) in [
-        (ONE_LAMP, 2000, 64000, Err(RunFault::NoCue)),
-        (ONE_LAMP, 1000, 63999, Ok(())),
-        (two_universes, 1000, 63998, Ok(())),
-        (two_universes, 1000, 63999, Err(RunFault::Base)),
-        (ONE_LAMP, 1000, 0, Err(RunFault::Base)),
-    ] {
-        let (ended, out) = end(rt.alloc(), Call::Slots(cue, base), show, 0);
-        assert_eq!(rt; ended, answer, "{cue} {base}");
-        assert!(rt; out.bytes.is_empty() == answer.is_err(), "{cue} {base}");
-    }
+    run_each(
+        &rt,
+        rt.alloc(),
+        &[
+            (
+                "look_one",
+                Call::Slots(1000, 1),
+                ONE_LAMP,
+                Wanted::Text(b"universe 1\nslots 1:64\n"),
+            ),
+            (
+                "look_two_universes",
+                Call::Slots(1000, 7),
+                TWO_UNIVERSES,
+                Wanted::Text(b"universe 7\nslots 1:255 3:128\nuniverse 8\nslots 1:255\n"),
+            ),
+            (
+                "look_no_patch",
+                Call::Slots(1000, 1),
+                NO_PATCH,
+                Wanted::Text(b""),
+            ),
+            (
+                "no cue, and no base",
+                Call::Slots(2000, 64000),
+                ONE_LAMP,
+                Wanted::Fault(RunFault::NoCue),
+            ),
+            (
+                "the highest base",
+                Call::Slots(1000, 63999),
+                ONE_LAMP,
+                Wanted::Any,
+            ),
+            (
+                "the highest base of two universes",
+                Call::Slots(1000, 63998),
+                TWO_UNIVERSES,
+                Wanted::Any,
+            ),
+            (
+                "a base too high for two universes",
+                Call::Slots(1000, 63999),
+                TWO_UNIVERSES,
+                Wanted::Fault(RunFault::Base),
+            ),
+            (
+                "base 0",
+                Call::Slots(1000, 0),
+                ONE_LAMP,
+                Wanted::Fault(RunFault::Base),
+            ),
+        ],
+    );
+}
+
+// Whether a run whose first write fails answers that, and prints nothing.
+fn fails(alloc: Global, call: Call) -> bool {
+    let (answer, out) = end(alloc, call, ONE_LAMP, 1);
+    answer == Err(RunFault::Device) && out.bytes.is_empty() && out.faults.failed == 1
 }
 
 #[test]
 fn each_device_fails(rt: HostRuntime) {
     for call in [Call::Check, Call::Look(1000), Call::Slots(1000, 1)] {
-        let (answer, out) = end(rt.alloc(), call, ONE_LAMP, 1);
-        assert_eq!(rt; answer, Err(RunFault::Device), "{call:?}");
-        assert!(rt; out.bytes.is_empty() && out.faults.failed == 1, "{call:?}");
+        assert!(rt; fails(rt.alloc(), call));
     }
 }

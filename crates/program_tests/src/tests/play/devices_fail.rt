@@ -1,78 +1,52 @@
-use super::{Failing, NOTHING_FAILS, Run, SMALL, WIDE};
+use super::{FADE, FADE_TEXT, PLAIN, Run, Setting, WIDE, holds, play_each};
 use cueplayer_faults::RunFault;
 use std::alloc::{AllocError, Global};
 use std::test::Fail;
 
-const FADE: &[u8] = b"0 go\n0 tick\n2500 tick\n2525 tick\n5000 tick\n";
-
-// The lines of the fade, what is printed of each, and how many packets it sends.
-const LINES: [(&str, &str, usize); 5] = [
-    ("0 go\n", "0 ok\n", 0),
-    ("0 tick\n", "0 live 1:s0\n", 1),
-    ("2500 tick\n", "2500 live 1:s1\n", 1),
-    ("2525 tick\n", "2525 live 1:s2\n", 1),
-    ("5000 tick\n", "5000 live 1:s3\n", 1),
-];
-
-// What is printed of the first lines.
-fn text_of(alloc: Global, lines: usize) -> Result<String, AllocError> {
-    let mut text = String::new(alloc);
-    for (_, printed, _) in LINES.iter().take(lines) {
-        text.push_str(printed)?;
-    }
-    Ok(text)
-}
-
+// Seven bytes come by a read: the lines that are whole by then are answered.
 #[test]
-fn each_read_fails(rt: HostRuntime) -> Result<(), Fail> {
-    let alloc = rt.alloc();
-    for read in 0u16..8 {
-        let failing = Failing {
-            read: u64::from(read),
-            ..NOTHING_FAILS
+fn each_read_fails(rt: HostRuntime) {
+    for (read, answer, printed, packets) in [
+        (0, Err(RunFault::Device), 0, 0),
+        (1, Err(RunFault::Device), 5, 0),
+        (2, Err(RunFault::Device), 17, 1),
+        (3, Err(RunFault::Device), 17, 1),
+        (4, Err(RunFault::Device), 32, 2),
+        (5, Err(RunFault::Device), 47, 3),
+        (6, Err(RunFault::Device), 62, 4),
+        (7, Ok(()), 62, 4),
+    ] {
+        let setting = Setting {
+            step: 7,
+            read,
+            ..PLAIN
         };
-        let given = (usize::from(read) * 7).min(FADE.len());
-        let lines = FADE[..given].iter().filter(|byte| **byte == b'\n').count();
-        let text = text_of(alloc, lines)?;
-        let answer = if read < 7 {
-            Err(RunFault::Device)
-        } else {
-            Ok(())
-        };
-        let run = Run::of(&rt, alloc, SMALL, 1, FADE, 7, failing);
-        assert!(rt; run.is(answer, text.as_bytes()));
+        let row = (FADE, answer, &FADE_TEXT[..printed], packets);
+        assert!(rt; holds(&rt, rt.alloc(), &setting, &row), "read {read}");
     }
-    Ok(())
 }
 
 // Four lines, each with its LF, and then a failed read.
 #[test]
-fn four_lines_and_a_failed_read(rt: HostRuntime) -> Result<(), Fail> {
-    let failing = Failing {
-        read: 1,
-        ..NOTHING_FAILS
-    };
+fn four_lines_and_a_failed_read(rt: HostRuntime) {
     let input = b"0 go\n0 tick\n2500 tick\n2525 tick\n";
-    let text = text_of(rt.alloc(), 4)?;
-    let run = Run::of(&rt, rt.alloc(), SMALL, 1, input, 4096, failing);
-    assert!(rt; run.is(Err(RunFault::Device), text.as_bytes()));
-    assert_eq!(rt; run.link.sends.len(), 3);
-    Ok(())
+    let text = b"0 ok\n0 live 1:s0\n2500 live 1:s1\n2525 live 1:s2\n";
+    play_each(
+        &rt,
+        rt.alloc(),
+        &Setting { read: 1, ..PLAIN },
+        &[(input, Err(RunFault::Device), text, 3)],
+    );
 }
 
+// The packets of a line are offered before it is printed.
 #[test]
-fn each_write_fails(rt: HostRuntime) -> Result<(), Fail> {
-    for write in 0u16..5 {
-        let failing = Failing {
-            write: u64::from(write),
-            ..NOTHING_FAILS
-        };
-        let text = text_of(rt.alloc(), usize::from(write))?;
-        let run = Run::of(&rt, rt.alloc(), SMALL, 1, FADE, 4096, failing);
-        assert!(rt; run.is(Err(RunFault::Device), text.as_bytes()));
-        assert_eq!(rt; run.link.sends.len(), usize::from(write));
+fn each_write_fails(rt: HostRuntime) {
+    for (write, printed, packets) in [(0, 0, 0), (1, 5, 1), (2, 17, 2), (3, 32, 3), (4, 47, 4)] {
+        let setting = Setting { write, ..PLAIN };
+        let row = (FADE, Err(RunFault::Device), &FADE_TEXT[..printed], packets);
+        assert!(rt; holds(&rt, rt.alloc(), &setting, &row), "write {write}");
     }
-    Ok(())
 }
 
 // Sixty-eight ticks, 25 ms apart.
@@ -84,10 +58,20 @@ fn ticks(alloc: Global) -> Result<String, AllocError> {
     Ok(input)
 }
 
+// The number of the packet that a tick sends.
+fn number_at(tick: u32) -> Option<u32> {
+    match tick {
+        0..=3 => Some(tick),
+        35 => Some(4),
+        67 => Some(5),
+        _ => None,
+    }
+}
+
 // What is printed of a tick where the send of this packet fails.
-fn tick_line(alloc: Global, moment: u32, lost: usize) -> Result<String, AllocError> {
-    let sending = [0u32, 25, 50, 75, 875, 1675];
-    match sending.iter().position(|at| *at == moment) {
+fn tick_line(alloc: Global, tick: u32, lost: u32) -> Result<String, AllocError> {
+    let moment = tick.saturating_mul(25);
+    match number_at(tick) {
         None => format!(in alloc; "{moment} live 1:-\n"),
         Some(number) if number == lost => format!(in alloc; "{moment} live 1:x{number}\n"),
         Some(number) => format!(in alloc; "{moment} live 1:s{number}\n"),
@@ -95,53 +79,63 @@ fn tick_line(alloc: Global, moment: u32, lost: usize) -> Result<String, AllocErr
 }
 
 // What is printed of all of them.
-fn tick_lines(alloc: Global, lost: usize) -> Result<String, AllocError> {
+fn tick_lines(alloc: Global, lost: u32) -> Result<String, AllocError> {
     let mut text = String::new(alloc);
     for tick in 0u32..68 {
-        text.push_str(tick_line(alloc, tick * 25, lost)?.as_str())?;
+        text.push_str(tick_line(alloc, tick, lost)?.as_str())?;
     }
     Ok(text)
 }
 
 // Six packets were offered, and the send of this one alone failed.
-fn loses(run: &Run, lost: usize) -> bool {
+fn loses(run: &Run, lost: u32) -> bool {
     for number in 0u8..6 {
-        let place = usize::from(number);
-        if run.packet(place) != Some((1, number, place == lost)) {
+        let is_lost = u32::from(number) == lost;
+        if run.packet(usize::from(number)) != Some((1, number, is_lost)) {
             return false;
         }
     }
-    run.link.sends.len() == 6
+    true
 }
 
 #[test]
 fn each_send_fails(rt: HostRuntime) -> Result<(), Fail> {
     let alloc = rt.alloc();
     let input = ticks(alloc)?;
-    for lost in 0usize..6 {
+    for lost in 0u32..6 {
         let text = tick_lines(alloc, lost)?;
-        let failing = Failing {
-            send: lost as u64,
-            ..NOTHING_FAILS
+        let setting = Setting {
+            step: 100,
+            send: u64::from(lost),
+            ..PLAIN
         };
-        let run = Run::of(&rt, alloc, SMALL, 1, input.as_bytes(), 100, failing);
-        assert!(rt; run.is(Err(RunFault::Lost(1)), text.as_bytes()));
-        assert!(rt; loses(&run, lost));
+        let run = Run::of(&rt, alloc, &setting, input.as_bytes());
+        assert!(rt; run.is(Err(RunFault::Lost(1)), text.as_bytes(), 6) && loses(&run, lost));
     }
     Ok(())
+}
+
+fn is_first_lost(run: &Run) -> bool {
+    run.packet(0) == Some((1, 0, true)) && run.packet(1) == Some((2, 0, false))
 }
 
 // The other universes of a tick are still offered, and a malformed line decides.
 #[test]
 fn lost_and_malformed(rt: HostRuntime) {
-    let failing = Failing {
+    let setting = Setting {
+        show: WIDE,
         send: 0,
-        ..NOTHING_FAILS
+        ..PLAIN
     };
-    let run = Run::of(&rt, rt.alloc(), WIDE, 1, b"0 tick\n", 4096, failing);
-    assert!(rt; run.is(Err(RunFault::Lost(1)), b"0 live 1:x0 2:s0\n"));
-    assert_eq!(rt; run.packet(0), Some((1, 0, true)));
-    assert_eq!(rt; run.packet(1), Some((2, 0, false)));
-    let run = Run::of(&rt, rt.alloc(), WIDE, 1, b"0 tick\njump\n", 4096, failing);
-    assert!(rt; run.is(Err(RunFault::Line(2)), b"0 live 1:x0 2:s0\n"));
+    let text = b"0 live 1:x0 2:s0\n";
+    play_each(
+        &rt,
+        rt.alloc(),
+        &setting,
+        &[
+            (b"0 tick\n", Err(RunFault::Lost(1)), text, 2),
+            (b"0 tick\njump\n", Err(RunFault::Line(2)), text, 2),
+        ],
+    );
+    assert!(rt; is_first_lost(&Run::of(&rt, rt.alloc(), &setting, b"0 tick\n")));
 }

@@ -1,12 +1,13 @@
-use super::{prints, with_header};
+use super::{HEADER, SMALL, ends};
+use crate::tests::joined;
 use std::alloc::{AllocError, Global};
 use std::test::Fail;
 
 // A script and what it prints.
 #[derive(Drop)]
 struct Told {
-    script: String,
-    text: String,
+    script: Vec<u8>,
+    text: Vec<u8>,
     line: u32,
 }
 
@@ -14,17 +15,12 @@ impl Told {
     // So many frames, 25 ms apart, a packet for each.
     fn of(alloc: Global, frames: u16) -> Result<Told, AllocError> {
         let mut told = Told {
-            script: with_header(alloc, "")?,
-            text: String::new(alloc),
+            script: joined(alloc, &[HEADER])?,
+            text: Vec::new(alloc),
             line: 3,
         };
-        for i in 0..frames {
-            let (moment, percent, number) = (25 * u32::from(i), i % 90, i % 256);
-            let order = format!(in alloc; "{moment} do 0 sub 1 {percent}")?;
-            told.add(alloc, order.as_str(), "ok")?;
-            let tick = format!(in alloc; "{moment} tick 0")?;
-            let reply = format!(in alloc; "live 1:s{number}")?;
-            told.add(alloc, tick.as_str(), reply.as_str())?;
+        for frame in 0..frames {
+            told.add_frame(alloc, frame)?;
         }
         Ok(told)
     }
@@ -32,65 +28,102 @@ impl Told {
     fn add(&mut self, alloc: Global, event: &str, reply: &str) -> Result<(), AllocError> {
         let line = self.line;
         let reply = format!(in alloc; "{line} {reply}\n")?;
-        self.script.push_str(event)?;
-        self.script.push_str("\n")?;
-        self.text.push_str(reply.as_str())?;
-        self.line = self.line.saturating_add(1);
+        self.script.extend_from_slice(event.as_bytes())?;
+        self.script.push(b'\n')?;
+        self.text.extend_from_slice(reply.as_bytes())?;
+        self.line = line.saturating_add(1);
         Ok(())
     }
 
-    fn deliver(
-        &mut self,
-        alloc: Global,
-        moment: u32,
-        k: u32,
-        reply: &str,
-    ) -> Result<(), AllocError> {
-        let event = format!(in alloc; "{moment} deliver 0 0 1 {k}")?;
+    fn add_frame(&mut self, alloc: Global, frame: u16) -> Result<(), AllocError> {
+        let (moment, percent, number) = (25 * u32::from(frame), frame % 90, frame % 256);
+        let order = format!(in alloc; "{moment} do 0 sub 1 {percent}")?;
+        self.add(alloc, order.as_str(), "ok")?;
+        let tick = format!(in alloc; "{moment} tick 0")?;
+        let reply = format!(in alloc; "live 1:s{number}")?;
+        self.add(alloc, tick.as_str(), reply.as_str())
+    }
+
+    fn deliver(&mut self, alloc: Global, k: u32, reply: &str) -> Result<(), AllocError> {
+        let event = format!(in alloc; "10475 deliver 0 0 1 {k}")?;
         self.add(alloc, event.as_str(), reply)
     }
 
-    fn prints(&self, alloc: Global, end: &str) -> Result<bool, AllocError> {
-        let text = self.text.as_str();
-        let text = format!(in alloc; "{text}{end}\n")?;
-        Ok(prints(alloc, self.script.as_str(), text.as_str()))
+    // Twenty packets, the newest first, and the slots after them.
+    fn deliver_twenty(
+        &mut self,
+        alloc: Global,
+        oldest: u16,
+        taken: &str,
+        slots: &str,
+    ) -> Result<(), AllocError> {
+        let newest = u32::from(oldest) + 19;
+        self.deliver(alloc, newest, taken)?;
+        for behind in 1..20 {
+            self.deliver(alloc, newest - behind, "ignored OutOfSequence")?;
+        }
+        self.add(alloc, "10475 slots 0", slots)
+    }
+
+    fn prints(&self, alloc: Global, end: &[u8]) -> Result<bool, AllocError> {
+        let text = joined(alloc, &[self.text.as_slice(), end])?;
+        Ok(ends(
+            alloc,
+            SMALL,
+            self.script.as_slice(),
+            Ok(()),
+            text.as_slice(),
+        ))
     }
 }
 
 // Three groups of twenty packets, each with its newest first.
+fn wraps(alloc: Global) -> Result<bool, AllocError> {
+    let mut told = Told::of(alloc, 420)?;
+    for (oldest, taken, slots) in [
+        (0, "taken 19", "slots 1:24"),
+        (200, "taken 219", "slots 1:50"),
+        (400, "taken 163", "slots 1:75"),
+    ] {
+        told.deliver_twenty(alloc, oldest, taken, slots)?;
+    }
+    told.prints(alloc, b"end 0 slots 1:75\n")
+}
+
 #[test]
 fn window_wrap(rt: HostRuntime) -> Result<(), Fail> {
-    let alloc = rt.alloc();
-    let mut told = Told::of(alloc, 420)?;
-    for (first, number, slot) in [(0u16, 19, 24), (200, 219, 50), (400, 163, 75)] {
-        let newest = u32::from(first) + 19;
-        let taken = format!(in alloc; "taken {number}")?;
-        told.deliver(alloc, 10475, newest, taken.as_str())?;
-        for behind in 1..20 {
-            told.deliver(alloc, 10475, newest - behind, "ignored OutOfSequence")?;
-        }
-        let slots = format!(in alloc; "slots 1:{slot}")?;
-        told.add(alloc, "10475 slots 0", slots.as_str())?;
-    }
-    assert!(rt; told.prints(alloc, "end 0 slots 1:75")?);
+    assert!(rt; wraps(rt.alloc())?);
     Ok(())
 }
 
+// Whether 238 frames, and these events with their replies behind them, are told so.
+fn tells(alloc: Global, events: &[(&str, &str)], end: &[u8]) -> Result<bool, AllocError> {
+    let mut told = Told::of(alloc, 238)?;
+    for (event, reply) in events {
+        told.add(alloc, event, reply)?;
+    }
+    told.prints(alloc, end)
+}
+
 // 236 ahead of the packet last taken is in the window, 237 is not.
+fn has_edge(alloc: Global) -> Result<bool, AllocError> {
+    let inside = [
+        ("5925 deliver 0 0 1 19", "taken 19"),
+        ("8425 deliver 0 0 1 0", "taken 0"),
+        ("8425 deliver 0 0 1 236", "taken 236"),
+        ("8425 slots 0", "slots 1:72"),
+    ];
+    let beyond = [
+        ("5925 deliver 0 0 1 19", "taken 19"),
+        ("8425 deliver 0 0 1 0", "taken 0"),
+        ("8425 deliver 0 0 1 237", "ignored OutOfSequence"),
+        ("8425 slots 0", "slots"),
+    ];
+    Ok(tells(alloc, &inside, b"end 0 slots 1:72\n")? && tells(alloc, &beyond, b"end 0 slots\n")?)
+}
+
 #[test]
 fn window_edge(rt: HostRuntime) -> Result<(), Fail> {
-    let alloc = rt.alloc();
-    for (k, reply, slots) in [
-        (236, "taken 236", "slots 1:72"),
-        (237, "ignored OutOfSequence", "slots"),
-    ] {
-        let mut told = Told::of(alloc, 238)?;
-        told.deliver(alloc, 5925, 19, "taken 19")?;
-        told.deliver(alloc, 8425, 0, "taken 0")?;
-        told.deliver(alloc, 8425, k, reply)?;
-        told.add(alloc, "8425 slots 0", slots)?;
-        let end = format!(in alloc; "end 0 {slots}")?;
-        assert!(rt; told.prints(alloc, end.as_str())?, "{k}");
-    }
+    assert!(rt; has_edge(rt.alloc())?);
     Ok(())
 }

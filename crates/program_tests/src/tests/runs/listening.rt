@@ -49,32 +49,45 @@ fn end<'a>(
 const THREE: &[u8] =
     b"1 taken 0\n2 ignored OutOfSequence\n3 ignored Unreadable Short\nslots 1:64\n";
 
+// Whether a run over so many datagrams ends well, and prints this.
+fn prints(alloc: Global, datagrams: &[&[u8]], count: u32, text: &[u8]) -> bool {
+    let (answer, out) = end(alloc, datagrams, count, (0, 0), (0, 0));
+    answer == Ok(()) && out.bytes.as_slice() == text
+}
+
 #[test]
 fn listen_three(rt: HostRuntime) {
     let look_one = packet(0, 0, 0x31);
     let datagrams = [look_one.as_slice(), &look_one, &[0; 5]];
-    let (answer, out) = end(rt.alloc(), datagrams.as_slice(), 3, (0, 0), (0, 0));
-    assert_eq!(rt; answer, Ok(()));
-    assert!(rt; out.bytes.as_slice() == THREE);
+    assert!(rt; prints(rt.alloc(), datagrams.as_slice(), 3, THREE));
+}
+
+// Whether a run of row `listen_three` ends as a receive or a write fails, and has printed so many
+// bytes before.
+fn stops(alloc: Global, receives: (u64, u64), writes: (u64, u64), printed: &[u8]) -> bool {
+    let look_one = packet(0, 0, 0x31);
+    let datagrams = [look_one.as_slice(), &look_one, &[0; 5]];
+    let (answer, out) = end(alloc, datagrams.as_slice(), 3, receives, writes);
+    answer == Err(RunFault::Device)
+        && out.bytes.as_slice() == printed
+        && out.faults.failed == writes.1
 }
 
 #[test]
 fn each_device_of_listen_fails(rt: HostRuntime) {
-    let look_one = packet(0, 0, 0x31);
-    let datagrams = [look_one.as_slice(), &look_one, &[0; 5]];
-    for (passing, taken) in [(0, 0), (1, 10), (2, 34), (3, 61)] {
-        let (answer, out) = end(rt.alloc(), datagrams.as_slice(), 3, (0, 0), (passing, 1));
-        assert_eq!(rt; answer, Err(RunFault::Device), "write {passing}");
-        assert!(rt; out.bytes.as_slice() == &THREE[..taken], "write {passing}");
-        if passing < 3 {
-            let (answer, out) = end(rt.alloc(), datagrams.as_slice(), 3, (passing, 1), (0, 0));
-            assert_eq!(rt; answer, Err(RunFault::Device), "receive {passing}");
-            assert!(rt;
-                out.bytes.as_slice() == &THREE[..taken],
-                "receive {passing}"
-            );
-            assert_eq!(rt; out.faults.failed, 0);
-        }
+    for (receives, writes, printed) in [
+        ((0, 0), (0, 1), 0),
+        ((0, 0), (1, 1), 10),
+        ((0, 0), (2, 1), 34),
+        ((0, 0), (3, 1), 61),
+        ((0, 1), (0, 0), 0),
+        ((1, 1), (0, 0), 10),
+        ((2, 1), (0, 0), 34),
+    ] {
+        assert!(rt;
+            stops(rt.alloc(), receives, writes, &THREE[..printed]),
+            "{printed}"
+        );
     }
 }
 
@@ -83,11 +96,9 @@ fn long_datagrams(rt: HostRuntime) {
     let mut padded = [0; 1600];
     padded[..638].copy_from_slice(&packet(7, 0, 0x31));
     let datagrams = [padded.as_slice(), &[1; 1501], &[]];
-    let (answer, out) = end(rt.alloc(), datagrams.as_slice(), 3, (0, 0), (0, 0));
-    assert_eq!(rt; answer, Ok(()));
     let text =
         b"1 taken 7\n2 ignored Unreadable Preamble\n3 ignored Unreadable Short\nslots 1:64\n";
-    assert!(rt; out.bytes.as_slice() == text.as_slice());
+    assert!(rt; prints(rt.alloc(), datagrams.as_slice(), 3, text));
 }
 
 #[test]
@@ -96,23 +107,18 @@ fn every_reply(rt: HostRuntime) {
     alternate[125] = 0xdd;
     let mut other_universe = packet(0, 0, 1);
     other_universe[114] = 2;
-    let termination = packet(255, 0x40, 1);
-    let preview = packet(0, 0x80, 1);
-    let [two, three, four, five] = [2, 3, 4, 5].map(|source| packet(0, 0, source));
-    let datagrams = [
-        termination.as_slice(),
-        &preview,
+    let datagrams: [&[u8]; 8] = [
+        &packet(255, 0x40, 1),
+        &packet(0, 0x80, 1),
         &alternate,
         &other_universe,
-        &two,
-        &three,
-        &four,
-        &five,
+        &packet(0, 0, 2),
+        &packet(0, 0, 3),
+        &packet(0, 0, 4),
+        &packet(0, 0, 5),
     ];
-    let (answer, out) = end(rt.alloc(), datagrams.as_slice(), 8, (0, 0), (0, 0));
-    assert_eq!(rt; answer, Ok(()));
     let text =
         b"1 taken 255 terminated\n2 ignored Preview\n3 ignored AltStart\n4 ignored OtherUniverse\n\
             5 taken 0\n6 taken 0\n7 taken 0\n8 ignored SourcesFull\nslots 1:64\n";
-    assert!(rt; out.bytes.as_slice() == text.as_slice());
+    assert!(rt; prints(rt.alloc(), datagrams.as_slice(), 8, text));
 }
