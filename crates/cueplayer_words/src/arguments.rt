@@ -12,6 +12,9 @@ use clap::ArgMatches;
 use std::alloc::{AllocError, Global};
 use uuid::Uuid;
 
+/// The greatest number of a universe.
+pub(crate) const TOP_UNIVERSE: u32 = 63_999;
+
 /// The text of an argument.
 pub(crate) fn text_at<'a>(matches: &ArgMatches<'a>, id: &str) -> Option<&'a str>
     ensures { option_map (λ text. text.now) result
@@ -65,7 +68,7 @@ pub(crate) fn base_at(matches: &ArgMatches<'_>) -> Option<u16>
     ensures { result ≡ value_or 1 (number_between 1 63999) (codes "base")
         (rows_of (found_of matches.now)) }
 {
-    let base = number_or(matches, "base", 1, 1, 63999)?;
+    let base = number_or(matches, "base", 1, 1, TOP_UNIVERSE)?;
     Some(base as u16)
 }
 

@@ -6,7 +6,7 @@ ghost use Rattle.cueplayer_words.specs.Job.{rehearse_of, listen_of};
 ghost use Rattle.cueplayer_words.specs.Asked.{Explains, IsAsked, RefusedBy};
 
 use crate::arguments::{
-    address_at, base_at, cid_at, cue_at, name_at, number_at, priority_at, text_at,
+    TOP_UNIVERSE, address_at, base_at, cid_at, cue_at, name_at, number_at, priority_at, text_at,
 };
 use crate::job::{Job, Name, WordsFault};
 use crate::program::program;
@@ -191,7 +191,7 @@ fn read_listen(matches: &ArgMatches<'_>) -> Option<Job>
     ensures { IsJob (listen_of (rows_of (found_of matches.now))) result }
 {
     let at = address_at(matches, "ADDR");
-    let universe = number_at(matches, "UNIVERSE", 1, 63999);
+    let universe = number_at(matches, "UNIVERSE", 1, TOP_UNIVERSE);
     let count = number_at(matches, "COUNT", 1, 1_000_000);
     let (Some(at), Some(universe), Some(count)) = (at, universe, count) else {
         return None;
