@@ -1,5 +1,6 @@
 -- What a rehearsal of a script over a show leaves on its output.
 use Rattle.std.specs.Prelude.{◌≡◌, ℕ, List, [], ◌∷◌, ◌++◌, Result, Ok, Err, IsOkAnd}
+use Rattle.std.specs.Prelude.{OnErr, OnOk}
 use Rattle.std.specs.List.{concat}
 use Rattle.devices.specs.Tape.{Tape, with_more, with_failure}
 use Rattle.show_core.specs.Tables.{Tables}
@@ -37,6 +38,12 @@ pub record StopsWithin (lines : List (List ℕ)) (before after : Tape ℕ) : Typ
   pub rest : List (List ℕ)
   pub parts : lines ≡ front ++ line ∷ rest
   pub took : after ≡ with_failure (with_more before (concat front))
+
+-- a line was printed, as an output that tells has it: it took the line, or its one call failed
+abbrev pub PrintsLine : {X E : Type 0} → Result X E → Type 0 → List ℕ → Tape ℕ → Tape ℕ → Type 0
+PrintsLine result tells line before after =
+    OnOk result (tells → after ≡ with_more before line)
+    × OnErr result (tells → after ≡ with_failure before)
 
 -- lines were printed: the output took all of them and nothing else; or it failed at one of them
 abbrev pub PrintsLines : {X E : Type 0} → Result X E → List (List ℕ) → Tape ℕ → Tape ℕ → Type 0

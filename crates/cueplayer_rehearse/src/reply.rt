@@ -1,8 +1,8 @@
-ghost use Rattle.std.specs.Prelude.{◌≡◌, ◌≤◌, length, OnOk, OnErr};
-ghost use Rattle.devices.specs.Tape.{with_failure, with_more};
+ghost use Rattle.std.specs.Prelude.{◌≡◌, ◌≤◌, length};
 ghost use Rattle.console_text.specs.Texts.{done_text, numbered, refused_text, ticked_text};
 ghost use Rattle.receiver_text.specs.Replies.{reply_text as datagram_text, slots_text};
 ghost use Rattle.wire_world.specs.Brief.{reply_of};
+ghost use Rattle.cueplayer_rehearse.specs.Printed.{PrintsLine};
 ghost use Rattle.cueplayer_rehearse.specs.Texts.{event_line, skip_name, skipped_text};
 
 use arrayvec::ArrayString;
@@ -26,10 +26,8 @@ pub(crate) fn print_reply<W: Output>(
     out: &mut W,
 ) -> Result<(), LinkFault>
     ensures told { W.tells out.new → W.tells out.old }
-    ensures ok { OnOk result (W.tells out.new
-        → W.tape out.new ≡ with_more (W.tape out.old) (event_line (number, reply_of reply.now))) }
-    ensures err { OnErr result (W.tells out.new
-        → W.tape out.new ≡ with_failure (W.tape out.old)) }
+    ensures line { PrintsLine result (W.tells out.new) (event_line (number, reply_of reply.now))
+        (W.tape out.old) (W.tape out.new) }
 {
     let number = u64::from(number);
     match reply {
@@ -50,10 +48,8 @@ pub(crate) fn print_reply<W: Output>(
 #[inline(never)]
 fn print_done<W: Output>(number: u64, out: &mut W) -> Result<(), LinkFault>
     ensures told { W.tells out.new → W.tells out.old }
-    ensures ok { OnOk result (W.tells out.new
-        → W.tape out.new ≡ with_more (W.tape out.old) (numbered number done_text)) }
-    ensures err { OnErr result (W.tells out.new
-        → W.tape out.new ≡ with_failure (W.tape out.old)) }
+    ensures line { PrintsLine result (W.tells out.new) (numbered number done_text)
+        (W.tape out.old) (W.tape out.new) }
 {
     out.write(done_line(number).as_str().as_bytes())
 }
@@ -61,10 +57,8 @@ fn print_done<W: Output>(number: u64, out: &mut W) -> Result<(), LinkFault>
 #[inline(never)]
 fn print_refused<W: Output>(number: u64, refused: Refused, out: &mut W) -> Result<(), LinkFault>
     ensures told { W.tells out.new → W.tells out.old }
-    ensures ok { OnOk result (W.tells out.new
-        → W.tape out.new ≡ with_more (W.tape out.old) (numbered number (refused_text refused))) }
-    ensures err { OnErr result (W.tells out.new
-        → W.tape out.new ≡ with_failure (W.tape out.old)) }
+    ensures line { PrintsLine result (W.tells out.new) (numbered number (refused_text refused))
+        (W.tape out.old) (W.tape out.new) }
 {
     out.write(refused_line(number, refused).as_str().as_bytes())
 }
@@ -77,11 +71,8 @@ fn print_ticked<W: Output>(
     out: &mut W,
 ) -> Result<(), LinkFault>
     ensures told { W.tells out.new → W.tells out.old }
-    ensures ok { OnOk result (W.tells out.new
-        → W.tape out.new ≡ with_more (W.tape out.old)
-        (numbered number (ticked_text ticked offers.now))) }
-    ensures err { OnErr result (W.tells out.new
-        → W.tape out.new ≡ with_failure (W.tape out.old)) }
+    ensures line { PrintsLine result (W.tells out.new)
+        (numbered number (ticked_text ticked offers.now)) (W.tape out.old) (W.tape out.new) }
 {
     out.write(ticked_line(number, ticked, offers).as_str().as_bytes())
 }
@@ -93,10 +84,8 @@ fn print_taken<W: Output>(
     out: &mut W,
 ) -> Result<(), LinkFault>
     ensures told { W.tells out.new → W.tells out.old }
-    ensures ok { OnOk result (W.tells out.new
-        → W.tape out.new ≡ with_more (W.tape out.old) (numbered number (datagram_text reply))) }
-    ensures err { OnErr result (W.tells out.new
-        → W.tape out.new ≡ with_failure (W.tape out.old)) }
+    ensures line { PrintsLine result (W.tells out.new) (numbered number (datagram_text reply))
+        (W.tape out.old) (W.tape out.new) }
 {
     out.write(reply_line(number, reply).as_str().as_bytes())
 }
@@ -104,10 +93,8 @@ fn print_taken<W: Output>(
 #[inline(never)]
 fn print_slots<W: Output>(number: u64, slots: &Slots, out: &mut W) -> Result<(), LinkFault>
     ensures told { W.tells out.new → W.tells out.old }
-    ensures ok { OnOk result (W.tells out.new
-        → W.tape out.new ≡ with_more (W.tape out.old) (numbered number (slots_text slots.now))) }
-    ensures err { OnErr result (W.tells out.new
-        → W.tape out.new ≡ with_failure (W.tape out.old)) }
+    ensures line { PrintsLine result (W.tells out.new) (numbered number (slots_text slots.now))
+        (W.tape out.old) (W.tape out.new) }
 {
     let mut line = SlotsLine::new();
     write_numbered_slots(&mut line, number, slots);
@@ -117,10 +104,8 @@ fn print_slots<W: Output>(number: u64, slots: &Slots, out: &mut W) -> Result<(),
 #[inline(never)]
 fn print_skipped<W: Output>(number: u64, skip: Skip, out: &mut W) -> Result<(), LinkFault>
     ensures told { W.tells out.new → W.tells out.old }
-    ensures ok { OnOk result (W.tells out.new
-        → W.tape out.new ≡ with_more (W.tape out.old) (numbered number (skipped_text skip))) }
-    ensures err { OnErr result (W.tells out.new
-        → W.tape out.new ≡ with_failure (W.tape out.old)) }
+    ensures line { PrintsLine result (W.tells out.new) (numbered number (skipped_text skip))
+        (W.tape out.old) (W.tape out.new) }
 {
     out.write(skipped_line(number, skip).as_str().as_bytes())
 }
