@@ -73,5 +73,5 @@ slots_failed universe count datagrams given gives before mid after all gave took
   datagrams = datagrams;
   all = all;
   gave = gave;
-  failed = fails ∙ ap with_failure took;
+  leaves = fails ∙ ap with_failure took;
 }

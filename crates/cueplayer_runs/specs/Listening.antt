@@ -61,21 +61,23 @@ pub record ReplyFailed (universe count : ℕ) (given gives : Tape (List ℕ)) (b
   pub gave : GaveAll (newest ∷ older) given gives
   pub failed : after ≡ with_failure (with_more before (replies universe older))
 
--- the output failed at the slots line, and took the replies to all datagrams
-pub record SlotsFailed (universe count : ℕ) (given gives : Tape (List ℕ)) (before after : Tape ℕ)
+-- so many datagrams came, and of them the output has this
+pub record HeardAll (count : ℕ) (given gives : Tape (List ℕ)) (Leaves : List (List ℕ) → Type 0)
     : Type 0 where
   pub datagrams : List (List ℕ)
   pub all : length datagrams ≡ count
   pub gave : GaveAll datagrams given gives
-  pub failed : after ≡ with_failure (with_more before (replies universe datagrams))
+  pub leaves : Leaves datagrams
+
+-- the output failed at the slots line, and took the replies to all datagrams
+abbrev pub SlotsFailed : ℕ → ℕ → Tape (List ℕ) → Tape (List ℕ) → Tape ℕ → Tape ℕ → Type 0
+SlotsFailed universe count given gives before after = HeardAll count given gives
+    (λ datagrams. after ≡ with_failure (with_more before (replies universe datagrams)))
 
 -- so many datagrams came, and the output took the text of `listen` for them
-pub record Listened (universe count : ℕ) (given gives : Tape (List ℕ)) (before after : Tape ℕ)
-    : Type 0 where
-  pub datagrams : List (List ℕ)
-  pub all : length datagrams ≡ count
-  pub gave : GaveAll datagrams given gives
-  pub took : after ≡ with_more before (listen_text universe datagrams)
+abbrev pub Listened : ℕ → ℕ → Tape (List ℕ) → Tape (List ℕ) → Tape ℕ → Tape ℕ → Type 0
+Listened universe count given gives before after = HeardAll count given gives
+    (λ datagrams. after ≡ with_more before (listen_text universe datagrams))
 
 -- why `listen` ends with a fault of a device
 abbrev pub DeviceFailed : ℕ → ℕ → Tape (List ℕ) → Tape (List ℕ) → Tape ℕ → Tape ℕ → Type 0

@@ -2,6 +2,7 @@
 use Rattle.std.specs.Prelude.{◌≡◌, ◌↔◌, ◌≤◌, ◌+◌, ◌++◌, ℕ, false, List, [], ◌∷◌, Option, Some}
 use Rattle.std.specs.Prelude.{None, All, length, codes, flat_map, reverse}
 use Rattle.std.specs.Prelude.{is_none, option_map, if◌then◌else◌}
+use Rattle.std.specs.List.{filter_map}
 use Rattle.ascii_text.specs.Text.{lines_of, words_of}
 use Rattle.show_core.specs.Tables.{Tables}
 use Rattle.desk_core.specs.Played as desk
@@ -55,28 +56,28 @@ Rise gap [] = Unit {0}
 Rise gap (newest ∷ []) = Unit {0}
 Rise gap (newest ∷ newer ∷ older) = (newer + gap ≤ newest) × Rise gap (newer ∷ older)
 
-abbrev pub with_moment : Answer → List ℕ → List ℕ
-with_moment (order moment line) moments = moment ∷ moments
-with_moment (close moment) moments = moment ∷ moments
-with_moment (tick moment) moments = moment ∷ moments
-with_moment _ moments = moments
+-- the moment of a line that was given
+abbrev pub moment_of : Answer → Option ℕ
+moment_of (order moment line) = Some moment
+moment_of (close moment) = Some moment
+moment_of (tick moment) = Some moment
+moment_of _ = None
 
 -- the moments of the lines that were given
 abbrev pub moments : List Answer → List ℕ
-moments [] = []
-moments (answer ∷ older) = with_moment answer (moments older)
+moments answers = filter_map moment_of answers
 
 abbrev pub MomentsNeverFall : Type 0
 MomentsNeverFall = (h : List Happening) → Rise 0 (moments (answers h))
 
-abbrev pub with_tick : Answer → List ℕ → List ℕ
-with_tick (tick moment) ticks = moment ∷ ticks
-with_tick _ ticks = ticks
+-- the moment of a tick
+abbrev pub tick_of : Answer → Option ℕ
+tick_of (tick moment) = Some moment
+tick_of _ = None
 
 -- the moments of the ticks
 abbrev pub ticks : List Answer → List ℕ
-ticks [] = []
-ticks (answer ∷ older) = with_tick answer (ticks older)
+ticks answers = filter_map tick_of answers
 
 abbrev pub TicksAreApart : Type 0
 TicksAreApart = (h : List Happening) → Rise 23 (ticks (answers h))

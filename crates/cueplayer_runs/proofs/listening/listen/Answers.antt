@@ -56,6 +56,6 @@ returns-clause-text g c = λ source_tells output_tells.
       datagrams = heard.datagrams;
       all = omega (arith, heard.count_is, c.loop-older-test.false, c.loop-older.auto.older-end);
       gave = heard.gave source_tells;
-      took = took_all c.args.universe heard.datagrams _ _ _ _ line
+      leaves = took_all c.args.universe heard.datagrams _ _ _ _ line
           (heard.took (c.write.ensures.told output_tells)) (c.in_ok-write.ensures.ok output_tells);
     }
