@@ -1,7 +1,9 @@
 -- What a playback keeps, against the moves so far.
-use Rattle.std.specs.Prelude.{◌≡◌, ℕ, Bool, false, List, ◌∷◌, map}
+use Rattle.std.specs.Prelude.{◌≡◌, ℕ, Bool, false, List, ◌∷◌, map, Option, Some, Result}
+use Rattle.std.specs.Prelude.{IfOk, OnOk, OnErr}
 use Rattle.show_core.specs.Tables.{Tables}
 use Rattle.fade_core.specs.Level.{Start}
+use Rattle.playback_core.specs.declared.playback.NoMove.{NoMove}
 use Rattle.playback_core.specs.Playing.{Playing}
 use Rattle.playback_core.specs.Played.{Move, start_of, current_after, due_moment, moves_by}
 
@@ -21,3 +23,33 @@ abbrev pub MovesTo : {F : Type 0} → (F → List Start → Type 0) → Tables �
 MovesTo fader_stands_for show before after move =
     (moves : List Move) (stopped : Bool) → StandsFor fader_stands_for show before moves stopped
     → StandsFor fader_stands_for show after (move ∷ moves_by show stopped move.moment moves) false
+
+-- a playback was asked to move at a moment: at Ok it moved to the cue that is answered, which is
+-- current now; at Err nothing changed
+pub record Moves {F : Type 0} (fader_stands_for : F → List Start → Type 0) (latest : F → ℕ)
+    (show : Tables) (moment : ℕ) (before after : Playing F) (result : Result ℕ NoMove)
+    : Type 0 where
+  pub stands : IfOk result (λ cue. MovesTo fader_stands_for show before after
+      (record { cue = cue; moment = moment }))
+  pub current : IfOk result (λ cue. after.current ≡ Some cue)
+  pub latest_is : OnOk result (latest after.fader ≡ moment)
+  pub unchanged : OnErr result (after ≡ before)
+
+-- it was asked to move from the cue that is current at the moment, the moves due by then made: it
+-- answers what is the answer for that cue
+pub record Steps {F : Type 0} (fader_stands_for : F → List Start → Type 0) (latest : F → ℕ)
+    (show : Tables) (moment : ℕ) (before after : Playing F) (result : Result ℕ NoMove)
+    (answer_from : Option ℕ → Result ℕ NoMove) : Type 0 where
+  pub answer : (moves : List Move) (stopped : Bool)
+      → StandsFor fader_stands_for show before moves stopped
+      → result ≡ answer_from (current_after (moves_by show stopped moment moves))
+  pub moved : Moves fader_stands_for latest show moment before after result
+
+-- a playback moved on to a moment: the moves that are due by then are made, and whether it is
+-- stopped follows from whether it was
+pub record MovesOn {F : Type 0} (fader_stands_for : F → List Start → Type 0) (latest : F → ℕ)
+    (show : Tables) (moment : ℕ) (before after : Playing F) (stops : Bool → Bool) : Type 0 where
+  pub stands : (moves : List Move) (stopped : Bool)
+      → StandsFor fader_stands_for show before moves stopped
+      → StandsFor fader_stands_for show after (moves_by show stopped moment moves) (stops stopped)
+  pub latest_is : latest after.fader ≡ moment

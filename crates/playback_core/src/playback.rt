@@ -2,13 +2,13 @@ ghost use Rattle.std.specs.Prelude.{◌≡◌, ℕ, ◌-◌, ◌^◌, ◌<◌, �
 ghost use Rattle.std.specs.Prelude.{List, [], ◌∷◌, map, All, Contains, IfOk, OnOk, OnErr, IfSome};
 ghost use Rattle.std.specs.Prelude.{length, slice_index};
 ghost use Rattle.std.specs.Option.{ok_or};
-ghost use Rattle.show_core.specs.Numbers.{is_channel};
+ghost use Rattle.show_core.specs.Numbers.{is_channel, AreLevels};
 ghost use Rattle.show_core.specs.Tables.{Tables};
 ghost use Rattle.playback_core.specs.Placed.{IsAt};
 ghost use Rattle.playback_core.specs.Played.{Move, go_target, back_target, goto_target};
 ghost use Rattle.playback_core.specs.Played.{current_after, moves_by, is_by, start_of};
 ghost use Rattle.playback_core.specs.Played.{playback_level};
-ghost use Rattle.playback_core.specs.Stands.{StandsFor, MovesTo};
+ghost use Rattle.playback_core.specs.Stands.{StandsFor, Moves, MovesOn, Steps};
 
 use crate::place::Place;
 use fade_core::Fader;
@@ -91,15 +91,8 @@ impl<F: Fader> Playback<F> {
     pub fn go(&mut self, show: &Show, moment: u64) -> Result<u32, NoMove>
         requires not_before { F.latest self.old.fader ≤ moment }
         requires below { moment < 2 ^ 48 }
-        ensures answer { (moves : List Move) (stopped : Bool)
-            → StandsFor F.stands_for show.now self.old moves stopped
-            → let current = current_after (moves_by show.now stopped moment moves) in
-            result ≡ ok_or (go_target show.now.cues current) NoMove.AtEnd }
-        ensures stands { IfOk result (λ cue. MovesTo F.stands_for show.now self.old self.new
-            (record { cue = cue; moment = moment })) }
-        ensures current { IfOk result (λ cue. self.new.current ≡ Some cue) }
-        ensures latest { OnOk result (F.latest self.new.fader ≡ moment) }
-        ensures unchanged { OnErr result (self.new ≡ self.old) }
+        ensures { Steps F.stands_for F.latest show.now moment self.old self.new result
+            (λ current. ok_or (go_target show.now.cues current) NoMove.AtEnd) }
     {
         let current = self.place.current_by(show, moment);
         let cue = show.next(current.unwrap_or(0)).ok_or(NoMove::AtEnd)?;
@@ -114,15 +107,8 @@ impl<F: Fader> Playback<F> {
     pub fn back(&mut self, show: &Show, moment: u64) -> Result<u32, NoMove>
         requires not_before { F.latest self.old.fader ≤ moment }
         requires below { moment < 2 ^ 48 }
-        ensures answer { (moves : List Move) (stopped : Bool)
-            → StandsFor F.stands_for show.now self.old moves stopped
-            → let current = current_after (moves_by show.now stopped moment moves) in
-            result ≡ ok_or (back_target show.now.cues current) NoMove.AtStart }
-        ensures stands { IfOk result (λ cue. MovesTo F.stands_for show.now self.old self.new
-            (record { cue = cue; moment = moment })) }
-        ensures current { IfOk result (λ cue. self.new.current ≡ Some cue) }
-        ensures latest { OnOk result (F.latest self.new.fader ≡ moment) }
-        ensures unchanged { OnErr result (self.new ≡ self.old) }
+        ensures { Steps F.stands_for F.latest show.now moment self.old self.new result
+            (λ current. ok_or (back_target show.now.cues current) NoMove.AtStart) }
     {
         let current = self.place.current_by(show, moment).ok_or(NoMove::AtStart)?;
         let cue = show.before(current).ok_or(NoMove::AtStart)?;
@@ -139,11 +125,7 @@ impl<F: Fader> Playback<F> {
         requires not_before { F.latest self.old.fader ≤ moment }
         requires below { moment < 2 ^ 48 }
         ensures answer { result ≡ ok_or (goto_target show.now.cues n) NoMove.NoCue }
-        ensures stands { IfOk result (λ cue. MovesTo F.stands_for show.now self.old self.new
-            (record { cue = cue; moment = moment })) }
-        ensures current { IfOk result (λ cue. self.new.current ≡ Some cue) }
-        ensures latest { OnOk result (F.latest self.new.fader ≡ moment) }
-        ensures unchanged { OnErr result (self.new ≡ self.old) }
+        ensures moved { Moves F.stands_for F.latest show.now moment self.old self.new result }
     {
         let cue = show.cue(n).ok_or(NoMove::NoCue)?;
         make_due(&mut self.fader, &mut self.place, show, moment);
@@ -156,11 +138,8 @@ impl<F: Fader> Playback<F> {
     pub fn advance(&mut self, show: &Show, moment: u64)
         requires not_before { F.latest self.old.fader ≤ moment }
         requires below { moment < 2 ^ 48 }
-        ensures stands { (moves : List Move) (stopped : Bool)
-            → StandsFor F.stands_for show.now self.old moves stopped
-            → let made = moves_by show.now stopped moment moves in
-            StandsFor F.stands_for show.now self.new made stopped }
-        ensures latest { F.latest self.new.fader ≡ moment }
+        ensures { MovesOn F.stands_for F.latest show.now moment self.old self.new
+            (λ stopped. stopped) }
     {
         make_due(&mut self.fader, &mut self.place, show, moment);
         self.fader.advance(moment);
@@ -170,11 +149,7 @@ impl<F: Fader> Playback<F> {
     pub fn stop(&mut self, show: &Show, moment: u64)
         requires not_before { F.latest self.old.fader ≤ moment }
         requires below { moment < 2 ^ 48 }
-        ensures stands { (moves : List Move) (stopped : Bool)
-            → StandsFor F.stands_for show.now self.old moves stopped
-            → let made = moves_by show.now stopped moment moves in
-            StandsFor F.stands_for show.now self.new made true }
-        ensures latest { F.latest self.new.fader ≡ moment }
+        ensures { MovesOn F.stands_for F.latest show.now moment self.old self.new (λ _. true) }
     {
         self.advance(show, moment);
         self.place.due = None;
@@ -215,7 +190,7 @@ impl<F: Fader> Playback<F> {
             → IsTrue (is_channel channel)
             → slice_index levels.now (channel - 1)
             ≡ playback_level show moves channel (F.latest self.now.fader)) }
-        ensures full { IfSome result (λ levels. All (λ level. level ≤ 65025) levels.now) }
+        ensures full { IfSome result (λ levels. AreLevels levels.now) }
     {
         self.fader.levels()
     }
