@@ -1,5 +1,9 @@
 -- The masters: what the settings of masters leave.
-use Rattle.std.specs.Prelude.{◌≡◌, ℕ, ◌==◌, if◌then◌else◌, IsTrue, List, [], ◌∷◌, slice_index}
+use Rattle.std.specs.Prelude.{◌≡◌, ◌↔◌, ℕ, ◌==◌, if◌then◌else◌, IsTrue, IsFalse, List, [], ◌∷◌}
+use Rattle.std.specs.Prelude.{slice_index, Result, Err, IsOk, OnOk, OnErr}
+use Rattle.std.specs.FinMap as map
+use Rattle.std.specs.Ordering.{nat_cmp}
+use Rattle.master_core.specs.declared.fault.NoMaster.{NoMaster}
 use Rattle.show_core.specs.Numbers.{is_sub, is_group}
 
 -- a setting that was accepted: of a submaster or a group, by its number, or of the grand master, to
@@ -40,3 +44,13 @@ pub record StandsFor (masters : Bytes) (settings : List Setting) : Type 0 where
   pub groups_are : (n : ℕ) → IsTrue (is_group n)
       → slice_index masters.groups n ≡ group_after settings n
   pub grand_is : masters.grand ≡ grand_after settings
+
+-- the master of record n was to be set: where the record is there, what was asked for is the newest
+-- setting; where it is not, the call is refused for that, and nothing changed
+pub record Sets {V X : Type 0} (records : map.FinMap nat_cmp V) (n : ℕ) (absence : NoMaster)
+    (setting : Setting) (before after : Bytes) (result : Result X NoMaster) : Type 0 where
+  pub stands : OnOk result ((settings : List Setting) → StandsFor before settings
+      → StandsFor after (setting ∷ settings))
+  pub unchanged : OnErr result (after ≡ before)
+  pub there : IsOk result ↔ IsTrue (map.contains_key records n)
+  pub absent : (result ≡ Err absence) ↔ IsFalse (map.contains_key records n)

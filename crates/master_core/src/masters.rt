@@ -1,13 +1,11 @@
-ghost use Rattle.std.specs.Prelude.{◌≡◌, ◌↔◌, ℕ, ◌-◌, ◌≤◌, List, [], ◌∷◌};
-ghost use Rattle.std.specs.Prelude.{IsTrue, IsFalse, IsOk, OnOk, OnErr, Err};
-ghost use Rattle.std.specs.Prelude.{All, length, slice_index};
-ghost use Rattle.std.specs.Bool.{OnTrue};
-ghost use Rattle.std.specs.FinMap as map;
-ghost use Rattle.show_core.specs.Numbers.{is_channel, is_sub, is_group};
+ghost use Rattle.std.specs.Prelude.{◌≡◌, ℕ, ◌-◌, ◌≤◌, List, [], ◌∷◌};
+ghost use Rattle.std.specs.Prelude.{IsTrue, length, slice_index};
+ghost use Rattle.show_core.specs.Numbers.{is_channel, AreLevels};
 ghost use Rattle.master_core.specs.declared.fault.NoMaster.TheVariants.{NoSub, NoGroup};
 ghost use Rattle.master_core.specs.Merged.{merged_after};
 ghost use Rattle.master_core.specs.Settings.{Setting, sub_setting, group_setting, grand_setting};
-ghost use Rattle.master_core.specs.Settings.{grand_after, StandsFor};
+ghost use Rattle.master_core.specs.Settings.{Bytes, grand_after, StandsFor, Sets};
+ghost use Rattle.master_core.specs.Inside.{masters_view, IsMasters};
 
 use crate::fault::NoMaster;
 use crate::floors::raise;
@@ -25,11 +23,7 @@ pub struct Masters {
 }
 
 impl Model for Masters {
-    ghost use Rattle.master_core.specs.Settings.{Bytes};
-
     ghost Value = { Bytes };
-
-    ghost use Rattle.master_core.specs.Inside.{masters_view, IsMasters};
 
     ghost view = { masters_view };
 
@@ -37,9 +31,6 @@ impl Model for Masters {
 }
 
 impl Default for Masters {
-    ghost use Rattle.std.specs.Prelude.{[]};
-    ghost use Rattle.master_core.specs.Settings.{StandsFor};
-
     ghost is_default = { λ masters. StandsFor masters [] };
 
     fn default() -> Masters {
@@ -66,15 +57,9 @@ impl Masters {
     ///
     /// `NoSub` where the show has no submaster `n`: then nothing changes.
     pub fn set_sub(&mut self, show: &Show, n: u16, byte: u8) -> Result<(), NoMaster>
-        ensures stands { OnOk result ((settings : List Setting) → StandsFor self.old settings
-            → StandsFor self.new (sub_setting n byte ∷ settings)) }
-        ensures unchanged { OnErr result (self.new ≡ self.old) }
-        ensures there { IsOk result ↔ IsTrue (map.contains_key show.now.subs n) }
-        ensures absent { (result ≡ Err NoSub) ↔ IsFalse (map.contains_key show.now.subs n) }
+        ensures { Sets show.now.subs n NoSub (sub_setting n byte) self.old self.new result }
     {
-        if !has_sub(show, n) {
-            return Err(NoMaster::NoSub);
-        }
+        show.sub(n).ok_or(NoMaster::NoSub)?;
         self.subs[usize::from(n)] = byte;
         Ok(())
     }
@@ -85,15 +70,9 @@ impl Masters {
     ///
     /// `NoGroup` where the show has no group `n`: then nothing changes.
     pub fn set_group(&mut self, show: &Show, n: u16, byte: u8) -> Result<(), NoMaster>
-        ensures stands { OnOk result ((settings : List Setting) → StandsFor self.old settings
-            → StandsFor self.new (group_setting n byte ∷ settings)) }
-        ensures unchanged { OnErr result (self.new ≡ self.old) }
-        ensures there { IsOk result ↔ IsTrue (map.contains_key show.now.groups n) }
-        ensures absent { (result ≡ Err NoGroup) ↔ IsFalse (map.contains_key show.now.groups n) }
+        ensures { Sets show.now.groups n NoGroup (group_setting n byte) self.old self.new result }
     {
-        if !has_group(show, n) {
-            return Err(NoMaster::NoGroup);
-        }
+        show.group(n).ok_or(NoMaster::NoGroup)?;
         self.groups[usize::from(n)] = byte;
         Ok(())
     }
@@ -134,26 +113,10 @@ impl Masters {
         ensures levels { (settings : List Setting) → StandsFor self.now settings
             → (channel : ℕ) → IsTrue (is_channel channel)
             → slice_index floors.new (channel - 1) ≡ merged_after show.now settings channel 0 }
-        ensures full { All (λ floor. floor ≤ 65025) floors.new }
+        ensures full { AreLevels floors.new }
     {
         floors.fill(0);
         raise(floors, show.subs(), &self.subs);
         raise(floors, show.groups(), &self.groups);
     }
-}
-
-// Whether the show has the submaster; its number is then one of a submaster.
-fn has_sub(show: &Show, n: u16) -> bool
-    ensures there { result ≡ map.contains_key show.now.subs n }
-    ensures range { OnTrue result (IsTrue (is_sub n)) }
-{
-    show.sub(n).is_some()
-}
-
-// Whether the show has the group; its number is then one of a group.
-fn has_group(show: &Show, n: u16) -> bool
-    ensures there { result ≡ map.contains_key show.now.groups n }
-    ensures range { OnTrue result (IsTrue (is_group n)) }
-{
-    show.group(n).is_some()
 }

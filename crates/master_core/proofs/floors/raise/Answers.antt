@@ -3,7 +3,7 @@ use Rattle.std.proofs.Common.{take, arith}
 use Rattle.std.specs.Prelude.{All, map, max, unwrap_or}
 use Rattle.std.specs.Ordering.{nat_cmp}
 use Rattle.std.specs.FinMap as maps
-use Rattle.show_core.specs.Numbers.{is_channel}
+use Rattle.show_core.specs.Numbers.{is_channel, AreLevels}
 use Rattle.show_core.specs.Readers.{level_in}
 use Rattle.show_core.specs.Tables.{LevelMap}
 use Rattle.show_core.proofs.Ranges.{entries_from_keys}
@@ -62,9 +62,9 @@ loop-number-preserved c =
             c.loop-number-test.true c.loop-number-item.is (rw dark (omega arith))))
       ];
       full = elim c.if-master-gt0.branch [
-        | then-master-gt0 w ↦ subst (All (λ level. level ≤ 65025)) (sym w.floors-is)
+        | then-master-gt0 w ↦ subst (AreLevels) (sym w.floors-is)
             w.raise_listed.ensures.full
-        | else-master-gt0 w ↦ subst (All (λ level. level ≤ 65025)) (sym w.floors-is)
+        | else-master-gt0 w ↦ subst (AreLevels) (sym w.floors-is)
             c.loop-number.invariant.full
       ];
     }

@@ -1,5 +1,6 @@
 use Rattle.std.proofs.Common.{◌≡◌, ℕ, ◌+◌, ◌*◌, ◌<◌, ◌≤◌, get_or, take, length}
-use Rattle.std.specs.Prelude.{All, map, max}
+use Rattle.std.specs.Prelude.{map, max}
+use Rattle.show_core.specs.Numbers.{AreLevels}
 use Rattle.show_core.specs.Readers.{level_in}
 use Rattle.master_core.specs.Merged.{greatest}
 use Rattle.master_core.proofs.floors.raise.Given as goal
@@ -10,5 +11,5 @@ invariant-loop-number l = record {
   raised : (place : ℕ) → place < length l.floors → get_or l.floors place 0
       ≡ max (get_or l.fn.floors place 0) (greatest (map
       (λ e. level_in e.1 (place + 1) * get_or l.masters e.0 0) (take l.number-index l.records)));
-  full : All (λ level. level ≤ 65025) l.floors;
+  full : AreLevels l.floors;
 }

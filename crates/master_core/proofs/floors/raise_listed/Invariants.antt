@@ -1,7 +1,8 @@
 use Rattle.std.proofs.Common.{◌≡◌, ℕ, ◌+◌, ◌*◌, ◌<◌, ◌≤◌, IsTrue, get_or, drop, length}
-use Rattle.std.specs.Prelude.{All, max}
+use Rattle.std.specs.Prelude.{max}
 use Rattle.std.specs.Ordering.{nat_cmp}
 use Rattle.std.specs.FinMap.{is_sorted}
+use Rattle.show_core.specs.Numbers.{AreLevels}
 use Rattle.master_core.proofs.Raised.{byte_in}
 use Rattle.master_core.proofs.floors.raise_listed.Given as goal
 
@@ -13,5 +14,5 @@ invariant-loop-channel l = record {
       → max (get_or l.floors place 0) (byte_in (drop l.channel-index l.pairs) (place + 1) *
       l.master)
       ≡ max (get_or l.fn.floors place 0) (byte_in l.pairs (place + 1) * l.master);
-  full : All (λ level. level ≤ 65025) l.floors;
+  full : AreLevels l.floors;
 }
