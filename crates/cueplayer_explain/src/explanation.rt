@@ -1,10 +1,7 @@
-ghost use Rattle.std.specs.Prelude.{◌≡◌, ◌<◌, ◌++◌, OnOk, IfErr, None, length, flat_map, map};
+ghost use Rattle.std.specs.Prelude.{◌≡◌, ◌++◌, OnOk, flat_map, map};
 ghost use Rattle.std.specs.Prelude.{string_bytes};
-ghost use Rattle.show_line.specs.Said.{desk_limits};
-ghost use Rattle.show_reader.specs.declared.fault.ShowFault.TheVariants as show_fault;
-ghost use Rattle.show_reader.specs.Reading.{fault_of, longest_text};
-ghost use Rattle.cueplayer_runs.specs.Faults.{CheckFails};
-ghost use Rattle.cueplayer_runs.specs.Prints.{Prints};
+ghost use Rattle.cueplayer_runs.specs.Faults.{CheckFails, ReadsFirst};
+ghost use Rattle.cueplayer_runs.specs.Prints.{PrintsTo};
 ghost use Rattle.cueplayer_explain.specs.Explained.{IsExplanationOf, note_line};
 
 use crate::notes::notes_on;
@@ -26,13 +23,8 @@ use std::alloc::{AllocError, Global};
 ///
 /// The text's fault; `Memory` where a growth was refused; `Device` where the write failed.
 pub fn explain<W: Output>(alloc: Global, show: &[u8], out: &mut W) -> Result<(), RunFault>
-    ensures told { W.tells out.new → W.tells out.old }
-    ensures text { W.tells out.new → Prints result (IsExplanationOf show.now) (W.tape out.old)
-        (W.tape out.new) }
-    ensures faultless { OnOk result (fault_of desk_limits show.now ≡ None) }
-    ensures fault { IfErr result (CheckFails show.now) }
-    ensures too_long { longest_text < length show.now → result ≡ Err
-        (RunFault.Show show_fault.TooLong) }
+    ensures prints { PrintsTo W.tells W.tape out.old out.new result (IsExplanationOf show.now) }
+    ensures reads { ReadsFirst show.now (CheckFails show.now) result }
 {
     let loaded = read_show(alloc, show)?;
     let mut text = skipped_lines(alloc, show, loaded.lines)?;

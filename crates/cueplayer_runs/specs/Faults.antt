@@ -1,11 +1,12 @@
 -- Why a run ends with a fault. Want of memory may come in place of any other answer.
-use Rattle.std.specs.Prelude.{◌≡◌, ℕ, true, false, List, Some, None}
+use Rattle.std.specs.Prelude.{◌≡◌, ◌<◌, ℕ, true, false, List, length, Some, None, Result, Err}
+use Rattle.std.specs.Prelude.{OnOk, IfErr}
 use Rattle.show_line.specs.Said.{desk_limits}
 use Rattle.show_line.specs.declared.statement.Record.TheVariants.{Cue}
 use Rattle.show_reader.specs.declared.fault.ShowFault.TheVariants as show_fault
 use Rattle.show_reader.specs.Text.{statements_of}
 use Rattle.show_reader.specs.Meaning.{is_there}
-use Rattle.show_reader.specs.Reading.{fault_of}
+use Rattle.show_reader.specs.Reading.{fault_of, longest_text}
 use Rattle.cueplayer_faults.specs.declared.fault.RunFault.{RunFault}
 use Rattle.cueplayer_faults.specs.declared.fault.RunFault.TheVariants as run
 
@@ -31,3 +32,11 @@ LookFails show cue run.Device =
     (fault_of desk_limits show ≡ None)
     × (is_there (Cue cue) (statements_of desk_limits show) ≡ true)
 LookFails show cue fault = ReadFails show fault
+
+-- how a run ends that reads a show first: well only where the text has no fault, else with a fault
+-- of these; and too long is told of every text that is
+pub record ReadsFirst {X : Type 0} (show : List ℕ) (Fails : RunFault → Type 0)
+    (result : Result X RunFault) : Type 0 where
+  pub faultless : OnOk result (fault_of desk_limits show ≡ None)
+  pub fault : IfErr result Fails
+  pub too_long : longest_text < length show → result ≡ Err (run.Show show_fault.TooLong)

@@ -2,7 +2,7 @@ ghost use Rattle.std.specs.Prelude.{◌≡◌, ◌<◌, ◌++◌, All, IfOk, IfS
 ghost use Rattle.std.specs.FinMap as maps;
 ghost use Rattle.show_reader.specs.declared.fault.ShowFault.TheVariants as show_fault;
 ghost use Rattle.show_reader.specs.Reading.{longest_text};
-ghost use Rattle.cueplayer_runs.specs.Prints.{Prints};
+ghost use Rattle.cueplayer_runs.specs.Prints.{PrintsTo};
 ghost use Rattle.cueplayer_runs.specs.Slots.{universe_lines, ordinal_lines, slots_text};
 ghost use Rattle.cueplayer_runs.specs.Slots.{IsSlotsOf, HasCue, HasNumbers, SlotsFails};
 ghost use Rattle.std.specs.Prelude.{flat_map};
@@ -35,9 +35,7 @@ pub fn slots<W: Output>(
     base: u16,
     out: &mut W,
 ) -> Result<(), RunFault>
-    ensures told { W.tells out.new → W.tells out.old }
-    ensures text { W.tells out.new → Prints result (IsSlotsOf show.now cue base) (W.tape out.old)
-        (W.tape out.new) }
+    ensures prints { PrintsTo W.tells W.tape out.old out.new result (IsSlotsOf show.now cue base) }
     ensures there { OnOk result (HasCue show.now cue) }
     ensures numbered { OnOk result (HasNumbers show.now base) }
     ensures fault { IfErr result (SlotsFails show.now cue base) }

@@ -1,12 +1,10 @@
-ghost use Rattle.std.specs.Prelude.{◌≡◌, ◌<◌, true, OnOk, IfErr, None, length};
+ghost use Rattle.std.specs.Prelude.{◌≡◌, true, OnOk};
 ghost use Rattle.show_line.specs.Said.{desk_limits};
 ghost use Rattle.show_line.specs.declared.statement.Record.TheVariants.{Cue};
 ghost use Rattle.show_reader.specs.Meaning.{is_there};
 ghost use Rattle.show_reader.specs.Text.{statements_of};
-ghost use Rattle.show_reader.specs.declared.fault.ShowFault.TheVariants as show_fault;
-ghost use Rattle.show_reader.specs.Reading.{fault_of, longest_text};
-ghost use Rattle.cueplayer_runs.specs.Faults.{CheckFails, LookFails};
-ghost use Rattle.cueplayer_runs.specs.Prints.{IsCheckOf, IsLookOf, Prints};
+ghost use Rattle.cueplayer_runs.specs.Faults.{CheckFails, LookFails, ReadsFirst};
+ghost use Rattle.cueplayer_runs.specs.Prints.{IsCheckOf, IsLookOf, PrintsTo};
 
 use crate::texts::{check_text, look_text};
 use cueplayer_faults::RunFault;
@@ -23,13 +21,8 @@ use std::alloc::Global;
 ///
 /// The text's fault; `Memory` where a growth was refused; `Device` where the write failed.
 pub fn check<W: Output>(alloc: Global, show: &[u8], out: &mut W) -> Result<(), RunFault>
-    ensures told { W.tells out.new → W.tells out.old }
-    ensures text { W.tells out.new → Prints result (IsCheckOf show.now) (W.tape out.old)
-        (W.tape out.new) }
-    ensures faultless { OnOk result (fault_of desk_limits show.now ≡ None) }
-    ensures fault { IfErr result (CheckFails show.now) }
-    ensures too_long { longest_text < length show.now → result ≡ Err
-        (RunFault.Show show_fault.TooLong) }
+    ensures prints { PrintsTo W.tells W.tape out.old out.new result (IsCheckOf show.now) }
+    ensures reads { ReadsFirst show.now (CheckFails show.now) result }
 {
     let loaded = read_show(alloc, show)?;
     let text = check_text(alloc, &loaded)?;
@@ -55,14 +48,9 @@ pub fn look<W: Output>(
     cid: [u8; 16],
     out: &mut W,
 ) -> Result<(), RunFault>
-    ensures told { W.tells out.new → W.tells out.old }
-    ensures text { W.tells out.new → Prints result (IsLookOf show.now cue cid) (W.tape out.old)
-        (W.tape out.new) }
-    ensures faultless { OnOk result (fault_of desk_limits show.now ≡ None) }
+    ensures prints { PrintsTo W.tells W.tape out.old out.new result (IsLookOf show.now cue cid) }
+    ensures reads { ReadsFirst show.now (LookFails show.now cue) result }
     ensures there { OnOk result (is_there (Cue cue) (statements_of desk_limits show.now) ≡ true) }
-    ensures fault { IfErr result (LookFails show.now cue) }
-    ensures too_long { longest_text < length show.now → result ≡ Err
-        (RunFault.Show show_fault.TooLong) }
 {
     let loaded = read_show(alloc, show)?;
     if loaded.show.cue(cue).is_none() {

@@ -1,4 +1,4 @@
-use Rattle.std.proofs.Common.{◌≡◌, ◌∙◌, sym}
+use Rattle.std.proofs.Common.{◌≡◌, ◌∙◌, sym, rules}
 use Rattle.std.specs.Prelude.{IsTrue, IsFalse}
 use Rattle.patch_core.specs.Frame.{is_base}
 use Rattle.show_core.specs.Tables.{Tables}
@@ -38,15 +38,18 @@ returns-in_err-write-clause-fault g c =
           c.in_ok-loaded.ensures.show numbers,
     )
 
-pub returns-clause-text : goal.returns-clause-text
-returns-clause-text g c = λ tells. (
-  c.as_slice.result.now,
-  of_cue c.args.show.now c.args.cue (λ t levels patch. t ≡ slots_text levels patch c.args.base) _ _
-      c.in_ok-loaded.loaded.show c.in_ok-loaded.ensures.show
-      (was_found _ _ _ _ c.cue.ensures c.is_none.ensures c.if-is_none.false)
-      c.as_slice.ensures.value c.in_ok-text.ensures,
-  c.in_ok-write.ensures.ok tells,
-)
+pub returns-clause-prints : goal.returns-clause-prints
+returns-clause-prints g c = record {
+  told = search rules;
+  text = λ tells. (
+    c.as_slice.result.now,
+    of_cue c.args.show.now c.args.cue (λ t levels patch. t ≡ slots_text levels patch c.args.base) _ _
+        c.in_ok-loaded.loaded.show c.in_ok-loaded.ensures.show
+        (was_found _ _ _ _ c.cue.ensures c.is_none.ensures c.if-is_none.false)
+        c.as_slice.ensures.value c.in_ok-text.ensures,
+    c.in_ok-write.ensures.ok tells,
+  );
+}
 
 pub returns-clause-numbered : goal.returns-clause-numbered
 returns-clause-numbered g c =
