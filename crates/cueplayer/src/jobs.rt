@@ -17,7 +17,7 @@ use cueplayer_faults::RunFault;
 use cueplayer_play::play;
 use cueplayer_rehearse::rehearse_text;
 use cueplayer_runs::{check, listen, look, slots};
-use cueplayer_words::{Job, Name};
+use cueplayer_words::{Job, Name, Night};
 use devices::Output;
 use fade_core::StepFader;
 use sacn_packet::SourceName;
@@ -36,24 +36,10 @@ pub fn run(rt: &HostRuntime, job: Job) -> Result<(), Failure>
         Job::Look { show, cue, cid } => look_at(rt, show.as_str(), cue, cid),
         Job::Explain { show } => explain_show(rt, show.as_str()),
         Job::Slots { show, cue, base } => show_slots(rt, show.as_str(), cue, base),
-        Job::Play {
-            show,
-            to,
-            cid,
-            priority,
-            base,
-        } => play_lines(rt, show.as_str(), to, identity(cid, priority), base),
-        Job::Live {
-            show,
-            to,
-            cid,
-            priority,
-            base,
-            record_file,
-        } => {
-            let source = identity(cid, priority);
+        Job::Play(night) => play_lines(rt, &night, identity(&night)),
+        Job::Live { night, record_file } => {
             let record_file = record_file.as_ref().map(Name::as_str);
-            play_live(rt, show.as_str(), to, source, base, record_file)
+            play_live(rt, &night, identity(&night), record_file)
         }
         Job::Rehearse { show, script } => rehearse(rt, show.as_str(), script.as_str()),
         Job::Listen {
@@ -143,23 +129,17 @@ fn listen_at(rt: &HostRuntime, at: ([u8; 4], u16), universe: u16, count: u32) ->
 }
 
 // Plays the lines of standard input.
-fn play_lines(
-    rt: &HostRuntime,
-    show: &str,
-    to: ([u8; 4], u16),
-    source: Identity,
-    base: u16,
-) -> Result<(), Failure> {
-    let text = file_text(rt, show)?;
+fn play_lines(rt: &HostRuntime, night: &Night, source: Identity) -> Result<(), Failure> {
+    let text = file_text(rt, night.show.as_str())?;
     let text = text.as_slice();
-    let mut link = SendingSocket::open(rt, to)?;
+    let mut link = SendingSocket::open(rt, night.to)?;
     let mut input = SystemInput::new(rt.stdin());
     let mut out = SystemOutput::new(rt.stdout());
     let answer = play::<StepFader, _, _, _>(
         rt.alloc(),
         text,
         source,
-        base,
+        night.base,
         &mut input,
         &mut link,
         &mut out,
@@ -170,24 +150,22 @@ fn play_lines(
 // Plays by the clock what is typed.
 fn play_live(
     rt: &HostRuntime,
-    show: &str,
-    to: ([u8; 4], u16),
+    night: &Night,
     source: Identity,
-    base: u16,
     record_file: Option<&str>,
 ) -> Result<(), Failure> {
     let input = TypedInput::open(rt)?;
-    let text = file_text(rt, show)?;
+    let text = file_text(rt, night.show.as_str())?;
     let text = text.as_slice();
     let record = Record::open(rt, record_file)?;
-    let mut link = SendingSocket::open(rt, to)?;
+    let mut link = SendingSocket::open(rt, night.to)?;
     let mut feed = LiveFeed::new(rt, input, record)?;
     let mut out = ShownOutput::new(SystemOutput::new(rt.stdout()));
     let answer = play::<StepFader, _, _, _>(
         rt.alloc(),
         text,
         source,
-        base,
+        night.base,
         &mut feed,
         &mut link,
         &mut out,
@@ -232,14 +210,14 @@ fn rehearse(rt: &HostRuntime, show: &str, script: &str) -> Result<(), Failure> {
 }
 
 // Who sends: the source name is the program's.
-fn identity(cid: [u8; 16], priority: u8) -> Identity
-    requires { priority ≤ 200 }
+fn identity(night: &Night) -> Identity
+    requires { night.now.priority ≤ 200 }
     ensures { result ≡ record {
-      cid = cid;
+      cid = night.now.cid;
       name = codes "cueplayer";
-      priority = priority;
+      priority = night.now.priority;
     } }
 {
     let name = SourceName::new("cueplayer").unwrap();
-    Identity::new(cid, name, priority).unwrap()
+    Identity::new(night.cid, name, night.priority).unwrap()
 }

@@ -8,6 +8,7 @@ use Rattle.cueplayer_words.specs.Program.{program}
 use Rattle.cueplayer_words.specs.Address.{address_of}
 use Rattle.cueplayer_words.specs.Job.{job_of, number_between}
 use Rattle.cueplayer_words.specs.Asked.{Passes}
+use Rattle.cueplayer_words.specs.declared.job.Night.{Night}
 use Rattle.cueplayer_words.specs.declared.job.Job.TheVariants.{Check, Explain, Look, Slots}
 use Rattle.cueplayer_words.specs.declared.job.Job.TheVariants.{Play, Live, Rehearse, Listen}
 
@@ -116,18 +117,28 @@ play_words = sending_words (codes "play")
 abbrev cid : List ℕ
 cid = 192 ∷ 255 ∷ 238 ∷ 0 ∷ 0 ∷ 0 ∷ 64 ∷ 0 ∷ 128 ∷ 0 ∷ 0 ∷ 0 ∷ 0 ∷ 0 ∷ 225 ∷ 49 ∷ []
 
+-- a night of `a.asc`, sent by this CID
+abbrev night : List ℕ × ℕ → ℕ → ℕ → Night
+night to priority base = record {
+  show = codes "a.asc";
+  to = to;
+  cid = cid;
+  priority = priority;
+  base = base;
+}
+
 play_passes : Passes (play_words (codes "127.0.0.1") [])
 unfolding clap_on_literals
 play_passes = refl
 
 play_job : job_of (play_words (codes "127.0.0.1") [])
-    ≡ Some (Play (codes "a.asc") (127 ∷ 0 ∷ 0 ∷ 1 ∷ [], 5568) cid 100 1)
+    ≡ Some (Play (night (127 ∷ 0 ∷ 0 ∷ 1 ∷ [], 5568) 100 1))
 unfolding clap_on_literals uuid_on_literals
 play_job = refl
 
 play_options : job_of (play_words (codes "10.0.0.9:5000")
     (codes "--base" ∷ codes "63999" ∷ codes "--priority" ∷ codes "200" ∷ []))
-    ≡ Some (Play (codes "a.asc") (10 ∷ 0 ∷ 0 ∷ 9 ∷ [], 5000) cid 200 63999)
+    ≡ Some (Play (night (10 ∷ 0 ∷ 0 ∷ 9 ∷ [], 5000) 200 63999))
 unfolding clap_on_literals uuid_on_literals
 play_options = refl
 
@@ -141,13 +152,13 @@ unfolding clap_on_literals
 live_passes = refl
 
 live_job : job_of (sending_words (codes "live") (codes "127.0.0.1") [])
-    ≡ Some (Live (codes "a.asc") (127 ∷ 0 ∷ 0 ∷ 1 ∷ [], 5568) cid 100 1 None)
+    ≡ Some (Live (night (127 ∷ 0 ∷ 0 ∷ 1 ∷ [], 5568) 100 1) None)
 unfolding clap_on_literals uuid_on_literals
 live_job = refl
 
 live_recorded : job_of (sending_words (codes "live") (codes "127.0.0.1:9")
     (codes "--record" ∷ codes "b.play" ∷ codes "--priority" ∷ codes "150" ∷ []))
-    ≡ Some (Live (codes "a.asc") (127 ∷ 0 ∷ 0 ∷ 1 ∷ [], 9) cid 150 1 (Some (codes "b.play")))
+    ≡ Some (Live (night (127 ∷ 0 ∷ 0 ∷ 1 ∷ [], 9) 150 1) (Some (codes "b.play")))
 unfolding clap_on_literals uuid_on_literals
 live_recorded = refl
 

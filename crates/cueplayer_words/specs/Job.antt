@@ -8,6 +8,7 @@ use Rattle.uuid.specs.Text.{parsed}
 use Rattle.ascii_text.specs.Forms.{cue_number_of, whole_of}
 use Rattle.cueplayer_words.specs.Address.{address_of}
 use Rattle.cueplayer_words.specs.Program.{program}
+use Rattle.cueplayer_words.specs.declared.job.Night.{Night}
 use Rattle.cueplayer_words.specs.declared.job.Job.{Job}
 use Rattle.cueplayer_words.specs.declared.job.Job.TheVariants.{Check, Explain, Look, Slots}
 use Rattle.cueplayer_words.specs.declared.job.Job.TheVariants.{Play, Live, Rehearse, Listen}
@@ -54,35 +55,33 @@ slots_of rows = slots_with (first_of (codes "SHOW") rows)
     (value_by cue_number_of (codes "CUE") rows)
     (value_or 1 (number_between 1 63999) (codes "base") rows)
 
--- a play, where each of its values is there
-abbrev pub play_with : Option Text → Option (List ℕ × ℕ) → Option (List ℕ) → Option ℕ → Option ℕ
-    → Option Job
-play_with (Some show) (Some to) (Some cid) (Some priority) (Some base) =
-    Some (Play show to cid priority base)
-play_with _ _ _ _ _ = None
+-- a night, where each of its values is there
+abbrev pub night_with : Option Text → Option (List ℕ × ℕ) → Option (List ℕ) → Option ℕ → Option ℕ
+    → Option Night
+night_with (Some show) (Some to) (Some cid) (Some priority) (Some base) = Some record {
+  show = show;
+  to = to;
+  cid = cid;
+  priority = priority;
+  base = base;
+}
+night_with _ _ _ _ _ = None
 
--- the job of `play SHOW --to ADDR --cid UUID [--priority P] [--base U]`: a priority is 0 to 200
--- and 100 where it is absent (E1.31-2018, priority), the base a universe number, 1 where it is
--- absent
-abbrev pub play_of : List Row → Option Job
-play_of rows = play_with (first_of (codes "SHOW") rows) (value_by address_of (codes "to") rows)
+-- the night of `SHOW --to ADDR --cid UUID [--priority P] [--base U]`: a priority is 0 to 200 and
+-- 100 where it is absent (E1.31-2018, priority), the base a universe number, 1 where it is absent
+abbrev pub night_of : List Row → Option Night
+night_of rows = night_with (first_of (codes "SHOW") rows) (value_by address_of (codes "to") rows)
     (value_by parsed (codes "cid") rows)
     (value_or 100 (number_between 0 200) (codes "priority") rows)
     (value_or 1 (number_between 1 63999) (codes "base") rows)
 
--- a live night is a play with the file of its record, where one is named
-abbrev pub recorded : Option Text → Job → Job
-recorded record_file (Play show to cid priority base) =
-    Live show to cid priority base record_file
-recorded record_file job = job
+-- the job of `play`, which has the arguments of a night
+abbrev pub play_of : List Row → Option Job
+play_of rows = option_map Play (night_of rows)
 
-abbrev pub live_with : Option Text → Option Job → Option Job
-live_with record_file (Some job) = Some (recorded record_file job)
-live_with record_file None = None
-
--- the job of `live SHOW --to ADDR --cid UUID [--priority P] [--base U] [--record FILE]`
+-- the job of `live`, which has those of a night, and `[--record FILE]`
 abbrev pub live_of : List Row → Option Job
-live_of rows = live_with (first_of (codes "record") rows) (play_of rows)
+live_of rows = option_map (λ night. Live night (first_of (codes "record") rows)) (night_of rows)
 
 -- a rehearsal, where both of its values are there
 abbrev pub rehearse_with : Option Text → Option Text → Option Job
@@ -108,8 +107,8 @@ listen_of rows = listen_with (value_by address_of (codes "ADDR") rows)
 -- the numbers of a job are in the ranges that its run asks for
 abbrev pub IsInRange : Job → Type 0
 IsInRange (Listen at universe count) = (1 ≤ universe) × (universe ≤ 63999)
-IsInRange (Play show to cid priority base) = priority ≤ 200
-IsInRange (Live show to cid priority base record_file) = priority ≤ 200
+IsInRange (Play night) = night.priority ≤ 200
+IsInRange (Live night record_file) = night.priority ≤ 200
 IsInRange _ = Unit {0}
 
 -- this is the job that is asked for, if one is, and its numbers are in the ranges

@@ -1,4 +1,5 @@
 pub mod Address
 pub mod Program
+pub mod Line
 pub mod Job
 pub mod Asked

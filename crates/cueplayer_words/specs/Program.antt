@@ -1,5 +1,5 @@
 -- The lines of the program, as a command of clap.
-use Rattle.std.specs.Prelude.{◌≡◌, true, false, Some, codes}
+use Rattle.std.specs.Prelude.{◌≡◌, true, false, Some, List, [], ◌∷◌, ◌++◌, codes, fold}
 use Rattle.clap.specs.Words.{App, Rule, Text, app_of, new_app, new_rule, rule_of, with_rule}
 use Rattle.clap.specs.Words.{with_subcommand}
 use Rattle.clap.specs.declared.builder.arg.Arg.{Arg}
@@ -26,45 +26,47 @@ required_option id = record (required id) { long = Some id; value_names = 1 }
 abbrev pub option : Text → Rule
 option id = record (new_rule id) { long = Some id; value_names = 1 }
 
--- `NAME SHOW`
-abbrev pub show_line : Text → App
-show_line name = with_rule (new_app name) (required (codes "SHOW"))
+-- the show of a line, by the name of its file
+abbrev pub show : Rule
+show = required (codes "SHOW")
 
--- `NAME SHOW CUE`
-abbrev pub cue_line : Text → App
-cue_line name = with_rule (show_line name) (required (codes "CUE"))
+-- the cue of a line, by its number
+abbrev pub cue : Rule
+cue = required (codes "CUE")
 
--- `look SHOW CUE --cid UUID`
-abbrev pub look_line : App
-look_line = with_rule (cue_line (codes "look")) (required_option (codes "cid"))
+-- the CID of who sends
+abbrev pub cid : Rule
+cid = required_option (codes "cid")
 
--- `slots SHOW CUE [--base U]`
-abbrev pub slots_line : App
-slots_line = with_rule (cue_line (codes "slots")) (option (codes "base"))
+-- the number of the first universe
+abbrev pub base : Rule
+base = option (codes "base")
 
--- `NAME SHOW --to ADDR --cid UUID`
-abbrev pub short_play_line : Text → App
-short_play_line name = with_rule (with_rule (with_rule (new_app name)
-    (required (codes "SHOW"))) (required_option (codes "to"))) (required_option (codes "cid"))
+-- `SHOW --to ADDR --cid UUID [--priority P] [--base U]`
+abbrev pub night_arguments : List Rule
+night_arguments =
+    show ∷ required_option (codes "to") ∷ cid ∷ option (codes "priority") ∷ base ∷ []
 
--- `NAME SHOW --to ADDR --cid UUID [--priority P] [--base U]`
-abbrev pub play_line : Text → App
-play_line name =
-    with_rule (with_rule (short_play_line name) (option (codes "priority"))) (option (codes "base"))
+-- `ADDR UNIVERSE COUNT`
+abbrev pub listen_arguments : List Rule
+listen_arguments =
+    required (codes "ADDR") ∷ required (codes "UNIVERSE") ∷ required (codes "COUNT") ∷ []
 
--- `live SHOW --to ADDR --cid UUID [--priority P] [--base U] [--record FILE]`
-abbrev pub live_line : App
-live_line = with_rule (play_line (codes "live")) (option (codes "record"))
+-- a line, by its name and its arguments in order
+abbrev pub line : Text → List Rule → App
+line name arguments = fold with_rule (new_app name) arguments
 
--- `rehearse SHOW SCRIPT`
-abbrev pub rehearse_line : App
-rehearse_line = with_rule (with_rule (new_app (codes "rehearse"))
-    (required (codes "SHOW"))) (required (codes "SCRIPT"))
-
--- `listen ADDR UNIVERSE COUNT`
-abbrev pub listen_line : App
-listen_line = with_rule (with_rule (with_rule (new_app (codes "listen"))
-    (required (codes "ADDR"))) (required (codes "UNIVERSE"))) (required (codes "COUNT"))
+-- the lines of the program
+abbrev pub lines : List App
+lines = line (codes "check") (show ∷ [])
+    ∷ line (codes "explain") (show ∷ [])
+    ∷ line (codes "look") (show ∷ cue ∷ cid ∷ [])
+    ∷ line (codes "slots") (show ∷ cue ∷ base ∷ [])
+    ∷ line (codes "play") night_arguments
+    ∷ line (codes "live") (night_arguments ++ option (codes "record") ∷ [])
+    ∷ line (codes "rehearse") (show ∷ required (codes "SCRIPT") ∷ [])
+    ∷ line (codes "listen") listen_arguments
+    ∷ []
 
 -- the program before it has lines: a line has to be named
 abbrev pub without_lines : App
@@ -72,21 +74,6 @@ without_lines = record (new_app (codes "cueplayer")) {
   top = record (new_app (codes "cueplayer")).top { subcommand_required = true };
 }
 
--- the program with `check SHOW` and `explain SHOW`
-abbrev pub telling_lines : App
-telling_lines = with_subcommand
-    (with_subcommand without_lines (show_line (codes "check")).top)
-    (show_line (codes "explain")).top
-
--- and with those that print a cue
-abbrev pub printing_lines : App
-printing_lines = with_subcommand (with_subcommand telling_lines look_line.top) slots_line.top
-
--- and with the lines that play: `play` and `live`
-abbrev pub playing_lines : App
-playing_lines = with_subcommand
-    (with_subcommand printing_lines (play_line (codes "play")).top) live_line.top
-
 -- the program with all its lines
 abbrev pub program : App
-program = with_subcommand (with_subcommand playing_lines rehearse_line.top) listen_line.top
+program = fold (λ app line. with_subcommand app line.top) without_lines lines

@@ -34,6 +34,24 @@ impl Name {
     }
 }
 
+/// A night that is played to the network.
+#[derive(Debug, Drop)]
+pub struct Night {
+    pub show: Name,
+
+    /// The IPv4 address and the UDP port to send to.
+    pub to: ([u8; 4], u16),
+
+    /// The CID of who sends: the UUID's 16 bytes in order.
+    pub cid: [u8; 16],
+
+    /// The priority, 0 to 200 (100 where it is absent).
+    pub priority: u8,
+
+    /// The number of the first universe, 1 to 63,999 (1 where it is absent).
+    pub base: u16,
+}
+
 /// What the words ask for: one of the program's lines, with the values of its arguments.
 #[derive(Debug, Drop)]
 pub enum Job {
@@ -65,26 +83,13 @@ pub enum Job {
     },
 
     /// `play SHOW --to ADDR --cid UUID [--priority P] [--base U]`: play input lines to the network.
-    /// `to` is the IPv4 address and the UDP port to send to, the CID the UUID's 16 bytes in order,
-    /// the priority 0 to 200 (100 where it is absent), and the base the number of the first
-    /// universe, 1 to 63,999 (1 where it is absent).
-    Play {
-        show: Name,
-        to: ([u8; 4], u16),
-        cid: [u8; 16],
-        priority: u8,
-        base: u16,
-    },
+    Play(Night),
 
     /// `live SHOW --to ADDR --cid UUID [--priority P] [--base U] [--record FILE]`: play by the
-    /// clock what is typed. The values are those of `play`; `record_file` is where the lines that
-    /// were played are written to, where a file is named.
+    /// clock what is typed. `record_file` is where the lines that were played are written to, where
+    /// a file is named.
     Live {
-        show: Name,
-        to: ([u8; 4], u16),
-        cid: [u8; 16],
-        priority: u8,
-        base: u16,
+        night: Night,
         record_file: Option<Name>,
     },
 

@@ -12,8 +12,9 @@
 mod address;
 mod arguments;
 mod job;
+mod line;
 mod program;
 mod read;
 
-pub use job::{Job, Name, WordsFault};
+pub use job::{Job, Name, Night, WordsFault};
 pub use read::read_words;

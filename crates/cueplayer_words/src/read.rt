@@ -1,14 +1,14 @@
-ghost use Rattle.std.specs.Prelude.{◌≡◌, map, option_and_then, IfOk, IfErr};
+ghost use Rattle.std.specs.Prelude.{◌≡◌, ◌≤◌, map, option_and_then, IfOk, IfErr, IfSome};
 ghost use Rattle.clap.specs.Words.{found_of, rows_of, subcommand_rows_of};
 ghost use Rattle.cueplayer_words.specs.Job.{IsInRange, IsJob, line_of, check_of, explain_of};
-ghost use Rattle.cueplayer_words.specs.Job.{look_of, slots_of, play_of, live_of, recorded};
-ghost use Rattle.cueplayer_words.specs.Job.{rehearse_of, listen_of};
+ghost use Rattle.cueplayer_words.specs.Job.{look_of, slots_of, night_of, play_of};
+ghost use Rattle.cueplayer_words.specs.Job.{live_of, rehearse_of, listen_of};
 ghost use Rattle.cueplayer_words.specs.Asked.{Explains, IsAsked, RefusedBy};
 
 use crate::arguments::{
     TOP_UNIVERSE, address_at, base_at, cid_at, cue_at, name_at, number_at, priority_at, text_at,
 };
-use crate::job::{Job, Name, WordsFault};
+use crate::job::{Job, Name, Night, WordsFault};
 use crate::program::program;
 use clap::error::ErrorKind;
 use clap::{ArgMatches, Error};
@@ -120,6 +120,25 @@ fn read_slots(alloc: Global, matches: &ArgMatches<'_>) -> Result<Option<Job>, Al
 fn read_play(alloc: Global, matches: &ArgMatches<'_>) -> Result<Option<Job>, AllocError>
     ensures { IfOk result (IsJob (play_of (rows_of (found_of matches.now)))) }
 {
+    let night = read_night(alloc, matches)?;
+    Ok(night.map(|night| Job::Play(night)))
+}
+
+fn read_live(alloc: Global, matches: &ArgMatches<'_>) -> Result<Option<Job>, AllocError>
+    ensures { IfOk result (IsJob (live_of (rows_of (found_of matches.now)))) }
+{
+    let Some(night) = read_night(alloc, matches)? else {
+        return Ok(None);
+    };
+    let record_file = name_at(alloc, matches, "record")?;
+    Ok(Some(Job::Live { night, record_file }))
+}
+
+// The night of a line that plays, where each of its texts has its form.
+fn read_night(alloc: Global, matches: &ArgMatches<'_>) -> Result<Option<Night>, AllocError>
+    ensures night { IfOk result (λ night. night ≡ night_of (rows_of (found_of matches.now))) }
+    ensures range { IfOk result (λ asked. IfSome asked (λ night. night.priority ≤ 200)) }
+{
     let show = text_at(matches, "SHOW");
     let to = address_at(matches, "to");
     let cid = cid_at(matches, "cid");
@@ -131,47 +150,13 @@ fn read_play(alloc: Global, matches: &ArgMatches<'_>) -> Result<Option<Job>, All
         return Ok(None);
     };
     let show = Name::new(alloc, show)?;
-    Ok(Some(Job::Play {
+    Ok(Some(Night {
         show,
         to,
         cid,
         priority,
         base,
     }))
-}
-
-fn read_live(alloc: Global, matches: &ArgMatches<'_>) -> Result<Option<Job>, AllocError>
-    ensures { IfOk result (IsJob (live_of (rows_of (found_of matches.now)))) }
-{
-    let Some(play) = read_play(alloc, matches)? else {
-        return Ok(None);
-    };
-    let record_file = name_at(alloc, matches, "record")?;
-    Ok(Some(recorded(play, record_file)))
-}
-
-// A play with the file of its record.
-fn recorded(job: Job, record_file: Option<Name>) -> Job
-    ensures job { result ≡ recorded record_file job }
-    ensures ranges { IsInRange job → IsInRange result }
-{
-    match job {
-        Job::Play {
-            show,
-            to,
-            cid,
-            priority,
-            base,
-        } => Job::Live {
-            show,
-            to,
-            cid,
-            priority,
-            base,
-            record_file,
-        },
-        job => job,
-    }
 }
 
 fn read_rehearse(alloc: Global, matches: &ArgMatches<'_>) -> Result<Option<Job>, AllocError>

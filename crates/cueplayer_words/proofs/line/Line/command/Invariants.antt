@@ -1,0 +1,9 @@
+use Rattle.std.proofs.Common.{take}
+use Rattle.clap.specs.Words.{new_app}
+use Rattle.cueplayer_words.specs.Program.{IsLine}
+use Rattle.cueplayer_words.specs.Line.{with_arguments}
+use Rattle.cueplayer_words.proofs.line.Line.command.Given as goal
+
+abbrev pub invariant-loop-argument : goal.invariant-loop-argument
+invariant-loop-argument l = IsLine
+    (with_arguments (new_app l.self.name.now) (take l.argument-index l.self.arguments.now)) l.command
