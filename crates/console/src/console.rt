@@ -1,8 +1,11 @@
 ghost use Rattle.std.specs.Prelude.{◌≡◌, ◌↔◌, None, Some, Err, IsFalse, List, [], ◌∷◌, IfOk, OnOk};
 ghost use Rattle.std.specs.Prelude.{OnErr, MatchResult};
+ghost use Rattle.std.specs.Coded.{codes};
+ghost use Rattle.show_core.specs.contracts.show.Show as show_model;
 ghost use Rattle.patch_core.specs.Frame.{is_base};
 ghost use Rattle.patch_core.specs.declared.fault.RigFault.TheVariants.{Universe};
 ghost use Rattle.desk_core.specs.Played.{Act, ended, outcome, refusal, ticked};
+ghost use Rattle.console.specs.ConsoleState.{ConsoleState};
 ghost use Rattle.console.specs.Offering.{Offers as OffersTo};
 ghost use Rattle.console.specs.Stands.{StandsFor};
 ghost use Rattle.console.specs.Streams.{Production, dues_at, order_at, tick_at};
@@ -31,12 +34,7 @@ pub struct Console<F: Fader> {
 }
 
 impl<F: Fader> Model for Console<F> {
-    ghost use Rattle.console.specs.ConsoleState.{ConsoleState};
-
     ghost Value = { ConsoleState F };
-
-    ghost use Rattle.std.specs.Coded.{codes};
-    ghost use Rattle.show_core.specs.contracts.show.Show as show_model;
 
     ghost coded = { Prim.hlevel (codes, show_model.the_row.coded) };
 

@@ -28,10 +28,20 @@ pub fn done_line(number: u64) -> AnswerLine
 pub fn refused_line(number: u64, refused: Refused) -> AnswerLine
     ensures { result.bytes ≡ numbered number (refused_text refused) }
 {
+    reason_line(number, "refused", refused_name(refused))
+}
+
+/// The line of what was not done: a word that says so, and the name of the reason.
+pub fn reason_line(number: u64, word: &str, reason: &str) -> AnswerLine
+    requires { length word.now + length reason.now ≤ 185 }
+    ensures { result.bytes ≡ numbered number (word.now ++ codes " " ++ reason.now) }
+{
     let mut line = AnswerLine::new();
     line.push_str(Buffer::new().format(number));
-    line.push_str(" refused ");
-    line.push_str(refused_name(refused));
+    line.push_str(" ");
+    line.push_str(word);
+    line.push_str(" ");
+    line.push_str(reason);
     line.push_str("\n");
     line
 }

@@ -3,7 +3,8 @@
 //!
 //! [`read_call`] reads a whole line with its moment; [`command_in`] and [`call_in`] read the words
 //! behind one. [`done_line`], [`refused_line`] and [`ticked_line`] write an answer behind a number,
-//! which is the call's moment, or a script line's own number.
+//! which is the call's moment, or a script line's own number; [`reason_line`] writes why something
+//! else was not done.
 //!
 //! ```
 //! let reading = read_call(b"25 goto 1.5");
@@ -17,6 +18,6 @@ mod answer;
 mod call;
 mod reading;
 
-pub use answer::{AnswerLine, done_line, refused_line, ticked_line};
+pub use answer::{AnswerLine, done_line, reason_line, refused_line, ticked_line};
 pub use call::{Call, call_in, command_in};
 pub use reading::{Reading, read_call};

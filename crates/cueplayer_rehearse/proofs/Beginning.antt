@@ -1,7 +1,7 @@
 -- Why a rehearsal begins, or not.
 use Rattle.std.proofs.Common.{◌≡◌, ◌⊎◌, inl, inr, ℕ, ◌+◌, ◌≤◌, ◌<◌, Bool, true, false, not, List}
 use Rattle.std.proofs.Common.{[], ◌∷◌, length, Option, Some, None, Result, Ok, Err, IsOkAnd}
-use Rattle.std.proofs.Common.{ap, sym, subst, ◌∙◌, arith}
+use Rattle.std.proofs.Common.{ap, refl, sym, subst, ◌∙◌, arith}
 use Rattle.std.specs.Prelude.{◌&&◌, if◌then◌else◌, nat_le, nat_lt, option_map}
 use Rattle.std.specs.List.{list_all, range_with_len}
 use Rattle.std.specs.Option.{option_or}
@@ -24,11 +24,11 @@ use Rattle.script_text.specs.Script.{Parts, script_of}
 use Rattle.wire_faults.specs.declared.fault.Fault.{Fault}
 use Rattle.wire_faults.specs.declared.fault.Fault.TheVariants.{Consoles, Receivers, NoShow}
 use Rattle.wire_faults.specs.declared.fault.Fault.TheVariants.{Universe, Memory}
-use Rattle.wire_world.specs.declared.reply.Reply.{Reply}
 use Rattle.wire_world.specs.declared.setup.Setup.{Setup}
 use Rattle.sacn_receiver.specs.Shown.{shown_slots}
 use Rattle.wire_world.specs.Happened.{accepted_by}
-use Rattle.wire_world.specs.Replies.{AreReplies, done, last_moment, last_slots}
+use Rattle.wire_world.specs.Replies.{done, last_moment}
+use Rattle.wire_world.specs.Reported.{IsReportOf, Reported}
 use Rattle.wire_world.specs.Refusing.{Answers, are_consoles, are_receivers, has_base, has_show}
 use Rattle.wire_world.specs.Refusing.{setup_fault}
 use Rattle.wire_world.proofs.Refusals.{fine}
@@ -160,18 +160,13 @@ refused X show script s p (Some first) fault read is answer =
 -- ---- the rehearsal
 
 -- the lines of what was answered
-pub lines_of : (show script : List ℕ) (s : Tables) (p : Parts) (replies : List Reply)
-    (last : List (List ℕ)) → IsRead show script s p → AreReplies (world s p) p.events replies
-    → last ≡ last_slots (world s p) (done (world s p) p.events)
-    → AreLinesOf show script (rehearsal_lines p.lines replies last)
+pub lines_of : (show script : List ℕ) (s : Tables) (p : Parts) (report : Reported)
+    → IsRead show script s p → IsReportOf (world s p) p.events report
+    → AreLinesOf show script (rehearsal_lines p.lines report.replies report.last)
 unfolding AreLinesOf
-lines_of show script s p replies last read are last_is =
-    let lines = rehearsal_lines p.lines replies last in
-    let known : AreLines s p lines = record {
-      replies = replies;
-      answered = are;
-      lines_are = ap (rehearsal_lines p.lines replies) last_is;
-    } in
+lines_of show script s p report read came =
+    let lines = rehearsal_lines p.lines report.replies report.last in
+    let known : AreLines s p lines = record { report = report; came = came; are = refl } in
     of_its_show show (λ t. IsOkAnd (script_of script) (λ q. AreLines t q lines)) s read.show_is
     (of_script script p (λ q. AreLines s q lines) read.script_is known)
 
@@ -179,13 +174,14 @@ few : (n : ℕ) (b : Bool) → (nat_le n 8 && b) ≡ true → n ≤ 8
 few n b is = grind (arith, nat_tests)
 
 -- there are at most eight receivers
-pub few_receivers : (s : Tables) (p : Parts) (last : List (List ℕ))
+pub few_receivers : (s : Tables) (p : Parts) (report : Reported)
     → setup_fault (s ∷ []) p.consoles p.receivers ≡ None
-    → last ≡ last_slots (world s p) (done (world s p) p.events) → length last ≤ 8
-few_receivers s p last none is =
+    → IsReportOf (world s p) p.events report → length report.last ≤ 8
+few_receivers s p report none came =
     let past = done (world s p) p.events in
     let within = few (length p.receivers) _
     (fine (s ∷ []) p.consoles p.receivers none).receivers in
     let as_many = length-map (range_with_len 0 (length p.receivers))
     (λ r. shown_slots (accepted_by (world s p) r past) (last_moment past)) in
-    omega (arith, within, ap length is, as_many, length-range_with_len 0 (length p.receivers))
+    let receivers = length-range_with_len 0 (length p.receivers) in
+    omega (arith, within, ap length came.last, as_many, receivers)

@@ -110,7 +110,11 @@ each s (suc (suc (suc (suc (suc zero))))) e is = replied s 5 _ _ e refl is
 each s (suc (suc (suc (suc (suc (suc j)))))) e is = cc
 
 skips : (s : Tables) → AreLines s parts (rehearsal_lines parts.lines replies (first_at 0 ∷ []))
-skips s = record { replies = replies; answered = (refl, each s); lines_are = refl }
+skips s = record {
+  report = record { replies = replies; last = first_at 0 ∷ [] };
+  came = record { replies = (refl, each s); last = refl };
+  are = refl;
+}
 
 skips_text : text parts.lines replies (first_at 0 ∷ [])
     ≡ codes "3 skipped NoConsole\n4 skipped NoReceiver\n6 slots\n7 skipped Backwards\n"

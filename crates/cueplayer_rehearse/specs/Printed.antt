@@ -6,9 +6,8 @@ use Rattle.devices.specs.Tape.{Tape, with_more, with_failure}
 use Rattle.show_core.specs.Tables.{Tables}
 use Rattle.show_reader.specs.ItsShow.{OfItsShow}
 use Rattle.script_text.specs.Script.{Parts, script_of}
-use Rattle.wire_world.specs.declared.reply.Reply.{Reply}
 use Rattle.wire_world.specs.World.{World}
-use Rattle.wire_world.specs.Replies.{AreReplies, done, last_slots}
+use Rattle.wire_world.specs.Reported.{IsReportOf, Reported}
 use Rattle.wire_world.specs.Stands.{world_of}
 use Rattle.cueplayer_faults.specs.declared.fault.RunFault.{RunFault}
 use Rattle.cueplayer_faults.specs.declared.fault.RunFault.TheVariants as run
@@ -21,10 +20,9 @@ world show script = world_of (show ∷ []) script.consoles script.receivers scri
 -- the lines of a rehearsal of a script over a show: the replies to its events, each behind the
 -- number of its line, and then the slots of each receiver after all of them
 pub record AreLines (show : Tables) (script : Parts) (lines : List (List ℕ)) : Type 0 where
-  pub replies : List Reply
-  pub answered : AreReplies (world show script) script.events replies
-  pub lines_are : lines ≡ rehearsal_lines script.lines replies
-      (last_slots (world show script) (done (world show script) script.events))
+  pub report : Reported
+  pub came : IsReportOf (world show script) script.events report
+  pub are : lines ≡ rehearsal_lines script.lines report.replies report.last
 
 -- the lines of a rehearsal of the script that a text means, over the show that a text means
 unfoldable pub AreLinesOf : List ℕ → List ℕ → List (List ℕ) → Type 0
@@ -39,11 +37,13 @@ pub record StopsWithin (lines : List (List ℕ)) (before after : Tape ℕ) : Typ
   pub parts : lines ≡ front ++ line ∷ rest
   pub took : after ≡ with_failure (with_more before (concat front))
 
--- a line was printed, as an output that tells has it: it took the line, or its one call failed
-abbrev pub PrintsLine : {X E : Type 0} → Result X E → Type 0 → List ℕ → Tape ℕ → Tape ℕ → Type 0
-PrintsLine result tells line before after =
-    OnOk result (tells → after ≡ with_more before line)
-    × OnErr result (tells → after ≡ with_failure before)
+-- a line was printed by one write, as an output has it that tells after it, and so told before: it
+-- took the line, or the write failed
+pub record PrintsLine {W X E : Type 0} (tells : W → Type 0) (tape : W → Tape ℕ)
+    (result : Result X E) (line : List ℕ) (before after : W) : Type 0 where
+  pub told : tells after → tells before
+  pub ok : OnOk result (tells after → tape after ≡ with_more (tape before) line)
+  pub err : OnErr result (tells after → tape after ≡ with_failure (tape before))
 
 -- lines were printed: the output took all of them and nothing else; or it failed at one of them
 abbrev pub PrintsLines : {X E : Type 0} → Result X E → List (List ℕ) → Tape ℕ → Tape ℕ → Type 0

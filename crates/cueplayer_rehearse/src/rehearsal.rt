@@ -8,7 +8,7 @@ use cueplayer_faults::RunFault;
 use fade_core::Fader;
 use show_reader::read_show;
 use std::alloc::Global;
-use wire_world::{BriefReport, rehearse_briefly};
+use wire_world::{BriefReport, Rehearsal, rehearse_briefly};
 
 // What came of a script.
 #[derive(Debug, Drop)]
@@ -33,14 +33,14 @@ pub(crate) fn rehearse_script<F: Fader>(
     let loaded = read_show(alloc, show)?;
     let script = script_in(alloc, script)?;
     let shows = [loaded.show];
-    let report = rehearse_briefly::<F>(
-        alloc,
-        &shows,
-        script.consoles.as_slice(),
-        script.receivers.as_slice(),
-        script.events.as_slice(),
-        script.strays.as_slice(),
-    )?;
+    let rehearsal = Rehearsal {
+        shows: &shows,
+        consoles: script.consoles.as_slice(),
+        receivers: script.receivers.as_slice(),
+        events: script.events.as_slice(),
+        strays: script.strays.as_slice(),
+    };
+    let report = rehearse_briefly::<F>(alloc, rehearsal)?;
     Ok(Rehearsed {
         numbers: script.lines,
         report,

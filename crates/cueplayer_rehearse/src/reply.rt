@@ -5,19 +5,14 @@ ghost use Rattle.wire_world.specs.Brief.{reply_of};
 ghost use Rattle.cueplayer_rehearse.specs.Printed.{PrintsLine};
 ghost use Rattle.cueplayer_rehearse.specs.Texts.{event_line, skip_name, skipped_text};
 
-use arrayvec::ArrayString;
 use console::Offers;
-use console_text::{done_line, refused_line, ticked_line};
+use console_text::{done_line, reason_line, refused_line, ticked_line};
 use desk_core::{Refused, Ticked};
 use devices::{LinkFault, Output};
-use itoa::Buffer;
 use receiver_text::{SlotsLine, reply_line, write_numbered_slots};
 use sacn_packet::Slots;
 use sacn_receiver::{Ignored, Taken};
 use wire_world::{BriefReply, Skip};
-
-// There is room for a number of 20 digits, ` skipped NoReceiver` and LF.
-type SkippedLine = ArrayString<40>;
 
 // Prints the reply to an event by one write, behind the number of the event's line.
 pub(crate) fn print_reply<W: Output>(
@@ -25,9 +20,8 @@ pub(crate) fn print_reply<W: Output>(
     reply: &BriefReply,
     out: &mut W,
 ) -> Result<(), LinkFault>
-    ensures told { W.tells out.new → W.tells out.old }
-    ensures line { PrintsLine result (W.tells out.new) (event_line (number, reply_of reply.now))
-        (W.tape out.old) (W.tape out.new) }
+    ensures { PrintsLine W.tells W.tape result (event_line (number, reply_of reply.now))
+        out.old out.new }
 {
     let number = u64::from(number);
     match reply {
@@ -47,18 +41,15 @@ pub(crate) fn print_reply<W: Output>(
 
 #[inline(never)]
 fn print_done<W: Output>(number: u64, out: &mut W) -> Result<(), LinkFault>
-    ensures told { W.tells out.new → W.tells out.old }
-    ensures line { PrintsLine result (W.tells out.new) (numbered number done_text)
-        (W.tape out.old) (W.tape out.new) }
+    ensures { PrintsLine W.tells W.tape result (numbered number done_text) out.old out.new }
 {
     out.write(done_line(number).as_str().as_bytes())
 }
 
 #[inline(never)]
 fn print_refused<W: Output>(number: u64, refused: Refused, out: &mut W) -> Result<(), LinkFault>
-    ensures told { W.tells out.new → W.tells out.old }
-    ensures line { PrintsLine result (W.tells out.new) (numbered number (refused_text refused))
-        (W.tape out.old) (W.tape out.new) }
+    ensures { PrintsLine W.tells W.tape result (numbered number (refused_text refused))
+        out.old out.new }
 {
     out.write(refused_line(number, refused).as_str().as_bytes())
 }
@@ -70,9 +61,8 @@ fn print_ticked<W: Output>(
     offers: &Offers,
     out: &mut W,
 ) -> Result<(), LinkFault>
-    ensures told { W.tells out.new → W.tells out.old }
-    ensures line { PrintsLine result (W.tells out.new)
-        (numbered number (ticked_text ticked offers.now)) (W.tape out.old) (W.tape out.new) }
+    ensures { PrintsLine W.tells W.tape result (numbered number (ticked_text ticked offers.now))
+        out.old out.new }
 {
     out.write(ticked_line(number, ticked, offers).as_str().as_bytes())
 }
@@ -83,18 +73,16 @@ fn print_taken<W: Output>(
     reply: Result<Taken, Ignored>,
     out: &mut W,
 ) -> Result<(), LinkFault>
-    ensures told { W.tells out.new → W.tells out.old }
-    ensures line { PrintsLine result (W.tells out.new) (numbered number (datagram_text reply))
-        (W.tape out.old) (W.tape out.new) }
+    ensures { PrintsLine W.tells W.tape result (numbered number (datagram_text reply))
+        out.old out.new }
 {
     out.write(reply_line(number, reply).as_str().as_bytes())
 }
 
 #[inline(never)]
 fn print_slots<W: Output>(number: u64, slots: &Slots, out: &mut W) -> Result<(), LinkFault>
-    ensures told { W.tells out.new → W.tells out.old }
-    ensures line { PrintsLine result (W.tells out.new) (numbered number (slots_text slots.now))
-        (W.tape out.old) (W.tape out.new) }
+    ensures { PrintsLine W.tells W.tape result (numbered number (slots_text slots.now))
+        out.old out.new }
 {
     let mut line = SlotsLine::new();
     write_numbered_slots(&mut line, number, slots);
@@ -103,22 +91,11 @@ fn print_slots<W: Output>(number: u64, slots: &Slots, out: &mut W) -> Result<(),
 
 #[inline(never)]
 fn print_skipped<W: Output>(number: u64, skip: Skip, out: &mut W) -> Result<(), LinkFault>
-    ensures told { W.tells out.new → W.tells out.old }
-    ensures line { PrintsLine result (W.tells out.new) (numbered number (skipped_text skip))
-        (W.tape out.old) (W.tape out.new) }
+    ensures { PrintsLine W.tells W.tape result (numbered number (skipped_text skip))
+        out.old out.new }
 {
-    out.write(skipped_line(number, skip).as_str().as_bytes())
-}
-
-fn skipped_line(number: u64, skip: Skip) -> SkippedLine
-    ensures { result.bytes ≡ numbered number (skipped_text skip) }
-{
-    let mut line = SkippedLine::new();
-    line.push_str(Buffer::new().format(number));
-    line.push_str(" skipped ");
-    line.push_str(skip_name(skip));
-    line.push_str("\n");
-    line
+    let line = reason_line(number, "skipped", skip_name(skip));
+    out.write(line.as_str().as_bytes())
 }
 
 fn skip_name(skip: Skip) -> &'static str

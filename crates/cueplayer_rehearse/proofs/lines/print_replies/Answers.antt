@@ -32,7 +32,7 @@ loop-number-preserved g c =
     record {
       told = λ tells. so_far.told (c.in_ok-print_reply.ensures.told tells);
       printing = printing_more _ _ _ _ _ _ _ _ _ so_far.printing next
-          c.in_ok-print_reply.ensures.told c.in_ok-print_reply.ensures.line.0;
+          c.in_ok-print_reply.ensures.told c.in_ok-print_reply.ensures.ok;
     }
 
 pub returns-in_err-print_reply-clause-lines : goal.returns-in_err-print_reply-clause-lines
@@ -41,7 +41,7 @@ returns-in_err-print_reply-clause-lines g c = λ tells.
     (c.in-Some.number, c.in-Some.reply) c.in-Some.is c.next.ensures.steps in
     printing_stops c.from_residual.result _ _ _ _ _ _ _ _ c.from_residual.ensures.0
     c.loop-number.invariant.printing next (c.in_err-print_reply.ensures.told tells)
-    (c.in_err-print_reply.ensures.line.1 tells)
+    (c.in_err-print_reply.ensures.err tells)
 
 pub returns-clause-lines : goal.returns-clause-lines
 returns-clause-lines g c =

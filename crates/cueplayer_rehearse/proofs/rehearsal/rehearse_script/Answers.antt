@@ -51,8 +51,8 @@ returns g c =
     c.in_ok-report.ensures.faults in
     record {
       set_up = set_up c.args.show.now c.args.script.now s p _ read none;
-      lines = lines_of c.args.show.now c.args.script.now s p report.replies report.last read
-          c.in_ok-report.ensures.replies c.in_ok-report.ensures.last;
-      few = few_receivers s p report.last none c.in_ok-report.ensures.last;
+      lines = lines_of c.args.show.now c.args.script.now s p report read
+          c.in_ok-report.ensures.report;
+      few = few_receivers s p report none c.in_ok-report.ensures.report;
       fault = tt;
     }
