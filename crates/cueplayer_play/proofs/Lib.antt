@@ -1,5 +1,7 @@
 pub mod Carrying
 pub mod Running
+pub mod Faults
+pub mod Taking
 pub mod InputLines
 pub mod Playing
 pub mod Beginning

@@ -1,8 +1,7 @@
 -- One line more of a run.
-use Rattle.std.proofs.Common.{◌≡◌, ◌<◌, ℕ, ◌+◌, refl, ap, arith, sym, subst, ◌∙◌, List, [], ◌∷◌}
-use Rattle.std.proofs.Common.{◌++◌, append_assoc, append-nil, length, take, drop, get_or}
-use Rattle.std.proofs.Common.{take-append-drop, fold, cond}
-use Rattle.std.proofs.lemmas.List.{drop_more}
+use Rattle.std.proofs.Common.{◌≡◌, ℕ, ◌+◌, refl, ap, arith, sym, subst, ◌∙◌, List, [], ◌∷◌}
+use Rattle.std.proofs.Common.{◌++◌, append_assoc, append-nil}
+use Rattle.std.proofs.Common.{cond}
 use Rattle.std.proofs.lemmas.List.Elements.{All-nil}
 use Rattle.std.proofs.lemmas.List.Sums.{sum_by-append}
 use Rattle.devices.specs.Send.{Send}
@@ -16,7 +15,7 @@ use Rattle.cueplayer_play.specs.Lines.{AreFine, Cut, with_byte}
 use Rattle.cueplayer_play.specs.Run.{Carried, CarriesOut, Emitted, Ran, due_after}
 use Rattle.cueplayer_play.specs.Run.{history_of, line_text, lines_in, sends_of, text_of}
 use Rattle.cueplayer_play.specs.declared.fault.PlayFault.TheVariants.{Device, Line}
-use Rattle.cueplayer_play.specs.Stage.{Ends, EndsWithin, Leaves, LeavesLine}
+use Rattle.cueplayer_play.specs.Stage.{Leaves, LeavesLine}
 
 -- ---- lines
 
@@ -88,23 +87,3 @@ pub ran_ended : (p : Production) (cut : Cut) (b : ℕ) (line : List ℕ) (before
     → Ran p (with_byte cut b).lines before after (lost + more)
 ran_ended p cut b line before middle after lost more e is r l = rw e
     (ran_more p cut.rest cut.lines before middle after lost more r (rw is at l))
-
--- ---- bytes
-
--- the play of some bytes ends at the byte at i
-pub ends_at : (fault : PlayFault) (p : Production) (cut : Cut) (bytes : List ℕ) (i d : ℕ)
-    (before after : Emitted)
-    → i < length bytes → AreFine (fold with_byte cut (take i bytes)).lines
-    → Ends fault (fold with_byte cut (take i bytes)) (get_or bytes i d)
-    → Leaves fault p (fold with_byte cut (take i bytes)) before after
-    → EndsWithin fault p cut bytes before after
-ends_at fault p cut bytes i d before after lt fine ends leaves = record {
-  front = take i bytes;
-  byte = get_or bytes i d;
-  rest = drop (i + 1) bytes;
-  bytes_are = sym (take-append-drop i bytes)
-      ∙ ap (λ rest. take i bytes ++ rest) (drop_more bytes i d lt);
-  fine = fine;
-  ends = ends;
-  leaves = leaves;
-}

@@ -40,6 +40,23 @@ pub record StandsFor {F : Type 0} {G : Ghosts F} (fader_stands_for : F → List 
   pub fine : AreFine cut.lines
   pub short : length cut.rest ≤ 200
 
+-- how many bytes a stage can still take
+abbrev pub room_of : ℕ → List ℕ → ℕ
+room_of number pending = (10000000 - number) * 201 + (201 - length pending)
+
+-- a stage has taken these bytes: it stands for them behind those before; where the devices tell,
+-- the run of the lines before has become that of all; and it can take so many bytes less
+pub record HasTaken {F : Type 0} {G : Ghosts F} (fader_stands_for : F → List Start → Type 0)
+    (bytes : List ℕ) (old new : Stage F G) (tell : Type 0) (before after : Emitted)
+    : Type 0 where
+  pub stands : (p : Production) (cut : Cut) → StandsFor fader_stands_for p old cut
+      → StandsFor fader_stands_for p new (fold with_byte cut bytes)
+  pub ran : tell → (p : Production) (cut : Cut) (start : Emitted)
+      → StandsFor fader_stands_for p old cut → Ran p cut.lines start before old.lost
+      → Ran p (fold with_byte cut bytes).lines start after new.lost
+  pub room : room_of new.number new.pending.items + length bytes
+      ≤ room_of old.number old.pending.items
+
 -- the next line is refused at this byte: it is line 10,000,001; it is longer than 200 bytes; or
 -- the byte ends it, and it is malformed
 pub data IsRefused (cut : Cut) (byte : ℕ) : Type 0 where
@@ -66,18 +83,19 @@ abbrev pub Leaves : PlayFault → Production → Cut → Emitted → Emitted →
 Leaves (Line n) p cut before after = (lost : ℕ) × Ran p cut.lines before after lost
 Leaves Device p cut before after = RunsDry p cut before after
 
--- the play of these bytes, behind those before, ends at one of them
-pub record EndsWithin (fault : PlayFault) (p : Production) (cut : Cut) (bytes : List ℕ)
-    (before after : Emitted)
+-- one of these bytes ended the play, behind those before it; and what is left then, where the
+-- devices tell
+pub record HasEnded {F : Type 0} {G : Ghosts F} (fader_stands_for : F → List Start → Type 0)
+    (fault : PlayFault) (bytes : List ℕ) (old : Stage F G) (tell : Type 0) (before after : Emitted)
     : Type 0 where
   pub front : List ℕ
   pub byte : ℕ
   pub rest : List ℕ
   pub bytes_are : bytes ≡ front ++ byte ∷ rest
-  pub fine : AreFine (fold with_byte cut front).lines
-  pub ends : Ends fault (fold with_byte cut front) byte
-  pub leaves : Leaves fault p (fold with_byte cut front) before after
-
--- how many bytes a stage can still take
-abbrev pub room_of : ℕ → List ℕ → ℕ
-room_of number pending = (10000000 - number) * 201 + (201 - length pending)
+  pub fine : (p : Production) (cut : Cut) → StandsFor fader_stands_for p old cut
+      → AreFine (fold with_byte cut front).lines
+  pub ends : (p : Production) (cut : Cut) → StandsFor fader_stands_for p old cut
+      → Ends fault (fold with_byte cut front) byte
+  pub leaves : tell → (p : Production) (cut : Cut) (start : Emitted)
+      → StandsFor fader_stands_for p old cut → Ran p cut.lines start before old.lost
+      → Leaves fault p (fold with_byte cut front) start after

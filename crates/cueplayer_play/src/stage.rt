@@ -22,12 +22,12 @@ pub struct Stage<F: Fader> {
 }
 
 impl<F: Fader> Stage<F> {
-    ghost use Rattle.std.specs.Prelude.{◌≡◌, ◌+◌, ◌<◌, ◌≤◌, List, OnOk, IfOk, IfErr, length, fold};
+    ghost use Rattle.std.specs.Prelude.{◌≡◌, [], ◌∷◌, OnOk, IfOk, IfErr};
     ghost use Rattle.console.specs.Streams.{Production};
-    ghost use Rattle.cueplayer_play.specs.Lines.{Cut, no_bytes, with_byte};
+    ghost use Rattle.cueplayer_play.specs.Lines.{Cut, no_bytes};
     ghost use Rattle.cueplayer_play.specs.Play.{EndsEarly, PlaysAll};
-    ghost use Rattle.cueplayer_play.specs.Run.{Emitted, Ran, emitted};
-    ghost use Rattle.cueplayer_play.specs.Stage.{Ends, EndsWithin, Leaves, StandsFor, room_of};
+    ghost use Rattle.cueplayer_play.specs.Run.{emitted};
+    ghost use Rattle.cueplayer_play.specs.Stage.{HasEnded, HasTaken, StandsFor};
 
     // Takes a byte of the input: LF carries a line out.
     pub fn take_byte<L: Link, W: Output>(
@@ -37,24 +37,13 @@ impl<F: Fader> Stage<F> {
         out: &mut W,
     ) -> Result<(), PlayFault>
         requires real { (p : Production) × (cut : Cut) × StandsFor F.stands_for p self.old cut }
-        ensures told_link { L.tells link.new → L.tells link.old }
-        ensures told_output { W.tells out.new → W.tells out.old }
-        ensures stands { OnOk result ((p : Production) (cut : Cut)
-            → StandsFor F.stands_for p self.old cut
-            → StandsFor F.stands_for p self.new (with_byte cut byte)) }
-        ensures ran { OnOk result ((p : Production) (cut : Cut) (before : Emitted)
-            → StandsFor F.stands_for p self.old cut → L.tells link.new → W.tells out.new
-            → Ran p cut.lines before (emitted (L.offered link.old) (W.tape out.old)) self.old.lost
-            → Ran p (with_byte cut byte).lines before
-            (emitted (L.offered link.new) (W.tape out.new)) self.new.lost) }
-        ensures room { OnOk result (room_of self.new.number self.new.pending.items
-            < room_of self.old.number self.old.pending.items) }
-        ensures ends { IfErr result (λ fault. (p : Production) (cut : Cut)
-            → StandsFor F.stands_for p self.old cut → Ends fault cut byte) }
-        ensures leaves { IfErr result (λ fault. (p : Production) (cut : Cut) (before : Emitted)
-            → StandsFor F.stands_for p self.old cut → L.tells link.new → W.tells out.new
-            → Ran p cut.lines before (emitted (L.offered link.old) (W.tape out.old)) self.old.lost
-            → Leaves fault p cut before (emitted (L.offered link.new) (W.tape out.new))) }
+        ensures told { (L.tells link.new → L.tells link.old) × (W.tells out.new → W.tells out.old) }
+        ensures taken { OnOk result (HasTaken F.stands_for (byte ∷ []) self.old self.new
+            (L.tells link.new × W.tells out.new) (emitted (L.offered link.old) (W.tape out.old))
+            (emitted (L.offered link.new) (W.tape out.new))) }
+        ensures ended { IfErr result (λ fault. HasEnded F.stands_for fault (byte ∷ []) self.old
+            (L.tells link.new × W.tells out.new) (emitted (L.offered link.old) (W.tape out.old))
+            (emitted (L.offered link.new) (W.tape out.new))) }
     {
         let number = self.number + 1;
         if self.number == 10_000_000 {
@@ -88,24 +77,12 @@ impl<F: Fader> Stage<F> {
         out: &mut W,
     ) -> Result<(), PlayFault>
         requires real { (p : Production) × (cut : Cut) × StandsFor F.stands_for p self.old cut }
-        ensures told_link { L.tells link.new → L.tells link.old }
-        ensures told_output { W.tells out.new → W.tells out.old }
-        ensures stands { OnOk result ((p : Production) (cut : Cut)
-            → StandsFor F.stands_for p self.old cut
-            → StandsFor F.stands_for p self.new (fold with_byte cut bytes.now)) }
-        ensures ran { OnOk result ((p : Production) (cut : Cut) (before : Emitted)
-            → StandsFor F.stands_for p self.old cut → L.tells link.new → W.tells out.new
-            → Ran p cut.lines before (emitted (L.offered link.old) (W.tape out.old)) self.old.lost
-            → Ran p (fold with_byte cut bytes.now).lines before
-            (emitted (L.offered link.new) (W.tape out.new)) self.new.lost) }
-        ensures room { OnOk result
-            (room_of self.new.number self.new.pending.items + length bytes.now
-            ≤ room_of self.old.number self.old.pending.items) }
-        ensures ends { IfErr result (λ fault. (p : Production) (cut : Cut)
-            → StandsFor F.stands_for p self.old cut → L.tells link.new → W.tells out.new
-            → (before : Emitted)
-            → Ran p cut.lines before (emitted (L.offered link.old) (W.tape out.old)) self.old.lost
-            → EndsWithin fault p cut bytes.now before
+        ensures told { (L.tells link.new → L.tells link.old) × (W.tells out.new → W.tells out.old) }
+        ensures taken { OnOk result (HasTaken F.stands_for bytes.now self.old self.new
+            (L.tells link.new × W.tells out.new) (emitted (L.offered link.old) (W.tape out.old))
+            (emitted (L.offered link.new) (W.tape out.new))) }
+        ensures ended { IfErr result (λ fault. HasEnded F.stands_for fault bytes.now self.old
+            (L.tells link.new × W.tells out.new) (emitted (L.offered link.old) (W.tape out.old))
             (emitted (L.offered link.new) (W.tape out.new))) }
     {
         for byte in bytes {
@@ -150,7 +127,7 @@ impl<F: Fader> Stage<F> {
         if self.pending.is_empty() {
             return Ok(self.lost);
         }
-        self.take_byte(b'\n', link, out)?;
+        self.take_bytes(b"\n", link, out)?;
         Ok(self.lost)
     }
 }

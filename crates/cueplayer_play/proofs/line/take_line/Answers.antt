@@ -1,9 +1,9 @@
 use Rattle.std.proofs.Common.{◌≡◌, [], refl, sym}
-use Rattle.std.proofs.lemmas.Result.{err_from_is_err_and}
 use Rattle.devices.proofs.Tapes.{with_more-none}
 use Rattle.console_text.specs.declared.reading.Reading.TheVariants.{At, Blank}
 use Rattle.console_text.specs.Spelling.{reading_of}
 use Rattle.cueplayer_play.proofs.Carrying.{answered_quiet}
+use Rattle.cueplayer_play.proofs.Faults.{handed_on}
 use Rattle.cueplayer_play.proofs.line.take_line.Goals as goal
 
 pub returns-in-Blank-clause-carried_out : goal.returns-in-Blank-clause-carried_out
@@ -17,8 +17,7 @@ returns-in-Blank-clause-carried_out g c = λ p history s tells_link tells_out.
 
 pub returns-in_err-write-in-At-clause-leaves : goal.returns-in_err-write-in-At-clause-leaves
 returns-in_err-write-in-At-clause-leaves g c =
-    let q = err_from_is_err_and c.from_residual.result c.from_residual.ensures.1 in
-    rw (q.1, q.2) (λ p history s tells_link tells_out.
+    handed_on _ _ c.from_residual.ensures.1 (λ p history s tells_link tells_out.
     let is : reading_of c.args.line.now ≡ At c.in-At.moment c.in-At.call = cc in
     record {
       text = c.carry_out-text.result.0.bytes;

@@ -1,143 +1,97 @@
-use Rattle.std.proofs.Common.{◌≡◌, ◌∙◌, ◌∷◌, ◌++◌, [], ℕ, List, take, sym, ap, subst, inl}
-use Rattle.std.proofs.Common.{inr}
-use Rattle.std.proofs.lemmas.Result.{err_from_is_err_and}
-use Rattle.cueplayer_play.specs.Lines.{AreFine, Cut, closed, cut_of, with_byte}
-use Rattle.cueplayer_play.specs.Run.{Emitted, Ran, emitted}
-use Rattle.cueplayer_play.specs.Stage.{StandsFor}
-use Rattle.cueplayer_play.proofs.Playing.{behind, closed_with, ends_of, ends_one, joined_is}
-use Rattle.cueplayer_play.proofs.Playing.{read_end, read_more}
+use Rattle.std.proofs.Common.{◌∙◌, ◌++◌, [], take, refl, sym, ap, inl, inr}
+use Rattle.devices.specs.Tape.{with_failure}
 use Rattle.devices.proofs.Tapes.{with_more-none}
-use Rattle.cueplayer_play.proofs.Running.{ran_none}
+use Rattle.cueplayer_play.specs.Lines.{no_bytes}
+use Rattle.cueplayer_play.proofs.Faults.{handed_on}
+use Rattle.cueplayer_play.proofs.Playing.{closed_with, ends_behind, plays_all, ran_all}
+use Rattle.cueplayer_play.proofs.Playing.{read_end, read_more}
+use Rattle.cueplayer_play.proofs.Taking.{taken_more, taken_none}
 use Rattle.cueplayer_play.proofs.stage.Stage.take_input.Goals as goal
 
 pub loop-count-init : goal.loop-count-init
 loop-count-init g c = record {
   told_input = λ t. t;
-  told_link = λ t. t;
-  told_output = λ t. t;
-  so_far = (
-    [],
-    λ t. sym (with_more-none (g.R.Feed.tape c.args.input.now)),
-    λ p s. s,
-    λ p s tells_link tells_out. rw c.requires.none_lost (ran_none p
-        (emitted (g.L.Link.offered c.args.link.now) (g.W.Output.tape c.args.out.now))),
-  );
+  told = (λ t. t, λ t. t);
+  bytes = [];
+  read = λ t. sym (with_more-none (g.R.Feed.tape c.args.input.now));
+  taken = taken_none;
 }
 
 pub take_bytes-requires : goal.take_bytes-requires
 take_bytes-requires g c =
-    let run = c.loop-count.invariant.so_far in
-    record { real = (c.requires.real.0, cut_of run.0, run.2 c.requires.real.0 c.requires.real.1) }
+    let r = c.requires.real in
+    record { real = (r.0, _, c.loop-count.invariant.taken.stands r.0 no_bytes r.1) }
 
-pub take_byte-requires : goal.take_byte-requires
-take_byte-requires g c =
-    let run = c.loop-count.invariant.so_far in
-    record { real = (c.requires.real.0, cut_of run.0, run.2 c.requires.real.0 c.requires.real.1) }
+pub take_bytes-requires-2 : goal.take_bytes-requires-2
+take_bytes-requires-2 g c =
+    let r = c.requires.real in
+    record { real = (r.0, _, c.loop-count.invariant.taken.stands r.0 no_bytes r.1) }
 
 pub loop-count-preserved : goal.loop-count-preserved
 loop-count-preserved g c =
     let so_far = c.loop-count.invariant in
-    let run = so_far.so_far in
-    let chunk : List ℕ = take c.in_ok-count.count c.read.new.buf in
     let next = c.in_ok-take_bytes.ensures in
     record {
       told_input = λ t. so_far.told_input (c.in_ok-count.ensures.told t);
-      told_link = λ t. so_far.told_link (next.told_link t);
-      told_output = λ t. so_far.told_output (next.told_output t);
-      so_far = (
-        run.0 ++ chunk,
-        λ t. read_more (g.R.Feed.tape c.args.input.now) (g.R.Feed.tape c.loop-count.input)
-            (g.R.Feed.tape c.read.new.self)
-            run.0 chunk (c.in_ok-count.ensures.ok t) (run.1 (c.in_ok-count.ensures.told t)),
-        λ p s. subst (λ (x : Cut). StandsFor g.F.Fader.stands_for p c.take_bytes.new.self x)
-            (joined_is run.0 chunk)
-            (next.stands p (cut_of run.0) (run.2 p s)),
-        λ p s tells_link tells_out.
-            subst (λ (x : Cut). Ran p x.lines
-            (emitted (g.L.Link.offered c.args.link.now) (g.W.Output.tape c.args.out.now))
-            (emitted (g.L.Link.offered c.take_bytes.new.link)
-            (g.W.Output.tape c.take_bytes.new.out)) c.take_bytes.new.self.lost)
-            (joined_is run.0 chunk)
-            (next.ran p (cut_of run.0) _ (run.2 p s) tells_link tells_out
-            (run.3 p s (next.told_link tells_link) (next.told_output tells_out))),
-      );
+      told = (λ t. so_far.told.0 (next.told.0 t), λ t. so_far.told.1 (next.told.1 t));
+      bytes = so_far.bytes ++ take c.in_ok-count.count c.read.new.buf;
+      read = read_more _ _ _ so_far.bytes _ c.in_ok-count.ensures.ok c.in_ok-count.ensures.told
+          so_far.read;
+      taken = taken_more next.told so_far.taken next.taken;
     }
+
+pub returns-in_err-count-clause-ends : goal.returns-in_err-count-clause-ends
+returns-in_err-count-clause-ends g c =
+    let so_far = c.loop-count.invariant in
+    handed_on _ _ c.from_residual.ensures.1 (λ p s tells_in tells_link tells_out. inl (record {
+      fault_is = refl;
+      bytes = so_far.bytes;
+      read = c.in_err-count.ensures.err tells_in
+          ∙ ap with_failure (so_far.read (c.in_err-count.ensures.told tells_in));
+      fine = (so_far.taken.stands p no_bytes s).fine;
+      lost = _;
+      ran = ran_all so_far.taken s c.requires.none_lost (tells_link, tells_out);
+    }))
 
 pub returns-in_err-take_bytes-clause-ends : goal.returns-in_err-take_bytes-clause-ends
 returns-in_err-take_bytes-clause-ends g c =
-    let q = err_from_is_err_and c.from_residual-in_err-take_bytes.result
-    c.from_residual-in_err-take_bytes.ensures.1 in
-    rw (q.1, q.2) (λ p s tells_in tells_link tells_out.
-    let run = c.loop-count.invariant.so_far in
-    let chunk : List ℕ = take c.in_ok-count.count c.read.new.buf in
+    let so_far = c.loop-count.invariant in
     let next = c.in_err-take_bytes.ensures in
-    let before : Emitted = emitted (g.L.Link.offered c.args.link.now)
-    (g.W.Output.tape c.args.out.now) in
-    inr (ends_of c.in_err-take_bytes.field-0.0 p (g.R.Feed.ended c.read.new.self)
-    (g.R.Feed.tape c.args.input.now) (g.R.Feed.tape c.read.new.self) run.0 chunk (run.0 ++ chunk)
-    before
-    (emitted (g.L.Link.offered c.take_bytes.new.link) (g.W.Output.tape c.take_bytes.new.out))
-    (read_more (g.R.Feed.tape c.args.input.now) (g.R.Feed.tape c.loop-count.input)
-    (g.R.Feed.tape c.read.new.self)
-    run.0 chunk (c.in_ok-count.ensures.ok tells_in) (run.1 (c.in_ok-count.ensures.told tells_in)))
-    (λ front rest byte e. inl (behind run.0 chunk front rest byte e))
-    (next.ends p (cut_of run.0) (run.2 p s) tells_link tells_out before
-    (run.3 p s (next.told_link tells_link) (next.told_output tells_out)))))
+    handed_on _ _ c.from_residual-in_err-take_bytes.ensures.1 (ends_behind _ _ _
+    (so_far.bytes ++ take c.in_ok-count.count c.read.new.buf)
+    (read_more _ _ _ so_far.bytes _ c.in_ok-count.ensures.ok c.in_ok-count.ensures.told so_far.read)
+    (λ t l e. inl e) c.requires.none_lost next.told so_far.taken next.ended)
 
-pub returns-in_err-take_byte-clause-ends : goal.returns-in_err-take_byte-clause-ends
-returns-in_err-take_byte-clause-ends g c =
-    let q = err_from_is_err_and c.from_residual-in_err-take_byte.result
-    c.from_residual-in_err-take_byte.ensures.1 in
-    rw (q.1, q.2) (λ p s tells_in tells_link tells_out.
-    let run = c.loop-count.invariant.so_far in
-    let next = c.in_err-take_byte.ensures in
-    let before : Emitted = emitted (g.L.Link.offered c.args.link.now)
-    (g.W.Output.tape c.args.out.now) in
-    let after : Emitted = emitted (g.L.Link.offered c.take_byte.new.link)
-    (g.W.Output.tape c.take_byte.new.out) in
-    let stands = run.2 p s in
-    let more : closed run.0 ≡ run.0 ++ 10 ∷ [] =
-    closed_with run.0 c.loop-count.self.pending.items c.is_empty.result stands.pending_is
-    c.if-is_empty.false c.is_empty.ensures in
-    inr (ends_of c.in_err-take_byte.field-0.0 p (g.R.Feed.ended c.read.new.self)
-    (g.R.Feed.tape c.args.input.now) (g.R.Feed.tape c.read.new.self) run.0 (10 ∷ []) run.0 before
-    after
-    (read_end (g.R.Feed.tape c.args.input.now) (g.R.Feed.tape c.loop-count.input)
-    (g.R.Feed.tape c.read.new.self) run.0
-    c.read.new.buf c.in_ok-count.count c.if-count-eq0.true (c.in_ok-count.ensures.ok tells_in)
-    (run.1 (c.in_ok-count.ensures.told tells_in)))
-    (λ front rest byte e. inr (
-      c.in_ok-count.ensures.end c.if-count-eq0.true tells_in,
-      more
-          ∙ behind run.0 (10 ∷ []) front rest byte e,
+pub returns-in_err-take_bytes-2-clause-ends : goal.returns-in_err-take_bytes-2-clause-ends
+returns-in_err-take_bytes-2-clause-ends g c =
+    let so_far = c.loop-count.invariant in
+    let next = c.in_err-take_bytes-2.ensures in
+    handed_on _ _ c.from_residual-in_err-take_bytes-2.ensures.1 (ends_behind _ _ _ so_far.bytes
+    (read_end _ _ _ so_far.bytes c.read.new.buf c.in_ok-count.count c.if-count-eq0.true
+    c.in_ok-count.ensures.ok c.in_ok-count.ensures.told so_far.read)
+    (λ t l e. inr (
+      c.in_ok-count.ensures.end c.if-count-eq0.true t,
+      closed_with so_far.taken c.requires.real.1 c.if-is_empty.false c.is_empty.ensures ∙ e,
     ))
-    (ends_one c.in_err-take_byte.field-0.0 p (cut_of run.0) 10 before after stands.fine
-    (next.ends p (cut_of run.0) stands)
-    (next.leaves p (cut_of run.0) before stands tells_link tells_out
-    (run.3 p s (next.told_link tells_link) (next.told_output tells_out))))))
+    c.requires.none_lost next.told so_far.taken next.ended)
+
+pub returns-then-is_empty-clause-all : goal.returns-then-is_empty-clause-all
+returns-then-is_empty-clause-all g c =
+    let so_far = c.loop-count.invariant in
+    plays_all _ _ _ so_far.bytes
+    (read_end _ _ _ so_far.bytes c.read.new.buf c.in_ok-count.count c.if-count-eq0.true
+    c.in_ok-count.ensures.ok c.in_ok-count.ensures.told so_far.read)
+    (c.in_ok-count.ensures.end c.if-count-eq0.true)
+    (closed_with so_far.taken c.requires.real.1 c.if-is_empty.true c.is_empty.ensures)
+    c.requires.none_lost so_far.taken
 
 pub returns-clause-all : goal.returns-clause-all
-returns-clause-all g c = λ p s tells_in tells_link tells_out.
-    let run = c.loop-count.invariant.so_far in
-    let next = c.in_ok-take_byte.ensures in
-    let stands = run.2 p s in
-    let more : closed run.0 ≡ run.0 ++ 10 ∷ [] =
-    closed_with run.0 c.loop-count.self.pending.items c.is_empty.result stands.pending_is
-    c.if-is_empty.false c.is_empty.ensures in
-    let joined : with_byte (cut_of run.0) 10 ≡ cut_of (closed run.0) =
-    joined_is run.0 (10 ∷ []) ∙ ap cut_of (sym more) in
-    record {
-      bytes = run.0;
-      read = read_end (g.R.Feed.tape c.args.input.now) (g.R.Feed.tape c.loop-count.input)
-          (g.R.Feed.tape c.read.new.self) run.0
-          c.read.new.buf c.in_ok-count.count c.if-count-eq0.true (c.in_ok-count.ensures.ok tells_in)
-          (run.1 (c.in_ok-count.ensures.told tells_in));
-      at_end = c.in_ok-count.ensures.end c.if-count-eq0.true tells_in;
-      fine = subst (λ (x : Cut). AreFine x.lines) joined (next.stands p (cut_of run.0) stands).fine;
-      ran = subst (λ (x : Cut). Ran p x.lines
-          (emitted (g.L.Link.offered c.args.link.now) (g.W.Output.tape c.args.out.now))
-          (emitted (g.L.Link.offered c.take_byte.new.link) (g.W.Output.tape c.take_byte.new.out))
-          c.take_byte.new.self.lost) joined
-          (next.ran p (cut_of run.0) _ stands tells_link tells_out
-          (run.3 p s (next.told_link tells_link) (next.told_output tells_out)));
-    }
+returns-clause-all g c =
+    let so_far = c.loop-count.invariant in
+    let next = c.in_ok-take_bytes-2.ensures in
+    plays_all _ _ _ so_far.bytes
+    (read_end _ _ _ so_far.bytes c.read.new.buf c.in_ok-count.count c.if-count-eq0.true
+    c.in_ok-count.ensures.ok c.in_ok-count.ensures.told so_far.read)
+    (c.in_ok-count.ensures.end c.if-count-eq0.true)
+    (closed_with so_far.taken c.requires.real.1 c.if-is_empty.false c.is_empty.ensures)
+    c.requires.none_lost (taken_more next.told so_far.taken next.taken)
