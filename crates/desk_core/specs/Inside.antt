@@ -1,5 +1,6 @@
 -- What holds of the fields of every desk.
 use Rattle.std.specs.Prelude.{◌≡◌, ◌≤◌, ℕ, Bool, IsTrue, IsFalse, List, All, length}
+use Rattle.show_core.specs.Numbers.{AreLevels}
 use Rattle.show_core.specs.Readers.{IsInRange}
 use Rattle.show_core.specs.Tables.{Tables}
 use Rattle.patch_core.specs.Frame.{Rigging, is_base}
@@ -17,8 +18,8 @@ pub record IsDesk (fader_latest last_moment : ℕ) (rig : Rigging) (show : Table
   pub universes_are : universes ≡ universe_numbers show.patch rig.base
   pub in_range : IsInRange show
   pub each_channel : length levels ≡ 4096
-  pub full : All (λ level. level ≤ 65025) levels
+  pub full : AreLevels levels
   pub each_floor : length floors ≡ 4096
-  pub floors_full : All (λ floor. floor ≤ 65025) floors
+  pub floors_full : AreLevels floors
   pub no_floors : IsFalse has_floors → All (λ floor. floor ≡ 0) floors
   pub each_ordinal : length frames ≡ 16

@@ -1,7 +1,8 @@
 -- What a console does: its calls, why one is refused, and the moves and settings that the accepted
 -- ones make.
-use Rattle.std.specs.Prelude.{ℕ, ◌+◌, ◌^◌, nat_lt, nat_le, Bool, true, false, if◌then◌else◌}
-use Rattle.std.specs.Prelude.{List, [], ◌∷◌, find, Option, Some, None, is_some, Result, Ok, Err}
+use Rattle.std.specs.Prelude.{ℕ, ◌+◌, ◌^◌, nat_lt, nat_le, Bool, true, false, not, if◌then◌else◌}
+use Rattle.std.specs.Prelude.{List, [], ◌∷◌, find, Option, Some, None, is_some, is_none, Result}
+use Rattle.std.specs.Prelude.{Ok, Err}
 use Rattle.std.specs.Option.{option_or}
 use Rattle.std.specs.FinMap as map
 use Rattle.show_core.specs.Tables.{Tables}
@@ -116,19 +117,20 @@ abbrev pub untimely : ℕ → ℕ → Bool → Bool → Option Refused
 untimely last moment over soon =
     find (is_untimely last moment over soon) (Backwards ∷ MomentTooLarge ∷ Ended ∷ TooSoon ∷ [])
 
--- the refusal of a command whose cue, submaster or group the show does not have
+-- what a command asks for and the show does not have, refusal by refusal: a cue to go to, a
+-- submaster or a group
+abbrev pub lacks : Tables → Option ℕ → Call → Refused → Bool
+lacks show current (order Go) AtEnd = is_none (go_target show.cues current)
+lacks show current (order Back) AtStart = is_none (back_target show.cues current)
+lacks show current (order (Goto n)) NoCue = is_none (goto_target show.cues n)
+lacks show current (order (Sub n byte)) NoSub = not (map.contains_key show.subs n)
+lacks show current (order (Group n byte)) NoGroup = not (map.contains_key show.groups n)
+lacks show current call _ = false
+
+-- the first of them that applies, in their order
 abbrev pub lacking : Tables → Option ℕ → Call → Option Refused
-lacking show current (order Go) =
-    if is_some (go_target show.cues current) then None else Some AtEnd
-lacking show current (order Back) =
-    if is_some (back_target show.cues current) then None else Some AtStart
-lacking show current (order (Goto n)) =
-    if is_some (goto_target show.cues n) then None else Some NoCue
-lacking show current (order (Sub n byte)) =
-    if map.contains_key show.subs n then None else Some NoSub
-lacking show current (order (Group n byte)) =
-    if map.contains_key show.groups n then None else Some NoGroup
-lacking show current _ = None
+lacking show current call =
+    find (lacks show current call) (AtEnd ∷ AtStart ∷ NoCue ∷ NoSub ∷ NoGroup ∷ [])
 
 -- why a call is refused after a history: the lowest refusal that applies, if any does. The current
 -- cue is that after the moves due by the call's moment

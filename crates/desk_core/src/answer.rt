@@ -31,13 +31,13 @@ pub enum Refused {
     #[error("less than 23 milliseconds after the last tick")]
     TooSoon,
     /// Go, and no cue is above the current one.
-    #[error("no cue above the current one")]
+    #[error("go: no cue is above the current one")]
     AtEnd,
     /// Back, and the current cue is the first, or there is none.
-    #[error("no cue below the current one")]
+    #[error("back: no cue is below the current one")]
     AtStart,
     /// Goto, and the show has no such cue.
-    #[error("no such cue")]
+    #[error("goto: no such cue")]
     NoCue,
     /// The show has no such submaster.
     #[error("no such submaster")]

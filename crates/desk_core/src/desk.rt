@@ -1,10 +1,12 @@
 ghost use Rattle.std.specs.Prelude.{◌≡◌, ◌↔◌, ℕ, ◌-◌, ◌^◌, ◌<◌, ◌≤◌, List, [], ◌∷◌, All, Contains};
 ghost use Rattle.std.specs.Prelude.{IsTrue, IsFalse, IfOk, OnOk, OnErr, Err, IfSome, None, Some};
 ghost use Rattle.std.specs.Prelude.{Bool, false, is_some};
+ghost use Rattle.std.specs.Coded.{codes};
 ghost use Rattle.std.specs.Option.{OnSome};
 ghost use Rattle.std.specs.List.Sorted.{IsStrictlyIncreasing};
 ghost use Rattle.show_core.specs.Numbers.{is_channel};
 ghost use Rattle.show_core.specs.Tables.{Tables};
+ghost use Rattle.show_core.specs.contracts.show.Show as show_model;
 ghost use Rattle.playback_core.specs.Played.{current_after, with_due};
 ghost use Rattle.playback_core.specs.Stands as playback_stands;
 ghost use Rattle.master_core.specs.Settings as masters_stand;
@@ -13,13 +15,15 @@ ghost use Rattle.patch_core.specs.declared.fault.RigFault.TheVariants.{Universe}
 ghost use Rattle.desk_core.specs.Played.{Act, order, tick, ended, ended_by, moves, settings};
 ghost use Rattle.desk_core.specs.Played.{untimely, is_over, is_soon, lacking, refusal};
 ghost use Rattle.desk_core.specs.Played.{outcome, ticked};
+ghost use Rattle.desk_core.specs.DeskState.{DeskState};
+ghost use Rattle.desk_core.specs.Inside.{IsDesk};
 ghost use Rattle.desk_core.specs.Meaning.{latest_frame, universe_numbers};
 ghost use Rattle.desk_core.specs.Stands.{StandsFor, keeps_floors};
 ghost use Rattle.desk_core.specs.Ticks.{Ticks, IsKeptBut};
 
 use crate::answer::{Refused, Ticked};
 use crate::command::Command;
-use crate::frames::{dark_frames, darken, draw_merged, has_floors, redraw_merged};
+use crate::frames::{Merged, dark_frames, darken, draw_merged, has_floors, redraw_merged};
 use arrayvec::ArrayVec;
 use fade_core::Fader;
 use master_core::Masters;
@@ -31,14 +35,14 @@ use std::fmt;
 use std::marker::Model;
 
 /// Moments are below this, 2^48 milliseconds.
-const MOMENTS: u64 = 0x1_0000_0000_0000;
+pub const MOMENTS: u64 = 0x1_0000_0000_0000;
 
 /// Ticks are at least so many milliseconds apart: a full packet of DMX512-A takes 22.7 (E1.31,
 /// Transmission Rate).
-const SHORTEST_GAP: u64 = 23;
+pub const SHORTEST_GAP: u64 = 23;
 
 /// So many ticks after End carry the end of the streams (E1.31, Options: Stream_Terminated).
-const ENDING_TICKS: u8 = 3;
+pub const ENDING_TICKS: u8 = 3;
 
 /// More channels than this are quicker drawn with all others than one by one.
 const FEW: usize = 700;
@@ -71,12 +75,7 @@ pub struct Desk<F: Fader> {
 }
 
 impl<F: Fader> Model for Desk<F> {
-    ghost use Rattle.desk_core.specs.DeskState.{DeskState};
-
     ghost Value = { DeskState F };
-
-    ghost use Rattle.std.specs.Coded.{codes};
-    ghost use Rattle.show_core.specs.contracts.show.Show as show_model;
 
     ghost coded = { Prim.hlevel (codes, show_model.the_row.coded) };
 
@@ -93,8 +92,6 @@ impl<F: Fader> Model for Desk<F> {
       frames = d.frames.items;
       is_kept = d.is_kept;
     } };
-
-    ghost use Rattle.desk_core.specs.Inside.{IsDesk};
 
     ghost invariant = { λ d. IsDesk (F.latest d.playback.fader) d.last_moment d.rig d.show
         d.universes.items d.levels.items d.floors.items d.has_floors d.frames.items };
@@ -310,16 +307,17 @@ impl<F: Fader> Desk<F> {
         ensures { Ticks F.stands_for self.old self.new moment }
     {
         self.playback.advance(&self.show, moment);
-        let grand = self.masters.grand();
         redraw_merged(
             &mut self.frames,
             &mut self.levels,
             &self.rig,
             channels,
-            &self.playback,
-            &self.floors,
-            self.has_floors,
-            grand,
+            &Merged {
+                playback: &self.playback,
+                floors: &self.floors,
+                has_floors: self.has_floors,
+            },
+            self.masters.grand(),
         );
         self.last_moment = moment;
         self.last_tick = Some(moment);
@@ -334,15 +332,16 @@ impl<F: Fader> Desk<F> {
         ensures { Ticks F.stands_for self.old self.new moment }
     {
         self.playback.advance(&self.show, moment);
-        let grand = self.masters.grand();
         draw_merged(
             &mut self.frames,
             &mut self.levels,
             &self.rig,
-            &self.playback,
-            &self.floors,
-            self.has_floors,
-            grand,
+            &Merged {
+                playback: &self.playback,
+                floors: &self.floors,
+                has_floors: self.has_floors,
+            },
+            self.masters.grand(),
         );
         self.is_kept = true;
         self.last_moment = moment;

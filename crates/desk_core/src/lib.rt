@@ -21,4 +21,4 @@ mod frames;
 
 pub use answer::{Refused, Ticked};
 pub use command::Command;
-pub use desk::Desk;
+pub use desk::{Desk, ENDING_TICKS, MOMENTS, SHORTEST_GAP};

@@ -3,13 +3,13 @@ use Rattle.std.proofs.Common.{◌≤◌, ◌<◌, ◌^◌, ℕ, List, [], ◌∷
 use Rattle.std.proofs.Common.{false, ap, length, Option, Some, None, ◌↔◌, cond, refl, sym, ◌∙◌}
 use Rattle.std.proofs.Common.{◌++◌, drop, append_assoc, append-nil}
 use Rattle.std.specs.Prelude.{◌&&◌, ◌||◌, not, nat_lt, is_none}
+use Rattle.std.specs.List.{filter_map}
 use Rattle.std.proofs.lemmas.Bool.{and_parts, cond_both}
 use Rattle.std.proofs.lemmas.Bool.Decides.{nat_tests}
 use Rattle.std.proofs.Math.Seq.{drop-append_seam}
 use Rattle.ascii_text.specs.Text.{words_of}
 use Rattle.console_text.specs.Spelling.{command_of}
-use Rattle.live_input.specs.Laws.{Rise, moments, IsAfterLines}
-use Rattle.live_input.specs.Laws as laws
+use Rattle.live_input.specs.Laws.{AlwaysRise, IsAfterLines, Rise, moment_of, tick_of}
 use Rattle.live_input.specs.Night.{Answer, Happening, answers, due, now, close, ended, ended_by}
 use Rattle.live_input.specs.Night.{is_closed, is_end, lines_given, order, tick, were_three}
 use Rattle.live_input.specs.Night.{answer_to, asked, bytes_come, came, closed, is_over}
@@ -30,29 +30,30 @@ without gap n [] rise = tt
 without gap n (newest ∷ older) rise = rise.1
 
 moment_by : (h : List Happening) (n : ℕ) (answer : Answer) → Next h n answer → now h ≤ n
-    → n < 2 ^ 48 → Rise 0 (now h ∷ moments (answers h)) → Rise 0 (n ∷ moments (answer ∷ answers h))
+    → n < 2 ^ 48 → Rise 0 (now h ∷ filter_map moment_of (answers h))
+    → Rise 0 (n ∷ filter_map moment_of (answer ∷ answers h))
 moment_by h n _ (takes line left is fit) le below rise =
-    (omega arith, later 0 (now h) n (moments (answers h)) le rise)
+    (omega arith, later 0 (now h) n (filter_map moment_of (answers h)) le rise)
 moment_by h n _ (closes is owed) le below rise =
-    (omega arith, later 0 (now h) n (moments (answers h)) le rise)
+    (omega arith, later 0 (now h) n (filter_map moment_of (answers h)) le rise)
 moment_by h n _ (ticks on is none late) le below rise =
-    (omega arith, later 0 (now h) n (moments (answers h)) le rise)
-moment_by h n _ _ le below rise = later 0 (now h) n (moments (answers h)) le rise
+    (omega arith, later 0 (now h) n (filter_map moment_of (answers h)) le rise)
+moment_by h n _ _ le below rise = later 0 (now h) n (filter_map moment_of (answers h)) le rise
 
-pub moments_rise : (h : List Happening) → Rise 0 (moments (answers h))
-moments_rise h = without 0 (now h) (moments (answers h))
-    (through (λ given n. Rise 0 (n ∷ moments given)) tt moment_by h)
+pub moments_rise : AlwaysRise 0 moment_of
+moments_rise h = without 0 (now h) (filter_map moment_of (answers h))
+    (through (λ given n. Rise 0 (n ∷ filter_map moment_of given)) tt moment_by h)
 
 tick_by : (h : List Happening) (n : ℕ) (answer : Answer) → Next h n answer → now h ≤ n
-    → n < 2 ^ 48 → Rise 23 (due (answers h) ∷ laws.ticks (answers h))
-    → Rise 23 (due (answer ∷ answers h) ∷ laws.ticks (answer ∷ answers h))
+    → n < 2 ^ 48 → Rise 23 (due (answers h) ∷ filter_map tick_of (answers h))
+    → Rise 23 (due (answer ∷ answers h) ∷ filter_map tick_of (answer ∷ answers h))
 tick_by h n _ (ticks on is none late) le below rise =
-    (omega arith, later 23 (due (answers h)) n (laws.ticks (answers h)) late rise)
+    (omega arith, later 23 (due (answers h)) n (filter_map tick_of (answers h)) late rise)
 tick_by h n _ _ le below rise = rise
 
-pub ticks_rise : (h : List Happening) → Rise 23 (laws.ticks (answers h))
-ticks_rise h = without 23 (due (answers h)) (laws.ticks (answers h))
-    (through (λ given n. Rise 23 (due given ∷ laws.ticks given)) tt tick_by h)
+pub ticks_rise : AlwaysRise 23 tick_of
+ticks_rise h = without 23 (due (answers h)) (filter_map tick_of (answers h))
+    (through (λ given n. Rise 23 (due given ∷ filter_map tick_of given)) tt tick_by h)
 
 -- ---- how many lines there are, and the ticks after `end`
 

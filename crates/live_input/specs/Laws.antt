@@ -63,24 +63,20 @@ moment_of (close moment) = Some moment
 moment_of (tick moment) = Some moment
 moment_of _ = None
 
--- the moments of the lines that were given
-abbrev pub moments : List Answer → List ℕ
-moments answers = filter_map moment_of answers
-
-abbrev pub MomentsNeverFall : Type 0
-MomentsNeverFall = (h : List Happening) → Rise 0 (moments (answers h))
-
 -- the moment of a tick
 abbrev pub tick_of : Answer → Option ℕ
 tick_of (tick moment) = Some moment
 tick_of _ = None
 
--- the moments of the ticks
-abbrev pub ticks : List Answer → List ℕ
-ticks answers = filter_map tick_of answers
+-- in every night each such moment of an answer is at least so much later than the one before
+abbrev pub AlwaysRise : ℕ → (Answer → Option ℕ) → Type 0
+AlwaysRise gap moment = (h : List Happening) → Rise gap (filter_map moment (answers h))
+
+abbrev pub MomentsNeverFall : Type 0
+MomentsNeverFall = AlwaysRise 0 moment_of
 
 abbrev pub TicksAreApart : Type 0
-TicksAreApart = (h : List Happening) → Rise 23 (ticks (answers h))
+TicksAreApart = AlwaysRise 23 tick_of
 
 -- ---- the order of things
 

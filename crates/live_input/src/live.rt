@@ -7,10 +7,11 @@ ghost use Rattle.live_input.specs.declared.given.Given.TheVariants.{Until};
 use crate::given::Given;
 use crate::progress::Progress;
 use crate::typed::TypedLines;
+use desk_core::MOMENTS;
 use std::marker::Model;
 
-// A console's moments are below 2^48.
-const LATEST: u64 = 0xffff_ffff_ffff;
+// The last moment that a desk takes.
+const LATEST: u64 = MOMENTS - 1;
 
 /// The input of a live night: it is told which bytes came, and asked what is next.
 ///
@@ -21,9 +22,13 @@ const LATEST: u64 = 0xffff_ffff_ffff;
 /// Nothing takes memory.
 #[derive(Debug, Drop)]
 pub struct LiveInput {
+    // The bytes that came and are in no line that was answered.
     typed: TypedLines,
+    // Whether the end of the input came.
     closed: bool,
+    // The latest moment that the clock told.
     now: u64,
+    // What the answers so far leave to come.
     progress: Progress,
 }
 

@@ -7,16 +7,10 @@ ghost use Rattle.live_input.specs.declared.given.Given.TheVariants.{Until};
 use crate::given::{Given, fits, input_line, shown};
 use ascii_text::Words;
 use console_text::command_in;
-use desk_core::Command;
+use desk_core::{Command, ENDING_TICKS, SHORTEST_GAP};
 
 // Ticks come on a grid, 40 a second.
 const GRID: u64 = 25;
-
-// No two ticks are closer, as a desk wants it.
-const SHORTEST_GAP: u64 = 23;
-
-// So many ticks after `end` carry the end of the streams.
-const ENDING_TICKS: u8 = 3;
 
 // `play` takes 10,000,000 lines, and the last four are an `end` and its ticks. At 40 ticks a
 // second that is after 69 hours: a night that is still on then is ended in order, so that

@@ -4,34 +4,34 @@ use thiserror::Error;
 #[derive(Clone, Copy, Debug, PartialEq, Eq, Error)]
 pub enum Unreadable {
     /// Fewer than the 126 bytes of a packet without slots.
-    #[error("Short")]
+    #[error("fewer than 126 bytes")]
     Short,
     /// Another preamble or post-amble size (root layer).
-    #[error("Preamble")]
+    #[error("another preamble or post-amble size")]
     Preamble,
     /// Another ACN packet identifier (root layer).
-    #[error("Identifier")]
+    #[error("another ACN packet identifier")]
     Identifier,
     /// Another vector than VECTOR_ROOT_E131_DATA (root layer).
-    #[error("RootVector")]
+    #[error("another root vector")]
     RootVector,
     /// PDU flags other than 7, or lengths that fit neither the datagram nor one another (all
     /// layers).
-    #[error("Length")]
+    #[error("the lengths of its layers disagree")]
     Length,
     /// Another vector than VECTOR_E131_DATA_PACKET (framing layer).
-    #[error("FramingVector")]
+    #[error("another framing vector")]
     FramingVector,
     /// A priority above 200 (framing layer).
-    #[error("Priority")]
+    #[error("a priority above 200")]
     Priority,
     /// A universe of 0 or above 63999 (framing layer).
-    #[error("Universe")]
+    #[error("a universe that is not 1 to 63999")]
     Universe,
     /// Another vector, address type, first address or increment (DMP layer).
-    #[error("Dmp")]
+    #[error("another DMP layer than that of levels")]
     Dmp,
     /// A property value count that is not 1 to 513, or not the one of the DMP length (DMP layer).
-    #[error("Count")]
+    #[error("a count of slots that does not fit")]
     Count,
 }

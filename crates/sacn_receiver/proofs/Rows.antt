@@ -1,4 +1,4 @@
--- The worked rows, by evaluation of the definitions.
+-- The worked examples, by evaluation of the definitions.
 use Rattle.std.proofs.Common.{◌≡◌, ℕ, true, false, List, [], ◌∷◌, ◌++◌, length, map, drop}
 use Rattle.std.proofs.Common.{replicate, refl, Option, Some, None}
 use Rattle.sacn_packet.specs.Wire.{Packet}

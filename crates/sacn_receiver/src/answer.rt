@@ -15,27 +15,27 @@ pub struct Taken {
 #[derive(Clone, Copy, Debug, PartialEq, Eq, Error)]
 pub enum Ignored {
     /// It came before the last accepted packet.
-    #[error("Backwards")]
+    #[error("it came before the last accepted packet")]
     Backwards,
     /// It holds no data packet.
-    #[error("Unreadable {0}")]
+    #[error("it holds no data packet: {0}")]
     Unreadable(sacn_packet::Unreadable),
     /// Its packet is of another universe.
-    #[error("OtherUniverse")]
+    #[error("it is of another universe")]
     OtherUniverse,
     /// Its levels are not for the stage (E1.31-2018, options: Preview_Data).
-    #[error("Preview")]
+    #[error("its levels are not for the stage")]
     Preview,
     /// Its START code is not 0, and it is no termination (E1.31-2018, START code).
-    #[error("AltStart")]
+    #[error("its START code is not 0")]
     AltStart,
     /// Its number is that of the source's last accepted packet, or up to 19 behind (E1.31-2018,
     /// sequence numbering).
-    #[error("OutOfSequence")]
+    #[error("its number is not ahead of the last one")]
     OutOfSequence,
     /// Its source is new, and there are as many sources as the receiver has room for (E1.31-2018,
     /// requirements for sources exceeded resolution).
-    #[error("SourcesFull")]
+    #[error("there are as many sources as there is room for")]
     SourcesFull,
 }
 

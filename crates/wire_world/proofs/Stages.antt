@@ -3,7 +3,7 @@ use Rattle.console.specs.Streams.{Production}
 use Rattle.std.proofs.Common.{◌≡◌, ℕ, zero, suc, ◌<◌, true, refl, ap, sym}
 use Rattle.std.proofs.Common.{subst, ◌∙◌, List, [], ◌∷◌, length, set, get_or, Option, Some, None}
 use Rattle.std.proofs.Common.{Result, Ok, Err, inl, inr, arith}
-use Rattle.std.specs.Prelude.{if◌then◌else◌, is_some, slice_get, nat_eq, nat_lt, IfOk, OnOk}
+use Rattle.std.specs.Prelude.{if◌then◌else◌, not, is_some, slice_get, nat_eq, nat_lt, IfOk, OnOk}
 use Rattle.std.specs.Prelude.{OnErr}
 use Rattle.std.specs.Option.{option_map, option_map_or}
 use Rattle.std.specs.Result.{result_err}
@@ -141,7 +141,7 @@ module _ {S : Type 0} (st : S → Production → List Act → Type 0) (tells : S
   pub looked_up : (nat_lt receiver (length w.receivers) ≡ true)
       × (o ≡ datagram w console universe n past)
       × (missing w past (Deliver receiver console universe n)
-      ≡ (if is_some o then None else Some NotSent))
+      ≡ (if not (is_some o) then Some NotSent else None))
   looked_up = (
     is_receiver,
     is_found,

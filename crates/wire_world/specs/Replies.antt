@@ -1,7 +1,7 @@
 -- The reply to each event, as a function of the events before it that were not skipped.
 use Rattle.std.specs.Prelude.{◌≡◌, ℕ, ◌^◌, ◌%◌, not, List, [], ◌∷◌, length, map, take, nat_lt}
 use Rattle.std.specs.Prelude.{nat_le, if◌then◌else◌, is_some, Option, Some, None, Result, Ok, Err}
-use Rattle.std.specs.Prelude.{slice_get, slice_range, unwrap_or}
+use Rattle.std.specs.Prelude.{slice_get, slice_range, unwrap_or, find, Bool, false}
 use Rattle.std.specs.List.{fold, range_with_len}
 use Rattle.std.specs.Option.{option_map_or}
 use Rattle.desk_core.specs.Played.{ended, refusal, ticked}
@@ -32,29 +32,36 @@ last_moment (e ∷ past) = e.moment
 
 -- there is no console i, or no receiver r
 abbrev pub no_console_at : World → ℕ → Option Skip
-no_console_at w i = if nat_lt i (length w.consoles) then None else Some NoConsole
+no_console_at w i = if not (nat_lt i (length w.consoles)) then Some NoConsole else None
 
 abbrev pub no_receiver_at : World → ℕ → Option Skip
-no_receiver_at w r = if nat_lt r (length w.receivers) then None else Some NoReceiver
+no_receiver_at w r = if not (nat_lt r (length w.receivers)) then Some NoReceiver else None
 
--- what an event names and is not there: the first of these
+-- what an event names and is not there, reason by reason: a console, a receiver, a packet
+abbrev pub lacks : World → List Event → What → Skip → Bool
+lacks w past (Order i command) NoConsole = not (nat_lt i (length w.consoles))
+lacks w past (Tick i) NoConsole = not (nat_lt i (length w.consoles))
+lacks w past (Deliver r i universe k) NoConsole = not (nat_lt i (length w.consoles))
+lacks w past (Deliver r i universe k) NoReceiver = not (nat_lt r (length w.receivers))
+lacks w past (Deliver r i universe k) NotSent = not (nat_lt k (length (sent w i universe past)))
+lacks w past (Stray r from to) NoReceiver = not (nat_lt r (length w.receivers))
+lacks w past (Show r) NoReceiver = not (nat_lt r (length w.receivers))
+lacks w past what _ = false
+
+-- the first of them that applies, in their order
 abbrev pub missing : World → List Event → What → Option Skip
-missing w past (Order i command) = no_console_at w i
-missing w past (Tick i) = no_console_at w i
-missing w past (Deliver r i universe k) =
-    if not (nat_lt i (length w.consoles)) then Some NoConsole
-    else (if not (nat_lt r (length w.receivers)) then Some NoReceiver
-    else (if nat_lt k (length (sent w i universe past)) then None
-    else Some NotSent))
-missing w past (Stray r from to) = no_receiver_at w r
-missing w past (Show r) = no_receiver_at w r
+missing w past what = find (lacks w past what) (NoConsole ∷ NoReceiver ∷ NotSent ∷ [])
+
+-- why an event is skipped, reason by reason: its moment comes first, then what it names
+abbrev pub skips : World → List Event → Event → Skip → Bool
+skips w past e Backwards = nat_lt e.moment (last_moment past)
+skips w past e TooLarge = nat_le (2 ^ 48) e.moment
+skips w past e reason = lacks w past e.what reason
 
 -- why an event is skipped: the first reason that applies
 abbrev pub skipped : World → List Event → Event → Option Skip
 skipped w past e =
-    if nat_lt e.moment (last_moment past) then Some Backwards
-    else (if nat_le (2 ^ 48) e.moment then Some TooLarge
-    else missing w past e.what)
+    find (skips w past e) (Backwards ∷ TooLarge ∷ NoConsole ∷ NoReceiver ∷ NotSent ∷ [])
 
 -- an event more, unless it is skipped
 abbrev pub done_one : World → List Event → Event → List Event

@@ -44,7 +44,7 @@ pub use brief::BriefReply;
 pub use console::Offers;
 pub use event::{Event, What};
 pub use few_offers::FewOffers;
-pub use rehearsal::{rehearse, rehearse_briefly};
+pub use rehearsal::{Rehearsal, rehearse, rehearse_briefly};
 pub use reply::{Reply, Skip};
 pub use report::{BriefReport, Report};
 pub use setup::Setup;

@@ -1,45 +1,39 @@
-ghost use Rattle.std.specs.Prelude.{◌≡◌, ◌<◌, ◌≤◌, length, IfOk, All};
-ghost use Rattle.wire_world.specs.Replies.{AreReplies, done, last_slots};
-ghost use Rattle.wire_world.specs.Stands.{AreSources, IsWithin, world_of};
+ghost use Rattle.std.specs.Prelude.{◌<◌, ◌≤◌, length, IfOk, All};
+ghost use Rattle.wire_world.specs.Reported.{IsReportOf};
+ghost use Rattle.wire_world.specs.Stands.{AreSources, IsWithin, world_in};
 
+use crate::Rehearsal;
 use crate::listening::listen_all;
 use crate::lows::last_wanted;
 use crate::opening::open_all;
 use crate::replay::run;
 use crate::report::BriefReport;
 use crate::stage::Stage;
-use crate::{Event, Setup};
 use fade_core::Fader;
-use show_core::Show;
 use std::alloc::{AllocError, Global};
 
 // A rehearsal whose setup was checked.
 pub(crate) fn perform<F: Fader>(
     alloc: Global,
-    shows: &[Show],
-    consoles: &[Setup],
-    receivers: &[u16],
-    events: &[Event],
-    strays: &[u8],
+    rehearsal: Rehearsal<'_>,
 ) -> Result<BriefReport, AllocError>
-    requires shows { All (λ s. s.show < length shows.now) consoles.now }
-    requires universes { All (λ u. (1 ≤ u) × (u ≤ 63999)) receivers.now }
-    requires within { All (λ e. IsWithin (length strays.now) e.what) events.now }
-    ensures replies { IfOk result (λ report.
-        AreReplies (world_of shows.now consoles.now receivers.now strays.now) events.now
-        report.replies) }
-    ensures last { IfOk result (λ report. report.last
-        ≡ last_slots (world_of shows.now consoles.now receivers.now strays.now)
-        (done (world_of shows.now consoles.now receivers.now strays.now) events.now)) }
-    ensures sources { IfOk result (λ _. AreSources shows.now consoles.now) }
+    requires shows { All (λ s. s.show < length rehearsal.shows.now) rehearsal.consoles.now }
+    requires universes { All (λ u. (1 ≤ u) × (u ≤ 63999)) rehearsal.receivers.now }
+    requires within { All (λ e. IsWithin (length rehearsal.strays.now) e.what)
+        rehearsal.events.now }
+    ensures report { let r = rehearsal.entry in
+        IfOk result (IsReportOf (world_in r) r.events.now) }
+    ensures sources { let r = rehearsal.entry in
+        IfOk result (λ _. AreSources r.shows.now r.consoles.now) }
 {
-    let mut stages: Vec<Stage<F>> = open_all(alloc, shows, consoles, last_wanted(events))?;
-    let mut listeners = listen_all(alloc, receivers)?;
+    let last = last_wanted(rehearsal.events);
+    let mut stages: Vec<Stage<F>> = open_all(alloc, rehearsal.shows, rehearsal.consoles, last)?;
+    let mut listeners = listen_all(alloc, rehearsal.receivers)?;
     run(
         alloc,
         stages.as_mut_slice(),
         listeners.as_mut_slice(),
-        strays,
-        events,
+        rehearsal.strays,
+        rehearsal.events,
     )
 }

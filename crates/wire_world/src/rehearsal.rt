@@ -12,7 +12,8 @@ ghost use Rattle.wire_world.specs.Replies.{AreReplies, done, last_slots, skipped
 ghost use Rattle.wire_world.specs.Shows.{IsShown, reply_alone};
 ghost use Rattle.wire_world.specs.World.{universe_at};
 ghost use Rattle.wire_world.specs.Refusing.{Answers, are_within, setup_fault};
-ghost use Rattle.wire_world.specs.Stands.{AreSources, world_of};
+ghost use Rattle.wire_world.specs.Reported.{IsReportOf};
+ghost use Rattle.wire_world.specs.Stands.{AreSources, world_in, world_of};
 
 use crate::perform::perform;
 use crate::report::{BriefReport, Report};
@@ -21,6 +22,21 @@ use crate::{Event, Fault, Setup};
 use fade_core::Fader;
 use show_core::Show;
 use std::alloc::{AllocError, Global};
+
+/// What is rehearsed: what happens among consoles and receivers.
+#[derive(Clone, Copy, Debug)]
+pub struct Rehearsal<'a> {
+    /// The shows, each played by any number of consoles.
+    pub shows: &'a [Show],
+    /// The consoles, by their numbers.
+    pub consoles: &'a [Setup],
+    /// The universes of the receivers, by their numbers.
+    pub receivers: &'a [u16],
+    /// What happens, one after another.
+    pub events: &'a [Event],
+    /// The bytes of all strays.
+    pub strays: &'a [u8],
+}
 
 /// Carries out the events, one after another, among one to four consoles, each with one of the
 /// shows, and at most eight receivers, each of a universe of its own, 1 to 63999. Loss is a packet
@@ -97,7 +113,14 @@ pub fn rehearse<F: Fader>(
         → slice_get report.replies place
         ≡ Some (reply_alone w past moment receiver console universe k)) }
 {
-    let brief = rehearse_briefly::<F>(alloc, shows, consoles, receivers, events, strays)?;
+    let rehearsal = Rehearsal {
+        shows,
+        consoles,
+        receivers,
+        events,
+        strays,
+    };
+    let brief = rehearse_briefly::<F>(alloc, rehearsal)?;
     match brief.into_report(alloc) {
         Ok(report) => Ok(report),
         Err(AllocError) => Err(Fault::Memory),
@@ -112,24 +135,18 @@ pub fn rehearse<F: Fader>(
 /// As [`rehearse`].
 pub fn rehearse_briefly<F: Fader>(
     alloc: Global,
-    shows: &[Show],
-    consoles: &[Setup],
-    receivers: &[u16],
-    events: &[Event],
-    strays: &[u8],
+    rehearsal: Rehearsal<'_>,
 ) -> Result<BriefReport, Fault>
-    requires within { IsTrue (are_within (length strays.now) events.now) }
-    ensures faults { Answers (setup_fault shows.now consoles.now receivers.now) result }
-    ensures replies { IfOk result (λ report.
-        AreReplies (world_of shows.now consoles.now receivers.now strays.now) events.now
-        report.replies) }
-    ensures last { IfOk result (λ report. report.last
-        ≡ last_slots (world_of shows.now consoles.now receivers.now strays.now)
-        (done (world_of shows.now consoles.now receivers.now strays.now) events.now)) }
-    ensures sources { IfOk result (λ _. AreSources shows.now consoles.now) }
+    requires within { IsTrue (are_within (length rehearsal.strays.now) rehearsal.events.now) }
+    ensures faults { let r = rehearsal.entry in
+        Answers (setup_fault r.shows.now r.consoles.now r.receivers.now) result }
+    ensures report { let r = rehearsal.entry in
+        IfOk result (IsReportOf (world_in r) r.events.now) }
+    ensures sources { let r = rehearsal.entry in
+        IfOk result (λ _. AreSources r.shows.now r.consoles.now) }
 {
-    check(shows, consoles, receivers)?;
-    match perform::<F>(alloc, shows, consoles, receivers, events, strays) {
+    check(rehearsal.shows, rehearsal.consoles, rehearsal.receivers)?;
+    match perform::<F>(alloc, rehearsal) {
         Ok(report) => Ok(report),
         Err(AllocError) => Err(Fault::Memory),
     }

@@ -1,6 +1,6 @@
 ghost use Rattle.std.specs.Prelude.{◌≡◌, ℕ, List, [], ◌∷◌, length, IfOk, All};
 ghost use Rattle.wire_world.specs.World.{World};
-ghost use Rattle.wire_world.specs.Replies.{AreReplies, done, last_slots};
+ghost use Rattle.wire_world.specs.Reported.{IsReportOf};
 ghost use Rattle.wire_world.specs.StageStands.{StageStands, Tells};
 ghost use Rattle.wire_world.specs.Stands.{AllAre, IsWithin};
 ghost use Rattle.wire_world.specs.Wanted.{AreUpTo};
@@ -28,12 +28,9 @@ pub(crate) fn run<F: Fader>(
     requires wanted { All (λ stage. AreUpTo events.now stage.last) stages.old }
     requires begun { (w : World) × (w.strays ≡ strays.now)
         × AllAre (StageStands F.stands_for) Tells stages.old receivers.old w [] }
-    ensures replies { IfOk result (λ report. (w : World) → w.strays ≡ strays.now
+    ensures { IfOk result (λ report. (w : World) → w.strays ≡ strays.now
         → AllAre (StageStands F.stands_for) Tells stages.old receivers.old w []
-        → AreReplies w events.now report.replies) }
-    ensures last { IfOk result (λ report. (w : World) → w.strays ≡ strays.now
-        → AllAre (StageStands F.stands_for) Tells stages.old receivers.old w []
-        → report.last ≡ last_slots w (done w events.now)) }
+        → IsReportOf w events.now report) }
 {
     let lows = lows(alloc, events)?;
     let mut replies = Vec::with_capacity(alloc, events.len())?;

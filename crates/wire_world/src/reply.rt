@@ -9,19 +9,19 @@ use thiserror::Error;
 #[derive(Clone, Copy, Debug, PartialEq, Eq, Error)]
 pub enum Skip {
     /// It is before the last event that was not skipped.
-    #[error("Backwards")]
+    #[error("it is before the last event that was not skipped")]
     Backwards,
     /// Its moment is 2^48 milliseconds or more.
-    #[error("TooLarge")]
+    #[error("its moment is 2^48 milliseconds or more")]
     TooLarge,
     /// There is no such console.
-    #[error("NoConsole")]
+    #[error("there is no such console")]
     NoConsole,
     /// There is no such receiver.
-    #[error("NoReceiver")]
+    #[error("there is no such receiver")]
     NoReceiver,
     /// The console has not sent that packet of that universe yet.
-    #[error("NotSent")]
+    #[error("the packet was not sent yet")]
     NotSent,
 }
 

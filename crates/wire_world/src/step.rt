@@ -11,11 +11,10 @@ use crate::brief::BriefReply;
 use crate::happen::happen;
 use crate::stage::Stage;
 use crate::{Event, Skip};
+use desk_core::MOMENTS;
 use fade_core::Fader;
 use sacn_receiver::Receiver;
 use std::alloc::{AllocError, Global};
-
-const MOMENTS: u64 = 0x1_0000_0000_0000;
 
 fn later(last: u64, moment: u64, reply: &BriefReply) -> u64
     ensures { result ≡ (if is_skip (reply_of reply.now) then last else moment) }

@@ -11,15 +11,15 @@ pub returns-in-Some-clause-drawn : goal.returns-in-Some-clause-drawn
 returns-in-Some-clause-drawn g c = λ show moves stopped level channels stands same.
     drawn_alike c.args.rig.now.patch channels (listed_level c.in-Some.playing.now) level
     (λ channel is.
-    let none : listed_level c.args.floors.now channel ≡ 0 =
-    All-get_or (λ floor. floor ≡ 0) c.args.floors.now (channel - 1) 0
-    (omega (arith, channel_range channel is, c.requires.floors))
-    (c.requires.no_floors c.if-not-has_floors.true) in
+    let none : listed_level c.args.merged.now.floors.now channel ≡ 0 =
+    All-get_or (λ floor. floor ≡ 0) c.args.merged.now.floors.now (channel - 1) 0
+    (omega (arith, channel_range channel is, c.args.merged.now.each_channel))
+    (c.args.merged.now.none c.if-not-merged.true) in
     let playing : listed_level c.in-Some.playing.now channel ≡ playback_level show moves channel
-    (g.F.Fader.latest c.args.playback.now.fader) =
+    (g.F.Fader.latest c.args.merged.now.playback.now.fader) =
     c.in-Some.ensures.levels show moves stopped channel stands is in
     let merged : max (playback_level show moves channel (g.F.Fader.latest
-    c.args.playback.now.fader)) (listed_level c.args.floors.now channel) ≡ level channel =
+    c.args.merged.now.playback.now.fader)) (listed_level c.args.merged.now.floors.now channel) ≡ level channel =
     same channel is in
     omega arith) c.args.grand c.draw.new.frames c.draw.ensures
 

@@ -1,5 +1,6 @@
 use Rattle.std.proofs.Common.{◌≡◌, ◌<◌, ◌≤◌, ℕ, Bool, List, get_or}
-use Rattle.std.specs.Prelude.{All, max}
+use Rattle.std.specs.Prelude.{max}
+use Rattle.show_core.specs.Numbers.{AreLevels}
 use Rattle.show_core.specs.Tables.{Tables}
 use Rattle.playback_core.specs.Played.{Move, playback_level}
 use Rattle.playback_core.specs.Stands as playback
@@ -15,5 +16,5 @@ invariant-loop-channel g l = record {
       → listed_level l.levels (get_or l.channels k 0) ≡ max (playback_level show moves (get_or
       l.channels k 0) (g.F.Fader.latest l.playback.fader)) (listed_level l.floors (get_or
       l.channels k 0));
-  full : All (λ level. level ≤ 65025) l.levels;
+  full : AreLevels l.levels;
 }

@@ -10,15 +10,15 @@ pub returns-in-Some-clause-drawn : goal.returns-in-Some-clause-drawn
 returns-in-Some-clause-drawn g c = λ show moves stopped before after old others stands same.
     c.redraw.ensures before after old others (λ k d lt.
     let channel : ℕ = get_or c.args.channels.now k d in
-    let none : listed_level c.args.floors.now channel ≡ 0 =
-    All-get_or (λ floor. floor ≡ 0) c.args.floors.now (channel - 1) 0
-    (omega (arith, channel_range channel (c.requires.in_range k d lt), c.requires.floors))
-    (c.requires.no_floors c.if-not-has_floors.true) in
+    let none : listed_level c.args.merged.now.floors.now channel ≡ 0 =
+    All-get_or (λ floor. floor ≡ 0) c.args.merged.now.floors.now (channel - 1) 0
+    (omega (arith, channel_range channel (c.requires.in_range k d lt), c.args.merged.now.each_channel))
+    (c.args.merged.now.none c.if-not-merged.true) in
     let playing : listed_level c.in-Some.playing.now channel ≡ playback_level show moves channel
-    (g.F.Fader.latest c.args.playback.now.fader) =
+    (g.F.Fader.latest c.args.merged.now.playback.now.fader) =
     c.in-Some.ensures.levels show moves stopped channel stands (c.requires.in_range k d lt) in
     let merged : max (playback_level show moves channel (g.F.Fader.latest
-    c.args.playback.now.fader)) (listed_level c.args.floors.now channel) ≡ after channel =
+    c.args.merged.now.playback.now.fader)) (listed_level c.args.merged.now.floors.now channel) ≡ after channel =
     same k d lt in
     omega arith)
 

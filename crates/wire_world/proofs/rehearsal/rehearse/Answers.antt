@@ -18,8 +18,8 @@ returns-in-Ok g c =
     let fine = fine_world c.args.shows.now c.args.consoles.now c.args.receivers.now
     c.args.strays.now none brief.sources in
     let are = subst (λ (r : Reported). AreReplies w events r.replies) (sym c.in-Ok.ensures)
-    brief.replies in
-    let last = ap (λ (r : Reported). r.last) c.in-Ok.ensures ∙ brief.last in
+    brief.report.replies in
+    let last = ap (λ (r : Reported). r.last) c.in-Ok.ensures ∙ brief.report.last in
     let at = was_shown w events _ _ are last in
     record {
       faults = rw none tt;

@@ -1,4 +1,4 @@
-use Rattle.std.proofs.Common.{◌≡◌, ◌<◌, ◌≤◌, ◌∙◌, length, get_or, take, ap}
+use Rattle.std.proofs.Common.{◌≡◌, ◌<◌, ◌∙◌, length, get_or, take, ap}
 use Rattle.std.proofs.Common.{arith, refl, List, ℕ, subst, sym}
 use Rattle.std.specs.Prelude.{slice_index}
 use Rattle.std.proofs.lemmas.Option.{slice_get-get_or, slice_get_within}
@@ -63,17 +63,6 @@ loop-i-preserved g c = (
       })),
 )
 
-pub returns-clause-replies : goal.returns-clause-replies
-returns-clause-replies g c = λ w same are.
-    let all = c.loop-i.invariant.1 w same are in
-    let end : c.loop-i.i ≡ length c.args.events.now =
-    omega (arith, c.loop-i-test.false, c.loop-i.auto.i-end) in (
-      omega (arith, all.long, end),
-      λ j e h.
-          let l : j < length c.args.events.now = slice_get_within c.args.events.now j e h in
-          all.below j e (omega arith) h,
-    )
-
 pub step-requires-clause-real : goal.step-requires-clause-real
 step-requires-clause-real g c =
     let b = c.requires.begun in (
@@ -86,13 +75,23 @@ pub show_all-requires : goal.show_all-requires
 show_all-requires g c =
     let b = c.requires.begun in early (c.loop-i.invariant.1 b.0 b.1 b.2)
 
-pub returns-clause-last : goal.returns-clause-last
-returns-clause-last g c = λ w same are.
+pub returns : goal.returns
+returns g c = λ w same are.
     let all = c.loop-i.invariant.1 w same are in
-    let end : length c.args.events.now ≤ c.loop-i.i = c.loop-i-test.false in
-    c.in_ok-last.ensures w (done w (take c.loop-i.i c.args.events.now)) all.are.hear all.last_is
-    ∙ ap (λ (es : List Event). last_slots w (done w es))
-    (take_all c.loop-i.i c.args.events.now end)
+    let events = c.args.events.now in
+    let end : c.loop-i.i ≡ length events =
+    omega (arith, c.loop-i-test.false, c.loop-i.auto.i-end) in
+    record {
+      replies = (
+        omega (arith, all.long, end),
+        λ j e h.
+            let l : j < length events = slice_get_within events j e h in
+            all.below j e (omega arith) h,
+      );
+      last = c.in_ok-last.ensures w (done w (take c.loop-i.i events)) all.are.hear all.last_is
+          ∙ ap (λ (es : List Event). last_slots w (done w es))
+          (take_all c.loop-i.i events (omega arith));
+    }
 
 pub step-requires-clause-holds : goal.step-requires-clause-holds
 step-requires-clause-holds g c =

@@ -16,7 +16,7 @@ returns g c = rw (← c.self.view_is) (λ show base history stands.
     let channels : All (λ e. IsTrue (is_channel e.1.0)) (maps.entries inside.rig.patch) =
     rw c.self.invariant.patch_is c.self.invariant.in_range.patch_channels in
     redrawn c.args.moment stands required.live g.F.Fader.latest _ required.floors
-    c.advance.ensures.stands c.advance.ensures.latest c.deref.ensures.value
-    c.self.invariant.patch_is c.grand-grand.ensures
+    c.advance.ensures.stands c.advance.ensures.latest_is c.deref.ensures.value
+    c.self.invariant.patch_is c.grand.ensures
     (with_items_is inside.frames c.draw_merged.new.frames size)
     (c.draw_merged.ensures.drawn show _ false (channel_level show history c.args.moment) channels))
