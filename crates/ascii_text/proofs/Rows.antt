@@ -1,4 +1,4 @@
--- The worked rows, evaluated.
+-- The worked examples, evaluated.
 use Rattle.std.specs.Prelude.{◌≡◌, [], ◌∷◌, ◌++◌, codes, Some, None, refl}
 use Rattle.ascii_text.specs.Text.{lines_of, words_of, numbered_from}
 use Rattle.ascii_text.specs.Forms.{number_of, moment_of, time_of, cue_number_of, level_of}

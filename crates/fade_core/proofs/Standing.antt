@@ -5,6 +5,7 @@ use Rattle.std.specs.Prelude.{slice_index, All, EachIndex, Contains}
 use Rattle.std.proofs.lemmas.Grind.{get_or_default_zero}
 use Rattle.std.proofs.lemmas.List.{get_or-replicate, length-replicate, length-take-le, get_or-take}
 use Rattle.std.proofs.lemmas.List.Elements.{All-replicate}
+use Rattle.show_core.specs.Numbers.{AreLevels}
 use Rattle.show_core.specs.declared.rate.Rate.{Rate}
 use Rattle.fade_core.specs.Level.{split_fade}
 use Rattle.fade_core.specs.Fading.{Fading, IsFading, level_at}
@@ -13,7 +14,7 @@ use Rattle.fade_core.proofs.Fade.{split_fade_still, split_fade_full, split_fade_
 
 -- its levels are in their range
 pub stands_full : (f : Fading) (levels moving : List ℕ) (count : ℕ) → IsFading f
-    → Stands f levels moving count → All (λ level. level ≤ 65025) levels
+    → Stands f levels moving count → AreLevels levels
 stands_full f levels moving count fading s = λ k d lt.
     let within : k < length f.from = omega (arith, s.levels_length) in
     let from_in : slice_index f.from k ≤ 65025 = fading.from_full k 0 within in
@@ -27,7 +28,7 @@ stands_full f levels moving count fading s = λ k d lt.
 pub fading_new : (f : Fading) (n : ℕ) → f.from ≡ replicate n 0 → f.to ≡ replicate n 0
     → n < 2 ^ 16 → f.began ≤ f.latest → IsFading f
 fading_new f n from to few in_order =
-    let full : All (λ level. level ≤ 65025) (replicate n 0) =
+    let full : AreLevels (replicate n 0) =
     All-replicate (λ level. level ≤ 65025) n 0 (omega arith) in
     record {
       same_length = ap length to ∙ sym (ap length from);

@@ -1,4 +1,5 @@
 -- The fields of a course, seen as what a fader keeps.
+-- Of use inside the crate: what its public calls answer is said without these.
 use Rattle.fade_core.specs.declared.course.Course.TheInside.{Inside}
 use Rattle.fade_core.specs.Fading.{Fading, IsFading}
 use Rattle.fade_core.specs.Stepping.{Stands}

@@ -1,4 +1,5 @@
 -- A share by its digits.
+-- Of use inside the crate: what its public calls answer is said without these.
 use Rattle.std.specs.Prelude.{ℕ, ◌+◌, ◌*◌, ◌^◌}
 use Rattle.fade_core.specs.declared.digits.Digits.{Digits}
 

@@ -1,5 +1,7 @@
 -- What a fader keeps.
-use Rattle.std.specs.Prelude.{◌≡◌, ℕ, ◌-◌, ◌^◌, ◌<◌, ◌≤◌, List, All, length, slice_index}
+-- Of use inside the crate: what its public calls answer is said without these.
+use Rattle.std.specs.Prelude.{◌≡◌, ℕ, ◌-◌, ◌^◌, ◌<◌, ◌≤◌, List, length, slice_index}
+use Rattle.show_core.specs.Numbers.{AreLevels}
 use Rattle.show_core.specs.declared.rate.Rate.{Rate}
 use Rattle.fade_core.specs.Level.{Start, level_after, split_fade}
 
@@ -27,6 +29,6 @@ Shows f starts = (channel moment : ℕ) → 1 ≤ channel → channel ≤ length
 pub record IsFading (f : Fading) : Type 0 where
   pub same_length : length f.to ≡ length f.from
   pub few : length f.from < 2 ^ 16
-  pub from_full : All (λ level. level ≤ 65025) f.from
-  pub to_full : All (λ level. level ≤ 65025) f.to
+  pub from_full : AreLevels f.from
+  pub to_full : AreLevels f.to
   pub in_order : f.began ≤ f.latest

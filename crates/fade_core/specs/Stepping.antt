@@ -1,4 +1,5 @@
 -- What a fader keeps besides.
+-- Of use inside the crate: what its public calls answer is said without these.
 use Rattle.std.specs.Prelude.{◌≡◌, ◌≢◌, ℕ, ◌+◌, ◌<◌, ◌≤◌, List, length, slice_index}
 use Rattle.fade_core.specs.Fading.{Fading, level_at}
 

@@ -2,8 +2,10 @@ ghost use Rattle.std.specs.Prelude.{◌≡◌, ℕ, ◌-◌, ◌+◌, ◌*◌, �
 ghost use Rattle.std.specs.Prelude.{IsTrue, All, Contains, EachIndex, length, slice_index};
 ghost use Rattle.std.specs.Ordering.{nat_cmp};
 ghost use Rattle.std.specs.FinMap.{is_sorted};
+ghost use Rattle.show_core.specs.Numbers.{AreLevels};
 ghost use Rattle.fade_core.specs.Level.{byte_of};
-ghost use Rattle.fade_core.specs.Fading.{Shows, level_at};
+ghost use Rattle.fade_core.specs.Course.{course_view, IsCourse};
+ghost use Rattle.fade_core.specs.Fading.{Fading, Shows, level_at};
 
 use crate::divide::divide;
 use crate::share::Shares;
@@ -15,24 +17,20 @@ use std::marker::Model;
 // The course of each channel: its levels at the last start, now and in the end.
 #[derive(Debug, Drop)]
 pub struct Course {
-    from: Vec<u16>,
-    to: Vec<u16>,
-    levels: Vec<u16>,
-    // The channels that may still move: the first `count`.
-    moving: Vec<u16>,
-    count: usize,
     up: Rate,
     down: Rate,
     began: u64,
     latest: u64,
+    from: Vec<u16>,
+    to: Vec<u16>,
+    levels: Vec<u16>,
+    // The channels that may still move: the first `count`.
+    count: usize,
+    moving: Vec<u16>,
 }
 
 impl Model for Course {
-    ghost use Rattle.fade_core.specs.Fading.{Fading};
-
     ghost Value = { Fading };
-
-    ghost use Rattle.fade_core.specs.Course.{course_view, IsCourse};
 
     ghost view = { course_view };
 
@@ -140,7 +138,7 @@ impl Course {
         ensures length { length result.now ≡ length self.now.from }
         ensures levels { EachIndex self.now.from (λ place. slice_index result.now place
             ≡ level_at self.now place self.now.latest) }
-        ensures full { All (λ level. level ≤ 65025) result.now }
+        ensures full { AreLevels result.now }
     {
         &self.levels
     }

@@ -2,6 +2,7 @@ ghost use Rattle.std.specs.Prelude.{◌≡◌, ℕ, ◌-◌, ◌^◌, ◌<◌, �
 ghost use Rattle.std.specs.Prelude.{Contains, IfOk, IfSome, length, slice_index};
 ghost use Rattle.std.specs.Ordering.{nat_cmp};
 ghost use Rattle.std.specs.FinMap.{is_sorted};
+ghost use Rattle.show_core.specs.Numbers.{AreLevels};
 ghost use Rattle.show_core.specs.Readers.{IsRateInRange};
 ghost use Rattle.fade_core.specs.Level.{Start, level_after};
 
@@ -89,7 +90,7 @@ pub trait Fader: Drop {
             → stands_for self.now starts → 1 ≤ channel → channel ≤ channels self.now
             → slice_index levels.now (channel - 1)
             ≡ level_after starts channel (latest self.now)) }
-        ensures full { IfSome result (λ levels. All (λ level. level ≤ 65025) levels.now) }
+        ensures full { IfSome result (λ levels. AreLevels levels.now) }
     {
         None
     }

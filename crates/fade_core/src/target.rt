@@ -2,6 +2,7 @@ ghost use Rattle.std.specs.Prelude.{◌≡◌, ℕ, ◌+◌, ◌*◌, ◌≤◌}
 ghost use Rattle.std.specs.Prelude.{IsTrue, All, EachIndex, length, slice_index};
 ghost use Rattle.std.specs.Ordering.{nat_cmp};
 ghost use Rattle.std.specs.FinMap.{is_sorted};
+ghost use Rattle.show_core.specs.Numbers.{AreLevels};
 ghost use Rattle.fade_core.specs.Level.{byte_of};
 
 // Puts 255 times the byte of each channel in the look in its place.
@@ -10,7 +11,7 @@ pub fn aim(to: &mut [u16], look: &[(u16, u8)])
     requires in_range { All (λ pair. (1 ≤ pair.0) × (pair.0 ≤ length to.old)) look.now }
     ensures levels { EachIndex to.new (λ place.
         slice_index to.new place ≡ 255 * byte_of look.now (place + 1)) }
-    ensures full { All (λ level. level ≤ 65025) to.new }
+    ensures full { AreLevels to.new }
 {
     for level in to.iter_mut() {
         *level = 0;

@@ -2,6 +2,7 @@ ghost use Rattle.std.specs.Prelude.{◌≡◌, ℕ, ◌*◌, ◌+◌, ◌^◌, �
 ghost use Rattle.std.specs.Prelude.{IsTrue, All, EachIndex, length, slice_index};
 ghost use Rattle.std.specs.Ordering.{nat_cmp};
 ghost use Rattle.std.specs.FinMap.{is_sorted};
+ghost use Rattle.show_core.specs.Numbers.{AreLevels};
 ghost use Rattle.fade_core.specs.Level.{byte_of, split_fade};
 ghost use Rattle.fade_core.specs.Share.{AreMoved, moved};
 ghost use Rattle.fade_core.specs.Digits.{share_by};
@@ -131,7 +132,7 @@ pub fn restart(
     ensures from { from.new ≡ levels.old }
     ensures to { EachIndex to.new (λ place.
         slice_index to.new place ≡ 255 * byte_of look.now (place + 1)) }
-    ensures full { All (λ level. level ≤ 65025) to.new }
+    ensures full { AreLevels to.new }
     ensures levels { EachIndex levels.new (λ place. slice_index levels.new place
         ≡ split_fade (slice_index from.new place) (slice_index to.new place) up down 0) }
     ensures count { result ≤ length from.old }

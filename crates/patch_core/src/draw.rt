@@ -1,5 +1,6 @@
 ghost use Rattle.std.specs.Prelude.{◌≡◌, ◌≢◌, ℕ, ◌+◌, ◌*◌, ◌<◌, ◌≤◌};
-ghost use Rattle.std.specs.Prelude.{All, length, slice_index, slice_index_or};
+ghost use Rattle.std.specs.Prelude.{length, slice_index, slice_index_or};
+ghost use Rattle.show_core.specs.Numbers.{AreLevels};
 ghost use Rattle.show_core.specs.Readers.{slot_of};
 ghost use Rattle.show_core.specs.Tables.{PatchMap};
 ghost use Rattle.patch_core.specs.Frame.{AreDrawn, listed_level};
@@ -20,7 +21,7 @@ pub fn draw_frames(
 )
     requires each_ordinal { length frames.old ≡ 16 }
     requires each_channel { length levels.now ≡ 4096 }
-    requires full { All (λ level. level ≤ 65025) levels.now }
+    requires full { AreLevels levels.now }
     requires sources { length sources.now ≡ 8192 }
     requires in_range { (p : ℕ) → slice_index sources.now p < 4096 }
     requires bytes { length bytes.now ≡ 8192 }
@@ -55,7 +56,7 @@ pub fn draw_frames(
 // which a processor has more at a time.
 fn fill_full(slots: &mut [u8; 4096], levels: &[u16])
     requires each_channel { length levels.now ≡ 4096 }
-    requires full { All (λ level. level ≤ 65025) levels.now }
+    requires full { AreLevels levels.now }
     ensures { (c : ℕ) → c < 4096
         → slice_index slots.new c ≡ slot_of (slice_index levels.now c) 255 255 }
 {
@@ -67,7 +68,7 @@ fn fill_full(slots: &mut [u8; 4096], levels: &[u16])
 // The same for any grand master.
 fn fill_dimmed(slots: &mut [u8; 4096], levels: &[u16], grand: u8)
     requires each_channel { length levels.now ≡ 4096 }
-    requires full { All (λ level. level ≤ 65025) levels.now }
+    requires full { AreLevels levels.now }
     ensures { (c : ℕ) → c < 4096
         → slice_index slots.new c ≡ slot_of (slice_index levels.now c) grand 255 }
 {
@@ -96,7 +97,7 @@ fn draw_frame(
     grand: u8,
 )
     requires each_channel { length levels.now ≡ 4096 }
-    requires full { All (λ level. level ≤ 65025) levels.now }
+    requires full { AreLevels levels.now }
     requires slots { (c : ℕ) → c < 4096
         → slice_index slots.now c ≡ slot_of (slice_index levels.now c) grand 255 }
     requires sources { first + 512 ≤ length sources.now }
@@ -172,7 +173,7 @@ fn keep_patched(out: &mut Frame, bytes: &[u8], first: usize)
 // Brings the level of each of 512 dimmers.
 fn gather_levels(own: &mut [u16; 512], levels: &[u16], sources: &[u16], first: usize)
     requires each_channel { length levels.now ≡ 4096 }
-    requires full { All (λ level. level ≤ 65025) levels.now }
+    requires full { AreLevels levels.now }
     requires sources { first + 512 ≤ length sources.now }
     requires in_range { (p : ℕ) → slice_index sources.now p < 4096 }
     ensures levels { (s : ℕ) → s < 512 → slice_index own.new s

@@ -3,7 +3,7 @@ ghost use Rattle.std.specs.Prelude.{IsTrue, IsFalse, IfOk, Err, All, Contains, l
 ghost use Rattle.std.specs.List.{AllWithin, list_all};
 ghost use Rattle.std.specs.Ordering.{nat_cmp};
 ghost use Rattle.std.specs.FinMap as map;
-ghost use Rattle.show_core.specs.Numbers.{is_channel};
+ghost use Rattle.show_core.specs.Numbers.{is_channel, AreLevels};
 ghost use Rattle.patch_core.specs.Frame.{is_universe, is_base, listed_level, frame_of};
 ghost use Rattle.patch_core.specs.Frame.{AreDrawn};
 ghost use Rattle.patch_core.specs.declared.fault.RigFault.TheVariants.{Universe, Memory};
@@ -102,7 +102,7 @@ impl Rig {
     pub fn frame(&self, k: u16, levels: &[u32], grand: u8, out: &mut Frame)
         requires ordinal { k < 16 }
         requires each_channel { length levels.now ≡ 4096 }
-        requires full { All (λ level. level ≤ 65025) levels.now }
+        requires full { AreLevels levels.now }
         ensures { out.new ≡ frame_of self.now.patch (listed_level levels.now) grand k }
     {
         let first = SLOTS * k + 1;
@@ -122,7 +122,7 @@ impl Rig {
     pub fn draw(&self, frames: &mut [Frame], levels: &[u16], grand: u8)
         requires each_ordinal { length frames.old ≡ 16 }
         requires each_channel { length levels.now ≡ 4096 }
-        requires full { All (λ level. level ≤ 65025) levels.now }
+        requires full { AreLevels levels.now }
         ensures { AreDrawn self.now.patch (listed_level levels.now) grand frames.new }
     {
         draw_frames(
@@ -144,7 +144,7 @@ impl Rig {
         requires each_ordinal { length frames.old ≡ 16 }
         requires channels { All (λ channel. IsTrue (is_channel channel)) channels.now }
         requires each_channel { length levels.now ≡ 4096 }
-        requires full { All (λ level. level ≤ 65025) levels.now }
+        requires full { AreLevels levels.now }
         ensures { (before after : ℕ → ℕ) → AreDrawn self.now.patch before grand frames.old
             → ((channel : ℕ) → IsTrue (is_channel channel) → ¬ Contains channels.now channel
             → before channel ≡ after channel)

@@ -1,7 +1,7 @@
 ghost use Rattle.std.specs.Prelude.{◌≡◌, ◌≢◌, ℕ, ◌+◌, ◌<◌, ◌≤◌, IsTrue, All, length, slice_index};
 ghost use Rattle.std.specs.FinMap as map;
 ghost use Rattle.std.specs.Ordering.{nat_cmp};
-ghost use Rattle.show_core.specs.Numbers.{is_channel, is_dimmer};
+ghost use Rattle.show_core.specs.Numbers.{is_channel, is_dimmer, AreLevels};
 ghost use Rattle.show_core.specs.Readers.{slot_of};
 ghost use Rattle.show_core.specs.Tables.{PatchMap};
 ghost use Rattle.patch_core.specs.Frame.{listed_level, dimmer_slot};
@@ -21,7 +21,7 @@ pub fn redraw_channels(
     requires frames { AreFrames frames.old }
     requires channels { All (λ channel. IsTrue (is_channel channel)) channels.now }
     requires each_channel { length levels.now ≡ 4096 }
-    requires full { All (λ level. level ≤ 65025) levels.now }
+    requires full { AreLevels levels.now }
     requires numbers { All (λ e. IsTrue (is_dimmer e.0)) by_channel.now }
     requires begins { length begins.now ≡ 4097 }
     requires bounds { (c : ℕ) → c < 4096

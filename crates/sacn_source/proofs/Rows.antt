@@ -1,4 +1,4 @@
--- The worked rows, by evaluation of the definitions.
+-- The worked examples, by evaluation of the definitions.
 use Rattle.std.specs.Prelude.{◌≡◌, refl, ℕ, zero, suc, ◌*◌, false, true, List, [], ◌∷◌, map}
 use Rattle.std.specs.Prelude.{replicate, Some}
 use Rattle.sacn_source.specs.Offering.{answer_of}

@@ -1,4 +1,5 @@
 -- Universes in a row.
+-- Of use inside the crate: what its public calls answer is said without these.
 use Rattle.std.specs.Prelude.{◌≡◌, ℕ, ◌+◌, ◌<◌, List, length, slice_index}
 
 -- each is one more than the one before

@@ -1,4 +1,5 @@
 -- The fields of a pace, seen as what contracts see.
+-- Of use inside the crate: what its public calls answer is said without these.
 use Rattle.sacn_source.specs.declared.pace.Pace.TheInside.{Inside as PaceFields}
 use Rattle.sacn_source.specs.Kept.{Pace}
 

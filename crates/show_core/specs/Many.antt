@@ -1,4 +1,5 @@
 -- Many entries that are put into sorted ones.
+-- Of use inside the crate: what its public calls answer is said without these.
 use Rattle.std.specs.Prelude.{◌≡◌, ℕ, ◌<◌, Bool, Option, None, List, [], ◌∷◌, if◌then◌else◌}
 use Rattle.std.specs.Prelude.{length, slice_index_or}
 use Rattle.std.specs.Ordering.{nat_cmp}

@@ -1,5 +1,5 @@
 -- The ranges of the numbers of a show: a desk's room is fixed, and a number beyond it is refused.
-use Rattle.std.specs.Prelude.{ℕ, Bool, ◌&&◌, nat_le}
+use Rattle.std.specs.Prelude.{ℕ, ◌≤◌, Bool, ◌&&◌, nat_le, List, All}
 
 -- from 1 to the most there are
 abbrev pub is_within : ℕ → ℕ → Bool
@@ -24,3 +24,7 @@ is_cue_number = is_within 9999999
 -- a time, a delay or a follow-on time, in milliseconds
 abbrev pub is_time : ℕ → Bool
 is_time t = nat_le t 5999990
+
+-- levels of channels: a byte times a byte, so that full is 65025
+abbrev pub AreLevels : List ℕ → Type 0
+AreLevels levels = All (λ level. level ≤ 65025) levels

@@ -10,6 +10,9 @@ ghost use Rattle.show_core.specs.Builders.{opened_in, with_listed, with_all_list
 ghost use Rattle.show_core.specs.Builders.{can_patch, patched_with, all_patched};
 ghost use Rattle.show_core.specs.Readers.{cue_above, cue_below, universes_of};
 ghost use Rattle.show_core.specs.Readers.{look_slot, look_frame, IsInRange};
+ghost use Rattle.show_core.specs.Codes.{tables_code};
+ghost use Rattle.show_core.specs.Inside.{show_view, IsShow};
+ghost use Rattle.show_core.specs.Tables.{Tables};
 ghost use Rattle.show_core.specs.declared.fault.BuildFault.TheVariants.{Limit, Memory};
 
 use crate::Frame;
@@ -49,15 +52,9 @@ pub struct Show {
 }
 
 impl Model for Show {
-    ghost use Rattle.show_core.specs.Tables.{Tables};
-
     ghost Value = { Tables };
 
-    ghost use Rattle.show_core.specs.Codes.{tables_code};
-
     ghost coded = { tables_code };
-
-    ghost use Rattle.show_core.specs.Inside.{show_view, IsShow};
 
     ghost view = { show_view };
 

@@ -1,5 +1,5 @@
 -- The lowest of several faults.
-use Rattle.std.proofs.Common.{◌≡◌, true, false, refl, sym, arith, Option, Some, None}
+use Rattle.std.proofs.Common.{◌≡◌, ℕ, true, false, refl, sym, arith, List, Option, Some, None}
 use Rattle.std.specs.Prelude.{nat_lt, if◌then◌else◌}
 use Rattle.std.proofs.lemmas.Bool.Decides.{nat_tests}
 use Rattle.std.proofs.lemmas.Option.{none-some}
@@ -41,3 +41,8 @@ lower_both (Some x) (Some y) h = absurd (some_of_two x y h)
 -- a fault that is there is not lost
 pub lower_some : (a : Option LineFault) (f : LineFault) → lower a (Some f) ≡ None → ⊥
 lower_some a f h = none-some f (sym (lower_both a (Some f) h).1)
+
+-- of all words the fault is the lower of the lowest so far and of that of the words left
+abbrev pub IsLowestSoFar : (List (List ℕ) → Option LineFault) → List (List ℕ) → List (List ℕ)
+    → Option LineFault → Type 0
+IsLowestSoFar fault_in all left lowest = fault_in all ≡ lower lowest (fault_in left)

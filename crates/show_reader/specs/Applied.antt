@@ -1,4 +1,5 @@
 -- What a statement does to a show, by the effects of the builders.
+-- Of use inside the crate: what its public calls answer is said without these.
 use Rattle.std.specs.Prelude.{ℕ, if◌then◌else◌, IsTrue, List, fold, Option, Some, None}
 use Rattle.std.specs.FinMap as maps
 use Rattle.show_reader.specs.Terms.{PatchMap, Tables, LineFault, Record, Cue, Group, Sub, Cues}

@@ -1,7 +1,7 @@
 use Rattle.std.proofs.Common.{◌≡◌, ◌≤◌, List, ℕ, ap, ◌∙◌, arith, length, Vec, Global}
-use Rattle.std.specs.Prelude.{All}
 use Rattle.std.specs.Vec.{with_items}
 use Rattle.std.proofs.lemmas.List.{with_items_is}
+use Rattle.show_core.specs.Numbers.{AreLevels}
 use Rattle.fade_core.proofs.Standing.{stands_full, stands_started}
 use Rattle.fade_core.proofs.course.Course.aim.Goals as goal
 
@@ -29,7 +29,7 @@ invariant_of-self c =
     let given : length c.deref_mut.result.now ≡ length r.new.from = omega (arith, r.auto.from) in
     let fading = c.self.invariant.fading in
     let stands = c.self.invariant.stands in
-    let full : All (λ level. level ≤ 65025) r.new.from =
+    let full : AreLevels r.new.from =
     rw (r.ensures.from, levels_are) (stands_full _ _ _ _ fading stands) in
     record {
       fading = record {
