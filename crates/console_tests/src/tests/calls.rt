@@ -1,5 +1,5 @@
 use ascii_text::Words;
-use console_text::{Call, Reading, command_in, done_line, read_call, refused_line};
+use console_text::{Call, Reading, command_in, done_line, read_call, reason_line, refused_line};
 use desk_core::{Command, Refused};
 
 #[test]
@@ -56,5 +56,6 @@ fn answers(rt: HostRuntime) {
     assert!(rt;
         done_line(0).as_str() == "0 ok\n"
             && refused_line(69, Refused::Ended).as_str() == "69 refused Ended\n"
+            && reason_line(14, "skipped", "NotSent").as_str() == "14 skipped NotSent\n"
     );
 }

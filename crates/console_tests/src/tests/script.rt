@@ -5,9 +5,8 @@ use std::process::Abort;
 use std::test::Fail;
 use wire_world::{Event, What};
 
-// What is read of a text. `rt try --test --fail-alloc N` refuses the Nth growth alone: where a
-// reading meets it, the answer is Memory, and the next reading gives what the text says. No text
-// of a test is longer than a script may be.
+// What is read of a text. Where a growth was refused, the answer is Memory, and the next reading
+// gives what the text says. No text of a test is longer than a script may be.
 fn read(alloc: Global, text: &[u8]) -> Result<Script, ScriptFault> {
     if text.len() > 16_777_216 {
         return Err(ScriptFault::Memory);

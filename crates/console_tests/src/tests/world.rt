@@ -469,9 +469,8 @@ fn show_at_last(rt: &impl Abort, alloc: Global) -> Result<Show, BuildFault> {
     }
 }
 
-// `rt try --test --fail-alloc N` refuses the Nth growth: each growth of this test in turn, and it
-// passes each time. The other tests then answer their error. With no growth refused a rehearsal
-// is carried out, as all rows have it.
+// It passes whichever of its growths is refused. With none refused a rehearsal is carried out, as
+// all rows have it.
 #[test]
 fn each_growth_refused(rt: HostRuntime) -> Result<(), Fail> {
     let alloc = rt.alloc();
@@ -499,11 +498,14 @@ fn each_growth_refused(rt: HostRuntime) -> Result<(), Fail> {
 #[test]
 fn skips_in_words(rt: HostRuntime) -> Result<(), Fail> {
     let rows = [
-        (Skip::Backwards, "Backwards"),
-        (Skip::TooLarge, "TooLarge"),
-        (Skip::NoConsole, "NoConsole"),
-        (Skip::NoReceiver, "NoReceiver"),
-        (Skip::NotSent, "NotSent"),
+        (
+            Skip::Backwards,
+            "it is before the last event that was not skipped",
+        ),
+        (Skip::TooLarge, "its moment is 2^48 milliseconds or more"),
+        (Skip::NoConsole, "there is no such console"),
+        (Skip::NoReceiver, "there is no such receiver"),
+        (Skip::NotSent, "the packet was not sent yet"),
     ];
     assert!(rt; are_printed(rt.alloc(), &rows)?);
     Ok(())

@@ -425,8 +425,7 @@ fn opens_dark(rt: &impl Abort, alloc: Global, show: &Show) -> Result<(), RigFaul
     take_on::<PlainFader>(rt, alloc, show, 1, &[Step::Slots(0, 0)])
 }
 
-// `rt try --test --fail-alloc N` refuses the Nth growth: N from 1 to 17 refuses each growth of this
-// test in turn, and it passes each time. The other tests then answer their error.
+// It passes whichever of its growths is refused.
 #[test]
 fn each_growth_refused(rt: HostRuntime) {
     let mut show = Show::new(rt.alloc());

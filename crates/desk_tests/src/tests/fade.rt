@@ -338,8 +338,7 @@ fn last_level<F: Fader>(rt: &impl Abort, alloc: Global) -> u32 {
     fader.level(4)
 }
 
-// `rt try --test --fail-alloc N` refuses the Nth growth: N from 1 to 4 refuses each growth of `new`
-// in turn, and these tests pass each time. The other tests then answer their error.
+// These pass whichever growth of `new` is refused.
 #[test]
 fn each_growth_of_plain_refused(rt: HostRuntime) {
     assert!(rt; last_level::<PlainFader>(&rt, rt.alloc()) == 0);

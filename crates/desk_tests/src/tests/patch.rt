@@ -1,5 +1,5 @@
 ghost use Rattle.std.specs.Prelude.{◌<◌, ◌≤◌, IsTrue, All};
-ghost use Rattle.show_core.specs.Numbers.{is_channel};
+ghost use Rattle.show_core.specs.Numbers.{is_channel, AreLevels};
 
 use super::shows::{Part, show_of};
 use patch_core::{Rig, RigFault, has_numbers, max_into};
@@ -69,13 +69,13 @@ fn rig_of(alloc: Global, show: Result<Show, BuildFault>) -> Result<Rig, Fail> {
 
 // Whether each level is at most that of a byte at full with a master at full.
 fn are_levels(levels: &[u16]) -> bool
-    ensures { IsTrue result → All (λ level. level ≤ 65025) levels.now }
+    ensures { IsTrue result → AreLevels levels.now }
 {
     levels.iter().all(|level| *level <= 65025)
 }
 
 fn are_wide_levels(levels: &[u32]) -> bool
-    ensures { IsTrue result → All (λ level. level ≤ 65025) levels.now }
+    ensures { IsTrue result → AreLevels levels.now }
 {
     levels.iter().all(|level| *level <= 65025)
 }
@@ -299,8 +299,7 @@ fn open_again(rt: &impl Abort, alloc: Global, show: &Show) {
     }
 }
 
-// `rt try --test --fail-alloc N` refuses the Nth growth: N from 1 to 7 refuses each growth of this
-// test in turn, and it passes each time. The other tests then answer their error.
+// It passes whichever of its growths is refused.
 #[test]
 fn each_growth_refused(rt: HostRuntime) {
     let mut show = Show::new(rt.alloc());

@@ -24,9 +24,8 @@ const HEADER: &[u8] = b"console 1 100 c0ffee00-0000-4000-8000-00000000e131\nrece
 
 // The answer of a rehearsal and its output, of whose writes some pass at first and some then fail.
 //
-// `rt try --test --fail-alloc N` refuses the Nth growth alone: where a run meets it, the answer is
-// Memory with nothing written, and the run after it has all memory. So it is where the growth of
-// the output itself was refused.
+// Where a growth was refused, the answer is Memory with nothing written, and the run after it has
+// all memory. So it is where the growth of the output itself was refused.
 fn end(
     alloc: Global,
     show: &[u8],

@@ -33,9 +33,8 @@ fn run(alloc: Global, call: Call, show: &[u8], out: &mut MemoryOutput) -> Result
 
 // The answer of a run and its output, of which so many of the first writes fail.
 //
-// `rt try --test --fail-alloc N` refuses the Nth growth alone: where a run meets it, the answer is
-// Memory with nothing written, and the run after it has all memory. So it is where the growth of
-// the output itself was refused.
+// Where a growth was refused, the answer is Memory with nothing written, and the run after it has
+// all memory. So it is where the growth of the output itself was refused.
 fn end(
     alloc: Global,
     call: Call,

@@ -1,5 +1,5 @@
 use clap::error::ErrorKind;
-use cueplayer_words::{Job, Name, WordsFault, read_words};
+use cueplayer_words::{Job, Name, Night, WordsFault, read_words};
 use std::alloc::Global;
 use std::process::Abort;
 use std::test::Fail;
@@ -86,15 +86,15 @@ fn is_listen(job: &Job, wanted: (Address, u16, u32)) -> bool {
     }
 }
 
+fn is_night(night: &Night, wanted: (Address, u8, u16)) -> bool {
+    night.show.as_str() == "a.asc"
+        && night.cid == CID
+        && (night.to, night.priority, night.base) == wanted
+}
+
 fn is_play(job: &Job, wanted: (Address, u8, u16)) -> bool {
     match job {
-        Job::Play {
-            show,
-            to,
-            cid,
-            priority,
-            base,
-        } => show.as_str() == "a.asc" && *cid == CID && (*to, *priority, *base) == wanted,
+        Job::Play(night) => is_night(night, wanted),
         _ => false,
     }
 }
@@ -109,19 +109,7 @@ fn is_named(name: &Option<Name>, wanted: Option<&str>) -> bool {
 
 fn is_live(job: &Job, wanted: (Address, u8, u16), name: Option<&str>) -> bool {
     match job {
-        Job::Live {
-            show,
-            to,
-            cid,
-            priority,
-            base,
-            record_file,
-        } => {
-            show.as_str() == "a.asc"
-                && *cid == CID
-                && (*to, *priority, *base) == wanted
-                && is_named(record_file, name)
-        }
+        Job::Live { night, record_file } => is_night(night, wanted) && is_named(record_file, name),
         _ => false,
     }
 }

@@ -4,9 +4,9 @@ use std::alloc::Global;
 use std::process::Abort;
 use std::test::Fail;
 
-// What is read of a text. `rt try --test --fail-alloc N` refuses the Nth growth alone: where a
-// reading meets it, the answer is Memory, and the next reading gives what the text says. At ample
-// memory the first reading has to. Texts that a test builds answer their own refusal.
+// What is read of a text. Where a growth was refused, the answer is Memory, and the next reading
+// gives what the text says. At ample memory the first reading has to. Texts that a test builds
+// answer their own refusal.
 fn read(alloc: Global, text: &[u8]) -> Result<Loaded, ShowFault> {
     match read_show(alloc, text) {
         Err(ShowFault::Memory) => read_show(alloc, text),

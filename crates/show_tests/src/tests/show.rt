@@ -212,8 +212,7 @@ fn copied(rt: &impl Abort, alloc: Global, show: &Show) -> Show {
     }
 }
 
-// `rt try --test --fail-alloc N` refuses the Nth growth: N from 1 on refuses each growth of this
-// test in turn, and it passes each time. The other tests then answer their error.
+// It passes whichever of its growths is refused.
 #[test]
 fn each_growth_refused(rt: HostRuntime) {
     let mut show = Show::new(rt.alloc());

@@ -142,8 +142,7 @@ fn changes_back_and_ends(rt: HostRuntime) {
     assert!(rt; has_all(&link, &packets));
 }
 
-// `rt try --test --fail-alloc N` refuses the Nth growth: N of 1 and 2 refuses each growth of this
-// test in turn, and it passes each time. The other tests then answer their error.
+// It passes whichever of its growths is refused.
 #[test]
 fn each_growth_refused(rt: HostRuntime) {
     let sender = match Sender::open(rt.alloc(), player(), &[1, 2]) {
