@@ -168,6 +168,16 @@ class Ends(DeskTest):
         self.assertEqual(0, desk.process.wait(PATIENCE))
         self.assertTrue(self.came()[-1][OPTIONS] & TERMINATED)
 
+    def test_presses_while_it_ends(self):
+        """However often control-C is pressed, the desk leaves with the status of the night."""
+        desk, _ = self.opened()
+        until = time.monotonic() + PATIENCE
+        while desk.process.poll() is None and time.monotonic() < until:
+            desk.process.send_signal(signal.SIGINT)
+            time.sleep(0.001)
+        self.assertEqual(0, desk.process.wait(PATIENCE))
+        self.assertTrue(self.came()[-1][OPTIONS] & TERMINATED)
+
     def test_terminated(self):
         desk, _ = self.opened()
         desk.process.terminate()

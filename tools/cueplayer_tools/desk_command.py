@@ -181,6 +181,8 @@ def run_desk(words: argparse.Namespace, tell: Teller) -> int:
     finally:
         # Whatever happened, no `live` is left behind that nobody can play.
         status = night.end(END_PATIENCE)
+        # The night is over: one press more would only hide its status.
+        signal.signal(signal.SIGINT, signal.SIG_IGN)
         replies.leave()
     return status
 
