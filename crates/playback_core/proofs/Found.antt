@@ -1,7 +1,7 @@
--- A cue that is found above or below another is there.
+-- A cue that is found above or below another is there, and a move goes to it.
 use Rattle.std.proofs.Common.{◌≡◌, ℕ, Bool, true, false, List, [], ◌∷◌, Option, Some, refl, sym, ap}
 use Rattle.std.proofs.Common.{◌∙◌, arith}
-use Rattle.std.specs.Prelude.{find, reverse, ◌||◌, ◌==◌, unwrap_or, cond}
+use Rattle.std.specs.Prelude.{find, reverse, ◌||◌, ◌==◌, unwrap_or, cond, Result}
 use Rattle.std.specs.List.{list_any}
 use Rattle.std.specs.Option.{ok_or}
 use Rattle.std.specs.Ordering.{nat_cmp, eq_by_cmp}
@@ -12,9 +12,13 @@ use Rattle.std.proofs.lemmas.Bool.Decides.{nat_tests}
 use Rattle.std.proofs.lemmas.List.{reverse-append}
 use Rattle.std.proofs.lemmas.List.Folds.{list_any-append}
 use Rattle.show_core.specs.Readers.{cue_above, cue_below}
-use Rattle.show_core.specs.Tables.{CueMap}
+use Rattle.show_core.specs.Tables.{CueMap, Tables}
+use Rattle.fade_core.specs.Level.{Start}
 use Rattle.playback_core.specs.declared.playback.NoMove.{NoMove}
-use Rattle.playback_core.specs.Played.{goto_target}
+use Rattle.playback_core.specs.declared.playback.NoMove.TheVariants.{NoCue}
+use Rattle.playback_core.specs.Played.{Move, current_after, goto_target, moves_by}
+use Rattle.playback_core.specs.Playing.{Playing}
+use Rattle.playback_core.specs.Stands.{Moves, StandsFor, Steps}
 
 or_true : (b : Bool) → (b || true) ≡ true
 or_true true = refl
@@ -58,8 +62,21 @@ contains_key-cue_below cues n found e =
     contains_key-keys cues found ∙ sym (list_any-reverse _ (map.keys cues))
     ∙ list_any-found _ (reverse (map.keys cues)) found e
 
--- goto takes a cue that is there, so that it answers as the move that found it
-pub ok_or-goto_target : (cues : CueMap) (found : Option ℕ) (n : ℕ) (absent refused : NoMove)
-    → map.contains_key cues n ≡ true → found ≡ Some n → ok_or (goto_target cues n) absent
-    ≡ ok_or found refused
-ok_or-goto_target cues found n absent refused there is = rw (there, is) refl
+-- what goes to the cue that a target found steps as the target says: goto takes a cue that is there
+pub steps_to : {F : Type 0} {stands_for : F → List Start → Type 0} {latest : F → ℕ} {show : Tables}
+    {moment cue : ℕ} {before after : Playing F} {result : Result ℕ NoMove}
+    (target : Option ℕ → Option ℕ) (refused : NoMove) (current : Option ℕ)
+    → map.contains_key show.cues cue ≡ true → target current ≡ Some cue
+    → ((moves : List Move) (stopped : Bool) → StandsFor stands_for show before moves stopped
+    → current ≡ current_after (moves_by show stopped moment moves))
+    → result ≡ ok_or (goto_target show.cues cue) NoCue
+    → Moves stands_for latest show moment before after result
+    → Steps stands_for latest show moment before after result (λ c. ok_or (target c) refused)
+steps_to {show = show} {cue = cue} target refused current there found is answer moved =
+    let same : ok_or (goto_target show.cues cue) NoCue ≡ ok_or (target current) refused =
+    rw (there, found) refl in
+    record {
+      answer = λ moves stopped stands.
+          answer ∙ same ∙ ap (λ c. ok_or (target c) refused) (is moves stopped stands);
+      moved = moved;
+    }

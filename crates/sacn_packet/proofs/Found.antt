@@ -133,32 +133,19 @@ readable_from_packet d n fields slots h =
 -- the bytes of a packet say what it carries
 pub packet_same : (p : List ℕ) (packet : Packet) → IsData p packet.fields packet.slots
     → packet_in p ≡ packet
-packet_same p packet h =
-    let priority : slice_index p 108 ≡ packet.fields.priority =
-    byte_is p 108 _ (omega (arith, h.size)) h.priority in
-    let sync : number_at p 109 ≡ packet.fields.sync = number_is p 109 _ h.sync_range h.sync in
-    let sequence : slice_index p 111 ≡ packet.fields.sequence =
-    byte_is p 111 _ (omega (arith, h.size)) h.sequence in
-    let options : slice_index p 112 ≡ packet.fields.options =
-    byte_is p 112 _ (omega (arith, h.size)) h.options in
-    let universe : number_at p 113 ≡ packet.fields.universe =
-    number_is p 113 _ (omega (arith, h.universe_to_63999)) h.universe in
-    let start : slice_index p 125 ≡ packet.fields.start =
-    byte_is p 125 _ (omega (arith, h.size)) h.start in
-    let slots : drop 126 p ≡ packet.slots = last p 126 packet.slots h.size h.values in
-    λ i. record {
-      fields = record {
-        cid = h.cid i;
-        name = h.name i;
-        priority = priority i;
-        sync = sync i;
-        sequence = sequence i;
-        options = options i;
-        universe = universe i;
-        start = start i;
-      };
-      slots = slots i;
-    }
+packet_same p packet h = λ i. record {
+  fields = record {
+    cid = h.cid i;
+    name = h.name i;
+    priority = byte_is p 108 _ (omega (arith, h.size)) h.priority i;
+    sync = number_is p 109 _ h.sync_range h.sync i;
+    sequence = byte_is p 111 _ (omega (arith, h.size)) h.sequence i;
+    options = byte_is p 112 _ (omega (arith, h.size)) h.options i;
+    universe = number_is p 113 _ (omega (arith, h.universe_to_63999)) h.universe i;
+    start = byte_is p 125 _ (omega (arith, h.size)) h.start i;
+  };
+  slots = last p 126 packet.slots h.size h.values i;
+}
 
 -- two prefixes of a datagram that are packets are one
 pub same_prefix : (d : List ℕ) (m n : ℕ) (one other : Packet)

@@ -117,6 +117,12 @@ lane_found {lanes} {now} {universes} {i} {found} {lane} u d same are result some
           ∙ ap (slice_get lanes) (sym first) ∙ get;
     }
 
+-- a lane that keeps its universe leaves those of the sender as they are
+pub universes_same : (lanes : List Lane) (i : ℕ) (new old : Lane)
+    → new.universe ≡ (get_or lanes i old).universe
+    → universes_of (slice_set lanes i new) ≡ universes_of lanes
+universes_same lanes i new old kept = map-set_same (λ (l : Lane). l.universe) lanes i new old kept
+
 -- the lane changes, and keeps its universe
 pub record Changes (lanes now : List Lane) (u i : ℕ) (new : Lane) : Type 0 where
   pub universes : universes_of (slice_set lanes i new) ≡ universes_of lanes
@@ -129,8 +135,7 @@ pub changes : {lanes now : List Lane} {u i : ℕ} {lane : Lane} (new : Lane)
 changes {lanes} {now} {u} {i} {lane} new p kept =
     let was : lane ≡ get_or lanes i lane = sym (get_or_from_slice_get lanes i lane lane p.get) in
     record {
-      universes = map-set_same (λ (l : Lane). l.universe) lanes i new lane
-          (kept ∙ ap (λ (l : Lane). l.universe) was);
+      universes = universes_same lanes i new lane (kept ∙ ap (λ (l : Lane). l.universe) was);
       at = find-set (λ l. l.universe == u) lanes i new p.first p.within (is_it _ _ (kept ∙ p.is));
       others = λ v other. find_past (λ l. l.universe == v) lanes i new lane
           (ap (λ (l : Lane). l.universe == v) (sym was) ∙ is_not _ _ (λ e. other (sym e ∙ p.is)))

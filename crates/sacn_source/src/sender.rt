@@ -65,6 +65,7 @@ impl Sender {
     /// later than that of the last offer. It sends a packet where the frame is the first or another
     /// than the one before, three times more after such a change, and where its last packet is
     /// 800 ms ago. A packet that is lost uses its number. After a termination there are no offers.
+    #[tactic(auto, using(crate::proofs::SenderLemmas::universes_same))]
     pub fn offer<L: Link>(
         &mut self,
         moment: u64,
@@ -102,6 +103,7 @@ impl Sender {
 
     /// Sends a universe of the sender's one packet with Stream_Terminated and every slot at 0. At
     /// most three end a stream.
+    #[tactic(auto, using(crate::proofs::SenderLemmas::universes_same))]
     pub fn terminate<L: Link>(&mut self, universe: u16, link: &mut L) -> Offered
         requires here { Contains (universes_of self.old) universe }
         requires fewer { ended_of self.old universe < 3 }

@@ -1,6 +1,4 @@
-use Rattle.std.proofs.Common.{◌∙◌, ap, arith}
-use Rattle.std.proofs.Math.Seq.{map-set_same}
-use Rattle.std.proofs.lemmas.Grind.{common_steps}
+use Rattle.std.proofs.Common.{◌∙◌, ap}
 use Rattle.sacn_source.specs.Stands.{universes_of}
 use Rattle.sacn_source.proofs.SenderLemmas.{changes, lane_found, place_found}
 use Rattle.sacn_source.proofs.sender.Sender.offer.Goals as goal
@@ -15,9 +13,6 @@ offer-requires g c =
     c.unwrap-place.ensures c.index_mut.ensures.value in
     let required = rw p.at at c.requires in
     record { later = required.later; below = c.requires.below; live = required.live }
-
-pub invariant_of-self : goal.invariant_of-self
-invariant_of-self g c = grind (arith, common_steps, map-set_same)
 
 pub returns : goal.returns
 returns g c =

@@ -1,6 +1,4 @@
-use Rattle.std.proofs.Common.{◌∙◌, ap, arith}
-use Rattle.std.proofs.Math.Seq.{map-set_same}
-use Rattle.std.proofs.lemmas.Grind.{common_steps}
+use Rattle.std.proofs.Common.{◌∙◌, ap}
 use Rattle.sacn_source.specs.Stands.{universes_of}
 use Rattle.sacn_source.proofs.SenderLemmas.{changes, lane_found, place_found}
 use Rattle.sacn_source.proofs.sender.Sender.terminate.Goals as goal
@@ -14,9 +12,6 @@ terminate-requires g c =
     let p = lane_found c.args.universe _ c.self.view_is c.self.invariant c.place_of.ensures
     c.unwrap-place.ensures c.index_mut.ensures.value in
     record { fewer = rw p.at at c.requires.fewer }
-
-pub invariant_of-self : goal.invariant_of-self
-invariant_of-self g c = grind (arith, common_steps, map-set_same)
 
 pub returns : goal.returns
 returns g c =
