@@ -1,4 +1,4 @@
-ghost use Rattle.std.specs.Prelude.{◌≡◌, ◌≤◌, ◌+◌, ◌++◌, length, codes, decimal};
+ghost use Rattle.std.specs.Prelude.{◌≡◌, ◌≤◌, ◌+◌, ◌++◌, length, codes};
 ghost use Rattle.console_text.specs.Texts.{numbered, refused_name, done_text, refused_text};
 ghost use Rattle.console_text.specs.Texts.{outcome_text, pair_text, ticked_name, ticked_text};
 

@@ -1,4 +1,4 @@
-ghost use Rattle.std.specs.Prelude.{◌≡◌, ◌≤◌, []};
+ghost use Rattle.std.specs.Prelude.{◌≡◌, []};
 
 use crate::failure::Failure;
 use crate::output::SystemOutput;
@@ -21,7 +21,7 @@ pub struct LiveFeed<'a> {
 
 impl<'a> LiveFeed<'a> {
     /// The night starts here: its moments are milliseconds from now on.
-    pub fn new(rt: &'a HostRuntime, input: TypedInput, record: Record) -> Result<Self, Failure> {
+    pub fn new(rt: &'a HostRuntime, input: TypedInput, kept: Record) -> Result<Self, Failure> {
         let start = match Instant::now(rt) {
             Ok(start) => start,
             Err(error) => return Err(Failure::of_device("the clock", error.kind())),
@@ -31,7 +31,7 @@ impl<'a> LiveFeed<'a> {
             start,
             live: LiveInput::new(),
             input,
-            kept: record,
+            kept,
         })
     }
 

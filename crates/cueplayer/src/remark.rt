@@ -1,6 +1,5 @@
 use arrayvec::ArrayVec;
 use ascii_text::Lines;
-use cueplayer_faults::RunFault;
 use show_reader::ShowFault;
 use std::io::ErrorKind;
 use wire_faults::Fault;

@@ -1,4 +1,4 @@
-ghost use Rattle.std.specs.Prelude.{◌≡◌, ◌≤◌, List, true, false, OnOk, IfOk, IfErr};
+ghost use Rattle.std.specs.Prelude.{◌≡◌, ◌≤◌, List, false, OnOk, IfOk, IfErr};
 ghost use Rattle.desk_core.specs.Played.{Act};
 ghost use Rattle.console.specs.Stands.{StandsFor};
 ghost use Rattle.console.specs.Streams.{Production};

@@ -1,4 +1,4 @@
-ghost use Rattle.std.specs.Prelude.{◌≡◌, List, [], IfOk, IfErr};
+ghost use Rattle.std.specs.Prelude.{[], IfOk, IfErr};
 ghost use Rattle.console.specs.Stands.{StandsFor};
 ghost use Rattle.console.specs.Streams.{Production};
 ghost use Rattle.cueplayer_play.specs.Play.{EndsEarly, PlaysAll};

@@ -1,4 +1,4 @@
-ghost use Rattle.std.specs.Prelude.{◌≡◌, ◌≤◌, length, map};
+ghost use Rattle.std.specs.Prelude.{◌≤◌, length, map};
 ghost use Rattle.wire_world.specs.Brief.{reply_of};
 ghost use Rattle.cueplayer_rehearse.specs.Texts.{end_lines, event_lines, rehearsal_lines};
 ghost use Rattle.cueplayer_rehearse.specs.Printed.{PrintsLines};

@@ -1,4 +1,4 @@
-ghost use Rattle.std.specs.Prelude.{◌≡◌, ◌≤◌, length, None, OnOk, IfOk, IfErr};
+ghost use Rattle.std.specs.Prelude.{◌≤◌, length, None, OnOk, IfOk, IfErr};
 ghost use Rattle.cueplayer_rehearse.specs.Begins.{IsSetUp, Prevents};
 ghost use Rattle.cueplayer_rehearse.specs.Printed.{AreLinesOf};
 ghost use Rattle.cueplayer_rehearse.specs.Texts.{rehearsal_lines};

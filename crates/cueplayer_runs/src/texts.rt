@@ -1,6 +1,5 @@
 ghost use Rattle.std.specs.Prelude.{◌≡◌, ◌<◌, All, IfOk, IfSome, IsTrue, codes, string_bytes};
 ghost use Rattle.std.specs.FinMap as maps;
-ghost use Rattle.show_core.specs.Readers.{look_frame};
 ghost use Rattle.sacn_packet.specs.Wire.{IsData};
 ghost use Rattle.cueplayer_runs.specs.Texts.{check_text, counts_line, look_fields, IsLinesOf};
 ghost use Rattle.cueplayer_runs.specs.Texts.{IsLookText};

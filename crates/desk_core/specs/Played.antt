@@ -1,6 +1,6 @@
 -- What a console does: its calls, why one is refused, and the moves and settings that the accepted
 -- ones make.
-use Rattle.std.specs.Prelude.{ℕ, ◌+◌, ◌^◌, nat_lt, nat_le, Bool, true, false, not, if◌then◌else◌}
+use Rattle.std.specs.Prelude.{ℕ, ◌+◌, ◌^◌, nat_lt, nat_le, Bool, true, false, not}
 use Rattle.std.specs.Prelude.{List, [], ◌∷◌, find, Option, Some, None, is_some, is_none, Result}
 use Rattle.std.specs.Prelude.{Ok, Err}
 use Rattle.std.specs.Option.{option_or}

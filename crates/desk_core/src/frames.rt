@@ -1,4 +1,4 @@
-ghost use Rattle.std.specs.Prelude.{◌≡◌, ◌<◌, ◌≤◌, ℕ, Bool, List, Some, All, EachIndex};
+ghost use Rattle.std.specs.Prelude.{◌≡◌, ◌<◌, ℕ, Bool, List, Some, All, EachIndex};
 ghost use Rattle.std.specs.Prelude.{IsTrue, IsFalse, IfOk, Contains};
 ghost use Rattle.std.specs.Prelude.{length, max, replicate, slice_get, slice_index};
 ghost use Rattle.std.specs.FinMap as maps;

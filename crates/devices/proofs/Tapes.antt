@@ -1,5 +1,5 @@
 -- Tapes grow at their end.
-use Rattle.std.proofs.Common.{◌≡◌, ℕ, List, [], ◌++◌, ap, append_assoc, append-nil}
+use Rattle.std.proofs.Common.{◌≡◌, List, [], ◌++◌, ap, append_assoc, append-nil}
 use Rattle.devices.specs.Tape.{Tape, with_more}
 
 abbrev with_items : {X : Type 0} → Tape X → List X → Tape X

@@ -1,7 +1,7 @@
 -- What a fader keeps besides, at first and as a fade starts, and what follows.
 use Rattle.std.proofs.Common.{◌≡◌, ℕ, ◌-◌, ◌^◌, ◌<◌, ◌≤◌, List, sym, ◌∙◌}
 use Rattle.std.proofs.Common.{length, ap, arith, replicate, take}
-use Rattle.std.specs.Prelude.{slice_index, All, EachIndex, Contains}
+use Rattle.std.specs.Prelude.{slice_index, EachIndex, Contains}
 use Rattle.std.proofs.lemmas.Grind.{get_or_default_zero}
 use Rattle.std.proofs.lemmas.List.{get_or-replicate, length-replicate, length-take-le, get_or-take}
 use Rattle.std.proofs.lemmas.List.Elements.{All-replicate}

@@ -1,4 +1,4 @@
-ghost use Rattle.std.specs.Prelude.{◌≡◌, ℕ, EachIndex, length, slice_index};
+ghost use Rattle.std.specs.Prelude.{◌≡◌, EachIndex, length, slice_index};
 ghost use Rattle.fade_core.specs.Level.{split_fade};
 
 use show_core::Rate;

@@ -6,7 +6,7 @@ ghost use Rattle.std.specs.FinMap as map;
 ghost use Rattle.show_core.specs.Numbers.{is_channel, AreLevels};
 ghost use Rattle.patch_core.specs.Frame.{is_universe, is_base, listed_level, frame_of};
 ghost use Rattle.patch_core.specs.Frame.{AreDrawn};
-ghost use Rattle.patch_core.specs.declared.fault.RigFault.TheVariants.{Universe, Memory};
+ghost use Rattle.patch_core.specs.declared.fault.RigFault.TheVariants.{Universe};
 
 use crate::draw::draw_frames;
 use crate::fault::RigFault;

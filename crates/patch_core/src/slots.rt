@@ -1,6 +1,5 @@
 ghost use Rattle.std.specs.Prelude.{◌≡◌, ◌≢◌, ℕ, ◌+◌, ◌<◌, ◌≤◌, IsTrue, All, length, slice_index};
 ghost use Rattle.std.specs.FinMap as map;
-ghost use Rattle.std.specs.Ordering.{nat_cmp};
 ghost use Rattle.show_core.specs.Numbers.{is_channel, is_dimmer, AreLevels};
 ghost use Rattle.show_core.specs.Readers.{slot_of};
 ghost use Rattle.show_core.specs.Tables.{PatchMap};

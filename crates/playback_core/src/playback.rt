@@ -1,12 +1,12 @@
 ghost use Rattle.std.specs.Prelude.{◌≡◌, ℕ, ◌-◌, ◌^◌, ◌<◌, ◌≤◌, Bool, true, false, IsTrue};
-ghost use Rattle.std.specs.Prelude.{List, [], ◌∷◌, map, All, Contains, IfOk, OnOk, OnErr, IfSome};
+ghost use Rattle.std.specs.Prelude.{List, [], map, All, Contains, IfOk, IfSome};
 ghost use Rattle.std.specs.Prelude.{length, slice_index};
 ghost use Rattle.std.specs.Option.{ok_or};
 ghost use Rattle.show_core.specs.Numbers.{is_channel, AreLevels};
 ghost use Rattle.show_core.specs.Tables.{Tables};
 ghost use Rattle.playback_core.specs.Placed.{IsAt};
 ghost use Rattle.playback_core.specs.Played.{Move, go_target, back_target, goto_target};
-ghost use Rattle.playback_core.specs.Played.{current_after, moves_by, is_by, start_of};
+ghost use Rattle.playback_core.specs.Played.{moves_by, is_by, start_of};
 ghost use Rattle.playback_core.specs.Played.{playback_level};
 ghost use Rattle.playback_core.specs.Stands.{StandsFor, Moves, MovesOn, Steps};
 

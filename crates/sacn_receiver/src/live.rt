@@ -1,6 +1,6 @@
 ghost use Rattle.std.specs.Prelude.{◌≡◌, ℕ, ◌<◌, ◌≤◌, count_by, filter, length, max};
 ghost use Rattle.std.specs.Prelude.{slice_get, slice_index};
-ghost use Rattle.sacn_receiver.specs.Records.{entries, kept_entry, is_live_at, lights_at};
+ghost use Rattle.sacn_receiver.specs.Records.{kept_entry, is_live_at, lights_at};
 ghost use Rattle.sacn_receiver.specs.Records.{top_at, lit};
 ghost use Rattle.sacn_receiver.specs.Shown.{merged};
 

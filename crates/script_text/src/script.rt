@@ -1,4 +1,4 @@
-ghost use Rattle.std.specs.Prelude.{◌≡◌, ◌+◌, ◌≤◌, ◌<◌, ◌^◌, All, IfErr, IfOk, OnOk, length};
+ghost use Rattle.std.specs.Prelude.{◌≡◌, ◌+◌, ◌<◌, All, IfErr, IfOk, OnOk, length};
 ghost use Rattle.std.specs.Prelude.{false};
 ghost use Rattle.script_text.specs.Script.{parts, no_parts, with_said, said_below, script_of};
 ghost use Rattle.script_text.specs.Script.{with_event, Explains, ExplainsLine, IsWithin};

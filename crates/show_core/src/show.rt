@@ -13,7 +13,7 @@ ghost use Rattle.show_core.specs.Readers.{look_slot, look_frame, IsInRange};
 ghost use Rattle.show_core.specs.Codes.{tables_code};
 ghost use Rattle.show_core.specs.Inside.{show_view, IsShow};
 ghost use Rattle.show_core.specs.Tables.{Tables};
-ghost use Rattle.show_core.specs.declared.fault.BuildFault.TheVariants.{Limit, Memory};
+ghost use Rattle.show_core.specs.declared.fault.BuildFault.TheVariants.{Limit};
 
 use crate::Frame;
 use crate::cue::Cue;

@@ -1,4 +1,4 @@
-ghost use Rattle.std.specs.Prelude.{◌≡◌, ◌==◌, [], ◌∷◌, ◌++◌, false, IsOk, IfOk, OnOk, IsTrue};
+ghost use Rattle.std.specs.Prelude.{◌≡◌, ◌==◌, [], ◌∷◌, false, IsOk, IfOk, OnOk, IsTrue};
 ghost use Rattle.std.specs.Prelude.{All, None, Some};
 ghost use Rattle.std.specs.FinMap as maps;
 ghost use Rattle.show_line.specs.Sound.{IsTripleInRange};

@@ -1,6 +1,3 @@
-ghost use Rattle.std.specs.Prelude.{◌≡◌};
-
-use show_line::LineFault;
 use thiserror::Error;
 
 /// The most bytes that a show text has: 1 MiB.

@@ -1,4 +1,4 @@
-ghost use Rattle.std.specs.Prelude.{◌≡◌, ◌≤◌, ◌∷◌, ◌++◌, [], length, IfOk, OnOk, All};
+ghost use Rattle.std.specs.Prelude.{◌≤◌, length, IfOk, All};
 ghost use Rattle.wire_world.specs.Stands.{Listening};
 
 use sacn_receiver::Receiver;

@@ -1,5 +1,5 @@
 ghost use Rattle.wire_world.specs.StageStands.{StageStands, Tells};
-ghost use Rattle.std.specs.Prelude.{◌≡◌, ◌<◌, ◌∷◌, ◌++◌, [], length, IfOk, OnOk, All};
+ghost use Rattle.std.specs.Prelude.{◌≡◌, ◌<◌, [], length, IfOk, All};
 ghost use Rattle.wire_world.specs.Stands.{Opened};
 
 use crate::Setup;

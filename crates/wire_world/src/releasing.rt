@@ -1,4 +1,4 @@
-ghost use Rattle.std.specs.Prelude.{ℕ, List};
+ghost use Rattle.std.specs.Prelude.{List};
 ghost use Rattle.wire_world.specs.declared.event.Event.{Event as EventData};
 ghost use Rattle.wire_world.specs.declared.event.What.{What as WhatData};
 ghost use Rattle.wire_world.specs.World.{World};

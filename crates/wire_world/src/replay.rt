@@ -1,4 +1,4 @@
-ghost use Rattle.std.specs.Prelude.{◌≡◌, ℕ, List, [], ◌∷◌, length, IfOk, All};
+ghost use Rattle.std.specs.Prelude.{◌≡◌, [], length, IfOk, All};
 ghost use Rattle.wire_world.specs.World.{World};
 ghost use Rattle.wire_world.specs.Reported.{IsReportOf};
 ghost use Rattle.wire_world.specs.StageStands.{StageStands, Tells};

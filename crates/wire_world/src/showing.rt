@@ -1,4 +1,4 @@
-ghost use Rattle.std.specs.Prelude.{◌≡◌, ℕ, List, IfOk};
+ghost use Rattle.std.specs.Prelude.{◌≡◌, List, IfOk};
 ghost use Rattle.wire_world.specs.declared.event.Event.{Event as EventData};
 ghost use Rattle.wire_world.specs.World.{World};
 ghost use Rattle.wire_world.specs.Replies.{last_moment, last_slots};

@@ -1,7 +1,7 @@
 ghost use Rattle.wire_world.specs.Brief.{reply_of};
 ghost use Rattle.wire_world.specs.StageStands.{StageStands, Tells};
-ghost use Rattle.std.specs.Prelude.{◌≡◌, ◌≤◌, ◌==◌, ℕ, List, ◌∷◌, length, IfOk, OnOk};
-ghost use Rattle.std.specs.Prelude.{if◌then◌else◌, Option, Some, None};
+ghost use Rattle.std.specs.Prelude.{◌≡◌, ◌==◌, ℕ, List, IfOk, OnOk};
+ghost use Rattle.std.specs.Prelude.{if◌then◌else◌, Some, None};
 ghost use Rattle.std.specs.Option.{option_map_or};
 ghost use Rattle.wire_world.specs.declared.event.Event.{Event as EventData};
 ghost use Rattle.wire_world.specs.declared.event.What.TheVariants.{Order, Tick, Deliver, Show};

@@ -1,4 +1,4 @@
-ghost use Rattle.std.specs.Prelude.{◌≡◌, length};
+ghost use Rattle.std.specs.Prelude.{◌≡◌};
 ghost use Rattle.wire_world.specs.Refusing.{are_within as are_within_size};
 ghost use Rattle.wire_world.specs.Refusing.{is_within as is_within_size};
 

@@ -1,4 +1,4 @@
-ghost use Rattle.std.specs.Prelude.{◌≡◌, ◌^◌, ◌<◌, ◌≤◌};
+ghost use Rattle.std.specs.Prelude.{◌≡◌, ◌<◌, ◌≤◌};
 
 use super::shows::{Part, add_parts, set_follow, show_of, two_cues};
 use fade_core::{Fader, PlainFader, StepFader};

@@ -1,5 +1,4 @@
 ghost use Rattle.std.specs.Prelude.{◌≡◌, [], false};
-ghost use Rattle.devices.specs.Tape.{Tape};
 ghost use Rattle.devices.specs.Failing.{AreFirst};
 
 use crate::memory::Faults;

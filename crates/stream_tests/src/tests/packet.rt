@@ -1,4 +1,4 @@
-ghost use Rattle.std.specs.Prelude.{◌≡◌, ◌∷◌, ◌+◌, ◌≤◌, length, replicate, codes};
+ghost use Rattle.std.specs.Prelude.{◌∷◌, ◌+◌, ◌≤◌, length, replicate, codes};
 ghost use Rattle.sacn_packet.specs.Name.{padded};
 ghost use Rattle.sacn_packet.specs.Wire.{IsData};
 

@@ -1,4 +1,4 @@
-use Rattle.std.proofs.Common.{◌≡◌, ◌<◌, ◌≤◌, ℕ, Bool, List, get_or}
+use Rattle.std.proofs.Common.{◌≡◌, ◌<◌, ℕ, Bool, List, get_or}
 use Rattle.std.specs.Prelude.{max}
 use Rattle.show_core.specs.Numbers.{AreLevels}
 use Rattle.show_core.specs.Tables.{Tables}

@@ -1,4 +1,4 @@
-use Rattle.std.proofs.Common.{◌≡◌, ℕ, ◌+◌, ◌*◌, ◌≤◌, IsTrue, List, get_or, sym, subst, ap, ◌∙◌}
+use Rattle.std.proofs.Common.{◌≡◌, ℕ, ◌+◌, ◌*◌, IsTrue, List, get_or, sym, subst, ap, ◌∙◌}
 use Rattle.std.proofs.Common.{take, arith}
 use Rattle.std.specs.Prelude.{All, map, max, unwrap_or}
 use Rattle.std.specs.Ordering.{nat_cmp}

@@ -1,4 +1,4 @@
-use Rattle.std.proofs.Common.{◌≡◌, ℕ, ◌+◌, ◌*◌, ◌<◌, ◌≤◌, get_or, take, length}
+use Rattle.std.proofs.Common.{◌≡◌, ℕ, ◌+◌, ◌*◌, ◌<◌, get_or, take, length}
 use Rattle.std.specs.Prelude.{map, max}
 use Rattle.show_core.specs.Numbers.{AreLevels}
 use Rattle.show_core.specs.Readers.{level_in}
