@@ -18,9 +18,9 @@ use Rattle.show_reader.specs.declared.fault.ShowFault.{ShowFault}
 use Rattle.show_reader.specs.declared.fault.ShowFault.TheVariants as show_fault
 use Rattle.show_reader.specs.Text.{Words, said_under, owner_below, statement_below, statements}
 use Rattle.show_reader.specs.Text.{lines_in, owns}
-use Rattle.show_reader.specs.Keys.{Key, There, Level, Up, Down, Follow, Dimmer, Answer, table_at}
+use Rattle.show_reader.specs.Keys.{Key, There, Level, Up, Down, Follow, Dimmer, Answer}
 use Rattle.show_reader.specs.Meaning.{News, Is, Gone, Silent, after, last_news, pair_says}
-use Rattle.show_reader.specs.Meaning.{triple_says, says, meaning, same_record, empties}
+use Rattle.show_reader.specs.Meaning.{triple_says, says, meaning, same_record}
 use Rattle.show_reader.specs.Reading.{fault_at, fault_below, first_fault, fault_of, ReadsAlike}
 use Rattle.show_reader.specs.Reading.{longest_text, IsAnswerWithin}
 use Rattle.show_reader.proofs.Found.{after_newer}
@@ -106,20 +106,14 @@ module _ (lim : Limits) where
 
   says_within : (owner : Option Record) (own : Bool) (s : Statement) → IsSaid lim owner own s
       → (k : Key) → IsNewsWithin lim k (says s k)
-  says_within owner own (Opens r) h (There q) =
-      if_within lim (There q) (same_record q r) _ (λ e. tt)
+  says_within owner own (Opens r) h (There q) = search (if_within)
   says_within owner own (Levels r ps) h k =
-      list_within lim k (IsPairWithin lim) (λ p. pair_says r p k) (λ p w. pair_within r p w k) ps
-      h.1
-  says_within owner own (Rises n rate) h (Up m) = if_within lim (Up m) (m == n) (Is rate) (λ e. tt)
-  says_within owner own (Falls n rate) h (Down m) =
-      if_within lim (Down m) (m == n) (Is rate) (λ e. tt)
-  says_within owner own (Follows n time) h (Follow m) =
-      if_within lim (Follow m) (m == n) (Is time) (λ e. tt)
-  says_within owner own (Patches ts) h k =
-      list_within lim k (IsTripleWithin lim) _ (λ t w. triple_within t w k) ts h
-  says_within owner own (Clears what) h k =
-      if_within lim k (empties what (table_at k)) Gone (λ e. tt)
+      list_within lim k (IsPairWithin lim) _ (λ p w. pair_within r p w k) ps h.1
+  says_within owner own (Rises n rate) h (Up m) = search (if_within)
+  says_within owner own (Falls n rate) h (Down m) = search (if_within)
+  says_within owner own (Follows n time) h (Follow m) = search (if_within)
+  says_within owner own (Patches ts) h k = list_within lim k _ _ (λ t w. triple_within t w k) ts h
+  says_within owner own (Clears what) h k = search (if_within)
   says_within owner own s h k = tt
 
   meaning_within : (lines : List Words) (k : Key)

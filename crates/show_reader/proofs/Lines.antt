@@ -180,8 +180,7 @@ module _ (lines : List Words) (l : Words) (r : Reader) (h : Reads lines r) where
   line_read d sound fine drafted ok settled =
       let ss = said_by lines in
       record {
-        shows =
-            λ k. ap (λ t. found t k) ok ∙ step ss s (meant r.draft) owner_here h.shows k;
+        shows = λ k. ap (λ t. found t k) ok ∙ step ss s (meant r.draft) owner_here h.shows k;
         drafted = drafted;
         settled = λ none.
             let below = none_grows s ss none in
@@ -191,8 +190,7 @@ module _ (lines : List Words) (l : Words) (r : Reader) (h : Reads lines r) where
         count =
             count_step ss s (meant r.draft) h.shows h.count ∙ ap (λ t. maps.len t.cues) (sym ok);
         number = omega (arith, h.number);
-        skipped =
-            omega (arith, h.skipped, sum_by-cons (λ t. cond (is_skipped t) 1 0) s ss);
+        skipped = omega (arith, h.skipped, sum_by-cons (λ t. cond (is_skipped t) 1 0) s ss);
       }
 
   -- why reading ends at it
