@@ -2,7 +2,7 @@ ghost use Rattle.std.specs.Prelude.{◌<◌};
 
 use crate::shows::{CUES, FADE, fading_show};
 use crate::timed::Timed;
-use anyhow::{Result, anyhow};
+use anyhow::Result;
 use desk_core::{Command, Desk, Refused};
 use fade_core::StepFader;
 use std::alloc::Global;
@@ -19,7 +19,7 @@ pub fn run_fading<R: AllocGlobal + Clock>(rt: &R, step: u16, ticks: u32) -> Resu
 {
     let mut desk = open(rt.alloc(), step)?;
     let began = Instant::now(rt)?;
-    fade(&mut desk, ticks).map_err(|refused| anyhow!("{refused:?}"))?;
+    fade(&mut desk, ticks)?;
     Ok(Timed::since(began, rt, u64::from(ticks), sum_of_slots(&desk))?)
 }
 
@@ -27,7 +27,7 @@ pub fn run_fading<R: AllocGlobal + Clock>(rt: &R, step: u16, ticks: u32) -> Resu
 pub fn run_idle<R: AllocGlobal + Clock>(rt: &R, ticks: u32) -> Result<Timed> {
     let mut desk = open(rt.alloc(), 1)?;
     let began = Instant::now(rt)?;
-    idle(&mut desk, ticks).map_err(|refused| anyhow!("{refused:?}"))?;
+    idle(&mut desk, ticks)?;
     Ok(Timed::since(began, rt, u64::from(ticks), sum_of_slots(&desk))?)
 }
 
@@ -35,7 +35,7 @@ fn open(alloc: Global, step: u16) -> Result<Desk<StepFader>>
     requires { 0 < step }
 {
     let show = fading_show(alloc, step)?;
-    Desk::open(alloc, &show, 1).map_err(|fault| anyhow!("{fault:?}"))
+    Ok(Desk::open(alloc, &show, 1)?)
 }
 
 // Ticks with a new fade once a minute.
@@ -51,11 +51,13 @@ fn fade(desk: &mut Desk<StepFader>, ticks: u32) -> Result<(), Refused> {
     Ok(())
 }
 
-// Ticks from the end of a fade on.
+// Ticks from the end of the first fade on.
 fn idle(desk: &mut Desk<StepFader>, ticks: u32) -> Result<(), Refused> {
     desk.command(0, Command::Go)?;
-    for tick in 0..ticks {
-        desk.tick(u64::from(FADE) + u64::from(TICK) * u64::from(tick))?;
+    let mut moment = u64::from(FADE);
+    for _ in 0..ticks {
+        desk.tick(moment)?;
+        moment = moment.wrapping_add(u64::from(TICK));
     }
     Ok(())
 }
