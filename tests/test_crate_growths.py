@@ -44,12 +44,7 @@ TESTED = {
     "stream_tests::source": Tested(("Sender::open",), EACH),
     "desk_tests::desk": Tested(("Desk::open",), EACH),
     "console_tests::world": Tested(("rehearse", "rehearse_briefly"), EACH),
-    "show_tests::reader": Tested(
-        ("read_show",),
-        (
-            *("any_order", "follow_faults", "lines_between", "show_texts", "skipped_lines"),
-        ),
-    ),
+    "show_tests::reader": Tested(("read_show",), ("any_order", "skipped_lines")),
     "console_tests::script": Tested(
         ("read_script",), ("first_malformed_line", "forms_at_their_limits", "strays")
     ),
@@ -70,13 +65,8 @@ TESTED = {
         ("rehearse_text",), ("devices_fail::each_device_fails", "rows::rehearse_basic")
     ),
 }
-# Whose growths are thousands of their own texts, or which take long.
-LEFT_OUT = {
-    "show_tests::reader": ("too_many_cues",),
-    "desk_tests::playback": ("every_millisecond",),
-    "program_tests::play": ("devices_fail::each_send_fails",),
-    "program_tests::rehearsal": ("window::window_edge", "window::window_wrap"),
-}
+# Which takes long.
+LEFT_OUT = {"program_tests::play": ("devices_fail::each_send_fails",)}
 # How a test fails: by a failed assertion, or by an error that it answers.
 ABORTED, ANSWERED = -signal.SIGABRT, 101
 WANT_OF_MEMORY = re.compile(r"error: (AllocError|AllocFailed|Memory)\b")

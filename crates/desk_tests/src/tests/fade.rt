@@ -1,7 +1,4 @@
-ghost use Rattle.std.specs.Prelude.{◌≡◌, ◌^◌, ◌<◌, ◌≤◌, IfOk, IsTrue, All};
-ghost use Rattle.std.specs.Ordering.{nat_cmp};
-ghost use Rattle.std.specs.FinMap.{is_sorted};
-ghost use Rattle.show_core.specs.Readers.{IsRateInRange};
+ghost use Rattle.std.specs.Prelude.{◌≡◌, ◌≤◌};
 
 use fade_core::{Fader, PlainFader, Rate, StepFader};
 use std::alloc::{AllocError, Global};
@@ -253,79 +250,6 @@ fn lists_arrived<F: Fader>(alloc: Global) -> Result<bool, AllocError> {
 fn moving_channels(rt: HostRuntime) -> Result<(), Fail> {
     assert!(rt; lists_started::<PlainFader>(rt.alloc())?);
     assert!(rt; lists_arrived::<StepFader>(rt.alloc())?);
-    Ok(())
-}
-
-// Numbers that look random, the same at each run.
-#[derive(Drop)]
-struct Random {
-    seed: u32,
-}
-
-impl Random {
-    // A number below 2^16.
-    fn next(&mut self) -> u32
-        ensures { result < 2 ^ 16 }
-    {
-        self.seed = self
-            .seed
-            .wrapping_mul(1_664_525)
-            .wrapping_add(1_013_904_223);
-        self.seed >> 16
-    }
-
-    // A time of up to two minutes, and a delay in every second case.
-    fn rate(&mut self) -> Rate
-        ensures { IsRateInRange result }
-    {
-        Rate {
-            time: 2 * self.next(),
-            delay: self.next().saturating_sub(0x8000) / 4,
-        }
-    }
-
-    // The channels from 1 to `last` at any levels.
-    fn look(&mut self, alloc: Global, last: u16) -> Result<Vec<(u16, u8)>, AllocError>
-        ensures ascending { IfOk result (λ look. IsTrue (is_sorted nat_cmp look.items)) }
-        ensures in_range { IfOk result (λ look.
-            All (λ pair. (1 ≤ pair.0) × (pair.0 ≤ last)) look.items) }
-    {
-        let mut look = Vec::new(alloc);
-        for place in 0..last {
-            look.push((place + 1, (self.next() >> 8) as u8))?;
-        }
-        Ok(look)
-    }
-}
-
-// Both faders are at the same levels after any starts and moments, with few channels that move and
-// with many.
-fn agree<F: Fader, G: Fader>(rt: &impl Abort, alloc: Global) -> Result<(), AllocError> {
-    let mut one = F::new(alloc, 1500)?;
-    let mut other = G::new(alloc, 1500)?;
-    let mut random = Random { seed: 1 };
-    let mut moment = 0;
-    for round in 0..100u32 {
-        moment += u64::from(random.next() / 2);
-        if round % 4 == 0 {
-            let last = if round % 3 == 0 { 1500 } else { 7 };
-            let look = random.look(alloc, last)?;
-            let up = random.rate();
-            let down = if round % 8 == 0 { up } else { random.rate() };
-            one.start(&look, up, down, moment);
-            other.start(&look, up, down, moment);
-        } else {
-            one.advance(moment);
-            other.advance(moment);
-        }
-        assert!(rt; one.levels() == other.levels(), "at {moment}");
-    }
-    Ok(())
-}
-
-#[test]
-fn same_levels(rt: HostRuntime) -> Result<(), Fail> {
-    agree::<PlainFader, StepFader>(&rt, rt.alloc())?;
     Ok(())
 }
 

@@ -102,27 +102,6 @@ fn group_highest(rt: HostRuntime) -> Result<(), Fail> {
     )
 }
 
-#[test]
-fn submaster_and_grand(rt: HostRuntime) -> Result<(), Fail> {
-    take_steps(
-        &rt,
-        rt.alloc(),
-        &[Part::Sub(1, 1, 128), Part::Sub(100, 2, 255)],
-        &[
-            Step::Sub(1, 128, Ok(())),
-            Step::Level(1, 0, 16384),
-            Step::Sub(1, 255, Ok(())),
-            Step::Level(1, 0, 32640),
-            Step::Level(1, 32640, 32640),
-            Step::Level(1, 65025, 65025),
-            Step::Sub(100, 2, Ok(())),
-            Step::Level(2, 0, 510),
-            Step::Grand(128),
-            Step::Level(1, 0, 32640),
-        ],
-    )
-}
-
 // Submaster 1 and group 500 share channel 1; floors of an earlier setting are written over.
 #[test]
 fn floors(rt: HostRuntime) -> Result<(), Fail> {
@@ -139,6 +118,7 @@ fn floors(rt: HostRuntime) -> Result<(), Fail> {
             Step::Sub(1, 0, Ok(())),
             Step::Group(500, 0, Ok(())),
             Step::Floors([0, 0, 0, 0]),
+            Step::Grand(128),
             Step::Level(1, 0, 0),
             Step::Sub(1, 255, Ok(())),
             Step::Group(500, 100, Ok(())),

@@ -156,38 +156,6 @@ fn frame_half(rt: HostRuntime) -> Result<(), Fail> {
     Ok(())
 }
 
-fn patch_whole_universes(show: &mut Show) -> Result<(), BuildFault> {
-    for place in 0..512 {
-        show.set_patch(513 + place, 4096 - 8 * place, 255)?;
-        show.set_patch(1025 + place, 1 + place, 255)?;
-    }
-    show.set_patch(1100, 0, 255)
-}
-
-// Each dimmer of the second universe is patched, at full, and all but one of the third.
-fn whole_show(alloc: Global) -> Result<Show, BuildFault> {
-    let mut show = Show::new(alloc);
-    patch_whole_universes(&mut show)?;
-    Ok(show)
-}
-
-#[test]
-fn whole_universe(rt: HostRuntime) -> Result<(), Fail> {
-    let rig = rig_of(rt.alloc(), whole_show(rt.alloc()))?;
-    let mut levels = [0; 4096];
-    for place in 0..4096 {
-        levels[place] = 255 * (place % 256) as u16;
-    }
-    let frames = drawn(&rt, &rig, &levels, 255);
-    for place in 0..512 {
-        let whole = (255 - 8 * place % 256) as u8;
-        let other = if place == 75 { 0 } else { (place % 256) as u8 };
-        let found = (frames[1][place], frames[2][place]);
-        assert!(rt; found == (whole, other), "place {place}");
-    }
-    Ok(())
-}
-
 // Some channels are at a level.
 fn put(levels: &mut [u16; 4096], channels: &[u16], level: u16) {
     for channel in channels {

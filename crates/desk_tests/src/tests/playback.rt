@@ -8,18 +8,6 @@ use std::alloc::{AllocError, Global};
 use std::process::Abort;
 use std::test::Fail;
 
-// Each millisecond passes.
-fn pass<F: Fader>(playback: &mut Playback<F>, show: &Show, from: u32, to: u32)
-    requires not_before { F.latest playback.old.fader ≤ from }
-    requires later { from ≤ to }
-    ensures { F.latest playback.new.fader ≡ to }
-{
-    for moment in from..to {
-        playback.advance(show, u64::from(moment));
-    }
-    playback.advance(show, u64::from(to));
-}
-
 fn levels<F: Fader>(playback: &Playback<F>) -> (u32, u32) {
     (playback.level(1), playback.level(2))
 }
@@ -31,7 +19,6 @@ enum Step {
     Goto(u32, Result<u32, NoMove>),
     Stop,
     Pass,
-    PassEachMillisecond,
     Due(bool),
     Current(Option<u32>),
     Levels(u32, u32),
@@ -59,10 +46,6 @@ fn holds<F: Fader>(
         }
         Step::Pass => {
             playback.advance(show, now);
-            true
-        }
-        Step::PassEachMillisecond => {
-            pass(playback, show, before, moment);
             true
         }
         Step::Due(due) => playback.is_due(now) == *due,
@@ -115,34 +98,6 @@ fn take_steps(
     Ok(())
 }
 
-// The first cue goes at 0 and the second at 10000; the first goes again at 11000.
-#[test]
-fn every_millisecond(rt: HostRuntime) -> Result<(), Fail> {
-    take_steps(
-        &rt,
-        rt.alloc(),
-        &[],
-        &[
-            (0, Step::Go(Ok(1000))),
-            (2500, Step::PassEachMillisecond),
-            (2500, Step::Levels(32512, 0)),
-            (2510, Step::PassEachMillisecond),
-            (2510, Step::Levels(32642, 0)),
-            (2525, Step::PassEachMillisecond),
-            (2525, Step::Levels(32837, 0)),
-            (5000, Step::PassEachMillisecond),
-            (5000, Step::Levels(65025, 0)),
-            (10000, Step::PassEachMillisecond),
-            (10000, Step::Go(Ok(2000))),
-            (11000, Step::PassEachMillisecond),
-            (11000, Step::Levels(48769, 32512)),
-            (11000, Step::Goto(1000, Ok(1000))),
-            (12000, Step::PassEachMillisecond),
-            (12000, Step::Levels(52020, 26010)),
-        ],
-    )
-}
-
 #[test]
 fn go_back_goto(rt: HostRuntime) -> Result<(), Fail> {
     let show = show_of(
@@ -185,59 +140,6 @@ fn follow_at_tick(rt: HostRuntime) -> Result<(), Fail> {
     )
 }
 
-#[test]
-fn follow_then_go(rt: HostRuntime) -> Result<(), Fail> {
-    take_steps(
-        &rt,
-        rt.alloc(),
-        &[Part::Follow(1000, 10000)],
-        &[
-            (0, Step::Go(Ok(1000))),
-            (10000, Step::Go(Err(NoMove::AtEnd))),
-            (10000, Step::Current(Some(1000))),
-            (11000, Step::Pass),
-            (11000, Step::Levels(48769, 32512)),
-        ],
-    )
-}
-
-#[test]
-fn follow_after_goto(rt: HostRuntime) -> Result<(), Fail> {
-    take_steps(
-        &rt,
-        rt.alloc(),
-        &[Part::Follow(1000, 10000)],
-        &[
-            (0, Step::Go(Ok(1000))),
-            (5000, Step::Goto(1000, Ok(1000))),
-            (10000, Step::Pass),
-            (10000, Step::Current(Some(1000))),
-            (15000, Step::Pass),
-            (15000, Step::Current(Some(2000))),
-            (16000, Step::Pass),
-            (16000, Step::Levels(48769, 32512)),
-        ],
-    )
-}
-
-#[test]
-fn follow_zero(rt: HostRuntime) -> Result<(), Fail> {
-    take_steps(
-        &rt,
-        rt.alloc(),
-        &[Part::Follow(1000, 0)],
-        &[
-            (0, Step::Go(Ok(1000))),
-            (0, Step::Current(Some(1000))),
-            (0, Step::Pass),
-            (0, Step::Current(Some(2000))),
-            (0, Step::Levels(0, 0)),
-            (1000, Step::Pass),
-            (1000, Step::Levels(0, 32512)),
-        ],
-    )
-}
-
 // No cue follows after a stop, until the next move.
 #[test]
 fn follow_after_stop(rt: HostRuntime) -> Result<(), Fail> {
@@ -255,39 +157,6 @@ fn follow_after_stop(rt: HostRuntime) -> Result<(), Fail> {
             (30000, Step::Current(Some(2000))),
         ],
     )
-}
-
-fn open_followed(show: &mut Show, n: u32) -> Result<(), BuildFault> {
-    show.open_cue(n)?;
-    set_follow(show, n, 0)
-}
-
-fn chain(alloc: Global) -> Result<Show, BuildFault> {
-    let mut show = Show::new(alloc);
-    for n in 1..2001 {
-        open_followed(&mut show, n)?;
-    }
-    Ok(show)
-}
-
-// Two thousand cues, each followed at once by the next, all go at one call.
-#[test]
-fn follow_chain(rt: HostRuntime) -> Result<(), Fail> {
-    let show = chain(rt.alloc())?;
-    take_both(
-        &rt,
-        rt.alloc(),
-        &show,
-        &[
-            (0, Step::Go(Ok(1))),
-            (0, Step::Go(Err(NoMove::AtEnd))),
-            (0, Step::Current(Some(1))),
-            (0, Step::Back(Ok(1999))),
-            (0, Step::Pass),
-            (0, Step::Current(Some(2000))),
-        ],
-    )?;
-    Ok(())
 }
 
 // The level of the last channel of a new playback; one that was refused is asked for once more.

@@ -2,7 +2,6 @@ mod devices_fail;
 mod faults;
 mod rows;
 mod scripts;
-mod window;
 
 use crate::tests::{Parts, joined};
 use cueplayer_faults::RunFault;

@@ -5,18 +5,6 @@ use std::test::Fail;
 
 const CUE: Option<Record> = Some(Record::Cue(1000));
 
-fn fault_of(line: &[u8]) -> Option<LineFault> {
-    match read_line(CUE, line) {
-        Some(
-            Reading {
-                statement: Statement::Faulty(fault),
-                ..
-            },
-        ) => Some(fault),
-        _ => None,
-    }
-}
-
 #[test]
 fn faults_in_words(rt: HostRuntime) -> Result<(), Fail> {
     for (fault, words) in &[
@@ -160,23 +148,6 @@ const LONG_PAIRS: [(u16, u8); 18] = [
     (17, 17),
     (18, 18),
 ];
-
-#[test]
-fn pairs_of_a_long_line(rt: HostRuntime) {
-    assert!(rt; has_pairs(LONG_LINE, &LONG_PAIRS));
-    for (line, fault) in &[
-        (
-            b"CHAN 1@1 2@1 3@1 4@1 5@1 6@1 7@1 8@1 9@1 1@1 2@1 3@1 4@1 5@1 6@1 7@1 8".as_slice(),
-            LineFault::HalfPair,
-        ),
-        (
-            b"CHAN 0@1 2@1 3@1 4@1 5@1 6@1 7@1 8@1 9@1 1@1 2@1 3@1 4@1 5@1 6@1 7@1 x@1",
-            LineFault::BadNumber,
-        ),
-    ] {
-        assert!(rt; fault_of(line) == Some(*fault), "{line:?}");
-    }
-}
 
 // Puts the pairs of the long line behind its first into a list.
 fn append_rest(list: &mut Vec<(u16, u8)>) -> Option<Result<(), AllocError>> {
