@@ -5,7 +5,7 @@ use crate::timed::Timed;
 use anyhow::Result;
 use desk_core::{Command, Desk, Refused};
 use fade_core::StepFader;
-use std::alloc::Global;
+use show_core::Show;
 use std::time::{Clock, Instant};
 
 // Milliseconds between two ticks.
@@ -13,29 +13,39 @@ const TICK: u32 = 25;
 
 const TICKS_OF_A_FADE: u32 = FADE / TICK;
 
+// What is timed of a desk.
+#[derive(Clone, Copy)]
+enum Ticks {
+    Fading,
+    Idle,
+}
+
 /// Ticks of a desk of eight universes with one channel in `step` moving; the things are ticks.
 pub fn run_fading<R: AllocGlobal + Clock>(rt: &R, step: u16, ticks: u32) -> Result<Timed>
     requires { 0 < step }
 {
-    let mut desk = open(rt.alloc(), step)?;
-    let began = Instant::now(rt)?;
-    fade(&mut desk, ticks)?;
-    Ok(Timed::since(began, rt, u64::from(ticks), sum_of_slots(&desk))?)
+    let show = fading_show(rt.alloc(), step)?;
+    run(rt, &show, Ticks::Fading, ticks)
 }
 
 /// Ticks of a desk of eight universes when its fade is over; the things are ticks.
 pub fn run_idle<R: AllocGlobal + Clock>(rt: &R, ticks: u32) -> Result<Timed> {
-    let mut desk = open(rt.alloc(), 1)?;
-    let began = Instant::now(rt)?;
-    idle(&mut desk, ticks)?;
-    Ok(Timed::since(began, rt, u64::from(ticks), sum_of_slots(&desk))?)
+    let show = fading_show(rt.alloc(), 1)?;
+    run(rt, &show, Ticks::Idle, ticks)
 }
 
-fn open(alloc: Global, step: u16) -> Result<Desk<StepFader>>
-    requires { 0 < step }
-{
-    let show = fading_show(alloc, step)?;
-    Ok(Desk::open(alloc, &show, 1)?)
+fn run<R: AllocGlobal + Clock>(rt: &R, show: &Show, kind: Ticks, ticks: u32) -> Result<Timed> {
+    let mut desk = Desk::open(rt.alloc(), show, 1)?;
+    time(rt, &mut desk, kind, ticks)
+}
+
+fn time<R: Clock>(rt: &R, desk: &mut Desk<StepFader>, kind: Ticks, ticks: u32) -> Result<Timed> {
+    let began = Instant::now(rt)?;
+    match kind {
+        Ticks::Fading => fade(desk, ticks)?,
+        Ticks::Idle => idle(desk, ticks)?,
+    }
+    Ok(Timed::since(began, rt, u64::from(ticks), sum_of_slots(desk))?)
 }
 
 // Ticks with a new fade once a minute.
