@@ -122,12 +122,12 @@ impl<F: Fader> Desk<F> {
         ensures universe { (result ≡ Err Universe) ↔ IsFalse (is_base show.now.patch base) }
     {
         let rig = Rig::new(alloc, show, base)?;
-        let show = show.clone_in(alloc)?;
-        let universes = universe_numbers(&show, rig.base());
-        let playback = Playback::new(alloc)?;
         let levels = vec![in alloc; 0; usize::from(CHANNELS)]?;
         let floors = vec![in alloc; 0; usize::from(CHANNELS)]?;
         let frames = dark_frames(alloc)?;
+        let playback = Playback::new(alloc)?;
+        let show = show.clone_in(alloc)?;
+        let universes = universe_numbers(&show, rig.base());
         Ok(Desk {
             show,
             rig,

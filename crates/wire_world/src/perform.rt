@@ -27,8 +27,8 @@ pub(crate) fn perform<F: Fader>(
         IfOk result (λ _. AreSources r.shows.now r.consoles.now) }
 {
     let last = last_wanted(rehearsal.events);
-    let mut stages: Vec<Stage<F>> = open_all(alloc, rehearsal.shows, rehearsal.consoles, last)?;
     let mut listeners = listen_all(alloc, rehearsal.receivers)?;
+    let mut stages: Vec<Stage<F>> = open_all(alloc, rehearsal.shows, rehearsal.consoles, last)?;
     run(
         alloc,
         stages.as_mut_slice(),
