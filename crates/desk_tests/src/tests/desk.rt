@@ -1,4 +1,4 @@
-use super::shows::{Part, add_parts, show_of, two_cues};
+use super::shows::{Part, TWO_CUES, show_of, show_with};
 use desk_core::{Command, Desk, Refused, Ticked};
 use fade_core::{Fader, PlainFader, StepFader};
 use patch_core::RigFault;
@@ -9,21 +9,13 @@ use std::test::Fail;
 
 const TOO_LARGE: u64 = 281_474_976_710_656;
 
-// The two cues, submaster 1 with channel 1 at half, and dimmers 1 and 2, which are patched to
-// channels 1 and 2 at full; then more parts.
-fn small_show(alloc: Global, more: &[Part]) -> Result<Show, BuildFault> {
-    let mut show = two_cues(alloc)?;
-    add_parts(
-        &mut show,
-        &[
-            Part::Sub(1, 1, 128),
-            Part::Patch(1, 1, 255),
-            Part::Patch(2, 2, 255),
-        ],
-    )?;
-    add_parts(&mut show, more)?;
-    Ok(show)
-}
+// Beside the two cues: submaster 1 with channel 1 at half, and dimmers 1 and 2, which are patched
+// to channels 1 and 2 at full.
+const MORE: &[Part] = &[
+    Part::Sub(1, 1, 128),
+    Part::Patch(1, 1, 255),
+    Part::Patch(2, 2, 255),
+];
 
 // Whether slots 1 and 2 of the first universe are these, and the others 0.
 fn has_slots<F: Fader>(desk: &Desk<F>, first: u8, second: u8) -> bool {
@@ -49,7 +41,6 @@ enum Step {
     Tick(u64, Result<Ticked, Refused>),
     Slots(u8, u8),
     Current(Option<u32>),
-    Universes(usize, Option<u16>),
 }
 
 fn holds<F: Fader>(desk: &mut Desk<F>, step: &Step) -> bool {
@@ -58,7 +49,6 @@ fn holds<F: Fader>(desk: &mut Desk<F>, step: &Step) -> bool {
         Step::Tick(moment, answer) => desk.tick(*moment) == *answer,
         Step::Slots(first, second) => has_slots(desk, *first, *second),
         Step::Current(cue) => desk.current() == *cue,
-        Step::Universes(count, first) => numbers(desk) == (*count, *first),
     }
 }
 
@@ -67,22 +57,25 @@ fn take_on<F: Fader>(
     rt: &impl Abort,
     alloc: Global,
     show: &Show,
-    base: u16,
     steps: &[Step],
 ) -> Result<(), RigFault> {
-    let mut desk: Desk<F> = Desk::open(alloc, show, base)?;
+    let mut desk: Desk<F> = Desk::open(alloc, show, 1)?;
     for (place, step) in steps.iter().enumerate() {
         assert!(rt; holds(&mut desk, step), "step {place}");
     }
     Ok(())
 }
 
-// A desk of the small show, with more parts, takes the steps, with each fader.
-fn take_steps(rt: &impl Abort, alloc: Global, more: &[Part], steps: &[Step]) -> Result<(), Fail> {
-    let show = small_show(alloc, more)?;
-    take_on::<PlainFader>(rt, alloc, &show, 1, steps)?;
-    take_on::<StepFader>(rt, alloc, &show, 1, steps)?;
+fn take_on_each(rt: &impl Abort, alloc: Global, show: &Show, steps: &[Step]) -> Result<(), Fail> {
+    take_on::<PlainFader>(rt, alloc, show, steps)?;
+    take_on::<StepFader>(rt, alloc, show, steps)?;
     Ok(())
+}
+
+// A desk of the small show takes the steps, with each fader.
+fn take_steps(rt: &impl Abort, alloc: Global, steps: &[Step]) -> Result<(), Fail> {
+    let show = show_with(alloc, TWO_CUES, MORE)?;
+    take_on_each(rt, alloc, &show, steps)
 }
 
 #[test]
@@ -90,7 +83,6 @@ fn desk_refusals(rt: HostRuntime) -> Result<(), Fail> {
     take_steps(
         &rt,
         rt.alloc(),
-        &[],
         &[
             Step::Tick(100, Ok(Ticked::Live)),
             Step::Order(99, Command::Go, Err(Refused::Backwards)),
@@ -111,7 +103,6 @@ fn after_end(rt: HostRuntime) -> Result<(), Fail> {
     take_steps(
         &rt,
         rt.alloc(),
-        &[],
         &[
             Step::Order(200, Command::End, Ok(())),
             Step::Order(TOO_LARGE, Command::Go, Err(Refused::MomentTooLarge)),
@@ -128,7 +119,6 @@ fn dark_before_first_tick(rt: HostRuntime) -> Result<(), Fail> {
     take_steps(
         &rt,
         rt.alloc(),
-        &[],
         &[
             Step::Slots(0, 0),
             Step::Order(0, Command::Sub(1, 255), Ok(())),
@@ -139,25 +129,25 @@ fn dark_before_first_tick(rt: HostRuntime) -> Result<(), Fail> {
     )
 }
 
-// A plain desk of a show of these parts takes the steps.
-fn take_plain(
+fn universes_of(alloc: Global, show: &Show, base: u16) -> Result<(usize, Option<u16>), RigFault> {
+    let desk: Desk<PlainFader> = Desk::open(alloc, show, base)?;
+    Ok(numbers(&desk))
+}
+
+// A desk of a show of these parts has so many universes at a base, the first of this number, or
+// the fault.
+fn have_universes(
     rt: &impl Abort,
     alloc: Global,
     parts: &[Part],
-    base: u16,
-    steps: &[Step],
-) -> Result<(), Fail> {
+    rows: &[(u16, Result<(usize, Option<u16>), RigFault>)],
+) -> Result<(), BuildFault> {
     let show = show_of(alloc, parts)?;
-    take_on::<PlainFader>(rt, alloc, &show, base, steps)?;
-    Ok(())
-}
-
-// No desk of a show of these parts has one of these bases.
-fn refuse(rt: &impl Abort, alloc: Global, parts: &[Part], bases: &[u16]) -> Result<(), BuildFault> {
-    let show = show_of(alloc, parts)?;
-    for base in bases {
-        let answer = take_on::<PlainFader>(rt, alloc, &show, *base, &[]);
-        assert!(rt; answer == Err(RigFault::Universe), "base {base}");
+    for (base, universes) in rows {
+        assert!(rt;
+            universes_of(alloc, &show, *base) == *universes,
+            "base {base}"
+        );
     }
     Ok(())
 }
@@ -165,14 +155,13 @@ fn refuse(rt: &impl Abort, alloc: Global, parts: &[Part], bases: &[u16]) -> Resu
 #[test]
 fn universe_limit(rt: HostRuntime) -> Result<(), Fail> {
     // Dimmer 1 was patched and is not any more.
-    take_plain(
+    have_universes(
         &rt,
         rt.alloc(),
         &[Part::Patch(1, 1, 255), Part::Patch(1, 0, 255)],
-        1,
-        &[Step::Universes(0, None)],
+        &[(1, Ok((0, None)))],
     )?;
-    take_plain(
+    have_universes(
         &rt,
         rt.alloc(),
         &[
@@ -180,18 +169,12 @@ fn universe_limit(rt: HostRuntime) -> Result<(), Fail> {
             Part::Patch(1, 0, 255),
             Part::Patch(513, 1, 255),
         ],
-        63998,
-        &[Step::Universes(1, Some(63999))],
-    )?;
-    refuse(
-        &rt,
-        rt.alloc(),
         &[
-            Part::Patch(1, 1, 255),
-            Part::Patch(1, 0, 255),
-            Part::Patch(513, 1, 255),
+            (63998, Ok((1, Some(63999)))),
+            (0, Err(RigFault::Universe)),
+            (63999, Err(RigFault::Universe)),
+            (64000, Err(RigFault::Universe)),
         ],
-        &[0, 63999, 64000],
     )?;
     Ok(())
 }
@@ -207,7 +190,7 @@ fn build_again(rt: &impl Abort, show: &mut Show) {
 }
 
 fn opens_dark(rt: &impl Abort, alloc: Global, show: &Show) -> Result<(), RigFault> {
-    take_on::<PlainFader>(rt, alloc, show, 1, &[Step::Slots(0, 0)])
+    take_on::<PlainFader>(rt, alloc, show, &[Step::Slots(0, 0)])
 }
 
 // It passes whichever of its growths is refused.

@@ -1,9 +1,9 @@
 ghost use Rattle.std.specs.Prelude.{◌≡◌, ◌<◌, ◌≤◌};
 
-use super::shows::{Part, add_parts, set_follow, show_of, two_cues};
+use super::shows::{Part, TWO_CUES, show_of, show_with};
 use fade_core::{Fader, PlainFader, StepFader};
 use playback_core::{NoMove, Playback};
-use show_core::{BuildFault, Show};
+use show_core::Show;
 use std::alloc::{AllocError, Global};
 use std::process::Abort;
 use std::test::Fail;
@@ -80,9 +80,10 @@ fn take_both(
     alloc: Global,
     show: &Show,
     steps: &[(u32, Step)],
-) -> Result<(), AllocError> {
+) -> Result<(), Fail> {
     take_on::<PlainFader>(rt, alloc, show, steps)?;
-    take_on::<StepFader>(rt, alloc, show, steps)
+    take_on::<StepFader>(rt, alloc, show, steps)?;
+    Ok(())
 }
 
 // The same with the show of the two cues and more parts.
@@ -92,10 +93,8 @@ fn take_steps(
     more: &[Part],
     steps: &[(u32, Step)],
 ) -> Result<(), Fail> {
-    let mut show = two_cues(alloc)?;
-    add_parts(&mut show, more)?;
-    take_both(rt, alloc, &show, steps)?;
-    Ok(())
+    let show = show_with(alloc, TWO_CUES, more)?;
+    take_both(rt, alloc, &show, steps)
 }
 
 #[test]
@@ -119,8 +118,7 @@ fn go_back_goto(rt: HostRuntime) -> Result<(), Fail> {
             (0, Step::Goto(1750, Err(NoMove::NoCue))),
             (0, Step::Current(Some(1500))),
         ],
-    )?;
-    Ok(())
+    )
 }
 
 #[test]

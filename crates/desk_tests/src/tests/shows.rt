@@ -64,7 +64,7 @@ fn set_down(show: &mut Show, n: u32, time: u16) -> Result<(), BuildFault> {
     Ok(())
 }
 
-pub fn set_follow(show: &mut Show, n: u32, time: u16) -> Result<(), BuildFault> {
+fn set_follow(show: &mut Show, n: u32, time: u16) -> Result<(), BuildFault> {
     if show.cue(n).is_none() {
         return Err(BuildFault::Limit);
     }
@@ -86,32 +86,37 @@ fn add(show: &mut Show, part: &Part) -> Result<(), BuildFault> {
 }
 
 // Adds the parts, one after the other. One that cannot be there is a fault.
-pub fn add_parts(show: &mut Show, parts: &[Part]) -> Result<(), BuildFault> {
+fn add_parts(show: &mut Show, parts: &[Part]) -> Result<(), BuildFault> {
     for part in parts {
         add(show, part)?;
     }
     Ok(())
 }
 
-pub fn show_of(alloc: Global, parts: &[Part]) -> Result<Show, BuildFault> {
+fn add_all(show: &mut Show, parts: &[Part], more: &[Part]) -> Result<(), BuildFault> {
+    add_parts(show, parts)?;
+    add_parts(show, more)
+}
+
+// A show of these parts, and then of more.
+pub fn show_with(alloc: Global, parts: &[Part], more: &[Part]) -> Result<Show, BuildFault> {
     let mut show = Show::new(alloc);
-    add_parts(&mut show, parts)?;
+    add_all(&mut show, parts, more)?;
     Ok(show)
+}
+
+pub fn show_of(alloc: Global, parts: &[Part]) -> Result<Show, BuildFault> {
+    show_with(alloc, parts, &[])
 }
 
 // Cue 1 brings channel 1 to full over five seconds; cue 2 brings channel 2 to full over two, and
 // channel 1 out over four.
-pub fn two_cues(alloc: Global) -> Result<Show, BuildFault> {
-    show_of(
-        alloc,
-        &[
-            Part::Cue(1000),
-            Part::Full(1000, 1),
-            Part::Cue(2000),
-            Part::Full(2000, 2),
-            Part::Up(1000, 5000),
-            Part::Up(2000, 2000),
-            Part::Down(2000, 4000),
-        ],
-    )
-}
+pub const TWO_CUES: &[Part] = &[
+    Part::Cue(1000),
+    Part::Full(1000, 1),
+    Part::Cue(2000),
+    Part::Full(2000, 2),
+    Part::Up(1000, 5000),
+    Part::Up(2000, 2000),
+    Part::Down(2000, 4000),
+];
