@@ -40,23 +40,36 @@ fn is_cured(
     place: usize,
     fitting: &str,
 ) -> Result<bool, AllocError> {
-    let mut cured = Vec::with_capacity(alloc, words.len())?;
-    for (at, word) in words.iter().enumerate() {
-        let mut copy = String::new(alloc);
-        if at != place {
-            copy.push_str(word.as_str())?;
-        } else {
-            if let Some((option, _)) = word.as_str().split_once('=') {
-                copy.push_str(option)?;
-                copy.push_str("=")?;
-            }
-            copy.push_str(fitting)?;
-        }
-        cured.push(copy)?;
-    }
+    let cured = cured(alloc, words, place, fitting)?;
     match read_words(alloc, cured.as_slice()) {
         Ok(_) => Ok(true),
         Err(WordsFault::Memory) => Err(AllocError),
         Err(_) => Ok(false),
+    }
+}
+
+fn cured(
+    alloc: Global,
+    words: &[String],
+    place: usize,
+    fitting: &str,
+) -> Result<Vec<String>, AllocError> {
+    let mut cured = Vec::with_capacity(alloc, words.len())?;
+    for (at, word) in words.iter().enumerate() {
+        let word = word.as_str();
+        let copy = if at == place {
+            cured_word(alloc, word, fitting)
+        } else {
+            String::from_str(alloc, word)
+        };
+        cured.push(copy?)?;
+    }
+    Ok(cured)
+}
+
+fn cured_word(alloc: Global, word: &str, fitting: &str) -> Result<String, AllocError> {
+    match word.split_once('=') {
+        Some((option, _)) => format!(in alloc; "{option}={fitting}"),
+        None => String::from_str(alloc, fitting),
     }
 }
