@@ -44,7 +44,9 @@ TESTED = {
     "stream_tests::source": Tested(("Sender::open",), EACH),
     "desk_tests::desk": Tested(("Desk::open",), EACH),
     "console_tests::world": Tested(("rehearse", "rehearse_briefly"), EACH),
-    "show_tests::reader": Tested(("read_show",), ("any_order", "skipped_lines")),
+    "show_tests::reader": Tested(
+        ("read_show",), ("any_order", "lines_between", "skipped_lines")
+    ),
     "console_tests::script": Tested(
         ("read_script",), ("first_malformed_line", "forms_at_their_limits", "strays")
     ),

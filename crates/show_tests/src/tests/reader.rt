@@ -81,3 +81,28 @@ fn has_left(show: &Show, levels: &[(u16, u8)], patch: &[(u16, (u16, u8))]) -> bo
 fn has_masters(show: &Show, sub: &[(u16, u8)], group: &[(u16, u8)]) -> bool {
     show.sub(4) == Some(sub) && show.group(7) == Some(group)
 }
+
+// Whether cue 2 has these levels, up and down times, and a follow-on time.
+fn has_cue_2(show: &Show, levels: &[(u16, u8)], times: (u32, u32, u32)) -> bool {
+    match show.cue(2000) {
+        Some(cue) => {
+            cue.pairs() == levels
+                && (cue.up().time, cue.down().time) == (times.0, times.1)
+                && cue.follow() == Some(times.2)
+        }
+        None => false,
+    }
+}
+
+// The lines of a record that is opened again add to it, whatever stands between them.
+#[test]
+fn lines_between(rt: HostRuntime) -> Result<(), Fail> {
+    let text = b"CUE 2\nCHAN 4@H4 2@H2\nUP 5\nCHAN 3@H3\nPATCH 1 1<8@H1\nCUE 1\nCHAN 2@FL\n\
+        CUE 2\nCHAN 1@H1 4@H5\nDOWN 6\nPATCH 1 2<7@H2 0<8@0\nGROUP 1\nCUE 2\nFOLLOWON 7\n\
+        CHAN 3@H4\n";
+    let loaded = read(rt.alloc(), text)?;
+    let levels = [(1, 1), (2, 2), (3, 4), (4, 5)];
+    assert!(rt; has_cue_2(&loaded.show, &levels, (5000, 6000, 7000)));
+    assert!(rt; has_left(&loaded.show, &[(2, 255)], &[(7, (2, 2))]));
+    Ok(())
+}
