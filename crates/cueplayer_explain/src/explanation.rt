@@ -1,14 +1,16 @@
-ghost use Rattle.std.specs.Prelude.{◌≡◌, ◌++◌, OnOk, flat_map, map};
-ghost use Rattle.std.specs.Prelude.{string_bytes};
+ghost use Rattle.std.specs.Prelude.{◌≡◌, ◌<◌, ◌^◌, ◌++◌, ℕ, List, length, take, reverse, map};
+ghost use Rattle.std.specs.Prelude.{flat_map, string_bytes, IfOk, OnOk};
+ghost use Rattle.ascii_text.specs.Text.{lines_of};
 ghost use Rattle.cueplayer_runs.specs.Faults.{CheckFails, ReadsFirst};
 ghost use Rattle.cueplayer_runs.specs.Prints.{PrintsTo};
 ghost use Rattle.cueplayer_explain.specs.Explained.{IsExplanationOf, note_line};
+ghost use Rattle.cueplayer_explain.specs.Skipped.{explained};
 
 use crate::notes::notes_on;
 use crate::skipped::skipped_lines;
 use cueplayer_faults::RunFault;
 use devices::Output;
-use show_reader::read_show;
+use show_reader::{Loaded, read_show};
 use std::alloc::{AllocError, Global};
 
 /// Prints why lines of a show text are skipped: for each of them a line with its number, the
@@ -27,11 +29,21 @@ pub fn explain<W: Output>(alloc: Global, show: &[u8], out: &mut W) -> Result<(),
     ensures reads { ReadsFirst show.now (CheckFails show.now) result }
 {
     let loaded = read_show(alloc, show)?;
+    let text = explanation(alloc, show, &loaded)?;
+    out.write(text.as_slice())?;
+    Ok(())
+}
+
+fn explanation(alloc: Global, show: &[u8], loaded: &Loaded) -> Result<Vec<u8>, AllocError>
+    requires { length show.now < 2 ^ 32 }
+    ensures { IfOk result (λ text. (notes : List (List ℕ))
+        × (text.items ≡ explained (reverse (take loaded.now.lines (lines_of show.now)))
+        ++ flat_map note_line notes)) }
+{
     let mut text = skipped_lines(alloc, show, loaded.lines)?;
     let notes = notes_on(alloc, show, &loaded.show)?;
     push_notes(&mut text, notes.as_slice())?;
-    out.write(text.as_slice())?;
-    Ok(())
+    Ok(text)
 }
 
 fn push_notes(text: &mut Vec<u8>, notes: &[String]) -> Result<(), AllocError>

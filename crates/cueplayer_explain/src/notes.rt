@@ -25,27 +25,32 @@ pub fn notes_on(alloc: Global, text: &[u8], show: &Show) -> Result<Vec<String>, 
         (show.patch().is_empty(), NO_PATCH),
     ] {
         if applies {
-            notes.push(String::from_str(alloc, note)?)?;
+            push_note(alloc, &mut notes, note)?;
         }
     }
     if !show.patch().is_empty() {
-        let patched = patched_channels(show);
-        let cues = dark_cues(alloc, show, &patched)?;
-        push_list(
-            alloc,
-            &mut notes,
-            "cues of which no channel is patched:",
-            &cues,
-        )?;
-        let channels = dark_channels(alloc, show, &patched)?;
-        push_list(
-            alloc,
-            &mut notes,
-            "channels of cues that are patched nowhere:",
-            &channels,
-        )?;
+        push_dark(alloc, &mut notes, show)?;
     }
     Ok(notes)
+}
+
+fn push_note(alloc: Global, notes: &mut Vec<String>, note: &str) -> Result<(), AllocError> {
+    notes.push(String::from_str(alloc, note)?)?;
+    Ok(())
+}
+
+// Notes on cues and channels that no dimmer shows.
+fn push_dark(alloc: Global, notes: &mut Vec<String>, show: &Show) -> Result<(), AllocError> {
+    let patched = patched_channels(show);
+    let cues = dark_cues(alloc, show, &patched)?;
+    push_list(alloc, notes, "cues of which no channel is patched:", &cues)?;
+    let channels = dark_channels(alloc, show, &patched)?;
+    push_list(
+        alloc,
+        notes,
+        "channels of cues that are patched nowhere:",
+        &channels,
+    )
 }
 
 // A mark, or a zero in the first character, as all ASCII has in UTF-16.
