@@ -4,3 +4,4 @@ pub mod Run
 pub mod Stage
 pub mod Play
 pub mod Untold
+pub mod Opened

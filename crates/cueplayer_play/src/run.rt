@@ -1,6 +1,7 @@
-ghost use Rattle.std.specs.Prelude.{◌≡◌, true, false};
+ghost use Rattle.std.specs.Prelude.{◌≡◌, true, false, IfOk, IfErr};
 ghost use Rattle.cueplayer_play.specs.Play.{Begins, Plays, has_begun};
 ghost use Rattle.show_reader.specs.ItsShow.{OfItsShow};
+ghost use Rattle.cueplayer_play.specs.Opened.{IsOpened, Refuses};
 ghost use Rattle.cueplayer_play.specs.Run.{emitted};
 
 use crate::fault::PlayFault;
@@ -56,16 +57,29 @@ pub fn play<F: Fader, R: Feed, L: Link, W: Output>(
     ensures told_link { L.tells link.new → L.tells link.old }
     ensures told_output { W.tells out.new → W.tells out.old }
 {
-    let loaded = read_show(alloc, show)?;
-    let console: Console<F> = match Console::open(alloc, &loaded.show, base, identity) {
-        Ok(console) => console,
-        Err(RigFault::Universe) => return Err(RunFault::Base),
-        Err(RigFault::Memory) => return Err(RunFault::Memory),
-    };
+    let console: Console<F> = open(alloc, show, identity, base)?;
     match play_lines(console, input, link, out) {
         Ok(0) => Ok(()),
         Ok(lost) => Err(RunFault::Lost(lost)),
         Err(PlayFault::Line(line)) => Err(RunFault::Line(line)),
         Err(PlayFault::Device) => Err(RunFault::Device),
+    }
+}
+
+// A console for the show of a text. It has a copy of the show: what was read is let go.
+fn open<F: Fader>(
+    alloc: Global,
+    show: &[u8],
+    identity: Identity,
+    base: u16,
+) -> Result<Console<F>, RunFault>
+    ensures opened { IfOk result (λ console. IsOpened F.stands_for console show.now base identity) }
+    ensures refused { IfErr result (λ fault. Refuses fault show.now base) }
+{
+    let loaded = read_show(alloc, show)?;
+    match Console::open(alloc, &loaded.show, base, identity) {
+        Ok(console) => Ok(console),
+        Err(RigFault::Universe) => Err(RunFault::Base),
+        Err(RigFault::Memory) => Err(RunFault::Memory),
     }
 }
