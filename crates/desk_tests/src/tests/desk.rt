@@ -193,13 +193,17 @@ fn opens_dark(rt: &impl Abort, alloc: Global, show: &Show) -> Result<(), RigFaul
     take_on::<PlainFader>(rt, alloc, show, &[Step::Slots(0, 0)])
 }
 
+fn open_again(rt: &impl Abort, alloc: Global, show: &Show) {
+    if let Err(fault) = opens_dark(rt, alloc, show) {
+        assert!(rt; fault == RigFault::Memory);
+        assert!(rt; opens_dark(rt, alloc, show).is_ok());
+    }
+}
+
 // It passes whichever of its growths is refused.
 #[test]
 fn each_growth_refused(rt: HostRuntime) {
     let mut show = Show::new(rt.alloc());
     build_again(&rt, &mut show);
-    if let Err(fault) = opens_dark(&rt, rt.alloc(), &show) {
-        assert!(rt; fault == RigFault::Memory);
-        assert!(rt; opens_dark(&rt, rt.alloc(), &show).is_ok());
-    }
+    open_again(&rt, rt.alloc(), &show);
 }

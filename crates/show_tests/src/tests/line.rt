@@ -1,9 +1,21 @@
 use show_core::Rate;
 use show_line::{Keyword, LineFault, Reading, Record, Statement, Triple, read_line};
-use std::alloc::AllocError;
+use std::alloc::{AllocError, Global};
 use std::test::Fail;
 
 const CUE: Option<Record> = Some(Record::Cue(1000));
+
+// Whether a fault reads so.
+fn is_told(alloc: Global, fault: LineFault, words: &str) -> Result<bool, AllocError> {
+    let told = format!(in alloc; "{fault}")?;
+    Ok(told.as_str() == words)
+}
+
+// Whether this stands in what is read of a line, as it is shown to a programmer.
+fn is_debugged(alloc: Global, line: &[u8], words: &str) -> Result<bool, AllocError> {
+    let told = format!(in alloc; "{:?}", read_line(CUE, line))?;
+    Ok(told.contains(words))
+}
 
 #[test]
 fn faults_in_words(rt: HostRuntime) -> Result<(), Fail> {
@@ -17,15 +29,13 @@ fn faults_in_words(rt: HostRuntime) -> Result<(), Fail> {
         (LineFault::HalfTriple, "an unfinished triple"),
         (LineFault::Limit, "beyond a limit"),
     ] {
-        let told = format!(in rt.alloc(); "{fault}")?;
-        assert!(rt; told.as_str() == *words, "{told}");
+        assert!(rt; is_told(rt.alloc(), *fault, words)?, "{words}");
     }
     for (line, debugged) in &[
         (b"GROUP 500".as_slice(), "Group(500)"),
         (b"CHAN 7@H9", "(7, 9)"),
     ] {
-        let told = format!(in rt.alloc(); "{:?}", read_line(CUE, line))?;
-        assert!(rt; told.contains(debugged), "{told}");
+        assert!(rt; is_debugged(rt.alloc(), line, debugged)?, "{debugged}");
     }
     Ok(())
 }
@@ -36,6 +46,11 @@ fn opens(line: &[u8], opened: Option<Record>, keyword: Keyword) -> bool {
         Some(reading) => reading.statement.opened() == opened && reading.keyword == keyword,
         None => false,
     }
+}
+
+// Whether a line is blank.
+fn is_blank(line: &[u8]) -> bool {
+    read_line(CUE, line).is_none()
 }
 
 #[test]
@@ -60,7 +75,7 @@ fn opened_records(rt: HostRuntime) {
     ] {
         assert!(rt; opens(line, *opened, *keyword), "{line:?}");
     }
-    assert!(rt; read_line(CUE, b" , ! CUE 1").is_none());
+    assert!(rt; is_blank(b" , ! CUE 1"));
 }
 
 #[test]

@@ -50,8 +50,8 @@ fn skipped_lines(rt: HostRuntime) -> Result<(), Fail> {
         groups: 0,
         dimmers: 0,
     };
-    assert!(rt; sizes(&loaded) == (8, 5, counts));
-    assert!(rt; has_left(&loaded.show, &[(1, 255), (2, 128)], &[]));
+    let levels = [(1, 255), (2, 128)];
+    assert!(rt; sizes(&loaded) == (8, 5, counts) && has_left(&loaded.show, &levels, &[]));
     Ok(())
 }
 
@@ -64,8 +64,10 @@ fn any_order(rt: HostRuntime) -> Result<(), Fail> {
     let loaded = read(rt.alloc(), text)?;
     let levels = [(1, 1), (2, 2), (3, 0), (5, 5), (7, 7), (9, 9)];
     let patch = [(1, (3, 4)), (2, (5, 5)), (9, (4, 3))];
-    assert!(rt; has_left(&loaded.show, &levels, &patch));
-    assert!(rt; has_masters(&loaded.show, &[(4, 4), (8, 7)], &[(2, 2), (3, 3)]));
+    assert!(rt;
+        has_left(&loaded.show, &levels, &patch)
+            && has_masters(&loaded.show, &[(4, 4), (8, 7)], &[(2, 2), (3, 3)])
+    );
     Ok(())
 }
 
@@ -102,7 +104,9 @@ fn lines_between(rt: HostRuntime) -> Result<(), Fail> {
         CHAN 3@H4\n";
     let loaded = read(rt.alloc(), text)?;
     let levels = [(1, 1), (2, 2), (3, 4), (4, 5)];
-    assert!(rt; has_cue_2(&loaded.show, &levels, (5000, 6000, 7000)));
-    assert!(rt; has_left(&loaded.show, &[(2, 255)], &[(7, (2, 2))]));
+    assert!(rt;
+        has_cue_2(&loaded.show, &levels, (5000, 6000, 7000))
+            && has_left(&loaded.show, &[(2, 255)], &[(7, (2, 2))])
+    );
     Ok(())
 }

@@ -55,10 +55,9 @@ fn open_cues(show: &mut Show, numbers: &[u32]) -> Result<(), BuildFault> {
     Ok(())
 }
 
-#[test]
-fn cues_in_order(rt: HostRuntime) -> Result<(), Fail> {
-    let mut show = Show::new(rt.alloc());
-    open_cues(&mut show, &[2000, 1500, 1000])?;
+// Three cues, the highest first, and which are next to a number.
+fn order_cues(rt: &impl Abort, show: &mut Show) -> Result<(), BuildFault> {
+    open_cues(show, &[2000, 1500, 1000])?;
     for (n, next, before) in &[
         (0, Some(1000), None),
         (1000, Some(1500), None),
@@ -74,6 +73,13 @@ fn cues_in_order(rt: HostRuntime) -> Result<(), Fail> {
     Ok(())
 }
 
+#[test]
+fn cues_in_order(rt: HostRuntime) -> Result<(), Fail> {
+    let mut show = Show::new(rt.alloc());
+    order_cues(&rt, &mut show)?;
+    Ok(())
+}
+
 // Two submasters, groups and dimmers each, the higher one first, and a level in one of each.
 fn two_of_each(rt: &impl Abort, show: &mut Show) -> Result<(), BuildFault> {
     for n in &[100, 2] {
@@ -85,23 +91,33 @@ fn two_of_each(rt: &impl Abort, show: &mut Show) -> Result<(), BuildFault> {
     light_group(rt, show, 500, 5, 255)
 }
 
+// Whether these are the submasters of a show, each with its level of channel 1.
+fn has_subs(show: &Show, wanted: [(u16, u8); 2]) -> bool {
+    show.subs()
+        .iter()
+        .map(|sub| (sub.0, sub.1.level(1)))
+        .eq(wanted)
+}
+
+// The same of its groups and of channel 5.
+fn has_groups(show: &Show, wanted: [(u16, u8); 2]) -> bool {
+    show.groups()
+        .iter()
+        .map(|group| (group.0, group.1.level(5)))
+        .eq(wanted)
+}
+
+fn has_two_of_each(show: &Show) -> bool {
+    has_subs(show, [(2, 128), (100, 0)])
+        && has_groups(show, [(402, 0), (500, 255)])
+        && show.patch() == [(8092, (4096, 7)), (8190, (4096, 7))].as_slice()
+}
+
 #[test]
 fn records_of_a_show(rt: HostRuntime) -> Result<(), Fail> {
     let mut show = Show::new(rt.alloc());
     two_of_each(&rt, &mut show)?;
-    assert!(rt;
-        show.subs()
-            .iter()
-            .map(|sub| (sub.0, sub.1.level(1)))
-            .eq([(2, 128), (100, 0)])
-    );
-    assert!(rt;
-        show.groups()
-            .iter()
-            .map(|group| (group.0, group.1.level(5)))
-            .eq([(402, 0), (500, 255)])
-    );
-    assert!(rt; show.patch() == [(8092, (4096, 7)), (8190, (4096, 7))].as_slice());
+    assert!(rt; has_two_of_each(&show));
     Ok(())
 }
 
@@ -125,10 +141,7 @@ fn look_show(rt: &impl Abort, show: &mut Show) -> Result<(), BuildFault> {
     Ok(())
 }
 
-#[test]
-fn looks_of_each_universe(rt: HostRuntime) -> Result<(), Fail> {
-    let mut show = Show::new(rt.alloc());
-    look_show(&rt, &mut show)?;
+fn look_at_each(rt: &impl Abort, show: &Show) {
     assert!(rt; show.universes().as_slice() == [0, 1, 15].as_slice());
     for (ordinal, place, byte) in &[
         (0, 0, 64),
@@ -140,10 +153,17 @@ fn looks_of_each_universe(rt: HostRuntime) -> Result<(), Fail> {
         (15, 511, 255),
     ] {
         assert!(rt;
-            slot(&show, *ordinal, *place) == Some(*byte),
+            slot(show, *ordinal, *place) == Some(*byte),
             "place {place} of {ordinal}"
         );
     }
+}
+
+#[test]
+fn looks_of_each_universe(rt: HostRuntime) -> Result<(), Fail> {
+    let mut show = Show::new(rt.alloc());
+    look_show(&rt, &mut show)?;
+    look_at_each(&rt, &show);
     Ok(())
 }
 
@@ -212,10 +232,14 @@ fn copied(rt: &impl Abort, alloc: Global, show: &Show) -> Show {
     }
 }
 
-// It passes whichever of its growths is refused.
-#[test]
-fn each_growth_refused(rt: HostRuntime) {
-    let mut show = Show::new(rt.alloc());
+// Whether the copy of a show has as much of each kind.
+fn copies(rt: &impl Abort, alloc: Global, show: &Show) -> bool {
+    let copy = copied(rt, alloc, show);
+    sizes(&copy) == sizes(show)
+}
+
+// Each growth once.
+fn grow_each(rt: &impl Abort, show: &mut Show) {
     for growth in &[
         Growth::Cue,
         Growth::CueLevel,
@@ -229,15 +253,25 @@ fn each_growth_refused(rt: HostRuntime) {
         Growth::GroupLevels,
         Growth::Patches,
     ] {
-        assert!(rt; grows(&rt, &mut show, *growth));
+        assert!(rt; grows(rt, show, *growth));
     }
+}
+
+// Whether a show has what all growths leave.
+fn has_grown(show: &Show) -> bool {
     let one = Counts {
         cues: 1,
         subs: 1,
         groups: 1,
         dimmers: 300,
     };
-    assert!(rt; sizes(&show) == (one, Some(5), Some(300), Some(300)));
-    let copy = copied(&rt, rt.alloc(), &show);
-    assert!(rt; sizes(&copy) == sizes(&show));
+    sizes(show) == (one, Some(5), Some(300), Some(300))
+}
+
+// It passes whichever of its growths is refused.
+#[test]
+fn each_growth_refused(rt: HostRuntime) {
+    let mut show = Show::new(rt.alloc());
+    grow_each(&rt, &mut show);
+    assert!(rt; has_grown(&show) && copies(&rt, rt.alloc(), &show));
 }
