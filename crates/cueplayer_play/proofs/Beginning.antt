@@ -28,3 +28,8 @@ began show base s r x faultless is opened iff = (
   of_its_show show (λ t. IsTrue (is_base t.patch base)) s is
       (is_based (is_base s.patch base) r x opened iff),
 )
+
+-- what follows for any show from what holds of it follows for the show of a text
+pub of_each : (show : List ℕ) (P Q : Tables → Type 0) → OfItsShow show P
+    → ((s : Tables) → P s → Q s) → OfItsShow show Q
+of_each show P Q h step = (h.0, λ s is. step s (h.1 s is))
