@@ -31,7 +31,6 @@ BUILDERS = ("open_cue", "open_sub", "open_group", "set_patch")
 BUILDERS += ("cue_level", "sub_level", "group_level")
 BUILDERS += ("cue_levels", "sub_levels", "group_levels", "set_patches")
 EACH = ("each_growth_refused",)
-WORDS_OF = ("explain", "listen", "live", "look_one", "play", "rehearse", "slots")
 TESTED = {
     "show_tests::show": Tested((*(f"Show::{name}" for name in BUILDERS), "Show::clone_in"), EACH),
     "show_tests::line": Tested(("Pairs::append_to",), ("pairs_appended",)),
@@ -50,15 +49,11 @@ TESTED = {
     "console_tests::script": Tested(
         ("read_script",), ("first_malformed_line", "forms_at_their_limits", "strays")
     ),
-    "program_tests::words": Tested(
-        ("read_words",), ("look_words", *(f"words_of_{job}" for job in WORDS_OF))
-    ),
     "program_tests::runs": Tested(
         ("check", "look", "slots"),
         (
-            *("check_rows", "each_device_fails", "look_missing_cue", "look_rows"),
-            *("look_two_universes", "slots_rows", "listening::each_device_of_listen_fails"),
-            *("listening::every_reply", "listening::listen_three", "listening::long_datagrams"),
+            *("each_device_fails", "look_one", "listening::each_device_of_listen_fails"),
+            "listening::listen_three",
         ),
     ),
     "program_tests::explain": Tested(("explain",), ("faults", "notes")),
@@ -67,6 +62,8 @@ TESTED = {
         ("rehearse_text",), ("devices_fail::each_device_fails", "rows::rehearse_basic")
     ),
 }
+# Public calls whose growths are refused in the program alone, and the test that refuses them.
+IN_THE_PROGRAM = {"read_words": "test_refused_growths.RefusedGrowths.test_words"}
 # Which takes long.
 LEFT_OUT = {"program_tests::play": ("devices_fail::each_send_fails",)}
 # How a test fails: by a failed assertion, or by an error that it answers.
@@ -148,8 +145,10 @@ class CrateGrowths(Growths):
         calls = [call for calls in all_calls().values() for call in calls]
         growing = {call.name(): call.said for call in calls if call.may_grow()}
         listed = {name: place for place, tested in TESTED.items() for name in tested.calls}
-        self.assertEqual(sorted(growing), sorted(listed))
+        self.assertEqual(sorted(growing), sorted([*listed, *IN_THE_PROGRAM]))
         beside = {said: only_tested for _, said, (_, only_tested) in rows(PAGE.read_text())}
+        for name, test in IN_THE_PROGRAM.items():
+            self.assertIn(f"`{test}`", beside[growing[name]])
         for name, place in listed.items():
             with self.subTest(name):
                 crate, module = place.split("::")

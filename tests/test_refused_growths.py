@@ -91,9 +91,18 @@ class RefusedGrowths(Growths):
         self.assertEachRefused(["rehearse", self.show, script], b"")
 
     def test_words(self):
-        for words in (["--help"], ["look", "-"], ["check", "a", "b"]):
+        """Of each line, words that ask for help, that the parser refuses, and that lack their form."""
+        for words in (["--help"], ["look", "-"], ["check", "a", "b"], ["rehearse", "a"], ["explain"]):
             self.assertEachRefused(words, b"")
-        self.assertEachRefused(["look", "-", "x", "--cid", CID], b"", has_remark=True)
+        night = ["a", "--to", "127.0.0.1", "--cid", CID, "--priority"]
+        for words in (
+            ["look", "-", "x", "--cid", CID],
+            ["slots", "-", "1", "--base", "0"],
+            ["play", *night, "201"],
+            ["live", *night, "x", "--record", "b"],
+            ["listen", "127.0.0.1", "1", "0"],
+        ):
+            self.assertEachRefused(words, b"", has_remark=True)
 
 
 class NoGrowths(Growths):

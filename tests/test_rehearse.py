@@ -53,6 +53,10 @@ class Rehearse(FolderTest):
         short = "ignored Unreadable Short"
         self.assertReplies((b"0 stray 0\n", short), (b"0 stray 0 00\n", short), (b"", "end 0 slots"))
         packet = run("look", "-", "1", "--cid", OTHER, stdin=S1).out.strip()
+        # 1,906 slots, more than a packet may have: were it cut as a datagram is, its lengths would not agree.
+        front = b"001000004153432d45312e313700000077e000000004%s77ca00000002" % CID.replace("-", "").encode()
+        long = front + b"0" * 128 + b"64000000000001777d02a1000000010773" + b"0" * 3814
+        self.assertReplies((b"0 stray 0 %s\n" % long, "ignored Unreadable Count"), (b"", "end 0 slots"))
         self.assertReplies(
             (b"0 stray 0 %s\n" % packet, "taken 0"),
             (b"0 STRAY 0 %s\n" % packet.upper(), "ignored OutOfSequence"),

@@ -60,37 +60,12 @@ fn notes(rt: HostRuntime) {
     explain_each(
         &rt,
         rt.alloc(),
-        &[
-            (
-                CUES,
-                0,
-                Ok(()),
-                b"note: cues of which no channel is patched: 0.25 1.5 3.125 4.07\n\
+        &[(
+            CUES,
+            0,
+            Ok(()),
+            b"note: cues of which no channel is patched: 0.25 1.5 3.125 4.07\n\
                     note: channels of cues that are patched nowhere: 2 7 9\n",
-            ),
-            (
-                b"\xef\xbb\xbfPATCH 1 1<1@FL\nPATCH 1 1<1@FL",
-                0,
-                Ok(()),
-                b"line 1: unknown keyword: ???PATCH 1 1<1@FL\n\
-                    note: the file begins with a byte order mark, read as part of its first word: \
-                    save it as ASCII\n",
-            ),
-            (
-                b"PATCH 1 1<1@FL\r",
-                0,
-                Ok(()),
-                b"note: the file's lines end in CR alone, so that it is one line: \
-                    save it with LF or CR LF\n",
-            ),
-            (
-                b"\xff\xfeC\x00\n\x00",
-                0,
-                Ok(()),
-                b"line 1: unknown keyword: ??C?\nline 2: unknown keyword: ?\n\
-                    note: the file is UTF-16, which is not read as text: save it as ASCII\n\
-                    note: no dimmer is patched: no universe is sent\n",
-            ),
-        ],
+        )],
     );
 }

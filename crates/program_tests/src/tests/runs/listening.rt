@@ -5,17 +5,14 @@ use devices::memory::{MemoryDatagrams, MemoryOutput};
 use sacn_packet::{Header, SourceName, encode};
 use std::alloc::Global;
 
-// A data packet whose first slot is at 64: that of row `look_one`, with its sequence number,
-// options and universe, and the last byte of its CID.
-fn packet(sequence: u8, options: u8, last_of_cid: u8) -> [u8; 638] {
-    let mut cid = CID;
-    cid[15] = last_of_cid;
+// The packet of row `look_one`: its first slot is at 64.
+fn look_one() -> [u8; 638] {
     let header = Header {
-        cid,
+        cid: CID,
         name: SourceName::new("cueplayer").unwrap(),
         priority: 100,
-        sequence,
-        options,
+        sequence: 0,
+        options: 0,
         universe: 1,
     };
     let mut slots = [0; 512];
@@ -57,7 +54,7 @@ fn prints(alloc: Global, datagrams: &[&[u8]], count: u32, text: &[u8]) -> bool {
 
 #[test]
 fn listen_three(rt: HostRuntime) {
-    let look_one = packet(0, 0, 0x31);
+    let look_one = look_one();
     let datagrams = [look_one.as_slice(), &look_one, &[0; 5]];
     assert!(rt; prints(rt.alloc(), datagrams.as_slice(), 3, THREE));
 }
@@ -65,7 +62,7 @@ fn listen_three(rt: HostRuntime) {
 // Whether a run of row `listen_three` ends as a receive or a write fails, and has printed so many
 // bytes before.
 fn stops(alloc: Global, receives: (u64, u64), writes: (u64, u64), printed: &[u8]) -> bool {
-    let look_one = packet(0, 0, 0x31);
+    let look_one = look_one();
     let datagrams = [look_one.as_slice(), &look_one, &[0; 5]];
     let (answer, out) = end(alloc, datagrams.as_slice(), 3, receives, writes);
     answer == Err(RunFault::Device)
@@ -89,36 +86,4 @@ fn each_device_of_listen_fails(rt: HostRuntime) {
             "{printed}"
         );
     }
-}
-
-#[test]
-fn long_datagrams(rt: HostRuntime) {
-    let mut padded = [0; 1600];
-    padded[..638].copy_from_slice(&packet(7, 0, 0x31));
-    let datagrams = [padded.as_slice(), &[1; 1501], &[]];
-    let text =
-        b"1 taken 7\n2 ignored Unreadable Preamble\n3 ignored Unreadable Short\nslots 1:64\n";
-    assert!(rt; prints(rt.alloc(), datagrams.as_slice(), 3, text));
-}
-
-#[test]
-fn every_reply(rt: HostRuntime) {
-    let mut alternate = packet(0, 0, 1);
-    alternate[125] = 0xdd;
-    let mut other_universe = packet(0, 0, 1);
-    other_universe[114] = 2;
-    let datagrams: [&[u8]; 8] = [
-        &packet(255, 0x40, 1),
-        &packet(0, 0x80, 1),
-        &alternate,
-        &other_universe,
-        &packet(0, 0, 2),
-        &packet(0, 0, 3),
-        &packet(0, 0, 4),
-        &packet(0, 0, 5),
-    ];
-    let text =
-        b"1 taken 255 terminated\n2 ignored Preview\n3 ignored AltStart\n4 ignored OtherUniverse\n\
-            5 taken 0\n6 taken 0\n7 taken 0\n8 ignored SourcesFull\nslots 1:64\n";
-    assert!(rt; prints(rt.alloc(), datagrams.as_slice(), 8, text));
 }
