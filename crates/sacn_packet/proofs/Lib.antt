@@ -1,4 +1,3 @@
-pub mod KeptLemmas
 pub mod Names
 pub mod Packets
 pub mod Parts

@@ -7,8 +7,6 @@ use Rattle.sacn_packet.proofs.writer.encode.Goals as goal
 
 pub returns : goal.returns
 returns c =
-    let size : length c.args.slots.now ≡ 512 = search rules in
-    let cid : length c.args.header.now.cid ≡ 16 = search rules in
     let name : length (padded c.args.header.now.name) ≡ 64 =
     omega (
       arith,
@@ -18,5 +16,6 @@ returns c =
     )
     in
     rw (c.write_root.ensures, c.write_framing.ensures, c.write_dmp.ensures)
-    (layers_are_data 512 (fields_of c.args.header.now) c.args.slots.now cid name size (omega arith)
-    c.requires.priority (omega arith) c.requires.universe_from_1 c.requires.universe_to_63999)
+    (layers_are_data 512 (fields_of c.args.header.now) c.args.slots.now (search rules) name
+    (search rules) (omega arith) c.requires.priority (omega arith) c.requires.universe_from_1
+    c.requires.universe_to_63999)

@@ -1,13 +1,12 @@
-use Rattle.std.proofs.Common.{rules, sym, ap, ◌∙◌}
-use Rattle.sacn_packet.specs.Name.{IsSourceName, padded, name_in}
+use Rattle.std.proofs.Common.{rules}
+use Rattle.sacn_packet.specs.Name.{IsSourceName}
 use Rattle.sacn_packet.proofs.Names.{name_in-padded}
 use Rattle.sacn_packet.proofs.source_name.SourceName.new.Goals as goal
 
 pub invariant_of-result : goal.invariant_of-result
 invariant_of-result c =
     let fits : IsSourceName c.as_bytes-text.result.now = search rules in
-    c.write_name.ensures ∙ ap padded (sym (name_in-padded _ fits))
-    ∙ ap (λ field. padded (name_in field)) (sym c.write_name.ensures)
+    rw (c.write_name.ensures, name_in-padded _ fits)
 
 pub returns : goal.returns
 returns c =
