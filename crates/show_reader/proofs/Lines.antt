@@ -1,40 +1,37 @@
 -- What a reader has made of the lines so far, with one line more, and what it answers in the end.
-use Rattle.std.proofs.Common.{◌≡◌, ℕ, ◌+◌, Bool, true, false, cond, List, [], ◌∷◌, IsTrue, length}
-use Rattle.std.proofs.Common.{refl, sym, ap, subst, ◌∙◌, arith, Option, Some, None, All, ◌++◌}
-use Rattle.std.proofs.Common.{is_some, inl, inr, add-zero, ◌≤◌, map}
+use Rattle.std.proofs.Common.{◌≡◌, ℕ, ◌+◌, Bool, false, cond, List, [], ◌∷◌, IsTrue, length, refl}
+use Rattle.std.proofs.Common.{sym, ap, ◌∙◌, arith, Option, Some, None, All, ◌++◌, is_some, inl, inr}
+use Rattle.std.proofs.Common.{add-zero, ◌≤◌, map, ◌⊎◌}
 use Rattle.std.specs.Prelude.{IfSome, nat_lt, option_map}
-use Rattle.std.specs.Option.{option_or}
 use Rattle.std.specs.FinMap as maps
-use Rattle.std.proofs.lemmas.Bool.{eq-eqb}
 use Rattle.std.proofs.lemmas.Bool.Decides.{nat_tests}
-use Rattle.std.proofs.lemmas.List.Elements.{All-head, All-rest}
+use Rattle.std.proofs.lemmas.List.Elements.{All-head, All-tail}
 use Rattle.std.proofs.lemmas.List.Sums.{sum_by-cons}
-use Rattle.std.proofs.lemmas.Option.{none-some, same_Some, IfSome_then}
-use mathlib.Core.Bool.{false≢true}
-use Rattle.show_reader.specs.Terms.{CueData, Tables, Limits, Record, Cue, Group, Sub, Statement}
-use Rattle.show_reader.specs.Terms.{Opens, Levels, Rises, Falls, Follows, Patches, Clears}
+use Rattle.std.proofs.lemmas.Option.{none-some, same_Some}
+use Rattle.show_reader.specs.Terms.{CueData, Tables, Limits, Record, Statement, Levels, Patches}
 use Rattle.show_line.specs.declared.line.Reading.{Reading}
 use Rattle.show_line.specs.Keywords.{keyword_of, may_own}
-use Rattle.show_line.specs.Said.{desk_limits, said, record_opened, reading_of}
+use Rattle.show_line.specs.Said.{desk_limits, record_opened, reading_of}
 use Rattle.show_line.specs.Sound.{IsSound}
 use Rattle.show_line.proofs.Ranged.{IsSaid, said_is}
 use Rattle.show_reader.specs.declared.apply.Refusal.{Refusal}
 use Rattle.show_reader.specs.declared.fault.ShowFault.{ShowFault}
 use Rattle.show_reader.specs.declared.apply.Refusal.TheVariants as refusal
+use Rattle.show_reader.specs.declared.fault.ShowFault.TheVariants as show_fault
 use Rattle.show_reader.specs.declared.draft.Draft.{Draft}
 use Rattle.show_reader.specs.declared.read.Reader.{Reader}
 use Rattle.show_reader.specs.Text.{Words, owns, said_under, owner_below, ends, up_to_end, lines_in}
 use Rattle.show_reader.specs.Text.{statement_below}
-use Rattle.show_reader.specs.Keys.{There, has_record, found}
-use Rattle.show_reader.specs.Meaning.{Is, Silent, after, newer, last_news, says, same_record}
-use Rattle.show_reader.specs.Meaning.{cue_count, is_skipped, is_there}
+use Rattle.show_reader.specs.Keys.{There}
+use Rattle.show_reader.specs.Meaning.{Silent, after, newer, last_news, says, cue_count, is_skipped}
+use Rattle.show_reader.specs.Meaning.{is_there}
 use Rattle.show_reader.specs.Shows.{IsShowOf}
 use Rattle.show_reader.specs.Reading.{fault_at, fault_below, first_fault, faultless_front, grows}
 use Rattle.show_reader.specs.Reading.{fault_of, longest_text, NothingGrows}
 use Rattle.show_reader.specs.Applied.{applied, refused_by, HasOwner}
 use Rattle.show_reader.specs.Reads.{meant, IsDraft, IsSettled, Explains, said_by, NoneGrows, Reads}
 use Rattle.show_reader.specs.Reads.{EndsAt, refusal_at}
-use Rattle.show_reader.proofs.Found.{record_there, step, count_step, nothing, nothing_found}
+use Rattle.show_reader.proofs.Found.{step, count_step, nothing, nothing_found}
 use Rattle.std.specs.Ordering.{nat_cmp}
 use mathlib.Core.List.{reverse_aux}
 use Rattle.ascii_text.specs.Text.{words_of, numbered_from}
@@ -48,18 +45,11 @@ line_said lim owner (w ∷ words) = said_is lim owner (keyword_of w) words
 
 -- ---- the owner of a line is there, above it and below
 
--- a record is there that this owner names
-abbrev IsHere : Tables → Option Record → Type 0
-IsHere show owner = IfSome owner (λ q. IsTrue (has_record show q))
-
 -- a statement of an owner that is there has what it needs
-owned : (owner : Option Record) (own : Bool) (s : Statement) (show : Tables)
-    → IsSaid desk_limits owner own s → IsHere show owner → HasOwner show s
-owned owner own (Levels r ps) show of h = subst (IsHere show) of.0 h
-owned owner own (Rises n rate) show of h = subst (IsHere show) of.0 h
-owned owner own (Falls n rate) show of h = subst (IsHere show) of.0 h
-owned owner own (Follows n time) show of h = subst (IsHere show) of.0 h
-owned owner own s show of h = tt
+owned : (owner : Option Record) (own : Bool) (s : Statement) (ss : List Statement) (show : Tables)
+    → IsSaid desk_limits owner own s → IfSome owner (λ q. IsTrue (is_there q ss))
+    → IsShowOf ss show → HasOwner show s
+owned owner own s ss show of there h = grind arith
 
 -- a list of which none has news
 no_news : {X Y : Type 0} (xs : List X) → last_news {X = X} {Y = Y} (λ x. Silent) xs ≡ Silent
@@ -70,23 +60,11 @@ no_news (x ∷ xs) = ap (λ news. newer news Silent) (no_news xs)
 left_there : (owner : Option Record) (s : Statement) → IsSaid desk_limits owner false s
     → (q : Record) (o : Option (Unit {0})) → IsTrue (is_some o)
     → IsTrue (is_some (after (says s (There q)) o))
-left_there owner (Opens r) of q o h = go (same_record q r)
-  where
-    go : (b : Bool) → IsTrue (is_some (after (cond b (Is tt) Silent) o))
-    go true = refl
-    go false = h
 left_there owner (Levels r ps) of q o h = rw (no_news ps) h
 left_there owner (Patches ts) of q o h = rw (no_news ts) h
-left_there owner (Clears what) of q o h = absurd (false≢true of)
-left_there owner s of q o h = h
+left_there owner s of q o h = grind arith
 
--- one that opens a record has it there
-opened_there : (q : Record) (ss : List Statement) → IsTrue (is_there q (Opens q ∷ ss))
-opened_there (Cue n) ss = rw (eq-eqb n n refl) refl
-opened_there (Group n) ss = rw (eq-eqb n n refl) refl
-opened_there (Sub n) ss = rw (eq-eqb n n refl) refl
-
--- so the owner of what stands below lines is there
+-- one that opens a record has it there, and so the owner of what stands below lines is there
 owner_there : (lines : List Words)
     → IfSome (owner_below desk_limits lines) (λ q. IsTrue (is_there q (said_by lines)))
 owner_there [] = tt
@@ -97,20 +75,15 @@ owner_there (l ∷ above) =
     go : (owner : Option Record) (own : Bool) (s : Statement) → IsSaid desk_limits owner own s
         → IfSome owner (λ q. IsTrue (is_there q (said_by above)))
         → IfSome (cond own (record_opened s) owner) (λ q. IsTrue (is_there q (s ∷ said_by above)))
-    go owner true (Opens r) of h = opened_there r (said_by above)
-    go owner true s of h = tt
-    go None false s of h = tt
     go (Some q) false s of h = left_there (Some q) s of q _ h
+    go owner own s of h = grind (arith, nat_tests)
 
 -- ---- the show refuses what the text's meaning refuses
 
 -- a show that the statements mean refuses the next one where it has a fault
 refused_is : (ss : List Statement) (s : Statement) (show : Tables) → IsSound s → IsShowOf ss show
     → cue_count ss ≡ maps.len show.cues → refused_by show s ≡ fault_below ss s
-refused_is ss (Opens (Cue n)) show numbered h count =
-    rw (numbered, sym (record_there ss show (Cue n) h), count) (grind (arith, nat_tests))
-refused_is ss (Opens (Group n)) show numbered h count = refl
-refused_is ss s show numbered h count = refl
+refused_is ss s show numbered h count = grind (arith, nat_tests)
 
 -- ---- a line below those that were read
 
@@ -119,23 +92,22 @@ pub reading_is : (lines : List Words) (l : Words) (r : Reader) (reading : Readin
     → Some reading ≡ reading_of desk_limits r.owner l
     → (reading.statement ≡ statement_below desk_limits lines l) × (may_own reading.keyword ≡ owns l)
 reading_is lines [] r reading h e = absurd (none-some reading (sym e))
-reading_is lines (w ∷ words) r reading h e =
-    rw (same_Some reading _ e) (ap (λ o. said desk_limits o (keyword_of w) words) h.owner, refl)
+reading_is lines (w ∷ words) r reading h e = rw (same_Some reading _ e, h.owner) (refl, refl)
 
 -- ---- what grows
 
+-- a statement that grows no show
+abbrev IsStill : Statement → Type 0
+IsStill s = grows s ≡ false
+
 -- where no statement grows a show, none does above the last one, nor that one without a fault
 pub none_grows : (s : Statement) (ss : List Statement) → NoneGrows (s ∷ ss)
-    → NoneGrows ss × (first_fault (s ∷ ss) ≡ None → grows s ≡ false)
+    → NoneGrows ss × (first_fault (s ∷ ss) ≡ None → IsStill s)
 none_grows s ss = go (first_fault (s ∷ ss))
   where
-    go : (o : Option ShowFault)
-        → All (λ t. grows t ≡ false) (cond (is_some o) [] (s ∷ []) ++ faultless_front ss)
-        → NoneGrows ss × (o ≡ None → grows s ≡ false)
-    go None all = (
-      All-rest (λ t. grows t ≡ false) s (faultless_front ss) _ refl all,
-      λ e. All-head (λ t. grows t ≡ false) s (faultless_front ss) all,
-    )
+    go : (o : Option ShowFault) → All IsStill (cond (is_some o) [] (s ∷ []) ++ faultless_front ss)
+        → NoneGrows ss × (o ≡ None → IsStill s)
+    go None all = (All-tail IsStill s (faultless_front ss) all, λ e. All-head IsStill s _ all)
     go (Some f) all = (all, λ e. cc)
 
 -- ---- one line more
@@ -145,27 +117,23 @@ module _ (lines : List Words) (l : Words) (r : Reader) (h : Reads lines r) where
   abbrev s : Statement
   s = statement_below desk_limits lines l
 
-  -- it has the owner that it needs
+  -- it has the owner that it needs, since its owner is there
   pub owner_here : HasOwner (meant r.draft) s
   owner_here =
       let owner = owner_below desk_limits lines in
-      owned owner (owns l) s (meant r.draft) (line_said desk_limits owner l)
-      (IfSome_then owner (owner_there lines)
-      (λ q there. record_there (said_by lines) (meant r.draft) q h.shows ∙ there))
+      owned owner (owns l) s (said_by lines) (meant r.draft) (line_said desk_limits owner l)
+      (owner_there lines) h.shows
 
   -- the fault is the line's where the show refuses what it says
   fault_here : IsSound s → first_fault (said_by (l ∷ lines))
       ≡ option_map (fault_at (r.lines + 1)) (refused_by (meant r.draft) s)
   fault_here sound =
-      let ss = said_by lines in
-      ap (λ o. option_or o (option_map (fault_at (length ss + 1)) (fault_below ss s))) h.faultless
-      ∙ ap (λ n. option_map (fault_at (n + 1)) (fault_below ss s)) (sym h.number)
-      ∙ ap (option_map (fault_at (r.lines + 1)))
-      (sym (refused_is ss s (meant r.draft) sound h.shows h.count))
+      rw (h.faultless, h.number, refused_is (said_by lines) s (meant r.draft) sound h.shows h.count)
+      refl
 
   no_fault : IsSound s → refused_by (meant r.draft) s ≡ None
       → first_fault (said_by (l ∷ lines)) ≡ None
-  no_fault sound fine = fault_here sound ∙ ap (option_map (fault_at (r.lines + 1))) fine
+  no_fault sound fine = rw (fault_here sound, fine) refl
 
   -- the reader behind it
   pub line_read : (d : Draft) → IsSound s → refused_by (meant r.draft) s ≡ None → IsDraft d
@@ -180,15 +148,14 @@ module _ (lines : List Words) (l : Words) (r : Reader) (h : Reads lines r) where
   line_read d sound fine drafted ok settled =
       let ss = said_by lines in
       record {
-        shows = λ k. ap (λ t. found t k) ok ∙ step ss s (meant r.draft) owner_here h.shows k;
+        shows = rw ok (step ss s (meant r.draft) owner_here h.shows);
         drafted = drafted;
         settled = λ none.
             let below = none_grows s ss none in
             settled (h.settled below.0) (below.1 (no_fault sound fine));
         faultless = no_fault sound fine;
-        owner = ap (cond (owns l) (record_opened s)) h.owner;
-        count =
-            count_step ss s (meant r.draft) h.shows h.count ∙ ap (λ t. maps.len t.cues) (sym ok);
+        owner = rw h.owner refl;
+        count = rw ok (count_step ss s (meant r.draft) h.shows h.count);
         number = omega (arith, h.number);
         skipped = omega (arith, h.skipped, sum_by-cons (λ t. cond (is_skipped t) 1 0) s ss);
       }
@@ -196,8 +163,7 @@ module _ (lines : List Words) (l : Words) (r : Reader) (h : Reads lines r) where
   -- why reading ends at it
   pub line_ends : IsSound s → (e : Refusal) → Explains r.draft s e
       → EndsAt lines l (refusal_at (r.lines + 1) e)
-  line_ends sound (refusal.Fault f) is =
-      inr (fault_here sound ∙ ap (option_map (fault_at (r.lines + 1))) is)
+  line_ends sound (refusal.Fault f) is = inr (rw (fault_here sound, is) refl)
   line_ends sound refusal.Memory is =
       inl (
         refl,
@@ -242,28 +208,12 @@ pub record StandsBehind (text : List ℕ) (lines : List Words) (ahead : List (�
   pub numbered : IsNumbered (r.lines + 1) ahead
   pub all : lines_in text ≡ reverse_aux (up_to_end (words_ahead ahead)) lines
 
--- the next line, and what is left behind it
-pub record Next (text : List ℕ) (lines : List Words) (r : Reader) (number : ℕ) (bytes : List ℕ)
-    (behind : List (ℕ × List ℕ)) : Type 0 where
-  pub here : number ≡ r.lines + 1
-  pub numbered : IsNumbered (r.lines + 1 + 1) behind
-  pub all : lines_in text ≡ reverse_aux (up_to_end (words_of bytes ∷ words_ahead behind)) lines
-
-pub next_line : {text : List ℕ} {lines : List Words} {ahead behind : List (ℕ × List ℕ)} {r : Reader}
-    {number : ℕ} {bytes : List ℕ} → StandsBehind text lines ahead r
-    → ahead ≡ (number, bytes) ∷ behind → Next text lines r number bytes behind
-next_line h front =
-    let numbers = rw front at h.numbered in
-    record { here = numbers.0; numbered = numbers.1; all = rw front at h.all }
-
 -- a new reader stands behind no line
 pub nothing_read : (d : Draft) → (meant d).cues ≡ maps.empty → (meant d).subs ≡ maps.empty
     → (meant d).groups ≡ maps.empty → (meant d).patch ≡ maps.empty → IsDraft d → IsSettled d
     → Reads [] (record { draft = d; owner = None; lines = 0; skipped = 0 })
 nothing_read d cues subs groups patch drafted settled = record {
-  shows =
-      λ k. ap (λ s. found s k) (same_tables (meant d) nothing cues subs groups patch)
-      ∙ nothing_found k;
+  shows = rw (same_tables (meant d) nothing cues subs groups patch) nothing_found;
   drafted = drafted;
   settled = λ none. settled;
   faultless = refl;
@@ -283,12 +233,11 @@ fault_stays (m ∷ more) lines f h = fault_stays more (m ∷ lines) f (rw h refl
 none_before : (more lines : List Words) → NoneGrows (said_by (reverse_aux more lines))
     → NoneGrows (said_by lines)
 none_before [] lines h = h
-none_before (m ∷ more) lines h =
-    (none_grows (statement_below desk_limits lines m) (said_by lines)
-    (none_before more (m ∷ lines) h)).0
+none_before (m ∷ more) lines h = (none_grows _ (said_by lines) (none_before more (_ ∷ lines) h)).0
 
+-- the next line, with its number and its bytes, and what is left behind it
 module _ {text : List ℕ} {lines : List Words} {r : Reader} {number : ℕ} {bytes : List ℕ}
-    {behind : List (ℕ × List ℕ)} (next : Next text lines r number bytes behind) where
+    {behind : List (ℕ × List ℕ)} (next : StandsBehind text lines ((number, bytes) ∷ behind) r) where
   -- behind a line that ends the text, nothing is left; behind another, the rest is
   pub go_on : (b : Bool) → ends (words_of bytes) ≡ b → lines_in text
       ≡ reverse_aux (cond b [] (up_to_end (words_ahead behind))) (words_of bytes ∷ lines)
@@ -298,13 +247,17 @@ module _ {text : List ℕ} {lines : List Words} {r : Reader} {number : ℕ} {byt
   abbrev below : List Words
   below = cond (ends (words_of bytes)) [] (up_to_end (words_ahead behind))
 
-  -- its fault is the text's
-  pub fault_found : (f : ShowFault) → length text ≤ 1048576
-      → first_fault (said_by (words_of bytes ∷ lines)) ≡ Some f → fault_of desk_limits text ≡ Some f
-  fault_found f short fault =
+  -- why reading ends at it is why the text is refused, for where nothing grows in the text, nothing
+  -- does down to it
+  pub refused_at : (f : ShowFault) → length text ≤ 1048576 → EndsAt lines (words_of bytes) f
+      → ((f ≡ show_fault.Memory) ⊎ (fault_of desk_limits text ≡ Some f))
+      × (NothingGrows desk_limits text → fault_of desk_limits text ≡ Some f)
+  refused_at f short (inl memory) = (
+    inl memory.0,
+    λ none. absurd (memory.1 (none_before below (words_of bytes ∷ lines) (rw next.all at none))),
+  )
+  refused_at f short (inr fault) =
       let small : nat_lt longest_text (length text) ≡ false = grind (arith, nat_tests) in
-      rw (small, next.all) (fault_stays below (words_of bytes ∷ lines) f fault)
-
-  -- where nothing grows in the text, nothing does down to it
-  pub none_so_far : NothingGrows desk_limits text → NoneGrows (said_by (words_of bytes ∷ lines))
-  none_so_far none = none_before below (words_of bytes ∷ lines) (rw next.all at none)
+      let refused : fault_of desk_limits text ≡ Some f
+      = rw (small, next.all) (fault_stays below (words_of bytes ∷ lines) f fault) in
+      (inr refused, λ none. refused)

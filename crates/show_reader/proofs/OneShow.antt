@@ -1,5 +1,5 @@
 -- Statements mean one show alone.
-use Rattle.std.proofs.Common.{subst, ◌≡◌, ◌∙◌, sym, ap, refl, ℕ, List, Option, Some, None, is_some}
+use Rattle.std.proofs.Common.{subst, ◌≡◌, ◌∙◌, sym, ap, ℕ, List, Option, Some, is_some, arith}
 use Rattle.std.proofs.Common.{option_and_then}
 use Rattle.std.specs.Ordering.{nat_cmp}
 use Rattle.std.specs.FinMap as maps
@@ -21,9 +21,8 @@ same_map m n is = maps.same_map nat_cmp_total maps.nat_cmp-IsAntisymmetric m n i
 same_levels : (a b : Option LevelMap) → is_some a ≡ is_some b
     → ((c : ℕ) → option_and_then (λ levels. maps.get levels c) a
     ≡ option_and_then (λ levels. maps.get levels c) b) → a ≡ b
-same_levels None None there each = refl
 same_levels (Some a) (Some b) there each = ap Some (same_map a b each)
-same_levels a b there each = cc
+same_levels a b there each = grind arith
 
 -- cues that are there alike, with alike levels, rates and follow-on times, are alike
 same_cues : (a b : Option CueData) → is_some a ≡ is_some b
@@ -32,17 +31,14 @@ same_cues : (a b : Option CueData) → is_some a ≡ is_some b
     → option_and_then (λ cue. cue.up) a ≡ option_and_then (λ cue. cue.up) b
     → option_and_then (λ cue. cue.down) a ≡ option_and_then (λ cue. cue.down) b
     → option_and_then (λ cue. cue.follow) a ≡ option_and_then (λ cue. cue.follow) b → a ≡ b
-same_cues None None there levels ups downs follows = refl
 same_cues (Some a) (Some b) there levels ups downs follows =
-    let same : a.levels ≡ b.levels = same_map a.levels b.levels levels in
-    λ i. Some (record { levels = same i; up = ups i; down = downs i; follow = follows i })
-same_cues a b there levels ups downs follows = cc
+    grind (arith, same_map a.levels b.levels levels)
+same_cues a b there levels ups downs follows = grind arith
 
 -- tables that are alike one by one
 pub same_tables : (s t : Tables) → s.cues ≡ t.cues → s.subs ≡ t.subs → s.groups ≡ t.groups
     → s.patch ≡ t.patch → s ≡ t
-same_tables s t cues subs groups patch =
-    λ i. record { cues = cues i; subs = subs i; groups = groups i; patch = patch i }
+same_tables s t cues subs groups patch = grind arith
 
 -- statements mean one show alone
 pub same_show : (ss : List Statement) (s t : Tables) → IsShowOf ss s → IsShowOf ss t → s ≡ t
@@ -50,14 +46,11 @@ same_show ss s t a b =
     let same : (k : Key) → found s k ≡ found t k = λ k. a k ∙ sym (b k) in
     let there : (r : Record) → has_record s r ≡ has_record t r = λ r.
     sym (record_is s r) ∙ ap is_some (same (There r)) ∙ record_is t r in
-    same_tables s t
-    (same_map s.cues t.cues (λ n. same_cues (maps.get s.cues n) (maps.get t.cues n) (there (Cue n))
-    (λ c. same (Level (Cue n) c)) (same (Up n)) (same (Down n)) (same (Follow n))))
-    (same_map s.subs t.subs (λ n. same_levels (maps.get s.subs n) (maps.get t.subs n)
-    (there (Sub n)) (λ c. same (Level (Sub n) c))))
-    (same_map s.groups t.groups (λ n. same_levels (maps.get s.groups n) (maps.get t.groups n)
-    (there (Group n)) (λ c. same (Level (Group n) c))))
-    (same_map s.patch t.patch (λ d. same (Dimmer d)))
+    same_tables s t (same_map _ _ (λ n. same_cues _ _ (there (Cue n)) (λ c. same (Level (Cue n) c))
+    (same (Up n)) (same (Down n)) (same (Follow n))))
+    (same_map _ _ (λ n. same_levels _ _ (there (Sub n)) (λ c. same (Level (Sub n) c))))
+    (same_map _ _ (λ n. same_levels _ _ (there (Group n)) (λ c. same (Level (Group n) c))))
+    (same_map _ _ (λ d. same (Dimmer d)))
 
 -- what holds of one show that a text means holds of each
 pub of_its_show : (text : List ℕ) (P : Tables → Type 0) (s : Tables)

@@ -1,12 +1,12 @@
 use Rattle.std.proofs.Common.{length}
 use Rattle.ascii_text.specs.LinesLeft.{words_left}
-use Rattle.show_line.specs.Pairs.{desk_limits, triple_fault}
+use Rattle.show_line.specs.Pairs.{desk_limits as limits, triple_fault}
 use Rattle.show_line.proofs.Lowest.{IsLowestSoFar}
 use Rattle.show_line.proofs.triples.triple_fault.Given as goal
 
 abbrev pub invariant-loop-channel : goal.invariant-loop-channel
 invariant-loop-channel l =
-    IsLowestSoFar (triple_fault desk_limits) (words_left l.initial.words) (words_left l.words) l.lowest
+    IsLowestSoFar (triple_fault limits) (words_left l.initial.words) (words_left l.words) l.lowest
 
 abbrev pub decreases-loop-channel : goal.decreases-loop-channel
 decreases-loop-channel l = length (words_left l.words)

@@ -1,32 +1,22 @@
-use Rattle.std.proofs.Common.{◌≡◌, ◌==◌, ◌∷◌, ◌||◌, Bool, true, false, not, refl, sym, ap, ◌∙◌}
+use Rattle.std.proofs.Common.{◌≡◌, ◌∷◌, sym, ap, ◌∙◌, arith}
 use Rattle.std.proofs.lemmas.List.Elements.{All-rest}
 use Rattle.show_line.specs.Sound.{IsTripleInRange}
 use Rattle.show_line.specs.declared.statement.Statement.TheVariants.{Patches}
-use Rattle.show_reader.specs.Reading.{grows}
 use Rattle.show_reader.specs.Applied.{applied}
 use Rattle.show_reader.proofs.draft.Draft.patch.Goals as goal
 
--- neither of two holds: the first is false, and so is the second
-neither : (a b : Bool) → (not a || b) ≡ false → (a ≡ true) × (b ≡ false)
-neither true b h = (refl, h)
-neither false b h = cc
-
 pub loop-triple-preserved : goal.loop-triple-preserved
 loop-triple-preserved c =
-    let t = c.in-Some.triple in
-    let front : c.loop-triple.triple-iterator ≡ t ∷ c.next.new.self = c.in-Some.ensures.steps in
+    let front : c.loop-triple.triple-iterator ≡ c.in-Some.triple ∷ c.next.new.self
+    = c.in-Some.ensures.steps in
     let before = c.loop-triple.invariant in
-    let unpatched = λ (none : grows (Patches c.args.triples) ≡ false).
-    neither (t.channel == 0) (grows (Patches c.next.new.self)) (rw front at (before.left none)) in
+    let patched = c.in_ok-patch_dimmer.ensures in
     record {
-      drafted = c.in_ok-patch_dimmer.ensures.drafted;
-      sound =
-          All-rest IsTripleInRange t c.next.new.self c.loop-triple.triple-iterator front
-          before.sound;
-      left = λ none. (unpatched none).1;
+      drafted = patched.drafted;
+      sound = All-rest IsTripleInRange _ _ _ front before.sound;
+      left = λ none. let left = rw front at (before.left none) in grind (arith, left);
       settled = λ settled none.
-          c.in_ok-patch_dimmer.ensures.settled (before.settled settled none) (unpatched none).0;
-      put =
-          rw front at before.put
-          ∙ ap (applied (Patches c.next.new.self)) (sym c.in_ok-patch_dimmer.ensures.ok);
+          let left = rw front at (before.left none) in
+          patched.settled (before.settled settled none) (grind (arith, left));
+      put = rw front at before.put ∙ ap (applied (Patches c.next.new.self)) (sym patched.ok);
     }

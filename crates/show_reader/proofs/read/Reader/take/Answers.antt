@@ -1,14 +1,11 @@
 -- One line: what was read of it is what it says, and where the show refuses that, it is the line's
 -- fault.
-use Rattle.std.proofs.Common.{◌≡◌, ◌+◌, cond, sym, ap, subst, ◌∙◌, add-zero}
+use Rattle.std.proofs.Common.{◌≡◌, ◌+◌, cond, arith}
+use Rattle.std.proofs.lemmas.Grind.{common_steps}
 use Rattle.ascii_text.specs.Text.{words_of}
-use Rattle.show_line.specs.Said.{record_opened}
-use Rattle.show_reader.specs.Text.{owns}
 use Rattle.show_reader.specs.Meaning.{is_skipped}
-use Rattle.show_reader.specs.Reads.{EndsAt, refusal_at}
 use Rattle.show_reader.proofs.Lines.{reading_is, owner_here, line_read, line_ends, quiet_line}
 use Rattle.show_reader.proofs.read.Reader.take.Goals as goal
-use Rattle.show_reader.proofs.read.Reader.take.Goals.{then-skipped, else-skipped}
 
 pub apply-requires-clause-owned : goal.apply-requires-clause-owned
 apply-requires-clause-owned c =
@@ -22,24 +19,17 @@ pub returns-clause-more : goal.returns-clause-more
 returns-clause-more c = λ lines h.
     let l = words_of c.args.line.bytes.now in
     let r = c.args.self.now in
-    let s = c.in-Some.reading.statement in
     let is = reading_is lines l r c.in-Some.reading h c.in-Some.ensures.means in
-    let owner : c.owner_below-owner.result ≡ cond (owns l) (record_opened s) r.owner
-    = c.owner_below-owner.ensures ∙ ap (λ own. cond own (record_opened s) r.owner) is.1 in
     let applied = c.in_default-apply.ensures in
     let counted : c.if-skipped.self ≡ record {
       draft = c.apply.new.draft;
       owner = c.owner_below-owner.result;
       lines = c.args.line.number;
-      skipped = r.skipped + cond (is_skipped s) 1 0;
-    } = elim c.if-skipped.branch [
-      | then-skipped w ↦ rw (sym c.is_skipped-skipped.ensures ∙ w.if-skipped.true) w.self-is
-      | else-skipped w ↦
-          rw (sym c.is_skipped-skipped.ensures ∙ w.if-skipped.false, add-zero) w.self-is
-    ] in
-    rw (counted, owner, c.requires.next, is.0) (line_read lines l r h c.apply.new.draft
-    (rw is.0 at c.in-Some.ensures.sound) (rw is.0 at applied.fine) applied.drafted
-    (rw is.0 at applied.ok) (rw is.0 at applied.settled))
+      skipped = r.skipped + cond (is_skipped c.in-Some.reading.statement) 1 0;
+    } = let skipped = c.is_skipped-skipped.ensures in grind (arith, common_steps, skipped) in
+    rw (counted, c.owner_below-owner.ensures, is.1, c.requires.next, is.0)
+    (line_read lines l r h c.apply.new.draft (rw is.0 at c.in-Some.ensures.sound)
+    (rw is.0 at applied.fine) applied.drafted (rw is.0 at applied.ok) (rw is.0 at applied.settled))
 
 pub returns-in_default-clause-more : goal.returns-in_default-clause-more
 returns-in_default-clause-more c = λ lines h.
@@ -51,7 +41,5 @@ returns-in-Err-clause-fault c = λ lines h.
     let l = words_of c.args.line.bytes.now in
     let r = c.args.self.now in
     let is = (reading_is lines l r c.in-Some.reading h c.in-Some.ensures.means).0 in
-    subst (EndsAt lines l)
-    (sym (c.at.ensures ∙ ap (λ n. refusal_at n c.in-Err.refusal) c.requires.next))
-    (line_ends lines l r h (rw is at c.in-Some.ensures.sound) c.in-Err.refusal
-    (rw is at c.in-Err.ensures.err))
+    rw (c.at.ensures, c.requires.next) (line_ends lines l r h (rw is at c.in-Some.ensures.sound)
+    c.in-Err.refusal (rw is at c.in-Err.ensures.err))
