@@ -12,8 +12,7 @@ use Rattle.master_core.specs.Merged.{greatest, greatest_in}
 -- one number more
 greatest_more : (xs : List ℕ) (y : ℕ) → greatest (xs ++ y ∷ []) ≡ max (greatest xs) y
 greatest_more [] y = omega arith
-greatest_more (x ∷ xs) y =
-    let rest : greatest (xs ++ y ∷ []) ≡ max (greatest xs) y = greatest_more xs y in omega arith
+greatest_more (x ∷ xs) y = omega (arith, greatest_more xs y)
 
 module _ {A : Type 0} (level : A → ℕ) (xs : List A) (i : ℕ) (x : A) (lt : i < length xs)
     (is : x ≡ get_or xs i x) where
@@ -37,10 +36,9 @@ greatest_same : {V : Type 0} (byte : V → ℕ) (master other : ℕ → ℕ) (es
     → greatest (map (λ e. byte e.1 * master e.0) es) ≡ greatest (map (λ e. byte e.1 * other e.0) es)
 greatest_same byte master other [] h = refl
 greatest_same byte master other (e ∷ es) h =
-    ap (λ m. max (byte e.1 * m) (greatest (map (λ e. byte e.1 * master e.0) es)))
-    (All-head (λ e. master e.0 ≡ other e.0) e es h)
-    ∙ ap (max (byte e.1 * other e.0))
-    (greatest_same byte master other es (All-tail (λ e. master e.0 ≡ other e.0) e es h))
+    let first = All-head (λ e. master e.0 ≡ other e.0) e es h in
+    let rest = All-tail (λ e. master e.0 ≡ other e.0) e es h in
+    rw (first, greatest_same byte master other es rest) refl
 
 -- the records of a table, whose numbers are of a kind, with bytes that are the masters of that kind
 module _ (P : ℕ → Type 0) (records : MasterMap) (es : List (ℕ × LevelMap))

@@ -1,7 +1,5 @@
-pub mod Dimmers
 pub mod Frames
 pub mod Indexed
 pub mod Redrawn
 pub mod Sourced
-pub mod Drawn
 mod Rows

@@ -1,7 +1,6 @@
 -- A cue that is found above or below another is there, and a move goes to it.
-use Rattle.std.proofs.Common.{◌≡◌, ℕ, Bool, true, false, List, [], ◌∷◌, Option, Some, refl, sym, ap}
-use Rattle.std.proofs.Common.{◌∙◌, arith}
-use Rattle.std.specs.Prelude.{find, reverse, ◌||◌, ◌==◌, unwrap_or, cond, Result}
+use Rattle.std.proofs.Common.{◌≡◌, ℕ, Bool, true, List, [], ◌∷◌, Option, Some, refl, arith}
+use Rattle.std.specs.Prelude.{find, reverse, Result}
 use Rattle.std.specs.List.{list_any}
 use Rattle.std.specs.Option.{ok_or}
 use Rattle.std.specs.Ordering.{nat_cmp, eq_by_cmp}
@@ -20,47 +19,29 @@ use Rattle.playback_core.specs.Played.{Move, current_after, goto_target, moves_b
 use Rattle.playback_core.specs.Playing.{Playing}
 use Rattle.playback_core.specs.Stands.{Moves, StandsFor, Steps}
 
-or_true : (b : Bool) → (b || true) ≡ true
-or_true true = refl
-or_true false = refl
-
-or_comm : (a b : Bool) → (a || (b || false)) ≡ (b || a)
-or_comm true true = refl
-or_comm true false = refl
-or_comm false true = refl
-or_comm false false = refl
-
 list_any-reverse : (p : ℕ → Bool) (xs : List ℕ) → list_any p (reverse xs) ≡ list_any p xs
 list_any-reverse p [] = refl
 list_any-reverse p (x ∷ xs) =
-    ap (list_any p) (reverse-append (x ∷ []) xs) ∙ list_any-append p (reverse xs) (x ∷ [])
-    ∙ ap (λ b. b || (p x || false)) (list_any-reverse p xs)
-    ∙ or_comm (list_any p xs) (p x)
-
-tied : (k n : ℕ) → k ≡ n → eq_by_cmp nat_cmp n k ≡ true
-tied k n e = let same : (n == k) ≡ true = grind (arith, nat_tests) in unsigned_tied n k ∙ same
+    rw (reverse-append (x ∷ []) xs, list_any-append p (reverse xs) (x ∷ []), list_any-reverse p xs)
+    (grind arith)
 
 -- what is found is in the list
 list_any-found : (p : ℕ → Bool) (ks : List ℕ) (n : ℕ) → find p ks ≡ Some n
     → list_any (eq_by_cmp nat_cmp n) ks ≡ true
 list_any-found p [] n e = cc
-list_any-found p (k ∷ ks) n e = go (p k) e (list_any-found p ks n) where
-  go : (b : Bool) → cond b (Some k) (find p ks) ≡ Some n
-      → (find p ks ≡ Some n → list_any (eq_by_cmp nat_cmp n) ks ≡ true)
-      → list_any (eq_by_cmp nat_cmp n) (k ∷ ks) ≡ true
-  go true found rest = rw (tied k n (ap (λ o. unwrap_or o k) found)) refl
-  go false found rest = rw (rest found) (or_true (eq_by_cmp nat_cmp n k))
+list_any-found p (k ∷ ks) n e =
+    grind (arith, nat_tests, unsigned_tied n k, list_any-found p ks n)
 
 pub contains_key-cue_above : (cues : CueMap) (n found : ℕ) → cue_above cues n ≡ Some found
     → map.contains_key cues found ≡ true
-contains_key-cue_above cues n found e = contains_key-keys cues found
-    ∙ list_any-found _ (map.keys cues) found e
+contains_key-cue_above cues n found e =
+    rw (contains_key-keys cues found) (list_any-found _ (map.keys cues) found e)
 
 pub contains_key-cue_below : (cues : CueMap) (n found : ℕ) → cue_below cues n ≡ Some found
     → map.contains_key cues found ≡ true
 contains_key-cue_below cues n found e =
-    contains_key-keys cues found ∙ sym (list_any-reverse _ (map.keys cues))
-    ∙ list_any-found _ (reverse (map.keys cues)) found e
+    rw (contains_key-keys cues found, ← list_any-reverse _ (map.keys cues))
+    (list_any-found _ (reverse (map.keys cues)) found e)
 
 -- what goes to the cue that a target found steps as the target says: goto takes a cue that is there
 pub steps_to : {F : Type 0} {stands_for : F → List Start → Type 0} {latest : F → ℕ} {show : Tables}
@@ -72,11 +53,7 @@ pub steps_to : {F : Type 0} {stands_for : F → List Start → Type 0} {latest :
     → result ≡ ok_or (goto_target show.cues cue) NoCue
     → Moves stands_for latest show moment before after result
     → Steps stands_for latest show moment before after result (λ c. ok_or (target c) refused)
-steps_to {show = show} {cue = cue} target refused current there found is answer moved =
-    let same : ok_or (goto_target show.cues cue) NoCue ≡ ok_or (target current) refused =
-    rw (there, found) refl in
-    record {
-      answer = λ moves stopped stands.
-          answer ∙ same ∙ ap (λ c. ok_or (target c) refused) (is moves stopped stands);
-      moved = moved;
-    }
+steps_to {show = show} {cue = cue} target refused current there found is answer moved = record {
+  answer = λ moves stopped stands. rw (answer, there, ← is moves stopped stands, found) refl;
+  moved = moved;
+}

@@ -15,13 +15,8 @@ returns-in-Some-clause-drawn g c = λ show moves stopped level channels stands s
     All-get_or (λ floor. floor ≡ 0) c.args.merged.now.floors.now (channel - 1) 0
     (omega (arith, channel_range channel is, c.args.merged.now.each_channel))
     (c.args.merged.now.none c.if-not-merged.true) in
-    let playing : listed_level c.in-Some.playing.now channel ≡ playback_level show moves channel
-    (g.F.Fader.latest c.args.merged.now.playback.now.fader) =
-    c.in-Some.ensures.levels show moves stopped channel stands is in
-    let merged : max (playback_level show moves channel (g.F.Fader.latest
-    c.args.merged.now.playback.now.fader)) (listed_level c.args.merged.now.floors.now channel) ≡ level channel =
-    same channel is in
-    omega arith) c.args.grand c.draw.new.frames c.draw.ensures
+    let playing = c.in-Some.ensures.levels show moves stopped channel stands is in
+    omega (arith, none, playing, same channel is)) c.args.grand c.draw.new.frames c.draw.ensures
 
 pub returns-in_default-clause-drawn : goal.returns-in_default-clause-drawn
 returns-in_default-clause-drawn g c = λ show moves stopped level channels stands same.

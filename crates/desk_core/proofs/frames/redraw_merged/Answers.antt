@@ -10,17 +10,13 @@ pub returns-in-Some-clause-drawn : goal.returns-in-Some-clause-drawn
 returns-in-Some-clause-drawn g c = λ show moves stopped before after old others stands same.
     c.redraw.ensures before after old others (λ k d lt.
     let channel : ℕ = get_or c.args.channels.now k d in
+    let is = c.requires.in_range k d lt in
     let none : listed_level c.args.merged.now.floors.now channel ≡ 0 =
     All-get_or (λ floor. floor ≡ 0) c.args.merged.now.floors.now (channel - 1) 0
-    (omega (arith, channel_range channel (c.requires.in_range k d lt), c.args.merged.now.each_channel))
+    (omega (arith, channel_range channel is, c.args.merged.now.each_channel))
     (c.args.merged.now.none c.if-not-merged.true) in
-    let playing : listed_level c.in-Some.playing.now channel ≡ playback_level show moves channel
-    (g.F.Fader.latest c.args.merged.now.playback.now.fader) =
-    c.in-Some.ensures.levels show moves stopped channel stands (c.requires.in_range k d lt) in
-    let merged : max (playback_level show moves channel (g.F.Fader.latest
-    c.args.merged.now.playback.now.fader)) (listed_level c.args.merged.now.floors.now channel) ≡ after channel =
-    same k d lt in
-    omega arith)
+    let playing = c.in-Some.ensures.levels show moves stopped channel stands is in
+    omega (arith, none, playing, same k d lt))
 
 pub returns-in_default-clause-drawn : goal.returns-in_default-clause-drawn
 returns-in_default-clause-drawn g c = λ show moves stopped before after old others stands same.

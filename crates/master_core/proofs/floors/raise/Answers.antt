@@ -1,14 +1,13 @@
 use Rattle.std.proofs.Common.{◌≡◌, ℕ, ◌+◌, ◌*◌, IsTrue, List, get_or, sym, subst, ap, ◌∙◌}
 use Rattle.std.proofs.Common.{take, arith}
-use Rattle.std.specs.Prelude.{All, map, max, unwrap_or}
+use Rattle.std.specs.Prelude.{All, max, unwrap_or}
 use Rattle.std.specs.Ordering.{nat_cmp}
 use Rattle.std.specs.FinMap as maps
-use Rattle.show_core.specs.Numbers.{is_channel, AreLevels}
+use Rattle.show_core.specs.Numbers.{is_channel}
 use Rattle.show_core.specs.Readers.{level_in}
 use Rattle.show_core.specs.Tables.{LevelMap}
 use Rattle.show_core.proofs.Ranges.{entries_from_keys}
 use Rattle.show_core.proofs.Sorted.{to_true}
-use Rattle.master_core.specs.Merged.{greatest}
 use Rattle.master_core.proofs.Greatest.{greatest_next, greatest_dark}
 use Rattle.master_core.proofs.floors.raise.Goals as goal
 use Rattle.master_core.proofs.floors.raise.Goals.{then-master-gt0, else-master-gt0}
@@ -40,11 +39,8 @@ loop-number-preserved c =
             ≡ level_in item.1 (place + 1) =
             ap (λ es. unwrap_or (maps.find nat_cmp (place + 1) es) 0) w.pairs.ensures.entries
             ∙ ap (λ o. unwrap_or o 0) (sym (maps.get-entries item.1 (place + 1))) in
-            let next : greatest (map (level place) (take (c.loop-number.number-index + 1)
-            c.args.records.now))
-            ≡ max (greatest (map (level place) done)) (level place item) =
-            greatest_next (level place) c.args.records.now c.loop-number.number-index item
-            c.loop-number-test.true c.loop-number-item.is in
+            let next = greatest_next (level place) c.args.records.now c.loop-number.number-index
+            item c.loop-number-test.true c.loop-number-item.is in
             let raised : get_or w.raise_listed.new.floors place 0
             ≡ max (get_or c.loop-number.floors place 0) (level place item) =
             w.raise_listed.ensures.raised place (omega arith)
@@ -62,10 +58,8 @@ loop-number-preserved c =
             c.loop-number-test.true c.loop-number-item.is (rw dark (omega arith))))
       ];
       full = elim c.if-master-gt0.branch [
-        | then-master-gt0 w ↦ subst (AreLevels) (sym w.floors-is)
-            w.raise_listed.ensures.full
-        | else-master-gt0 w ↦ subst (AreLevels) (sym w.floors-is)
-            c.loop-number.invariant.full
+        | then-master-gt0 w ↦ rw w.floors-is w.raise_listed.ensures.full
+        | else-master-gt0 w ↦ rw w.floors-is c.loop-number.invariant.full
       ];
     }
 

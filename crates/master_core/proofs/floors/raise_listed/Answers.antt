@@ -26,6 +26,8 @@ loop-channel-preserved c =
     let next : at + 1 ≡ pair.0 = omega (arith, range.0, c.from-place.ensures) in
     let raised : c.max.result ≡ max (get_or c.loop-channel.floors at 0) (pair.1 * c.args.master) =
     c.max.ensures ∙ ap (max (get_or c.loop-channel.floors at 0)) c.product.ensures.product in
+    let was = All-get_or (λ level. level ≤ 65025) c.loop-channel.floors at 0 within
+    c.loop-channel.invariant.full in
     record {
       sorted = to_true (and_right _ _ (from_true sorted));
       raised = λ place lt.
@@ -36,13 +38,7 @@ loop-channel-preserved c =
           ∙ c.loop-channel.invariant.raised place
           (omega (arith, length-set c.loop-channel.floors at c.max.result));
       full = All-set (λ level. level ≤ 65025) c.loop-channel.floors at c.max.result
-          (omega (
-            arith,
-            c.max.ensures,
-            c.product.ensures.full,
-            All-get_or (λ level. level ≤ 65025) c.loop-channel.floors at 0 within
-                c.loop-channel.invariant.full,
-          )) c.loop-channel.invariant.full;
+          (omega (arith, c.max.ensures, c.product.ensures.full, was)) c.loop-channel.invariant.full;
     }
 
 pub returns-clause-full : goal.returns-clause-full
@@ -50,9 +46,6 @@ returns-clause-full c = c.loop-channel.invariant.full
 
 pub returns-clause-raised : goal.returns-clause-raised
 returns-clause-raised c = λ place lt.
-    omega (
-      arith,
-      c.loop-channel.invariant.raised place lt,
-      at_drop_all (λ ps. byte_in ps (place + 1) * c.args.master) c.args.pairs.now
-          c.loop-channel.channel-index (omega arith),
-    )
+    let none = at_drop_all (λ ps. byte_in ps (place + 1) * c.args.master) c.args.pairs.now
+    c.loop-channel.channel-index (omega arith) in
+    omega (arith, c.loop-channel.invariant.raised place lt, none)

@@ -2,7 +2,7 @@ use Rattle.std.proofs.Common.{rules, of_calls, ltb, arith}
 use Rattle.std.proofs.lemmas.Bool.Decides.{nat_tests}
 use Rattle.std.proofs.lemmas.Fn.{always_returns_same}
 use Rattle.std.proofs.lemmas.List.Sorted.{IsPartitionedBy-ltb}
-use Rattle.patch_core.proofs.Dimmers.{rising}
+use Rattle.patch_core.proofs.Frames.{rising}
 use Rattle.patch_core.proofs.rig.first_from.Goals as goal
 
 pub returns : goal.returns

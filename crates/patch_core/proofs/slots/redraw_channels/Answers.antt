@@ -27,21 +27,17 @@ loop-channel-preserved c = record {
       ap (listed_level c.args.levels.now) (omega (arith, here))
       ∙ listed j 0 c.loop-channel-test.true ∙ ap after here in
       let old : ℕ → ℕ = slot_at c.loop-channel.frames in
-      c.redraw_run.ensures.slots
-      (want patch c.args.by_channel.now c.args.begins.now index after c.args.grand k one_up few
-      old)
-      (λ at at_is unlisted. kept patch c.args.by_channel.now c.args.begins.now index after
-      c.args.grand k one_up few old at
+      c.redraw_run.ensures.slots (want patch index after c.args.grand k one_up few old)
+      (λ at at_is unlisted. kept patch index after c.args.grand k one_up few old at
       (λ p low high. unlisted p (omega (arith, low, c.from-from.ensures))
       (omega (arith, high, c.from-to.ensures))))
-      (λ p low high. drawn patch c.args.by_channel.now c.args.begins.now index after c.args.grand k
-      one_up few old c.from-level.result p (c.from-level.ensures ∙ level_is)
-      (omega (arith, low, c.from-from.ensures)) (omega (arith, high, c.from-to.ensures)))
+      (λ p low high. drawn patch index after c.args.grand k one_up few old c.from-level.result p
+      (c.from-level.ensures ∙ level_is) (omega (arith, low, c.from-from.ensures))
+      (omega (arith, high, c.from-to.ensures)))
       dimmer is
-      ∙ next patch c.args.by_channel.now c.args.begins.now index after c.args.grand k one_up few old
-      c.args.channels.now j dimmer here
-      (λ left. c.loop-channel.invariant.slots patch before after index in_range holds agree listed
-      dimmer is left) rest;
+      ∙ next patch index after c.args.grand k one_up few old c.args.channels.now j dimmer here
+      (c.loop-channel.invariant.slots patch before after index in_range holds agree listed dimmer
+      is) rest;
 }
 
 pub returns-clause-slots : goal.returns-clause-slots

@@ -1,7 +1,6 @@
-use Rattle.std.proofs.Common.{◌≡◌, IsTrue, sym, subst, ◌∙◌, arith}
+use Rattle.std.proofs.Common.{IsTrue, sym, subst, arith}
 use Rattle.show_core.specs.Numbers.{is_sub, is_group}
 use Rattle.master_core.specs.Inside.{masters_view}
-use Rattle.master_core.specs.Merged.{greatest_in}
 use Rattle.master_core.specs.Settings.{StandsFor, sub_after, group_after}
 use Rattle.master_core.proofs.Greatest.{highest_is}
 use Rattle.master_core.proofs.masters.Masters.merged.Goals as goal
@@ -10,16 +9,10 @@ pub returns-clause-level : goal.returns-clause-level
 returns-clause-level c = λ settings stands.
     let own : StandsFor (masters_view c.self.inside) settings =
     subst (λ m. StandsFor m settings) (sym c.self.view_is) stands in
-    let sub : c.highest.result
-    ≡ greatest_in c.args.show.now.subs (sub_after settings) c.args.channel =
-    c.highest.ensures.greatest
-    ∙ highest_is (λ n. IsTrue (is_sub n)) c.args.show.now.subs c.subs.result.now
+    let sub = highest_is (λ n. IsTrue (is_sub n)) c.args.show.now.subs c.subs.result.now
     c.subs.ensures.entries c.subs.ensures.range c.self.inside.subs (sub_after settings)
     c.args.channel own.subs_are in
-    let group : c.highest-2.result
-    ≡ greatest_in c.args.show.now.groups (group_after settings) c.args.channel =
-    c.highest-2.ensures.greatest
-    ∙ highest_is (λ n. IsTrue (is_group n)) c.args.show.now.groups c.groups.result.now
+    let group = highest_is (λ n. IsTrue (is_group n)) c.args.show.now.groups c.groups.result.now
     c.groups.ensures.entries c.groups.ensures.range c.self.inside.groups (group_after settings)
     c.args.channel own.groups_are in
-    omega arith
+    omega (arith, sub, group)

@@ -26,12 +26,7 @@ returns-clause-levels c = λ settings stands channel is.
     let group = highest_is (λ n. IsTrue (is_group n)) c.args.show.now.groups c.groups.result.now
     c.groups.ensures.entries c.groups.ensures.range c.self.inside.groups (group_after settings)
     (place + 1) own.groups_are in
+    let first = c.raise.ensures.raised place (omega arith) in
+    let second = c.raise-2.ensures.raised place (omega arith) in
     subst (λ n. get_or c.raise-2.new.floors place 0 ≡ merged_after c.args.show.now settings n 0)
-    next (omega (
-      arith,
-      dark,
-      sub,
-      group,
-      c.raise.ensures.raised place (omega arith),
-      c.raise-2.ensures.raised place (omega arith),
-    ))
+    next (omega (arith, dark, sub, group, first, second))

@@ -1,9 +1,6 @@
-use Rattle.std.proofs.Common.{ℕ, ◌+◌, ◌*◌, ◌≤◌, IsTrue, refl, sym, subst, ap, ◌∙◌, arith, length}
+use Rattle.std.proofs.Common.{ℕ, ◌+◌, ◌*◌, refl, arith}
 use Rattle.std.specs.Ordering.{nat_cmp}
 use Rattle.std.specs.Cmp.{nat_cmp_total}
-use Rattle.std.specs.FinMap as map
-use Rattle.std.specs.List.{AllWithin}
-use Rattle.std.specs.Option.{option_map_or}
 use Rattle.std.proofs.lemmas.List.{length-set}
 use Rattle.show_core.specs.Readers.{slot_of}
 use Rattle.show_core.proofs.Sorted.{get_is}
@@ -30,34 +27,26 @@ bounds-out-from c = omega (
 )
 
 pub loop-i-preserved : goal.loop-i-preserved
-loop-i-preserved c =
-    let sorted : IsTrue (map.is_sorted nat_cmp c.as_slice-dimmers.result.now) =
-    subst (λ l. IsTrue (map.is_sorted nat_cmp l)) (sym c.as_slice-dimmers.ensures.value)
-    c.self.invariant.sorted in
-    record {
-      size = simp length-set c.loop-i.invariant.size;
-      so_far = slots_more (λ p. slot_of (listed_level c.args.levels.now p.0) c.args.grand p.1)
-          c.as_slice-dimmers.result.now (512 * c.args.k + 1) sorted c.loop-i.out
-          c.loop-i.invariant.size
-          c.loop-i.i _ c.from-in-loop-i.result c.slot.result (omega arith)
-          (c.first_from-from.ensures.from_on c.loop-i.i _ (omega arith) (omega arith))
-          c.from-in-loop-i.ensures (bounds-out-from c)
-          (rw c.from.ensures at c.slot.ensures) c.loop-i.invariant.so_far;
-    }
+loop-i-preserved c = record {
+  size = simp length-set c.loop-i.invariant.size;
+  so_far = slots_more (λ p. slot_of (listed_level c.args.levels.now p.0) c.args.grand p.1)
+      c.as_slice-dimmers.result.now (512 * c.args.k + 1)
+      (rw c.as_slice-dimmers.ensures.value c.self.invariant.sorted) c.loop-i.out
+      c.loop-i.invariant.size c.loop-i.i _ c.from-in-loop-i.result c.slot.result (omega arith)
+      (c.first_from-from.ensures.from_on c.loop-i.i _ (omega arith) (omega arith))
+      c.from-in-loop-i.ensures (bounds-out-from c)
+      (rw c.from.ensures at c.slot.ensures) c.loop-i.invariant.so_far;
+}
 
 pub returns : goal.returns
 returns c =
     let first : ℕ = 512 * c.args.k + 1 in
-    let rest : AllWithin (λ e. first + 512 ≤ e.0) c.as_slice-dimmers.result.now c.loop-i.i
-    (length c.as_slice-dimmers.result.now) =
-    λ j d le lt. c.first_from-to.ensures.from_on j d (omega arith) lt in
     frame_is (dimmer_slot c.args.self.now.patch (listed_level c.args.levels.now) c.args.grand)
     first 512 c.loop-i.out c.loop-i.invariant.size (λ s lt.
-    c.loop-i.invariant.so_far s lt
-    ∙ ap (λ o. option_map_or
-    (λ p. slot_of (listed_level c.args.levels.now p.0) c.args.grand p.1) o 0)
-    (find_high c.as_slice-dimmers.result.now (first + s) (first + 512) c.loop-i.i rest (omega arith)
-    ∙ ap (map.find nat_cmp (first + s)) c.as_slice-dimmers.ensures.value
-    ∙ sym (get_is nat_cmp nat_cmp_total c.self.inside.dimmers.items c.self.invariant.sorted
-    (first + s))
-    ∙ ap (λ r. map.get r.patch (first + s)) c.self.view_is))
+    rw (
+      ← c.self.view_is,
+      get_is nat_cmp nat_cmp_total c.self.inside.dimmers.items c.self.invariant.sorted (first + s),
+      ← c.as_slice-dimmers.ensures.value,
+      ← find_high c.as_slice-dimmers.result.now (first + s) (first + 512) c.loop-i.i
+          (λ j d le lt. c.first_from-to.ensures.from_on j d (omega arith) lt) (omega arith),
+    ) (c.loop-i.invariant.so_far s lt))

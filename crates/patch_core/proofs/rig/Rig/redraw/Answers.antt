@@ -1,23 +1,20 @@
-use Rattle.std.proofs.Common.{◌≡◌, ℕ, List, IsTrue, sym, subst, ap, ◌∙◌}
-use Rattle.std.specs.Prelude.{All}
+use Rattle.std.proofs.Common.{refl, ◌≡◌, IsTrue, ◌∙◌}
 use Rattle.std.specs.FinMap as map
 use Rattle.std.specs.Ordering.{nat_cmp}
 use Rattle.std.proofs.lemmas.List.{get_or_default}
 use Rattle.std.proofs.lemmas.List.Sorted.{All-permutation}
-use Rattle.show_core.specs.Numbers.{is_channel, is_dimmer}
+use Rattle.show_core.specs.Numbers.{is_dimmer}
 use Rattle.show_core.specs.Tables.{PatchMap}
 use Rattle.show_core.proofs.Sorted.{entries_are}
 use Rattle.std.specs.Cmp.{nat_cmp_total}
-use Rattle.patch_core.specs.Index.{IsIndex}
 use Rattle.patch_core.proofs.Indexed.{begins_rise}
-use Rattle.patch_core.proofs.Drawn.{slots_from_drawn, drawn_from_slots}
+use Rattle.patch_core.proofs.Redrawn.{slots_from_drawn, drawn_from_slots}
 use Rattle.patch_core.proofs.rig.Rig.redraw.Goals as goal
 
 pub redraw_channels-requires-clause-numbers : goal.redraw_channels-requires-clause-numbers
 redraw_channels-requires-clause-numbers c =
-    subst (All (λ e. IsTrue (is_dimmer e.0))) (sym c.deref.ensures.value)
-    (All-permutation (λ e. IsTrue (is_dimmer e.0)) c.self.inside.dimmers.items
-    c.self.inside.by_channel.items c.self.invariant.index.same c.self.invariant.numbers_in)
+    rw c.deref.ensures.value (All-permutation (λ e. IsTrue (is_dimmer e.0)) _ _
+    c.self.invariant.index.same c.self.invariant.numbers_in)
 
 pub redraw_channels-requires-clause-bounds : goal.redraw_channels-requires-clause-bounds
 redraw_channels-requires-clause-bounds c =
@@ -27,15 +24,12 @@ redraw_channels-requires-clause-bounds c =
 
 pub returns : goal.returns
 returns c = λ before after drawn agree listed.
-    let dimmers : List (ℕ × (ℕ × ℕ)) = c.self.inside.dimmers.items in
     let patch : PatchMap = c.args.self.now.patch in
-    let same : dimmers ≡ map.entries patch =
-    sym (entries_are nat_cmp nat_cmp_total dimmers c.self.invariant.sorted)
-    ∙ ap (λ r. map.entries r.patch) c.self.view_is in
-    let index : IsIndex (map.entries patch) c.deref.result.now c.deref-2.result.now =
-    rw (← same, c.deref.ensures.value, c.deref-2.ensures.value) c.self.invariant.index in
-    let in_range : All (λ e. IsTrue (is_channel e.1.0)) (map.entries patch) =
-    subst (All (λ e. IsTrue (is_channel e.1.0))) same c.self.invariant.channels_in in
+    let same : c.self.inside.dimmers.items ≡ map.entries patch =
+    rw (← c.self.view_is, entries_are nat_cmp nat_cmp_total _ c.self.invariant.sorted) refl in
+    let index = rw (same, ← c.deref.ensures.value, ← c.deref-2.ensures.value)
+    at c.self.invariant.index in
+    let in_range = rw same at c.self.invariant.channels_in in
     drawn_from_slots patch after c.args.grand c.redraw_channels.new.frames
     c.redraw_channels.ensures.frames
     (c.redraw_channels.ensures.slots patch before after index in_range
