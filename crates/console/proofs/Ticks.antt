@@ -1,6 +1,6 @@
 -- What an accepted tick offers, and what it leaves.
-use Rattle.std.proofs.Common.{◌≡◌, ◌≤◌, ◌<◌, ◌+◌, ℕ, refl, ap, arith, sym, subst, ◌∙◌, List, []}
-use Rattle.std.proofs.Common.{◌∷◌, ◌++◌, Some, None, Ok, Err, Result, append-nil, append_assoc}
+use Rattle.std.proofs.Common.{◌≡◌, ◌≤◌, ◌<◌, ◌+◌, ℕ, refl, arith, sym, ◌∙◌, List, [], ◌∷◌, ◌++◌}
+use Rattle.std.proofs.Common.{Some, None, Ok, Err, Result, append-nil, append_assoc}
 use Rattle.std.specs.Prelude.{Option}
 use Rattle.std.specs.Option.{option_map_or}
 use Rattle.std.proofs.lemmas.Bool.Decides.{nat_tests}
@@ -10,11 +10,9 @@ use Rattle.desk_core.specs.declared.answer.Refused.{Refused}
 use Rattle.desk_core.specs.declared.answer.Ticked.{Ticked}
 use Rattle.desk_core.specs.declared.answer.Ticked.TheVariants.{Live, Ending}
 use Rattle.desk_core.specs.declared.command.Command.{Command}
-use Rattle.desk_core.specs.declared.command.Command.TheVariants.{End}
 use Rattle.desk_core.specs.DeskState.{DeskState}
 use Rattle.desk_core.specs.Meaning.{universe_numbers}
-use Rattle.desk_core.specs.Played.{Act, Call, order, tick, ended, ended_by, last_tick, outcome}
-use Rattle.desk_core.specs.Played.{refusal, ticked}
+use Rattle.desk_core.specs.Played.{Act, Call, ended, ended_by, last_tick, outcome, refusal, ticked}
 use Rattle.desk_core.specs.Stands as desk
 use Rattle.sacn_source.specs.Identity.{Identity}
 use Rattle.sacn_source.specs.Kept.{Lane}
@@ -44,23 +42,22 @@ pub offers_more : {source : Identity} {ds : List Due} {ps : List (ℕ × Offered
     → d.packet ≡ packet → Offers source ds ps before mid
     → sender.Offers source d.universe d.place packet answer mid after
     → Offers source (ds ++ d ∷ []) (ps ++ (d.universe, answer) ∷ []) before after
-offers_more {source} {ds} {ps} {before} answer d None is first o =
+offers_more {source} answer d None is first o =
     let more : AreOffered source (d ∷ []) [] ((d.universe, answer) ∷ []) =
     rw o.0 (quiet d [] [] [] is none) in
     record {
       sends = first.sends ++ [];
       are_offered = AreOffered-append first.are_offered more;
-      after_is = o.1 ∙ first.after_is ∙ ap (λ ss. before ++ ss) (sym (append-nil first.sends));
+      after_is = rw (append-nil first.sends, o.1) first.after_is;
     }
-offers_more {source} {ds} {ps} {before} answer d (Some p) is first o =
+offers_more {source} {before = before} answer d (Some p) is first o =
     let send : Send = record { universe = d.universe; bytes = o.0; failed = o.1 } in
     let more : AreOffered source (d ∷ []) (send ∷ []) ((d.universe, answer) ∷ []) = rw o.3
     (sent d p send [] [] [] (record { packet_is = is; universe_is = refl; bytes_are = o.2 }) none)
     in record {
       sends = first.sends ++ send ∷ [];
       are_offered = AreOffered-append first.are_offered more;
-      after_is = o.4 ∙ ap (λ ss. ss ++ send ∷ []) first.after_is
-          ∙ append_assoc before first.sends (send ∷ []);
+      after_is = rw (o.4, first.after_is) (append_assoc before first.sends (send ∷ []));
     }
 
 -- ---- ticks before End and after it
@@ -74,33 +71,21 @@ ending_by None i e = cc
 ending_by (Some n) i e = (n, refl)
 
 not_ended_before : (c : Call) (n : Option ℕ) → ended_by c n ≡ None → n ≡ None
-not_ended_before _ None e = refl
-not_ended_before (order End) (Some n) e = cc
-not_ended_before _ (Some n) e = cc
+not_ended_before c n e = grind arith
 
 -- the last tick before End is the newest offer
-abbrev NewestIs : Production → ℕ → List Act → Type 0
-NewestIs p u h = earliest_after (offers_of p u h) ≡ option_map_or (λ t. t + 1) (last_tick h) 0
-
-one_newer : (p : Production) (u : ℕ) (older : List Act) (m : ℕ) (c : Call)
-    → (ended older ≡ None → NewestIs p u older) → ended_by c (ended older) ≡ None
-    → NewestIs p u (record { moment = m; call = c } ∷ older)
-one_newer p u older m tick before live = rw (not_ended_before tick (ended older) live) refl
-one_newer p u older m (order c) before live =
-    before (not_ended_before (order c) (ended older) live)
-
-newest_offer : (p : Production) (u : ℕ) (h : List Act) → ended h ≡ None → NewestIs p u h
+newest_offer : (p : Production) (u : ℕ) (h : List Act) → ended h ≡ None
+    → earliest_after (offers_of p u h) ≡ option_map_or (λ t. t + 1) (last_tick h) 0
 newest_offer p u [] live = refl
 newest_offer p u (act ∷ older) live =
-    one_newer p u older act.moment act.call (newest_offer p u older) live
+    grind (arith, newest_offer p u older, not_ended_before act.call (ended older) live)
 
 -- a tick before End is later than each offer
 pub offered_before : (p : Production) (u moment : ℕ) (older : List Act)
     → refusal p.show older (tick_at moment) ≡ None → ended older ≡ None
     → earliest_after (offers_of p u older) ≤ moment
 offered_before p u moment older accepted live =
-    let newest = newest_offer p u older live in
-    grind (arith, nat_tests)
+    grind (arith, nat_tests, newest_offer p u older live)
 
 -- one after it is one of three
 pub fewer_than_three : (p : Production) (moment n : ℕ) (older : List Act)
@@ -136,8 +121,8 @@ pub tick_stands : {F : Type 0} {sf : F → List Start → Type 0} {p : Productio
     → desk.StandsFor sf show base new (tick_at moment ∷ h))
     → StandsFor sf p state history
     → IsTick sf p new history moment answer × HasStreams p view.sender history
-tick_stands {F} {sf} {p} {view} {state} {history} new moment same is answers stands s =
-    let t = subst (λ x. StandsFor sf p x history) (sym same) s in
+tick_stands {p = p} {history = history} new moment same is answers stands s =
+    let t = rw (← same) at s in
     let a = accepted_by _ _ _ (sym is ∙ answers p.show p.base history t.desk_stands) in (
       record {
         desk_stands = stands p.show p.base history t.desk_stands;

@@ -1,42 +1,94 @@
--- A lane that takes an offer or a termination.
-use Rattle.std.proofs.Common.{◌≡◌, ℕ, Bool, true, false, not, ◌||◌, refl, ap, arith, sym}
-use Rattle.std.proofs.Common.{subst, ◌∙◌, ◌+◌, ◌%◌, List, [], ◌∷◌, ◌++◌, Some, None}
+-- A pace that takes an offer, or a termination, is that of one more.
+use Rattle.std.proofs.Common.{◌≡◌, ℕ, zero, suc, ◌+◌, ◌-◌, ◌≤◌, Bool, true, false, ◌||◌, refl, ap}
+use Rattle.std.proofs.Common.{arith, sym, ◌∙◌, List, [], ◌∷◌, ◌++◌, map, length, not, Some, None}
+use Rattle.std.specs.Prelude.{nat_lt, if◌then◌else◌, nat_eq, Option}
+use Rattle.std.proofs.lemmas.List.{length-append, length-map}
 use Rattle.std.proofs.lemmas.Bool.Decides.{nat_tests}
+use Rattle.sacn_source.specs.Stream.{Offer, is_change, changed_within, sends, frames_sent, packets}
+use Rattle.sacn_source.specs.Stream.{live_packet, last_packet, Packet, due, newest_frame}
+use Rattle.sacn_source.specs.Pacing.{Paces, is_due, pace_after, pace_ended}
+use Rattle.sacn_source.specs.Kept.{Pace, Lane}
 use Rattle.std.specs.Cmp.Lexicographic.{pointwise}
-use Rattle.std.specs.Prelude.{nat_eq, ◌==◌, if◌then◌else◌, Option}
 use Rattle.devices.specs.Send.{Send}
 use Rattle.sacn_packet.specs.Wire.{Fields, IsData}
 use Rattle.sacn_source.specs.Identify.{IsStreamPacket}
 use Rattle.sacn_source.specs.Identity.{Identity}
-use Rattle.sacn_source.specs.Kept.{Lane, Pace}
 use Rattle.sacn_source.specs.Offering.{Answers, Offers, answer_of, number_of}
 use Rattle.sacn_source.specs.Pacing as pacing
-use Rattle.sacn_source.specs.Pacing.{Paces}
 use Rattle.sacn_source.specs.Stands.{LaneStands}
-use Rattle.sacn_source.specs.Stream.{Offer, Packet, due, is_change, live_packet, newest_frame}
 use Rattle.sacn_source.specs.declared.offered.Offered.{Offered}
-use Rattle.sacn_source.proofs.PaceLemmas.{due_same, takes_offer}
+
+-- the counter of repeats, one offer later
+counted : (change : Bool) (left n : ℕ) → left ≤ 3 → n ≤ 2
+    → (change || nat_lt (3 - n) left) ≡ nat_lt (3 - suc n) (if change then 3 else left - 1)
+counted change left n f h = grind (arith, nat_tests)
+
+few_left : (change : Bool) (left : ℕ) → left ≤ 3 → (if change then 3 else left - 1) ≤ 3
+few_left change left f = grind arith
+
+none_left : (x : ℕ) → x ≤ 3 → false ≡ nat_lt (3 - 0) x
+none_left x h = grind (arith, nat_tests)
+
+repeats_more : (pace : Pace) (offers : List Offer) (o : Offer) → pace.repeats ≤ 3
+    → Paces pace offers 0 → (n : ℕ) → n ≤ 3
+    → changed_within n (o ∷ offers) ≡ nat_lt (3 - n)
+    (if is_change (o ∷ offers) then 3 else pace.repeats - 1)
+repeats_more pace offers o few s zero h =
+    none_left _ (few_left (is_change (o ∷ offers)) pace.repeats few)
+repeats_more pace offers o few s (suc n) h =
+    rw (s.repeats_are n (omega arith))
+    (counted (is_change (o ∷ offers)) pace.repeats n few (omega arith))
+
+pub due_same : (pace : Pace) (offers : List Offer) (o : Offer) (changed : Bool)
+    → changed ≡ is_change (o ∷ offers) → Paces pace offers 0
+    → is_due pace changed o.moment ≡ sends (o ∷ offers)
+due_same pace offers o changed same s = rw (same, s.last_is, sym (s.repeats_are 3 (omega arith)))
+
+one_more : (b : Bool) (fs : List (List ℕ)) (f : List ℕ)
+    → length (map live_packet (if b then fs ++ f ∷ [] else fs)) ≡ (if b then length
+    (map live_packet fs) + 1 else length (map live_packet fs))
+one_more true fs f = simp (length-map, length-append)
+one_more false fs f = refl
+
+-- three repeats at most are left
+few_of : (pace : Pace) (offers : List Offer) → Paces pace offers 0 → pace.repeats ≤ 3
+few_of pace offers s =
+    grind (arith, nat_tests, s.repeats_are 0 (omega arith))
+
+pub takes_offer : (pace : Pace) (offers : List Offer) (o : Offer) (changed : Bool)
+    → changed ≡ is_change (o ∷ offers) → Paces pace offers 0
+    → Paces (pace_after pace changed o.moment) (o ∷ offers) 0
+takes_offer pace offers o changed same s =
+    let few = few_of pace offers s in
+    let due = due_same pace offers o changed same s in
+    record {
+      sent_is = rw (due, s.sent_is) (sym
+          (one_more (sends (o ∷ offers)) (frames_sent offers) o.frame));
+      last_is = rw (due, s.last_is);
+      earliest_is = refl;
+      ended_is = s.ended_is;
+      repeats_are = λ n h. repeats_more pace offers o few s n h
+          ∙ ap (λ (b : Bool). nat_lt (3 - n) (if b then 3 else pace.repeats - 1)) (sym same);
+    }
+
+pub takes_termination : (pace : Pace) (offers : List Offer) (n : ℕ) → Paces pace offers n
+    → Paces (pace_ended pace) offers (suc n)
+takes_termination pace offers n s = record {
+  sent_is = ap (λ k. k + 1) s.sent_is ∙ sym (length-append (packets offers n) (last_packet ∷ []));
+  last_is = s.last_is;
+  earliest_is = s.earliest_is;
+  ended_is = omega (arith, s.ended_is);
+  repeats_are = s.repeats_are;
+}
+
+-- ---- a lane that takes an offer or a termination
 
 -- an offer is a change where it has other slots than the newest frame, or is the first
-or_true : (b : Bool) → (b || true) ≡ true
-or_true true = refl
-or_true false = refl
-
-or_false : (b : Bool) → (b || false) ≡ b
-or_false true = refl
-or_false false = refl
-
-begun : (earliest moment : ℕ) → earliest ≡ moment + 1 → (earliest == 0) ≡ false
-begun earliest moment e = grind (arith, nat_tests)
-
 changed_by : (offers : List Offer) (pace : Pace) (moment : ℕ) (frame : List ℕ) (differs : Bool)
     → Paces pace offers 0 → differs ≡ not (pointwise nat_eq frame (newest_frame offers))
     → pacing.is_change pace differs ≡ is_change (record { moment = moment; frame = frame } ∷ offers)
-changed_by [] pace moment frame differs s d =
-    ap (λ (n : ℕ). differs || n == 0) s.earliest_is ∙ or_true differs
-changed_by (p ∷ older) pace moment frame differs s d =
-    ap (λ (b : Bool). differs || b) (begun pace.earliest p.moment s.earliest_is)
-    ∙ or_false differs ∙ d
+changed_by [] pace moment frame differs s d = grind (arith, nat_tests, s.earliest_is)
+changed_by (p ∷ older) pace moment frame differs s d = grind (arith, nat_tests, s.earliest_is)
 
 -- an offer to a lane, by whether its packet had other slots
 module _ (who : Identity) (lane : Lane) (offers : List Offer) (o : Offer) (differs : Bool)
@@ -64,20 +116,14 @@ pub sent_packet : (who : Identity) (u place at : ℕ) (p : Packet) (bytes : List
     × (after ≡ before ++ record { universe = u; bytes = bytes; failed = failed } ∷ []))
     → Offers who u at (Some p) answer before after
 sent_packet who u place at p bytes answer before after same is sent =
-    subst (λ (n : ℕ). Offers who u n (Some p) answer before after) same
-    (bytes, sent.0, is, sent.1, sent.2)
+    rw (← same) (bytes, sent.0, is, sent.1, sent.2)
 
 pub answer_at : (place at : ℕ) (p : Packet) (answer : Offered) → place ≡ at
     → ((failed : Bool) × (answer ≡ answer_of failed place)) → Answers at (Some p) answer
-answer_at place at p answer same a = subst (λ (n : ℕ). Answers n (Some p) answer) same a
+answer_at place at p answer same a = rw (← same) a
 
 -- two answers at one place have one number
-number_at : (failed : Bool) (place : ℕ) → number_of (answer_of failed place) ≡ Some (place % 256)
-number_at true place = refl
-number_at false place = refl
-
 pub alike : (place : ℕ) (p : Option Packet) (one other : Offered) → Answers place p one
     → Answers place p other → number_of one ≡ number_of other
-alike place None one other a b = ap number_of (a ∙ sym b)
-alike place (Some p) one other a b =
-    ap number_of a.1 ∙ number_at a.0 place ∙ sym (number_at b.0 place) ∙ sym (ap number_of b.1)
+alike place None one other a b = rw (a, b) refl
+alike place (Some p) one other a b = grind (arith, a.1, b.1)

@@ -1,7 +1,6 @@
 -- A sender in which one lane changes.
-use Rattle.std.proofs.Common.{◌≡◌, ◌≢◌, ℕ, ◌+◌, ◌<◌, ◌≤◌, Bool, true, false, not, cond}
-use Rattle.std.proofs.Common.{refl, ap, arith, sym, subst, take, ◌∙◌, List, [], ◌∷◌, ◌++◌, length}
-use Rattle.std.proofs.Common.{get_or}
+use Rattle.std.proofs.Common.{◌≡◌, ◌≢◌, ℕ, ◌+◌, ◌<◌, ◌≤◌, Bool, true, false, not, cond, refl, ap}
+use Rattle.std.proofs.Common.{arith, sym, subst, take, ◌∙◌, List, [], ◌∷◌, ◌++◌, length, get_or}
 use Rattle.std.proofs.lemmas.Bool.Decides.{nat_tests}
 use Rattle.std.proofs.Math.Seq.{map-set_same}
 use Rattle.std.proofs.lemmas.List.{get_or_default, length-map, map_push, take_more}
@@ -25,9 +24,6 @@ is_it a u e = grind (arith, nat_tests)
 is_not : (a u : ℕ) → a ≢ u → (a == u) ≡ false
 is_not a u e = grind (arith, nat_tests)
 
-it_is : (a u : ℕ) → (a == u) ≡ true → a ≡ u
-it_is a u e = grind (arith, nat_tests)
-
 -- where a universe is among those of the lanes, its lane is among the lanes
 abbrev place : List Lane → ℕ → ℕ
 place lanes u = position_or_len (λ (lane : Lane). lane.universe == u) lanes
@@ -35,7 +31,7 @@ place lanes u = position_or_len (λ (lane : Lane). lane.universe == u) lanes
 places : (lanes : List Lane) (u : ℕ)
     → position_or_len (λ (v : ℕ). v == u) (universes_of lanes) ≡ place lanes u
 places [] u = refl
-places (l ∷ ls) u = ap (λ (n : ℕ). cond (not (l.universe == u)) (1 + n) 0) (places ls u)
+places (l ∷ ls) u = rw (places ls u) refl
 
 found_by : (b : Bool) (p i n : ℕ) → nat_lt p n ≡ b → cond b (Some p) None ≡ Some i → (i ≡ p)
     × (i < n)
@@ -54,16 +50,9 @@ some_at [] i within = absurd (omega arith)
 some_at (l ∷ ls) i within =
     (get_or (l ∷ ls) i l, get_or_default (l ∷ ls) i l (get_or (l ∷ ls) i l) within)
 
-not_not : (b : Bool) → not b ≡ false → b ≡ true
-not_not true h = refl
-not_not false h = cc
-
 -- a universe that is there is found
 found_if : (b : Bool) (p n : ℕ) → nat_lt p n ≡ b → (n ≤ p → ⊥) → IsSome (cond b (Some p) None)
-found_if true p n h e = refl
-found_if false p n h e =
-    let past : n ≤ p = grind (arith, nat_tests) in
-    absurd (e past)
+found_if b p n h e = grind (arith, nat_tests)
 
 is_found : (universes : List ℕ) (u : ℕ) → Contains universes u
     → IsSome (position (λ v. v == u) universes)
@@ -79,8 +68,7 @@ pub place_found : {lanes now : List Lane} {universes : List ℕ} {found : Option
     → lanes ≡ now → universes ≡ universes_of lanes → found ≡ position (λ v. v == u) universes
     → Contains (universes_of now) u → IsSome found
 place_found {universes = universes} u same are found here =
-    subst IsSome (sym found) (is_found universes u
-    (subst (λ (us : List ℕ). Contains us u) (sym (are ∙ ap universes_of same)) here))
+    rw found (is_found universes u (rw (are, same) here))
 
 -- the lane of a universe, at its place
 pub record LaneAt (lanes now : List Lane) (u i : ℕ) (lane : Lane) : Type 0 where
@@ -97,7 +85,7 @@ pub lane_found : {lanes now : List Lane} {universes : List ℕ} {i : ℕ} {found
     → LaneAt lanes now u i lane
 lane_found {lanes} {now} {universes} {i} {found} {lane} u d same are result some is =
     let there : position (λ v. v == u) (universes_of lanes) ≡ Some i =
-    ap (λ (us : List ℕ). position (λ v. v == u) us) (sym are) ∙ sym result ∙ some in
+    rw (← are, ← result) some in
     let found_in = found_by _ _ i (length (universes_of lanes)) refl there in
     let within : i < length lanes =
     omega (arith, found_in.1, length-map lanes (λ (l : Lane). l.universe)) in
@@ -112,7 +100,7 @@ lane_found {lanes} {now} {universes} {i} {found} {lane} u d same are result some
       within = within;
       first = first;
       get = get;
-      is = it_is _ _ (not_not _ stops);
+      is = grind (arith, nat_tests, stops);
       at = ap (λ (ls : List Lane). lane_of ls u) (sym same) ∙ find_at (λ l. l.universe == u) lanes
           ∙ ap (slice_get lanes) (sym first) ∙ get;
     }
@@ -145,8 +133,7 @@ changes {lanes} {now} {u} {i} {lane} new p kept =
 
 -- a universe that is not found has no lane
 none_by : (b : Bool) (p n : ℕ) → nat_lt p n ≡ b → cond b (Some p) None ≡ None → n ≤ p
-none_by true p n h e = cc
-none_by false p n h e = grind (arith, nat_tests)
+none_by b p n h e = grind (arith, nat_tests)
 
 pub no_lane : (who : Identity) (lanes now : List Lane) (universes : List ℕ) (u : ℕ)
     (offers : List Offer)
@@ -154,7 +141,7 @@ pub no_lane : (who : Identity) (lanes now : List Lane) (universes : List ℕ) (u
     → StandsFor who now u offers n → ⊥
 no_lane who lanes now universes u offers n same are none s =
     let there : position (λ v. v == u) (universes_of lanes) ≡ None =
-    ap (λ (us : List ℕ). position (λ v. v == u) us) (sym are) ∙ none in
+    rw (← are) none in
     let past : length lanes ≤ place lanes u = omega (
       arith,
       none_by _ _ _ refl there,
@@ -163,7 +150,7 @@ no_lane who lanes now universes u offers n same are none s =
     ) in
     let gone : lane_of now u ≡ None = ap (λ (ls : List Lane). lane_of ls u) (sym same)
     ∙ find_at (λ l. l.universe == u) lanes ∙ slice_get_past lanes (place lanes u) past in
-    subst (λ (o : Option Lane). StandsAt who o offers n) gone s
+    rw gone at s
 
 -- a universe that is found is among those of the lanes
 pub is_there : {lanes now : List Lane} {u i : ℕ} {lane : Lane} → LaneAt lanes now u i lane
@@ -183,8 +170,7 @@ pub opened : (who : Identity) (lanes : List Lane) (universes : List ℕ) (u : �
     → universes_of lanes ≡ universes → All (λ lane. LaneStands who lane [] 0) lanes
     → Contains universes u → StandsFor who lanes u [] 0
 opened who lanes universes u are all here =
-    let there : Contains (universes_of lanes) u =
-    subst (λ (us : List ℕ). Contains us u) (sym are) here in
+    let there : Contains (universes_of lanes) u = rw are here in
     let found = found_some _ (is_found (universes_of lanes) u there) in
     let within : found.0 < length lanes = omega (
       arith,
@@ -201,9 +187,12 @@ pub universes_more : (lanes : List Lane) (lane : Lane) (universes : List ℕ) (i
     → universes_of lanes ≡ take i universes
     → universes_of (lanes ++ lane ∷ []) ≡ take (i + 1) universes
 universes_more lanes lane universes i d within is so_far =
-    map_push (λ (l : Lane). l.universe) lanes lane
-    ∙ ap (λ (us : List ℕ). us ++ lane.universe ∷ []) so_far
-    ∙ ap (λ (u : ℕ). take i universes ++ u ∷ []) is ∙ sym (take_more universes i d within)
+    rw (
+      map_push (λ (l : Lane). l.universe) lanes lane,
+      so_far,
+      is,
+      take_more universes i d within,
+    ) refl
 
 -- what is kept of a universe, by what it stands for
 paces_stand : (who : Identity) (o : Option Lane) (offers : List Offer) (n : ℕ)

@@ -1,5 +1,4 @@
-use Rattle.std.proofs.Common.{◌≡◌, ◌∙◌, ◌-◌, add-one, sym}
-use Rattle.desk_core.specs.Meaning.{frame}
+use Rattle.std.proofs.Common.{◌∙◌, add-one, sym}
 use Rattle.desk_core.specs.Played.{ended}
 use Rattle.sacn_source.proofs.SenderLemmas.{earliest_is, ended_is}
 use Rattle.console.proofs.Ticks.{ending_by, fewer_than_three, live_by, offered_before}
@@ -28,16 +27,14 @@ terminate-requires-clause-fewer g c =
 pub returns-in-Live-clause-stands : goal.returns-in-Live-clause-stands
 returns-in-Live-clause-stands g c = λ p older tick had.
     let live = live_by (ended older) (sym c.in-Live.is ∙ tick.answer_is) in
-    let shown : c.slots.result.now ≡ frame p.show older c.args.moment (c.args.universe - p.base) =
-    c.slots.ensures p.show p.base _ tick.desk_stands in
-    rw (live, ← shown) (c.offer.ensures.stands p.source _ (rw live at had))
+    rw (live, ← c.slots.ensures p.show p.base _ tick.desk_stands)
+    (c.offer.ensures.stands p.source _ (rw live at had))
 
 pub returns-in-Live-clause-offered : goal.returns-in-Live-clause-offered
 returns-in-Live-clause-offered g c = λ p older tick had tells.
     let live = live_by (ended older) (sym c.in-Live.is ∙ tick.answer_is) in
-    let shown : c.slots.result.now ≡ frame p.show older c.args.moment (c.args.universe - p.base) =
-    c.slots.ensures p.show p.base _ tick.desk_stands in
-    rw (live, ← shown) (c.offer.ensures.offered p.source _ (rw live at had) tells)
+    rw (live, ← c.slots.ensures p.show p.base _ tick.desk_stands)
+    (c.offer.ensures.offered p.source _ (rw live at had) tells)
 
 pub returns-in-Ending-clause-stands : goal.returns-in-Ending-clause-stands
 returns-in-Ending-clause-stands g c = λ p older tick had.

@@ -1,8 +1,6 @@
 use Rattle.std.proofs.Common.{◌∙◌, ◌∷◌, ◌<◌, [], ℕ, List, length, length-append, get_or, append-nil}
 use Rattle.std.proofs.Common.{arith, refl, sym, subst}
 use Rattle.std.specs.Prelude.{All}
-use Rattle.std.specs.List.{AllPairs}
-use Rattle.std.specs.List.Sorted.{IsStrictlyIncreasing}
 use Rattle.std.proofs.lemmas.List.{map_more, take_all}
 use Rattle.std.proofs.lemmas.List.Elements.{All-from_get_or}
 use Rattle.std.proofs.lemmas.List.Kept.{AllPairs-from_increasing}
@@ -15,18 +13,15 @@ use Rattle.console.proofs.tick.offer_all.Goals as goal
 
 pub loop-universe-init : goal.loop-universe-init
 loop-universe-init g c =
-    let us = c.as_slice-universe-items.result.now in
-    let r = c.requires.real in
     let value = c.as_slice-universe-items.ensures.value in
     let numbers = c.universes-universes.ensures.numbers in
     rw c.new-offers.ensures (record {
       told = λ t. t;
       count = refl;
-      lanes = r.3.universes_are ∙ sym (numbers_are r.2 value numbers);
+      lanes = rw (numbers_are c.requires.real.2 value numbers) c.requires.real.3.universes_are;
       so_far = λ p older tick streams. record {
         done = λ j lt. absurd (omega arith);
-        left = λ j above inside. subst (All (HasStream p c.args.sender.now older))
-            (sym (numbers_are tick value numbers)) streams.streams j 0 inside;
+        left = λ j above. rw (← numbers_are tick value numbers) at streams.streams j 0;
         offered = λ tells. record { sends = []; are_offered = none; after_is = sym (append-nil _) };
       };
     })
@@ -42,17 +37,12 @@ loop-universe-preserved g c =
     let us : List ℕ = c.as_slice-universe-items.result.now in
     let i : ℕ = c.loop-universe.universe-index in
     let inside : i < length us = c.loop-universe-test.true in
-    let rises : AllPairs (λ x y. x < y) us = AllPairs-from_increasing us
-    (subst IsStrictlyIncreasing (sym c.as_slice-universe-items.ensures.value)
-    c.universes-universes.ensures.ascending) in
+    let rises = AllPairs-from_increasing us
+    (rw c.as_slice-universe-items.ensures.value c.universes-universes.ensures.ascending) in
     let now = c.offer-offered.ensures in
     rw c.push.ensures (record {
       told = λ t. c.loop-universe.invariant.told (now.told t);
-      count = omega (
-        arith,
-        length-append c.loop-universe.offers ((get_or us i 0, c.offer-offered.result) ∷ []),
-        c.loop-universe.invariant.count,
-      );
+      count = rw length-append (omega (arith, c.loop-universe.invariant.count));
       lanes = now.universes ∙ c.loop-universe.invariant.lanes;
       so_far = λ p older tick streams.
           let s = c.loop-universe.invariant.so_far p older tick streams in
@@ -74,21 +64,18 @@ loop-universe-preserved g c =
 
 pub returns-clause-stands : goal.returns-clause-stands
 returns-clause-stands g c = λ p older tick streams.
-    let us : List ℕ = c.as_slice-universe-items.result.now in
     let s = c.loop-universe.invariant.so_far p older tick streams in
     let all = numbers_are tick c.as_slice-universe-items.ensures.value
     c.universes-universes.ensures.numbers in
     let has = HasStream p c.loop-universe.sender (tick_at c.args.moment ∷ older) in
     record {
       universes_are = c.loop-universe.invariant.lanes ∙ all;
-      streams = subst (All has) all (All-from_get_or has us 0 (λ j inside. s.done j (omega arith)));
+      streams = subst (All has) all (All-from_get_or has _ 0 (λ j inside. s.done j (omega arith)));
     }
 
 pub returns-clause-offered : goal.returns-clause-offered
 returns-clause-offered g c = λ p older tick streams tells.
-    let us : List ℕ = c.as_slice-universe-items.result.now in
-    let s = c.loop-universe.invariant.so_far p older tick streams in
-    let all = take_all c.loop-universe.universe-index us c.loop-universe-test.false
-    ∙ numbers_are tick c.as_slice-universe-items.ensures.value
+    let all = numbers_are tick c.as_slice-universe-items.ensures.value
     c.universes-universes.ensures.numbers in
-    rw all at (s.offered tells)
+    rw (take_all c.loop-universe.universe-index _ c.loop-universe-test.false, all)
+    at (c.loop-universe.invariant.so_far p older tick streams).offered tells

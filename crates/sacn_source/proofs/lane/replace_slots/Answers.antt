@@ -1,7 +1,6 @@
-use Rattle.std.proofs.Common.{◌≡◌, ◌∙◌, List, ℕ, sym, ap, subst, false, true, not}
+use Rattle.std.proofs.Common.{◌≡◌, ◌∙◌, sym, ap, false, true, not}
 use Rattle.std.specs.Prelude.{nat_eq}
 use Rattle.std.specs.Cmp.Lexicographic.{pointwise, bytes_decides}
-use Rattle.sacn_packet.specs.Wire.{IsData}
 use Rattle.sacn_source.proofs.lane.replace_slots.Goals as goal
 
 pub returns-then-eq-clause-differs : goal.returns-then-eq-clause-differs
@@ -16,7 +15,7 @@ returns-then-eq-clause-packet c = λ fields old h.
     let same = (bytes_decides c.as_slice.result.now c.slots_in.result.now).0
     (sym c.eq.ensures ∙ c.if-eq.true) in
     let is : old ≡ c.args.slots.now = cc in
-    subst (λ (slots : List ℕ). IsData c.args.packet.now fields slots) is h
+    rw is at h
 
 pub returns-clause-differs : goal.returns-clause-differs
 returns-clause-differs c = λ fields old h.

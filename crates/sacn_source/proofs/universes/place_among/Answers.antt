@@ -1,13 +1,12 @@
-use Rattle.std.proofs.Common.{◌≡◌, length, sym, arith}
+use Rattle.std.proofs.Common.{sym, arith}
 use Rattle.std.proofs.lemmas.Bool.Decides.{nat_tests}
 use Rattle.sacn_source.proofs.Places.{not_there, there}
 use Rattle.sacn_source.proofs.universes.place_among.Goals as goal
 
 pub returns-then-is_empty : goal.returns-then-is_empty
 returns-then-is_empty c =
-    let none : length c.args.universes.now ≡ 0 = grind (arith, nat_tests, c.is_empty.ensures) in
     sym (not_there c.args.universes.now c.args.universe c.requires
-    (λ k before e. omega (arith, before, none)))
+    (λ k before e. grind (arith, nat_tests, c.is_empty.ensures)))
 
 pub returns-then-universe-universes : goal.returns-then-universe-universes
 returns-then-universe-universes c =
@@ -23,11 +22,4 @@ returns-then-place-universes c =
 pub returns-else-place-universes : goal.returns-else-place-universes
 returns-else-place-universes c =
     sym (not_there c.args.universes.now c.args.universe c.requires
-    (λ k before e. omega (
-      arith,
-      before,
-      e,
-      c.if-place-universes.false,
-      c.from-place.ensures,
-      c.if-universe-universes.false,
-    )))
+    (λ k before e. omega (arith, c.from-place.ensures)))

@@ -1,6 +1,4 @@
-use Rattle.std.proofs.Common.{◌≡◌, ◌∙◌, sym}
-use Rattle.std.specs.Prelude.{◌==◌, None}
-use Rattle.std.specs.List.{position}
+use Rattle.std.proofs.Common.{◌∙◌, sym}
 use Rattle.sacn_source.proofs.SenderLemmas.{is_there, lane_found, no_lane}
 use Rattle.sacn_source.proofs.sender.Sender.sent.Goals as goal
 
@@ -12,14 +10,11 @@ returns-in-Some-clause-sent c = λ who offers n s.
 
 pub returns-in-Some-clause-other : goal.returns-in-Some-clause-other
 returns-in-Some-clause-other c = λ other.
-    let p = lane_found c.args.universe _ c.self.view_is c.self.invariant c.place_of.ensures
-    c.in-Some.is c.index.ensures in
-    absurd (other (is_there p))
+    absurd (other (is_there (lane_found c.args.universe _ c.self.view_is c.self.invariant
+    c.place_of.ensures c.in-Some.is c.index.ensures)))
 
 pub returns-in-None-clause-sent : goal.returns-in-None-clause-sent
 returns-in-None-clause-sent c = λ who offers n s.
-    let none : position (λ v. v == c.args.universe) c.self.inside.universes ≡ None =
-    sym c.place_of.ensures ∙ c.in-None.is in
     absurd (no_lane who c.self.inside.lanes.items c.args.self.now c.self.inside.universes
-    c.args.universe
-    offers n c.self.view_is c.self.invariant none s)
+    c.args.universe offers n c.self.view_is c.self.invariant
+    (sym c.place_of.ensures ∙ c.in-None.is) s)
