@@ -1,19 +1,22 @@
 -- The newest packet of each CID: there is at most one, and it is the one that is found.
 use Rattle.std.proofs.Common.{◌≡◌, ℕ, ◌≤◌, Bool, true, false, not, refl, ap, arith, sym, subst}
-use Rattle.std.proofs.Common.{inl, inr, ◌∙◌, List, [], ◌∷◌, map, length, Option, Some, None}
-use Rattle.std.specs.Prelude.{filter, find, if◌then◌else◌}
+use Rattle.std.proofs.Common.{inl, inr, ◌∙◌, List, [], ◌∷◌, map, length, get_or, Option, Some, None}
+use Rattle.std.specs.Prelude.{filter, find, if◌then◌else◌, All, Contains}
 use Rattle.std.specs.List.{list_any}
 use Rattle.std.specs.Str.{bytes_eq}
-use Rattle.std.proofs.lemmas.Bool.{cond_both, not-true, or_left, or_right}
+use Rattle.std.proofs.lemmas.Bool.{cond_both, not-true}
 use Rattle.std.proofs.lemmas.Cmp.{nat_list_eq_equiv}
 use Rattle.std.proofs.lemmas.Slice.Eq.{bytes_eq-Decides}
 use Rattle.std.proofs.lemmas.List.{length-map}
 use Rattle.std.proofs.lemmas.List.Filters.{length-filter_both}
+use Rattle.std.proofs.lemmas.List.Folds.{list_any_at}
+use Rattle.std.proofs.lemmas.List.Elements.{All-head, All-filter, filter_passes}
 use Rattle.std.proofs.lemmas.Map.Entries.{option_filter}
 use Rattle.sacn_receiver.specs.Source.{Entry, same_cid, is_there, newest, records, while_there}
 use Rattle.sacn_receiver.specs.Source.{record_of}
 use Rattle.sacn_receiver.specs.Places.{AreApart, AreDistinct}
-use Rattle.sacn_receiver.proofs.Members.{by_test, In, In_filtered, In_map, found_in, none_found}
+use Rattle.sacn_receiver.proofs.Members.{by_test, In, In_map, found_in, none_found, place_from_in}
+use Rattle.sacn_receiver.proofs.Members.{in_from_get_or}
 
 -- the CID that a test passes
 pub own_cid : (c : List ℕ) (e : Entry) → same_cid c e ≡ true → c ≡ e.cid
@@ -29,10 +32,9 @@ pub find_kept : (p : Entry → Bool) (c : List ℕ) (es : List Entry) → AreDis
     → find (same_cid c) (filter p es) ≡ option_filter p (find (same_cid c) es)
 find_kept p c [] s = refl
 find_kept p c (e ∷ es) s =
-    by_test (same_cid c e) (λ k. by_test (p e) (λ l. simp (k, l))
-    (λ l. simp (k, l) (find_kept p c es s.1 ∙ ap (option_filter p) (alone c e es s k))))
-    (λ k. by_test (p e) (λ l. simp (k, l) (find_kept p c es s.1))
-    (λ l. simp (k, l) (find_kept p c es s.1)))
+    let ih = find_kept p c es s.1 in
+    by_test (same_cid c e) (λ k. let none = alone c e es s k in grind (arith, ih, k, none))
+    (λ k. grind (arith, ih, k))
 
 pub kept_distinct : (p : Entry → Bool) (es : List Entry) → AreDistinct es
     → AreDistinct (filter p es)
@@ -48,7 +50,7 @@ find_known : (q p : Entry → Bool) (b : Bool) → ((e : Entry) → q e ≡ true
     → (es : List Entry) → option_filter p (find q es) ≡ (if b then find q es else None)
 find_known q p b h [] = by_test b (λ k. rw k) (λ k. rw k)
 find_known q p b h (e ∷ es) =
-    by_test (q e) (λ k. rw (k, h e k)) (λ k. rw k (find_known q p b h es))
+    let ih = find_known q p b h es in let here = h e in grind (arith, ih, here)
 
 pub newest_distinct : (h : List Entry) → AreDistinct (newest h)
 newest_distinct [] = tt
@@ -71,8 +73,7 @@ find_newest c (e ∷ h) =
 
 -- what is found for a CID among the records is its record
 pub there_kept : (t : ℕ) (o : Option Entry) → option_filter (is_there t) o ≡ while_there t o
-there_kept t None = refl
-there_kept t (Some e) = refl
+there_kept t o = grind arith
 
 pub find_records : (h : List Entry) (t : ℕ) (c : List ℕ)
     → find (same_cid c) (records h t) ≡ record_of h t c
@@ -102,27 +103,15 @@ pub found_newest : (c : List ℕ) (h : List Entry) (e : Entry) → find (same_ci
 found_newest c h e f = (found_in (same_cid c) e (newest h) (find_newest c h ∙ f)).0
 
 -- each entry's CID is one of these
+abbrev pub IsFrom : List (List ℕ) → Entry → Type 0
+IsFrom cids e = list_any (λ c. same_cid c e) cids ≡ true
+
 abbrev pub AllIn : List (List ℕ) → List Entry → Type 0
-AllIn cs [] = Unit {0}
-AllIn cs (e ∷ es) = (list_any (λ c. same_cid c e) cs ≡ true) × AllIn cs es
+AllIn cids = All (IsFrom cids)
 
-pub one_of : (e : Entry) (cids : List (List ℕ)) → In e.cid cids
-    → list_any (λ c. same_cid c e) cids ≡ true
-one_of e [] i = absurd i
-one_of e (c ∷ cids) (inl s) =
-    or_left _ _ (subst (λ d. same_cid d e ≡ true) s (nat_list_eq_equiv.refl e.cid))
-one_of e (c ∷ cids) (inr i) = or_right (same_cid c e) _ (one_of e cids i)
-
-pub all_in : (cs : List (List ℕ)) (es : List Entry)
-    → ((e : Entry) → In e es → list_any (λ c. same_cid c e) cs ≡ true) → AllIn cs es
-all_in cs [] h = tt
-all_in cs (e ∷ es) h = (h e (inl refl), all_in cs es (λ f i. h f (inr i)))
-
-pub in_all : (cs : List (List ℕ)) (es : List Entry) → AllIn cs es → (e : Entry) → In e es
-    → list_any (λ c. same_cid c e) cs ≡ true
-in_all cs [] a e i = absurd i
-in_all cs (x ∷ es) a e (inl s) = rw s a.0
-in_all cs (x ∷ es) a e (inr i) = in_all cs es a.1 e i
+pub one_of : (e : Entry) (cids : List (List ℕ)) → Contains cids e.cid → IsFrom cids e
+one_of e cids i =
+    list_any_at (λ c. same_cid c e) cids i.0 e.cid i.1 (rw i.2 (nat_list_eq_equiv.refl e.cid))
 
 pub distinct_apart : (es : List Entry) → AreDistinct es → AreApart es
 distinct_apart [] s c = omega arith
@@ -135,18 +124,13 @@ distinct_apart (e ∷ es) s c =
 pub fits : (cs : List (List ℕ)) (es : List Entry) → AllIn cs es → AreDistinct es
     → length es ≤ length cs
 fits [] [] a s = omega arith
-fits [] (e ∷ es) a s = absurd (let f : false ≡ true = a.0 in cc)
+fits [] (e ∷ es) a s = absurd (let f : false ≡ true = All-head (IsFrom []) e es a in cc)
 fits (c ∷ cs) es a s =
     let p : Entry → Bool = λ e. not (same_cid c e) in
-    let rest : AllIn cs (filter p es) = all_in cs (filter p es) (λ e i.
-    let j = In_filtered p e es i in
-    rw (not-true (same_cid c e) j.1) at (in_all (c ∷ cs) es a e j.0)) in
-    omega (
-      arith,
-      length-filter_both (same_cid c) p (λ _. refl) es,
-      distinct_apart es s c,
-      fits cs (filter p es) rest (kept_distinct p es s),
-    )
+    let rest : AllIn cs (filter p es) = λ k d l. rw (not-true _ (filter_passes p es k d l))
+    at (All-filter p (IsFrom (c ∷ cs)) es a k d l) in
+    let others = fits cs (filter p es) rest (kept_distinct p es s) in
+    omega (arith, length-filter_both (same_cid c) p (λ _. refl) es, distinct_apart es s c, others)
 
 -- entries among which the same is found for each CID
 abbrev pub FindSame : List Entry → List Entry → Type 0
@@ -158,13 +142,10 @@ module _ (es fs : List Entry) (d : AreDistinct es) (s : FindSame es fs) where
 
   no_more : length es ≤ length fs
   no_more =
-      let cids : List (List ℕ) = map (λ f. f.cid) fs in
-      omega (
-        arith,
-        fits cids es (all_in cids es (λ e i.
-            one_of e cids (In_map (λ (f : Entry). f.cid) e fs (same_in e i)))) d,
-        length-map fs (λ (f : Entry). f.cid),
-      )
+      let cid : Entry → List ℕ = λ f. f.cid in
+      let own : AllIn (map cid fs) es = λ k e l. one_of (get_or es k e) (map cid fs)
+      (place_from_in _ (map cid fs) (In_map cid _ fs (same_in _ (in_from_get_or es k e l)))) in
+      omega (arith, fits (map cid fs) es own d, length-map fs cid)
 
 pub as_many : (es fs : List Entry) → AreDistinct es → AreDistinct fs → FindSame es fs
     → length es ≡ length fs

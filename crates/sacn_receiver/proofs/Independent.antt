@@ -1,15 +1,14 @@
 -- What is kept of a source depends on its own packets alone, the merge on the members alone, and
 -- the live records are those that are there and not ended. What a receiver makes of arrivals whose
 -- moments never fall is the history of the packets that are heard.
-use Rattle.std.proofs.Common.{◌≡◌, ℕ, zero, suc, ◌<◌, ◌≤◌, Bool, true, refl, ap, arith, sym, inl}
-use Rattle.std.proofs.Common.{inr, ◌∙◌, List, [], ◌∷◌, length, get_or, Option, Some, None, not}
+use Rattle.std.proofs.Common.{◌≡◌, ℕ, ◌<◌, ◌≤◌, Bool, true, refl, ap, arith, sym, subst}
+use Rattle.std.proofs.Common.{◌∙◌, List, [], ◌∷◌, length, Option, Some, None, not}
 use Rattle.std.proofs.Common.{map, Ok, Err}
 use Rattle.std.specs.Prelude.{if◌then◌else◌, filter, find, All, Contains, is_none, IsTrue}
-use Rattle.std.specs.List.{list_any}
 use Rattle.std.specs.Option.{option_or, option_map_or}
 use Rattle.std.proofs.lemmas.Bool.{lt-ltb, cond_both, not-true}
-use Rattle.std.proofs.lemmas.List.Elements.{All-tail, All-map, All-contains, All-filter}
-use Rattle.std.proofs.lemmas.List.Elements.{filter_passes}
+use Rattle.std.proofs.lemmas.List.Elements.{All-cons, All-head, All-tail, All-map, All-filter}
+use Rattle.std.proofs.lemmas.List.Elements.{All-weaker, filter_passes}
 use Rattle.sacn_packet.specs.Reading.{front_packet}
 use Rattle.sacn_receiver.specs.Source.{Entry, same_cid, is_there, is_after, newest, records}
 use Rattle.sacn_receiver.specs.Source.{while_there, record_of, is_taken, is_accepted, last_moment}
@@ -21,39 +20,26 @@ use Rattle.sacn_receiver.specs.declared.answer.Ignored.{Ignored}
 use Rattle.sacn_receiver.specs.Taking.{entry_of, reason_of, refusal, ignored, taken_of}
 use Rattle.sacn_receiver.specs.Arrivals.{Arrival, heard_all, last_arrival, NeverFall, not_heard}
 use Rattle.sacn_receiver.specs.Arrivals.{is_heard, cid_of, is_from, HeardAreFrom, packets_heard}
-use Rattle.sacn_receiver.proofs.Members.{by_test, In, found_in, In_filter, In_filtered}
+use Rattle.sacn_receiver.proofs.Members.{by_test, found_in, In_filter, In_filtered, in_from_place}
+use Rattle.sacn_receiver.proofs.Members.{place_from_in}
 use Rattle.sacn_receiver.proofs.Apart.{own_cid, find_records, records_distinct, in_found}
-use Rattle.sacn_receiver.proofs.Apart.{newest_found, AllIn, all_in, in_all, distinct_apart, fits}
-pub use Rattle.sacn_receiver.proofs.Apart.{one_of}
+use Rattle.sacn_receiver.proofs.Apart.{AllIn, IsFrom, distinct_apart, fits, one_of}
 use Rattle.sacn_receiver.proofs.Same.{merged_same}
 use Rattle.sacn_receiver.proofs.Merging.{live_distinct}
 use Rattle.sacn_receiver.proofs.Taking.{in_time}
 
--- an element, by its place and by recursion
-module _ {A : Type 0} (x : A) where
-  pub in_from_place : (xs : List A) (k : ℕ) → k < length xs → get_or xs k x ≡ x → In x xs
-  in_from_place [] k l e = absurd (omega arith)
-  in_from_place (y ∷ ys) zero l e = inl (sym e)
-  in_from_place (y ∷ ys) (suc k) l e = inr (in_from_place ys k (omega arith) e)
-
-  pub place_from_in : (xs : List A) → In x xs → Contains xs x
-  place_from_in [] i = absurd i
-  place_from_in (y ∷ ys) (inl e) = (zero, omega arith, sym e)
-  place_from_in (y ∷ ys) (inr i) = let r = place_from_in ys i in (suc r.0, omega (arith, r.1), r.2)
-
 pub by_membership : MergeIsByMembership
 by_membership lights others same s =
-    merged_same lights others s (λ l i. let r = (same l).0 (place_from_in l lights i) in
-    in_from_place l others r.0 r.1 r.2)
-    (λ l i. let r = (same l).1 (place_from_in l others i) in in_from_place l lights r.0 r.1 r.2)
+    merged_same lights others s
+    (λ l i. in_from_place l others ((same l).0 (place_from_in l lights i)))
+    (λ l i. in_from_place l lights ((same l).1 (place_from_in l others i)))
 
 pub live_records : LiveAreRecords
 live_records h t e = (
-  λ c. let j = In_filtered (λ f. not f.ended) e (records h t)
-      (in_from_place e (live h t) c.0 c.1 c.2) in (
-        sym (find_records h t e.cid) ∙ in_found (records h t) e (records_distinct h t) j.0,
-        not-true e.ended j.1,
-      ),
+  λ c. let j = In_filtered (λ f. not f.ended) e (records h t) (in_from_place e (live h t) c) in (
+    sym (find_records h t e.cid) ∙ in_found (records h t) e (records_distinct h t) j.0,
+    not-true e.ended j.1,
+  ),
   λ r. place_from_in e (live h t) (In_filter (λ f. not f.ended) e (records h t)
       (found_in (same_cid e.cid) e (records h t) (find_records h t e.cid ∙ r.0)).0 (ap not r.1)),
 )
@@ -61,33 +47,38 @@ live_records h t e = (
 pub live_apart : LiveAreApart
 live_apart h t = distinct_apart (live h t) (live_distinct h t)
 
--- a CID without a record finds room among as many as there are CIDs
-pub room_for : (cids : List (List ℕ)) (e : Entry) (t : ℕ) (h : List Entry) → AllIn cids h
-    → list_any (λ c. same_cid c e) cids ≡ true → record_of h t e.cid ≡ None
-    → length (records h t) < length cids
-room_for cids e t h a m n =
-    let kept : AllIn cids (records h t) = all_in cids (records h t) (λ f i.
-    let j = newest_found h f (In_filtered (is_there t) f (newest h) i).0 in
-    in_all cids h a f (found_in (same_cid f.cid) f h j).0) in
-    let more : length (e ∷ records h t) ≤ length cids =
-    fits cids (e ∷ records h t) (m, kept) (find_records h t e.cid ∙ n, records_distinct h t) in
-    omega (arith, more)
+-- what is kept of entries of some CIDs is of these CIDs
+newest_in : (cids : List (List ℕ)) (es : List Entry) → AllIn cids es → AllIn cids (newest es)
+newest_in cids [] a = a
+newest_in cids (e ∷ es) a =
+    let older = newest_in cids es (All-tail (IsFrom cids) e es a) in
+    All-cons (IsFrom cids) e _ (All-head (IsFrom cids) e es a)
+    (All-filter (λ f. not (same_cid e.cid f)) (IsFrom cids) (newest es) older)
 
 pub accepted_in : (room : ℕ) (cids : List (List ℕ)) (es : List Entry) → AllIn cids es
     → AllIn cids (accepted room es)
-accepted_in room cids [] a = tt
+accepted_in room cids [] a = a
 accepted_in room cids (e ∷ es) a =
-    cond_both (is_accepted room (accepted room es) e.moment e.cid e.number) (e ∷ accepted room es)
-    (accepted room es) (AllIn cids) (λ _. (a.0, accepted_in room cids es a.1))
-    (λ _. accepted_in room cids es a.1)
+    let rest = accepted_in room cids es (All-tail (IsFrom cids) e es a) in
+    cond_both (is_accepted room (accepted room es) e.moment e.cid e.number) _ _ (AllIn cids)
+    (λ _. All-cons (IsFrom cids) e _ (All-head (IsFrom cids) e es a) rest) (λ _. rest)
+
+-- a CID without a record finds room among as many as there are CIDs
+pub room_for : (cids : List (List ℕ)) (e : Entry) (t : ℕ) (h : List Entry) → AllIn cids h
+    → IsFrom cids e → record_of h t e.cid ≡ None → length (records h t) < length cids
+room_for cids e t h a m n =
+    let kept = All-filter (is_there t) (IsFrom cids) (newest h) (newest_in cids h a) in
+    let more : length (e ∷ records h t) ≤ length cids =
+    fits cids (e ∷ records h t) (All-cons (IsFrom cids) e (records h t) m kept)
+    (find_records h t e.cid ∙ n, records_distinct h t) in
+    omega (arith, more)
 
 -- where there is room, a packet is accepted by the record of its CID alone
 abbrev by_number : ℕ → Option Entry → Bool
 by_number number o = option_map_or (λ e. is_after e.number number) o true
 
 accepts : (room : ℕ) (cids : List (List ℕ)) (e : Entry) → length cids ≤ room
-    → list_any (λ c. same_cid c e) cids ≡ true → (h : List Entry) → AllIn cids h
-    → is_accepted room h e.moment e.cid e.number
+    → IsFrom cids e → (h : List Entry) → AllIn cids h → is_accepted room h e.moment e.cid e.number
     ≡ by_number e.number (record_of h e.moment e.cid)
 accepts room cids e few m h a = go (record_of h e.moment e.cid) refl
   where
@@ -98,39 +89,33 @@ accepts room cids e few m h a = go (record_of h e.moment e.cid) refl
 
 module _ (room : ℕ) (cids : List (List ℕ)) (c : List ℕ) (few : length cids ≤ room) where
   -- a packet of a source is accepted alike where the same packet of it was accepted last
-  same_next : (e : Entry) (g h : List Entry) → list_any (λ d. same_cid d e) cids ≡ true
-      → AllIn cids g → AllIn cids h → same_cid c e ≡ true
-      → find (same_cid c) g ≡ find (same_cid c) h
-      → find (same_cid c) (if is_accepted room g e.moment e.cid e.number then e ∷ g else g)
-      ≡ find (same_cid c) (if is_accepted room h e.moment e.cid e.number then e ∷ h else h)
-  same_next e g h m a b q s =
-      let same : find (same_cid e.cid) g ≡ find (same_cid e.cid) h = rw (own_cid c e q) at s in
-      let next : is_accepted room g e.moment e.cid e.number
-      ≡ is_accepted room h e.moment e.cid e.number = accepts room cids e few m g a
-      ∙ ap (λ o. by_number e.number (while_there e.moment o)) same
-      ∙ sym (accepts room cids e few m h b) in
-      rw next (by_test (is_accepted room h e.moment e.cid e.number) (λ k. simp (k, q))
-      (λ k. simp k s))
-
   independent : (es : List Entry) → AllIn cids es → find (same_cid c) (accepted room es)
       ≡ find (same_cid c) (accepted room (filter (same_cid c) es))
   independent [] a = refl
   independent (e ∷ es) a =
       let own : List Entry = filter (same_cid c) es in
       let g : List Entry = accepted room es in
-      let ih : find (same_cid c) g ≡ find (same_cid c) (accepted room own) = independent es a.1 in
-      by_test (same_cid c e)
-      (λ q. rw q (same_next e g (accepted room own) a.0 (accepted_in room cids es a.1)
-      (accepted_in room cids own (all_in cids own (λ f i.
-      in_all cids es a.1 f (In_filtered (same_cid c) f es i).0))) q ih))
+      let h : List Entry = accepted room own in
+      let rest : AllIn cids es = All-tail (IsFrom cids) e es a in
+      let ih : find (same_cid c) g ≡ find (same_cid c) h = independent es rest in
+      let m : IsFrom cids e = All-head (IsFrom cids) e es a in
+      by_test (same_cid c e) (λ q.
+      let same = subst (λ d. find (same_cid d) g ≡ find (same_cid d) h) (own_cid c e q) ih in
+      let next : is_accepted room g e.moment e.cid e.number
+      ≡ is_accepted room h e.moment e.cid e.number =
+      accepts room cids e few m g (accepted_in room cids es rest)
+      ∙ ap (λ o. by_number e.number (while_there e.moment o)) same
+      ∙ sym (accepts room cids e few m h
+      (accepted_in room cids own (All-filter (same_cid c) (IsFrom cids) es rest))) in
+      rw (q, next) (by_test (is_accepted room h e.moment e.cid e.number) (λ k. simp (k, q))
+      (λ k. simp k ih)))
       (λ q. rw q (cond_both (is_accepted room g e.moment e.cid e.number) (e ∷ g) g
-      (λ l. find (same_cid c) l ≡ find (same_cid c) (accepted room own)) (λ _. rw q ih) (λ _. ih)))
+      (λ l. find (same_cid c) l ≡ find (same_cid c) h) (λ _. rw q ih) (λ _. ih)))
 
 all_from : (cids : List (List ℕ)) (es : List Entry) → All (λ e. Contains cids e.cid) es
     → AllIn cids es
-all_from cids es a = all_in cids es (λ e i.
-    let h = All-contains (λ (f : Entry). Contains cids f.cid) es e a (place_from_in e es i) in
-    one_of e cids (in_from_place e.cid cids h.0 h.1 h.2))
+all_from cids es =
+    All-weaker (λ e. Contains cids e.cid) (IsFrom cids) (λ e i. one_of e cids i) es
 
 pub sources_independent : SourcesAreIndependent
 sources_independent room cids packets few from cid =
@@ -167,21 +152,13 @@ heard_accepted room universe (a ∷ older) n =
         (refusal room (accepted room (map entry_from rest)) a.moment (cid_of a)
         (entry_from a).number)) (entry_from a ∷ accepted room (map entry_from rest))
         ≡ accepted room (map entry_from (if is_none o then a ∷ rest else rest))
-    go None rest =
-        by_test (is_accepted room (accepted room (map entry_from rest)) a.moment (cid_of a)
-        (entry_from a).number) (λ k. simp k) (λ k. simp k)
-    go (Some x) rest = refl
+    go o rest = grind arith
 
--- the packets of some of the arrivals
-packets_from : (cid : List ℕ) (universe : ℕ) (arrivals : List Arrival)
-    → packets_heard universe (filter (is_from cid) arrivals)
-    ≡ filter (same_cid cid) (packets_heard universe arrivals)
-packets_from cid universe [] = refl
-packets_from cid universe (a ∷ older) =
-    let ih = packets_from cid universe older in
-    by_test (is_from cid a) (λ p. by_test (is_heard universe a)
-    (λ q. simp (p, q) (ap (λ l. entry_from a ∷ l) ih)) (λ q. simp (p, q) ih))
-    (λ p. by_test (is_heard universe a) (λ q. simp (p, q) ih) (λ q. simp (p, q) ih))
+-- a filter by what a map gives
+filter_both : {A B : Type 0} (f : A → B) (p : B → Bool) (q : A → Bool) (xs : List A)
+    → map f (filter q (filter (λ x. p (f x)) xs)) ≡ filter p (map f (filter q xs))
+filter_both f p q [] = refl
+filter_both f p q (x ∷ xs) = let ih = filter_both f p q xs in grind (arith, ih)
 
 -- of some of the arrivals too the moments never fall
 some_never_fall : (p : Arrival → Bool) (older : List Arrival) (m : ℕ) → last_arrival older ≤ m
@@ -212,7 +189,7 @@ records_independent room universe cids arrivals few from n cid =
     (packets_in cids universe arrivals from) ∙ sym (ap (find (same_cid cid))
     (heard_accepted room universe (filter (is_from cid) arrivals)
     (some_never_fall (is_from cid) arrivals (last_arrival arrivals) (omega arith) n).1
-    ∙ ap (accepted room) (packets_from cid universe arrivals)))
+    ∙ ap (accepted room) (filter_both entry_from (same_cid cid) (is_heard universe) arrivals)))
 
 pub answers_independent : AnswersAreIndependent
 answers_independent room universe cids a older few from n =
@@ -228,8 +205,7 @@ answers_independent room universe cids a older few from n =
 
     only_if_none : (o x y : Option Ignored) → (is_none o ≡ true → x ≡ y)
         → option_or o x ≡ option_or o y
-    only_if_none None x y h = h refl
-    only_if_none (Some r) x y h = refl
+    only_if_none o x y h = grind (arith, h)
 
     answered : Option Entry → Option Ignored
     answered o = option_or (not_heard universe a.datagram)
@@ -248,4 +224,5 @@ answers_independent room universe cids a older few from n =
         ∙ only_if_none (not_heard universe a.datagram) _ _ (λ q.
         ap (λ b. if b then None else Some (reason_of (record_of h a.moment (cid_of a))))
         (accepts room cids (entry_from a) few
-        (rw q at (packets_in cids universe (a ∷ older) from)).0 h all))
+        (All-head (IsFrom cids) (entry_from a) _
+        (rw q at (packets_in cids universe (a ∷ older) from))) h all))

@@ -1,7 +1,7 @@
 -- What is in a list, and what filters leave in it.
-use Rattle.std.proofs.Common.{◌≡◌, ◌<◌, Bool, true, false, ◌⊎◌, refl, ap, arith, sym, inl, inr}
-use Rattle.std.proofs.Common.{◌∙◌, List, [], ◌∷◌, map, length, Some, None}
-use Rattle.std.specs.Prelude.{filter, find}
+use Rattle.std.proofs.Common.{◌≡◌, ℕ, zero, suc, ◌<◌, Bool, true, false, ◌⊎◌, refl, ap, arith, sym}
+use Rattle.std.proofs.Common.{inl, inr, ◌∙◌, List, [], ◌∷◌, map, length, get_or, Some, None}
+use Rattle.std.specs.Prelude.{filter, find, Contains}
 
 -- what holds where a test passes, and where it fails
 pub by_test : {P : Type 0} (b : Bool) → (b ≡ true → P) → (b ≡ false → P) → P
@@ -12,6 +12,22 @@ by_test false f g = g refl
 abbrev pub In : {A : Type 0} → A → List A → Type 0
 In e [] = ⊥
 In e (x ∷ xs) = (e ≡ x) ⊎ In e xs
+
+-- an element, by its place and by recursion
+module _ {A : Type 0} where
+  pub in_from_get_or : (xs : List A) (k : ℕ) (x : A) → k < length xs → In (get_or xs k x) xs
+  in_from_get_or [] k x l = absurd (omega arith)
+  in_from_get_or (y ∷ ys) zero x l = inl refl
+  in_from_get_or (y ∷ ys) (suc k) x l = inr (in_from_get_or ys k x (omega arith))
+
+  pub in_from_place : (x : A) (xs : List A) → Contains xs x → In x xs
+  in_from_place x xs c = rw c.2 at (in_from_get_or xs c.0 x c.1)
+
+  pub place_from_in : (x : A) (xs : List A) → In x xs → Contains xs x
+  place_from_in x [] i = absurd i
+  place_from_in x (y ∷ ys) (inl e) = (zero, omega arith, sym e)
+  place_from_in x (y ∷ ys) (inr i) =
+      let r = place_from_in x ys i in (suc r.0, omega (arith, r.1), r.2)
 
 pub In_length : {A : Type 0} (e : A) (xs : List A) → In e xs → 0 < length xs
 In_length e [] i = absurd i
@@ -44,11 +60,13 @@ module _ {A : Type 0} (p : A → Bool) where
       (inl k, ap p k ∙ h)) (λ h. let r = found_in e xs (rw h at f) in (inr r.0, r.1))
 
   -- nothing is found where nothing passes
+  pub none_first : (x : A) (xs : List A) → find p (x ∷ xs) ≡ None
+      → (p x ≡ false) × (find p xs ≡ None)
+  none_first x xs n = grind (arith, n)
+
   pub none_found : (es : List A) → find p es ≡ None → length (filter p es) ≡ 0
   none_found [] n = refl
-  none_found (e ∷ es) n =
-      by_test (p e) (λ h. absurd (let k : Some e ≡ None = rw h at n in cc))
-      (λ h. rw h (none_found es (rw h at n)))
+  none_found (e ∷ es) n = let m = none_first e es n in rw m.0 (none_found es m.1)
 
 module _ {A B : Type 0} (f : A → B) where
   pub In_map : (e : A) (es : List A) → In e es → In (f e) (map f es)

@@ -1,7 +1,7 @@
 -- The live records of a receiver, one more at a time.
 use Rattle.std.proofs.Common.{◌≡◌, ℕ, ◌+◌, ◌<◌, ◌≤◌, true, false, cond, max, refl, ap, replicate}
 use Rattle.std.proofs.Common.{inl, inr, arith, sym, ◌∙◌, List, [], ◌∷◌, map, length, take, get_or}
-use Rattle.std.proofs.Common.{Option, Some, None, not}
+use Rattle.std.proofs.Common.{Option, Some, not}
 use Rattle.std.specs.Prelude.{filter, find, count_by, slice_get, slice_index, ◌==◌, if◌then◌else◌}
 use Rattle.std.proofs.lemmas.Bool.{cases_lt}
 use Rattle.std.proofs.lemmas.List.{take_more, get_or_past, get_or-replicate, length-replicate}
@@ -11,12 +11,12 @@ use Rattle.std.proofs.lemmas.List.Recursion.{max_push}
 use Rattle.std.proofs.lemmas.List.Sums.{length-filter}
 use Rattle.std.proofs.lemmas.Map.Entries.{option_filter}
 use Rattle.sacn_receiver.specs.declared.record.Record.{Record}
-use Rattle.sacn_receiver.specs.Source.{Entry, same_cid, is_there, records, while_there}
+use Rattle.sacn_receiver.specs.Source.{Entry, same_cid, records, while_there}
 use Rattle.sacn_receiver.specs.Shown.{Light, light_of, live, greatest, merged, shown, shown_slots}
 use Rattle.sacn_receiver.specs.Kept.{Kept, StandsFor}
 use Rattle.sacn_receiver.specs.Records.{entries, kept_entry, is_live_at, lights_at, top_at, lit}
 use Rattle.sacn_receiver.specs.Places.{AreDistinct}
-use Rattle.sacn_receiver.proofs.Members.{by_test, In, In_map, In_mapped}
+use Rattle.sacn_receiver.proofs.Members.{In, In_map, In_mapped}
 use Rattle.sacn_receiver.proofs.Apart.{find_kept, kept_distinct, find_records, records_distinct}
 use Rattle.sacn_receiver.proofs.Apart.{FindSame, same_in, as_many}
 use Rattle.sacn_receiver.proofs.Same.{merged_same}
@@ -47,8 +47,7 @@ module _ (t : ℕ) where
 
   top_first : (r : Record) (rs : List Record)
       → top_at t (r ∷ rs) ≡ max (live_priority r) (top_at t rs)
-  top_first r rs =
-      by_test (is_live_at t (kept_entry r)) (λ h. simp h) (λ h. simp h (omega arith))
+  top_first r rs = grind arith
 
   module _ (rs : List Record) (i : ℕ) (d : Record) (lt : i < length rs) where
     top_more : top_at t (take (i + 1) rs)
@@ -58,25 +57,18 @@ module _ (t : ℕ) where
 
     pub top_live : is_live_at t (kept_entry (get_or rs i d)) ≡ true
         → top_at t (take (i + 1) rs) ≡ max (get_or rs i d).priority (top_at t (take i rs))
-    top_live q =
-        let p : live_priority (get_or rs i d) ≡ (get_or rs i d).priority = rw q refl in
-        omega (arith, top_more, p)
+    top_live q = grind (arith, top_more, q)
 
     pub top_dark : is_live_at t (kept_entry (get_or rs i d)) ≡ false
         → top_at t (take (i + 1) rs) ≡ top_at t (take i rs)
-    top_dark q =
-        let p : live_priority (get_or rs i d) ≡ 0 = rw q refl in
-        omega (arith, top_more, p)
+    top_dark q = grind (arith, top_more, q)
 
 -- the greatest slot of the records that lead is that of all, where the others count for 0
 pub greatest_lit : (t s top : ℕ) (rs : List Record) → greatest (map (λ r. lit t top (Some r) s) rs)
     ≡ greatest (map (λ l. slice_index l.slots s) (filter (λ l. l.priority == top) (lights_at t rs)))
 greatest_lit t s top [] = refl
 greatest_lit t s top (r ∷ rs) =
-    by_test (is_live_at t (kept_entry r)) (λ h. by_test (r.priority == top)
-    (λ k. simp (h, k) (ap (max (slice_index r.slots s)) (greatest_lit t s top rs)))
-    (λ k. simp (h, k) (omega (arith, greatest_lit t s top rs))))
-    (λ h. simp h (omega (arith, greatest_lit t s top rs)))
+    let ih = greatest_lit t s top rs in grind (arith, ih)
 
 lights_in : (es fs : List Entry) → ((e : Entry) → In e es → In e fs) → (l : Light)
     → In l (map light_of es) → In l (map light_of fs)
@@ -91,8 +83,7 @@ module _ (r : Kept) (h : List Entry) (t : ℕ) (d : AreDistinct r.records) (time
     (s : StandsFor r h) where
   live_kept : (o : Option Entry) → option_filter (is_live_at t) o
       ≡ option_filter (λ e. not e.ended) (while_there t o)
-  live_kept None = refl
-  live_kept (Some e) = by_test (is_there t e) (λ k. rw k) (λ k. rw k)
+  live_kept o = grind arith
 
   same_live : FindSame (filter (is_live_at t) r.records) (live h t)
   same_live c =

@@ -14,11 +14,8 @@ module _ {A : Type 0} (f : A → ℕ) where
   greatest_le : (xs ys : List A) → ((e : A) → In e xs → In e ys)
       → greatest (map f xs) ≤ greatest (map f ys)
   greatest_le [] ys h = omega arith
-  greatest_le (x ∷ xs) ys h = omega (
-    arith,
-    In_le x ys (h x (inl refl)),
-    greatest_le xs ys (λ e i. h e (inr i)),
-  )
+  greatest_le (x ∷ xs) ys h = let le = greatest_le xs ys (λ e i. h e (inr i)) in
+      omega (arith, In_le x ys (h x (inl refl)), le)
 
   same_greatest : (xs ys : List A) → ((e : A) → In e xs → In e ys) → ((e : A) → In e ys → In e xs)
       → greatest (map f xs) ≡ greatest (map f ys)

@@ -1,12 +1,12 @@
 -- What a receiver answers, where it keeps the packet, and for which history it stands then.
-use Rattle.std.proofs.Common.{◌≡◌, ℕ, zero, suc, ◌-◌, ◌<◌, ◌≤◌, Bool, true, false, not, ◌&&◌, refl}
-use Rattle.std.proofs.Common.{ap, ap₂, arith, sym, subst, ◌∙◌, one-add, List, [], ◌∷◌, map, length}
-use Rattle.std.proofs.Common.{get_or, Option, Some, None, Result, Ok, Err}
+use Rattle.std.proofs.Common.{◌≡◌, ℕ, zero, suc, ◌+◌, ◌-◌, ◌<◌, ◌≤◌, Bool, true, false, not, ◌&&◌}
+use Rattle.std.proofs.Common.{refl, ap, ap₂, arith, sym, subst, ◌∙◌, one-add, List, [], ◌∷◌, map}
+use Rattle.std.proofs.Common.{length, get_or, Option, Some, None, Result, Ok, Err}
 use Rattle.std.specs.Prelude.{nat_lt, if◌then◌else◌, filter, find, IfOk, slice_get}
 use Rattle.std.specs.Option.{option_map, option_and_then, unwrap_or, option_or, option_map_or}
 use Rattle.std.specs.Result.{result_err}
 use Rattle.std.specs.List.{position, position_or_len}
-use Rattle.std.proofs.lemmas.Bool.{ltb-true, lt-ltb, le-ltb, not-true, cond_both}
+use Rattle.std.proofs.lemmas.Bool.{ltb-true, le-ltb, cond_both}
 use Rattle.std.proofs.lemmas.Bool.Decides.{nat_tests}
 use Rattle.std.proofs.lemmas.Cmp.{nat_list_eq_equiv}
 use Rattle.std.proofs.lemmas.Option.{cond_some, slice_get-get_or, slice_get_past}
@@ -30,18 +30,21 @@ use Rattle.sacn_receiver.specs.Taking.{ignored, taken_of, answer, heard}
 use Rattle.sacn_receiver.specs.Records.{entries, kept_entry}
 use Rattle.sacn_receiver.specs.Places.{AreDistinct, IsFree, IsPlace, put}
 use Rattle.sacn_receiver.specs.Kept.{Kept, StandsFor}
-use Rattle.sacn_receiver.proofs.Members.{by_test, found_in, In_filter, In_length}
+use Rattle.sacn_receiver.proofs.Members.{by_test, found_in, In_filter, In_length, none_first}
 use Rattle.sacn_receiver.proofs.Apart.{alone, find_kept, kept_distinct, there_kept, find_records}
 use Rattle.sacn_receiver.proofs.Apart.{records_distinct, as_many}
+
+-- what the source rule refuses, by the record of the CID and how many there are
+abbrev by_record : ℕ → Option Entry → ℕ → ℕ → Option Ignored
+by_record room o count number = if is_taken room o count number then None else Some (reason_of o)
 
 -- what a history refuses, by what is there of entries that give each CID the same record
 refused_by : (t : ℕ) (es h : List Entry) → AreDistinct es
     → ((cid : List ℕ) → record_of es t cid ≡ record_of h t cid)
     → (room : ℕ) (cid : List ℕ) (number : ℕ) → refusal room h t cid number
-    ≡ (if is_taken room (record_of es t cid) (length (filter (is_there t) es)) number then None
-    else Some (reason_of (record_of es t cid)))
+    ≡ by_record room (record_of es t cid) (length (filter (is_there t) es)) number
 refused_by t es h d s room cid number =
-    ap₂ (λ o n. if is_taken room o n number then None else Some (reason_of o)) (sym (s cid))
+    ap₂ (λ o n. by_record room o n number) (sym (s cid))
     (as_many (records h t) (filter (is_there t) es) (records_distinct h t)
     (kept_distinct (is_there t) es d) (λ c. find_records h t c ∙ sym (s c)
     ∙ sym (find_kept (is_there t) c es d ∙ there_kept t (find (same_cid c) es))))
@@ -59,11 +62,18 @@ or_behind p xs = grind (arith, nat_tests, prefix_len-le-length (λ x. not (p x))
 find_mapped : {A B : Type 0} (f : A → B) (p : B → Bool) (xs : List A)
     → find p (map f xs) ≡ option_map f (find (λ x. p (f x)) xs)
 find_mapped f p [] = refl
-find_mapped f p (x ∷ xs) = by_test (p (f x)) (λ h. rw h) (λ h. rw h (find_mapped f p xs))
+find_mapped f p (x ∷ xs) = grind (arith, find_mapped f p xs)
 
 module _ (t : ℕ) where
   abbrev gone : Record → Bool
   gone r = not (is_there t (kept_entry r))
+
+  -- each record is there or gone
+  each : (rs : List Record) → length (filter (is_there t) (entries rs))
+      + length (filter (λ e. not (is_there t e)) (entries rs)) ≡ length rs
+  each rs =
+      length-filter_both (is_there t) (λ e. not (is_there t e)) (λ _. refl) (entries rs)
+      ∙ length-map rs kept_entry
 
   -- one of some records is gone exactly if fewer than all are there
   room : (n : ℕ) (rs : List Record) → length rs ≤ n → nat_lt (position_or_len gone rs) n
@@ -73,13 +83,7 @@ module _ (t : ℕ) where
   room (suc n) (r ∷ rs) few =
       let ih = room n rs (omega arith) in
       by_test (is_there t (kept_entry r)) (λ k. rw k (grind (arith, nat_tests, ih)))
-      (λ k. rw k (lt-ltb 0 (suc n) (omega arith)
-      ∙ sym (lt-ltb (length (filter (is_there t) (entries rs))) (suc n) (omega (
-        arith,
-        few,
-        length-filter_both (is_there t) (λ e. not (is_there t e)) (λ _. refl) (entries rs),
-        length-map rs kept_entry,
-      )))))
+      (λ k. rw k (grind (arith, nat_tests, few, each rs)))
 
   module _ (cid : List ℕ) where
     abbrev own : Record → Bool
@@ -102,10 +106,9 @@ module _ (t : ℕ) where
         → IsFree t cid (entries rs) (position_or_len gone rs)
     gone_free [] n = tt
     gone_free (r ∷ rs) n =
-        by_test (own r) (λ h. absurd (let z : Some (kept_entry r) ≡ None = rw h at n in cc))
-        (λ h. let m : find (same_cid cid) (entries rs) ≡ None = rw h at n in
-        by_test (is_there t (kept_entry r)) (λ k. rw (k, one-add) (h, gone_free rs m))
-        (λ k. rw k (rw (h, k), m)))
+        let m = none_first (same_cid cid) (kept_entry r) (entries rs) n in
+        by_test (is_there t (kept_entry r)) (λ k. rw (k, one-add) (m.0, gone_free rs m.1))
+        (λ k. rw k (rw (m.0, k), m.1))
 
 module _ (rs : List Record) (t : ℕ) (cid : List ℕ) (number : ℕ) (few : length rs ≤ 4)
     (apart : AreDistinct (entries rs)) where
@@ -113,12 +116,9 @@ module _ (rs : List Record) (t : ℕ) (cid : List ℕ) (number : ℕ) (few : len
   there = length (filter (is_there t) (entries rs))
 
   refused : (o : Option Entry) → find (same_cid cid) (entries rs) ≡ o
-      → refusal 4 (entries rs) t cid number
-      ≡ (if is_taken 4 (while_there t o) there number then None
-      else Some (reason_of (while_there t o)))
+      → refusal 4 (entries rs) t cid number ≡ by_record 4 (while_there t o) there number
   refused o e = refused_by t (entries rs) (entries rs) apart (λ c. refl) 4 cid number
-      ∙ ap (λ o. if is_taken 4 (while_there t o) there number then None
-      else Some (reason_of (while_there t o))) e
+      ∙ ap (λ o. by_record 4 (while_there t o) there number) e
 
   -- what is answered to a packet of the CID: its place, or why it is refused
   abbrev IsPlaced : Result ℕ Ignored → Type 0
@@ -128,7 +128,9 @@ module _ (rs : List Record) (t : ℕ) (cid : List ℕ) (number : ℕ) (few : len
   }
 
   -- a CID with a record, at a place
-  module _ (i : ℕ) (is : position (own t cid) rs ≡ Some i) where
+  module _ (i : ℕ) (is : position (own t cid) rs ≡ Some i) (d : Record) (b : Bool)
+      (overtaken : b ≡ (is_there t (kept_entry (get_or rs i d))
+      && not (is_after (get_or rs i d).number number))) where
     at : (nat_lt (position_or_len (own t cid) rs) (length rs) ≡ true)
         × (position_or_len (own t cid) rs ≡ i)
     at = cond_some _ (position_or_len (own t cid) rs) i is
@@ -136,40 +138,27 @@ module _ (rs : List Record) (t : ℕ) (cid : List ℕ) (number : ℕ) (few : len
     within : i < length rs
     within = omega (arith, ltb-true (position_or_len (own t cid) rs) (length rs) at.0, at.1)
 
-    known_refused : (d : Record) (b : Bool) → b ≡ (is_there t (kept_entry (get_or rs i d))
-        && not (is_after (get_or rs i d).number number))
-        → refusal 4 (entries rs) t cid number ≡ (if b then Some OutOfSequence else None)
-    known_refused d b overtaken = rw overtaken (
+    known_refused : (if b then Some OutOfSequence else None) ≡ refusal 4 (entries rs) t cid number
+    known_refused = rw overtaken (
         let e : Entry = kept_entry (get_or rs i d) in
         let found : find (same_cid cid) (entries rs) ≡ Some e = own_found t cid rs
         ∙ ap (λ o. option_map kept_entry (option_and_then (slice_get rs) o)) is
         ∙ ap (option_map kept_entry) (slice_get-get_or rs i d within) in
-        refused (Some e) found ∙ by_test (is_there t e)
-        (λ k. by_test (is_after e.number number) (λ l. simp (k, l)) (λ l. simp (k, l)))
-        (λ k. simp (
-          k,
-          lt-ltb there 4 (omega (
-            arith,
-            few,
-            length-map rs kept_entry,
-            length-filter_both (is_there t) (λ e. not (is_there t e)) (λ _. refl) (entries rs),
-            In_length e (filter (λ e. not (is_there t e)) (entries rs))
-                (In_filter (λ e. not (is_there t e)) e (entries rs)
-                (found_in (same_cid cid) e (entries rs) found).0 (ap not k)),
-          )),
-        )))
+        let room : is_there t e ≡ false → there < 4 = λ k.
+        let left = In_length e _ (In_filter (λ e. not (is_there t e)) e (entries rs)
+        (found_in (same_cid cid) e (entries rs) found).0 (ap not k)) in
+        omega (arith, few, each t rs, left) in
+        grind (arith, nat_tests, room) ∙ sym (refused (Some e) found))
 
-    pub known : (d : Record) (b : Bool) → b ≡ (is_there t (kept_entry (get_or rs i d))
-        && not (is_after (get_or rs i d).number number))
-        → IsPlaced (if b then Err OutOfSequence else Ok i)
-    known d true overtaken = record { place = tt; refused = sym (known_refused d true overtaken) }
-    known d false overtaken = record {
-      place = record {
-        within = omega (arith, within, length-map rs kept_entry);
-        room = omega (arith, within, few);
-        free = subst (IsFree t cid (entries rs)) at.1 (own_free t cid rs apart);
-      };
-      refused = sym (known_refused d false overtaken);
+    pub known : IsPlaced (if b then Err OutOfSequence else Ok i)
+    known = record {
+      place = cond_both b _ _ (λ r. IfOk r (λ i. IsPlace (entries rs) t cid i)) (λ _. tt)
+          (λ _. record {
+            within = omega (arith, within, length-map rs kept_entry);
+            room = omega (arith, within, few);
+            free = subst (IsFree t cid (entries rs)) at.1 (own_free t cid rs apart);
+          });
+      refused = grind arith ∙ known_refused;
     }
 
   -- a CID without one
@@ -191,10 +180,7 @@ module _ (rs : List Record) (t : ℕ) (cid : List ℕ) (number : ℕ) (few : len
             free = gone_free t cid rs nowhere;
           }) (λ h. tt));
       refused =
-          ap result_err f
-          ∙ by_test (nat_lt (position_or_len (gone t) rs) 4) (λ h. rw h) (λ h. rw h)
-          ∙ ap (λ b. if b then None else Some SourcesFull) (room t 4 rs few)
-          ∙ sym (refused None nowhere);
+          ap result_err f ∙ grind (arith, room t 4 rs few) ∙ sym (refused None nowhere);
     }
 
 -- a record stays away once it is gone
@@ -213,11 +199,9 @@ module _ (e : Entry) (c : List ℕ) where
   put_record t l [] zero f a = refl
   put_record t l [] (suc i) f a = refl
   put_record t l (x ∷ xs) zero f a =
-      by_test (same_cid c e) (λ h. rw h) (λ h. by_test (same_cid c x) (λ k.
-      let other : same_cid e.cid x ≡ false = alike x k ∙ h in
-      let away : is_there t x ≡ false =
-      still_gone e.moment t x.moment l (not-true (is_there e.moment x) (rw other at f.0)) in
-      rw (h, k) (ap (while_there t) (alone c x xs a k) ∙ rw away)) (λ k. rw (h, k)))
+      let gone = still_gone e.moment t x.moment l in
+      by_test (same_cid c x) (λ k. let none = alone c x xs a k in let same = alike x k in
+      grind (arith, f.0, k, none, same, gone)) (λ k. grind (arith, k))
   put_record t l (x ∷ xs) (suc i) f a =
       by_test (same_cid c x)
       (λ k. let h : same_cid c e ≡ false = sym (alike x k) ∙ f.0 in rw (k, h))
@@ -227,12 +211,9 @@ module _ (e : Entry) (c : List ℕ) where
       → find (same_cid c) (put es i e) ≡ None
   none_put h [] zero n = rw h
   none_put h [] (suc i) n = rw h
-  none_put h (x ∷ xs) zero n =
-      by_test (same_cid c x) (λ k. absurd (let z : Some x ≡ None = rw k at n in cc))
-      (λ k. rw h (rw k at n))
+  none_put h (x ∷ xs) zero n = rw h (none_first (same_cid c) x xs n).1
   none_put h (x ∷ xs) (suc i) n =
-      by_test (same_cid c x) (λ k. absurd (let z : Some x ≡ None = rw k at n in cc))
-      (λ k. rw k (none_put h xs i (rw k at n)))
+      let m = none_first (same_cid c) x xs n in rw m.0 (none_put h xs i m.1)
 
 put_distinct : (es : List Entry) (i : ℕ) (e : Entry) → AreDistinct es
     → IsFree e.moment e.cid es i → AreDistinct (put es i e)
@@ -251,16 +232,13 @@ module _ (t : ℕ) (d : List ℕ) (p : Packet) (has : HasPacket d p) (r : Kept) 
   pub kept_apart : AreDistinct new
   kept_apart = rw kept (put_distinct r.records i (entry_of t p) apart place.free)
 
+  abbrev after : Kept
+  after = record { universe = r.universe; latest = t; records = new }
+
   pub kept_stands : (h : List Entry) → r.latest ≤ t → StandsFor r h
-      → StandsFor (record { universe = r.universe; latest = t; records = new })
-      (entry_of t (front_packet d) ∷ h)
+      → StandsFor after (entry_of t (front_packet d) ∷ h)
   kept_stands h time s =
-      let P : Packet → Type 0 = λ q. StandsFor (record {
-        universe = r.universe;
-        latest = t;
-        records = put r.records i (entry_of t p);
-      }) (entry_of t q ∷ h) in
-      rw kept (subst P (sym (packet_ends d p has)) (record {
+      subst (λ q. StandsFor after (entry_of t q ∷ h)) (sym (packet_ends d p has)) (rw kept (record {
         latest_is = refl;
         records_are = λ u c m. put_record (entry_of t p) c u m r.records i place.free apart
             ∙ by_test (same_cid c (entry_of t p)) (λ k. rw k)
@@ -269,8 +247,7 @@ module _ (t : ℕ) (d : List ℕ) (p : Packet) (has : HasPacket d p) (r : Kept) 
 
 -- in time, a datagram is ignored because it is not heard, or by the source rule
 in_parts : (x y z : Option Ignored) → option_or x (option_or y z) ≡ option_or (option_or x y) z
-in_parts None y z = refl
-in_parts (Some r) y z = refl
+in_parts x y z = grind arith
 
 pub in_time : (room universe : ℕ) (h : List Entry) (t : ℕ) (d : List ℕ) → last_moment h ≤ t
     → ignored room universe h t d ≡ option_or (not_heard universe d)

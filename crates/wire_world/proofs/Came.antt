@@ -1,16 +1,16 @@
 -- Events that were not skipped: each is at its time, and names what is there. So of the packets of
 -- the consoles that came to a receiver: all that it has accepted is of them, and so are the
 -- deliveries of each console.
-use Rattle.std.proofs.Common.{◌≡◌, ℕ, ◌<◌, ◌≤◌, Bool, true, false, refl, arith, List, []}
-use Rattle.std.proofs.Common.{◌∷◌, length, Option, Some, None, ap, sym, subst, inl, inr, ◌∙◌, map}
+use Rattle.std.proofs.Common.{◌≡◌, ℕ, ◌<◌, ◌≤◌, Bool, true, false, refl, arith, List, [], ◌∷◌}
+use Rattle.std.proofs.Common.{length, Option, Some, None, ap, sym, subst, inl, inr, ◌∙◌, map}
 use Rattle.std.proofs.Common.{get_or}
-use Rattle.std.specs.Prelude.{if◌then◌else◌, is_some, slice_get, nat_eq}
-use Rattle.std.specs.Prelude.{slice_range, filter, Contains, IsTrue, find}
+use Rattle.std.specs.Prelude.{if◌then◌else◌, is_some, slice_get, nat_eq, slice_range, filter}
+use Rattle.std.specs.Prelude.{Contains, IsTrue, find}
 use Rattle.std.specs.List.{fold}
 use Rattle.std.specs.Option.{option_map_or, option_map}
 use Rattle.std.proofs.lemmas.Bool.Decides.{nat_tests}
 use Rattle.std.proofs.lemmas.Bool.{eqb-true, cond_both}
-use Rattle.std.proofs.lemmas.Option.{slice_get-get_or, none-some, same_Some}
+use Rattle.std.proofs.lemmas.Option.{slice_get-get_or, same_Some}
 use Rattle.sacn_packet.specs.Reading.{front_packet}
 use Rattle.sacn_source.specs.Stream.{Packet, last_packet}
 use Rattle.sacn_receiver.specs.declared.answer.Ignored.{Ignored}
@@ -21,18 +21,17 @@ use Rattle.wire_world.specs.declared.event.What.TheVariants.{Deliver, Stray}
 use Rattle.wire_world.specs.World.{World, universe_at, console_at, no_console, IsWorld}
 use Rattle.wire_world.specs.Happened.{sent, handed, hears, accepted_by}
 use Rattle.wire_world.specs.Replies.{last_moment, missing, skipped, done_one, done}
-use Rattle.std.specs.Str.{bytes_eq}
 use Rattle.std.proofs.lemmas.Cmp.{nat_list_eq_equiv}
 use Rattle.std.proofs.lemmas.List.{get_or-map, length-map}
-use Rattle.std.proofs.lemmas.List.Elements.{All-cons, All-map, Contains-get_or}
+use Rattle.std.proofs.lemmas.List.Elements.{All-cons, All-map}
 use Rattle.console.specs.Streams.{Production}
 use Rattle.sacn_source.specs.Identity.{Identity}
 use Rattle.sacn_receiver.specs.Arrivals.{Arrival, heard_all, last_arrival, NeverFall, not_heard}
 use Rattle.sacn_receiver.specs.Arrivals.{is_heard, is_from, HeardAreFrom, packets_heard}
 use Rattle.sacn_receiver.specs.Laws.{accepted}
 use Rattle.sacn_receiver.specs.Source.{Entry, same_cid, is_accepted}
-use Rattle.sacn_receiver.proofs.Members.{by_test, In, In_mapped}
-use Rattle.sacn_receiver.proofs.Independent.{in_from_place, heard_accepted, records_independent}
+use Rattle.sacn_receiver.proofs.Members.{by_test, In, In_mapped, in_from_get_or}
+use Rattle.sacn_receiver.proofs.Independent.{heard_accepted, records_independent}
 use Rattle.sacn_receiver.proofs.Independent.{answers_independent}
 use Rattle.wire_world.specs.Datagrams.{packet_bytes}
 use Rattle.wire_world.specs.declared.event.What.{What}
@@ -214,8 +213,7 @@ module _ (w : World) (v : IsWorld w) (r : ℕ) (e : Event) (past : List Event)
   packet j k p there at =
       let m = nothing (accepted_by w r past) (λ i. accepted_from w r i past) refl (λ i. refl) in
       let d : Delivery = record { k = k; moment = e.moment; packet = p } in
-      let here = λ (i : ℕ) (q : nat_eq j i ≡ true).
-      subst (λ i. slice_get (ours w r i past) k ≡ Some p) (eqb-true j i q) at in
+      let here = λ (i : ℕ) (q : nat_eq j i ≡ true). rw (eqb-true j i q) at at in
       record {
         cs = (j, d) ∷ m.cs;
         in_time = (omega arith, m.in_time);
@@ -226,8 +224,8 @@ module _ (w : World) (v : IsWorld w) (r : ℕ) (e : Event) (past : List Event)
               (there, sent_stays w j (universe_at w r) k past p at e)
           | inr o ↦ m.were_sent c o
         ];
-        ds_are = λ i. by_test (nat_eq j i)
-            (λ q. rw (q, here i q) (ap (λ ds. d ∷ ds) (m.ds_are i))) (λ q. rw q (m.ds_are i));
+        ds_are = λ i. by_test (nat_eq j i) (λ q. rw (q, here i q, m.ds_are i))
+            (λ q. rw q (m.ds_are i));
         by_is = ap (λ h. heard 4 (universe_at w r) h e.moment (arrival w r j d).datagram) m.by_is;
         from_is = λ i. by_test (nat_eq j i)
             (λ q. rw (q, here i q, eqb-true j i q) (ap (λ h. heard 4 (universe_at w r) h e.moment
@@ -364,9 +362,7 @@ module _ (w : World) (v : IsWorld w) (r : ℕ) (past : List Event) (run : IsRun 
   own_arrivals p i [] h = refl
   own_arrivals p i (c ∷ cs) h =
       let ih = own_arrivals p i cs (λ d m. h d (inr m)) in
-      by_test (nat_eq c.0 i) (λ q. rw (h c (inl refl), q)
-      (ap (λ l. arrival w r c.0 c.1 ∷ l) ih
-      ∙ ap (λ j. arrival w r j c.1 ∷ map (arrival w r i) (own i cs)) (eqb-true c.0 i q)))
+      by_test (nat_eq c.0 i) (λ q. rw (h c (inl refl), q, ih, eqb-true c.0 i q))
       (λ q. rw (h c (inl refl), q) ih)
 
   -- one console alone
@@ -381,16 +377,12 @@ module _ (w : World) (v : IsWorld w) (r : ℕ) (past : List Event) (run : IsRun 
 
       is_own : (c : Coming) → In c n.cs → true ≡ nat_eq c.0 i
       is_own c m = by_test (nat_eq c.0 i) sym (λ q. let s = n.were_sent c m in
-          absurd (none-some c.1.packet (sym (ap (λ (ps : List Packet). slice_get ps c.1.k)
-          (alone c.0 s.0 q)) ∙ s.1)))
+          let z : None ≡ Some c.1.packet = rw (alone c.0 s.0 q) at s.1 in cc)
 
   -- at most four consoles with CIDs of their own
   module _ (apart : CidsDiffer w) (few : length w.consoles ≤ 4) where
     abbrev cids : List (List ℕ)
     cids = map (λ (p : Production). p.source.cid) w.consoles
-
-    few_cids : length cids ≤ 4
-    few_cids = simp length-map few
 
     -- the arrival of a packet of console i is from one of them
     abbrev IsFromThese : Arrival → Type 0
@@ -413,8 +405,7 @@ module _ (w : World) (v : IsWorld w) (r : ℕ) (past : List Event) (run : IsRun 
     from_these : HeardAreFrom cids (universe_at w r) (arrivals w r n.cs)
     from_these = All-map IsFromThese (λ (c : Coming). arrival w r c.0 c.1) n.cs (λ k d l.
         let c : Coming = get_or n.cs k d in
-        let at = Contains-get_or n.cs k d l in
-        let m = in_from_place c n.cs at.0 at.1 at.2 in
+        let m = in_from_get_or n.cs k d l in
         is_from_these c.0 (arrival w r c.0 c.1) (n.were_sent c m).0 (cid_at c m))
 
     in_order : NeverFall (arrivals w r n.cs) × (last_arrival (arrivals w r n.cs) ≤ last_moment past)
@@ -429,18 +420,17 @@ module _ (w : World) (v : IsWorld w) (r : ℕ) (past : List Event) (run : IsRun 
       where
         is_own : (c : Coming) → In c n.cs
             → is_from (source_of w i).cid (arrival w r c.0 c.1) ≡ nat_eq c.0 i
-        is_own c m = ap (bytes_eq (source_of w i).cid) (cid_at c m) ∙ by_test (nat_eq c.0 i)
-            (λ q. ap (λ j. bytes_eq (source_of w i).cid (source_of w j).cid) (eqb-true c.0 i q)
-            ∙ nat_list_eq_equiv.refl (source_of w i).cid ∙ sym q)
-            (λ q. apart i c.0 l (n.were_sent c m).0 q ∙ sym q)
+        is_own c m = rw (cid_at c m) (by_test (nat_eq c.0 i)
+            (λ q. rw (q, eqb-true c.0 i q, nat_list_eq_equiv.refl (source_of w i).cid))
+            (λ q. rw (q, apart i c.0 l (n.were_sent c m).0 q)))
 
     -- what is kept of a console is what its own deliveries leave
     pub follows : (i : ℕ) → i < length w.consoles
         → find (same_cid (source_of w i).cid) (accepted_by w r past)
         ≡ find (same_cid (source_of w i).cid) (accepted_from w r i past)
     follows i l = ap (find (same_cid (source_of w i).cid)) n.by_is
-        ∙ records_independent 4 (universe_at w r) cids (arrivals w r n.cs) few_cids from_these
-        in_order.0 (source_of w i).cid
+        ∙ records_independent 4 (universe_at w r) cids (arrivals w r n.cs) (simp length-map few)
+        from_these in_order.0 (source_of w i).cid
         ∙ ap (find (same_cid (source_of w i).cid)) (own_left i l)
 
     same_answer : (i t : ℕ) (bytes : List ℕ) → i < length w.consoles → last_moment past ≤ t
@@ -450,11 +440,9 @@ module _ (w : World) (v : IsWorld w) (r : ℕ) (past : List Event) (run : IsRun 
     same_answer i t bytes l time cid =
         let a : Arrival = record { moment = t; datagram = bytes } in
         ap (λ h. answer 4 (universe_at w r) h t bytes) n.by_is
-        ∙ answers_independent 4 (universe_at w r) cids a (arrivals w r n.cs) few_cids
+        ∙ answers_independent 4 (universe_at w r) cids a (arrivals w r n.cs) (simp length-map few)
         (All-cons IsFromThese a (arrivals w r n.cs) (is_from_these i a l cid) from_these)
-        (omega (arith, in_order.1, time), in_order.0)
-        ∙ ap (λ h. answer 4 (universe_at w r) h t bytes) (ap (λ cid. left w r
-        (filter (is_from cid) (arrivals w r n.cs))) cid ∙ own_left i l)
+        (omega (arith, in_order.1, time), in_order.0) ∙ rw (cid, own_left i l)
 
 pub consoles_independent : ConsolesAreIndependent
 consoles_independent w events r i x k t bytes v apart few l time no_stray is =

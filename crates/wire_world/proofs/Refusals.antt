@@ -1,8 +1,7 @@
 -- The checks of a setup.
-use Rattle.std.proofs.Common.{◌≡◌, ℕ, ◌<◌, ◌≤◌, true}
-use Rattle.std.proofs.lemmas.Bool.{and_parts, leb-true, ltb-true}
-use Rattle.std.proofs.Common.{refl, sym, subst, List, [], ◌∷◌, length, get_or}
-use Rattle.std.proofs.Common.{arith, Option, Some, None, Ok}
+use Rattle.std.proofs.Common.{◌≡◌, ℕ, ◌<◌, ◌≤◌, true, refl, List, [], ◌∷◌, length, get_or, arith}
+use Rattle.std.proofs.Common.{Option, Some, None, Ok}
+use Rattle.std.proofs.lemmas.Bool.{and_parts, ltb-true}
 use Rattle.std.specs.Prelude.{nat_le, All}
 use Rattle.std.specs.List.{list_all}
 use Rattle.std.proofs.lemmas.List.{length-map, get_or-map}
@@ -10,16 +9,17 @@ use Rattle.std.proofs.lemmas.Option.{slice_get-get_or}
 use Rattle.std.proofs.lemmas.List.Sums.{AllPass-from_list_all}
 use Rattle.std.proofs.lemmas.List.Elements.{All-cons}
 use Rattle.std.proofs.lemmas.Grind.{common_steps}
+use Rattle.std.proofs.lemmas.Bool.Decides.{nat_tests}
 use Rattle.show_core.specs.Tables.{Tables}
 use Rattle.wire_faults.specs.declared.fault.Fault.{Fault}
 use Rattle.wire_world.specs.declared.setup.Setup.{Setup}
-use Rattle.wire_world.specs.World.{IsConsole, IsWorld, no_console}
+use Rattle.wire_world.specs.World.{IsWorld, no_console}
 use Rattle.wire_world.specs.Refusing.{are_consoles, are_receivers, are_universes, is_new_at}
-use Rattle.wire_world.specs.Refusing.{Answers, has_base, has_show, setup_fault}
+use Rattle.wire_world.specs.Refusing.{Answers, has_base, has_show, setup_fault, are_within}
+use Rattle.wire_world.specs.Refusing.{is_within}
 use Rattle.wire_world.specs.declared.event.Event.{Event}
 use Rattle.wire_world.specs.declared.event.What.{What}
 use Rattle.wire_world.specs.declared.event.What.TheVariants.{Stray}
-use Rattle.wire_world.specs.Refusing.{are_within, is_within}
 use Rattle.wire_world.specs.Stands.{AreSources, IsWithin, cast, world_of}
 
 -- a report is answered where there is no fault
@@ -32,10 +32,9 @@ no_fault (Some fault) x answer = cc
 numbers : (xs : List ℕ) → are_universes xs ≡ true → All (λ u. (1 ≤ u) × (u ≤ 63999)) xs
 numbers [] a = λ k d l. absurd (omega (arith, l))
 numbers (x ∷ xs) a =
-    let b = and_parts (is_new_at x xs) (are_universes xs) a in
-    let r = and_parts (nat_le 1 x) (nat_le x 63999) (and_parts _ _ b.0).0 in
-    All-cons (λ u. (1 ≤ u) × (u ≤ 63999)) x xs (leb-true 1 x r.0, leb-true x 63999 r.1)
-    (numbers xs b.1)
+    All-cons (λ u. (1 ≤ u) × (u ≤ 63999)) x xs
+    (grind (arith, nat_tests), grind (arith, nat_tests))
+    (numbers xs (and_parts (is_new_at x xs) (are_universes xs) a).1)
 
 -- none of the reasons applies
 pub record IsFine (shows : List Tables) (setups : List Setup) (universes : List ℕ) : Type 0 where
@@ -70,16 +69,12 @@ fine_world shows setups universes strays none who = (
       let s : Setup = get_or setups i blank in
       let there : s.show < length shows =
       ltb-true _ (length shows) (AllPass-from_list_all (has_show shows) setups f.shown i blank l) in
-      subst IsConsole (sym (get_or-map (cast shows) setups i blank no_console l)) (record {
+      rw (get_or-map (cast shows) setups i blank no_console l) (record {
         source_in = who i blank l;
         base_in = rw (slice_get-get_or shows s.show no_console.show there)
             at (AllPass-from_list_all (has_base shows) setups f.based i blank l);
       }),
-  omega (
-    arith,
-    leb-true _ 4 (and_parts (nat_le 1 (length setups)) _ f.consoles).1,
-    length-map setups (cast shows),
-  ),
+  grind (arith, nat_tests, f.consoles, length-map setups (cast shows)),
 )
   where
     f : IsFine shows setups universes
@@ -90,9 +85,7 @@ fine_world shows setups universes strays none who = (
 
 -- what a stray is within
 within_one : (size : ℕ) (x : What) → is_within size x ≡ true → IsWithin size x
-within_one size (Stray receiver from to) h =
-    let b = and_parts (nat_le from to) (nat_le to size) h in
-    (leb-true from to b.0, leb-true to size b.1)
+within_one size (Stray receiver from to) h = (grind (arith, nat_tests), grind (arith, nat_tests))
 within_one size _ h = tt
 
 pub all_within : (size : ℕ) (events : List Event) → are_within size events ≡ true

@@ -2,22 +2,21 @@
 -- show: the headline, the window law and the merge law; and so the laws of the replies.
 use Rattle.std.proofs.Common.{◌≡◌, ℕ, ◌+◌, ◌-◌, ◌%◌, ◌<◌, ◌≤◌, true, false, ◌||◌, ◌⊎◌, refl, ap}
 use Rattle.std.proofs.Common.{arith, sym, inl, inr, ◌∙◌, List, [], ◌∷◌, map, length, Some, None}
-use Rattle.std.proofs.Common.{suc, Bool, not, ◌&&◌, subst, max, Option, take}
-use Rattle.std.specs.Prelude.{nat_lt, nat_le, find, nat_eq, if◌then◌else◌, slice_index, slice_get}
-use Rattle.std.specs.Prelude.{filter, IsTrue}
-use Rattle.std.proofs.lemmas.Bool.{cases_lt, cases_order, cond-true, cond-false, lt-ltb, le-ltb}
-use Rattle.std.proofs.lemmas.Bool.{ltb-true, and_parts, and_from, eq-eqb, leb-true}
+use Rattle.std.proofs.Common.{suc, Bool, not, ◌&&◌, subst, Option, take, get_or}
+use Rattle.std.specs.Prelude.{nat_lt, nat_le, find, if◌then◌else◌, slice_index, slice_get, filter}
+use Rattle.std.specs.Prelude.{IsTrue}
+use Rattle.std.proofs.lemmas.Bool.{cases_lt, lt-ltb, le-ltb, ltb-true, and_parts, and_from}
+use Rattle.std.proofs.lemmas.Bool.{leb-true}
 use Rattle.std.proofs.lemmas.Bool.Decides.{nat_tests}
 use Rattle.std.proofs.lemmas.Cmp.{nat_list_eq_equiv}
 use Rattle.sacn_source.specs.Identity.{Identity}
-use Rattle.sacn_receiver.specs.Source.{Entry, same_cid, records, while_there, record_of, is_after}
-use Rattle.sacn_receiver.specs.Source.{is_accepted, is_there, newest}
+use Rattle.sacn_receiver.specs.Source.{Entry, same_cid, records, record_of, is_after, is_accepted}
+use Rattle.sacn_receiver.specs.Source.{is_there, newest}
 use Rattle.sacn_receiver.specs.Laws.{accepted}
-use Rattle.sacn_receiver.proofs.Apart.{AllIn, newest_found, found_newest}
-use Rattle.sacn_receiver.proofs.Independent.{room_for, accepted_in, one_of, in_from_place}
-use Rattle.sacn_receiver.proofs.Independent.{place_from_in}
+use Rattle.sacn_receiver.proofs.Apart.{AllIn, IsFrom, newest_found, found_newest, one_of}
+use Rattle.sacn_receiver.proofs.Independent.{room_for, accepted_in}
 use Rattle.sacn_receiver.proofs.Members.{by_test, In, In_filter, In_filtered, In_map, In_mapped}
-use Rattle.sacn_receiver.proofs.Members.{found_in}
+use Rattle.sacn_receiver.proofs.Members.{found_in, in_from_place, place_from_in}
 use Rattle.wire_world.specs.Delivery.{Delivery, newest_of, arrived, IsInWindow, delivered}
 use Rattle.wire_world.proofs.Wire.{entry, sent_is, newest_sent}
 use Rattle.wire_world.proofs.Came.{IsInTime, source_of, were_in_time, were_sent, from_one, all_from}
@@ -25,8 +24,8 @@ use Rattle.wire_world.proofs.Came.{from_alone, from_console, follows, consoles_i
 use Rattle.wire_world.proofs.Came.{done_runs, timely, deliverer}
 use Rattle.std.specs.List.{list_all, range_with_len}
 use Rattle.std.proofs.lemmas.List.{get_or-replicate}
-use Rattle.std.proofs.lemmas.Option.{none-some, cond_some, slice_get_within, get_or_from_slice_get}
-use Rattle.std.proofs.lemmas.Option.{same_Some}
+use Rattle.std.proofs.lemmas.List.Elements.{All-map}
+use Rattle.std.proofs.lemmas.Option.{cond_some, slice_get_within, get_or_from_slice_get, same_Some}
 use Rattle.std.proofs.lemmas.List.FromFn.{length-range_with_len, get_or-range_with_len}
 use Rattle.std.proofs.lemmas.List.FromFn.{get_or-map-range_with_len, fill_by_all}
 use Rattle.std.proofs.lemmas.List.FromFn.{length-map-range_with_len}
@@ -59,15 +58,11 @@ steps a k = (k % 256 + 256 - a % 256) % 256
 
 -- in the window, of two packets the numbers tell which is later
 in_sequence : (a k : ℕ) → k ≤ a + 236 → a ≤ k + 19 → is_after (a % 256) (k % 256) ≡ nat_lt a k
-in_sequence a k h g =
-    elim (cases_order a k) [
-      | inl e ↦ (let s : steps a k ≡ 0 = omega arith in grind (arith, nat_tests))
-      | inr o ↦
-          elim o [
-            | inl l ↦ (let s : steps a k ≡ k - a = omega arith in grind (arith, nat_tests))
-            | inr l ↦ (let s : steps a k ≡ 256 + k - a = omega arith in grind (arith, nat_tests))
-          ]
-    ]
+in_sequence a k h g = elim (cases_lt a k) [
+  | inl l ↦ (let s : steps a k ≡ k - a = omega arith in grind (arith, nat_tests))
+  | inr l ↦
+      (let s : (steps a k ≡ 0) ⊎ (237 ≤ steps a k) = grind arith in grind (arith, nat_tests))
+]
 
 -- what is known of the packet that is kept at moment t
 pub record Keeps (t : ℕ) (ds : List Delivery) (a : Delivery) : Type 0 where
@@ -80,67 +75,40 @@ pub record Keeps (t : ℕ) (ds : List Delivery) (a : Delivery) : Type 0 where
 -- one delivery more, in the window: when the newest arrived, and what is kept
 module _ (t : ℕ) (d e a : Delivery) (ds : List Delivery) (h : Keeps d.moment (e ∷ ds) a)
     (low : newest_of (e ∷ ds) ≤ d.k + 19) (time : d.moment ≤ t) where
-  arrived_newer : newest_of (e ∷ ds) < d.k → arrived (d ∷ e ∷ ds) ≡ d.moment
-  arrived_newer l = cond-true _ d.moment (arrived (e ∷ ds)) (lt-ltb (newest_of (e ∷ ds)) d.k l)
+  taken : (nat_le (a.moment + 2500) d.moment || nat_lt a.k d.k) ≡ true → Keeps t (d ∷ e ∷ ds) d
+  taken why = record {
+    not_far_behind = omega arith;
+    not_ahead = omega arith;
+    newest_or_late = elim (cases_lt (newest_of (e ∷ ds)) d.k) [
+      | inl newer ↦ inl (omega arith)
+      | inr older ↦ inr (grind (arith, nat_tests, h.newest_or_late, h.after_arrival, h.past))
+    ];
+    after_arrival = grind (arith, nat_tests, h.after_arrival, h.past);
+    past = time;
+  }
 
-  arrived_older : d.k ≤ newest_of (e ∷ ds) → arrived (d ∷ e ∷ ds) ≡ arrived (e ∷ ds)
-  arrived_older l = cond-false _ d.moment (arrived (e ∷ ds)) (le-ltb (newest_of (e ∷ ds)) d.k l)
-
-  still_late : d.k ≤ newest_of (e ∷ ds) → (a.moment + 2500 ≤ d.moment) ⊎ (a.k < d.k)
-      → arrived (e ∷ ds) + 2500 ≤ d.moment
-  still_late l (inl gone) = omega (arith, h.after_arrival)
-  still_late l (inr newer) = elim h.newest_or_late [
-    | inl same ↦ absurd (omega arith)
-    | inr late ↦ omega (arith, h.past)
-  ]
-
-  taken : (a.moment + 2500 ≤ d.moment) ⊎ (a.k < d.k) → Keeps t (d ∷ e ∷ ds) d
-  taken why = elim (cases_lt (newest_of (e ∷ ds)) d.k) [
-    | inl newer ↦ record {
-      not_far_behind = omega arith;
-      not_ahead = omega arith;
-      newest_or_late = inl (omega arith);
-      after_arrival = omega (arith, arrived_newer newer);
-      past = time;
-    }
-    | inr older ↦ record {
-      not_far_behind = omega arith;
-      not_ahead = omega arith;
-      newest_or_late = inr (rw (arrived_older older) (still_late older why));
-      after_arrival = omega (arith, arrived_older older, h.after_arrival, h.past);
-      past = time;
-    }
-  ]
-
-  discarded : d.k ≤ a.k → Keeps t (d ∷ e ∷ ds) a
-  discarded older =
-      let same : arrived (d ∷ e ∷ ds) ≡ arrived (e ∷ ds) =
-      arrived_older (omega (arith, h.not_ahead)) in
-      record {
-        not_far_behind = omega (arith, h.not_far_behind, h.not_ahead);
-        not_ahead = omega (arith, h.not_ahead);
-        newest_or_late = rw same (elim h.newest_or_late [
-          | inl at_newest ↦ inl (omega (arith, h.not_ahead))
-          | inr late ↦ inr late
-        ]);
-        after_arrival = omega (arith, same, h.after_arrival);
-        past = omega (arith, h.past);
-      }
-
--- the test of acceptance, at plain numbers
-taken_means : (x y a k : ℕ) → (nat_le x y || nat_lt a k) ≡ true → (x ≤ y) ⊎ (a < k)
-taken_means x y a k h = grind (arith, nat_tests)
-
-discarded_means : (x y a k : ℕ) → (nat_le x y || nat_lt a k) ≡ false → k ≤ a
-discarded_means x y a k h = grind (arith, nat_tests)
+  discarded : (nat_le (a.moment + 2500) d.moment || nat_lt a.k d.k) ≡ false
+      → Keeps t (d ∷ e ∷ ds) a
+  discarded why = let older : d.k ≤ a.k = grind (arith, nat_tests) in record {
+    not_far_behind = omega (arith, h.not_far_behind, h.not_ahead);
+    not_ahead = omega (arith, h.not_ahead);
+    newest_or_late = elim h.newest_or_late [
+      | inl at_newest ↦ inl (omega (arith, h.not_ahead))
+      | inr late ↦ inr (grind (arith, nat_tests, h.not_ahead))
+    ];
+    after_arrival = grind (arith, nat_tests, h.not_ahead, h.after_arrival);
+    past = omega (arith, h.past);
+  }
 
 module _ (c : Identity) where
   abbrev pub history : List Delivery → List Entry
   history ds = accepted 4 (map (entry c) ds)
 
+  one_cid : (d : Delivery) → IsFrom (c.cid ∷ []) (entry c d)
+  one_cid d = one_of (entry c d) (c.cid ∷ []) (0, omega arith, refl)
+
   all_one : (ds : List Delivery) → AllIn (c.cid ∷ []) (map (entry c) ds)
-  all_one [] = tt
-  all_one (d ∷ ds) = (one_of (entry c d) (c.cid ∷ []) (inl refl), all_one ds)
+  all_one ds = All-map (IsFrom (c.cid ∷ [])) (entry c) ds (λ k d l. one_cid (get_or ds k d))
 
   -- what is kept of the source, over all its deliveries
   pub record KeptOne (t : ℕ) (ds : List Delivery) : Type 0 where
@@ -156,17 +124,12 @@ module _ (c : Identity) where
       ≡ (nat_le (a.moment + 2500) d.moment || nat_lt a.k d.k)
   accepts ds a d f ahead behind = by_test (nat_lt (d.moment - a.moment) 2500) (λ q.
       let l : nat_le (a.moment + 2500) d.moment ≡ false = grind (arith, nat_tests) in
-      rw (ap (while_there d.moment) f ∙ cond-true _ (Some (entry c a)) None q, l)
-      (in_sequence a.k d.k ahead behind))
-      (λ q. let n : record_of (history ds) d.moment c.cid ≡ None =
-      ap (while_there d.moment) f ∙ cond-false _ (Some (entry c a)) None q in
+      rw (f, q, l) (in_sequence a.k d.k ahead behind)) (λ q.
+      let n : record_of (history ds) d.moment c.cid ≡ None = rw (f, q) in
       let l : nat_le (a.moment + 2500) d.moment ≡ true = grind (arith, nat_tests) in
-      rw (n, l) (lt-ltb (length (records (history ds) d.moment)) 4 (omega (
-        arith,
-        room_for (c.cid ∷ []) (entry c d) d.moment (history ds)
-            (accepted_in 4 (c.cid ∷ []) (map (entry c) ds) (all_one ds))
-            (one_of (entry c d) (c.cid ∷ []) (inl refl)) n,
-      ))))
+      let room = room_for (c.cid ∷ []) (entry c d) d.moment (history ds)
+      (accepted_in 4 (c.cid ∷ []) (map (entry c) ds) (all_one ds)) (one_cid d) n in
+      rw (n, l) (lt-ltb (length (records (history ds) d.moment)) 4 (omega (arith, room))))
 
   kept_in_window : (t : ℕ) (d : Delivery) (ds : List Delivery) → IsInWindow (d ∷ ds)
       → IsInTime t (d ∷ ds) → KeptOne t (d ∷ ds)
@@ -191,14 +154,12 @@ module _ (c : Identity) where
         one = d;
         is_kept = rw (q, nat_list_eq_equiv.refl c.cid);
         came = inl refl;
-        facts = taken t d e k.one ds k.facts w.0 i.0
-            (taken_means _ _ k.one.k d.k (sym means ∙ q));
+        facts = taken t d e k.one ds k.facts w.0 i.0 (sym means ∙ q);
       }) (λ q. record {
         one = k.one;
         is_kept = rw q k.is_kept;
         came = inr k.came;
-        facts = discarded t d e k.one ds k.facts w.0 i.0
-            (discarded_means _ _ k.one.k d.k (sym means ∙ q));
+        facts = discarded t d e k.one ds k.facts w.0 i.0 (sym means ∙ q);
       })
 
   -- unless nothing came
@@ -224,10 +185,7 @@ module _ (t : ℕ) (h : List Entry) (cid : ℕ → List ℕ) (is : List ℕ)
       let b = In_filtered (is_there t) m.0 (newest h) a.0 in
       let o = owned m.0 (found_in (same_cid m.0.cid) m.0 h (newest_found h m.0 b.0)).0 in
       let is_lit : (if p o.0 then Some (f o.0) else None) ≡ Some l =
-      sym (lit o.0 o.1)
-      ∙ ap (λ c. lit_by t (find (same_cid c) h)) o.2
-      ∙ ap (lit_by t) (newest_found h m.0 b.0)
-      ∙ cond-true _ (Some (light_of m.0)) None (and_from _ _ b.1 a.1) ∙ ap Some (sym m.2) in
+      rw (← lit o.0 o.1, o.2, newest_found h m.0 b.0, and_from _ _ b.1 a.1) (ap Some (sym m.2)) in
       let s = cond_some (p o.0) (f o.0) l is_lit in
       rw (sym s.1) (In_map f o.0 (filter p is) (In_filter p o.0 is o.1 s.0))
 
@@ -235,8 +193,7 @@ module _ (t : ℕ) (h : List Entry) (cid : ℕ → List ℕ) (is : List ℕ)
   lit_one l i =
       let m = In_mapped f l (filter p is) i in
       let a = In_filtered p m.0 is m.1 in
-      found (find (same_cid (cid m.0)) h) m.0 refl
-      (lit m.0 a.0 ∙ cond-true _ (Some (f m.0)) None a.1 ∙ ap Some (sym m.2))
+      found (find (same_cid (cid m.0)) h) m.0 refl (rw (lit m.0 a.0, a.1) (ap Some (sym m.2)))
     where
       found : (o : Option Entry) (j : ℕ) → find (same_cid (cid j)) h ≡ o → lit_by t o ≡ Some l
           → In l (map light_of (live h t))
@@ -252,8 +209,7 @@ module _ (t : ℕ) (h : List Entry) (cid : ℕ → List ℕ) (is : List ℕ)
 
 -- one light alone is what is shown
 one_light : (l : Light) (slot : ℕ) → merged (l ∷ []) slot ≡ slice_index l.slots slot
-one_light l slot = let e : nat_eq l.priority (max l.priority 0) ≡ true =
-    eq-eqb l.priority (max l.priority 0) (omega arith) in rw e (omega arith)
+one_light l slot = grind (arith, nat_tests)
 
 same_slots : (h : List Entry) (t : ℕ) (slots : List ℕ) → length slots ≡ 512
     → ((slot : ℕ) → slot < 512 → shown h t slot ≡ slice_index slots slot) → shown_slots h t ≡ slots
@@ -294,8 +250,7 @@ module _ (w : World) (v : IsWorld w) (r : ℕ) (past : List Event) (run : IsRun 
   found_is = ap (find (same_cid (source_of w i).cid)) (from_one w v r past run no_stray i)
 
   found_none : delivered w r i past ≡ [] → found ≡ None
-  found_none e = found_is
-      ∙ ap (λ ds. find (same_cid (source_of w i).cid) (history (source_of w i) ds)) e
+  found_none e = found_is ∙ rw e
 
   was_sent : (k : Kept) → (i < length w.consoles)
       × (slice_get (sent w i (universe_at w r) past) k.one.k ≡ Some k.one.packet)
@@ -305,12 +260,8 @@ module _ (w : World) (v : IsWorld w) (r : ℕ) (past : List Event) (run : IsRun 
   not_silent : IsFresh w r i past t → Kept → is_silent w r i past t ≡ false
   not_silent fresh k =
       let f = fresh_parts t _ (delivered w r i past) fresh in
-      by_test (is_silent w r i past t) (λ q. absurd (omega (
-        arith,
-        silent_at t (delivered w r i past) k.one q k.came,
-        f.1,
-        k.facts.after_arrival,
-      ))) (λ q. q)
+      by_test (is_silent w r i past t) (λ q. absurd (let s = silent_at t _ k.one q k.came in
+      omega (arith, s, f.1, k.facts.after_arrival))) (λ q. q)
 
   recent : (k : Kept) → nat_lt (t - k.one.moment) 2500 ≡ nat_lt t (k.one.moment + 2500)
   recent k = let l : k.one.moment ≤ t = omega (arith, k.facts.past) in grind (arith, nat_tests)
@@ -323,10 +274,7 @@ module _ (w : World) (v : IsWorld w) (r : ℕ) (past : List Event) (run : IsRun 
   lit_fresh fresh k =
       let f = fresh_parts t (sent w i (universe_at w r) past) (delivered w r i past) fresh in
       let newest : k.one.k ≡ newest_of (delivered w r i past) =
-      elim k.facts.newest_or_late [
-        | inl e ↦ e
-        | inr late ↦ absurd (omega (arith, f.1, k.facts.past, late))
-      ] in
+      grind (arith, k.facts.newest_or_late, k.facts.past, f.1) in
       let m = newest_sent w i (universe_at w r) k.one.k past k.one.packet (was_sent k).1
       (omega (arith, f.0, newest)) in
       let there : nat_lt (t - k.one.moment) 2500 ≡ true =
@@ -347,12 +295,9 @@ module _ (w : World) (v : IsWorld w) (r : ℕ) (past : List Event) (run : IsRun 
   lit_settled : ((sent w i (universe_at w r) past ≡ [] → ⊥)
       → IsFresh w r i past t ⊎ IsTrue (is_silent w r i past t)) → lit_by t found ≡ due
   lit_settled state = elim kept [
-    | inl none ↦
-        lit_silent (ap (λ (ds : List Delivery). list_all (λ d. nat_le (d.moment + 2500) t) ds) none)
-        (inl none)
+    | inl none ↦ lit_silent (rw none) (inl none)
     | inr k ↦
-        elim (state (λ none. none-some k.one.packet (sym (ap
-        (λ (ps : List Packet). slice_get ps k.one.k) none) ∙ (was_sent k).1))) [
+        elim (state (λ none. let z : None ≡ Some k.one.packet = rw none at (was_sent k).1 in cc)) [
           | inl fresh ↦ lit_fresh fresh k
           | inr silent ↦ lit_silent silent (inr k)
         ]
@@ -380,9 +325,14 @@ module _ (w : World) (v : IsWorld w) (r : ℕ) (past : List Event) (run : IsRun 
           (λ slot l. shown_alone (is_lit w r past t) (light w r past)
           (lit_settled (λ _. inl fresh)) slot ∙ by_test (is_live (acts w i past))
           (λ q. rw (not_silent fresh k, q) (one_light (light w r past i) slot))
-          (λ q. rw (not_silent fresh k, q) (sym (ap (λ f. slice_index f slot)
-          (latest (console_at w i) (universe_at w r) (acts w i past) ∙ cond-false _ _ dark q)
-          ∙ get_or-replicate 512 slot 0 0 l))))
+          (λ q. rw (
+            not_silent fresh k,
+            q,
+            latest (console_at w i) (universe_at w r)
+                (acts w i past),
+            q,
+            get_or-replicate {A = ℕ} 512 slot 0 0 l,
+          )))
     ]
 
     pub silence : is_silent w r i past t ≡ true → slots_at w r past t ≡ dark
@@ -432,12 +382,12 @@ pub merges : (w : World) → IsWorld w → (r : ℕ) (past : List Event) → IsR
 merges w v r past run t time hears state slot below =
     get_or-map-range_with_len (shown (accepted_by w r past) t) 0 512 slot slot 0 below (omega arith)
     ∙ shown_lit t (accepted_by w r past) (λ j. (source_of w j).cid) (range_with_len 0 n)
-    (λ e m. let c = from_console w v r past run hears.no_stray e m in (
-      c.0,
-      in_from_place c.0 (range_with_len 0 n) c.0 (omega (arith, c.1, length-range_with_len 0 n))
-          (omega (arith, get_or-range_with_len 0 n c.0 c.0 c.1)),
-      c.2,
-    )) (is_lit w r past t) (light w r past) (λ j m.
+    (λ e m. let c = from_console w v r past run hears.no_stray e m in
+    let l : c.0 < length (range_with_len 0 n) = omega (arith, c.1, length-range_with_len 0 n) in
+    let at : get_or (range_with_len 0 n) c.0 c.0 ≡ c.0 =
+    omega (arith, get_or-range_with_len 0 n c.0 c.0 c.1) in
+    (c.0, in_from_place c.0 (range_with_len 0 n) (c.0, l, at), c.2))
+    (is_lit w r past t) (light w r past) (λ j m.
     let place = place_from_in j (range_with_len 0 n) m in
     let k : place.0 < n = omega (arith, place.1, length-range_with_len 0 n) in
     let l : j < n = omega (arith, place.2, get_or-range_with_len 0 n place.0 j k) in

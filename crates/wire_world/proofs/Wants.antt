@@ -1,19 +1,123 @@
--- What the events to come want is kept.
-use Rattle.std.proofs.Common.{◌≡◌, ℕ, zero, suc, ◌+◌, ◌≤◌, refl, ap, subst, sym, ◌∙◌, List, []}
-use Rattle.std.proofs.Common.{◌∷◌, set, Option, Some, None, arith}
+-- Which packets the events to come want, and that they are kept.
+use Rattle.std.proofs.Common.{◌≡◌, ℕ, zero, suc, ◌+◌, ◌<◌, ◌≤◌, refl, ap, sym, subst, ◌∙◌, List, []}
+use Rattle.std.proofs.Common.{◌∷◌, length, set, Some, inl, inr, arith, Option, None}
+use Rattle.std.proofs.lemmas.Option.{same_Some, get_or_from_slice_get, slice_get_within}
 use Rattle.std.specs.Prelude.{slice_get, slice_index, All}
-use Rattle.std.specs.Option.{option_map}
-use Rattle.std.proofs.lemmas.Option.{get_or_from_slice_get, slice_get_within, same_Some}
-use Rattle.fade_core.specs.Level.{Start}
+use Rattle.std.proofs.lemmas.Bool.{cases_eq}
+use Rattle.std.proofs.lemmas.List.{get_or-set_other, get_or-set_same}
+use Rattle.std.proofs.Math.ListN.{length-set}
 use Rattle.wire_world.specs.declared.event.Event.{Event}
 use Rattle.wire_world.specs.declared.event.What.{What}
+use Rattle.wire_world.specs.declared.event.What.TheVariants.{Deliver}
+use Rattle.wire_world.specs.Wanted.{IsUpTo, Spares, row_of, AreLows, AreUpTo, Holds, span_at}
+use Rattle.std.specs.Option.{option_map}
+use Rattle.fade_core.specs.Level.{Start}
 use Rattle.wire_world.specs.World.{World, console_at}
 use Rattle.wire_world.specs.declared.stage.Stage.{Stage}
 use Rattle.wire_world.specs.Shelves.{gone_of}
 use Rattle.wire_world.specs.StageStands.{StageStands, Tells}
 use Rattle.wire_world.specs.Stands.{AllStand, AllTell}
-use Rattle.wire_world.specs.Wanted.{AreLows, AreUpTo, Holds, Spares, span_at}
 use Rattle.wire_world.proofs.Linked.{first_gone}
+
+-- ---- the least numbers of the packets that later events deliver
+
+-- a delivery is of no packet before the least of its row
+abbrev pub IsLeast : List ℕ → What → Type 0
+IsLeast least what = (r i u k : ℕ) → what ≡ Deliver r i u k → slice_index least (row_of i u) ≤ k
+
+-- so for the events from event n on
+pub record AreLowsFrom (events : List Event) (lows least : List ℕ) (n : ℕ) : Type 0 where
+  pub long : length lows ≡ length events
+  pub wide : length least ≡ 64
+  pub least_are : (j : ℕ) (f : Event) → n ≤ j → slice_get events j ≡ Some f → IsLeast least f.what
+  pub lows_are : (i j : ℕ) (e f : Event) → n ≤ i → i < j → slice_get events i ≡ Some e
+      → slice_get events j ≡ Some f → Spares e.what (slice_index lows i) f.what
+
+-- a lower one in its place
+index_less : (xs : List ℕ) (i j y : ℕ) → y ≤ slice_index xs i
+    → slice_index (set xs i y) j ≤ slice_index xs j
+index_less [] i j y l = omega arith
+index_less (x ∷ xs) zero zero y l = l
+index_less (x ∷ xs) zero (suc j) y l = omega arith
+index_less (x ∷ xs) (suc i) zero y l = omega arith
+index_less (x ∷ xs) (suc i) (suc j) y l = index_less xs i j y l
+
+-- what holds of each event: of event n, and of the others
+one_more : (P : ℕ → Event → Type 0) (events : List Event) (n : ℕ) (e : Event)
+    → slice_get events n ≡ Some e → P n e
+    → ((j : ℕ) (f : Event) → (n ≡ j → ⊥) → slice_get events j ≡ Some f → P j f)
+    → (j : ℕ) (f : Event) → slice_get events j ≡ Some f → P j f
+one_more P events n e at new old j f g = elim (cases_eq n j) [
+  | inl q ↦
+      (let same : e ≡ f = same_Some e f (sym at ∙ ap (slice_get events) q ∙ g) in
+      rw (← q, ← same) new)
+  | inr q ↦ old j f q g
+]
+
+-- an event before these, and what it changes
+module _ (events : List Event) (lows least : List ℕ) (from n : ℕ) (e : Event)
+    (next : from ≡ n + 1) (at : slice_get events n ≡ Some e)
+    (all : AreLowsFrom events lows least from) where
+  lows_with : (new_lows new_least : List ℕ) → length new_lows ≡ length lows
+      → length new_least ≡ length least
+      → ((row : ℕ) → slice_index new_least row ≤ slice_index least row)
+      → IsLeast new_least e.what
+      → ((i : ℕ) → n < i → slice_index new_lows i ≡ slice_index lows i)
+      → ((later : What) → IsLeast least later → Spares e.what (slice_index new_lows n) later)
+      → AreLowsFrom events new_lows new_least n
+  lows_with new_lows new_least long wide less first past spared = record {
+    long = long ∙ all.long;
+    wide = wide ∙ all.wide;
+    least_are = λ j f l g. one_more (λ j f. n ≤ j → IsLeast new_least f.what) events n e at
+        (λ _. first) (λ j f q g l r i u k is.
+        let was = all.least_are j f (omega (arith, l, q)) g r i u k is in
+        omega (arith, less (row_of i u), was)) j f g l;
+    lows_are = λ i j d f l m a b. one_more
+        (λ i d. n ≤ i → i < j → Spares d.what (slice_index new_lows i) f.what) events n e at
+        (λ _ m. spared f.what (all.least_are j f (omega (arith, m)) b))
+        (λ i d q a l m. rw (past i (omega (arith, l, q)))
+        (all.lows_are i j d f (omega (arith, l, q)) m a b)) i d a l m;
+  }
+
+  -- no delivery
+  pub lows_still : ((r i u k : ℕ) → e.what ≡ Deliver r i u k → ⊥)
+      → AreLowsFrom events lows least n
+  lows_still other = lows_with lows least refl refl (λ row. omega arith)
+      (λ r i u k is. absurd (other r i u k is)) (λ i l. refl)
+      (λ later h r i u k q m is. absurd (other r i u k is))
+
+  -- a delivery
+  pub lows_more : (r c u k row y : ℕ) → e.what ≡ Deliver r c u k → row ≡ row_of c u
+      → n < length events → row < length least → y ≤ slice_index least row → y ≤ k
+      → AreLowsFrom events (set lows n (slice_index least row)) (set least row y) n
+  lows_more r c u k row y is named within inside less low =
+      let kept = get_or-set_same lows n (slice_index least row) 0
+      (omega (arith, within, all.long)) in
+      let lower = get_or-set_same least row y 0 inside in
+      lows_with (set lows n (slice_index least row)) (set least row y) (length-set lows n _)
+      (length-set least row y) (λ j. index_less least row j y less)
+      (λ q d v m e. let same : row ≡ row_of d v = cc in let k_is : k ≡ m = cc in
+      omega (arith, lower, ap (slice_index (set least row y)) same, low))
+      (λ i l. get_or-set_other lows n i (slice_index least row) 0 (λ q. omega (arith, l, q)))
+      (λ later h r d v k q m e f. let same : row ≡ row_of d v = cc in
+      omega (arith, kept, ap (slice_index least) same, h q d v m f))
+
+-- ---- the last packet of all
+
+-- of the events before event n
+abbrev pub AreUpToBefore : List Event → ℕ → ℕ → Type 0
+AreUpToBefore events last n = (j : ℕ) (e : Event) → j < n → slice_get events j ≡ Some e
+    → IsUpTo last e.what
+
+-- one event more
+pub up_to_next : (events : List Event) (last new n : ℕ) (e : Event) → slice_get events n ≡ Some e
+    → last ≤ new → IsUpTo new e.what → AreUpToBefore events last n
+    → AreUpToBefore events new (n + 1)
+up_to_next events last new n e at l first all j f m g =
+    one_more (λ j f. j < n + 1 → IsUpTo new f.what) events n e at (λ _. first)
+    (λ j f q g m r i u k is. omega (arith, l, all j f (omega (arith, m, q)) g r i u k is)) j f g m
+
+-- ---- what the events to come want is kept
 
 -- a console whose packets are as they were
 pub spans_set : {F : Type 0} (stages : List (Stage F)) (i : ℕ) (was is : Stage F)
@@ -56,14 +160,13 @@ AllHold stages events i = (j : ℕ) (e : Event) → i ≤ j → slice_get events
 pub hold_first : {F : Type 0} (sf : F → List Start → Type 0) (stages : List (Stage F)) (w : World)
     (events : List Event) → AllStand (StageStands sf) stages w [] → AllTell Tells stages
     → All (λ stage. AreUpTo events stage.last) stages → AllHold stages events 0
-hold_first {F} sf stages w events all tell wanted j e l g r i u n s is at = (
-  omega (
-    arith,
-    first_gone (console_at w i) u _ _ _ ((all.stand i s at).packets_kept (tell i s at) u),
-  ),
-  subst (λ (s : Stage F). AreUpTo events s.last) (get_or_from_slice_get stages i s s at)
-      (wanted i s (slice_get_within stages i s at)) j e g r i u n is,
-)
+hold_first {F} sf stages w events all tell wanted j e l g r i u n s is at =
+    let none = first_gone (console_at w i) u _ _ _
+    ((all.stand i s at).packets_kept (tell i s at) u) in (
+      omega (arith, none),
+      rw (get_or_from_slice_get stages i s s at)
+          at (wanted i s (slice_get_within stages i s at)) j e g r i u n is,
+    )
 
 -- one event later
 pub hold_next : {F : Type 0} (old stepped new : List (Stage F)) (events : List Event)

@@ -2,11 +2,12 @@
 -- sent, it stays, the newest is the frame of the latest tick, and the datagrams are the packets.
 use Rattle.std.proofs.Common.{◌≡◌, ℕ, ◌-◌, ◌%◌, ◌≤◌, Bool, true, false, not, refl, ap, sym, subst}
 use Rattle.std.proofs.Common.{◌∙◌, arith, List, ◌++◌, length, replicate, append-nil, Option, Some}
-use Rattle.std.proofs.Common.{None, suc, [], ◌∷◌}
-use Rattle.std.specs.Prelude.{if◌then◌else◌, nat_lt, nat_eq, is_some, bit_and, nat_le, slice_get}
+use Rattle.std.proofs.Common.{None, suc, [], ◌∷◌, drop}
+use Rattle.std.specs.Prelude.{if◌then◌else◌, nat_lt, nat_eq, is_some, bit_and, slice_get, Contains}
 use Rattle.std.specs.Option.{option_or, option_map}
-use Rattle.std.proofs.lemmas.List.{take_all}
-use Rattle.std.proofs.lemmas.Bool.{eq-eqb, and_parts, cond-true, leb-true}
+use Rattle.std.proofs.lemmas.Bool.Decides.{nat_tests}
+use Rattle.std.proofs.lemmas.List.{take_all, length-take, length-drop}
+use Rattle.std.proofs.lemmas.Bool.{eq-eqb, cond-true, eqb-true}
 use Rattle.sacn_packet.specs.Wire.{Packet as WirePacket, IsData, HasPacket}
 use Rattle.sacn_packet.specs.Faults.{fault_of}
 use Rattle.sacn_packet.specs.Reading.{front_packet}
@@ -31,14 +32,31 @@ use Rattle.desk_core.specs.declared.answer.Refused.{Refused}
 use Rattle.desk_core.specs.Played.{Call, Act, refusal}
 use Rattle.desk_core.specs.Meaning.{latest_frame}
 use Rattle.desk_core.proofs.Universes.{numbers_in}
-use Rattle.sacn_source.specs.Identify.{IsStreamPacket, options_of}
+use Rattle.sacn_source.specs.Identify.{IsStreamPacket, options_of, fields_of}
 use Rattle.sacn_source.proofs.Streams.{HoldsFull}
 use Rattle.console.specs.Streams.{Production, universes_of}
 use Rattle.console.proofs.Streams.{stream_full, packet_stays, newest_means}
 use Rattle.wire_world.specs.declared.event.Event.{Event}
 use Rattle.wire_world.specs.Happened.{call_of, unless_refused, acted, acts, stream, sent}
 use Rattle.wire_world.specs.Laws.{is_live, DatagramsArePackets}
-use Rattle.wire_world.proofs.Sources.{source_of, played_in}
+use Rattle.std.proofs.lemmas.Map.Views.{Contains-from_any}
+
+-- a packet says all of its source
+pub source_of : (who : Identity) (universe sequence options : ℕ) (bytes slots : List ℕ)
+    → IsData bytes (fields_of who universe sequence options) slots → IsIdentity who
+source_of who universe sequence options bytes slots is =
+    let cid = length-take 16 (drop 22 bytes) in
+    let name = length-take 64 (drop 44 bytes) in
+    record {
+      cid_size = omega (arith, ap length is.cid, cid, length-drop 22 bytes, is.size);
+      name_size = omega (arith, ap length is.name, name, length-drop 44 bytes, is.size);
+      priority_range = is.priority_range;
+    }
+
+-- a universe that is played is one of the console's
+pub played_in : (p : Production) (u : ℕ) → plays p u ≡ true → Contains (universes_of p) u
+played_in p u =
+    Contains-from_any {eq = λ a b. nat_eq b a} (λ a b e. sym (eqb-true b a e)) u (universes_of p)
 
 -- what a delivery of a source's packet is to a receiver
 abbrev pub entry : Identity → Delivery → Entry
@@ -80,11 +98,7 @@ module _ (source : Identity) (universe k : ℕ) (packet : Packet)
       is.low is.high
 
   has : HasPacket bytes wire
-  has = (
-    length bytes,
-    subst (λ (xs : List ℕ). IsData xs (fields_at source universe k packet)
-        packet.slots) (sym (take_all (length bytes) bytes (omega arith))) is_data,
-  )
+  has = (length bytes, rw (take_all (length bytes) bytes (omega arith)) is_data)
 
   front_is : front_packet bytes ≡ wire
   front_is = packet_ends bytes wire has
@@ -144,8 +158,7 @@ module _ (c : Production) (u : ℕ) (h : List Act) (k : ℕ) (p : Packet)
 
   acted_stays : (t : ℕ) (o : Option Call) → slice_get (stream c u (acted c.show t o h)) k ≡ Some p
   acted_stays t None = at
-  acted_stays t (Some call) = unless_stays (refusal c.show h (record { moment = t; call = call }))
-      (record { moment = t; call = call })
+  acted_stays t (Some call) = unless_stays (refusal c.show h (record { moment = t; call = call })) _
 
 module _ (w : World) (i u k : ℕ) (past : List Event) (p : Packet)
     (at : slice_get (sent w i u past) k ≡ Some p) where
@@ -162,14 +175,13 @@ module _ (w : World) (i u k : ℕ) (past : List Event) (p : Packet)
       All-contains (λ n. is_universe n ≡ true) (universes_of (console_at w i)) u
       (numbers_in (console_at w i).show.patch (console_at w i).base c.base_in)
       (played_in (console_at w i) u sent_plays.0) in
-      let range = and_parts (nat_le 1 u) (nat_le u 63999) number in
       record {
         who = c.source_in u sent_plays.0;
         size = subst HoldsFull (get_or_from_slice_get ps k p p sent_plays.1)
             (stream_full (console_at w i) u (acts w i past) k p
             (slice_get_within ps k p sent_plays.1));
-        low = leb-true 1 u range.0;
-        high = leb-true u 63999 range.1;
+        low = grind (arith, nat_tests, number);
+        high = grind (arith, nat_tests, number);
       }
 
   pub sent_stays : (e : Event) → slice_get (sent w i u (e ∷ past)) k ≡ Some p

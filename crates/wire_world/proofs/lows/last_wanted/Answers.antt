@@ -1,6 +1,6 @@
 use Rattle.std.proofs.Common.{arith}
 use Rattle.std.proofs.lemmas.Option.{slice_get-get_or, slice_get_within}
-use Rattle.wire_world.proofs.Least.{up_to_next}
+use Rattle.wire_world.proofs.Wants.{up_to_next}
 use Rattle.wire_world.proofs.lows.last_wanted.Goals as goal
 
 pub loop-i-preserved : goal.loop-i-preserved

@@ -1,4 +1,4 @@
-use Rattle.wire_world.proofs.Least.{AreUpToBefore}
+use Rattle.wire_world.proofs.Wants.{AreUpToBefore}
 use Rattle.wire_world.proofs.lows.last_wanted.Given as goal
 
 abbrev pub invariant-loop-i : goal.invariant-loop-i

@@ -1,6 +1,6 @@
 use Rattle.std.proofs.Common.{ℕ, ◌-◌, ◌<◌, length, arith}
 use Rattle.std.proofs.lemmas.Option.{slice_get-get_or}
-use Rattle.wire_world.proofs.Least.{lows_more, lows_still}
+use Rattle.wire_world.proofs.Wants.{lows_more, lows_still}
 use Rattle.wire_world.proofs.lows.lows.Goals as goal
 
 pub loop-i-preserved-in-Deliver : goal.loop-i-preserved-in-Deliver

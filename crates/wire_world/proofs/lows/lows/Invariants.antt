@@ -1,4 +1,4 @@
-use Rattle.wire_world.proofs.Least.{AreLowsFrom}
+use Rattle.wire_world.proofs.Wants.{AreLowsFrom}
 use Rattle.wire_world.proofs.lows.lows.Given as goal
 
 abbrev pub invariant-loop-i : goal.invariant-loop-i

@@ -1,26 +1,18 @@
-use Rattle.std.proofs.Common.{◌≡◌, ◌<◌, ℕ, length, Some, subst, refl, rules, arith, ap}
-use Rattle.std.specs.Prelude.{slice_get}
+use Rattle.std.proofs.Common.{◌≡◌, ◌<◌, length, refl, rules, arith, ap}
 use Rattle.std.proofs.lemmas.List.Elements.{All-nil, All-push}
 use Rattle.std.proofs.lemmas.Option.{slice_get_read}
 use Rattle.wire_world.specs.declared.setup.Setup.{Setup}
-use Rattle.wire_world.proofs.Openings.{opened_more}
-use Rattle.wire_world.specs.StageStands.{StageStands, Tells}
-use Rattle.wire_world.specs.Stands.{Opened}
+use Rattle.wire_world.proofs.Events.{opened_more}
 use Rattle.wire_world.proofs.opening.open_all.Goals as goal
 
 pub loop-i-preserved : goal.loop-i-preserved
 loop-i-preserved g c =
     let setup : Setup = c.index-setups-i.result in
-    let here : slice_get c.args.setups.now c.loop-i.i ≡ Some setup =
-    slice_get_read c.args.setups.now (length c.args.setups.now) c.loop-i.i setup refl
-    c.loop-i-test.true c.index-setups-i.is in
-    let show : slice_get c.args.shows.now setup.show ≡ Some c.index-shows-setup.result =
-    slice_get_read c.args.shows.now (length c.args.shows.now) setup.show
-    c.index-shows-setup.result refl (omega (
-      arith,
-      c.requires c.loop-i.i setup c.loop-i-test.true,
-      ap (λ (s : Setup). s.show) c.index-setups-i.is,
-    )) c.index-shows-setup.is in
+    let here = slice_get_read c.args.setups.now _ c.loop-i.i setup refl c.loop-i-test.true
+    c.index-setups-i.is in
+    let is = ap (λ (s : Setup). s.show) c.index-setups-i.is in
+    let show = slice_get_read c.args.shows.now _ setup.show c.index-shows-setup.result refl
+    (omega (arith, c.requires c.loop-i.i setup c.loop-i-test.true, is)) c.index-shows-setup.is in
     rw c.in_ok-push.ensures.items (
       opened_more c.loop-i.invariant.0 here show c.in_ok-stage.ensures.stands,
       All-push (λ stage. stage.last ≡ c.args.last) c.loop-i.stages.items c.in_ok-stage.stage
@@ -30,9 +22,7 @@ loop-i-preserved g c =
 pub returns-clause-opened : goal.returns-clause-opened
 returns-clause-opened g c =
     let end : c.loop-i.i ≡ length c.args.setups.now =
-    omega (arith, c.loop-i-test.false, c.loop-i.auto.i-end) in
-    subst (λ (n : ℕ). Opened (StageStands g.F.Fader.stands_for) Tells c.loop-i.stages.items
-    c.args.shows.now c.args.setups.now n) end c.loop-i.invariant.0
+    omega (arith, c.loop-i-test.false, c.loop-i.auto.i-end) in rw end at c.loop-i.invariant.0
 
 pub loop-i-init : goal.loop-i-init
 loop-i-init g c = rw c.new-stages.ensures.items (
@@ -41,16 +31,13 @@ loop-i-init g c = rw c.new-stages.ensures.items (
 )
 
 pub bounds-shows-setup : goal.bounds-shows-setup
-bounds-shows-setup g c = omega (
-  arith,
-  c.requires c.loop-i.i c.index-setups-i.result c.loop-i-test.true,
-  ap (λ (s : Setup). s.show) c.index-setups-i.is,
-)
+bounds-shows-setup g c =
+    let is = ap (λ (s : Setup). s.show) c.index-setups-i.is in
+    omega (arith, c.requires c.loop-i.i c.index-setups-i.result c.loop-i-test.true, is)
 
 pub offset_bounds-shows-setup : goal.offset_bounds-shows-setup
 offset_bounds-shows-setup g c =
-    let within : c.index-setups-i.result.show < length c.args.shows.now = omega (
-      arith,
-      c.requires c.loop-i.i c.index-setups-i.result c.loop-i-test.true,
-      ap (λ (s : Setup). s.show) c.index-setups-i.is,
-    ) in search rules
+    let is = ap (λ (s : Setup). s.show) c.index-setups-i.is in
+    let within : c.index-setups-i.result.show < length c.args.shows.now =
+    omega (arith, c.requires c.loop-i.i c.index-setups-i.result c.loop-i-test.true, is) in
+    search rules

@@ -1,8 +1,7 @@
 use Rattle.std.proofs.Common.{refl, subst, sym}
 use Rattle.std.proofs.lemmas.Result.{IfOk-weaker}
 use Rattle.wire_world.specs.Stands.{world_in}
-use Rattle.wire_world.proofs.Openings.{begun}
-use Rattle.wire_world.proofs.Sources.{sources}
+use Rattle.wire_world.proofs.Events.{begun, sources}
 use Rattle.wire_world.specs.Wanted.{AreUpTo}
 use Rattle.wire_world.proofs.perform.perform.Goals as goal
 

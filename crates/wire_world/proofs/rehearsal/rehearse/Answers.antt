@@ -1,5 +1,4 @@
-use Rattle.std.proofs.Common.{ap, sym, subst, ◌∙◌, List, ℕ}
-use Rattle.std.specs.Prelude.{slice_index}
+use Rattle.std.proofs.Common.{ap, ◌∙◌}
 use Rattle.wire_world.specs.Replies.{AreReplies}
 use Rattle.wire_world.proofs.Shown.{answers_alone, means, merges, near, silence, was_shown, zero}
 use Rattle.wire_world.specs.Reported.{Reported}
@@ -17,8 +16,7 @@ returns-in-Ok g c =
     let none = no_fault _ _ brief.faults in
     let fine = fine_world c.args.shows.now c.args.consoles.now c.args.receivers.now
     c.args.strays.now none brief.sources in
-    let are = subst (λ (r : Reported). AreReplies w events r.replies) (sym c.in-Ok.ensures)
-    brief.report.replies in
+    let are : AreReplies w events _ = rw c.in-Ok.ensures brief.report.replies in
     let last = ap (λ (r : Reported). r.last) c.in-Ok.ensures ∙ brief.report.last in
     let at = was_shown w events _ _ are last in
     record {
@@ -29,8 +27,8 @@ returns-in-Ok g c =
           let k = at r t past slots shown in
           k.are ∙ means w fine.0 r past k.run no_stray t k.time i window alone fresh;
       unpatched = λ r i t slot past slots shown alone no_stray window fresh below none.
-          let k = at r t past slots shown in ap (λ (s : List ℕ). slice_index s slot) k.are
-          ∙ zero w fine.0 r past k.run no_stray t k.time i window alone fresh slot below none;
+          let k = at r t past slots shown in rw k.are
+          (zero w fine.0 r past k.run no_stray t k.time i window alone fresh slot below none);
       window_law = λ r i t past slots shown alone no_stray window.
           let k = at r t past slots shown in rw k.are (
             near w fine.0 r past k.run no_stray t k.time i window alone,
@@ -38,8 +36,11 @@ returns-in-Ok g c =
           );
       merge_law = λ r t slot past slots shown apart no_stray window settled below.
           let k = at r t past slots shown in
-          ap (λ (s : List ℕ). slice_index s slot) k.are ∙ merges w fine.0 r past k.run t k.time
-          (record { apart = apart; few = fine.1; no_stray = no_stray; window = window }) settled
-          slot below;
+          rw k.are (merges w fine.0 r past k.run t k.time (record {
+            apart = apart;
+            few = fine.1;
+            no_stray = no_stray;
+            window = window;
+          }) settled slot below);
       independent = answers_alone _ events _ fine.0 are fine.1;
     }

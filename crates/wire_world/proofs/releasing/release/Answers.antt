@@ -6,7 +6,7 @@ use Rattle.wire_world.specs.StageStands.{StageStands, Tells}
 use Rattle.wire_world.specs.World.{console_at}
 use Rattle.wire_world.specs.Happened.{acts}
 use Rattle.wire_world.specs.Shelves.{gone_of}
-use Rattle.wire_world.proofs.Stages.{all_set, tell_set}
+use Rattle.wire_world.proofs.Events.{all_set, tell_set}
 use Rattle.wire_world.proofs.releasing.release.Goals as goal
 
 pub returns-then-i-stages : goal.returns-then-i-stages

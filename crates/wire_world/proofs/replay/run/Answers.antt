@@ -1,5 +1,4 @@
-use Rattle.std.proofs.Common.{◌≡◌, ◌<◌, ◌∙◌, length, get_or, take, ap}
-use Rattle.std.proofs.Common.{arith, refl, List, ℕ, subst, sym}
+use Rattle.std.proofs.Common.{◌≡◌, ◌<◌, ◌∙◌, length, get_or, take, ap, arith, refl, List}
 use Rattle.std.specs.Prelude.{slice_index}
 use Rattle.std.proofs.lemmas.Option.{slice_get-get_or, slice_get_within}
 use Rattle.wire_world.specs.Replies.{done, last_slots}
@@ -7,10 +6,9 @@ use Rattle.desk_core.specs.declared.command.Command.TheVariants.{Go}
 use Rattle.wire_world.specs.declared.event.Event.{Event}
 use Rattle.wire_world.specs.declared.event.What.TheVariants.{Order}
 use Rattle.std.proofs.lemmas.List.{get_or_default, map_push, take_all}
-use Rattle.wire_world.proofs.Replays.{early, replayed_more}
+use Rattle.wire_world.proofs.Events.{early, replayed_more}
 use Rattle.wire_world.proofs.Wants.{hold_first, hold_next}
 use Rattle.wire_world.specs.Brief.{reply_of}
-use Rattle.wire_world.specs.Wanted.{Spares}
 use Rattle.wire_world.proofs.replay.run.Goals as goal
 
 pub step-requires-clause-early : goal.step-requires-clause-early
@@ -32,18 +30,16 @@ loop-i-init g c =
 
 pub loop-i-preserved : goal.loop-i-preserved
 loop-i-preserved g c = (
-  (let none : Event = record { moment = 0; what = Order 0 Go } in
-      let event : Event = get_or c.args.events.now c.loop-i.i none in
+  (let event : Event = get_or c.args.events.now c.loop-i.i
+      (record { moment = 0; what = Order 0 Go }) in
       let low : c.index.result.now ≡ slice_index c.in_ok-lows.lows.items c.loop-i.i =
       c.index.ensures ∙ get_or_default c.in_ok-lows.lows.items c.loop-i.i c.index.result.now 0
       (omega (arith, c.in_ok-lows.ensures.each, c.loop-i-test.true)) in
       hold_next c.loop-i.stages c.step.new.stages c.release.new.stages c.args.events.now
       c.in_ok-lows.lows.items c.loop-i.i event
-      (slice_get-get_or c.args.events.now c.loop-i.i none c.loop-i-test.true)
+      (slice_get-get_or c.args.events.now c.loop-i.i _ c.loop-i-test.true)
       c.in_ok-lows.ensures.lows c.in_ok-reply.ensures.spans
-      (λ later h s. c.release.ensures.holds later h
-      (subst (λ (n : ℕ). Spares event.what n later) (sym low) s))
-      c.loop-i.invariant.0),
+      (λ later h s. c.release.ensures.holds later h (rw low s)) c.loop-i.invariant.0),
   λ w same are.
       let all = c.loop-i.invariant.1 w same are in
       let s = c.in_ok-reply.ensures.step w (done w (take c.loop-i.i c.args.events.now)) same

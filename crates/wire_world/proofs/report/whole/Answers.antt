@@ -1,11 +1,11 @@
-use Rattle.std.proofs.Common.{◌≡◌, ◌∷◌, [], ◌++◌, List, length, map, sym, ap, ◌∙◌}
-use Rattle.std.proofs.Common.{append_assoc, append-nil, arith}
+use Rattle.std.proofs.Common.{◌≡◌, ◌∷◌, [], ◌++◌, List, length, map, sym, ap, ◌∙◌, append_assoc}
+use Rattle.std.proofs.Common.{append-nil, arith, refl}
 use Rattle.std.specs.Vec.Iter.{into_iter_items}
 use Rattle.wire_world.specs.Brief.{reply_of}
 use Rattle.wire_world.proofs.report.whole.Goals as goal
 
 none_left : {X : Type 0} (xs : List X) → length xs ≡ 0 → xs ≡ []
-none_left [] h = sym (append-nil [])
+none_left [] h = refl
 none_left (x ∷ xs) h = absurd (omega arith)
 
 pub loop-brief-preserved : goal.loop-brief-preserved
@@ -14,10 +14,8 @@ loop-brief-preserved c =
     let steps = c.in-Some.ensures.steps.0 in
     let gone = c.in-Some.ensures.steps.1 in
     record {
-      so_far = rw (c.in_ok-push.ensures.items, c.into_reply.ensures)
-          (append_assoc at.replies.items (reply_of c.in-Some.brief ∷ []) _
-          ∙ ap (λ rest. at.replies.items ++ map reply_of rest) (sym steps)
-          ∙ at.invariant.so_far);
+      so_far = rw (c.in_ok-push.ensures.items, c.into_reply.ensures, append_assoc)
+          (ap (λ rest. at.replies.items ++ map reply_of rest) (sym steps) ∙ at.invariant.so_far);
       left = let short = ap length steps in omega (arith, at.invariant.left);
     }
 
@@ -26,6 +24,5 @@ returns c =
     let at = c.loop-brief in
     let over : into_iter_items at.brief-iterator ≡ [] =
     none_left _ (sym at.invariant.left ∙ c.in-None.ensures.steps.0) in
-    sym (append-nil at.replies.items)
-    ∙ ap (λ rest. at.replies.items ++ map reply_of rest) (sym over)
-    ∙ at.invariant.so_far ∙ ap (map reply_of) c.into_iter-brief-iterator.ensures.into_iter_gives.0
+    rw (over, append-nil) at at.invariant.so_far
+    ∙ ap (map reply_of) c.into_iter-brief-iterator.ensures.into_iter_gives.0

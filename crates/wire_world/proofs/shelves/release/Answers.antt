@@ -1,5 +1,5 @@
 use Rattle.std.proofs.Common.{refl, sym, ◌∙◌}
-use Rattle.wire_world.proofs.Shelved.{gone_released, rest_changed, set_put}
+use Rattle.wire_world.proofs.Linked.{gone_released, rest_changed, set_put}
 use Rattle.wire_world.proofs.shelves.release.Goals as goal
 
 pub returns-in-Some : goal.returns-in-Some

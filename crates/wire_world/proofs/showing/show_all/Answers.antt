@@ -1,7 +1,5 @@
-use Rattle.std.proofs.Common.{◌≡◌, ℕ, ◌+◌, ◌∷◌, ◌++◌, [], length, map, ap, sym, ◌∙◌, arith, List}
-use Rattle.std.proofs.Common.{Some}
+use Rattle.std.proofs.Common.{◌≡◌, ℕ, length, ap, sym, ◌∙◌, arith, List, Some}
 use Rattle.std.specs.Prelude.{slice_get}
-use Rattle.std.specs.List.{range_with_len}
 use Rattle.std.proofs.lemmas.List.FromFn.{map-range_with_len_more}
 use Rattle.std.proofs.lemmas.Option.{slice_get-get_or}
 use Rattle.sacn_receiver.specs.Shown.{shown_slots}
@@ -14,21 +12,15 @@ loop-i-preserved c = λ w past hear.
     slice_get-get_or c.args.receivers.now c.loop-i.i c.index-receivers-i.result
     c.loop-i-test.true ∙ ap Some (sym c.index-receivers-i.is) in
     let f : ℕ → List ℕ = λ r. shown_slots (accepted_by w r past) c.args.moment in
-    let z : 0 + c.loop-i.i ≡ c.loop-i.i = omega arith in
-    let k : c.slots.new.out ≡ f c.loop-i.i =
-    c.slots.ensures (accepted_by w c.loop-i.i past)
-    (hear.stand c.loop-i.i c.index-receivers-i.result at) in
-    c.in_ok-push.ensures.items
-    ∙ ap (λ l. l ++ c.slots.new.out ∷ []) (c.loop-i.invariant w past hear)
-    ∙ ap (λ s. map f (range_with_len 0 c.loop-i.i) ++ s ∷ []) k
-    ∙ sym (map-range_with_len_more f 0 c.loop-i.i c.loop-i.i z)
+    rw (
+      c.in_ok-push.ensures.items,
+      c.loop-i.invariant w past hear,
+      c.slots.ensures _ (hear.stand c.loop-i.i c.index-receivers-i.result at),
+    )
+    (sym (map-range_with_len_more f 0 c.loop-i.i c.loop-i.i (omega arith)))
 
 pub returns : goal.returns
 returns c = λ w past hear time.
     let end : c.loop-i.i ≡ length w.receivers =
     omega (arith, c.loop-i-test.false, c.loop-i.auto.i-end, hear.each) in
-    c.loop-i.invariant w past hear
-    ∙ ap (λ n. map (λ r. shown_slots (accepted_by w r past) c.args.moment)
-    (range_with_len 0 n)) end
-    ∙ ap (λ t. map (λ r. shown_slots (accepted_by w r past) t)
-    (range_with_len 0 (length w.receivers))) time
+    rw (c.loop-i.invariant w past hear, end, time)

@@ -5,7 +5,7 @@ use Rattle.std.specs.Option.{option_map}
 use Rattle.wire_world.specs.declared.event.Event.{Event}
 use Rattle.wire_world.specs.declared.event.What.TheVariants.{Deliver}
 use Rattle.wire_world.specs.World.{World}
-use Rattle.wire_world.proofs.Stages.{at_number, looked_up}
+use Rattle.wire_world.proofs.Events.{at_number, looked_up}
 use Rattle.wire_world.specs.StageStands.{StageStands, Tells}
 use Rattle.wire_world.proofs.steps.deliver_at.Goals as goal
 

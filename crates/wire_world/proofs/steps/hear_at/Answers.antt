@@ -1,6 +1,6 @@
 use Rattle.std.proofs.Common.{◌∙◌}
 use Rattle.std.proofs.lemmas.Option.{slice_get-get_or}
-use Rattle.wire_world.proofs.Receivers.{replied_is, hear_set}
+use Rattle.wire_world.proofs.Events.{replied_is, hear_set}
 use Rattle.wire_world.proofs.steps.hear_at.Goals as goal
 
 pub returns-clause-reply : goal.returns-clause-reply

@@ -1,4 +1,4 @@
-use Rattle.std.proofs.Common.{ap, subst, sym, ◌∙◌, refl}
+use Rattle.std.proofs.Common.{ap, sym, ◌∙◌, refl}
 use Rattle.std.specs.Prelude.{slice_get}
 use Rattle.std.specs.Result.{result_err}
 use Rattle.std.proofs.lemmas.Option.{slice_get-get_or}
@@ -6,11 +6,10 @@ use Rattle.std.proofs.lemmas.Result.{on_err_weaker}
 use Rattle.desk_core.specs.Played.{order}
 use Rattle.wire_world.specs.World.{console_at}
 use Rattle.wire_world.specs.Happened.{acts}
-use Rattle.wire_world.proofs.Stages.{tell_set, err_of, stand_call, stood, no_skip}
-use Rattle.wire_world.proofs.Stages.{told}
+use Rattle.wire_world.proofs.Events.{tell_set, err_of, stand_call, here, told}
 use Rattle.wire_world.proofs.Wants.{spans_set}
 use Rattle.wire_world.specs.Stands.{order_reply}
-use Rattle.wire_world.specs.StageStands.{StageStands, Tells}
+use Rattle.wire_world.specs.StageStands.{Tells}
 use Rattle.wire_world.proofs.steps.order_at.Goals as goal
 
 pub returns : goal.returns
@@ -24,16 +23,14 @@ returns g c =
       spans = rw c.from-i.ensures (spans_set c.args.stages.now k _ c.order.new.self at
           c.order.ensures.gone c.order.ensures.last);
       reply = λ w past all.
-          rw (no_skip all k _ at)
+          rw (here all k _ at)
           (c.ordered.ensures ∙ ap order_reply
-          (c.order.ensures.answer (console_at w k) (acts w k past) (stood all k _ at))
+          (c.order.ensures.answer (console_at w k) (acts w k past) (all.stand k _ at))
           ∙ told order_reply tt _);
       stands = λ w past all. rw c.from-i.ensures (
           stand_call all k _ at c.order.new.self (record { moment = c.args.moment; what = _ })
           (order c.args.command) c.order.result (λ j. refl)
           (λ d h s. ap result_err (c.order.ensures.answer d h s) ∙ err_of _ _)
           c.order.ensures.stands
-          (on_err_weaker c.order.result (λ same d h s.
-          subst (λ y. StageStands g.F.Fader.stands_for y d h) (sym same) s)
-          c.order.ensures.unchanged));
+          (on_err_weaker c.order.result (λ same d h s. rw same s) c.order.ensures.unchanged));
     }

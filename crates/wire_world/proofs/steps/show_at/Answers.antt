@@ -1,8 +1,7 @@
 use Rattle.std.proofs.Common.{ap, ◌∙◌}
 use Rattle.wire_world.specs.declared.reply.Reply.TheVariants as reply
 use Rattle.wire_world.specs.Happened.{accepted_by}
-use Rattle.wire_world.proofs.Receivers.{no_skip, stood}
-use Rattle.wire_world.proofs.Stages.{at_number}
+use Rattle.wire_world.proofs.Events.{there, at_number}
 use Rattle.wire_world.proofs.steps.show_at.Goals as goal
 
 pub slots-requires : goal.slots-requires
@@ -15,7 +14,7 @@ pub returns : goal.returns
 returns c = λ w past all.
     let at = at_number c.args.receivers.now _ _ _ c.from-r.ensures c.if-r-receivers.false
     c.index-receivers-r.is in
-    rw (no_skip all c.args.receiver c.index-receivers-r.result at)
+    rw (there all c.args.receiver c.index-receivers-r.result at)
     (ap reply.Shown (c.in_ok-slots.ensures.ok
     ∙ c.slots.ensures (accepted_by w c.args.receiver past)
-    (stood all c.args.receiver c.index-receivers-r.result at)))
+    (all.stand c.args.receiver c.index-receivers-r.result at)))

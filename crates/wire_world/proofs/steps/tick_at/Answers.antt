@@ -5,8 +5,7 @@ use Rattle.std.proofs.lemmas.Option.{slice_get-get_or}
 use Rattle.desk_core.specs.Played.{tick}
 use Rattle.wire_world.specs.World.{console_at}
 use Rattle.wire_world.specs.Happened.{acts}
-use Rattle.wire_world.proofs.Stages.{always, err_of, no_skip, stand_call}
-use Rattle.wire_world.proofs.Stages.{stood, tell_set, told}
+use Rattle.wire_world.proofs.Events.{always, err_of, here, stand_call, tell_set, told}
 use Rattle.std.proofs.lemmas.Result.{IfOk-weaker}
 use Rattle.wire_world.proofs.Wants.{spans_set}
 use Rattle.wire_world.specs.Stands.{tick_reply}
@@ -39,9 +38,9 @@ returns g c =
           (spans_set c.args.stages.now k _ c.tick-answer.new.self at
           (c.tick-answer.ensures.gone tells) c.tick-answer.ensures.last));
       reply = IfOk-weaker c.ticked.result _ _ (λ reply is w past all.
-          rw (no_skip all k _ at)
+          rw (here all k _ at)
           (is ∙ ap tick_reply
-          (c.tick-answer.ensures.answer (console_at w k) (acts w k past) (stood all k _ at) tells)
+          (c.tick-answer.ensures.answer (console_at w k) (acts w k past) (all.stand k _ at) tells)
           ∙ told tick_reply _ _)) c.ticked.ensures;
       stands = always c.ticked.result _ (λ _ w past all. rw c.from-i.ensures
           (stand_call all k _ at c.tick-answer.new.self

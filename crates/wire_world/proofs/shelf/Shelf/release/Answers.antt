@@ -1,6 +1,6 @@
 use Rattle.std.proofs.Common.{refl, arith, sym, ap}
 use Rattle.std.specs.Option.{is_some}
-use Rattle.wire_world.proofs.Rests.{rest_popped}
+use Rattle.wire_world.proofs.Linked.{rest_popped}
 use Rattle.wire_world.proofs.shelf.Shelf.release.Goals as goal
 
 pub loop-gone-preserved : goal.loop-gone-preserved

@@ -1,5 +1,5 @@
 use Rattle.std.proofs.Common.{refl}
-use Rattle.wire_world.proofs.Ticks.{answer_is, leaves}
+use Rattle.wire_world.proofs.Linked.{answer_is, leaves}
 use Rattle.wire_world.proofs.stage.Stage.tick.Goals as goal
 
 pub returns : goal.returns
@@ -11,10 +11,10 @@ returns g c =
       shelves = c.shelve.new.shelves;
       last = c.args.self.now.last;
     })
-    c.args.moment c.tick-answer.result c.tick-answer.new.link c.tick-answer.ensures.told
-    c.shelve.ensures.tells refl c.shelve.ensures.empty c.shelve.ensures.rest
-    c.tick-answer.ensures.offered
-    c.tick-answer.ensures.stands c.tick-answer.ensures.unchanged c.tick-answer.ensures.quiet in
+    c.args.moment c.tick-answer.new.link c.tick-answer.ensures.told c.shelve.ensures.tells refl
+    c.shelve.ensures.empty c.shelve.ensures.rest c.tick-answer.result
+    c.tick-answer.ensures.offered c.tick-answer.ensures.stands c.tick-answer.ensures.unchanged
+    c.tick-answer.ensures.quiet in
     record {
       answer = λ p h s tells. answer_is c.tick-answer.result _ _ _
           (c.tick-answer.ensures.answer p h s.console_stands)
