@@ -1,5 +1,5 @@
 -- The history of datagrams that came at moment 0.
-use Rattle.std.proofs.Common.{ℕ, ◌≡◌, List, [], ◌∷◌, Option, Some, None, refl}
+use Rattle.std.proofs.Common.{arith, ℕ, ◌≡◌, List, [], ◌∷◌, Option, refl}
 use Rattle.std.specs.Option.{option_map_or}
 use Rattle.sacn_packet.specs.Reading.{front_packet}
 use Rattle.sacn_receiver.specs.declared.answer.Ignored.{Ignored}
@@ -10,8 +10,7 @@ use Rattle.cueplayer_runs.specs.Listening.{history}
 moment_after : (reason : Option Ignored) (entry : Entry) (h : List Entry) → entry.moment ≡ 0
     → last_moment h ≡ 0
     → last_moment (option_map_or (λ _. h) reason (entry ∷ h)) ≡ 0
-moment_after None entry h now was = now
-moment_after (Some e) entry h now was = was
+moment_after reason entry h now was = grind (arith, now, was)
 
 -- all of them came at moment 0
 pub last_moment-history : (universe : ℕ) (datagrams : List (List ℕ))

@@ -1,6 +1,6 @@
 -- A run of `listen`, as far as it has come.
-use Rattle.std.proofs.Common.{ℕ, ◌≡◌, List, [], ◌∷◌, ◌++◌, length, reverse, Result, Ok, Err}
-use Rattle.std.proofs.Common.{IsErrAnd, sym, ap, subst, ◌∙◌}
+use Rattle.std.proofs.Common.{ℕ, ◌≡◌, List, [], ◌∷◌, length, reverse, Result, Ok, Err}
+use Rattle.std.proofs.Common.{IsErrAnd, ap, ◌∙◌}
 use Rattle.std.proofs.lemmas.Grind.{reverse_onto}
 use Rattle.devices.specs.Tape.{Tape, with_more, with_failure}
 use Rattle.devices.proofs.Tapes.{with_more-twice}
@@ -27,9 +27,8 @@ pub gave_more : (datagram : List ℕ) (datagrams : List (List ℕ)) (given mid g
     → GaveAll datagrams given mid → gives ≡ with_more mid (datagram ∷ [])
     → GaveAll (datagram ∷ datagrams) given gives
 gave_more datagram datagrams given mid gives so_far more =
-    more ∙ ap (λ tape. with_more tape (datagram ∷ [])) so_far
-    ∙ with_more-twice given (reverse datagrams) (datagram ∷ [])
-    ∙ ap (with_more given) (sym (reverse_onto datagrams datagram []))
+    rw (more, so_far, reverse_onto datagrams datagram [])
+    (with_more-twice given (reverse datagrams) (datagram ∷ []))
 
 -- the output took one line more
 pub took_more : (universe : ℕ) (datagram : List ℕ) (datagrams : List (List ℕ))
@@ -38,9 +37,7 @@ pub took_more : (universe : ℕ) (datagram : List ℕ) (datagrams : List (List �
     → after ≡ with_more mid (reply_line universe datagram datagrams)
     → after ≡ with_more before (replies universe (datagram ∷ datagrams))
 took_more universe datagram datagrams before mid after so_far more =
-    let line = reply_line universe datagram datagrams in
-    more ∙ ap (λ tape. with_more tape line) so_far ∙ with_more-twice before
-    (replies universe datagrams) line
+    rw (more, so_far) (with_more-twice before (replies universe datagrams) _)
 
 -- the output took the slots line too
 pub took_all : (universe : ℕ) (datagrams : List (List ℕ)) (line : List ℕ)
@@ -49,20 +46,15 @@ pub took_all : (universe : ℕ) (datagrams : List (List ℕ)) (line : List ℕ)
     → mid ≡ with_more before (replies universe datagrams) → after ≡ with_more mid line
     → after ≡ with_more before (listen_text universe datagrams)
 took_all universe datagrams line before mid after is so_far more =
-    more ∙ ap (λ tape. with_more tape line) so_far ∙ with_more-twice before
-    (replies universe datagrams) line
-    ∙ ap (λ text. with_more before (replies universe datagrams ++ text)) is
+    rw (more, so_far, ← is) (with_more-twice before (replies universe datagrams) line)
 
 -- the run ends with Device where a device failed
 pub ends : {X : Type 0} (r : Result X RunFault) (universe count : ℕ) (given gives : Tape (List ℕ))
     (before after : Tape ℕ) → IsErrAnd r (λ e. e ≡ run.Device)
     → DeviceFailed universe count given gives before after
     → Listens r universe count given gives before after
-ends {X} (Ok x) universe count given gives before after is why = absurd is
-ends {X} (Err e) universe count given gives before after is why =
-    let P : RunFault → Type 0 = λ f. Listens {X = X} (Err f) universe count given gives before
-    after in
-    subst P (sym is) why
+ends (Ok x) universe count given gives before after is why = absurd is
+ends (Err e) universe count given gives before after is why = rw is why
 
 -- the output failed at the slots line
 pub slots_failed : (universe count : ℕ) (datagrams : List (List ℕ)) (given gives : Tape (List ℕ))

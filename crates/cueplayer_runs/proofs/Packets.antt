@@ -1,7 +1,7 @@
 -- The lines of packets, one after the other.
-use Rattle.std.proofs.Common.{arith, ◌≡◌, ◌∙◌, sym, ap, subst, ℕ, ◌<◌, ◌+◌, Option, Some, None}
+use Rattle.std.proofs.Common.{arith, ◌≡◌, ◌∙◌, ap, ℕ, ◌<◌, ◌+◌, Option, Some, None}
 use Rattle.std.proofs.Common.{IfSome}
-use Rattle.std.proofs.Common.{List, [], ◌∷◌, ◌++◌, All, flat_map, take, length, get_or}
+use Rattle.std.proofs.Common.{List, [], ◌∷◌, ◌++◌, All, take, length, get_or}
 use Rattle.std.proofs.Common.{append_assoc}
 use Rattle.std.specs.List.{range_with_len, AllZip}
 use Rattle.std.proofs.lemmas.List.Elements.{All-filter}
@@ -39,16 +39,13 @@ one_more_line : (levels : LevelMap) (patch : PatchMap) (cid ordinals text packet
     → IsData packet (look_fields cid k) (look_frame levels patch k)
     → IsLinesOf levels patch cid (ordinals ++ k ∷ []) ((text ++ encode_lower packet) ++ 10 ∷ [])
 one_more_line levels patch cid ordinals text packet k so_far is =
-    let lines : (text ++ encode_lower packet) ++ 10 ∷ []
-    ≡ flat_map hex_line (so_far.packets ++ packet ∷ []) =
-    append_assoc text (encode_lower packet) (10 ∷ [])
-    ∙ ap (λ front. front ++ hex_line packet) so_far.lines
-    ∙ flat_map_more hex_line [] so_far.packets packet in
     record {
       packets = so_far.packets ++ packet ∷ [];
       each = zip_more (IsLookPacket levels patch cid) ordinals so_far.packets k packet so_far.each
           is;
-      lines = lines;
+      lines = append_assoc text (encode_lower packet) (10 ∷ [])
+          ∙ ap (λ front. front ++ hex_line packet) so_far.lines
+          ∙ flat_map_more hex_line [] so_far.packets packet;
     }
 
 -- the line of the next of some universes, with the levels of a cue that may be there
@@ -62,14 +59,5 @@ pub line_added : (o : Option CueData) (patch : PatchMap) (cid ordinals : List �
     → IfSome o (λ look. IsLinesOf look.levels patch cid (take (i + 1) ordinals) longer)
 line_added None patch cid ordinals i text packet slots longer within so_far is full added = tt
 line_added (Some look) patch cid ordinals i text packet slots longer within so_far is full added =
-    let k = get_or ordinals i 0 in
-    let framed : IsData packet (look_fields cid k) (look_frame look.levels patch k) =
-    let P : List ℕ → Type 0 = λ frame. IsData packet (look_fields cid k) frame in subst P full is in
-    let more = (text ++ encode_lower packet) ++ 10 ∷ [] in
-    let all : IsLinesOf look.levels patch cid (take i ordinals ++ k ∷ []) more =
-    one_more_line look.levels patch cid (take i ordinals) text packet k so_far framed in
-    let taken : IsLinesOf look.levels patch cid (take (i + 1) ordinals) more =
-    let P : List ℕ → Type 0 = λ ks. IsLinesOf look.levels patch cid ks more in
-    subst P (sym (take_more ordinals i 0 within)) all in
-    let P : List ℕ → Type 0 = λ t. IsLinesOf look.levels patch cid (take (i + 1) ordinals) t in
-    subst P (sym added) taken
+    rw (added, take_more ordinals i 0 within)
+    (one_more_line look.levels patch cid (take i ordinals) text packet _ so_far (rw full at is))

@@ -1,6 +1,6 @@
 -- A text means one show alone.
-use Rattle.std.proofs.Common.{◌≡◌, ◌∙◌, sym, ap, subst, ℕ, Bool, true, not, true≢false, List}
-use Rattle.std.proofs.Common.{Option, Some, None, is_some, IfSome, IsSomeAnd}
+use Rattle.std.proofs.Common.{arith, ◌≡◌, ◌∙◌, sym, ap, ℕ, Bool, true, not, List}
+use Rattle.std.proofs.Common.{Option, is_some, IfSome, IsSomeAnd}
 use Rattle.std.proofs.Common.{Result, Ok, Err, IfErr, IsErrAnd}
 use Rattle.std.specs.FinMap as maps
 use Rattle.show_core.specs.Tables.{LevelMap, PatchMap, Tables}
@@ -24,18 +24,13 @@ pub check_of : (show written : List ℕ) (lines skipped : ℕ) (s : Tables)
     → lines ≡ lines_read desk_limits show → skipped ≡ lines_skipped desk_limits show
     → written ≡ check_text lines skipped s → IsCheckOf show written
 check_of show written lines skipped s is read skips line =
-    let counted : written ≡ check_text (lines_read desk_limits show)
-    (lines_skipped desk_limits show) s =
-    line ∙ ap (λ n. check_text n skipped s) read
-    ∙ ap (λ n. check_text (lines_read desk_limits show) n s) skips in
     of_its_show show (λ t. written ≡ check_text (lines_read desk_limits show)
-    (lines_skipped desk_limits show) t) s is counted
+    (lines_skipped desk_limits show) t) s is (rw (read, skips) at line)
 
 -- a value that is there, of which something is known
 pub some_and : {X : Type 0} (o : Option X) (P : X → Type 0) → is_some o ≡ true → IfSome o P
     → IsSomeAnd o P
-some_and None P there p = absurd (true≢false (sym there))
-some_and (Some x) P there p = p
+some_and o P there p = grind (arith, there, p)
 
 -- what was written of a cue that is there is so by every show of the text
 pub of_cue : (show : List ℕ) (cue : ℕ) (IsText : List ℕ → LevelMap → PatchMap → Type 0)
@@ -49,8 +44,7 @@ of_cue show cue IsText text written s is there same lines =
     IsSomeAnd (maps.get t.cues cue) (λ look. IsText written look.levels t.patch) in
     let found = some_and (maps.get s.cues cue) (λ look. IsText text look.levels s.patch) there
     lines in
-    of_its_show show P s is (subst (λ (t : List ℕ). IsSomeAnd (maps.get s.cues cue)
-    (λ look. IsText t look.levels s.patch)) (sym same) found)
+    of_its_show show P s is (rw same found)
 
 -- a cue is there where the show has it
 pub cue_is_there : (show : List ℕ) (s : Tables) (cue : ℕ) (b : Bool)
@@ -68,4 +62,4 @@ was_found o found is_none b is none test = ap is_some (sym is) ∙ none ∙ ap n
 pub output_failed : {X : Type 0} (r : Result X RunFault) (P : RunFault → Type 0)
     → IsErrAnd r (λ e. e ≡ run.Device) → P run.Device → IfErr r P
 output_failed (Ok x) P is p = tt
-output_failed (Err e) P is p = subst P (sym is) p
+output_failed (Err e) P is p = rw is p

@@ -1,9 +1,9 @@
 -- What a desk accepts of a night.
-use Rattle.std.proofs.Common.{◌≡◌, ◌≤◌, ◌<◌, ◌^◌, ℕ, ◌+◌, Bool, true, false, cond, refl, sym, ap}
-use Rattle.std.proofs.Common.{◌∙◌, arith, List, ◌∷◌, Option, Some, None}
+use Rattle.std.proofs.Common.{◌≡◌, ◌≤◌, ◌<◌, ◌^◌, ℕ, ◌+◌, true, false, refl, ap, ◌∙◌, arith, List}
+use Rattle.std.proofs.Common.{◌∷◌, Option, Some, None}
 use Rattle.std.specs.Prelude.{option_map, is_none}
 use Rattle.std.specs.Option.{option_map_or}
-use Rattle.std.proofs.lemmas.Bool.{and_parts}
+use Rattle.std.proofs.lemmas.Bool.{and_parts, cond_both}
 use Rattle.std.proofs.lemmas.Bool.Decides.{nat_tests}
 use Rattle.ascii_text.specs.Text.{words_of}
 use Rattle.show_core.specs.Tables.{Tables}
@@ -12,11 +12,11 @@ use Rattle.desk_core.specs.declared.command.Command.TheVariants.{End}
 use Rattle.desk_core.specs.Played as desk
 use Rattle.desk_core.specs.Played.{Act, last_moment, last_tick, refusal}
 use Rattle.console_text.specs.Spelling.{command_of}
-use Rattle.live_input.specs.Laws.{accepted, act_of, taken}
+use Rattle.live_input.specs.Laws.{accepted, taken}
 use Rattle.live_input.specs.Night.{Answer, Happening, answer_to, answers, asked, due, ended}
-use Rattle.live_input.specs.Night.{ended_by, is_over, now, order, close, tick}
-use Rattle.live_input.proofs.Cases.{Next, answer_is_next, clock_below, closes, takes, through}
-use Rattle.live_input.proofs.Cases.{ticks}
+use Rattle.live_input.specs.Night.{ended_by, is_over, now, order, tick}
+use Rattle.live_input.proofs.Cases.{Keeps, Next, answer_is_next, clock_below, closes, takes}
+use Rattle.live_input.proofs.Cases.{through, ticks}
 
 -- a desk with this history, at this moment, agrees with the answers given: its last tick, if there
 -- was one, is 23 ms before the next is due
@@ -49,42 +49,36 @@ order_ended : (c : Command) (since : Option ℕ) (n : ℕ) (line : List ℕ)
 order_ended c since n line is = grind (arith, is)
 
 -- and a refused one is no first `end`
-stays : (spelled : Option Command) (since : Option ℕ) (n : ℕ) (line : List ℕ)
-    → command_of (words_of line) ≡ spelled → (since ≡ None → spelled ≡ Some End → ⊥)
+order_refused : (show : Tables) (history : List Act) (given : List Answer) (n : ℕ) (line : List ℕ)
+    → n < 2 ^ 48 → Agrees history given n → (c : Command) (since : Option ℕ) → ended given ≡ since
+    → command_of (words_of line) ≡ Some c
+    → is_none (refusal show history (act n (desk.order c))) ≡ false
     → since ≡ ended_by (order n line) since
-stays spelled (Some after) n line is never = refl
-stays (Some End) None n line is never = absurd (never refl refl)
-stays _ None n line is never = rw is refl
+order_refused show history given n line below a c (Some after) given_is is refused = refl
+order_refused show history given n line below a End None given_is is refused =
+    let accepted = end_accepted show history given n below a given_is in cc
+order_refused show history given n line below a c None given_is is refused = rw is refl
 
 order_by : (show : Tables) (history : List Act) (given : List Answer) (n : ℕ) (line : List ℕ)
     → n < 2 ^ 48 → Agrees history given n → (spelled : Option Command)
     → command_of (words_of line) ≡ spelled
     → Agrees (taken show (option_map (λ c. act n (desk.order c)) spelled) history)
     (order n line ∷ given) n
-order_by show history given n line below a None is = record {
-  moment = a.moment;
-  since = a.since ∙ stays None (ended given) n line is (λ none e. cc);
-  past = a.past;
-}
+order_by show history given n line below a None is =
+    record { moment = a.moment; since = grind (arith, a.since, is); past = a.past }
 order_by show history given n line below a (Some c) is =
-    go (is_none (refusal show history (act n (desk.order c)))) refl
-  where
-    go : (b : Bool) → is_none (refusal show history (act n (desk.order c))) ≡ b
-        → Agrees (cond b (act n (desk.order c) ∷ history) history) (order n line ∷ given) n
-    go true e = record {
+    cond_both (is_none (refusal show history (act n (desk.order c)))) _ _
+    (λ history. Agrees history (order n line ∷ given) n)
+    (λ e. record {
       moment = omega arith;
       since = ap (desk.ended_by (desk.order c)) a.since ∙ order_ended c (ended given) n line is;
       past = a.past;
-    }
-    go false e = record {
+    })
+    (λ e. record {
       moment = a.moment;
-      since = a.since ∙ stays (Some c) (ended given) n line is (λ none end.
-          let accepted = end_accepted show history given n below a none in
-          let same : c ≡ End = cc in
-          let refused = rw same at e in
-          let clash : true ≡ false = rw accepted at refused in cc);
+      since = a.since ∙ order_refused show history given n line below a c _ refl is e;
       past = a.past;
-    }
+    })
 
 ended_none : (since : Option ℕ) → is_none since ≡ true → since ≡ None
 ended_none since owed = grind (arith, owed)
@@ -97,9 +91,7 @@ later : (history : List Act) (given : List Answer) (m n : ℕ) → m ≤ n → A
 later history given m n le a =
     record { moment = omega (arith, a.moment); since = a.since; past = a.past }
 
-agrees_by : (show : Tables) (h : List Happening) (n : ℕ) (answer : Answer) → Next h n answer
-    → now h ≤ n → n < 2 ^ 48 → Agrees (accepted show (answers h)) (answers h) (now h)
-    → Agrees (taken show (act_of answer) (accepted show (answers h))) (answer ∷ answers h) n
+agrees_by : (show : Tables) → Keeps (λ given n. Agrees (accepted show given) given n)
 agrees_by show h n _ (takes line left is fit) le below a =
     order_by show _ (answers h) n line below (later _ _ (now h) n le a)
     (command_of (words_of line)) refl
@@ -107,8 +99,7 @@ agrees_by show h n _ (closes is owed) le below a =
     let none = ended_none (ended (answers h)) (and_parts _ _ owed).0 in
     rw (end_accepted show _ (answers h) n below (later _ _ (now h) n le a) none) (record {
       moment = omega arith;
-      since = ap (desk.ended_by (desk.order End)) (a.since ∙ none)
-          ∙ ap (ended_by (close n)) (sym none);
+      since = rw (a.since, none) refl;
       past = a.past;
     })
 agrees_by show h n _ (ticks on is none late) le below a =
@@ -129,17 +120,15 @@ pub ends_accepted : (show : Tables) (h : List Happening)
     → desk.ended (accepted show (answers h)) ≡ ended (answers h)
 ends_accepted show h = (agrees show h).since
 
-tick_only : (show : Tables) (h : List Happening) (m n : ℕ) (answer : Answer) → Next h m answer
-    → m < 2 ^ 48 → Agrees (accepted show (answers h)) (answers h) m → answer ≡ tick n
+tick_only : (show : Tables) (h : List Happening) (m n : ℕ) → Next h m (tick n) → m < 2 ^ 48
+    → Agrees (accepted show (answers h)) (answers h) m
     → refusal show (accepted show (answers h)) (act n desk.tick) ≡ None
-tick_only show h m n _ (ticks on is none late) below a e =
-    let same : m ≡ n = cc in
-    rw (← same) (tick_accepted show _ (answers h) m below a on late)
-tick_only show h m n _ _ below a e = cc
+tick_only show h m _ (ticks on is none late) below a =
+    tick_accepted show _ (answers h) m below a on late
 
 pub ticks_accepted : (show : Tables) (h : List Happening) (moment n : ℕ)
     → answer_to h moment ≡ tick n
     → refusal show (accepted show (answers h)) (act n desk.tick) ≡ None
 ticks_accepted show h moment n is =
-    tick_only show h _ n _ (answer_is_next h moment) (clock_below (asked moment ∷ h))
-    (later _ _ (now h) _ (omega arith) (agrees show h)) is
+    tick_only show h _ n (rw is at (answer_is_next h moment)) (clock_below (asked moment ∷ h))
+    (later _ _ (now h) _ (omega arith) (agrees show h))

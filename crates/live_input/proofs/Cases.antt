@@ -42,11 +42,14 @@ clock_below [] = omega arith
 clock_below (asked moment ∷ h) = omega (arith, clock_below h)
 clock_below (_ ∷ h) = clock_below h
 
--- what holds at first, and after each answer, holds at any moment
-pub through : (P : List Answer → ℕ → Type 0) → P [] 0
-    → ((h : List Happening) (n : ℕ) (answer : Answer) → Next h n answer → now h ≤ n
-    → n < 2 ^ 48 → P (answers h) (now h) → P (answer ∷ answers h) n)
-    → (h : List Happening) → P (answers h) (now h)
+-- each answer that may come next keeps it
+abbrev pub Keeps : (List Answer → ℕ → Type 0) → Type 0
+Keeps P = (h : List Happening) (n : ℕ) (answer : Answer) → Next h n answer → now h ≤ n
+    → n < 2 ^ 48 → P (answers h) (now h) → P (answer ∷ answers h) n
+
+-- what holds at first, and is kept by each answer, holds at any moment
+pub through : (P : List Answer → ℕ → Type 0) → P [] 0 → Keeps P → (h : List Happening)
+    → P (answers h) (now h)
 through P none more [] = none
 through P none more (asked moment ∷ h) =
     more h _ _ (answer_is_next h moment) (omega arith) (clock_below (asked moment ∷ h))

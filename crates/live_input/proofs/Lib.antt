@@ -3,7 +3,6 @@ pub mod Accepting
 pub mod Answering
 pub mod Cases
 pub mod Nights
-pub mod Digits
 pub mod Fine
 pub mod Replies
 pub mod Spelled

@@ -1,10 +1,10 @@
 -- What holds through a night.
-use Rattle.std.proofs.Common.{◌≤◌, ◌<◌, ◌^◌, ℕ, List, [], ◌∷◌, arith, ◌≡◌, suc, ◌+◌, Bool, true}
-use Rattle.std.proofs.Common.{false, ap, length, Option, Some, None, ◌↔◌, cond, refl, sym, ◌∙◌}
-use Rattle.std.proofs.Common.{◌++◌, drop, append_assoc, append-nil}
+use Rattle.std.proofs.Common.{◌≤◌, ◌<◌, ℕ, List, [], ◌∷◌, arith, ◌≡◌, suc, ◌+◌, Bool, true, false}
+use Rattle.std.proofs.Common.{length, Option, Some, None, ◌↔◌, refl, ◌++◌, drop, append_assoc}
+use Rattle.std.proofs.Common.{append-nil}
 use Rattle.std.specs.Prelude.{◌&&◌, ◌||◌, not, nat_lt, is_none}
 use Rattle.std.specs.List.{filter_map}
-use Rattle.std.proofs.lemmas.Bool.{and_parts, cond_both}
+use Rattle.std.proofs.lemmas.Bool.{and_parts, cond_both, ltb-true}
 use Rattle.std.proofs.lemmas.Bool.Decides.{nat_tests}
 use Rattle.std.proofs.Math.Seq.{drop-append_seam}
 use Rattle.ascii_text.specs.Text.{words_of}
@@ -13,11 +13,11 @@ use Rattle.live_input.specs.Laws.{AlwaysRise, IsAfterLines, Rise, moment_of, tic
 use Rattle.live_input.specs.Night.{Answer, Happening, answers, due, now, close, ended, ended_by}
 use Rattle.live_input.specs.Night.{is_closed, is_end, lines_given, order, tick, were_three}
 use Rattle.live_input.specs.Night.{answer_to, asked, bytes_come, came, closed, is_over}
-use Rattle.live_input.specs.Night.{lines_answered, lines_left, over, to_lines}
+use Rattle.live_input.specs.Night.{lines_answered, lines_left, over}
 use Rattle.live_input.specs.Typed.{typed_of}
-use Rattle.live_input.proofs.Cases.{Next, closes, takes, through, ticks, answer_is_next, nothing}
-use Rattle.live_input.proofs.Cases.{refuses, waits}
-use Rattle.live_input.proofs.TypedLemmas.{Adds, adds_on, grows}
+use Rattle.live_input.proofs.Cases.{Keeps, Next, closes, takes, through, ticks, answer_is_next}
+use Rattle.live_input.proofs.Cases.{nothing, refuses, waits}
+use Rattle.live_input.proofs.TypedLemmas.{Adds, grows}
 
 -- ---- the moments of lines and of ticks
 
@@ -29,26 +29,18 @@ without : (gap n : ℕ) (ms : List ℕ) → Rise gap (n ∷ ms) → Rise gap ms
 without gap n [] rise = tt
 without gap n (newest ∷ older) rise = rise.1
 
-moment_by : (h : List Happening) (n : ℕ) (answer : Answer) → Next h n answer → now h ≤ n
-    → n < 2 ^ 48 → Rise 0 (now h ∷ filter_map moment_of (answers h))
-    → Rise 0 (n ∷ filter_map moment_of (answer ∷ answers h))
-moment_by h n _ (takes line left is fit) le below rise =
-    (omega arith, later 0 (now h) n (filter_map moment_of (answers h)) le rise)
-moment_by h n _ (closes is owed) le below rise =
-    (omega arith, later 0 (now h) n (filter_map moment_of (answers h)) le rise)
-moment_by h n _ (ticks on is none late) le below rise =
-    (omega arith, later 0 (now h) n (filter_map moment_of (answers h)) le rise)
+moment_by : Keeps (λ given n. Rise 0 (n ∷ filter_map moment_of given))
+moment_by h n _ (takes line left is fit) le below rise = (omega arith, later 0 _ n _ le rise)
+moment_by h n _ (closes is owed) le below rise = (omega arith, later 0 _ n _ le rise)
+moment_by h n _ (ticks on is none late) le below rise = (omega arith, later 0 _ n _ le rise)
 moment_by h n _ _ le below rise = later 0 (now h) n (filter_map moment_of (answers h)) le rise
 
 pub moments_rise : AlwaysRise 0 moment_of
 moments_rise h = without 0 (now h) (filter_map moment_of (answers h))
     (through (λ given n. Rise 0 (n ∷ filter_map moment_of given)) tt moment_by h)
 
-tick_by : (h : List Happening) (n : ℕ) (answer : Answer) → Next h n answer → now h ≤ n
-    → n < 2 ^ 48 → Rise 23 (due (answers h) ∷ filter_map tick_of (answers h))
-    → Rise 23 (due (answer ∷ answers h) ∷ filter_map tick_of (answer ∷ answers h))
-tick_by h n _ (ticks on is none late) le below rise =
-    (omega arith, later 23 (due (answers h)) n (filter_map tick_of (answers h)) late rise)
+tick_by : Keeps (λ given n. Rise 23 (due given ∷ filter_map tick_of given))
+tick_by h n _ (ticks on is none late) le below rise = (omega arith, later 23 _ n _ late rise)
 tick_by h n _ _ le below rise = rise
 
 pub ticks_rise : AlwaysRise 23 tick_of
@@ -62,14 +54,11 @@ abbrev AreFew : ℕ → Option ℕ → Type 0
 AreFew count None = count ≤ 9999996
 AreFew count (Some after) = (count ≤ 9999997 + after) × (after ≤ 3)
 
-one_order : (count n : ℕ) (line : List ℕ) (since : Option ℕ) → nat_lt count 9999996 ≡ true
+one_order : (count n : ℕ) (line : List ℕ) (since : Option ℕ) → count < 9999996
     → AreFew count since → AreFew (suc count) (ended_by (order n line) since)
-one_order count n line None room few =
-    let below : count < 9999996 = grind (arith, nat_tests) in
-    cond_both (is_end (command_of (words_of line))) _ _ (AreFew (suc count))
-    (λ e. (omega arith, omega arith)) (λ e. omega arith)
-one_order count n line (Some after) room few =
-    let below : count < 9999996 = grind (arith, nat_tests) in (omega (arith, few.0), few.1)
+one_order count n line None room few = cond_both (is_end (command_of (words_of line))) _ _
+    (AreFew (suc count)) (λ e. omega arith) (λ e. omega arith)
+one_order count n line (Some after) room few = omega (arith, few)
 
 one_end : (count n : ℕ) (since : Option ℕ) (c : Bool) → (is_none since && c) ≡ true
     → AreFew count since → AreFew (suc count) (ended_by (close n) since)
@@ -80,11 +69,9 @@ one_tick : (count n : ℕ) (since : Option ℕ) (c : Bool) → were_three since 
     → AreFew (suc count) (ended_by (tick n) since)
 one_tick count n since c on none few = grind (arith, nat_tests, on, none, few)
 
-counted_by : (h : List Happening) (n : ℕ) (answer : Answer) → Next h n answer → now h ≤ n
-    → n < 2 ^ 48 → AreFew (length (lines_given (answers h))) (ended (answers h))
-    → AreFew (length (lines_given (answer ∷ answers h))) (ended (answer ∷ answers h))
+counted_by : Keeps (λ given n. AreFew (length (lines_given given)) (ended given))
 counted_by h n _ (takes line later is fit) le below few =
-    one_order _ n line (ended (answers h)) (and_parts _ _ fit).0 few
+    one_order _ n line (ended (answers h)) (ltb-true _ _ (and_parts _ _ fit).0) few
 counted_by h n _ (closes is owed) le below few = one_end _ n (ended (answers h)) _ owed few
 counted_by h n _ (ticks on is none late) le below few =
     one_tick _ n (ended (answers h)) (is_closed h) on none few
@@ -111,15 +98,12 @@ lines h = (typed_of (bytes_come h)).lines
 -- what is left of them
 left_is : (answered all left : List (List ℕ)) → Adds answered all
     → drop (length answered) all ≡ left → all ≡ answered ++ left
-left_is answered all left b is =
-    b.1 ∙ ap (λ l. answered ++ l)
-    (sym (ap (drop (length answered)) b.1 ∙ drop-append_seam answered b.0) ∙ is)
+left_is answered all left b is = rw (← (rw (b.1, drop-append_seam) at is)) b.1
 
 one_answered : (answered all later : List (List ℕ)) (line : List ℕ) → Adds answered all
     → drop (length answered) all ≡ line ∷ later → Adds (answered ++ line ∷ []) all
 one_answered answered all later line b is =
-    let whole = left_is answered all (line ∷ later) b is in
-    (later, whole ∙ sym (append_assoc answered (line ∷ []) later))
+    (later, rw append_assoc (left_is answered all (line ∷ later) b is))
 
 begins_by : (h : List Happening) (n : ℕ) (answer : Answer) → Next h n answer
     → Adds (lines_answered (answers h)) (lines h)
@@ -131,16 +115,12 @@ begins_by h n _ _ b = b
 pub begins : (h : List Happening) → Adds (lines_answered (answers h)) (lines h)
 begins [] = ([], refl)
 begins (asked moment ∷ h) = begins_by h _ _ (answer_is_next h moment) (begins h)
-begins (came bytes ∷ h) =
-    adds_on (lines_answered (answers h)) _ _ (begins h) (grows (bytes_come h) bytes)
-begins (closed ∷ h) =
-    adds_on (lines_answered (answers h)) _ _ (begins h) (grows (bytes_come h) (10 ∷ []))
+begins (came bytes ∷ h) = grows _ (bytes_come h) bytes (begins h)
+begins (closed ∷ h) = grows _ (bytes_come h) (10 ∷ []) (begins h)
 
 none_left : (h : List Happening) → lines_left (answers h) h ≡ []
     → lines h ≡ lines_answered (answers h)
-none_left h is =
-    left_is (lines_answered (answers h)) (lines h) [] (begins h) is
-    ∙ append-nil (lines_answered (answers h))
+none_left h is = rw append-nil at (left_is (lines_answered (answers h)) (lines h) [] (begins h) is)
 
 first_by : (h : List Happening) (n : ℕ) (answer : Answer) → Next h n answer
     → IsAfterLines answer h
@@ -154,15 +134,12 @@ lines_first h moment = first_by h _ _ (answer_is_next h moment)
 
 -- ---- the end
 
-over_only : (h : List Happening) (n : ℕ) (answer : Answer) → Next h n answer → answer ≡ over
-    → is_over (answers h) ≡ true
-over_only h n _ (nothing e) is = e
-over_only h n _ _ is = cc
+over_only : (h : List Happening) (n : ℕ) → Next h n over → is_over (answers h) ≡ true
+over_only h n (nothing e) = e
 
 pub over_is : (h : List Happening) (moment : ℕ)
     → (answer_to h moment ≡ over) ↔ (ended (answers h) ≡ Some 3)
 over_is h moment = (
-  λ is. just_three h (over_only h _ _ (answer_is_next h moment) is),
-  λ is. ap (λ (since : Option ℕ). cond (were_three since) over
-      (to_lines (lines_left (answers h) h) (answers h) (is_closed h) (now (asked moment ∷ h)))) is,
+  λ is. just_three h (over_only h _ (rw is at (answer_is_next h moment))),
+  λ is. rw is refl,
 )

@@ -1,51 +1,76 @@
--- Words behind a moment.
-use Rattle.std.proofs.Common.{◌≡◌, ◌<◌, ◌^◌, ℕ, suc, ◌+◌, Bool, true, false, cond, refl, ap, ◌∙◌}
-use Rattle.std.proofs.Common.{arith, rules, List, [], ◌∷◌, ◌++◌, length, append_assoc, Some, None}
-use Rattle.std.specs.Prelude.{codes, decimal, nat_le, map, option_map, filter, All}
+-- Numbers in a text, and words behind a moment.
+use Rattle.std.proofs.Common.{◌≡◌, ◌<◌, ◌^◌, ℕ, zero, suc, ◌+◌, ◌/◌, ◌%◌, Bool, true, false, refl}
+use Rattle.std.proofs.Common.{ap, arith, rules, List, [], ◌∷◌, ◌++◌, length, append_assoc, Some}
+use Rattle.std.proofs.Common.{None, one-add}
+use Rattle.std.specs.Prelude.{◌==◌, codes, decimal, map, option_map, All}
 use Rattle.std.specs.Char.{is_ascii_digit, to_ascii_lowercase}
-use Rattle.std.specs.List.{before_first, list_all, position_or_len}
+use Rattle.std.specs.Fmt.{digit_glyph, digits, digits_onto}
+use Rattle.std.specs.List.{list_all, position_or_len}
 use Rattle.std.specs.Str.Parse.{digits_value}
-use Rattle.std.proofs.lemmas.Bool.{cond_both}
+use Rattle.std.proofs.Math.Seq.{take-append-add}
+use Rattle.std.proofs.lemmas.Bool.{agree_below, agree_below_at, cond_both}
 use Rattle.std.proofs.lemmas.Bool.Decides.{nat_tests}
 use Rattle.std.proofs.lemmas.Fmt.{decimal_nonempty, digits_decimal, digits_value-decimal}
 use Rattle.std.proofs.lemmas.Fmt.{length-decimal-le}
-use Rattle.std.proofs.lemmas.List.Elements.{All-head, All-push, All-tail}
+use Rattle.std.proofs.lemmas.List.Elements.{All-cons, All-head, All-nil, All-tail}
 use Rattle.std.proofs.lemmas.List.Splits.{slice_split_at}
 use Rattle.std.proofs.lemmas.Slice.Eq.{bytes_eq-Decides}
 use Rattle.std.proofs.lemmas.Str.Parse.{IsNumeralModel, numerals_by_value}
 use Rattle.ascii_text.specs.Forms.{moment_of, same_word}
-use Rattle.ascii_text.specs.Text.{is_bang, is_separator, is_word, parts_of, words_of}
+use Rattle.ascii_text.specs.Text.{is_bang, is_separator, is_word, words_of}
 use Rattle.desk_core.specs.declared.command.Command.{Command}
 use Rattle.console_text.specs.declared.call.Call.TheVariants.{Order}
 use Rattle.console_text.specs.Spelling as spelling
 use Rattle.console_text.specs.Spelling.{call_of, command_of, command_with, reading_of}
 use Rattle.live_input.specs.Night.{at_moment}
-use Rattle.live_input.proofs.Digits.{no_digit}
+
+-- ---- the digits of a number
+
+-- a byte fails a test
+abbrev pub Fails : (ℕ → Bool) → ℕ → Type 0
+Fails test b = test b ≡ false
+
+onto_digits : (test : ℕ → Bool) → ((d : ℕ) → d < 10 → test (digit_glyph false d) ≡ false)
+    → (k n : ℕ) (acc : List ℕ) → All (Fails test) acc
+    → All (Fails test) (digits_onto k 10 false n acc)
+onto_digits test fails zero n acc h = h
+onto_digits test fails (suc k) n acc h =
+    let more = All-cons (Fails test) _ acc (fails (n % 10) (omega arith)) h in
+    cond_both (n / 10 == 0) _ _ (All (Fails test)) (λ e. more)
+    (λ e. onto_digits test fails k (n / 10) _ more)
+
+-- what no digit passes no byte of a number passes
+pub no_digit : (test : ℕ → Bool)
+    → agree_below (λ d. test (digit_glyph false d)) (λ d. false) 10 ≡ true → (n : ℕ)
+    → All (Fails test) (decimal n)
+unfolding digits
+no_digit test none n = onto_digits test
+    (λ d. agree_below_at (λ d. test (digit_glyph false d)) (λ d. false) 10 d none) 64 n []
+    (All-nil (Fails test))
+
+-- the first byte that passes stands behind those that fail
+pub passed : (test : ℕ → Bool) (ds rest : List ℕ) → All (Fails test) ds
+    → position_or_len test (ds ++ rest) ≡ length ds + position_or_len test rest
+passed test [] rest h = omega arith
+passed test (d ∷ ds) rest h = rw (All-head (Fails test) d ds h)
+    (omega (arith, passed test ds rest (All-tail (Fails test) d ds h)))
+
+-- ---- words behind a moment
 
 -- the words of a line are those before its comment
-before_passed : (test : ℕ → Bool) (ds rest : List ℕ) → All (λ b. test b ≡ false) ds
-    → before_first test (ds ++ rest) ≡ ds ++ before_first test rest
-before_passed test [] rest h = refl
-before_passed test (d ∷ ds) rest h =
-    let suc_is : 1 + position_or_len test (ds ++ rest) ≡ suc (position_or_len test (ds ++ rest)) =
-    omega arith in
-    rw (All-head (λ b. test b ≡ false) d ds h, suc_is)
-    (ap (λ l. d ∷ l) (before_passed test ds rest (All-tail (λ b. test b ≡ false) d ds h)))
-
-is_word_yes : (w : List ℕ) → 0 < length w → is_word w ≡ true
-is_word_yes w h = grind (arith, h)
-
-words_behind : (n : ℕ) (line : List ℕ) → 0 < length (decimal n)
+words_behind : (n : ℕ) (line : List ℕ) → n < 2 ^ 48
     → words_of (at_moment n line) ≡ decimal n ∷ words_of line
-words_behind n line some =
-    let rest : List ℕ = before_first is_bang line in
-    ap parts_of (before_passed is_bang (decimal n ++ codes " ") line
-    (All-push (λ b. is_bang b ≡ false) (decimal n) 32
-    (no_digit is_bang (λ b low high. grind (arith, nat_tests)) n) refl)
-    ∙ append_assoc (decimal n) (codes " ") rest)
-    ∙ ap (filter is_word) (slice_split_at is_separator (decimal n) 32 rest
-    (no_digit is_separator (λ b low high. grind (arith, nat_tests)) n) refl)
-    ∙ ap (λ b. cond b (decimal n ∷ parts_of rest) (parts_of rest)) (is_word_yes (decimal n) some)
+words_behind n line below =
+    let some = decimal_nonempty n (omega arith) in
+    let word : is_word (decimal n) ≡ true = grind (arith, some) in
+    rw (
+      append_assoc,
+      passed is_bang (decimal n) (32 ∷ line) (no_digit is_bang refl n),
+      take-append-add,
+      one-add,
+      slice_split_at is_separator (decimal n) 32 _ (no_digit is_separator refl n) refl,
+      word,
+    ) refl
 
 own : IsNumeralModel (λ ds. list_all is_ascii_digit ds ≡ true) (digits_value 10)
 own = numerals_by_value _ (search rules)
@@ -54,30 +79,23 @@ moment_is : (moment : ℕ) → moment < 2 ^ 48 → moment_of (decimal moment) �
 moment_is moment below =
     let some = decimal_nonempty moment (omega arith) in
     let short = length-decimal-le 15 moment (omega arith) (omega arith) (omega arith) in
-    let a : nat_le 1 (length (decimal moment)) ≡ true = grind (arith, nat_tests) in
-    let b : nat_le (length (decimal moment)) 15 ≡ true = grind (arith, nat_tests) in
-    rw (a, b, digits_decimal own moment (omega arith))
-    (ap Some (digits_value-decimal own moment (omega arith)))
+    let digits = digits_decimal own moment (omega arith) in
+    grind (arith, nat_tests, digits, digits_value-decimal own moment (omega arith))
 
 -- words behind a moment are read with it
 pub reading_is : (moment : ℕ) (line : List ℕ) → moment < 2 ^ 48
     → reading_of (at_moment moment line)
     ≡ spelling.at_moment (Some moment) (call_of (words_of line))
-reading_is moment line below =
-    ap spelling.reading_of_words (words_behind moment line (decimal_nonempty moment (omega arith)))
-    ∙ ap (λ m. spelling.at_moment m (call_of (words_of line))) (moment_is moment below)
+reading_is moment line below = rw (words_behind moment line below, moment_is moment below) refl
 
 -- ---- commands
-
-tick_word : (word : List ℕ) → same_word word (codes "tick") ≡ true
-    → map to_ascii_lowercase word ≡ codes "tick"
-tick_word word h = (bytes_eq-Decides (map to_ascii_lowercase word) (codes "tick")).0 h
 
 -- `tick` spells no command
 not_tick : (keyword : List ℕ) (operands : List (List ℕ)) → same_word keyword (codes "tick") ≡ true
     → command_with keyword operands ≡ None
 not_tick keyword (a ∷ b ∷ c ∷ rest) h = refl
-not_tick keyword _ h = rw (tick_word keyword h) refl
+not_tick keyword _ h =
+    rw ((bytes_eq-Decides (map to_ascii_lowercase keyword) (codes "tick")).0 h) refl
 
 pub call_is : (words : List (List ℕ)) (command : Command) → command_of words ≡ Some command
     → call_of words ≡ Some (Order command)

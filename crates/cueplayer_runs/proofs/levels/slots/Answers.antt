@@ -43,7 +43,7 @@ returns-clause-prints g c = record {
   told = search rules;
   text = λ tells. (
     c.as_slice.result.now,
-    of_cue c.args.show.now c.args.cue (λ t levels patch. t ≡ slots_text levels patch c.args.base) _ _
+    of_cue c.args.show.now c.args.cue (λ t l patch. t ≡ slots_text l patch c.args.base) _ _
         c.in_ok-loaded.loaded.show c.in_ok-loaded.ensures.show
         (was_found _ _ _ _ c.cue.ensures c.is_none.ensures c.if-is_none.false)
         c.as_slice.ensures.value c.in_ok-text.ensures,

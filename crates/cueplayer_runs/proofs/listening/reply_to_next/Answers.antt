@@ -1,12 +1,11 @@
-use Rattle.std.proofs.Common.{subst, ℕ, ◌+◌, ◌≡◌, List, ◌++◌, length, take, codes, Result, Ok, Err}
-use Rattle.std.proofs.Common.{OnErr, ap, ◌∙◌, inr}
+use Rattle.std.proofs.Common.{ℕ, ◌+◌, ◌≡◌, List, ◌++◌, length, take, codes, Result, Ok, Err}
+use Rattle.std.proofs.Common.{OnErr, ap, ◌∙◌, inr, refl}
 use Rattle.std.specs.Prelude.{decimal}
 use Rattle.devices.specs.Tape.{with_more}
 use Rattle.sacn_receiver.specs.declared.answer.Taken.{Taken}
 use Rattle.sacn_receiver.specs.declared.answer.Ignored.{Ignored}
 use Rattle.sacn_receiver.specs.Source.{Entry}
-use Rattle.sacn_receiver.specs.Taking.{answer, heard}
-use Rattle.sacn_receiver.specs.Kept.{StandsFor}
+use Rattle.sacn_receiver.specs.Taking.{answer}
 use Rattle.receiver_text.specs.Replies.{reply_text}
 use Rattle.cueplayer_runs.specs.Listening.{history, reply_line, NextFails}
 use Rattle.cueplayer_runs.proofs.listening.reply_to_next.Goals as goal
@@ -18,8 +17,7 @@ on_err P (Err e) p = p
 -- the reply, where the receiver is one of the universe
 answered_at : (u universe : ℕ) (h : List Entry) (datagram : List ℕ) (reply : Result Taken Ignored)
     → u ≡ universe → reply ≡ answer 4 u h 0 datagram → reply ≡ answer 4 universe h 0 datagram
-answered_at u universe h datagram reply is answered = answered
-    ∙ ap (λ v. answer 4 v h 0 datagram) is
+answered_at u universe h datagram reply is answered = rw (answered, is) refl
 
 -- the line that was written is that of the datagram
 line_is : (universe : ℕ) (datagram : List ℕ) (older : List (List ℕ)) (number : ℕ)
@@ -28,8 +26,7 @@ line_is : (universe : ℕ) (datagram : List ℕ) (older : List (List ℕ)) (numb
     → line ≡ decimal number ++ codes " " ++ reply_text reply ++ codes "\n"
     → line ≡ reply_line universe datagram older
 line_is universe datagram older number reply line numbered answered is =
-    is ∙ ap (λ n. decimal n ++ codes " " ++ reply_text reply ++ codes "\n") numbered
-    ∙ ap (λ r. decimal (length older + 1) ++ codes " " ++ reply_text r ++ codes "\n") answered
+    rw (is, numbered, answered) refl
 
 pub returns-in_err-write-clause-err : goal.returns-in_err-write-clause-err
 returns-in_err-write-clause-err g c =
@@ -50,9 +47,7 @@ returns-clause-ok g c = λ universe older universe_is numbered stands.
     datagram c.take-reply.result
     universe_is (c.take-reply.ensures.answer (history universe older) stands) in (
       datagram,
-      subst (λ (u : ℕ). StandsFor c.take-reply.new.self
-          (heard 4 u (history universe older) 0 datagram))
-          universe_is (c.take-reply.ensures.heard (history universe older) stands),
+      rw universe_is at (c.take-reply.ensures.heard (history universe older) stands),
       λ tells. c.in_ok-length.ensures.ok tells,
       λ tells.
           let line = c.as_bytes.ensures.value ∙ c.as_str.ensures.value ∙ c.reply_line.ensures in

@@ -5,5 +5,6 @@ use Rattle.cueplayer_words.specs.Line.{with_arguments}
 use Rattle.cueplayer_words.proofs.line.Line.command.Given as goal
 
 abbrev pub invariant-loop-argument : goal.invariant-loop-argument
-invariant-loop-argument l = IsLine
-    (with_arguments (new_app l.self.name.now) (take l.argument-index l.self.arguments.now)) l.command
+invariant-loop-argument l =
+    let read = take l.argument-index l.self.arguments.now in
+    IsLine (with_arguments (new_app l.self.name.now) read) l.command

@@ -1,5 +1,3 @@
-use Rattle.std.proofs.Common.{subst}
-use Rattle.live_input.specs.Told.{Tells}
 use Rattle.live_input.specs.TypedView.{typed_kept}
 use Rattle.live_input.proofs.Answering.{line_answered, none_answered}
 use Rattle.live_input.proofs.live.LiveInput.next.Goals as goal
@@ -8,8 +6,7 @@ pub returns-in-Some-clause-tells : goal.returns-in-Some-clause-tells
 returns-in-Some-clause-tells c = rw (← c.self.view_is) (λ h s.
     let is = line_answered c.args.moment (typed_kept c.next_line.new.self) s c.is_over.ensures
     c.if-is_over.false c.min.ensures c.max-self-inside.ensures _ c.in-Some.ensures.takes in
-    subst (Tells c.answer.result) is.0
-    (rw c.as_slice.ensures.value at (c.answer.ensures.tells _ s.leaves)))
+    rw (c.as_slice.ensures.value, is.0) at (c.answer.ensures.tells _ s.leaves))
 
 pub returns-in-Some-clause-stands : goal.returns-in-Some-clause-stands
 returns-in-Some-clause-stands c = rw (← c.self.view_is) (λ h s.
@@ -22,7 +19,7 @@ returns-in-None-clause-tells c = rw (← c.self.view_is) (λ h s.
     let is = none_answered c.args.moment (typed_kept c.next_line.new.self) s c.is_over.ensures
     c.if-is_over.false c.min.ensures c.max-self-inside.ensures c.in-None.ensures.takes
     c.in-None.ensures.none in
-    subst (Tells c.by_itself.result) is.0 (c.by_itself.ensures.tells _ s.leaves))
+    rw is.0 at (c.by_itself.ensures.tells _ s.leaves))
 
 pub returns-in-None-clause-stands : goal.returns-in-None-clause-stands
 returns-in-None-clause-stands c = rw (← c.self.view_is) (λ h s.
