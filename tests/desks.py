@@ -1,5 +1,6 @@
 """What the tests of `tools/desk` share: a desk whose night has begun, and open pages of it."""
 
+import contextlib
 import http.client
 import json
 import os
@@ -49,8 +50,9 @@ class Page:
         test.addCleanup(self.close)
 
     def _read(self):
-        kind = None
-        with self.answer:
+        # What is told to a page while it is closed resets its connection.
+        with self.answer, contextlib.suppress(ConnectionResetError):
+            kind = None
             for line in self.answer:
                 name, _, rest = line.decode().rstrip("\n").partition(": ")
                 if name == "event":
