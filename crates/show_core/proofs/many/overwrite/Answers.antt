@@ -31,3 +31,13 @@ pub returns : goal.returns
 returns g c = λ es holds.
     rw (← take_all c.loop-entry.entry-index c.args.new.now c.loop-entry-test.false)
     (c.loop-entry.invariant es holds)
+
+pub loop-entry-init : goal.loop-entry-init
+loop-entry-init _ _ = λ _ holds. holds
+
+pub bounds-table-from : goal.bounds-table-from
+bounds-table-from g c =
+    let here =
+    read_of (λ e. e.0 < length c.args.table.now) c.args.new.now c.loop-entry.entry-index
+    c.entry-item.result c.requires c.loop-entry-test.true c.entry-item.is in
+    omega (arith, here, c.from.ensures, c.loop-entry.auto.table)
