@@ -1,5 +1,5 @@
 use Rattle.std.proofs.Common.{◌+◌, ◌++◌, ap, sym, ◌∙◌, take, drop, take-append-drop}
-use Rattle.std.proofs.lemmas.List.{drop_more, take_more}
+use Rattle.std.proofs.lemmas.List.{drop_more, take_all, take_more}
 use Rattle.cueplayer_play.proofs.Faults.{handed_on}
 use Rattle.cueplayer_play.proofs.Taking.{ended_behind, taken_more}
 use Rattle.cueplayer_play.proofs.stage.Stage.take_bytes.Goals as goal
@@ -28,3 +28,11 @@ returns-in_err-take_byte-clause-ended g c =
     handed_on _ _ c.from_residual.ensures.1 (ended_behind (drop (i + 1) xs) xs
     (sym (take-append-drop i xs) ∙ ap (λ l. take i xs ++ l) split) next.told
     c.loop-byte.invariant.taken next.ended)
+
+pub returns-clause-told : goal.returns-clause-told
+returns-clause-told _ c = c.loop-byte.invariant.told
+
+pub returns-clause-taken : goal.returns-clause-taken
+returns-clause-taken _ c =
+    rw (← take_all c.loop-byte.byte-index c.args.bytes.now c.loop-byte-test.false)
+    c.loop-byte.invariant.taken
