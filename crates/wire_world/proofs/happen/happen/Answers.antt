@@ -1,4 +1,5 @@
-use Rattle.std.proofs.Common.{List, ℕ, ap, refl, sym, ◌∙◌, Some, None}
+use borrow.Author.Rules.{Fits-under}
+use Rattle.std.proofs.Common.{List, ℕ, ◌^◌, ap, refl, sym, ◌∙◌, Some, None, w64}
 use Rattle.std.specs.Prelude.{if◌then◌else◌, nat_eq, slice_range}
 use Rattle.std.specs.Option.{option_map_or}
 use Rattle.wire_world.specs.declared.reply.Reply.TheVariants as reply
@@ -8,64 +9,70 @@ use Rattle.std.proofs.lemmas.Result.{IfOk-weaker}
 use Rattle.wire_world.specs.StageStands.{StageStands}
 use Rattle.wire_world.proofs.happen.happen.Goals as goal
 
-pub returns-in-Order-clause-stands : goal.returns-in-Order-clause-stands
-returns-in-Order-clause-stands g c = rw c.in-Order.is c.order_at.ensures.stands
+pub tick_at-requires : goal.tick_at-requires
+tick_at-requires g c = record { real = c.requires.real }
 
-pub returns-in-Order-clause-reply : goal.returns-in-Order-clause-reply
-returns-in-Order-clause-reply g c = λ w past same all tell hear.
-    rw c.in-Order.is (c.order_at.ensures.reply w past all)
+pub show_at-requires : goal.show_at-requires
+show_at-requires g c = c.requires.early
 
-pub returns-in-Order-clause-hear : goal.returns-in-Order-clause-hear
-returns-in-Order-clause-hear g c = λ w past same all tell hear.
-    rw c.in-Order.is (hear_same c.args.receivers.now w past _ _ (λ r. refl) hear)
+pub overflow_cast-bytes : goal.overflow_cast-bytes
+overflow_cast-bytes g c = Fits-under w64 c.in-Stray.from (2 ^ 32) (assumption) tt
 
-pub returns-in-Tick-clause-stands : goal.returns-in-Tick-clause-stands
-returns-in-Tick-clause-stands g c = rw c.in-Tick.is c.tick_at.ensures.stands
+pub overflow_cast-bytes-in-Stray : goal.overflow_cast-bytes-in-Stray
+overflow_cast-bytes-in-Stray g c = Fits-under w64 c.in-Stray.to (2 ^ 32) (assumption) tt
 
-pub returns-in-Tick-clause-hear : goal.returns-in-Tick-clause-hear
-returns-in-Tick-clause-hear g c =
-    always c.tick_at.result _ (λ _ w past same all tell hear.
-    rw c.in-Tick.is (hear_same c.args.receivers.now w past _ _ (λ r. refl) hear))
-
-pub returns-in-Tick-clause-reply : goal.returns-in-Tick-clause-reply
-returns-in-Tick-clause-reply g c =
-    IfOk-weaker c.tick_at.result _ _
-    (λ reply is w past same all tell hear. rw c.in-Tick.is (is w past all))
-    c.tick_at.ensures.reply
-
-pub returns-in-Deliver-clause-stands : goal.returns-in-Deliver-clause-stands
-returns-in-Deliver-clause-stands g c = λ w past all.
-    rw c.in-Deliver.is (stand_same (StageStands g.F.Fader.stands_for) c.args.stages.now w past
-    _ _ (λ j. refl) all)
-
-pub returns-in-Deliver-clause-hear : goal.returns-in-Deliver-clause-hear
-returns-in-Deliver-clause-hear g c = λ w past same.
-    rw c.in-Deliver.is (c.deliver_at.ensures.hear w past)
-
-pub returns-in-Deliver-clause-reply : goal.returns-in-Deliver-clause-reply
-returns-in-Deliver-clause-reply g c = λ w past same.
-    rw c.in-Deliver.is (c.deliver_at.ensures.reply w past)
+pub slice_bounds-bytes-count : goal.slice_bounds-bytes-count
+slice_bounds-bytes-count g c = (rw c.in-Stray.is at c.requires.within).0
 
 pub deliver_at-requires : goal.deliver_at-requires
 deliver_at-requires g c = rw c.in-Deliver.is at c.requires.holds
 
-pub returns-in-Stray-clause-stands : goal.returns-in-Stray-clause-stands
-returns-in-Stray-clause-stands g c = λ w past all.
-    rw c.in-Stray.is (stand_same (StageStands g.F.Fader.stands_for) c.args.stages.now w past
-    _ _ (λ j. refl) all)
+pub returns-in-Order : goal.returns-in-Order
+returns-in-Order g c = record {
+  tell = c.order_at.ensures.tell;
+  spans = c.order_at.ensures.spans;
+  reply = λ w past same all tell hear. rw c.in-Order.is (c.order_at.ensures.reply w past all);
+  stands = rw c.in-Order.is c.order_at.ensures.stands;
+  hear = λ w past same all tell hear.
+      rw c.in-Order.is (hear_same c.args.receivers.now w past _ _ (λ r. refl) hear);
+}
 
-pub returns-in-Stray-clause-hear : goal.returns-in-Stray-clause-hear
-returns-in-Stray-clause-hear g c = λ w past same all tell hear.
-    rw c.in-Stray.is (c.hear_at.ensures.hear w past _ hear refl (λ r. ap (λ (s : List ℕ).
-    if nat_eq c.in-Stray.receiver r then Some
-    (slice_range s c.in-Stray.from c.in-Stray.to) else None) same))
+pub returns-in-Tick : goal.returns-in-Tick
+returns-in-Tick g c = record {
+  tell = c.tick_at.ensures.tell;
+  spans = c.tick_at.ensures.spans;
+  reply = IfOk-weaker c.tick_at.result _ _
+      (λ reply is w past same all tell hear. rw c.in-Tick.is (is w past all))
+      c.tick_at.ensures.reply;
+  stands = rw c.in-Tick.is c.tick_at.ensures.stands;
+  hear = always c.tick_at.result _ (λ _ w past same all tell hear.
+      rw c.in-Tick.is (hear_same c.args.receivers.now w past _ _ (λ r. refl) hear));
+}
 
-pub returns-in-Stray-clause-reply : goal.returns-in-Stray-clause-reply
-returns-in-Stray-clause-reply g c = λ w past same all tell hear.
-    rw c.in-Stray.is (c.hear_at.ensures.reply w past hear
-    ∙ ap (λ (s : List ℕ). option_map_or reply.Skipped (no_receiver_at w c.in-Stray.receiver)
-    (taken_by w c.in-Stray.receiver past c.args.moment
-    (slice_range s c.in-Stray.from c.in-Stray.to))) (sym same))
+pub returns-in-Deliver : goal.returns-in-Deliver
+returns-in-Deliver g c = record {
+  tell = λ all. all;
+  spans = λ i u. refl;
+  reply = λ w past same. rw c.in-Deliver.is (c.deliver_at.ensures.reply w past);
+  stands = λ w past all. rw c.in-Deliver.is (stand_same (StageStands g.F.Fader.stands_for)
+      c.args.stages.now w past _ _ (λ j. refl) all);
+  hear = λ w past same. rw c.in-Deliver.is (c.deliver_at.ensures.hear w past);
+}
+
+pub returns-in-Stray : goal.returns-in-Stray
+returns-in-Stray g c = record {
+  tell = λ all. all;
+  spans = λ i u. refl;
+  reply = λ w past same all tell hear. rw c.in-Stray.is (c.hear_at.ensures.reply w past hear
+      ∙ ap (λ (s : List ℕ). option_map_or reply.Skipped (no_receiver_at w c.in-Stray.receiver)
+      (taken_by w c.in-Stray.receiver past c.args.moment
+      (slice_range s c.in-Stray.from c.in-Stray.to))) (sym same));
+  stands = λ w past all. rw c.in-Stray.is (stand_same (StageStands g.F.Fader.stands_for)
+      c.args.stages.now w past _ _ (λ j. refl) all);
+  hear = λ w past same all tell hear. rw c.in-Stray.is (c.hear_at.ensures.hear w past _ hear
+      refl (λ r. ap (λ (s : List ℕ). if nat_eq c.in-Stray.receiver r then Some
+      (slice_range s c.in-Stray.from c.in-Stray.to) else None) same));
+}
 
 pub returns-in-Show : goal.returns-in-Show
 returns-in-Show g c = record {

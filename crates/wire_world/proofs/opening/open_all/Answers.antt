@@ -1,4 +1,5 @@
-use Rattle.std.proofs.Common.{◌≡◌, ◌<◌, length, refl, rules, arith, ap}
+use borrow.Author.Rules.{scaled_Fits}
+use Rattle.std.proofs.Common.{◌≡◌, ◌<◌, length, refl, arith, ap}
 use Rattle.std.proofs.lemmas.List.Elements.{All-nil, All-push}
 use Rattle.std.proofs.lemmas.Option.{slice_get_read}
 use Rattle.wire_world.specs.declared.setup.Setup.{Setup}
@@ -40,4 +41,10 @@ offset_bounds-shows-setup g c =
     let is = ap (λ (s : Setup). s.show) c.index-setups-i.is in
     let within : c.index-setups-i.result.show < length c.args.shows.now =
     omega (arith, c.requires c.loop-i.i c.index-setups-i.result c.loop-i-test.true, is) in
-    search rules
+    search scaled_Fits
+
+pub returns-clause-last : goal.returns-clause-last
+returns-clause-last g c = c.loop-i.invariant.1
+
+pub offset_bounds-setups-i : goal.offset_bounds-setups-i
+offset_bounds-setups-i g c = search scaled_Fits

@@ -1,3 +1,4 @@
+use borrow.Author.Rules.{scaled_Fits}
 use Rattle.std.proofs.Common.{◌≡◌, ◌≤◌, arith}
 use Rattle.std.proofs.Math.ListN.{length-set}
 use Rattle.std.proofs.lemmas.Option.{slice_get-get_or}
@@ -31,3 +32,6 @@ returns-then-i-stages g c =
             omega (arith, c.release.ensures.last, was.1),
           )) (λ j s _ at e. h r j u n s e at) j s found e;
     }
+
+pub offset_bounds-stages-i : goal.offset_bounds-stages-i
+offset_bounds-stages-i g c = search scaled_Fits

@@ -1,3 +1,4 @@
+use borrow.Author.Rules.{scaled_Fits}
 use Rattle.std.proofs.Common.{◌≡◌, ◌<◌, ◌∙◌, length, get_or, take, ap, arith, refl, List}
 use Rattle.std.specs.Prelude.{slice_index}
 use Rattle.std.proofs.lemmas.Option.{slice_get-get_or, slice_get_within}
@@ -93,3 +94,12 @@ pub step-requires-clause-holds : goal.step-requires-clause-holds
 step-requires-clause-holds g c =
     c.loop-i.invariant.0 c.loop-i.i _ (omega arith)
     (slice_get-get_or c.args.events.now c.loop-i.i _ c.loop-i-test.true)
+
+pub step-requires-clause-within : goal.step-requires-clause-within
+step-requires-clause-within g c = c.requires.within c.loop-i.i _ c.loop-i-test.true
+
+pub index-requires : goal.index-requires
+index-requires g c = omega (arith, c.in_ok-lows.ensures.each, c.loop-i-test.true)
+
+pub offset_bounds-events-i : goal.offset_bounds-events-i
+offset_bounds-events-i g c = search scaled_Fits

@@ -1,9 +1,11 @@
-use Rattle.std.proofs.Common.{ap, sym, ◌∙◌, refl}
-use Rattle.std.specs.Prelude.{slice_get}
+use borrow.Author.Rules.{scaled_Fits}
+use Rattle.std.proofs.Common.{◌≡◌, ap, sym, ◌∙◌, refl, arith}
+use Rattle.std.specs.Prelude.{slice_get, length}
+use Rattle.std.proofs.lemmas.Bool.{le-ltb}
 use Rattle.std.specs.Result.{result_err}
 use Rattle.std.proofs.lemmas.Option.{slice_get-get_or}
 use Rattle.desk_core.specs.Played.{tick}
-use Rattle.wire_world.specs.World.{console_at}
+use Rattle.wire_world.specs.World.{World, console_at}
 use Rattle.wire_world.specs.Happened.{acts}
 use Rattle.wire_world.proofs.Events.{always, err_of, here, stand_call, tell_set, told}
 use Rattle.std.proofs.lemmas.Result.{IfOk-weaker}
@@ -48,3 +50,18 @@ returns g c =
           (λ d h s. ap result_err (c.tick-answer.ensures.answer d h s tells) ∙ err_of _ _)
           c.tick-answer.ensures.stands c.tick-answer.ensures.kept));
     }
+
+pub returns-then-i-stages : goal.returns-then-i-stages
+returns-then-i-stages g c =
+    let none = λ (w : World) (same : length c.args.stages.now ≡ length w.consoles).
+    le-ltb c.args.console (length w.consoles)
+    (omega (arith, same, c.from-i.ensures, c.if-i-stages.true)) in
+    record {
+      tell = λ all. all;
+      spans = λ i u. refl;
+      reply = λ w past all. rw (none w all.each) refl;
+      stands = λ w past all. rw (none w all.each) all;
+    }
+
+pub offset_bounds-stages-i : goal.offset_bounds-stages-i
+offset_bounds-stages-i g c = search scaled_Fits
