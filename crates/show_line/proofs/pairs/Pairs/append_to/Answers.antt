@@ -1,7 +1,8 @@
-use Rattle.std.proofs.Common.{rules, arith, ◌≡◌, ◌∙◌, ◌++◌, ◌-◌, List, ℕ, [], ap, drop, length}
-use Rattle.std.proofs.Common.{append_assoc, sym, take}
+use Rattle.std.proofs.Common.{arith, ◌≡◌, ◌∙◌, ◌++◌, ◌-◌, List, ℕ, [], ap, drop, length}
+use Rattle.std.proofs.Common.{append_assoc, refl, sym, take}
 use Rattle.std.proofs.Math.Seq.{drop-length, take-append_seam}
 use Rattle.std.proofs.lemmas.List.{length-append, length-drop, nil_from_length, take_all}
+use Rattle.std.proofs.lemmas.Grind.{common_steps}
 use Rattle.show_line.specs.Pairs.{pairs_in}
 use Rattle.ascii_text.specs.LinesLeft.{words_left}
 use Rattle.show_line.proofs.pairs.Pairs.append_to.Goals as goal
@@ -13,12 +14,12 @@ loop-pair-init c =
     let left : List (ℕ × ℕ) = pairs_in (words_left c.self.inside.words) in
     let none : drop (length kept) kept ≡ [] = drop-length kept in
     let others : c.into_iter-pair-iterator.result ≡ left =
-    search (rules, none, c.into_iter-pair-iterator.ensures, c.len.ensures.value) in
-    let all : c.args.self ≡ drop given kept ++ left = search (rules, c.self.view_is) in
+    rw (c.into_iter-pair-iterator.ensures.into_iter_gives, c.len.ensures.value, none) refl in
+    let all : c.args.self ≡ drop given kept ++ left = sym c.self.view_is in
     let whole : take (length kept - given) (drop given kept) ≡ drop given kept =
     take_all _ _ (omega (arith, length-drop given kept)) in
     let put : c.extend_from_slice.new.self.items ≡ c.args.list.now.items ++ drop given kept =
-    search (rules, whole, c.in_ok-extend_from_slice.ensures.items, c.deref.ensures) in
+    rw (c.in_ok-extend_from_slice.ensures.items, c.deref.ensures.0, whole) refl in
     record {
       kept = rw (put, others, all) (append_assoc c.args.list.now.items (drop given kept) left);
       none = λ is. others ∙ nil_from_length left
@@ -26,3 +27,6 @@ loop-pair-init c =
       longer = rw put (omega (arith, length-append c.args.list.now.items (drop given kept)));
       front = rw put (take-append_seam c.args.list.now.items (drop given kept));
     }
+
+pub loop-pair-preserved : goal.loop-pair-preserved
+loop-pair-preserved c = grind (arith, common_steps)
