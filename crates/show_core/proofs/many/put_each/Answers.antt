@@ -1,12 +1,14 @@
-use Rattle.std.proofs.Common.{◌≡◌, ◌+◌, true, false, ◌∷◌, drop, sym, ap, ◌∙◌, arith}
+use Rattle.std.proofs.Common.{◌≡◌, ◌+◌, true, false, refl, ◌∷◌, drop, sym, ap, ◌∙◌, arith}
 use Rattle.std.specs.Ordering.{nat_cmp}
 use Rattle.std.specs.Cmp.{nat_cmp_total}
 use Rattle.std.proofs.lemmas.List.{drop_more}
-use Rattle.show_core.proofs.Sorted.{sorted_put}
+use Rattle.show_core.proofs.Sorted.{not_so, sorted_put}
 use Rattle.show_core.proofs.Removed.{sorted_without}
 use Rattle.show_core.proofs.Entries.{with_next, count_next}
 use Rattle.show_core.proofs.many.put_each.Goals as goal
 use Rattle.show_core.proofs.many.put_each.Goals.{then-stays+in_ok-put, else-stays}
+use Rattle.show_core.proofs.many.put_each.Goals.{After-from_residual-in_err-put}
+use Rattle.show_core.proofs.many.put_each.Given.{Over}
 
 pub loop-entry-preserved : goal.loop-entry-preserved
 loop-entry-preserved g c =
@@ -51,3 +53,31 @@ loop-entry-preserved g c =
             ));
           }
     ]
+
+pub loop-entry-init : goal.loop-entry-init
+loop-entry-init g c =
+    let same = c.in_ok-reserve.ensures.items in
+    record {
+      sorted = rw same c.requires.sorted;
+      so_far = rw same refl;
+      room = rw (← c.requires.staying) c.in_ok-reserve.ensures.ok;
+    }
+
+-- with room for all that stay, no put is refused
+never : (g : Over) (c : After-from_residual-in_err-put g) {A : Type 0} → A
+never g c =
+    let stays = g.V.Kept.stays in
+    let ps = c.args.new.now in
+    let p = c.entry-item.result in
+    let rest = drop (c.loop-entry.entry-index + 1) ps in
+    let more : drop c.loop-entry.entry-index ps ≡ p ∷ rest =
+    drop_more ps c.loop-entry.entry-index p c.loop-entry-test.true
+    ∙ ap (λ x. x ∷ rest) (sym c.entry-item.is) in
+    let count = count_next stays rest _ p true (sym c.stays.ensures ∙ c.if-stays.true) more in
+    not_so (c.in_err-put.ensures.room (omega (arith, c.loop-entry.invariant.room, count)))
+
+pub returns-in_err-put-clause-err : goal.returns-in_err-put-clause-err
+returns-in_err-put-clause-err g c = never g c
+
+pub returns-in_err-put-clause-sure : goal.returns-in_err-put-clause-sure
+returns-in_err-put-clause-sure g c = never g c
