@@ -15,3 +15,6 @@ returns g c =
     (λ k d lt. omega (arith, c.requires.entries k d lt, same))
     (λ k d lt. omega (arith, c.requires.new k d lt, same)))
     (c.overwrite.ensures es c.fill.ensures)
+
+pub overwrite-requires : goal.overwrite-requires
+overwrite-requires _ c = rw c.fill.auto.table c.requires.new
