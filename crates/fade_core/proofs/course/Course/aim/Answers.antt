@@ -47,3 +47,46 @@ invariant_of-self c =
           r.ensures.levels
           (rw given at r.ensures.others));
     }
+
+pub restart-self-inside-requires-clause-in_range
+    : goal.restart-self-inside-requires-clause-in_range
+restart-self-inside-requires-clause-in_range c = λ k d lt.
+    let here = c.requires.in_range k d lt in (
+      here.0,
+      omega (
+        arith,
+        here.1,
+        ap (λ f. length f.from) c.self.view_is,
+        c.deref_mut-2.ensures.len,
+        c.self.inside.to.ok.0,
+        c.self.invariant.fading.same_length,
+      ),
+    )
+
+pub returns-clause-from : goal.returns-clause-from
+returns-clause-from c =
+    let r = c.restart-self-inside in
+    let stands = c.self.invariant.stands in
+    let from : _ ≡ r.new.from =
+    written c.self.inside.from _ _ c.deref_mut.ensures.value r.auto.from in
+    rw (from, r.ensures.from, c.deref_mut-3.ensures.value, ← c.self.view_is)
+    (λ i lt. stands.levels_are i (omega (arith, lt, stands.levels_length)))
+
+pub returns-clause-to : goal.returns-clause-to
+returns-clause-to c =
+    let r = c.restart-self-inside in
+    let from_is = c.deref_mut.ensures.value in
+    let to_is = c.deref_mut-2.ensures.value in
+    let from : _ ≡ r.new.from = written c.self.inside.from _ _ from_is r.auto.from in
+    let to : _ ≡ r.new.to = written c.self.inside.to _ _ to_is r.auto.to in
+    let from_size = r.auto.from ∙ ap length from_is in
+    let to_size = r.auto.to ∙ ap length to_is in
+    rw (from, to) (λ i lt.
+    r.ensures.to i (omega (arith, lt, from_size, to_size, c.self.invariant.fading.same_length)))
+
+pub returns-clause-channels : goal.returns-clause-channels
+returns-clause-channels c =
+    let r = c.restart-self-inside in
+    let is = c.deref_mut.ensures.value in
+    let from : _ ≡ r.new.from = written c.self.inside.from _ _ is r.auto.from in
+    rw from (r.auto.from ∙ ap length is ∙ ap (λ f. length f.from) c.self.view_is)
