@@ -84,6 +84,12 @@ pub tell_set : {S : Type 0} (tells : S → Type 0) (stages : List S) (k : ℕ) (
     → AllTell tells stages → AllTell tells (set stages k is)
 tell_set tells stages k is new all = all_set (λ _. tells) stages k is new (λ j s _. all j s)
 
+-- no console has this number
+pub absent : {S : Type 0} (stages : List S) (k i : ℕ) → i ≡ k → length stages ≤ i → (w : World)
+    → length stages ≡ length w.consoles → nat_lt k (length w.consoles) ≡ false
+absent stages k i is least w same =
+    le-ltb k (length w.consoles) (omega (arith, same, is, least))
+
 pub err_of : {A : Type 0} (o : Option Refused) (x : A) → result_err (outcome o x) ≡ o
 err_of None x = refl
 err_of (Some r) x = refl

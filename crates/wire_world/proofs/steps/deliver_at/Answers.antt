@@ -5,7 +5,7 @@ use Rattle.std.specs.Option.{option_map}
 use Rattle.wire_world.specs.declared.event.Event.{Event}
 use Rattle.wire_world.specs.declared.event.What.TheVariants.{Deliver}
 use Rattle.wire_world.specs.World.{World}
-use Rattle.wire_world.proofs.Events.{at_number, looked_up}
+use Rattle.wire_world.proofs.Events.{absent, at_number, looked_up}
 use Rattle.wire_world.specs.StageStands.{StageStands, Tells}
 use Rattle.wire_world.proofs.steps.deliver_at.Goals as goal
 
@@ -48,9 +48,7 @@ returns-in-Some g c =
 
 pub returns-then-i-stages : goal.returns-then-i-stages
 returns-then-i-stages g c =
-    let none = λ (w : World) (same : length c.args.stages.now ≡ length w.consoles).
-    le-ltb c.args.console (length w.consoles)
-    (omega (arith, same, c.from-i.ensures, c.if-i-stages.true)) in
+    let none = absent c.args.stages.now c.args.console _ c.from-i.ensures c.if-i-stages.true in
     record {
       reply = λ w past all tell hear. rw (none w all.each) refl;
       hear = λ w past all tell hear. rw (none w all.each) hear;

@@ -1,12 +1,11 @@
 use borrow.Author.Rules.{scaled_Fits}
-use Rattle.std.proofs.Common.{◌≡◌, ap, sym, ◌∙◌, refl, arith}
-use Rattle.std.specs.Prelude.{slice_get, length}
-use Rattle.std.proofs.lemmas.Bool.{le-ltb}
+use Rattle.std.proofs.Common.{ap, sym, ◌∙◌, refl}
+use Rattle.std.specs.Prelude.{slice_get}
 use Rattle.std.specs.Result.{result_err}
 use Rattle.std.proofs.lemmas.Option.{slice_get-get_or}
 use Rattle.std.proofs.lemmas.Result.{on_err_weaker}
 use Rattle.desk_core.specs.Played.{order}
-use Rattle.wire_world.specs.World.{World, console_at}
+use Rattle.wire_world.specs.World.{console_at}
 use Rattle.wire_world.specs.Happened.{acts}
 use Rattle.wire_world.proofs.Events.{tell_set, err_of, stand_call, here, told}
 use Rattle.wire_world.proofs.Wants.{spans_set}
@@ -35,18 +34,6 @@ returns g c =
           (λ d h s. ap result_err (c.order.ensures.answer d h s) ∙ err_of _ _)
           c.order.ensures.stands
           (on_err_weaker c.order.result (λ same d h s. rw same s) c.order.ensures.unchanged));
-    }
-
-pub returns-then-i-stages : goal.returns-then-i-stages
-returns-then-i-stages g c =
-    let none = λ (w : World) (same : length c.args.stages.now ≡ length w.consoles).
-    le-ltb c.args.console (length w.consoles)
-    (omega (arith, same, c.from-i.ensures, c.if-i-stages.true)) in
-    record {
-      tell = λ all. all;
-      spans = λ i u. refl;
-      reply = λ w past all. rw (none w all.each) refl;
-      stands = λ w past all. rw (none w all.each) all;
     }
 
 pub offset_bounds-stages-i : goal.offset_bounds-stages-i

@@ -1,13 +1,12 @@
 use borrow.Author.Rules.{scaled_Fits}
-use Rattle.std.proofs.Common.{◌≡◌, ap, sym, ◌∙◌, refl, arith}
-use Rattle.std.specs.Prelude.{slice_get, length}
-use Rattle.std.proofs.lemmas.Bool.{le-ltb}
+use Rattle.std.proofs.Common.{ap, sym, ◌∙◌, refl}
+use Rattle.std.specs.Prelude.{slice_get}
 use Rattle.std.specs.Result.{result_err}
 use Rattle.std.proofs.lemmas.Option.{slice_get-get_or}
 use Rattle.desk_core.specs.Played.{tick}
-use Rattle.wire_world.specs.World.{World, console_at}
+use Rattle.wire_world.specs.World.{console_at}
 use Rattle.wire_world.specs.Happened.{acts}
-use Rattle.wire_world.proofs.Events.{always, err_of, here, stand_call, tell_set, told}
+use Rattle.wire_world.proofs.Events.{absent, always, err_of, here, stand_call, tell_set, told}
 use Rattle.std.proofs.lemmas.Result.{IfOk-weaker}
 use Rattle.wire_world.proofs.Wants.{spans_set}
 use Rattle.wire_world.specs.Stands.{tick_reply}
@@ -53,9 +52,7 @@ returns g c =
 
 pub returns-then-i-stages : goal.returns-then-i-stages
 returns-then-i-stages g c =
-    let none = λ (w : World) (same : length c.args.stages.now ≡ length w.consoles).
-    le-ltb c.args.console (length w.consoles)
-    (omega (arith, same, c.from-i.ensures, c.if-i-stages.true)) in
+    let none = absent c.args.stages.now c.args.console _ c.from-i.ensures c.if-i-stages.true in
     record {
       tell = λ all. all;
       spans = λ i u. refl;
