@@ -1,6 +1,6 @@
 -- Many entries put into sorted ones, and what that is to their map.
 use Rattle.std.proofs.Common.{◌≡◌, ◌≢◌, ℕ, zero, suc, ◌+◌, ◌-◌, ◌<◌, ◌≤◌, ◌==◌, true, false, Bool}
-use Rattle.std.proofs.Common.{not, cond, IsTrue, T, List, [], ◌∷◌, ◌++◌, length, get_or, set, take}
+use Rattle.std.proofs.Common.{not, cond, IsTrue, T, List, [], ◌∷◌, ◌++◌, length, get_or, set, take, drop}
 use Rattle.std.proofs.Common.{count_by, Option, Some, None, refl, sym, ap, ◌∙◌, arith, inl, inr}
 use Rattle.std.proofs.Common.{append_assoc, subst}
 use Rattle.std.specs.Prelude.{All, filter, nat_lt, option_map, map as map_list}
@@ -13,7 +13,8 @@ use Rattle.std.specs.FinMap.Entries.{below_all, find-put, find-append}
 use Rattle.std.specs.declared.cmp.Ordering.TheVariants.{Less, Equal, Greater}
 use Rattle.std.proofs.lemmas.Bool.{cases_lt}
 use Rattle.std.proofs.lemmas.Bool.Decides.{nat_tests}
-use Rattle.std.proofs.lemmas.List.{take_more, length-set, get_or-set_same, get_or-set_other}
+use Rattle.std.proofs.lemmas.List.{drop_more, take_more, length-set, get_or-set_same}
+use Rattle.std.proofs.lemmas.List.{get_or-set_other}
 use Rattle.std.proofs.lemmas.List.Elements.{All-head, All-tail, All-map, All-same, All-push}
 use Rattle.std.proofs.lemmas.List.Sums.{sum_by-cons}
 use Rattle.std.proofs.lemmas.Map.Views.{tells_apart}
@@ -28,6 +29,11 @@ use Rattle.show_core.proofs.Sorted.{and_left, and_right, from_true, to_true}
 use Rattle.show_core.proofs.Removed.{sorted_without, from_sorted-without, find-without}
 use Rattle.show_core.proofs.Ranges.{keys-insert, keys-put, keys-without, entries_from_keys}
 use Rattle.show_core.proofs.Ordinals.{below_of}
+
+-- what is left of a list begins with its next element
+pub next_of : {X : Type 0} (ps : List X) (i : ℕ) (p : X) → i < length ps → p ≡ get_or ps i p
+    → drop i ps ≡ p ∷ drop (i + 1) ps
+next_of ps i p lt is = drop_more ps i p lt ∙ ap (λ x. x ∷ drop (i + 1) ps) (sym is)
 
 module _ {V : Type 0} (stays : V → Bool) where
   pub sorted_with_entry : (es : List (ℕ × V)) (p : ℕ × V) → IsTrue (map.is_sorted nat_cmp es)

@@ -1,10 +1,9 @@
-use Rattle.std.proofs.Common.{◌≡◌, ◌+◌, true, false, refl, ◌∷◌, drop, sym, ap, ◌∙◌, arith}
+use Rattle.std.proofs.Common.{◌+◌, true, false, refl, drop, sym, ap, ◌∙◌, arith}
 use Rattle.std.specs.Ordering.{nat_cmp}
 use Rattle.std.specs.Cmp.{nat_cmp_total}
-use Rattle.std.proofs.lemmas.List.{drop_more}
 use Rattle.show_core.proofs.Sorted.{not_so, sorted_put}
 use Rattle.show_core.proofs.Removed.{sorted_without}
-use Rattle.show_core.proofs.Entries.{with_next, count_next}
+use Rattle.show_core.proofs.Entries.{next_of, with_next, count_next}
 use Rattle.show_core.proofs.many.put_each.Goals as goal
 use Rattle.show_core.proofs.many.put_each.Goals.{then-stays+in_ok-put, else-stays}
 use Rattle.show_core.proofs.many.put_each.Goals.{After-from_residual-in_err-put}
@@ -17,9 +16,7 @@ loop-entry-preserved g c =
     let ps = c.args.new.now in
     let p = c.entry-item.result in
     let rest = drop (c.loop-entry.entry-index + 1) ps in
-    let more : drop c.loop-entry.entry-index ps ≡ p ∷ rest =
-    drop_more ps c.loop-entry.entry-index p c.loop-entry-test.true
-    ∙ ap (λ x. x ∷ rest) (sym c.entry-item.is) in
+    let more = next_of ps c.loop-entry.entry-index p c.loop-entry-test.true c.entry-item.is in
     let invariant = c.loop-entry.invariant in
     elim c.if-stays.branch [
       | then-stays+in_ok-put w ↦
@@ -70,9 +67,7 @@ never g c =
     let ps = c.args.new.now in
     let p = c.entry-item.result in
     let rest = drop (c.loop-entry.entry-index + 1) ps in
-    let more : drop c.loop-entry.entry-index ps ≡ p ∷ rest =
-    drop_more ps c.loop-entry.entry-index p c.loop-entry-test.true
-    ∙ ap (λ x. x ∷ rest) (sym c.entry-item.is) in
+    let more = next_of ps c.loop-entry.entry-index p c.loop-entry-test.true c.entry-item.is in
     let count = count_next stays rest _ p true (sym c.stays.ensures ∙ c.if-stays.true) more in
     not_so (c.in_err-put.ensures.room (omega (arith, c.loop-entry.invariant.room, count)))
 
