@@ -1,5 +1,6 @@
 """A copy of the repository's layout, in which a stand-in plays the prover's part."""
 
+import hashlib
 import os
 import shutil
 import subprocess
@@ -10,57 +11,97 @@ from pathlib import Path
 
 from program import TOP
 
-# A program that shows its words, its input and a status of its own.
-PROGRAM = """#!/bin/sh
+# A program that shows its words, its input and a status of its own, and takes any show.
+MADE = """#!/bin/sh
+case $1 in check | --help) exit 0 ;; esac
 echo "words: $*"
 cat
 exit 3
 """
+SHOWN = (3, "words: look - 1\na show\n", "")
 
-# A prover that proves everything at once, and leaves that program. What it prints of crates side by
-# side is up to the file `all` of the copy.
+# A prover that proves everything at once, and leaves that program. What it prints on the way is up
+# to the file `proving` of the copy.
 PROVER = """#!/bin/sh
 echo "rt $*" >>"$PROVER_LOG"
-case $1 in
-version) echo "kit of a test"; exit ;;
-all) . "$PROVER_TOP/all"; exit ;;
-esac
-mkdir -p "$PROVER_TOP/crates/cueplayer/out"
-cp "$PROVER_TOP/made" "$PROVER_TOP/crates/cueplayer/out/cueplayer"
+if [ "$1" = version ]; then echo "kit of a test"; exit; fi
+pwd >"$PROVER_TOP/place"
+. "$PROVER_TOP/proving"
+mkdir -p crates/cueplayer/out
+cp "$PROVER_TOP/made" crates/cueplayer/out/cueplayer
 echo "7 passed, 0 failed"
 """
+
+CRATES = """# A comment: no crate.
+show_core: arrayvec
+low: thiserror
+middle: low show_core
+cueplayer: middle clap
+aside: low
+"""
+
+
+def sum_of(content: bytes) -> str:
+    return hashlib.sha256(content).hexdigest()
 
 
 class CopiedLayout(unittest.TestCase):
     """The scripts run in a copy, with a PATH on which the stand-in comes first."""
 
-    def setUp(self):
+    # The name of the copy's folder.
+    NAME: str | bytes = "a copy"
+
+    def setUp(self) -> None:
         folder = tempfile.TemporaryDirectory()
         self.addCleanup(folder.cleanup)
-        self.top = Path(folder.name) / "a copy"
+        self.above = Path(folder.name)
+        self.top = Path(os.fsdecode(os.path.join(os.fsencode(folder.name), os.fsencode(self.NAME))))
         self.log = self.top / "log"
-        self.program = self.top / "crates/cueplayer/out/cueplayer"
+        self.built = self.top / "crates/cueplayer/out/cueplayer"
+        self.program = self.top / "dist/cueplayer"
+        self.provenance = self.top / "dist/PROVENANCE"
         self.source = self.top / "crates/show_core/src/lib.rt"
-        self.source.parent.mkdir(parents=True)
-        (self.top / "crates/cueplayer").mkdir()
-        for file in (self.source, self.top / "crates.txt", self.top / "HANDLES", self.log):
-            file.write_text("")
-        for script in ("cueplayer", ".ci/run"):
+        for crate in ("cueplayer", "middle", "show_core", "low", "aside"):
+            (self.top / "crates" / crate / "src").mkdir(parents=True)
+            (self.top / "crates" / crate / "src/lib.rt").write_text(crate)
+        (self.top / "crates.txt").write_text(CRATES)
+        for name in ("HANDLES", "log"):
+            (self.top / name).write_text("")
+        for script in ("cueplayer", "build", "VERSION", ".ci/run", "dev/sources", "dev/dist"):
             (self.top / script).parent.mkdir(exist_ok=True)
             shutil.copy(TOP / script, self.top / script)
-        self.write("made", PROGRAM)
         self.write("bin/rt", PROVER)
-        self.write("all", "")
+        self.write("proving", "")
         self.write("tests/run", "#!/bin/sh\necho '4 passed, 0 failed'\n")
+        self.ship(MADE)
 
-    def write(self, name, content):
+    def write(self, name: str, content: str | bytes) -> Path:
         """An executable file of the copy."""
         file = self.top / name
         file.parent.mkdir(parents=True, exist_ok=True)
-        file.write_text(content)
+        file.write_bytes(content if isinstance(content, bytes) else content.encode())
         file.chmod(0o755)
+        return file
 
-    def start(self, script, *words, path=None, **options):
+    def sources(self) -> str:
+        """The checksum of the copy's sources."""
+        done = subprocess.run([self.top / "dev/sources", "--sum"], capture_output=True, text=True, check=True)
+        return done.stdout.strip()
+
+    def ship(self, content: str | bytes, **said: str) -> None:
+        """Makes this the program of dist/, with a PROVENANCE that says so, or what is given."""
+        file = self.write("dist/cueplayer", content)
+        known = {
+            "version": "1.0.0",
+            "toolchain": "kit of a test",
+            "sources": self.sources(),
+            "program": sum_of(file.read_bytes()),
+            "built": "2026-11-26T10:20:30Z",
+        }
+        lines = (f"{key}: {value}\n" for key, value in (known | said).items())
+        self.provenance.write_text("".join(lines))
+
+    def start(self, script: str | Path, *words: str | Path, path: str | None = None, **options):
         """Starts a script of the copy, with all temporary files in a folder of the copy."""
         (self.top / "tmp").mkdir(exist_ok=True)
         environment = {
@@ -76,25 +117,27 @@ class CopiedLayout(unittest.TestCase):
             stdout=subprocess.PIPE,
             stderr=subprocess.PIPE,
             text=True,
-            env=environment,
+            errors="surrogateescape",
+            env=environment | options.pop("more", {}),
             **options,
         )
         self.addCleanup(started.wait)
         self.addCleanup(started.kill)
         return started
 
-    def run_script(self, script, *words, path=None, **options):
-        started = self.start(script, *words, path=path, **options)
+    def run_script(self, script: str | Path, *words: str | Path, **options) -> tuple[int, str, str]:
+        started = self.start(script, *words, **options)
         out, err = started.communicate("a show\n", timeout=60)
         return started.returncode, out, err
 
-    def asked(self):
+    def asked(self) -> list[str]:
         """What the prover was asked for, in order."""
         return self.log.read_text().splitlines()
 
     def wait_for(self, condition):
         for _ in range(600):
-            if condition():
-                return
+            found = condition()
+            if found:
+                return found
             time.sleep(0.05)
         self.fail("nothing came of it within 30 seconds")

@@ -9,8 +9,8 @@ from pathlib import Path
 from typing import NamedTuple
 
 TOP = Path(__file__).resolve().parent.parent
-BUILT = TOP / "crates/cueplayer/out/cueplayer"
-PROGRAM = Path(os.environ.get("CUEPLAYER") or BUILT).resolve()
+SHIPPED = TOP / "dist/cueplayer"
+PROGRAM = Path(os.environ.get("CUEPLAYER") or SHIPPED).resolve()
 
 CID = "c0ffee00-0000-4000-8000-00000000e131"
 

@@ -1,242 +1,286 @@
-"""What `./cueplayer` tells while it builds, and what it answers without building."""
+"""`./build`, which proves and builds the program and refreshes dist/, with a prover's stand-in."""
 
 import os
 import re
 import shutil
 import signal
-import subprocess
+import time
 import unittest
 from pathlib import Path
 
-import program
 from copied_layout import PROVER, CopiedLayout
 
-CRATES = """# A comment: no crate.
-show_core: arrayvec
-low: thiserror
-middle: low show_core
-cueplayer: middle clap
-aside: low
-"""
+# What is built has to be a program of Linux: `strip` takes no script. These stand for two.
+ONE, OTHER = shutil.which("true"), shutil.which("cat")
 
-EACH_CRATE = ["   1 of 4  low", "   2 of 4  show_core", "   3 of 4  middle", "   4 of 4  cueplayer"]
+CRATES = ("cueplayer", "low", "middle", "show_core")
+FIRST = "proving and building cueplayer: "
+LAST = "dist/ has the program: ./cueplayer runs it"
 
 
-def proved(crate):
-    """What `rt all` prints of a crate that it proved."""
-    return f"echo '== {crate}'; echo 'fn {crate}::f: proved'; echo 'logic=proved functions=1'\n"
+def proved(*crates: str) -> str:
+    """What `rt ci` prints of crates that it proved, among lines of their own."""
+    return "".join(f"echo '== {name}'; echo 'fn {name}::f: proved'; echo 'rt: {name} proved'\n" for name in crates)
 
 
-def kept(crate):
-    """What it prints of one that was proved before."""
-    return f"echo '== {crate}'\n"
+def kept(crate: str) -> str:
+    """What it prints of one that an earlier run proved."""
+    return f"echo 'rt: {crate} is kept: an earlier run on this machine proved the same'\n"
 
 
-# Leaves the number of its process where the tests look for it.
-NUMBER = 'echo $$ >"$PROVER_TOP/number"\n'
-
-# The check of the program's own crate goes on, and would take long.
-OWN_CRATE = "exec sleep 60\n"
+# Leaves the number of its process where the tests look for it, and takes long.
+GOES_ON = 'echo $$ >"$PROVER_TOP/number"\nexec sleep 60\n'
 
 
+@unittest.skipUnless(shutil.which("strip"), "strip, of binutils, is not on PATH")
 class Building(CopiedLayout):
     def setUp(self):
         super().setUp()
-        (self.top / "crates.txt").write_text(CRATES)
+        shutil.copy(ONE, self.top / "made")
+        self.before = self.shipped()
 
-    def told(self, err):
+    def shipped(self) -> dict[str, bytes]:
+        return {path.name: path.read_bytes() for path in (self.top / "dist").iterdir()}
+
+    def said(self) -> dict[str, str]:
+        """What PROVENANCE says."""
+        return dict(line.split(": ", 1) for line in self.provenance.read_text().splitlines())
+
+    def told(self, err: str) -> list[str]:
         """The lines of standard error, without the times."""
         return [re.sub(r", \d+:\d\d$", "", line) for line in err.splitlines()]
 
-    def number(self):
-        """The number of the process of `rt all`; 0 where it has not started yet."""
+    def assertBuilds(self, *lines: str):
+        """It tells these lines between its first and its last, and dist/ has what was built."""
+        status, out, err = self.run_script("build")
+        first, *rest, last = self.told(err)
+        self.assertEqual((0, "", [*lines], LAST), (status, out, rest, last), err)
+        self.assertTrue(first.startswith(FIRST))
+        self.assertNothingLeft()
+
+    def assertNothingLeft(self):
+        """Neither a copy, nor a half of dist/, nor anything in the tree."""
+        self.assertEqual([], list((self.top / "tmp").iterdir()))
+        self.assertEqual(["PROVENANCE", "cueplayer"], sorted(self.shipped()))
+        self.assertFalse(self.built.exists())
+
+    def assertFails(self, *telling: str):
+        """It ends with status 1 and tells why, and dist/ is as it was."""
+        status, out, err = self.run_script("build")
+        self.assertEqual((1, ""), (status, out))
+        for line in telling:
+            self.assertIn(line, err)
+        self.assertEqual(self.before, self.shipped())
+        return err
+
+    def assertInterrupted(self, interruption: signal.Signals):
+        started = self.start("build")
+        number = self.wait_for(self.number)
+        started.send_signal(interruption)
+        started.communicate(timeout=60)
+        self.assertEqual(128 + interruption, started.returncode)
+        self.wait_for(lambda: not Path(f"/proc/{number}").exists())
+        self.assertEqual(self.before, self.shipped())
+        self.assertNothingLeft()
+        (self.top / "number").unlink()
+
+    def number(self) -> int:
+        """The number of the prover's process; 0 where it has not started yet."""
         file = self.top / "number"
         return int(file.read_text().strip() or 0) if file.exists() else 0
 
-    def assertBuilds(self, lines, status=3):
-        """A first call builds, and tells these lines between its first and the program's end."""
-        got, _, err = self.run_script("cueplayer", "check", "-")
-        first, *rest = self.told(err)
-        self.assertRegex(first, r"^building and proving cueplayer, .*: 4 crates, up to \d+ at a time$")
-        self.assertEqual((status, lines), (got, rest))
-
-    def assertNothingLeft(self):
-        self.assertEqual([], list(self.top.glob("crates/cueplayer/out/*")))
-        self.assertEqual([], list((self.top / "tmp").iterdir()))
+    def test_builds(self):
+        """The program of dist/ is the one that was built, and PROVENANCE says what it was made of."""
+        self.assertBuilds()
+        said = self.said()
+        self.assertEqual(["version", "toolchain", "sources", "program", "built"], list(said))
+        self.assertEqual("kit of a test", said["toolchain"])
+        self.assertEqual(self.sources(), said["sources"])
+        self.assertRegex(said["built"], r"^\d{4}-\d\d-\d\dT\d\d:\d\d:\d\dZ$")
+        status, out, _ = self.run_script("cueplayer", "--version")
+        self.assertEqual(0, status)
+        self.assertIn(f"program: sha256 {said['program']}\nsources: those of the program\n", out)
 
     def test_a_line_for_each_crate(self):
-        """Each crate that the program stands on, with its count, as it comes; the own crate is left
-        to `rt run`, so that `rt all` is ended before it."""
-        self.write("all", NUMBER + proved("low") + proved("show_core") + proved("middle") + OWN_CRATE)
-        self.assertBuilds(EACH_CRATE)
-        self.wait_for(lambda: not Path(f"/proc/{self.number()}").exists())
-        every, run, version = self.asked()
-        self.assertRegex(every, r"^rt all check --jobs [1-9][0-9]*$")
-        self.assertEqual(["rt run -- --help", "rt version"], [run, version])
+        """Proved or kept, as it comes, with the time so far."""
+        self.write("proving", proved("low") + kept("show_core") + "sleep 1.1\n" + proved("middle", "cueplayer"))
+        lines = ["   1 of 4  low", "   2 of 4  show_core", "   3 of 4  middle", "   4 of 4  cueplayer"]
+        self.assertBuilds(*lines)
+        _, _, err = self.run_script("build")
+        self.assertRegex(err.splitlines()[3], r"^   3 of 4  middle, 0:0[1-9]$")
 
-    def test_time_so_far(self):
-        self.write("all", "sleep 1.5\n" + proved("low") + proved("show_core") + proved("middle"))
-        _, _, err = self.run_script("cueplayer", "check", "-")
-        self.assertRegex(err.splitlines()[1], r"^   1 of 4  low, 0:0[1-9]$")
+    def test_proves_its_own_crates_alone(self):
+        """On a copy, in which the crates of tests and the edits are not; and not as the gate does."""
+        (self.top / "crates/low/must-fail").mkdir()
+        (self.top / "crates/low/must-fail/x.edit").write_text("")
+        listing = 'find . -name "*.edit" -o -mindepth 2 -maxdepth 2 -path "./crates/*" | sort >"$PROVER_TOP/found"\n'
+        self.write("proving", listing + 'cp crates.txt "$PROVER_TOP/lines"\necho "${CI-no CI}" >"$PROVER_TOP/ci"\n')
+        status, _, err = self.run_script("build", more={"CI": "true"})
+        self.assertEqual(0, status, err)
+        found = (self.top / "found").read_text().split()
+        self.assertEqual([f"./crates/{name}" for name in CRATES], found)
+        named = [line.split(":")[0] for line in (self.top / "lines").read_text().splitlines()]
+        self.assertEqual(sorted(CRATES), sorted(named))
+        self.assertEqual("no CI\n", (self.top / "ci").read_text())
+        self.assertNotEqual(f"{self.top}\n", (self.top / "place").read_text())
+        self.assertEqual(["rt ci", "rt version"], self.asked())
 
-    def test_crates_proved_before(self):
-        """They have no line of their own below the heading: also the last is seen to be done."""
-        self.write("all", proved("low") + kept("show_core") + kept("middle") + OWN_CRATE)
-        self.assertBuilds(EACH_CRATE)
+    def test_same_again(self):
+        """Where nothing differs dist/ stays, the date too."""
+        self.assertBuilds()
+        before = self.shipped()
+        time.sleep(1.1)
+        self.assertBuilds()
+        self.assertEqual(before, self.shipped())
 
-    def test_crate_that_is_not_proved(self):
-        """It is not told as done, nor is what stands on it; its own lines are, but for those of what is
-        proved; and no program is asked for."""
-        faulty = "echo '== low'; echo 'fn low::g: proved'; echo 'fn low::f: not proved'\n"
-        after = kept("middle") + kept("cueplayer") + "echo '== summary'; echo 'low: failed (1)'; exit 1\n"
-        self.write("all", proved("show_core") + faulty + after)
-        status, out, err = self.run_script("cueplayer", "check", "-")
-        self.assertEqual((1, ""), (status, out))
-        for line in ("fn low::f: not proved", "low: failed (1)", "cueplayer: not built"):
-            self.assertIn(line, err.splitlines())
-        self.assertNotIn("fn low::g: proved", err)
-        self.assertEqual(["   1 of 4  show_core"], [line for line in self.told(err) if " of 4 " in line])
-        self.assertEqual(1, len(self.asked()))
+    def test_refreshes(self):
+        """Another program or other sources; who runs the old program has it whole."""
+        self.assertBuilds()
+        with self.program.open("rb") as old:
+            program = old.read()
+            shutil.copy(OTHER, self.top / "made")
+            self.source.write_text("other")
+            self.assertBuilds()
+            old.seek(0)
+            self.assertEqual(program, old.read())
+        self.assertNotEqual(program, self.program.read_bytes())
+        self.assertEqual(self.sources(), self.said()["sources"])
+
+    def test_first_build(self):
+        shutil.rmtree(self.top / "dist")
+        self.assertBuilds()
+
+    def test_sources_that_change_meanwhile(self):
+        """What is told of the sources holds of those that were proved."""
+        before = self.sources()
+        self.write("proving", 'echo other >"$PROVER_TOP/crates/low/src/lib.rt"\n')
+        self.assertBuilds()
+        self.assertEqual(before, self.said()["sources"])
+        self.assertNotEqual(before, self.sources())
+
+    def test_what_is_not_proved(self):
+        """Its lines are told, without those of what is proved."""
+        faulty = "echo '== middle'; echo 'fn middle::g: proved'; echo 'fn middle::f: not proved'\n"
+        self.write("proving", proved("low") + faulty + "echo 'rt: middle NOT PROVED'; exit 1\n")
+        err = self.assertFails("fn middle::f: not proved", "rt: middle NOT PROVED", "build: not proved, so")
+        self.assertNotIn("fn middle::g: proved", err)
         self.assertNothingLeft()
 
-    def test_prover_with_other_words(self):
-        """Where `rt all` ends well and names no crate, `rt run` builds what there is to build."""
-        self.write("all", "echo all is well\n")
-        self.assertBuilds(["   1 of 4  cueplayer"])
+    def test_prover_that_leaves_no_program(self):
+        self.write("bin/rt", "#!/bin/sh\necho all is well\n")
+        self.assertFails("rt ci ended well, but there is no program at")
 
-    def test_calls_at_once(self):
-        """The first builds, the others say that they wait, and all run the program."""
-        self.write("all", "sleep 1\n" + proved("low") + proved("show_core") + proved("middle"))
-        calls = [self.start("cueplayer", "check", name) for name in "abc"]
-        ends = [call.communicate("a show\n", timeout=60) for call in calls]
-        for name, call, (out, _) in zip("abc", calls, ends):
-            self.assertEqual((3, f"words: check {name}\na show\n"), (call.returncode, out))
-        waits = "cueplayer: another call builds the program, and this one waits for it\n"
-        self.assertEqual(2, [err for _, err in ends].count(waits))
-        self.assertEqual(3, len(self.asked()))
-
-    def test_interrupted_beside_other_crates(self):
-        """While crates are proved side by side: nothing is left, and nothing goes on."""
-        self.write("all", NUMBER + proved("low") + OWN_CRATE)
+    def test_interruptions(self):
+        """Neither half a program is left, nor a temporary file, nor the prover; and it can be done again."""
+        self.write("proving", proved("low") + GOES_ON)
         for interruption in (signal.SIGTERM, signal.SIGINT, signal.SIGHUP):
             with self.subTest(interruption):
-                started = self.start("cueplayer", "check", "-")
-                self.wait_for(self.number)
-                number = self.number()
-                started.send_signal(interruption)
-                started.communicate(timeout=60)
-                self.assertEqual(128 + interruption, started.returncode)
-                self.assertNothingLeft()
-                self.wait_for(lambda: not Path(f"/proc/{number}").exists())
-                (self.top / "number").unlink()
-        self.assertNotIn("rt run -- --help", self.asked())
+                self.assertInterrupted(interruption)
+        self.write("proving", "")
+        self.assertBuilds()
 
-    def test_interrupted_over_an_older_program(self):
-        """What the interrupted build may have changed goes, and what is said of it."""
-        self.run_script("cueplayer", "check", "-")
-        later = self.program.stat().st_mtime + 1
-        os.utime(self.source, (later, later))
-        self.write("all", NUMBER + proved("low") + OWN_CRATE)
-        started = self.start("cueplayer", "check", "-")
-        self.wait_for(self.number)
-        started.terminate()
-        started.communicate(timeout=60)
-        self.assertNothingLeft()
+    def test_builds_at_once(self):
+        """One works, the others wait and tell so."""
+        self.write("proving", 'echo begin >>"$PROVER_TOP/turns"; sleep 0.5; echo end >>"$PROVER_TOP/turns"\n')
+        builds = [self.start("build") for _ in range(3)]
+        told = [build.communicate(timeout=60)[1] for build in builds]
+        self.assertEqual([0, 0, 0], [build.returncode for build in builds])
+        self.assertEqual(2, sum("another build is at work" in err for err in told))
+        self.assertEqual(["begin", "end"] * 3, (self.top / "turns").read_text().split())
 
-    def test_after_an_interruption(self):
-        """The next call builds, as if there had been none."""
-        self.write("all", NUMBER + proved("low") + OWN_CRATE)
-        started = self.start("cueplayer", "check", "-")
-        self.wait_for(self.number)
-        started.terminate()
-        started.communicate(timeout=60)
-        self.write("all", kept("low") + proved("show_core") + proved("middle"))
-        self.assertBuilds(EACH_CRATE)
+    def test_without_prover(self):
+        bare = self.top / "bare"
+        bare.mkdir()
+        for tool in ("bash", "readlink"):
+            (bare / tool).symlink_to(shutil.which(tool))
+        status, out, err = self.run_script("build", path=str(bare))
+        told = "build: rt, the prover, is not on PATH; ./cueplayer runs without it\n"
+        self.assertEqual((1, "", told), (status, out, err))
+
+    @unittest.skipUnless(os.geteuid() == 0, "only root can be somebody else")
+    def test_read_only(self):
+        os.chmod(self.above, 0o755)
+        (self.top / "tmp").mkdir()
+        status, _, err = self.run_script("build", user=65534, group=65534, extra_groups=[])
+        self.assertEqual((1, f"build: {self.top}/dist is not writable\n"), (status, err))
+
+    def test_words(self):
+        status, out, err = self.run_script("build", "now")
+        self.assertEqual((2, "", "usage: ./build\n"), (status, out, err))
 
 
-class WithoutBuilding(CopiedLayout):
-    def git(self, *words, folder=None):
-        name = ["-c", "user.name=a", "-c", "user.email=a@b", "-c", "commit.gpgsign=false"]
-        done = subprocess.run(
-            ["git", *name, *words],
-            cwd=folder or self.top,
-            env={"PATH": os.environ["PATH"], "HOME": str(self.top)},
-            capture_output=True,
-            text=True,
-            check=True,
+class OddFolderBuilding(Building):
+    """The same, in a folder whose name a shell might stumble over."""
+
+    NAME = " -it's \"a\"\n$(exit 1)*\n"
+
+
+@unittest.skipUnless(shutil.which("strip"), "strip, of binutils, is not on PATH")
+class Gate(CopiedLayout):
+    """`.ci/run`, with a dist/ that is what it builds."""
+
+    def setUp(self):
+        super().setUp()
+        shutil.copy(ONE, self.top / "made")
+        self.assertEqual(0, self.run_script("build")[0])
+
+    def assertCloses(self, status, line, telling=""):
+        """It ends with this status and this last line, and tells this on standard error."""
+        got, out, err = self.run_script(".ci/run")
+        self.assertEqual((status, line), (got, out.splitlines()[-1]), err)
+        self.assertIn(telling, err)
+
+    def test_sums_both_runs(self):
+        """The comparison of dist/ counts as one."""
+        self.assertCloses(0, "12 passed, 0 failed")
+
+    def test_fails_with_either_run(self):
+        self.write("tests/run", "#!/bin/sh\necho '2 passed, 2 failed'\nexit 1\n")
+        self.assertCloses(1, "10 passed, 2 failed")
+        self.write("tests/run", "#!/bin/sh\nexit 1\n")
+        self.assertCloses(1, "8 passed, 1 failed")
+        self.write("bin/rt", PROVER.replace("7 passed, 0 failed", "6 passed, 1 failed") + "exit 1\n")
+        self.write("tests/run", "#!/bin/sh\necho '4 passed, 0 failed'\n")
+        self.assertCloses(1, "11 passed, 1 failed")
+
+    def test_without_a_program(self):
+        """A program that an earlier run left is not taken for one that this run proved."""
+        shutil.copy(self.top / "made", self.write("crates/cueplayer/out/cueplayer", ""))
+        self.write("bin/rt", "#!/bin/sh\necho '6 passed, 1 failed'\nexit 1\n")
+        self.assertCloses(1, "6 passed, 2 failed")
+
+    def test_compares_what_is_shipped(self):
+        """Any difference fails it, and one line says which, and which command mends it."""
+        told = "dist/ is not what was proved and built here ({}): ./build refreshes it"
+        changes = (
+            ("its program", lambda: self.program.write_bytes(b"another")),
+            ("its program", self.program.unlink),
+            ("program", lambda: shutil.copy(OTHER, self.top / "made")),
+            ("sources", lambda: self.source.write_text("other")),
+            ("sources", lambda: self.provenance.write_text(re.sub("sources: .*", "sources: x", self.provenance.read_text()))),
+            ("toolchain", lambda: self.write("bin/rt", PROVER.replace("kit of", "newer kit of"))),
+            ("version", lambda: (self.top / "VERSION").write_text("2.0.0\n")),
+            ("version, toolchain, sources, program", self.provenance.unlink),
         )
-        return done.stdout.strip()
+        for name, change in changes:
+            with self.subTest(name):
+                change()
+                self.assertCloses(1, "11 passed, 1 failed", told.format(name))
+                self.assertEqual(0, self.run_script("build")[0])
+                self.assertCloses(0, "12 passed, 0 failed")
 
-    def committed(self):
-        """Makes the copy a git tree with one commit."""
-        (self.top / ".gitignore").write_text("out/\ntmp/\nlog\n")
-        self.git("init", "-q")
-        self.git("add", "-A")
-        self.git("commit", "-q", "-m", "all")
-        return self.git("rev-parse", "--short", "HEAD")
+    def test_tests_what_is_shipped(self):
+        """The tests run the program of dist/; where that is another, they run the one that was built."""
+        self.write("tests/run", '#!/bin/sh\necho "${CUEPLAYER-dist}"\necho "4 passed, 0 failed"\n')
+        self.assertIn("\ndist\n", self.run_script(".ci/run")[1])
+        self.program.unlink()
+        self.assertIn(f"\n{self.built}\n", self.run_script(".ci/run")[1])
 
-    def version(self):
-        status, out, err = self.run_script("cueplayer", "--version")
-        self.assertEqual((0, ""), (status, err))
-        return out.splitlines()
-
-    def test_help_is_the_program_s(self):
-        """Word for word, at once, and nothing is built."""
-        out = program.run("--help").out.decode()
-        for word in ("--help", "-h", "help"):
-            with self.subTest(word):
-                self.assertEqual((0, out, ""), self.run_script("cueplayer", word))
-                self.assertEqual(out.encode(), program.run(word).out)
-        self.assertEqual([], self.asked())
-
-    def test_help_of_a_built_program(self):
-        """The program answers itself, and so it does of more words than this one."""
-        self.run_script("cueplayer", "check", "-")
-        self.assertEqual((3, "words: --help\na show\n", ""), self.run_script("cueplayer", "--help"))
-        outcome = self.run_script("cueplayer", "--version", "x")
-        self.assertEqual((3, "words: --version x\na show\n", ""), outcome)
-
-    def test_help_of_a_job_builds(self):
-        outcome = self.run_script("cueplayer", "look", "--help")
-        self.assertEqual((3, "words: look --help\na show\n"), outcome[:2])
-        self.assertIn("rt run -- --help", self.asked())
-
-    def test_version_of_a_tree_that_is_not_built(self):
-        self.assertEqual(["cueplayer no commit known", "not built"], self.version())
-        self.assertEqual([], self.asked())
-
-    @unittest.skipUnless(shutil.which("git"), "git is not on PATH")
-    def test_version_names_the_commit(self):
-        commit = self.committed()
-        self.assertEqual([f"cueplayer {commit}", "not built"], self.version())
-        self.source.write_text("other")
-        self.assertEqual([f"cueplayer {commit}-dirty", "not built"], self.version())
-
-    @unittest.skipUnless(shutil.which("git"), "git is not on PATH")
-    def test_version_within_another_project(self):
-        """The commit of a tree around this one is not this one's."""
-        self.git("init", "-q", folder=self.top.parent)
-        (self.top.parent / "file").write_text("")
-        self.git("add", "file", folder=self.top.parent)
-        self.git("commit", "-q", "-m", "one", folder=self.top.parent)
-        self.assertEqual("cueplayer no commit known", self.version()[0])
-
-    def test_version_names_the_toolchain(self):
-        """That of the build, whatever it is today; unknown where another than this script built."""
-        self.run_script("cueplayer", "check", "-")
-        self.write("bin/rt", PROVER.replace("kit of a test", "a newer kit"))
-        self.assertEqual("built by kit of a test", self.version()[1])
-        later = self.program.stat().st_mtime + 1
-        os.utime(self.program, (later, later))
-        self.assertEqual("built by an unknown toolchain", self.version()[1])
-        os.utime(self.source, (later + 1, later + 1))
-        self.assertEqual("not built", self.version()[1])
-
-    def test_version_of_what_the_gate_built(self):
-        self.assertEqual(0, self.run_script(".ci/run")[0])
-        self.assertEqual("built by kit of a test", self.version()[1])
-
-    def test_version_of_a_prover_that_tells_none(self):
-        self.write("bin/rt", PROVER.replace('echo "kit of a test"; exit', "exit 1"))
-        self.assertEqual(3, self.run_script("cueplayer", "check", "-")[0])
-        self.assertEqual("built by an unknown toolchain", self.version()[1])
+    def test_without_prover(self):
+        bare = self.top / "bare"
+        bare.mkdir()
+        for tool in ("bash", "dirname"):
+            (bare / tool).symlink_to(shutil.which(tool))
+        status, _, err = self.run_script(".ci/run", path=str(bare))
+        self.assertEqual(1, status)
+        self.assertIn("rt is not on PATH", err)

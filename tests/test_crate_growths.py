@@ -4,7 +4,7 @@ What is right where a growth is refused, the tests of the crates say: those that
 pass each time. The others do not expect it: such a one passes, or fails as a test does.
 
 The programs of the tests are those that `rt ci` has proved and built. Where a crate has none, as
-after `./cueplayer`, its tests are left out; under GATE, which `.ci/run` sets, that is a failure.
+in a fresh clone, its tests are left out; under GATE, which `.ci/run` sets, that is a failure.
 """
 
 import functools

@@ -1,32 +1,43 @@
-"""`./install`, in a copy of the layout whose prover is a stand-in, below prefixes of its own."""
+"""`./install`, in a copy of the layout, below prefixes of its own."""
 
 import functools
 import os
 import resource
 import shutil
 import stat
+import subprocess
+import sys
+import unittest
 
-from copied_layout import CopiedLayout
-from program import TOP
+from copied_layout import MADE, SHOWN, CopiedLayout
+from program import PROGRAM, TOP
 
-# A program that takes any show, and else shows its words, its input and a status of its own.
-MADE = """#!/bin/sh
-[ "$1" != check ] || exit 0
-echo "words: $*"
-cat
-exit 3
-"""
 OTHER = MADE + "# a later one\n"
-
-SOURCES = {
-    "lib/cueplayer/cueplayer": ("made", 0o755),
-    "share/man/man1/cueplayer.1": ("man/cueplayer.1", 0o644),
-    "share/man/man5/cueplayer-show.5": ("man/cueplayer-show.5", 0o644),
-    "share/bash-completion/completions/cueplayer": ("completion/cueplayer.bash", 0o644),
-}
-STARTER = "bin/cueplayer"
+TOOLS = ("desk", "osc", "picture")
+STARTERS = ("bin/cueplayer", *(f"bin/cueplayer-{tool}" for tool in TOOLS))
 LIST = "lib/cueplayer/installed"
-FILES = sorted([*SOURCES, STARTER, LIST])
+# Written anew: where it was installed from, what was installed, and what starts it.
+MADE_ANEW = ("lib/cueplayer/dist/COMMIT", LIST, *STARTERS)
+
+
+def sources(top):
+    """The file of the tree that each installed one is a copy of, by its path below the prefix."""
+    found = {f"lib/cueplayer/{name}": name for name in ("cueplayer", "dist/cueplayer", "dist/PROVENANCE")}
+    found |= {f"lib/cueplayer/tools/{tool}": f"tools/{tool}" for tool in TOOLS}
+    found["share/bash-completion/completions/cueplayer"] = "completion/cueplayer.bash"
+    found |= {f"share/doc/cueplayer/{name}": name for name in ("README.md", "CHANGELOG.md", "LICENSE")}
+    for page in (top / "man").iterdir():
+        found[f"share/man/man{page.suffix[1:]}/{page.name}"] = f"man/{page.name}"
+    folders = {
+        "docs": "share/doc/cueplayer/docs",
+        "examples": "share/doc/cueplayer/examples",
+        "tools/cueplayer_tools": "lib/cueplayer/tools/cueplayer_tools",
+    }
+    for folder, place in folders.items():
+        for path in (top / folder).rglob("*"):
+            if path.is_file() and "__pycache__" not in path.parts:
+                found[f"{place}/{path.relative_to(top / folder)}"] = str(path.relative_to(top))
+    return found
 
 
 def tree(folder):
@@ -45,10 +56,11 @@ def files(folder):
 class Install(CopiedLayout):
     def setUp(self):
         super().setUp()
-        shutil.copy(TOP / "install", self.top / "install")
-        for folder in ("man", "completion", "examples"):
-            shutil.copytree(TOP / folder, self.top / folder)
-        self.write("made", MADE)
+        for name in ("install", "README.md", "CHANGELOG.md", "LICENSE"):
+            shutil.copy(TOP / name, self.top / name)
+        without = shutil.ignore_patterns("__pycache__")
+        for folder in ("man", "completion", "docs", "examples", "tools"):
+            shutil.copytree(TOP / folder, self.top / folder, ignore=without)
         self.home = self.top / "home"
         self.home.mkdir()
         self.prefix = self.top / "it's \"a\" prefix"
@@ -67,27 +79,65 @@ class Install(CopiedLayout):
         self.assertIn(telling, err)
         self.assertEqual(before, [tree(folder) for folder in (self.prefix, self.home)])
 
-    def run_installed(self, *words, at=None):
+    def run_installed(self, *words, at=None, **options):
         self.write("start", '#!/bin/sh\nexec "$@"\n')
-        return self.run_script("start", at or self.prefix / STARTER, *words)
+        return self.run_script("start", at or self.prefix / "bin/cueplayer", *words, **options)
 
-    def assertWhole(self, made=MADE):
+    def files(self):
+        """All that an install puts below the prefix."""
+        return sorted([*sources(self.top), *MADE_ANEW])
+
+    def assertWhole(self):
         """All is installed: each file as its source is, with its mode, and nothing else."""
-        self.assertEqual(FILES, files(self.prefix))
-        for name, (source, mode) in SOURCES.items():
-            file = self.prefix / name
-            wanted = made if source == "made" else (self.top / source).read_text()
-            self.assertEqual((wanted, mode), (file.read_text(), stat.S_IMODE(file.stat().st_mode)), name)
-        self.assertEqual((3, "words: look - 1\na show\n", ""), self.run_installed("look", "-", "1"))
+        self.assertEqual(self.files(), files(self.prefix))
+        for name, source in sources(self.top).items():
+            file, wanted = self.prefix / name, self.top / source
+            self.assertEqual(wanted.read_bytes(), file.read_bytes(), name)
+            mode = 0o755 if wanted.stat().st_mode & 0o100 else 0o644
+            self.assertEqual(mode, stat.S_IMODE(file.stat().st_mode), name)
+        self.assertEqual(SHOWN, self.run_installed("look", "-", "1"))
 
     def test_installs(self):
-        """The program is built first, and runs as it does here; nothing but its files is there."""
+        """The program runs as it does here; nothing but its files is there, and nothing is built."""
         out = self.install(self.prefix)
-        self.assertIn("rt run -- --help", self.asked())
+        self.assertEqual([], self.asked())
         self.assertWhole()
-        for name in (*SOURCES, STARTER):
+        for name in STARTERS:
             self.assertIn(f"installed {self.prefix / name}\n", out)
         self.assertIn("is not on PATH", out)
+
+    def test_tools(self):
+        """Each starts, tells its options, and leaves nothing behind; without Python it says so."""
+        self.install(self.prefix)
+        for tool in TOOLS:
+            with self.subTest(tool):
+                starter = self.prefix / f"bin/cueplayer-{tool}"
+                path = f"{os.path.dirname(sys.executable)}:{os.environ['PATH']}"
+                status, out, err = self.run_installed("--help", at=starter, path=path)
+                self.assertEqual((0, ""), (status, err))
+                self.assertIn("--help", out)
+                bare = self.top / "bare"
+                bare.mkdir(exist_ok=True)
+                for name in ("sh", "readlink"):
+                    if not (bare / name).exists():
+                        (bare / name).symlink_to(shutil.which(name))
+                told = f"cueplayer-{tool}: python3 is not on PATH, and this tool needs it, 3.10 or newer\n"
+                self.assertEqual((1, "", told), self.run_installed("--help", at=starter, path=str(bare)))
+        self.assertEqual(self.files(), files(self.prefix))
+
+    def test_tools_find_the_program(self):
+        """The one that is installed beside them, whatever is on the PATH."""
+        if not PROGRAM.is_file():
+            self.skipTest(f"no program at {PROGRAM}")
+        self.ship(PROGRAM.read_bytes())
+        self.install(self.prefix)
+        shutil.rmtree(self.top / "crates")
+        words = ("night", TOP / "examples/small-play.asc", TOP / "examples/small-play.play")
+        starter = self.prefix / "bin/cueplayer-picture"
+        path = f"{os.path.dirname(sys.executable)}:{os.environ['PATH']}"
+        status, out, err = self.run_installed(*words, at=starter, path=path)
+        self.assertEqual((0, ""), (status, err))
+        self.assertEqual((TOP / "examples/small-play.svg").read_text(), out)
 
     def test_on_the_path(self):
         path = f"{self.top}/bin:{self.prefix}/bin:{os.environ['PATH']}"
@@ -107,26 +157,64 @@ class Install(CopiedLayout):
         self.install("--remove", "here", cwd=self.home)
         self.assertEqual({}, tree(self.home))
 
-    def test_version_is_written_in(self):
-        """It is that of the moment of installation, without the source."""
+    def test_version_is_kept(self):
+        """It is that of the moment of installation, and the sources are not there."""
+        (self.top / "dist/COMMIT").write_text("1234abc\n")
         self.install(self.prefix)
-        version = self.run_script("cueplayer", "--version")
-        self.assertEqual((0, "cueplayer no commit known\nbuilt by kit of a test\n", ""), version)
-        shutil.rmtree(self.top / "crates")
-        (self.top / "cueplayer").unlink()
-        self.assertEqual(version, self.run_installed("--version"))
-        self.assertEqual((3, "words: --version x\na show\n", ""), self.run_installed("--version", "x"))
+        status, here, err = self.run_script("cueplayer", "--version")
+        self.assertEqual((0, ""), (status, err))
+        self.assertIn("commit: 1234abc\n", here)
+        for name in ("crates", "cueplayer", "dist"):
+            at = self.top / name
+            shutil.rmtree(at) if at.is_dir() else at.unlink()
+        status, there, err = self.run_installed("--version")
+        self.assertEqual((0, ""), (status, err))
+        self.assertEqual(here.splitlines()[:5], there.splitlines()[:5])
+        self.assertIn("they are not here", there.splitlines()[5])
 
     def test_by_a_link_and_moved(self):
         self.install(self.prefix)
         link = self.home / "player"
-        link.symlink_to(self.prefix / STARTER)
+        link.symlink_to(self.prefix / "bin/cueplayer")
         self.assertEqual((3, "words: a\na show\n", ""), self.run_installed("a", at=link))
         moved = self.prefix.rename(self.home / "moved")
-        self.assertEqual((3, "words: a\na show\n", ""), self.run_installed("a", at=moved / STARTER))
+        self.assertEqual((3, "words: a\na show\n", ""), self.run_installed("a", at=moved / "bin/cueplayer"))
+
+    def test_folder_of_programs_that_is_a_link(self):
+        """As where ~/.local/bin is a link to ~/bin: what is installed starts, and goes again."""
+        (self.home / "bin").mkdir()
+        self.prefix.mkdir()
+        (self.prefix / "bin").symlink_to(self.home / "bin")
+        self.install(self.prefix)
+        self.assertEqual((3, "words: a\na show\n", ""), self.run_installed("a"))
+        status, out, _ = self.run_installed("--help", at=self.home / "bin/cueplayer-osc")
+        self.assertEqual(0, status)
+        self.assertIn("--listen", out)
+        self.install("--remove", self.prefix)
+        self.assertEqual([], list((self.home / "bin").iterdir()))
+
+    def test_for_a_package(self):
+        """DESTDIR: all goes below it, and is where the prefix says once it is unpacked."""
+        stage = self.home / "stage"
+        self.prefix = stage / "opt/cueplayer"
+        self.install("/opt/cueplayer", more={"DESTDIR": str(stage)})
+        self.assertWhole()
+        for name in STARTERS:
+            self.assertNotIn(str(stage), (self.prefix / name).read_text())
+
+    def test_older_version(self):
+        """What it had and this one has not goes, unless it was changed."""
+        for name in ("old.md", "older.md"):
+            (self.top / "docs" / name).write_text("old")
+        self.install(self.prefix)
+        for name in ("old.md", "older.md"):
+            (self.top / "docs" / name).unlink()
+        (self.prefix / "share/doc/cueplayer/docs/older.md").write_text("mine")
+        self.install(self.prefix)
+        self.assertEqual(sorted([*self.files(), "share/doc/cueplayer/docs/older.md"]), files(self.prefix))
 
     def test_limit_on_files_is_no_signal(self):
-        self.write("made", '#!/bin/sh\n[ "$1" = check ] || grep SigIgn /proc/self/status\n')
+        self.ship('#!/bin/sh\n[ "$1" = check ] || [ "$1" = --help ] || grep SigIgn /proc/self/status\n')
         self.install(self.prefix)
         _, out, _ = self.run_installed("look")
         self.assertTrue(int(out.split()[1], 16) >> 24 & 1, out)
@@ -141,7 +229,7 @@ class Install(CopiedLayout):
         self.install(self.prefix)
         out = self.install("--remove", self.prefix)
         self.assertEqual(before, tree(self.prefix))
-        for name in (*SOURCES, STARTER):
+        for name in STARTERS:
             self.assertIn(f"removed {self.prefix / name}\n", out)
         self.assertFails("--remove", self.prefix, telling="nothing is installed in")
 
@@ -160,19 +248,18 @@ class Install(CopiedLayout):
     def test_installs_anew(self):
         """Each file is replaced by a new one: who reads or runs the old one has it whole."""
         self.install(self.prefix)
-        file = self.prefix / "lib/cueplayer/cueplayer"
+        file = self.prefix / "lib/cueplayer/dist/cueplayer"
         with file.open() as old:
-            self.write("made", OTHER)
-            self.program.unlink()
+            self.ship(OTHER)
             self.install(self.prefix)
             self.assertEqual(MADE, old.read())
-        self.assertWhole(OTHER)
+        self.assertWhole()
         self.install("--remove", self.prefix)
         self.assertFalse(self.prefix.exists())
 
     def test_file_of_another(self):
-        """It is not replaced: a file, a link, be it to the same, or a folder. Nothing is built for it."""
-        for name in FILES:
+        """It is not replaced: a file, a link, be it to the same, or a folder."""
+        for name in ("lib/cueplayer/dist/cueplayer", "share/man/man1/cueplayer-osc.1", LIST, *STARTERS[:2]):
             file = self.prefix / name
             for kind in ("file", "link", "folder"):
                 if (name, kind) == (LIST, "file"):
@@ -182,17 +269,16 @@ class Install(CopiedLayout):
                     if kind == "file":
                         file.write_text("other")
                     elif kind == "link":
-                        file.symlink_to(self.top / "made")
+                        file.symlink_to(self.program)
                     else:
                         file.mkdir()
                     self.assertFails(self.prefix, telling=f"{file} is there")
                     shutil.rmtree(self.prefix)
-        self.assertEqual([], self.asked())
 
     def test_file_that_was_changed(self):
         """It is the user's from then on: neither replaced nor taken away."""
         self.install(self.prefix)
-        for name in (*SOURCES, STARTER):
+        for name in ("lib/cueplayer/dist/cueplayer", "lib/cueplayer/tools/osc", *STARTERS[:2]):
             with self.subTest(name):
                 file = self.prefix / name
                 with file.open("a") as changed:
@@ -208,15 +294,15 @@ class Install(CopiedLayout):
                 self.install(self.prefix)
 
     def test_folder_that_is_not_writable(self):
-        """Told before anything is built or taken away."""
+        """Told before anything is written or taken away."""
         os.chmod(self.top.parent, 0o755)
         as_other = {"user": 65534, "group": 65534, "extra_groups": []} if os.geteuid() == 0 else {}
         self.prefix.mkdir()
         (self.top / "tmp").mkdir()
+        os.chmod(self.top / "tmp", 0o777)
         os.chmod(self.prefix, 0o555)
         try:
             self.assertFails(self.prefix, telling=f"{self.prefix} is not writable", **as_other)
-            self.assertEqual([], self.asked())
             os.chmod(self.prefix, 0o755)
             self.install(self.prefix)
             os.chmod(self.prefix / "bin", 0o555)
@@ -234,10 +320,12 @@ class Install(CopiedLayout):
         status, _, err = self.run_script("install", self.prefix)
         self.assertEqual(1, status)
         self.assertIn(f"{self.prefix} is no folder", err)
-        self.assertEqual([], self.asked())
 
-    def test_program_that_is_not_proved(self):
-        self.write("bin/rt", "#!/bin/sh\necho open goal\nexit 1\n")
+    def test_no_program(self):
+        """One that is gone or damaged is not installed."""
+        self.program.write_text(OTHER)
+        self.assertFails(self.prefix, telling="there is no program to install")
+        self.program.unlink()
         self.assertFails(self.prefix, telling="there is no program to install")
         self.assertFalse(self.prefix.exists())
 
@@ -250,26 +338,27 @@ class Install(CopiedLayout):
 
     def test_install_that_is_cut_off(self):
         """At each file: it can be taken away, and it can be done again, also over an older one."""
-        for count in (1, 2, 4, 6, 7):
+        count_of_files = len(self.files())
+        for count in (1, 2, 30, count_of_files, count_of_files + 1):
             for is_first in (True, False):
                 with self.subTest(f"the renaming of number {count} fails, first install: {is_first}"):
                     self.cut_off_at(count, is_first)
-                    self.assertLessEqual(set(files(self.prefix)), set(FILES))
+                    self.assertLessEqual(set(files(self.prefix)), set(self.files()))
                     if self.prefix.exists():
                         self.install("--remove", self.prefix)
                     self.assertFalse(self.prefix.exists())
                     self.cut_off_at(count, is_first)
                     self.install(self.prefix)
-                    self.assertWhole(OTHER)
+                    self.assertWhole()
                     self.install("--remove", self.prefix)
                     self.assertFalse(self.prefix.exists())
 
     def cut_off_at(self, count, is_first):
         """A run whose renaming fails from the one of this number on, as a first install or a second."""
         if not is_first:
-            self.build(MADE)
+            self.ship(MADE)
             self.install(self.prefix)
-        self.build(OTHER)
+        self.ship(OTHER)
         counted = self.top / "counted"
         counted.write_text("")
         self.write(
@@ -282,11 +371,6 @@ class Install(CopiedLayout):
         self.assertEqual(1, status)
         self.assertIn("cannot write", err)
 
-    def build(self, made):
-        """Makes this text the program, as if it had been proved and built."""
-        self.write("made", made)
-        self.write("crates/cueplayer/out/cueplayer", made)
-
     def test_words(self):
         for words in (["--bogus"], ["--remove", "--bogus"], ["a", "b"], ["--remove", "a", "b"], [""]):
             with self.subTest(words):
@@ -294,7 +378,4 @@ class Install(CopiedLayout):
         for word in ("--help", "-h"):
             out = self.install(word)
             self.assertIn("usage: ./install [PREFIX]", out)
-            for name in FILES:
-                self.assertIn(f"PREFIX/{name}", out)
-        self.assertEqual([], self.asked())
         self.assertEqual({}, tree(self.home))

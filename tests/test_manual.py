@@ -1,4 +1,5 @@
-"""The manual pages, against the program's help and against docs/FORMATS.md and docs/PROFILE.md."""
+"""The manual pages, against the help of the program and of the tools, and against docs/FORMATS.md and
+docs/PROFILE.md."""
 
 import hashlib
 import re
@@ -8,8 +9,10 @@ import unittest
 
 from jobs import jobs
 from program import TOP
+from tooling import run_tool
 
-PAGES = {name: TOP / "man" / name for name in ("cueplayer.1", "cueplayer-show.5")}
+PAGES = {path.name: path for path in sorted((TOP / "man").iterdir())}
+TOOLS = ("desk", "osc", "picture")
 FORMATS = (TOP / "docs/FORMATS.md").read_text()
 PROFILE = (TOP / "docs/PROFILE.md").read_text()
 
@@ -89,7 +92,7 @@ class Manual(unittest.TestCase):
 
     @unittest.skipUnless(shutil.which("mandoc"), "mandoc is not on PATH")
     def test_mandoc_has_no_warning(self):
-        self.assertEqual(["", ""], list(self.assertQuiet("mandoc", "-Tlint", "-Wwarning")))
+        self.assertEqual([""] * len(PAGES), list(self.assertQuiet("mandoc", "-Tlint", "-Wwarning")))
 
     def test_jobs_and_options(self):
         """Each job of the help has its part, with exactly its options, each with the name of its value."""
@@ -121,6 +124,17 @@ class Manual(unittest.TestCase):
         lines = [line for line in lines if line and "--help" not in line]
         self.assertEqual(sorted(jobs()), sorted(line.split()[1] for line in lines))
         self.assertEqual(sorted(line for line, _ in rows(FORMATS, "The command line")), sorted(lines))
+
+    def test_tools(self):
+        """Each tool has a page, with exactly the options of its help."""
+        self.assertEqual({"cueplayer.1", "cueplayer-show.5", *(f"cueplayer-{tool}.1" for tool in TOOLS)}, set(PAGES))
+        for tool in TOOLS:
+            with self.subTest(tool):
+                kinds = ("night", "rehearsal") if tool == "picture" else ("",)
+                helps = [run_tool(tool, *kind.split(), "--help").stdout for kind in kinds]
+                known = set(re.findall(r"(?<![\w-])--[a-z]+", "\n".join(helps)))
+                options = sections(f"cueplayer-{tool}.1")["OPTIONS"]
+                self.assertEqual(known, set(re.findall(r"(?<![\w-])--[a-z]+", shown(options))))
 
     def test_exit_statuses(self):
         statuses = [status for status, *_ in rows(FORMATS, "Exit statuses")]

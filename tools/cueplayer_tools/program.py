@@ -1,5 +1,5 @@
-"""Running the program: the one that `CUEPLAYER` names, the script that builds it, or the one that
-is installed."""
+"""Running the program: the one that `CUEPLAYER` names, the one that these tools came with, or one
+on the PATH."""
 
 import os
 import subprocess
