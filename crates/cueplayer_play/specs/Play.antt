@@ -5,6 +5,7 @@ use Rattle.ascii_text.specs.Text.{lines_of}
 use Rattle.devices.specs.Tape.{Tape, with_failure, with_more}
 use Rattle.show_line.specs.Said.{desk_limits}
 use Rattle.show_reader.specs.Reading.{fault_of}
+use Rattle.show_reader.specs.declared.fault.ShowFault.TheVariants as show_fault
 use Rattle.show_reader.specs.ItsShow.{OfItsShow}
 use Rattle.patch_core.specs.Frame.{is_base}
 use Rattle.console.specs.Streams.{Production}
@@ -83,12 +84,15 @@ has_begun (Err run.Device) = true
 has_begun (Err _) = false
 
 -- whether a play begins: its show has no fault and its universes have numbers; or why not. Want of
--- memory may come in place of any other reason
+-- memory may come in place of any other reason, and no other fault comes
 abbrev pub Begins : {X : Type 0} → Result X RunFault → List ℕ → ℕ → Type 0
+Begins (Err (run.Show show_fault.Memory)) show base = ⊥
 Begins (Err (run.Show f)) show base = fault_of desk_limits show ≡ Some f
 Begins (Err run.Base) show base =
     (fault_of desk_limits show ≡ None) × OfItsShow show (λ s. IsFalse (is_base s.patch base))
 Begins (Err run.Memory) show base = Unit {0}
 Begins (Err run.NoCue) show base = ⊥
+Begins (Err run.Script) show base = ⊥
+Begins (Err (run.Setup f)) show base = ⊥
 Begins _ show base =
     (fault_of desk_limits show ≡ None) × OfItsShow show (λ s. IsTrue (is_base s.patch base))

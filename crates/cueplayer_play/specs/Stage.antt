@@ -1,6 +1,6 @@
 -- Where a play stands in its input, and why a line ends it.
-use Rattle.std.specs.Prelude.{◌≡◌, ◌≢◌, ◌≤◌, ◌+◌, ◌-◌, ◌*◌, ℕ, List, ◌∷◌, ◌++◌, true, false}
-use Rattle.std.specs.Prelude.{length, fold}
+use Rattle.std.specs.Prelude.{◌≡◌, ◌≢◌, ◌<◌, ◌≤◌, ◌+◌, ◌-◌, ◌*◌, ℕ, List, ◌∷◌, ◌++◌, true}
+use Rattle.std.specs.Prelude.{false, length, fold}
 use Rattle.fade_core.specs.declared.fader.Fader.{Ghosts}
 use Rattle.fade_core.specs.Level.{Start}
 use Rattle.desk_core.specs.Played.{Act}
@@ -64,11 +64,19 @@ pub data IsRefused (cut : Cut) (byte : ℕ) : Type 0 where
   long : length cut.rest ≡ 200 → byte ≢ 10 → IsRefused cut byte
   malformed : byte ≡ 10 → is_malformed (reading_of cut.rest) ≡ true → IsRefused cut byte
 
--- why the byte behind these ends the play: the next line is refused; or it ends a line, and the
--- output fails
+-- the byte ends a line that is carried out: it is none after line 10,000,000, it has at most 200
+-- bytes, and it is not malformed
+pub record EndsFineLine (cut : Cut) (byte : ℕ) : Type 0 where
+  pub ends : byte ≡ 10
+  pub few : length cut.lines < 10000000
+  pub short : length cut.rest ≤ 200
+  pub fine : is_malformed (reading_of cut.rest) ≡ false
+
+-- why the byte behind these ends the play: the next line is refused; or it is not, and the output
+-- fails
 abbrev pub Ends : PlayFault → Cut → ℕ → Type 0
 Ends (Line n) cut byte = (n ≡ length cut.lines + 1) × IsRefused cut byte
-Ends Device cut byte = (byte ≡ 10) × (is_malformed (reading_of cut.rest) ≡ false)
+Ends Device cut byte = EndsFineLine cut byte
 
 -- the run of the lines, and then a line whose text the output did not take
 pub record RunsDry (p : Production) (cut : Cut) (before after : Emitted) : Type 0 where

@@ -1,6 +1,8 @@
-ghost use Rattle.std.specs.Prelude.{◌≡◌, true, false, IfOk, IfErr};
+ghost use Rattle.std.specs.Prelude.{◌≡◌, ◌<◌, length, true, false, Err, IfOk, IfErr};
 ghost use Rattle.cueplayer_play.specs.Play.{Begins, Plays, has_begun};
 ghost use Rattle.show_reader.specs.ItsShow.{OfItsShow};
+ghost use Rattle.show_reader.specs.Reading.{longest_text};
+ghost use Rattle.show_reader.specs.declared.fault.ShowFault.TheVariants as show_fault;
 ghost use Rattle.cueplayer_play.specs.Opened.{IsOpened, Refuses};
 ghost use Rattle.cueplayer_play.specs.Run.{emitted};
 
@@ -37,6 +39,8 @@ pub fn play<F: Fader, R: Feed, L: Link, W: Output>(
     out: &mut W,
 ) -> Result<(), RunFault>
     ensures begins { Begins result show.now base }
+    ensures too_long { longest_text < length show.now → result ≡ Err
+        (RunFault.Show show_fault.TooLong) }
     ensures plays { has_begun result ≡ true
         → R.tells input.new → L.tells link.new → W.tells out.new
         → OfItsShow show.now (λ s. Plays
@@ -75,6 +79,8 @@ fn open<F: Fader>(
 ) -> Result<Console<F>, RunFault>
     ensures opened { IfOk result (λ console. IsOpened F.stands_for console show.now base identity) }
     ensures refused { IfErr result (λ fault. Refuses fault show.now base) }
+    ensures too_long { longest_text < length show.now → result ≡ Err
+        (RunFault.Show show_fault.TooLong) }
 {
     let loaded = read_show(alloc, show)?;
     match Console::open(alloc, &loaded.show, base, identity) {
