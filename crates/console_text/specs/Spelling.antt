@@ -1,6 +1,6 @@
 -- The call that a line spells, by its words.
 use Rattle.std.specs.Prelude.{ℕ, Bool, true, false, List, [], ◌∷◌, Option, Some, None}
-use Rattle.std.specs.Prelude.{option_map, option_and_then, if◌then◌else◌, codes}
+use Rattle.std.specs.Prelude.{option_map, option_and_then, if◌then◌else◌, codes, drop}
 use Rattle.ascii_text.specs.Text.{words_of}
 use Rattle.ascii_text.specs.Forms.{same_word, moment_of, cue_number_of, level_of, whole_of}
 use Rattle.desk_core.specs.declared.command.Command.{Command}
@@ -66,6 +66,13 @@ call_of [] = None
 call_of (keyword ∷ operands) =
     if same_word keyword (codes "tick") then tick_of operands
     else option_map (λ command. Order command) (command_with keyword operands)
+
+-- the words that are left when a call was read: `tick` and one word are taken, or a keyword and
+-- three
+abbrev pub words_behind : List (List ℕ) → List (List ℕ)
+words_behind [] = []
+words_behind (keyword ∷ operands) =
+    if same_word keyword (codes "tick") then drop 1 operands else drop 3 operands
 
 abbrev pub at_moment : Option ℕ → Option Call → Reading
 at_moment (Some moment) (Some call) = At moment call

@@ -1,6 +1,6 @@
-ghost use Rattle.std.specs.Prelude.{◌≡◌};
-ghost use Rattle.console_text.specs.Spelling.{call_of, command_of, command_with, with_none};
-ghost use Rattle.console_text.specs.Spelling.{with_one, with_two};
+ghost use Rattle.std.specs.Prelude.{◌≡◌, drop};
+ghost use Rattle.console_text.specs.Spelling.{call_of, command_of, command_with, words_behind};
+ghost use Rattle.console_text.specs.Spelling.{with_none, with_one, with_two};
 
 use ascii_text::{Words, cue_number, level, same_word, whole};
 use desk_core::Command;
@@ -16,17 +16,20 @@ pub enum Call {
 
 /// The command that the words spell, to their end: `go`, `back`, `goto N`, `sub N L`, `group N L`,
 /// `master L` or `end`, without regard to ASCII case. N of `goto` is a cue number, that of `sub`
-/// and `group` a number up to 65535, and L a level.
+/// and `group` a number up to 65535, and L a level. At most the first four words are taken.
 pub fn command_in(words: &mut Words<'_>) -> Option<Command>
-    ensures { result ≡ command_of words.old }
+    ensures command { result ≡ command_of words.old }
+    ensures left { words.new ≡ drop 4 words.old }
 {
     let keyword = words.next()?;
     command_with(keyword, words)
 }
 
-/// The call that the words spell, to their end: a command, or `tick`.
+/// The call that the words spell, to their end: a command, or `tick`. At most the first four words
+/// are taken, and behind `tick` one.
 pub fn call_in(words: &mut Words<'_>) -> Option<Call>
-    ensures { result ≡ call_of words.old }
+    ensures call { result ≡ call_of words.old }
+    ensures left { words.new ≡ words_behind words.old }
 {
     let keyword = words.next()?;
     if same_word(keyword, b"tick") {
@@ -41,7 +44,8 @@ pub fn call_in(words: &mut Words<'_>) -> Option<Call>
 }
 
 fn command_with(keyword: &[u8], operands: &mut Words<'_>) -> Option<Command>
-    ensures { result ≡ command_with keyword.now operands.old }
+    ensures command { result ≡ command_with keyword.now operands.old }
+    ensures left { operands.new ≡ drop 3 operands.old }
 {
     let Some(first) = operands.next() else {
         return with_none(keyword);
