@@ -20,6 +20,6 @@ pages = refl
 text : (skipped_line 12 reason.UnknownClear (codes "CLEAR x" ++ 13 ∷ [])
     ≡ codes "line 12: an unknown CLEAR: CLEAR x \n")
     × (shown (9 ∷ 0 ∷ 31 ∷ 32 ∷ 126 ∷ 127 ∷ 255 ∷ []) ≡ codes " ?? ~??")
-    × (length (shown (replicate 201 65)) ≡ 200)
+    × (length (skipped_line 1 reason.NoRecord (replicate 201 65)) ≡ 223)
 unfolding digits
 text = (refl, refl, refl)

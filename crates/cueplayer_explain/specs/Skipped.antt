@@ -15,15 +15,15 @@ shown_byte byte =
     if (byte == 9) || (byte == 13) then 32
     else (if nat_le 32 byte && nat_le byte 126 then byte else 63)
 
--- what is shown of a line: its first 200 bytes
+-- bytes as they are shown
 abbrev pub shown : List ℕ → List ℕ
-shown line = map shown_byte (take 200 line)
+shown bytes = map shown_byte bytes
 
--- the line about a skipped line: its number, the reason, and its text
+-- the line about a skipped line: its number, the reason, and the first 200 bytes of its text
 abbrev pub skipped_line : ℕ → Reason → List ℕ → List ℕ
 skipped_line number reason line =
     codes "line " ++ decimal number ++ codes ": " ++ reason_text reason ++ codes ": "
-    ++ shown line ++ codes "\n"
+    ++ shown (take 200 line) ++ codes "\n"
 
 -- lines as lists of their words
 abbrev pub words_in : List (List ℕ) → List Words

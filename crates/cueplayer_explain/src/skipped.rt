@@ -75,16 +75,23 @@ fn push_skipped(
     out.extend_from_slice(b": ")?;
     reason.push_to(out)?;
     out.extend_from_slice(b": ")?;
-    push_shown(out, line)?;
+    push_shown(out, first_bytes(line))?;
     out.push(b'\n')?;
     Ok(())
 }
 
-fn push_shown(out: &mut Vec<u8>, line: &[u8]) -> Result<(), AllocError>
-    ensures { OnOk result (out.new.items ≡ out.old.items ++ shown line.now) }
+// What is shown of a line.
+fn first_bytes<'a>(line: &'a [u8]) -> &'a [u8]
+    ensures { result.now ≡ take 200 line.now }
 {
-    let looked = &line[..line.len().min(200)];
-    for byte in looked {
+    &line[..line.len().min(200)]
+}
+
+/// Appends bytes as they are shown.
+pub fn push_shown(out: &mut Vec<u8>, bytes: &[u8]) -> Result<(), AllocError>
+    ensures { OnOk result (out.new.items ≡ out.old.items ++ shown bytes.now) }
+{
+    for byte in bytes {
         out.push(shown_byte(*byte))?;
     }
     Ok(())

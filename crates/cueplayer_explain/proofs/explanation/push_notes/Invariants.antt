@@ -1,8 +1,10 @@
 use Rattle.std.proofs.Common.{◌≡◌, ◌++◌, flat_map, map, string_bytes, take}
 use Rattle.cueplayer_explain.specs.Explained.{note_line}
+use Rattle.cueplayer_explain.specs.Skipped.{shown}
 use Rattle.cueplayer_explain.proofs.explanation.push_notes.Given as goal
 
 abbrev pub invariant-loop-note : goal.invariant-loop-note
 invariant-loop-note l =
     l.text.items
-    ≡ l.fn.text.items ++ flat_map note_line (map string_bytes (take l.note-index l.notes))
+    ≡ l.fn.text.items
+    ++ flat_map note_line (map (λ note. shown (string_bytes note)) (take l.note-index l.notes))

@@ -4,4 +4,4 @@ use Rattle.cueplayer_explain.proofs.skipped.push_shown.Given as goal
 
 abbrev pub invariant-loop-byte : goal.invariant-loop-byte
 invariant-loop-byte l =
-    l.out.items ≡ l.fn.out.items ++ map shown_byte (take l.byte-index l.looked)
+    l.out.items ≡ l.fn.out.items ++ map shown_byte (take l.byte-index l.bytes)
