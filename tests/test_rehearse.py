@@ -1,6 +1,9 @@
 """`rehearse`: its scripts, and what it prints of them."""
 
-from program import CID, DEVICE_FAULT, FolderTest, run, text
+import os
+import subprocess
+
+from program import CID, DEVICE_FAULT, PROGRAM, FolderTest, run, text
 from worked import HEADER, S1, codes, rehearsal_of, rehearsals, steps, table, tables, with_examples
 
 OTHER = CID[:-1] + "2"
@@ -81,3 +84,40 @@ class Rehearse(FolderTest):
 
     def test_full_output(self):
         self.assertFullDisk(self.words(S1, text(*HEADER, "0 tick 0")))
+
+
+def most_memory(words: list[str]) -> int:
+    """The most memory that this run of the program holds, in bytes."""
+    with subprocess.Popen([PROGRAM, *words], stdout=subprocess.DEVNULL) as night:
+        _, status, used = os.wait4(night.pid, 0)
+        night.returncode = os.waitstatus_to_exitcode(status)
+    assert night.returncode == 0, night.returncode
+    return 1024 * used.ru_maxrss
+
+
+class Memory(FolderTest):
+    """A rehearsal lets packets go that no later event delivers, and keeps none that no event delivers."""
+
+    TICKS = 100_000
+    PACKET = 638
+
+    def most_of(self, delivers: bool, *last: int) -> int:
+        """The most memory of a long night, of which each packet is delivered at once, or none; and of
+        which these are delivered at the end."""
+        lines = list(HEADER)
+        for i in range(self.TICKS):
+            lines += [f"{25 * i} do 0 sub 1 {i % 90}", f"{25 * i} tick 0"]
+            lines += [f"{25 * i} deliver 0 0 1 {i}"] * delivers
+        lines += [f"{25 * self.TICKS} deliver 0 0 1 {k}" for k in last]
+        show, script = self.file("show.asc", S1), self.file("night.script", text(*lines))
+        return most_memory(["rehearse", show, script])
+
+    def assertKeeps(self, most: int, least: int):
+        """The one night keeps all of its packets, and the other hardly one."""
+        self.assertGreater(most - least, self.TICKS * self.PACKET // 2)
+
+    def test_packets_delivered(self):
+        self.assertKeeps(self.most_of(True, 0), self.most_of(True))
+
+    def test_packets_never_delivered(self):
+        self.assertKeeps(self.most_of(False, self.TICKS - 1, 0), self.most_of(False, 0))

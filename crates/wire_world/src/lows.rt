@@ -1,4 +1,4 @@
-ghost use Rattle.std.specs.Prelude.{◌≡◌, ◌<◌, IfOk, length};
+ghost use Rattle.std.specs.Prelude.{◌≡◌, ◌<◌, ◌≤◌, ℕ, IfOk, length};
 ghost use Rattle.wire_world.specs.Wanted.{AreLows, AreUpTo, IsUpTo, row_of};
 
 use crate::{Event, What};
@@ -39,7 +39,8 @@ fn row_of(console: u16, universe: u16) -> usize
 
 // The greatest number of a packet that an event delivers: those behind it need not be kept.
 pub(crate) fn last_wanted(events: &[Event]) -> u64
-    ensures { AreUpTo events.now result }
+    ensures up_to { AreUpTo events.now result }
+    ensures least { (last : ℕ) → AreUpTo events.now last → result ≤ last }
 {
     let mut last = 0u64;
     for i in 0..events.len() {
@@ -50,7 +51,8 @@ pub(crate) fn last_wanted(events: &[Event]) -> u64
 
 // The number of the packet that an event delivers, 0 where it delivers none.
 fn wanted(what: What) -> u64
-    ensures { IsUpTo result what }
+    ensures up_to { IsUpTo result what }
+    ensures least { (last : ℕ) → IsUpTo last what → result ≤ last }
 {
     match what {
         What::Deliver { k, .. } => k,

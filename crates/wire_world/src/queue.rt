@@ -1,4 +1,4 @@
-ghost use Rattle.std.specs.Prelude.{◌≡◌, ◌++◌, ◌∷◌, [], length, slice_get, OnOk};
+ghost use Rattle.std.specs.Prelude.{◌≡◌, ◌++◌, ◌∷◌, [], length, slice_get, None, OnOk};
 ghost use Rattle.std.specs.Option.{option_map, option_to_list};
 
 use std::alloc::{AllocError, Global};
@@ -55,8 +55,9 @@ impl Queue {
 
     /// Takes the first packet away.
     pub fn pop_front(&mut self) -> Option<Vec<u8>>
-        ensures { self.old ≡ option_to_list (option_map (λ packet. packet.items) result)
+        ensures packets { self.old ≡ option_to_list (option_map (λ packet. packet.items) result)
             ++ self.new }
+        ensures none { result ≡ None → self.new ≡ [] }
     {
         self.packets.pop_front()
     }

@@ -1,5 +1,5 @@
-ghost use Rattle.std.specs.Prelude.{◌≡◌, ◌==◌, ◌++◌, ◌∷◌, [], ◌+◌, ◌-◌, ◌≤◌, ℕ, List, OnOk};
-ghost use Rattle.std.specs.Prelude.{if◌then◌else◌, find, map, slice_get, take};
+ghost use Rattle.std.specs.Prelude.{◌≡◌, ◌⊎◌, ◌==◌, ◌++◌, ◌∷◌, [], ◌+◌, ◌-◌, ◌≤◌, ℕ, List};
+ghost use Rattle.std.specs.Prelude.{if◌then◌else◌, find, map, slice_get, take, OnOk};
 ghost use Rattle.std.specs.List.{position};
 ghost use Rattle.std.specs.Option.{option_map};
 ghost use Rattle.wire_world.specs.Sends.{send_of, sent_to};
@@ -80,6 +80,7 @@ pub(crate) fn release(shelves: &mut [Shelf], universe: u16, low: u64, spare: &mu
         → IsRest (gone_of shelves.new u) (kept_of shelves.new u) all }
     ensures gone { (u k : ℕ) → gone_of shelves.old u ≤ k → (universe ≡ u → low ≤ k)
         → gone_of shelves.new u ≤ k }
+    ensures left { (kept_of shelves.new universe ≡ []) ⊎ (low ≤ gone_of shelves.new universe) }
 {
     if let Some(i) = place_of(shelves, universe) {
         shelves[i].release(low, spare);
@@ -126,6 +127,7 @@ impl Shelf {
         ensures rest { (all : List (List ℕ)) → IsRest self.old.gone self.old.packets all
             → IsRest self.new.gone self.new.packets all }
         ensures gone { (k : ℕ) → self.old.gone ≤ k → low ≤ k → self.new.gone ≤ k }
+        ensures left { (self.new.packets ≡ []) ⊎ (low ≤ self.new.gone) }
     {
         for gone in self.gone..low {
             let Some(packet) = self.packets.pop_front() else {

@@ -1,5 +1,5 @@
 ghost use Rattle.std.specs.Prelude.{◌≡◌, ◌↔◌, ℕ, List, [], ◌∷◌, map, IfOk, OnOk, OnErr, Err};
-ghost use Rattle.std.specs.Prelude.{IsFalse, ◌+◌, ◌≤◌, ◌++◌, false, take};
+ghost use Rattle.std.specs.Prelude.{IsFalse, ◌+◌, ◌⊎◌, ◌≤◌, ◌++◌, false, take};
 ghost use Rattle.std.specs.Option.{option_map};
 ghost use Rattle.patch_core.specs.Frame.{is_base};
 ghost use Rattle.patch_core.specs.declared.fault.RigFault.TheVariants.{Universe};
@@ -143,6 +143,8 @@ impl<F: Fader> Stage<F> {
             → StageStands F.stands_for self.new p history }
         ensures gone { (u k : ℕ) → gone_of self.old.shelves.items u ≤ k → (universe ≡ u → low ≤ k)
             → gone_of self.new.shelves.items u ≤ k }
+        ensures left { (kept_of self.new.shelves.items universe ≡ [])
+            ⊎ (low ≤ gone_of self.new.shelves.items universe) }
         ensures last { self.new.last ≡ self.old.last }
     {
         release(

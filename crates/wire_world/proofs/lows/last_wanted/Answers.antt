@@ -5,13 +5,23 @@ use Rattle.wire_world.proofs.lows.last_wanted.Goals as goal
 
 pub loop-i-preserved : goal.loop-i-preserved
 loop-i-preserved c =
-    up_to_next c.args.events.now c.loop-i.last c.max-last.result c.loop-i.i _
-    (slice_get-get_or c.args.events.now c.loop-i.i _ c.loop-i-test.true)
-    (omega (arith, c.max-last.ensures))
-    (λ r i u k is. omega (arith, c.max-last.ensures, c.wanted.ensures r i u k is))
-    c.loop-i.invariant
+    let at = slice_get-get_or c.args.events.now c.loop-i.i _ c.loop-i-test.true in (
+      up_to_next c.args.events.now c.loop-i.last c.max-last.result c.loop-i.i _ at
+          (omega (arith, c.max-last.ensures))
+          (λ r i u k is. omega (arith, c.max-last.ensures, c.wanted.ensures.up_to r i u k is))
+          c.loop-i.invariant.0,
+      λ last up. omega (
+        arith,
+        c.max-last.ensures,
+        c.loop-i.invariant.1 last up,
+        c.wanted.ensures.least last (up c.loop-i.i _ at),
+      ),
+    )
 
 pub returns : goal.returns
-returns c = λ j e g.
-    c.loop-i.invariant j e
-    (omega (arith, slice_get_within c.args.events.now j e g, c.loop-i-test.false)) g
+returns c = record {
+  up_to = λ j e g.
+      c.loop-i.invariant.0 j e
+      (omega (arith, slice_get_within c.args.events.now j e g, c.loop-i-test.false)) g;
+  least = c.loop-i.invariant.1;
+}

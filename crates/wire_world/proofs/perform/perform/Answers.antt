@@ -31,4 +31,4 @@ pub run-requires-clause-wanted : goal.run-requires-clause-wanted
 run-requires-clause-wanted g c =
     rw c.as_mut_slice.ensures.value (λ i d l.
     subst (AreUpTo c.args.rehearsal.events.now) (sym (c.in_ok-stages.ensures.last i d l))
-    c.last_wanted-last.ensures)
+    c.last_wanted-last.ensures.up_to)
