@@ -42,7 +42,7 @@ TESTED = {
     "desk_tests::playback": Tested(("Playback::new",), EACH),
     "stream_tests::source": Tested(("Sender::open",), EACH),
     "desk_tests::desk": Tested(("Desk::open",), EACH),
-    "console_tests::world": Tested(("rehearse", "rehearse_briefly"), EACH),
+    "console_tests::world": Tested(("rehearse",), EACH),
     "show_tests::reader": Tested(
         ("read_show",), ("any_order", "lines_between", "skipped_lines")
     ),

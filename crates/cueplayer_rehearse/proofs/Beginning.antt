@@ -28,13 +28,14 @@ use Rattle.wire_world.specs.declared.setup.Setup.{Setup}
 use Rattle.sacn_receiver.specs.Shown.{shown_slots}
 use Rattle.wire_world.specs.Happened.{accepted_by}
 use Rattle.wire_world.specs.Replies.{done, last_moment}
+use Rattle.wire_world.specs.Promised.{IsPromised}
 use Rattle.wire_world.specs.Reported.{IsReportOf, Reported}
 use Rattle.wire_world.specs.Refusing.{Answers, are_consoles, are_receivers, has_base, has_show}
 use Rattle.wire_world.specs.Refusing.{setup_fault}
 use Rattle.wire_world.proofs.Refusals.{fine}
 use Rattle.cueplayer_faults.specs.Runs.{of_setup, of_show}
 use Rattle.cueplayer_rehearse.specs.Begins.{IsSetUp, Prevents, longest_script}
-use Rattle.cueplayer_rehearse.specs.Printed.{AreLines, AreLinesOf, world}
+use Rattle.cueplayer_rehearse.specs.Printed.{AreLinesOf, ArePromisedLines, world}
 use Rattle.cueplayer_rehearse.specs.Texts.{rehearsal_lines}
 
 -- ---- the show
@@ -162,13 +163,17 @@ refused X show script s p (Some first) fault read is answer =
 -- the lines of what was answered
 pub lines_of : (show script : List ℕ) (s : Tables) (p : Parts) (report : Reported)
     → IsRead show script s p → IsReportOf (world s p) p.events report
+    → IsPromised (world s p) p.events report
     → AreLinesOf show script (rehearsal_lines p.lines report.replies report.last)
 unfolding AreLinesOf
-lines_of show script s p report read came =
+lines_of show script s p report read came promised =
     let lines = rehearsal_lines p.lines report.replies report.last in
-    let known : AreLines s p lines = record { report = report; came = came; are = refl } in
-    of_its_show show (λ t. IsOkAnd (script_of script) (λ q. AreLines t q lines)) s read.show_is
-    (of_script script p (λ q. AreLines s q lines) read.script_is known)
+    let known : ArePromisedLines s p lines = record {
+      lines_are = record { report = report; came = came; are = refl };
+      promised = promised;
+    } in
+    of_its_show show (λ t. IsOkAnd (script_of script) (λ q. ArePromisedLines t q lines)) s
+    read.show_is (of_script script p (λ q. ArePromisedLines s q lines) read.script_is known)
 
 few : (n : ℕ) (b : Bool) → (nat_le n 8 && b) ≡ true → n ≤ 8
 few n b is = grind (arith, nat_tests)

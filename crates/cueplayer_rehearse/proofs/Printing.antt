@@ -15,8 +15,7 @@ use Rattle.std.proofs.lemmas.Slice.Zip.{Zip-more, either_empty_from_Zip}
 use Rattle.devices.specs.Tape.{Tape, with_more, with_failure}
 use Rattle.devices.proofs.Tapes.{with_more-none, with_more-twice}
 use Rattle.receiver_text.specs.Replies.{end_line}
-use Rattle.wire_world.specs.Brief.{reply_of}
-use Rattle.wire_world.specs.declared.brief.BriefReply.{BriefReply}
+use Rattle.wire_world.specs.declared.reply.Reply.{Reply}
 use Rattle.cueplayer_rehearse.specs.Printed.{PrintsLines}
 use Rattle.cueplayer_rehearse.specs.Texts.{event_line, event_lines}
 
@@ -80,32 +79,28 @@ printing_all lines rest tells before now so_far over telling =
 -- ---- the lines of events
 
 -- those that an iterator over their numbers and replies has not given yet
-abbrev pub lines_left : Zip (Iter ℕ) (Iter BriefReply) → List (List ℕ)
-lines_left it =
-    event_lines (iter_rest (zip_first it)) (map reply_of (iter_rest (zip_second it)))
+abbrev pub lines_left : Zip (Iter ℕ) (Iter Reply) → List (List ℕ)
+lines_left it = event_lines (iter_rest (zip_first it)) (iter_rest (zip_second it))
 
-pub next_line : (s t : Zip (Iter ℕ) (Iter BriefReply)) (r : Option (Bor ℕ × Bor BriefReply))
-    (p : Bor ℕ × Bor BriefReply) → r ≡ Some p → zips fronts fronts s r t
-    → lines_left s ≡ event_line (p.0.now, reply_of p.1.now) ∷ lines_left t
+pub next_line : (s t : Zip (Iter ℕ) (Iter Reply)) (r : Option (Bor ℕ × Bor Reply))
+    (p : Bor ℕ × Bor Reply) → r ≡ Some p → zips fronts fronts s r t
+    → lines_left s ≡ event_line (p.0.now, p.1.now) ∷ lines_left t
 next_line s t r p is step =
     let next = Zip-more s t r p is step in
-    ap (λ numbers. event_lines numbers (map reply_of (iter_rest (zip_second s)))) next.0
-    ∙ ap (λ replies. event_lines (p.0.now ∷ iter_rest (zip_first t)) (map reply_of replies))
-    next.1
+    ap (λ numbers. event_lines numbers (iter_rest (zip_second s))) next.0
+    ∙ ap (λ replies. event_lines (p.0.now ∷ iter_rest (zip_first t)) replies) next.1
 
 no_replies : (numbers : List ℕ) → event_lines numbers [] ≡ []
 no_replies [] = refl
 no_replies (number ∷ numbers) = refl
 
-pub no_line : (s t : Zip (Iter ℕ) (Iter BriefReply)) (r : Option (Bor ℕ × Bor BriefReply))
+pub no_line : (s t : Zip (Iter ℕ) (Iter Reply)) (r : Option (Bor ℕ × Bor Reply))
     → r ≡ None
     → zips fronts fronts s r t → lines_left s ≡ []
 no_line s t r is step =
     elim (either_empty_from_Zip s t r is step) [
-      | inl first ↦ ap (λ numbers. event_lines numbers (map reply_of (iter_rest (zip_second s))))
-          first
-      | inr second ↦ ap (λ replies. event_lines (iter_rest (zip_first s)) (map reply_of replies))
-          second
+      | inl first ↦ ap (λ numbers. event_lines numbers (iter_rest (zip_second s))) first
+      | inr second ↦ ap (event_lines (iter_rest (zip_first s))) second
           ∙ no_replies (iter_rest (zip_first s))
     ]
 

@@ -7,6 +7,7 @@ use Rattle.show_core.specs.Tables.{Tables}
 use Rattle.show_reader.specs.ItsShow.{OfItsShow}
 use Rattle.script_text.specs.Script.{Parts, script_of}
 use Rattle.wire_world.specs.World.{World}
+use Rattle.wire_world.specs.Promised.{IsPromised}
 use Rattle.wire_world.specs.Reported.{IsReportOf, Reported}
 use Rattle.wire_world.specs.Stands.{world_of}
 use Rattle.cueplayer_faults.specs.declared.fault.RunFault.{RunFault}
@@ -24,10 +25,16 @@ pub record AreLines (show : Tables) (script : Parts) (lines : List (List ℕ)) :
   pub came : IsReportOf (world show script) script.events report
   pub are : lines ≡ rehearsal_lines script.lines report.replies report.last
 
--- the lines of a rehearsal of the script that a text means, over the show that a text means
+-- and of whose replies and slots the promise holds: the headline, the window law, the merge law,
+-- and that consoles are independent
+pub record ArePromisedLines (show : Tables) (script : Parts) (lines : List (List ℕ)) : Type 0 where
+  pub lines_are : AreLines show script lines
+  pub promised : IsPromised (world show script) script.events lines_are.report
+
+-- such lines of the script that a text means, over the show that a text means
 unfoldable pub AreLinesOf : List ℕ → List ℕ → List (List ℕ) → Type 0
 AreLinesOf show script lines =
-    OfItsShow show (λ s. IsOkAnd (script_of script) (λ p. AreLines s p lines))
+    OfItsShow show (λ s. IsOkAnd (script_of script) (λ p. ArePromisedLines s p lines))
 
 -- the output took some of the lines, from the first on, and then one write failed
 pub record StopsWithin (lines : List (List ℕ)) (before after : Tape ℕ) : Type 0 where

@@ -1,5 +1,4 @@
-ghost use Rattle.std.specs.Prelude.{◌≤◌, length, map};
-ghost use Rattle.wire_world.specs.Brief.{reply_of};
+ghost use Rattle.std.specs.Prelude.{◌≤◌, length};
 ghost use Rattle.cueplayer_rehearse.specs.Texts.{end_lines, event_lines, rehearsal_lines};
 ghost use Rattle.cueplayer_rehearse.specs.Printed.{PrintsLines};
 
@@ -7,12 +6,12 @@ use crate::reply::print_reply;
 use devices::{LinkFault, Output};
 use receiver_text::end_line;
 use sacn_packet::Slots;
-use wire_world::{BriefReply, BriefReport};
+use wire_world::{Reply, Report};
 
 // Prints what came of a script, line by line.
 pub(crate) fn print_lines<W: Output>(
     numbers: &[u32],
-    report: &BriefReport,
+    report: &Report,
     out: &mut W,
 ) -> Result<(), LinkFault>
     requires { length report.now.last ≤ 8 }
@@ -28,12 +27,12 @@ pub(crate) fn print_lines<W: Output>(
 // Prints the replies to the events, each behind the number of its line.
 fn print_replies<W: Output>(
     numbers: &[u32],
-    replies: &[BriefReply],
+    replies: &[Reply],
     out: &mut W,
 ) -> Result<(), LinkFault>
     ensures told { W.tells out.new → W.tells out.old }
     ensures lines { W.tells out.new
-        → PrintsLines result (event_lines numbers.now (map reply_of replies.now))
+        → PrintsLines result (event_lines numbers.now replies.now)
         (W.tape out.old) (W.tape out.new) }
 {
     for (number, reply) in numbers.iter().zip(replies) {

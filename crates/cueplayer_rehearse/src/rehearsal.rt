@@ -8,14 +8,14 @@ use cueplayer_faults::RunFault;
 use fade_core::Fader;
 use show_reader::read_show;
 use std::alloc::Global;
-use wire_world::{BriefReport, Rehearsal, rehearse_briefly};
+use wire_world::{Rehearsal, Report, rehearse};
 
 // What came of a script.
 #[derive(Debug, Drop)]
 pub(crate) struct Rehearsed {
     // Of each event the number of its line.
     pub numbers: Vec<u32>,
-    pub report: BriefReport,
+    pub report: Report,
 }
 
 // Rehearses a script over a show.
@@ -40,7 +40,7 @@ pub(crate) fn rehearse_script<F: Fader>(
         events: script.events.as_slice(),
         strays: script.strays.as_slice(),
     };
-    let report = rehearse_briefly::<F>(alloc, rehearsal)?;
+    let report = rehearse::<F>(alloc, rehearsal)?;
     Ok(Rehearsed {
         numbers: script.lines,
         report,

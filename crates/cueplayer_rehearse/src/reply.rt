@@ -1,7 +1,6 @@
 ghost use Rattle.std.specs.Prelude.{◌≡◌, ◌≤◌, length};
 ghost use Rattle.console_text.specs.Texts.{done_text, numbered, refused_text, ticked_text};
 ghost use Rattle.receiver_text.specs.Replies.{reply_text as datagram_text, slots_text};
-ghost use Rattle.wire_world.specs.Brief.{reply_of};
 ghost use Rattle.cueplayer_rehearse.specs.Printed.{PrintsLine};
 ghost use Rattle.cueplayer_rehearse.specs.Texts.{event_line, skip_name, skipped_text};
 
@@ -12,27 +11,25 @@ use devices::{LinkFault, Output};
 use receiver_text::{SlotsLine, reply_line, write_numbered_slots};
 use sacn_packet::Slots;
 use sacn_receiver::{Ignored, Taken};
-use wire_world::{BriefReply, Skip};
+use wire_world::{Reply, Skip};
 
 // Prints the reply to an event by one write, behind the number of the event's line.
 pub(crate) fn print_reply<W: Output>(
     number: u32,
-    reply: &BriefReply,
+    reply: &Reply,
     out: &mut W,
 ) -> Result<(), LinkFault>
-    ensures { PrintsLine W.tells W.tape result (event_line (number, reply_of reply.now))
-        out.old out.new }
+    ensures { PrintsLine W.tells W.tape result (event_line (number, reply.now)) out.old out.new }
 {
     let number = u64::from(number);
     match reply {
-        BriefReply::Done => print_done(number, out),
-        BriefReply::Refused(refused) => print_refused(number, *refused, out),
-        BriefReply::Ticked(ticked, offers) => print_ticked(number, *ticked, offers, out),
-        BriefReply::TickedFew(ticked, few) => print_ticked(number, *ticked, &few.offers(), out),
-        BriefReply::Taken(taken) => print_taken(number, Ok(*taken), out),
-        BriefReply::Ignored(reason) => print_taken(number, Err(*reason), out),
-        BriefReply::Shown(slots) => print_slots(number, slots, out),
-        BriefReply::Skipped(skip) => print_skipped(number, *skip, out),
+        Reply::Done => print_done(number, out),
+        Reply::Refused(refused) => print_refused(number, *refused, out),
+        Reply::Ticked(ticked, offers) => print_ticked(number, *ticked, &offers.offers(), out),
+        Reply::Taken(taken) => print_taken(number, Ok(*taken), out),
+        Reply::Ignored(reason) => print_taken(number, Err(*reason), out),
+        Reply::Shown(shown) => print_slots(number, shown.slots(), out),
+        Reply::Skipped(skip) => print_skipped(number, *skip, out),
     }
 }
 

@@ -5,11 +5,12 @@ pub mod Replies
 pub mod Delivery
 pub mod Laws
 pub mod Shows
+pub mod Promised
 pub mod Sends
 pub mod Shelves
 pub mod StageStands
 pub mod Stands
 pub mod Wanted
 pub mod Reported
-pub mod Brief
+pub mod Room
 pub mod Refusing

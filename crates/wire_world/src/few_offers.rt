@@ -1,10 +1,11 @@
 ghost use Rattle.std.specs.Prelude.{◌≡◌, ◌≤◌, ◌↔◌, IfSome, IsSome, length};
 
 use crate::Offers;
+use crate::tick_offers::offers_in;
 use sacn_source::Offered;
 use std::marker::Model;
 
-/// The offers of a tick of at most four universes, in little room.
+// The offers of a tick of at most four universes.
 #[derive(Debug, Drop)]
 pub struct FewOffers {
     pairs: [(u16, Offered); 4],
@@ -42,14 +43,10 @@ impl FewOffers {
         })
     }
 
-    /// The offers themselves.
-    pub fn offers(&self) -> Offers
+    // The offers themselves.
+    pub(crate) fn offers(&self) -> Offers
         ensures { result ≡ self.now }
     {
-        let mut offers = Offers::new();
-        for (universe, offered) in &self.pairs[..usize::from(self.count)] {
-            offers.push(*universe, *offered);
-        }
-        offers
+        offers_in(&self.pairs[..usize::from(self.count)])
     }
 }

@@ -1,4 +1,3 @@
-ghost use Rattle.wire_world.specs.Brief.{reply_of};
 ghost use Rattle.wire_world.specs.StageStands.{StageStands, Tells};
 ghost use Rattle.std.specs.Prelude.{◌≡◌, ℕ, List, length, IfOk, OnOk};
 ghost use Rattle.std.specs.Option.{option_map_or};
@@ -10,10 +9,9 @@ ghost use Rattle.wire_world.specs.Stands.{AllStand, AllHear, AllTell, AllBy, IsW
 ghost use Rattle.wire_world.specs.Stands.{unless_skipped};
 ghost use Rattle.wire_world.specs.Wanted.{Holds, span_at};
 
-use crate::What;
-use crate::brief::BriefReply;
 use crate::stage::Stage;
 use crate::steps::{deliver_at, hear_at, order_at, show_at, tick_at};
+use crate::{Reply, What};
 use fade_core::Fader;
 use sacn_receiver::Receiver;
 use std::alloc::{AllocError, Global};
@@ -26,7 +24,7 @@ pub(crate) fn happen<F: Fader>(
     strays: &[u8],
     moment: u64,
     what: What,
-) -> Result<BriefReply, AllocError>
+) -> Result<Reply, AllocError>
     requires real { (w : World) × (past : List EventData)
         × AllStand (StageStands F.stands_for) stages.old w past }
     requires early { AllBy receivers.old moment }
@@ -37,7 +35,7 @@ pub(crate) fn happen<F: Fader>(
     ensures reply { IfOk result (λ r. (w : World) (past : List EventData)
         → w.strays ≡ strays.now → AllStand (StageStands F.stands_for) stages.old w past
         → AllTell Tells stages.old → AllHear receivers.old w past
-        → reply_of r ≡ option_map_or reply.Skipped (missing w past what)
+        → r ≡ option_map_or reply.Skipped (missing w past what)
         (replied w past moment what)) }
     ensures stands { OnOk result ((w : World) (past : List EventData)
         → AllStand (StageStands F.stands_for) stages.old w past

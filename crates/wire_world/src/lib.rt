@@ -9,13 +9,19 @@
 //! ```
 //! let setup = Setup { show: 0, base: 1, identity };
 //! let events = [Event { moment: 0, what: What::Tick(0) }];
-//! let report = rehearse::<StepFader>(rt.alloc(), &[show], &[setup], &[1], &events, &[])?;
-//! // report.replies has one reply for each event; report.last each receiver's slots at the end.
+//! let rehearsal = Rehearsal {
+//!     shows: &[show],
+//!     consoles: &[setup],
+//!     receivers: &[1],
+//!     events: &events,
+//!     strays: &[],
+//! };
+//! let report = rehearse::<StepFader>(rt.alloc(), rehearsal)?;
+//! // report.replies has the reply to each event; report.last each receiver's slots at the end.
 //! ```
 #![tactic(auto)]
 
 mod answers;
-mod brief;
 mod event;
 mod few_offers;
 mod happen;
@@ -36,16 +42,18 @@ mod setup;
 mod shelf;
 mod shelves;
 mod showing;
+mod shown_slots;
 mod stage;
 mod step;
 mod steps;
+mod tick_offers;
 
-pub use brief::BriefReply;
 pub use console::Offers;
 pub use event::{Event, What};
-pub use few_offers::FewOffers;
-pub use rehearsal::{Rehearsal, rehearse, rehearse_briefly};
+pub use rehearsal::{Rehearsal, rehearse};
 pub use reply::{Reply, Skip};
-pub use report::{BriefReport, Report};
+pub use report::Report;
 pub use setup::Setup;
+pub use shown_slots::ShownSlots;
+pub use tick_offers::TickOffers;
 pub use wire_faults::Fault;

@@ -2,13 +2,12 @@ ghost use Rattle.std.specs.Prelude.{◌<◌, ◌≤◌, length, IfOk, All};
 ghost use Rattle.wire_world.specs.Reported.{IsReportOf};
 ghost use Rattle.wire_world.specs.Stands.{AreSources, IsWithin, world_in};
 
-use crate::Rehearsal;
 use crate::listening::listen_all;
 use crate::lows::last_wanted;
 use crate::opening::open_all;
 use crate::replay::run;
-use crate::report::BriefReport;
 use crate::stage::Stage;
+use crate::{Rehearsal, Report};
 use fade_core::Fader;
 use std::alloc::{AllocError, Global};
 
@@ -16,7 +15,7 @@ use std::alloc::{AllocError, Global};
 pub(crate) fn perform<F: Fader>(
     alloc: Global,
     rehearsal: Rehearsal<'_>,
-) -> Result<BriefReport, AllocError>
+) -> Result<Report, AllocError>
     requires shows { All (λ s. s.show < length rehearsal.shows.now) rehearsal.consoles.now }
     requires universes { All (λ u. (1 ≤ u) × (u ≤ 63999)) rehearsal.receivers.now }
     requires within { All (λ e. IsWithin (length rehearsal.strays.now) e.what)

@@ -5,13 +5,12 @@ ghost use Rattle.wire_world.specs.StageStands.{StageStands, Tells};
 ghost use Rattle.wire_world.specs.Stands.{AllAre, IsWithin};
 ghost use Rattle.wire_world.specs.Wanted.{AreUpTo};
 
-use crate::Event;
 use crate::lows::lows;
 use crate::releasing::release;
-use crate::report::BriefReport;
 use crate::showing::show_all;
 use crate::stage::Stage;
 use crate::step::step;
+use crate::{Event, Report};
 use fade_core::Fader;
 use sacn_receiver::Receiver;
 use std::alloc::{AllocError, Global};
@@ -23,7 +22,7 @@ pub(crate) fn run<F: Fader>(
     receivers: &mut [Receiver],
     strays: &[u8],
     events: &[Event],
-) -> Result<BriefReport, AllocError>
+) -> Result<Report, AllocError>
     requires within { All (λ e. IsWithin (length strays.now) e.what) events.now }
     requires wanted { All (λ stage. AreUpTo events.now stage.last) stages.old }
     requires begun { (w : World) × (w.strays ≡ strays.now)
@@ -42,5 +41,5 @@ pub(crate) fn run<F: Fader>(
         replies.push(reply)?;
     }
     let last = show_all(alloc, receivers, last)?;
-    Ok(BriefReport { replies, last })
+    Ok(Report { replies, last })
 }

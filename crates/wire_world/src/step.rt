@@ -1,4 +1,3 @@
-ghost use Rattle.wire_world.specs.Brief.{reply_of};
 ghost use Rattle.wire_world.specs.StageStands.{StageStands, Tells};
 ghost use Rattle.std.specs.Prelude.{◌≡◌, ℕ, List, length, IfOk, OnOk, if◌then◌else◌};
 ghost use Rattle.wire_world.specs.declared.event.Event.{Event as EventData};
@@ -7,20 +6,19 @@ ghost use Rattle.wire_world.specs.Replies.{last_moment};
 ghost use Rattle.wire_world.specs.Stands.{AllAre, AllStand, AllBy, IsStep, IsWithin, is_skip};
 ghost use Rattle.wire_world.specs.Wanted.{Holds, span_at};
 
-use crate::brief::BriefReply;
 use crate::happen::happen;
 use crate::stage::Stage;
-use crate::{Event, Skip};
+use crate::{Event, Reply, Skip};
 use desk_core::MOMENTS;
 use fade_core::Fader;
 use sacn_receiver::Receiver;
 use std::alloc::{AllocError, Global};
 
-fn later(last: u64, moment: u64, reply: &BriefReply) -> u64
-    ensures { result ≡ (if is_skip (reply_of reply.now) then last else moment) }
+fn later(last: u64, moment: u64, reply: &Reply) -> u64
+    ensures { result ≡ (if is_skip reply.now then last else moment) }
 {
     match reply {
-        BriefReply::Skipped(_) => last,
+        Reply::Skipped(_) => last,
         _ => moment,
     }
 }
@@ -33,7 +31,7 @@ pub(crate) fn step<F: Fader>(
     strays: &[u8],
     last: &mut u64,
     event: &Event,
-) -> Result<BriefReply, AllocError>
+) -> Result<Reply, AllocError>
     requires real { (w : World) × (past : List EventData)
         × AllStand (StageStands F.stands_for) stages.old w past }
     requires early { AllBy receivers.old last.old }
@@ -43,15 +41,15 @@ pub(crate) fn step<F: Fader>(
     ensures step { IfOk result (λ r. (w : World) (past : List EventData) → w.strays ≡ strays.now
         → last.old ≡ last_moment past
         → AllAre (StageStands F.stands_for) Tells stages.old receivers.old w past
-        → IsStep (StageStands F.stands_for) Tells stages.new receivers.new last.new (reply_of r)
+        → IsStep (StageStands F.stands_for) Tells stages.new receivers.new last.new r
         w past
         event.now) }
 {
     if event.moment < *last {
-        return Ok(BriefReply::Skipped(Skip::Backwards));
+        return Ok(Reply::Skipped(Skip::Backwards));
     }
     if event.moment >= MOMENTS {
-        return Ok(BriefReply::Skipped(Skip::TooLarge));
+        return Ok(Reply::Skipped(Skip::TooLarge));
     }
     let reply = happen(alloc, stages, receivers, strays, event.moment, event.what)?;
     *last = later(*last, event.moment, &reply);

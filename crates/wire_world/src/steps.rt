@@ -1,4 +1,3 @@
-ghost use Rattle.wire_world.specs.Brief.{reply_of};
 ghost use Rattle.wire_world.specs.StageStands.{StageStands, Tells};
 ghost use Rattle.std.specs.Prelude.{◌≡◌, ◌==◌, ℕ, List, IfOk, OnOk};
 ghost use Rattle.std.specs.Prelude.{if◌then◌else◌, Some, None};
@@ -12,10 +11,10 @@ ghost use Rattle.wire_world.specs.Replies.{missing, no_receiver_at, replied, tak
 ghost use Rattle.wire_world.specs.Stands.{AllStand, AllHear, AllTell, AllBy, unless_skipped};
 ghost use Rattle.wire_world.specs.Wanted.{Holds, span_at};
 
-use crate::Skip;
 use crate::answers::{ordered, taken, ticked};
-use crate::brief::BriefReply;
+use crate::shown_slots::ShownSlots;
 use crate::stage::Stage;
+use crate::{Reply, Skip};
 use desk_core::Command;
 use fade_core::Fader;
 use sacn_receiver::Receiver;
@@ -26,12 +25,12 @@ pub(crate) fn order_at<F: Fader>(
     console: u16,
     moment: u64,
     command: Command,
-) -> BriefReply
+) -> Reply
     ensures tell { AllTell Tells stages.old → AllTell Tells stages.new }
     ensures spans { (i u : ℕ) → span_at stages.new i u ≡ span_at stages.old i u }
     ensures reply { (w : World) (past : List EventData) → AllStand
         (StageStands F.stands_for) stages.old w past
-        → reply_of result ≡ option_map_or reply.Skipped (missing w past (Order console command))
+        → result ≡ option_map_or reply.Skipped (missing w past (Order console command))
         (replied w past moment (Order console command)) }
     ensures stands { (w : World) (past : List EventData) → AllStand
         (StageStands F.stands_for) stages.old w past
@@ -40,7 +39,7 @@ pub(crate) fn order_at<F: Fader>(
 {
     let i = usize::from(console);
     if i >= stages.len() {
-        return BriefReply::Skipped(Skip::NoConsole);
+        return Reply::Skipped(Skip::NoConsole);
     }
     ordered(stages[i].order(moment, command))
 }
@@ -50,14 +49,14 @@ pub(crate) fn tick_at<F: Fader>(
     stages: &mut [Stage<F>],
     console: u16,
     moment: u64,
-) -> Result<BriefReply, AllocError>
+) -> Result<Reply, AllocError>
     requires real { (w : World) × (past : List EventData)
         × AllStand (StageStands F.stands_for) stages.old w past }
     ensures tell { OnOk result (AllTell Tells stages.old → AllTell Tells stages.new) }
     ensures spans { OnOk result ((i u : ℕ) → span_at stages.new i u ≡ span_at stages.old i u) }
     ensures reply { IfOk result (λ r. (w : World) (past : List EventData)
         → AllStand (StageStands F.stands_for) stages.old w past
-        → reply_of r ≡ option_map_or reply.Skipped (missing w past (Tick console))
+        → r ≡ option_map_or reply.Skipped (missing w past (Tick console))
         (replied w past moment (Tick console))) }
     ensures stands { OnOk result ((w : World) (past : List EventData)
         → AllStand (StageStands F.stands_for) stages.old w past
@@ -66,7 +65,7 @@ pub(crate) fn tick_at<F: Fader>(
 {
     let i = usize::from(console);
     if i >= stages.len() {
-        return Ok(BriefReply::Skipped(Skip::NoConsole));
+        return Ok(Reply::Skipped(Skip::NoConsole));
     }
     let stage = &mut stages[i];
     let answer = stage.tick(alloc, moment);
@@ -82,9 +81,9 @@ pub(crate) fn hear_at(
     receiver: u16,
     moment: u64,
     datagram: &[u8],
-) -> BriefReply
+) -> Reply
     ensures reply { (w : World) (past : List EventData) → AllHear receivers.old w past
-        → reply_of result ≡ option_map_or reply.Skipped (no_receiver_at w receiver)
+        → result ≡ option_map_or reply.Skipped (no_receiver_at w receiver)
         (taken_by w receiver past moment datagram.now) }
     ensures hear { (w : World) (past : List EventData) (e : EventData)
         → AllHear receivers.old w past → e.moment ≡ moment
@@ -93,7 +92,7 @@ pub(crate) fn hear_at(
 {
     let r = usize::from(receiver);
     if r >= receivers.len() {
-        return BriefReply::Skipped(Skip::NoReceiver);
+        return Reply::Skipped(Skip::NoReceiver);
     }
     taken(receivers[r].take(moment, datagram))
 }
@@ -105,20 +104,20 @@ pub(crate) fn show_at(
     receivers: &[Receiver],
     receiver: u16,
     moment: u64,
-) -> Result<BriefReply, AllocError>
+) -> Result<Reply, AllocError>
     requires { AllBy receivers.now moment }
     ensures { IfOk result (λ r. (w : World) (past : List EventData) → AllHear receivers.now w past
-        → reply_of r ≡ option_map_or reply.Skipped (missing w past (Show receiver))
+        → r ≡ option_map_or reply.Skipped (missing w past (Show receiver))
         (replied w past moment (Show receiver))) }
 {
     let r = usize::from(receiver);
     if r >= receivers.len() {
-        return Ok(BriefReply::Skipped(Skip::NoReceiver));
+        return Ok(Reply::Skipped(Skip::NoReceiver));
     }
     let mut slots = [0; 512];
     receivers[r].slots(moment, &mut slots);
-    let slots = Box::new(alloc, slots)?;
-    Ok(BriefReply::Shown(slots))
+    let slots = ShownSlots::new(alloc, slots)?;
+    Ok(Reply::Shown(slots))
 }
 
 // A packet of a console reaches a receiver.
@@ -130,12 +129,12 @@ pub(crate) fn deliver_at<F: Fader>(
     universe: u16,
     k: u64,
     moment: u64,
-) -> BriefReply
+) -> Reply
     requires { Holds stages.now (Deliver receiver console universe k) }
     ensures reply { (w : World) (past : List EventData) → AllStand
         (StageStands F.stands_for) stages.now w past → AllTell Tells stages.now
         → AllHear receivers.old w past
-        → reply_of result ≡ option_map_or reply.Skipped (missing w past
+        → result ≡ option_map_or reply.Skipped (missing w past
         (Deliver receiver console universe k)) (replied w past moment
         (Deliver receiver console universe k)) }
     ensures hear { (w : World) (past : List EventData) → AllStand
@@ -147,13 +146,13 @@ pub(crate) fn deliver_at<F: Fader>(
 {
     let i = usize::from(console);
     if i >= stages.len() {
-        return BriefReply::Skipped(Skip::NoConsole);
+        return Reply::Skipped(Skip::NoConsole);
     }
     if usize::from(receiver) >= receivers.len() {
-        return BriefReply::Skipped(Skip::NoReceiver);
+        return Reply::Skipped(Skip::NoReceiver);
     }
     match stages[i].datagram(universe, k) {
-        None => BriefReply::Skipped(Skip::NotSent),
+        None => Reply::Skipped(Skip::NotSent),
         Some(bytes) => hear_at(receivers, receiver, moment, bytes),
     }
 }

@@ -12,7 +12,7 @@ use show_core::{BuildFault, Rate, Show};
 use std::alloc::{AllocError, Global};
 use std::process::Abort;
 use std::test::Fail;
-use wire_world::{Event, Fault, Offers, Reply, Report, Setup, Skip, What, laws, rehearse};
+use wire_world::{Event, Fault, Offers, Rehearsal, Reply, Report, Setup, Skip, What, laws, rehearse};
 
 // Adds a cue with one channel at full.
 fn add_cue(rt: &impl Abort, show: &mut Show, n: u32, channel: u16) -> Result<(), BuildFault> {
@@ -109,12 +109,14 @@ fn is_told(reply: &Reply, told: Told) -> bool {
     match (reply, told) {
         (Reply::Done, Told::Done) => true,
         (Reply::Refused(refused), Told::Refused(wanted)) => *refused == wanted,
-        (Reply::Ticked(Ticked::Live, offers), Told::Live(number)) => has_sent(offers, number),
+        (Reply::Ticked(Ticked::Live, offers), Told::Live(number)) => {
+            has_sent(&offers.offers(), number)
+        }
         (Reply::Taken(taken), Told::Taken(number)) => {
             taken.sequence == number && !taken.terminated
         }
         (Reply::Ignored(ignored), Told::Ignored(wanted)) => *ignored == wanted,
-        (Reply::Shown(slots), Told::Shown(first)) => shows(slots, first),
+        (Reply::Shown(shown), Told::Shown(first)) => shows(shown.slots(), first),
         (Reply::Skipped(skip), Told::Skipped(wanted)) => *skip == wanted,
         _ => false,
     }
@@ -136,14 +138,32 @@ fn are_within(events: &[Event], size: usize) -> bool
 }
 
 // A rehearsal with one console and one receiver, of universe 1.
+fn rehearsed_by(
+    rt: &impl Abort,
+    alloc: Global,
+    shows: &[Show],
+    console: Setup,
+    events: &[Event],
+) -> Result<Report, Fault> {
+    assert!(rt; are_within(events, 0));
+    let rehearsal = Rehearsal {
+        shows,
+        consoles: &[console],
+        receivers: &[1],
+        events,
+        strays: &[],
+    };
+    rehearse::<PlainFader>(alloc, rehearsal)
+}
+
+// Of a console of the first show.
 fn rehearsed(
     rt: &impl Abort,
     alloc: Global,
     shows: &[Show],
     events: &[Event],
 ) -> Result<Report, Fault> {
-    assert!(rt; are_within(events, 0));
-    rehearse::<PlainFader>(alloc, shows, &[console(rt)], &[1], events, &[])
+    rehearsed_by(rt, alloc, shows, console(rt), events)
 }
 
 const GO: What = What::Order(0, Command::Go);
@@ -275,6 +295,94 @@ fn sizes_at_last(rt: &impl Abort, alloc: Global) -> Result<(usize, usize), Fail>
 #[test]
 fn each_growth_refused(rt: HostRuntime) -> Result<(), Fail> {
     assert!(rt; sizes_at_last(&rt, rt.alloc())? == (2, 1));
+    Ok(())
+}
+
+// Submaster 1 moves at each of 420 ticks, by whole percentages.
+fn push_moves(events: &mut Vec<Event>) -> Result<(), AllocError> {
+    for i in 0..420u64 {
+        let byte = ((i % 90 * 255 + 50) / 100) as u8;
+        let moves = What::Order(0, Command::Sub(1, byte));
+        for what in [moves, TICK] {
+            events.push(Event {
+                moment: 25 * i,
+                what,
+            })?;
+        }
+    }
+    Ok(())
+}
+
+// Twenty packets come, the newest first, and then the slots are asked for.
+fn push_group(events: &mut Vec<Event>, newest: u64) -> Result<(), AllocError> {
+    for behind in 0..20u64 {
+        let what = What::Deliver {
+            receiver: 0,
+            console: 0,
+            universe: 1,
+            k: newest.saturating_sub(behind),
+        };
+        events.push(Event {
+            moment: 10_475,
+            what,
+        })?;
+    }
+    events.push(Event {
+        moment: 10_475,
+        what: SHOW,
+    })?;
+    Ok(())
+}
+
+// The newest packet of a group is taken, the others come too late, and slot 1 is so.
+fn is_group(replies: &[Reply], number: u8, first: u8) -> bool {
+    let Some((newest, older)) = replies.split_first() else {
+        return false;
+    };
+    let Some((shown, late)) = older.split_last() else {
+        return false;
+    };
+    is_told(newest, Told::Taken(number))
+        && late
+            .iter()
+            .all(|reply| is_told(reply, Told::Ignored(Ignored::OutOfSequence)))
+        && is_told(shown, Told::Shown(first))
+}
+
+// Of each group the newest packet, its sequence number, and slot 1.
+const GROUPS: [(u64, u8, u8); 3] = [(19, 19, 24), (219, 219, 50), (419, 163, 75)];
+
+fn wrap_events(alloc: Global) -> Result<Vec<Event>, AllocError> {
+    let mut events = Vec::new(alloc);
+    push_moves(&mut events)?;
+    for (newest, _, _) in GROUPS {
+        push_group(&mut events, newest)?;
+    }
+    Ok(events)
+}
+
+#[test]
+fn window_wrap(rt: HostRuntime) -> Result<(), Fail> {
+    let shows = [small_show(&rt, rt.alloc())?];
+    let events = wrap_events(rt.alloc())?;
+    let report = rehearsed(&rt, rt.alloc(), &shows, events.as_slice())?;
+    let replies = report.replies.as_slice();
+    assert!(rt; replies.len() == 903);
+    for (place, (_, number, first)) in GROUPS.iter().enumerate() {
+        let group = &replies[840 + 21 * place..861 + 21 * place];
+        assert!(rt; is_group(group, *number, *first), "{number}");
+    }
+    Ok(())
+}
+
+// A setup names the second of one show.
+#[test]
+fn show_not_there(rt: HostRuntime) -> Result<(), Fail> {
+    let shows = [show_at_last(&rt, rt.alloc())?];
+    let mut other = console(&rt);
+    other.show = 1;
+    let answer = rehearsed_by(&rt, rt.alloc(), &shows, other, SHORT);
+    assert!(rt; matches!(answer, Err(Fault::NoShow)));
     Ok(())
 }
 

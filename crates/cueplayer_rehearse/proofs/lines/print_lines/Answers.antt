@@ -1,5 +1,4 @@
-use Rattle.std.proofs.Common.{◌≡◌, ap, map, subst, ◌∙◌, List, ◌++◌, ℕ}
-use Rattle.wire_world.specs.Brief.{reply_of}
+use Rattle.std.proofs.Common.{◌≡◌, ap, subst, ◌∙◌, List, ◌++◌, ℕ}
 use Rattle.cueplayer_rehearse.specs.Printed.{PrintsLines}
 use Rattle.cueplayer_rehearse.specs.Texts.{end_lines, event_lines, rehearsal_lines}
 use Rattle.cueplayer_rehearse.proofs.Printing.{printed_both}
@@ -9,10 +8,9 @@ pub returns-clause-lines : goal.returns-clause-lines
 returns-clause-lines g c = λ tells.
     let numbers = c.args.numbers.now in
     let report = c.args.report.now in
-    let replies = ap (map reply_of) c.as_slice.ensures.value
-    ∙ ap (λ r. r.replies) c.report.view_is in
+    let replies = c.as_slice.ensures.value ∙ ap (λ r. r.replies) c.report.view_is in
     let last = c.as_slice-2.ensures.value ∙ ap (λ r. r.last) c.report.view_is in
-    let lines : event_lines numbers (map reply_of c.as_slice.result.now)
+    let lines : event_lines numbers c.as_slice.result.now
     ++ end_lines c.as_slice-2.result.now
     ≡ rehearsal_lines numbers report.replies report.last =
     ap (λ rs. event_lines numbers rs ++ end_lines c.as_slice-2.result.now) replies

@@ -1,7 +1,6 @@
-use Rattle.std.proofs.Common.{◌≡◌, ap, map, sym, ◌∙◌}
+use Rattle.std.proofs.Common.{◌≡◌, ap, sym, ◌∙◌}
 use Rattle.std.specs.Iterator.Adapters.{zip_first, zip_second}
 use Rattle.std.specs.Slice.Iter.{iter_rest}
-use Rattle.wire_world.specs.Brief.{reply_of}
 use Rattle.cueplayer_rehearse.specs.Texts.{event_lines}
 use Rattle.cueplayer_rehearse.proofs.Printing.{lines_left, next_line, no_line, printing_all}
 use Rattle.cueplayer_rehearse.proofs.Printing.{printing_more, printing_none, printing_stops}
@@ -14,10 +13,9 @@ loop-number-init g c =
     ap iter_rest c.zip-number-items.ensures.first ∙ c.iter.ensures.rest in
     let replies : iter_rest (zip_second it) ≡ c.args.replies.now =
     c.zip-number-items.ensures.second.0 in
-    let all : lines_left it ≡ event_lines c.args.numbers.now
-    (map reply_of c.args.replies.now) =
-    ap (λ ns. event_lines ns (map reply_of (iter_rest (zip_second it)))) numbers
-    ∙ ap (λ rs. event_lines c.args.numbers.now (map reply_of rs)) replies in
+    let all : lines_left it ≡ event_lines c.args.numbers.now c.args.replies.now =
+    ap (λ ns. event_lines ns (iter_rest (zip_second it))) numbers
+    ∙ ap (event_lines c.args.numbers.now) replies in
     record {
       told = λ tells. tells;
       printing = printing_none _ _ _ _

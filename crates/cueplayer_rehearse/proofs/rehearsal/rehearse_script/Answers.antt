@@ -2,7 +2,9 @@ use Rattle.std.proofs.Common.{◌≡◌, ◌∷◌, [], Result, Ok, Err, IsErrAn
 use Rattle.std.proofs.Common.{refl, ap, sym, subst, ◌∙◌}
 use Rattle.script_text.specs.Script.{Parts, parts}
 use Rattle.wire_world.specs.Refusing.{setup_fault}
-use Rattle.wire_world.specs.Reported.{Reported}
+use Rattle.wire_world.specs.Promised.{IsPromised}
+use Rattle.wire_world.specs.Reported.{IsReportOf, Reported}
+use Rattle.cueplayer_rehearse.specs.Printed.{world}
 use Rattle.cueplayer_faults.specs.declared.fault.RunFault.{RunFault}
 use Rattle.wire_world.proofs.Refusals.{no_fault}
 use Rattle.cueplayer_rehearse.proofs.Beginning.{few_receivers, is_read, lines_of, refused}
@@ -47,12 +49,20 @@ returns g c =
     let read = is_read c.in_ok-loaded.ensures.faultless c.in_ok-script.ensures.short
     c.in_ok-loaded.ensures.show (c.in_ok-script.ensures.script ∙ ap Ok same) in
     let report = c.in_ok-report.report in
-    let none = no_fault (setup_fault (s ∷ []) p.consoles p.receivers) report
-    c.in_ok-report.ensures.faults in
+    let ensures = c.in_ok-report.ensures in
+    let none = no_fault (setup_fault (s ∷ []) p.consoles p.receivers) report ensures.faults in
+    let came : IsReportOf (world s p) p.events report =
+    record { replies = ensures.replies; last = ensures.last } in
+    let promised : IsPromised (world s p) p.events report = record {
+      headline = ensures.headline;
+      unpatched = ensures.unpatched;
+      window_law = ensures.window_law;
+      merge_law = ensures.merge_law;
+      independent = ensures.independent;
+    } in
     record {
       set_up = set_up c.args.show.now c.args.script.now s p _ read none;
-      lines = lines_of c.args.show.now c.args.script.now s p report read
-          c.in_ok-report.ensures.report;
-      few = few_receivers s p report none c.in_ok-report.ensures.report;
+      lines = lines_of c.args.show.now c.args.script.now s p report read came promised;
+      few = few_receivers s p report none came;
       fault = tt;
     }

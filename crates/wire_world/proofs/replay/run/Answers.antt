@@ -6,10 +6,9 @@ use Rattle.wire_world.specs.Replies.{done, last_slots}
 use Rattle.desk_core.specs.declared.command.Command.TheVariants.{Go}
 use Rattle.wire_world.specs.declared.event.Event.{Event}
 use Rattle.wire_world.specs.declared.event.What.TheVariants.{Order}
-use Rattle.std.proofs.lemmas.List.{get_or_default, map_push, take_all}
+use Rattle.std.proofs.lemmas.List.{get_or_default, take_all}
 use Rattle.wire_world.proofs.Events.{early, replayed_more}
 use Rattle.wire_world.proofs.Wants.{hold_first, hold_next}
-use Rattle.wire_world.specs.Brief.{reply_of}
 use Rattle.wire_world.proofs.replay.run.Goals as goal
 
 pub step-requires-clause-early : goal.step-requires-clause-early
@@ -45,10 +44,7 @@ loop-i-preserved g c = (
       let all = c.loop-i.invariant.1 w same are in
       let s = c.in_ok-reply.ensures.step w (done w (take c.loop-i.i c.args.events.now)) same
       all.last_is all.are in
-      rw (
-        c.in_ok-push.ensures.items,
-        map_push reply_of c.loop-i.replies.items c.in_ok-reply.reply,
-      )
+      rw c.in_ok-push.ensures.items
       (replayed_more _ c.loop-i-test.true all (record {
         replied = s.replied;
         last_is = s.last_is;

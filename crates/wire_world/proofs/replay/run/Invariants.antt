@@ -1,6 +1,5 @@
-use Rattle.std.proofs.Common.{◌≡◌, [], map}
+use Rattle.std.proofs.Common.{◌≡◌, []}
 use Rattle.wire_world.specs.World.{World}
-use Rattle.wire_world.specs.Brief.{reply_of}
 use Rattle.wire_world.specs.Stands.{AllAre, Replayed}
 use Rattle.wire_world.specs.StageStands.{StageStands, Tells}
 use Rattle.wire_world.proofs.Wants.{AllHold}
@@ -11,4 +10,4 @@ invariant-loop-i g l = AllHold l.stages l.events l.i
     × ((w : World) → w.strays ≡ l.strays
     → AllAre (StageStands g.F.Fader.stands_for) Tells l.fn.stages l.fn.receivers w []
     → Replayed (StageStands g.F.Fader.stands_for) Tells l.stages l.receivers l.last
-    (map reply_of l.replies.items) w l.events l.i)
+    l.replies.items w l.events l.i)

@@ -4,13 +4,12 @@ use Rattle.wire_world.specs.declared.event.Event.{Event}
 use Rattle.wire_world.specs.Replies.{last_moment}
 use Rattle.wire_world.proofs.Events.{step_done, step_skipped}
 use Rattle.wire_world.specs.declared.reply.Skip.TheVariants.{Backwards, TooLarge}
-use Rattle.wire_world.specs.Brief.{reply_of}
 use Rattle.wire_world.proofs.step.step.Goals as goal
 
 pub returns-clause-step : goal.returns-clause-step
 returns-clause-step g c = λ w past same l are.
     let e : Event = c.args.event.now in
-    step_done w past e (reply_of c.in_ok-reply.reply) c.args.last.now c.later.result
+    step_done w past e c.in_ok-reply.reply c.args.last.now c.later.result
     (omega (arith, l, c.if-event-last.false)) (omega (arith, c.if-event-ge-MOMENTS.false)) l
     (c.in_ok-reply.ensures.reply w past same are.stand are.tell are.hear) c.later.ensures
     (c.in_ok-reply.ensures.stands w past are.stand) (c.in_ok-reply.ensures.tell are.tell)

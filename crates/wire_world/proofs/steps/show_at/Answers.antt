@@ -15,6 +15,6 @@ returns c = λ w past all.
     let at = at_number c.args.receivers.now _ _ _ c.from-r.ensures c.if-r-receivers.false
     c.index-receivers-r.is in
     rw (there all c.args.receiver c.index-receivers-r.result at)
-    (ap reply.Shown (c.in_ok-slots.ensures.ok
+    (ap reply.Shown (c.in_ok-slots.ensures
     ∙ c.slots.ensures (accepted_by w c.args.receiver past)
     (all.stand c.args.receiver c.index-receivers-r.result at)))
