@@ -80,6 +80,7 @@ fn no_such_master(rt: HostRuntime) -> Result<(), Fail> {
             Step::Group(1, 10, Err(NoMaster::NoGroup)),
             Step::Group(501, 10, Err(NoMaster::NoGroup)),
             Step::Level(1, 0, 32640),
+            Step::Level(1, 32640, 32640),
         ],
     )
 }
