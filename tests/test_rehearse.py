@@ -96,14 +96,14 @@ def most_memory(words: list[str]) -> int:
 
 
 class Memory(FolderTest):
-    """A rehearsal lets packets go that no later event delivers, and keeps none that no event delivers."""
+    """A rehearsal lets go what no later event delivers, and keeps nothing that no event delivers."""
 
     TICKS = 100_000
     PACKET = 638
 
     def most_of(self, delivers: bool, *last: int) -> int:
-        """The most memory of a long night, of which each packet is delivered at once, or none; and of
-        which these are delivered at the end."""
+        """The most memory of a long night: each packet is delivered at once, or none is; and these
+        are delivered at the end."""
         lines = list(HEADER)
         for i in range(self.TICKS):
             lines += [f"{25 * i} do 0 sub 1 {i % 90}", f"{25 * i} tick 0"]

@@ -17,8 +17,8 @@ use std::alloc::{AllocError, Global};
 /// reason, and its text; and then notes for the author of the show, each on a line that begins
 /// with `note: `.
 ///
-/// Of a line the first 200 bytes are shown. A line's text and a note are shown as printable ASCII, a
-/// tab and a CR as a space, and each other byte as `?`, so that neither begins a line of its own.
+/// Of a line the first 200 bytes are shown. A line's text and a note are shown as printable ASCII,
+/// a tab and a CR as a space, and each other byte as `?`, so that neither begins a line of its own.
 /// All of the text goes out by one write, and only after all memory was taken.
 ///
 /// # Errors
