@@ -1,11 +1,16 @@
 """`tools/osc`: Open Sound Control datagrams, and the lines that they ask for."""
 
+import math
+import random
 import re
+import signal
 import socket
 import struct
 import subprocess
 import sys
 import tempfile
+import threading
+import time
 import unittest
 
 from program import CID, PROGRAM, ProgramTest
@@ -14,6 +19,7 @@ from wire import SLOT_1, address_of, received, receiving
 from worked import S1
 
 from cueplayer_tools.osc_lines import lines_of
+from cueplayer_tools.words import command_line
 
 
 def padded(text):
@@ -42,6 +48,7 @@ def bundle(*elements):
 
 
 GO = message("/cueplayer/go")
+GREATEST_DOUBLE = message("/cueplayer/goto", tags="d") + struct.pack(">d", 1e308)
 
 ASKED = (
     (GO, "go"),
@@ -96,6 +103,10 @@ REFUSED = (
     (message("/cueplayer/master", "full"), "/cueplayer/master: no number: full"),
     (message("/cueplayer/goto", 0), "/cueplayer/goto: no cue number: 0.000"),
     (message("/cueplayer/goto", 10000.0), "/cueplayer/goto: no cue number: 10000.000"),
+    (GREATEST_DOUBLE, "/cueplayer/goto: no cue number: 1e+308"),
+    (message("/cueplayer/goto", float("inf")), "/cueplayer/goto: no number from 0: inf"),
+    (message("/cueplayer/goto", float("-inf")), "/cueplayer/goto: no number from 0: -inf"),
+    (message("/cueplayer/goto", float("nan")), "/cueplayer/goto: no number from 0: nan"),
     (message("/cueplayer/goto", "1\n2 go"), "/cueplayer/goto: no cue number: 1?2 go"),
     (message("/cueplayer/goto", True), "/cueplayer/goto: no cue number"),
     (message("/cueplayer/go", -1.0), "/cueplayer/go: no number from 0: -1"),
@@ -159,11 +170,83 @@ class Lines(unittest.TestCase):
                         self.assertRegex(text, r"\A[ -~]{1,200}\Z")
 
 
+    def test_any_number(self):
+        """Whatever number an argument is, it is refused, or it spells a command."""
+        chance = random.Random(38)
+        edges = (0.0, 5e-324, 1.0, 9999.999, 1e6, 1.8e305, 1e308, math.inf, math.nan)
+        doubles = [edge * sign for edge in edges for sign in (1, -1)]
+        doubles += struct.unpack(">2000d", chance.randbytes(16_000))
+        huge = (0, 1, -1, 2**53, 2**63 - 1, -(2**63))
+        numbers = [("d", struct.pack(">d", each)) for each in doubles]
+        numbers += [("h", struct.pack(">q", each)) for each in huge]
+        numbers += [("f", chance.randbytes(4)) for _ in range(2000)]
+        numbers += [("i", chance.randbytes(4)) for _ in range(200)]
+        for tag, data in numbers:
+            for address in ("go", "goto", "goto/1", "sub/1", "group/65535", "master"):
+                self.assertReadable(message(f"/cueplayer/{address}", tags=tag) + data)
+
+    def test_damaged(self):
+        """Datagrams with bytes turned, cut out, doubled and put in, by chance."""
+        chance = random.Random(1138)
+        whole = [datagram for datagram, _ in ASKED + REFUSED] + [bundle(GO, GREATEST_DOUBLE, GO)]
+        for _ in range(20_000):
+            datagram = bytearray(chance.choice(whole))
+            for _ in range(chance.randint(1, 4)):
+                at, size = chance.randint(0, len(datagram)), 4 * chance.randint(0, 3)
+                match chance.randrange(4):
+                    case 0:
+                        datagram[at:at] = chance.randbytes(size)
+                    case 1:
+                        del datagram[at : at + size]
+                    case 2:
+                        datagram[at:at] = datagram[at : at + size]
+                    case _:
+                        datagram[at : at + 1] = chance.randbytes(1)
+            self.assertReadable(bytes(datagram))
+
+    def assertReadable(self, datagram):
+        """Nothing is raised; each line is a command as `live` spells it, and what is refused is a
+        short line."""
+        lines, refused = lines_of(datagram)
+        for line in lines:
+            self.assertEqual(line, command_line(line))
+        for text in refused:
+            self.assertRegex(text, r"\A[ -~]{1,200}\Z")
+
+
+class Flood:
+    """A thousand times this datagram each 20 ms, for three seconds at most, to a port here."""
+
+    def __init__(self, test, port, datagram):
+        self.sent = 0
+        self.is_over = threading.Event()
+        self.sender = threading.Thread(target=self._send, args=(port, datagram))
+        self.sender.start()
+        test.addCleanup(self.end)
+
+    def _send(self, port, datagram):
+        with socket.socket(socket.AF_INET, socket.SOCK_DGRAM) as flood:
+            flood.connect(("127.0.0.1", port))
+            for _ in range(150):
+                for _ in range(1_000):
+                    flood.send(datagram)
+                self.sent += 1_000
+                if self.is_over.wait(0.02):
+                    return
+
+    def end(self):
+        """Ends it; how many were sent."""
+        self.is_over.set()
+        self.sender.join()
+        return self.sent
+
+
 class Tool(ProgramTest):
     def begun(self, **options):
         """The tool at a port of its own, and a function that sends to it."""
         osc = Started(self, "osc", "--listen", "127.0.0.1:0", **options)
         port = int(re.fullmatch(r"osc: listening at 127\.0\.0\.1:(\d+)", osc.err.next())[1])
+        osc.port = port
         sender = socket.socket(socket.AF_INET, socket.SOCK_DGRAM)
         self.addCleanup(sender.close)
         sender.bind(("127.0.0.1", 0))
@@ -182,6 +265,63 @@ class Tool(ProgramTest):
         self.assertIn("an empty datagram", osc.err.next())
         send(GO)
         self.assertEqual("go", osc.out.next())
+
+    def test_nothing_ends_it(self):
+        """What cannot be read is told, and the next press is taken."""
+        osc, send = self.begun()
+        for datagram in (GREATEST_DOUBLE, b"", bytes(60_000), b"#bundle\0" * 5_000, GO[:-1]):
+            send(datagram)
+        send(GO)
+        self.assertEqual("go", osc.out.next())
+        self.assertIn("no cue number: 1e+308", osc.err.next())
+        told = rf"refused 4 in a second, the latest from 127\.0\.0\.1:{self.from_port}: a size"
+        self.assertRegex(osc.err.next(), told)
+
+    def test_late(self):
+        """What came while the tool stood still for more than a second is refused."""
+        osc, send = self.begun()
+        osc.process.send_signal(signal.SIGSTOP)
+        send(GO)
+        time.sleep(1.2)
+        osc.process.send_signal(signal.SIGCONT)
+        self.assertRegex(osc.err.next(), r": go: it came \d\.\d s ago, too late$")
+        send(message("/cueplayer/back"))
+        self.assertEqual("back", osc.out.next())
+
+    def test_reader_that_stands_still(self):
+        """A press that nobody takes does not wait for later: it is refused."""
+        words = [sys.executable, TOOLS / "osc", "--listen", "127.0.0.1:0"]
+        pipes = {"stdout": subprocess.PIPE, "stderr": subprocess.PIPE}
+        with subprocess.Popen(words, text=True, **pipes) as osc:
+            self.addCleanup(osc.kill)
+            port = int(osc.stderr.readline().rpartition(":")[2])
+            with socket.socket(socket.AF_INET, socket.SOCK_DGRAM) as sender:
+                sender.connect(("127.0.0.1", port))
+                sender.send(GO)
+                time.sleep(1.5)
+                sender.send(message("/cueplayer/back"))
+                self.assertIn("back: what reads the lines stands still", osc.stderr.readline())
+                self.assertEqual("go\n", osc.stdout.readline())
+                sender.send(message("/cueplayer/back"))
+                self.assertEqual("back\n", osc.stdout.readline())
+            osc.kill()
+
+    def test_flood(self):
+        """Under thousands of datagrams a second, of others and of itself, each press comes within
+        a second, and a line a second is told."""
+        for junk in (b"junk" * 16, message("/accxyz", 0.5), message("/cueplayer/other", 0.5)):
+            with self.subTest(junk):
+                osc, send = self.begun()
+                flood = Flood(self, osc.port, junk)
+                for number in range(1, 9):
+                    pressed = time.monotonic()
+                    send(message("/cueplayer/goto", number))
+                    self.assertEqual(f"goto {number}", osc.out.next())
+                    self.assertLess(time.monotonic() - pressed, 1.0)
+                    time.sleep(0.2)
+                self.assertGreater(flood.end(), 1_000)
+                osc.process.kill()
+                self.assertLess(len(osc.err.rest()), 10)
 
     def test_address(self):
         """A port alone is of this machine alone; what is no address is refused by its words."""

@@ -2,57 +2,28 @@
 
 import argparse
 import os
-import queue
+import select
 import signal
-import socket
 import sys
 import threading
 import time
 import uuid
 from pathlib import Path
-from typing import TextIO
 
 from cueplayer_tools.addresses import LOOPBACK, bound_socket, port_number, sending_address
 from cueplayer_tools.desk_levels import LevelReader
 from cueplayer_tools.desk_night import Night, playing
 from cueplayer_tools.desk_server import DeskServer
 from cueplayer_tools.desk_view import show_view
-from cueplayer_tools.osc_command import LONGEST_DATAGRAM
-from cueplayer_tools.osc_lines import lines_of
+from cueplayer_tools.osc_port import OscPort
 from cueplayer_tools.show import read_show
+from cueplayer_tools.teller import Teller
 from cueplayer_tools.words import Refused
 
 # How long a second control-C counts, and how long `live` may take to end.
 SECOND_PRESS = 3.0
 END_PATIENCE = 10.0
 WATCH_EVERY = 0.05
-
-
-class Teller:
-    """Writes lines, and waits for nobody: a terminal that is stopped or has gone, or a disk that
-    is full, holds up no night."""
-
-    def __init__(self, stream: TextIO, prefix: str = "") -> None:
-        self.stream = stream
-        self.prefix = prefix
-        self.lines: queue.SimpleQueue[str] = queue.SimpleQueue()
-        self.printer = threading.Thread(target=self._print, daemon=True)
-        self.printer.start()
-
-    def __call__(self, text: str) -> None:
-        self.lines.put(text)
-
-    def _print(self) -> None:
-        while text := self.lines.get():
-            try:
-                print(self.prefix + text, file=self.stream, flush=True)
-            except OSError:
-                pass
-
-    def leave(self) -> None:
-        """What was told is written, if it can be at once."""
-        self.lines.put("")
-        self.printer.join(1.0)
 
 
 def _parser() -> argparse.ArgumentParser:
@@ -104,17 +75,14 @@ def _live_words(words: argparse.Namespace) -> list[str]:
     return live
 
 
-def _take_osc(night: Night, receiver: socket.socket) -> None:
+def _take_osc(night: Night, port: OscPort) -> None:
     """Takes Open Sound Control as `tools/osc` does."""
+    poll = select.poll()
+    poll.register(port, select.POLLIN)
     while True:
-        lines, refused = lines_of(receiver.recv(LONGEST_DATAGRAM))
-        for line in lines:
-            try:
-                night.give(line)
-            except Refused as fault:
-                refused.append(f"{line}: {fault}")
-        for fault in refused:
-            night.refuse(f"OSC: {fault}")
+        patience = port.patience()
+        poll.poll(None if patience is None else 1 + int(patience * 1000))
+        port.take(night.give)
 
 
 class _Presses:
@@ -175,7 +143,8 @@ def run_desk(words: argparse.Namespace, tell: Teller) -> int:
         levels.read(night.wake)
         server.show(night, levels, view)
         if receiver is not None:
-            threading.Thread(target=_take_osc, args=(night, receiver), daemon=True).start()
+            port = OscPort(receiver, lambda text: night.refuse(f"OSC: {text}"))
+            threading.Thread(target=_take_osc, args=(night, port), daemon=True).start()
         tell(f"console {words.cid}, live is process {night.process.pid}")
         _watch(night, server, presses)
     finally:

@@ -1,41 +1,69 @@
 """`tools/osc`: Open Sound Control datagrams in, lines for `live` out."""
 
 import argparse
+import fcntl
+import os
 import select
-import socket
+import stat
+import struct
 import sys
+import termios
+import time
 
 from cueplayer_tools.addresses import bound_socket, listening_address
-from cueplayer_tools.osc_lines import lines_of
+from cueplayer_tools.osc_port import LATE, OscPort
+from cueplayer_tools.teller import Teller
+from cueplayer_tools.words import Refused
 
-LONGEST_DATAGRAM = 65_535
 USUAL = "127.0.0.1:8000"
 
 
-def tell(text: str) -> None:
-    """Tells a line on standard error. Where nobody can be told, the work goes on."""
-    try:
-        print(f"osc: {text}", file=sys.stderr, flush=True)
-    except OSError:
-        pass
+class Output:
+    """Standard output, which takes a line at once or not at all: behind a reader that stands
+    still a press would wait, and be carried out when nobody expects it."""
+
+    def __init__(self, file: int) -> None:
+        self.file = file
+        self.is_pipe = stat.S_ISFIFO(os.fstat(file).st_mode)
+        self.written = 0
+        self.read = 0
+        self.read_at = 0.0
+        self.room = select.poll()
+        self.room.register(file, select.POLLOUT)
+
+    def give(self, line: str) -> None:
+        """Writes a line, or refuses it."""
+        # What a poll calls writable takes a line whole.
+        if self._stands_still() or not self.room.poll(0):
+            raise Refused("what reads the lines stands still: not handed on")
+        self.written += os.write(self.file, line.encode() + b"\n")
+
+    def _stands_still(self) -> bool:
+        """Whether lines lie in the pipe, and none of them was read for a second."""
+        unread = self._unread()
+        read, now = self.written - unread, time.monotonic()
+        if not unread or read != self.read:
+            self.read, self.read_at = read, now
+        return now - self.read_at > LATE
+
+    def _unread(self) -> int:
+        if not self.is_pipe:
+            return 0
+        return struct.unpack("@i", fcntl.ioctl(self.file, termios.FIONREAD, bytes(4)))[0]
 
 
-def serve(receiver: socket.socket) -> None:
+def serve(port: OscPort, output: Output) -> None:
     """Writes the lines of each datagram that comes, until nobody reads them any more."""
     poll = select.poll()
-    poll.register(receiver, select.POLLIN)
+    poll.register(port, select.POLLIN)
     # Asked for nothing, a pipe still tells that its reader has gone.
-    poll.register(sys.stdout, 0)
+    poll.register(output.file, 0)
     while True:
-        ready = dict(poll.poll())
-        if sys.stdout.fileno() in ready:
+        patience = port.patience()
+        ready = dict(poll.poll(None if patience is None else 1 + int(patience * 1000)))
+        if output.file in ready:
             return
-        datagram, (host, port) = receiver.recvfrom(LONGEST_DATAGRAM)
-        lines, refused = lines_of(datagram)
-        for fault in refused:
-            tell(f"refused from {host}:{port}: {fault}")
-        for line in lines:
-            print(line, flush=True)
+        port.take(output.give)
 
 
 def main(words: list[str]) -> int:
@@ -49,16 +77,18 @@ def main(words: list[str]) -> int:
         help=f"where datagrams come; a port alone is of this machine alone ({USUAL})",
     )
     address = parser.parse_args(words).listen
+    tell = Teller(sys.stderr, "osc: ")
     try:
         receiver = bound_socket(address)
     except OSError as fault:
         tell(f"cannot listen at {address[0]}:{address[1]}: {fault.strerror}")
+        tell.leave()
         return 1
+    tell("listening at {}:{}".format(*receiver.getsockname()))
     with receiver:
-        tell("listening at {}:{}".format(*receiver.getsockname()))
         try:
-            serve(receiver)
+            serve(OscPort(receiver, tell), Output(sys.stdout.fileno()))
         except (BrokenPipeError, KeyboardInterrupt):
-            # What is left in the buffer has no reader; without this Python would complain.
-            sys.stdout = None
+            pass
+    tell.leave()
     return 0

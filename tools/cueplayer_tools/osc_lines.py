@@ -15,6 +15,8 @@ from cueplayer_tools.words import (
 
 PREFIX = "/cueplayer/"
 BUTTONS = ("go", "back", "end")
+# Far above the greatest cue number, and far below what has no thousandths any more.
+GREATEST = 1e6
 _DECIMAL = re.compile(r"\d{1,9}(\.\d{1,9})?|\.\d{1,9}", re.ASCII)
 
 
@@ -49,7 +51,10 @@ def _cue(argument: Argument) -> str:
         raise Refused("no cue number")
     if isinstance(argument, str):
         return cue_word(thousandths_of(argument))
-    thousandths = math.floor(_number(argument) * 1000 + 0.5)
+    number = _number(argument)
+    if number > GREATEST:
+        raise Refused(f"no cue number: {number:g}")
+    thousandths = math.floor(number * 1000 + 0.5)
     return cue_word(thousandths_of(f"{thousandths // 1000}.{thousandths % 1000:03}"))
 
 

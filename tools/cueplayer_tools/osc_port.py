@@ -1,0 +1,164 @@
+"""The port where Open Sound Control comes, for `tools/osc` and the desk.
+
+Whoever reaches the port may send what it likes, as fast as it likes. So what is asked of a
+datagram first costs least: whose it is, how its address begins, and only then what it says. What
+is refused is counted, and told in one line a second, so that a flood is no flood of lines.
+"""
+
+import fcntl
+import socket
+import struct
+import time
+from collections.abc import Callable
+
+from cueplayer_tools.addresses import Address
+from cueplayer_tools.osc_lines import PREFIX, lines_of
+from cueplayer_tools.osc_packets import BUNDLE
+from cueplayer_tools.words import Refused, printable
+
+LONGEST_DATAGRAM = 65_535
+READABLE = (PREFIX.encode(), BUNDLE)
+# Bytes of receive buffer that are asked for; the system grants what it allows.
+ROOM = 4 << 20
+# Parts of 256 bytes that are read of one sender in a second. A fader sends some 60 datagrams.
+MOST_OF_ONE = 1_000
+PART = 256
+MOST_SENDERS = 4_096
+# Datagrams that are taken before the caller looks at anything else.
+MOST_AT_ONCE = 256
+# Seconds after which a press is none any more, and between two lines of what is refused.
+LATE = 1.0
+EVERY = 1.0
+# Of Linux, not named in `socket`: the arrival of the datagram read last, and a socket's counts.
+_SIOCGSTAMP, _SO_MEMINFO, _DROPS = 0x8906, 55, 8
+_TIME, _COUNTS = struct.Struct("@ll"), struct.Struct("@9I")
+
+Give = Callable[[str], None]
+
+
+class Refusals:
+    """What was refused: told at once where nothing was told for a second, else counted."""
+
+    def __init__(self, tell: Callable[[str], None]) -> None:
+        self.tell = tell
+        self.is_quiet = True
+        self.count = 0
+        self.latest: tuple[Address, str | bytes] | None = None
+
+    def add(self, sender: Address, reason: str | bytes) -> None:
+        """Counts a refusal; a datagram stands for the reason that reading it would give."""
+        self.count += 1
+        self.latest = sender, reason
+        if self.is_quiet:
+            self.flush()
+
+    def flush(self) -> None:
+        """Tells what was counted. Called once a second."""
+        self.is_quiet = not self.count
+        if self.latest is None:
+            return
+        (host, port), reason = self.latest
+        text = reason if isinstance(reason, str) else reason_of(reason)
+        one = f"refused from {host}:{port}: {text}"
+        more = f"refused {self.count} in a second, the latest from {host}:{port}: {text}"
+        self.tell(one if self.count == 1 else more)
+        self.count, self.latest = 0, None
+
+
+def read(datagram: bytes) -> tuple[list[str], list[str]]:
+    """The lines of a datagram and what is refused of it, whatever it holds."""
+    try:
+        return lines_of(datagram)
+    except Exception as fault:
+        # A fault of the reader must not end the night.
+        return [], [f"cannot be read ({type(fault).__name__}): {printable(datagram)}"]
+
+
+def reason_of(datagram: bytes) -> str:
+    """Why a datagram is refused."""
+    return next(iter(read(datagram)[1]), "no such address")
+
+
+class OscPort:
+    """A port of this machine; what comes there is handed on as lines, in its order."""
+
+    def __init__(self, receiver: socket.socket, tell: Callable[[str], None]) -> None:
+        """Takes what comes to this socket. `tell` may not wait."""
+        self.socket = receiver
+        self.socket.setblocking(False)
+        self.socket.setsockopt(socket.SOL_SOCKET, socket.SO_RCVBUF, ROOM)
+        self.tell = tell
+        self.refusals = Refusals(tell)
+        self.spent: dict[Address, int] = {}
+        self.second = time.monotonic()
+        self.lost = 0
+        # Asked once, the system notes the arrival of each datagram.
+        self._age()
+
+    def fileno(self) -> int:
+        """For `select.poll`."""
+        return self.socket.fileno()
+
+    def patience(self) -> float | None:
+        """Seconds after which `take` has to be called though nothing comes."""
+        if not self.spent and self.refusals.is_quiet:
+            return None
+        return max(self.second + EVERY - time.monotonic(), 0.0)
+
+    def take(self, give: Give) -> None:
+        """Hands on the lines of what has come. `give` may refuse one, and may not wait."""
+        now = time.monotonic()
+        if now - self.second >= EVERY:
+            self._end_second(now)
+        for _ in range(MOST_AT_ONCE):
+            try:
+                datagram, sender = self.socket.recvfrom(LONGEST_DATAGRAM)
+            except OSError:
+                # Nothing is there, or the system's reason is of one datagram alone.
+                return
+            if not datagram.startswith(READABLE):
+                self.refusals.add(sender, datagram)
+            elif self._has_spent(sender, datagram):
+                self.refusals.add(sender, f"more than {MOST_OF_ONE} datagrams in a second")
+            else:
+                self._hand_on(datagram, sender, give)
+
+    def _has_spent(self, sender: Address, datagram: bytes) -> bool:
+        if len(self.spent) >= MOST_SENDERS:
+            self.spent.clear()
+        spent = self.spent.get(sender, 0) + 1 + len(datagram) // PART
+        self.spent[sender] = spent
+        return spent > MOST_OF_ONE
+
+    def _hand_on(self, datagram: bytes, sender: Address, give: Give) -> None:
+        lines, refused = read(datagram)
+        age = self._age() if lines else 0.0
+        for line in lines:
+            try:
+                if age > LATE:
+                    raise Refused(f"it came {age:.1f} s ago, too late")
+                give(line)
+            except Refused as fault:
+                refused.append(f"{line}: {fault}")
+        for reason in refused:
+            self.refusals.add(sender, reason)
+
+    def _age(self) -> float:
+        """Seconds since the datagram that was read last came; 0 where the system does not say."""
+        try:
+            arrival = fcntl.ioctl(self.socket, _SIOCGSTAMP, bytes(_TIME.size))
+        except OSError:
+            return 0.0
+        seconds, microseconds = _TIME.unpack(arrival)
+        return time.time() - seconds - microseconds / 1e6
+
+    def _end_second(self, now: float) -> None:
+        self.second = now
+        self.spent.clear()
+        self.refusals.flush()
+        counts = self.socket.getsockopt(socket.SOL_SOCKET, _SO_MEMINFO, _COUNTS.size)
+        lost = _COUNTS.unpack(counts)[_DROPS]
+        if lost != self.lost:
+            more = (lost - self.lost) % 2**32
+            self.tell(f"{more} datagrams lost, unread: too many came; press again what did nothing")
+            self.lost = lost
