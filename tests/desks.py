@@ -8,6 +8,7 @@ import re
 import signal
 import socket
 import threading
+import time
 import uuid
 from pathlib import Path
 
@@ -45,6 +46,8 @@ class Page:
         self.connection.request("GET", self.path + "events")
         self.answer = self.connection.getresponse()
         self.newest = {}
+        # By how much the desk's clock is ahead of this one's, in milliseconds.
+        self.ahead = None
         self.reader = threading.Thread(target=self._read, daemon=True)
         self.reader.start()
         test.addCleanup(self.close)
@@ -55,7 +58,9 @@ class Page:
             kind = None
             for line in self.answer:
                 name, _, rest = line.decode().rstrip("\n").partition(": ")
-                if name == "event":
+                if name == "id":
+                    self.ahead = int(rest) - round(time.monotonic() * 1000)
+                elif name == "event":
                     kind = rest
                 elif name == "data" and rest.endswith("}"):
                     self.newest[kind] = json.loads(rest)
@@ -91,6 +96,8 @@ class Page:
     def request(self, method, name, body=None, path=None, **headers):
         """The status and the answer of a request; a header of None is left out."""
         sent = {"Host": self.host, "Origin": self.origin, **headers}
+        if method == "POST" and "Desk_Time" not in headers:
+            sent["Desk_Time"] = self.desk_time()
         connection = http.client.HTTPConnection(self.host, timeout=PATIENCE)
         try:
             connection.putrequest(method, (path or self.path) + name, skip_host=True)
@@ -105,8 +112,12 @@ class Page:
         finally:
             connection.close()
 
-    def command(self, line):
-        return self.request("POST", "command", line.encode())[0]
+    def desk_time(self, ago=0):
+        """What the desk's clock says, or said so many milliseconds ago."""
+        return str(max(round(time.monotonic() * 1000) + self.ahead - ago, 0))
+
+    def command(self, line, **headers):
+        return self.request("POST", "command", line.encode(), **headers)[0]
 
 
 class DeskTest(ReceiverTest):

@@ -1,5 +1,6 @@
 """`tools/desk`: its page over HTTP, and the light that it moves."""
 
+import contextlib
 import json
 import os
 import re
@@ -12,11 +13,12 @@ import uuid
 
 from desks import DeskTest, Page
 from program import CID, packet, text
-from test_osc import message
-from tooling import PATIENCE, TOOLS, run_tool, wait_for
+from test_osc import GREATEST_DOUBLE, message
+from tooling import PATIENCE, TOOLS, Started, run_tool, wait_for
 from wire import OPTIONS, TERMINATED, address_of, own_network, receiving
 
 from cueplayer_tools.show import has_follow_ons
+from cueplayer_tools.teller import Teller
 
 
 class Playback(DeskTest):
@@ -133,15 +135,6 @@ class Ends(DeskTest):
         desk.process.send_signal(signal.SIGINT)
         self.assertEqual(0, desk.process.wait(PATIENCE))
 
-    def test_live_that_does_not_answer(self):
-        """The page says so, until the answer has come."""
-        desk, page = self.opened()
-        os.kill(desk.live, signal.SIGSTOP)
-        page.command("go")
-        page.wait(late=True, waiting=1, current=None)
-        os.kill(desk.live, signal.SIGCONT)
-        page.wait(late=False, waiting=0, current="1")
-
     def test_live_that_dies(self):
         """The page says so at once."""
         desk, page = self.opened()
@@ -256,7 +249,8 @@ class Beside(DeskTest):
             sender.send(message("/cueplayer/sub/1", 0.5))
             page.wait(masters={"sub 1": 128})
             sender.send(message("/other"))
-            wait_for(lambda: page.notices() == ["OSC: /other: no such address"], "a notice")
+            told = f"OSC: refused from {host}:{sender.getsockname()[1]}: /other: no such address"
+            wait_for(lambda: page.notices() == [told], "a notice")
 
     def test_levels(self):
         """Where nobody else receives at the address the grid does, and it shows what came."""
@@ -273,6 +267,44 @@ class Beside(DeskTest):
         wait_for(lambda: page.newest["levels"]["others"] == told, "the other source")
         self.assertNotIn("07", json.dumps(page.newest["levels"]["slots"])[:20])
 
+    def test_other_sources(self):
+        """Each is named as long as it is heard; of more than eight the rest are counted."""
+        with receiving() as free:
+            to = address_of(free)
+        _, page = self.opened("--grid", to=to)
+        host, port = to.split(":")
+        with socket.socket(socket.AF_INET, socket.SOCK_DGRAM) as other:
+            other.connect((host, int(port)))
+
+            def send(number, universe=1, options=0):
+                cid = f"{CID[:-2]}{number}"
+                other.send(packet(universe, {}, priority=number, cid=cid, options=options))
+
+            def is_told(*names):
+                told = [f"cueplayer, priority {name}" for name in names[:8]]
+                told += [f"and {len(names) - 8} more"] * (len(names) > 8)
+                return page.newest.get("levels", {}).get("others") == told
+
+            for number in range(10, 20):
+                send(number)
+            ten = [f"{number}, universe 1" for number in range(10, 20)]
+            wait_for(lambda: is_told(*ten), "ten sources")
+            wait_for(lambda: send(15) or is_told("15, universe 1"), "the one that goes on")
+            send(15, options=TERMINATED)
+            wait_for(lambda: is_told(), "no other source")
+
+    def test_osc_that_cannot_be_read(self):
+        """Nothing that a datagram holds ends the taking of others."""
+        _, page = self.opened("--osc", 0)
+        host, port = page.newest["show"]["osc"].split(":")
+        with socket.socket(socket.AF_INET, socket.SOCK_DGRAM) as sender:
+            sender.connect((host, int(port)))
+            sender.send(GREATEST_DOUBLE)
+            wait_for(page.notices, "a notice")
+            self.assertIn("/cueplayer/goto: no cue number: 1e+308", page.notices()[0])
+            sender.send(message("/cueplayer/go"))
+            page.wait(current="1")
+
     def test_levels_not_received(self):
         """Nothing is taken from the receiver that the light is for."""
         for options, reason in (((), "they are sent to one receiver alone"),
@@ -282,6 +314,94 @@ class Beside(DeskTest):
             self.assertEqual({"reason": reason, "slots": {}, "others": []}, page.newest["levels"])
             page.command("sub 1 FL")
             self.wait_for_level(255)
+
+
+class Outputs(DeskTest):
+    def full_pipe(self):
+        """A pipe that takes nothing more, until it is read."""
+        reader, writer = os.pipe()
+        os.set_blocking(writer, False)
+        with contextlib.suppress(BlockingIOError):
+            while True:
+                os.write(writer, bytes(4096))
+        os.set_blocking(writer, True)
+        return os.fdopen(reader, "rb"), os.fdopen(writer, "wb")
+
+    def test_outputs_that_nobody_reads(self):
+        """The night begins and is played though nothing can be told; it is told once it can be."""
+        reader, writer = self.full_pipe()
+        words = [sys.executable, TOOLS / "desk", self.show, "--to", self.to, "--cid", self.cid]
+        desk = subprocess.Popen(words, stdout=writer, stderr=writer)
+        self.addCleanup(desk.wait)
+        self.addCleanup(desk.kill)
+        with reader, writer:
+            wait_for(lambda: self.came(0.05), "packets")
+            told = b""
+            while b"/\n" not in told:
+                told += os.read(reader.fileno(), 65_536)
+            address = re.search(r"desk: (\S+/)\n", told.decode("latin-1"))[1]
+            page = Page(self, address)
+            page.wait(ending=False)
+            page.command("go")
+            page.wait(current="1")
+            desk.terminate()
+
+    def test_told_too_much(self):
+        """What finds no room is counted, and told once somebody reads again."""
+        reader, writer = self.full_pipe()
+        with reader, os.fdopen(os.dup(writer.fileno()), "w") as stream, writer:
+            tell = Teller(stream, "desk: ", most=10)
+            for number in range(50):
+                tell(f"line {number}")
+            self.assertLessEqual(tell.lines.qsize(), 10)
+            told = b""
+            while b"dropped" not in told:
+                told += os.read(reader.fileno(), 65_536)
+            tell.leave()
+            lines = told.decode("latin-1").replace("\0", "").splitlines()
+            dropped = [re.match(r"desk: (\d+) lines dropped", line) for line in lines]
+            kept = [line for line in lines if re.match(r"desk: line \d+$", line)]
+            counted = sum(int(found[1]) for found in dropped if found)
+            self.assertLessEqual(len(kept) + counted, 50)
+            self.assertGreaterEqual(counted, 39)
+
+
+class Cid(DeskTest):
+    def console(self, home):
+        """The CID of a desk that is not given one, and what it tells before."""
+        environment = {**os.environ, "XDG_CONFIG_HOME": str(home)}
+        desk = Started(self, "desk", self.show, "--to", self.to, environment=environment)
+        told = []
+        while (found := re.match(r"desk: console (\S+), live", line := desk.err.next())) is None:
+            told.append(line)
+        desk.process.terminate()
+        self.assertEqual(0, desk.process.wait(PATIENCE))
+        return found[1], told
+
+    def test_kept(self):
+        """The first night makes it, and each one after has the same."""
+        cid, told = self.console(self.folder)
+        kept = self.folder / "cueplayer" / "cid"
+        self.assertEqual(([], f"{cid}\n"), (told, kept.read_text()))
+        self.assertEqual(0o644, kept.stat().st_mode & 0o777)
+        self.assertEqual((cid, []), self.console(self.folder))
+        self.assertEqual([kept], list(kept.parent.iterdir()))
+        self.assertIn(uuid.UUID(cid).bytes, {each[22:38] for each in self.came()})
+        kept.write_text(CID.upper())
+        self.assertEqual((CID, []), self.console(self.folder))
+
+    def test_cannot_be_kept(self):
+        """Where there is no room for it, or something else is there, that is told in one line."""
+        home = self.file("home", b"")
+        cid, told = self.console(home)
+        why = f"desk: cannot keep a CID in {home}/cueplayer/cid: Not a directory; "
+        self.assertEqual([f"{why}this night has one of its own: --cid {cid}"], told)
+        (self.folder / "cueplayer").mkdir()
+        kept = self.file("cueplayer/cid", b"x\n")
+        cid, told = self.console(self.folder)
+        why = f"desk: cannot read a CID in {kept}: no UUID is there; "
+        self.assertEqual([f"{why}this night has one of its own: --cid {cid}"], told)
+        self.assertEqual("x\n", kept.read_text())
 
 
 class Multicast(DeskTest):
@@ -304,8 +424,10 @@ _, _, host, path = desk.stdout.readline().strip().split("/", 3)
 page = http.client.HTTPConnection(host, timeout=20)
 page.request("GET", "/" + path + "events")
 events = page.getresponse()
+now = next(line for line in events if line.startswith(b"id: "))[4:].strip().decode()
 other = http.client.HTTPConnection(host, timeout=20)
-other.request("POST", "/" + path + "command", "sub 1 50", {"Origin": "http://" + host})
+own = {"Origin": "http://" + host, "Desk-Time": now}
+other.request("POST", "/" + path + "command", "sub 1 50", own)
 other.getresponse().read()
 for line in events:
     if line.startswith(b"data: ") and b'"slots"' in line:

@@ -3,11 +3,13 @@
 import json
 import os
 import signal
+import time
 import unittest
 
 from browser import CHROMIUM, MISSING, Browser
 from desks import DeskTest, Page
 from program import TOP, run
+from tooling import wait_for
 
 
 @unittest.skipUnless(CHROMIUM, MISSING)
@@ -136,6 +138,44 @@ class DeskPage(DeskTest):
         state.wait(current="1.5")
         again.wait("document.getElementById('current').textContent === '1.5 half past'")
 
+    def test_press_without_an_answer(self):
+        """It is told after a second, and never carried out."""
+        desk, page, state = self.shown_page()
+        os.kill(desk.process.pid, signal.SIGSTOP)
+        page.press(" ", "Space", " ")
+        told = "go: nothing was sent: not answered within a second"
+        page.wait(f"document.getElementById('alarms').innerText.includes('{told}')")
+        os.kill(desk.process.pid, signal.SIGCONT)
+        page.wait("!document.body.classList.contains('is-dead')")
+        state.command("sub 1 FL")
+        self.assertIsNone(state.wait(masters={"sub 1": 255})["current"])
+        page.press(" ", "Space", " ")
+        state.wait(current="1")
+        page.wait("document.getElementById('alarms').innerText === ''")
+
+    def test_many_pages(self):
+        """Four pages of a browser listen, so that presses have a way; a fifth is told."""
+        _, first, state = self.shown_page()
+        address = f"{state.origin}{state.path}"
+        others = [self.browser.opened(address) for _ in range(3)]
+        for page in others:
+            page.wait("!document.body.classList.contains('is-dead')")
+        more = [self.browser.opened(address) for _ in range(2)]
+        for page in more:
+            page.wait("document.getElementById('alarms').innerText.startsWith('4 pages of this')")
+            page.wait("document.getElementById('link').innerText === 'One page too many'")
+            self.assertTrue(page.value("document.body.classList.contains('is-dead')"))
+        for page, cue in ((first, "1"), (others[2], "1.5"), (first, "2")):
+            pressed = time.monotonic()
+            page.press(" ", "Space", " ")
+            state.wait(current=cue)
+            self.assertLess(time.monotonic() - pressed, 2)
+        more[0].press(" ", "Space", " ")
+        others[0].close()
+        wait_for(lambda: any(page.text("current") == "2 two <b>" for page in more), "its place")
+        self.assertEqual([], state.notices())
+        self.assertNoFaults()
+
     def test_end_takes_two_presses(self):
         _, page, state = self.shown_page()
         page.click("document.getElementById('end')")
@@ -183,6 +223,7 @@ class DeskPage(DeskTest):
         """The grid shows what came; elsewhere it says why there is none."""
         _, page, _ = self.shown_page()
         page.wait("document.getElementById('lit').innerText.includes('not received here')")
+        page.wait("document.getElementById('grid').getBoundingClientRect().height === 0")
 
 
 @unittest.skipUnless(CHROMIUM, MISSING)

@@ -11,6 +11,7 @@ import uuid
 from pathlib import Path
 
 from cueplayer_tools.addresses import LOOPBACK, bound_socket, port_number, sending_address
+from cueplayer_tools.console_cid import console_cid
 from cueplayer_tools.desk_levels import LevelReader
 from cueplayer_tools.desk_night import Night, playing
 from cueplayer_tools.desk_server import DeskServer
@@ -24,6 +25,8 @@ from cueplayer_tools.words import Refused
 SECOND_PRESS = 3.0
 END_PATIENCE = 10.0
 WATCH_EVERY = 0.05
+# Of what `live` prints: hours of it, where its disk stands still.
+MOST_REPLIES = 100_000
 
 
 def _parser() -> argparse.ArgumentParser:
@@ -34,7 +37,7 @@ def _parser() -> argparse.ArgumentParser:
         "--cid",
         metavar="UUID",
         type=uuid.UUID,
-        help="this console's own; left out, one is made for this night",
+        help="this console's own; left out, the one that is kept in ~/.config/cueplayer/cid",
     )
     parser.add_argument("--priority", metavar="P", help="as of `live`")
     parser.add_argument("--base", metavar="U", type=int, default=1, help="as of `live`")
@@ -117,11 +120,11 @@ def _watch(night: Night, server: DeskServer, presses: _Presses) -> None:
         time.sleep(WATCH_EVERY)
 
 
-def run_desk(words: argparse.Namespace, tell: Teller) -> int:
+def run_desk(words: argparse.Namespace, tell: Teller, tell_address: Teller) -> int:
     """The desk of one night; the status of `live`."""
     show = read_show(words.show)
-    words.cid = words.cid or uuid.uuid4()
     to = sending_address(words.to)
+    words.cid = words.cid or console_cid(tell)
     other = playing(str(words.cid))
     if other is not None:
         raise Refused(f"process {other} plays live under this CID already: `kill {other}` ends it")
@@ -136,8 +139,9 @@ def run_desk(words: argparse.Namespace, tell: Teller) -> int:
     # Listens before the night begins, so that its first packets are heard.
     levels = LevelReader(to, words.cid, show.universes(words.base), words.grid)
     view = show_view(show, Path(words.show).name, words.base, osc)
-    print(f"desk: {server.address}", flush=True)
-    replies = Teller(words.replies or open(os.devnull, "w", encoding="ascii"))
+    tell_address(f"desk: {server.address}")
+    kept = words.replies or open(os.devnull, "w", encoding="ascii")
+    replies = Teller(kept, "", MOST_REPLIES, lambda text: tell(f"replies: {text}"))
     night = Night(show, _live_words(words), tell, replies)
     try:
         levels.read(night.wake)
@@ -159,13 +163,14 @@ def run_desk(words: argparse.Namespace, tell: Teller) -> int:
 def main(words: list[str]) -> int:
     """Runs the tool with these words, and answers its exit status."""
     chosen = _parser().parse_args(words)
-    tell = Teller(sys.stderr, "desk: ")
+    tell, tell_address = Teller(sys.stderr, "desk: "), Teller(sys.stdout)
     try:
-        return run_desk(chosen, tell)
+        return run_desk(chosen, tell, tell_address)
     except (Refused, argparse.ArgumentTypeError) as fault:
         tell(str(fault))
     except OSError as fault:
         tell(f"cannot begin: {fault.strerror}")
     finally:
         tell.leave()
+        tell_address.leave()
     return 1

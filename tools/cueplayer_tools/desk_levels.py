@@ -8,6 +8,7 @@ one receiver's own address only one may listen, so that is done only where the o
 import selectors
 import socket
 import threading
+import time
 import uuid
 from collections.abc import Callable
 from dataclasses import dataclass, field
@@ -22,15 +23,35 @@ _CID = slice(22, 38)
 _NAME = slice(44, 108)
 _PRIORITY, _OPTIONS, _UNIVERSE, _START, _SLOTS = 108, 112, slice(113, 115), 125, slice(126, 638)
 TERMINATED, PREVIEW = 0x40, 0x80
+# A source that is silent for so many seconds is gone (E1.31, network data loss).
+SOURCE_LOST = 2.5
+LOOK_EVERY = 0.5
+# Other sources that are kept apart, and of these how many are named.
+MOST_OTHERS = 256
+MOST_NAMED = 8
+
+
+@dataclass
+class Source:
+    """Another source: what it says of itself, and when it was last heard on each universe."""
+
+    name: str
+    priority: int
+    heard: dict[int, float]
+
+    def __str__(self) -> str:
+        universes = ", ".join(map(str, sorted(self.heard)))
+        plural = "s" if len(self.heard) > 1 else ""
+        return f"{self.name}, priority {self.priority}, universe{plural} {universes}"
 
 
 @dataclass
 class Levels:
-    """The levels last received of each universe, and other sources that were heard there."""
+    """The levels last received of each universe, and other sources that are heard there."""
 
     reason: str = ""
     slots: dict[int, bytes] = field(default_factory=dict)
-    others: dict[bytes, str] = field(default_factory=dict)
+    others: list[str] = field(default_factory=list)
     version: int = 0
 
 
@@ -60,6 +81,8 @@ class LevelReader:
         self.cid = cid.bytes
         self.universes = frozenset(universes)
         self.levels = Levels()
+        self.sources: dict[bytes, Source] = {}
+        self.looked_at = 0.0
         self.selector = selectors.DefaultSelector()
         receivers: list[socket.socket] = []
         try:
@@ -85,13 +108,15 @@ class LevelReader:
 
     def _read(self, changed: Callable[[], None]) -> None:
         while True:
-            for key, _ in self.selector.select():
+            has_changed = False
+            for key, _ in self.selector.select(LOOK_EVERY if self.sources else None):
                 try:
                     datagram = key.fileobj.recv(2048)
                 except OSError:
                     continue
-                if self._take(datagram):
-                    changed()
+                has_changed |= self._take(datagram)
+            if self._forget_lost() or has_changed:
+                changed()
 
     def _take(self, datagram: bytes) -> bool:
         """Takes a data packet; whether anything that is shown has changed."""
@@ -111,11 +136,40 @@ class LevelReader:
         return True
 
     def _hear_other(self, datagram: bytes, universe: int) -> bool:
-        name = printable(datagram[_NAME].partition(b"\0")[0], 63)
-        name = name or "a source without a name"
-        told = f"{name}, priority {datagram[_PRIORITY]}, universe {universe}"
-        if self.levels.others.get(datagram[_CID]) == told or len(self.levels.others) > 8:
+        """Takes a packet of another source; whether what is told of the others has changed."""
+        cid = datagram[_CID]
+        source = self.sources.get(cid, Source("", 0, {}))
+        if cid not in self.sources and len(self.sources) >= MOST_OTHERS:
             return False
-        self.levels.others[datagram[_CID]] = told
+        before = str(source)
+        name = printable(datagram[_NAME].partition(b"\0")[0], 63)
+        source.name = name or "a source without a name"
+        source.priority = datagram[_PRIORITY]
+        source.heard[universe] = time.monotonic()
+        if datagram[_OPTIONS] & TERMINATED:
+            del source.heard[universe]
+        self.sources[cid] = source
+        return str(source) != before and self._name_others()
+
+    def _forget_lost(self) -> bool:
+        """Forgets those that are silent; whether what is told of the others has changed."""
+        now = time.monotonic()
+        if now - self.looked_at < LOOK_EVERY:
+            return False
+        self.looked_at = now
+        for source in self.sources.values():
+            for universe in [at for at, heard in source.heard.items() if now - heard > SOURCE_LOST]:
+                del source.heard[universe]
+        return self._name_others()
+
+    def _name_others(self) -> bool:
+        self.sources = {cid: source for cid, source in self.sources.items() if source.heard}
+        named = sorted(map(str, self.sources.values()))
+        more = len(named) - MOST_NAMED
+        if more > 0:
+            named[MOST_NAMED:] = [f"and {more} more"]
+        if named == self.levels.others:
+            return False
+        self.levels.others = named
         self.levels.version += 1
         return True

@@ -2,7 +2,8 @@
 
 Nothing is taken for done before the program has said so. Each line that is handed on gets one
 answer, and answers come in the order of the lines, so the oldest line that waits is the one that
-is answered. What the program prints is always read at once, so that it never waits for a reader.
+is answered. A line that the program does not read within a second is taken back. What the program
+prints is always read at once, so that it never waits for a reader.
 
 The program holds the desk's ends of its pipes open too: should the desk be killed, the program's
 input does not end and its output is not refused, and the light stays as it is.
@@ -17,6 +18,7 @@ from collections.abc import Callable
 from dataclasses import dataclass, field
 from pathlib import Path
 
+from cueplayer_tools.desk_input import LiveInput
 from cueplayer_tools.position import MOVES, Position
 from cueplayer_tools.program import program
 from cueplayer_tools.show import Show
@@ -24,8 +26,6 @@ from cueplayer_tools.words import Refused, command_line, level_byte, printable
 
 FULL = 255
 NOTICES_KEPT = 20
-# An answer takes some milliseconds; so many seconds say that something is wrong.
-LATE = 2.0
 
 
 @dataclass(frozen=True)
@@ -130,22 +130,19 @@ class Night:
         self.clock = Clock()
         self.version = 0
         self.changed = threading.Condition()
-        # The lines without an answer, each behind the time at which it was handed on.
-        self.waiting: deque[tuple[float, str]] = deque()
-        their_input, self.input = os.pipe()
+        self.input = LiveInput()
         output, their_output = os.pipe()
         faults, their_faults = os.pipe()
-        os.set_blocking(self.input, False)
         # In a session of its own: control-C at the desk's terminal must not end the light.
         self.process = subprocess.Popen(
             [program(), "live", *words],
-            stdin=their_input,
+            stdin=self.input.theirs,
             stdout=their_output,
             stderr=their_faults,
-            pass_fds=(self.input, output, faults),
+            pass_fds=(self.input.ours, output, faults),
             start_new_session=True,
         )
-        for theirs in (their_input, their_output, their_faults):
+        for theirs in (self.input.theirs, their_output, their_faults):
             os.close(theirs)
         self.readers = [self._reader(output, self._hear), self._reader(faults, self._hear_fault)]
         threading.Thread(target=self._wait, daemon=True).start()
@@ -185,7 +182,7 @@ class Night:
         self.clock.hear(int(moment))
         if words[0] in ("ok", "refused"):
             # Where no line waits it is the `end` that the program gives at last.
-            _, asked = self.waiting.popleft() if self.waiting else (0.0, "end")
+            asked = self.input.answered() or "end"
             if words[0] == "ok":
                 self.state.accept(int(moment), asked)
             else:
@@ -216,11 +213,7 @@ class Night:
         with self.changed:
             if self.state.status is not None:
                 raise Refused("the night has ended")
-            try:
-                os.write(self.input, line.encode() + b"\n")
-            except (BlockingIOError, BrokenPipeError) as fault:
-                raise Refused("the console takes no line now") from fault
-            self.waiting.append((time.monotonic(), line))
+            self.input.give(line)
 
     def refuse(self, text: str) -> None:
         """Tells all pages of what was refused before it came to `live`."""
@@ -235,8 +228,11 @@ class Night:
             if self.state.status is not None:
                 return
             has_moved = self.state.position.advance(self.clock.now())
-            is_late = bool(self.waiting) and time.monotonic() - self.waiting[0][0] > LATE
-            if has_moved or is_late != self.state.is_late:
+            taken = self.input.take_back()
+            for line in taken:
+                self.state.tell("late", f"{line}: taken back, live did not read it in a second")
+            is_late = self.input.is_late() or self.input.stands_still()
+            if has_moved or taken or is_late != self.state.is_late:
                 self.state.is_late = is_late
                 self._change()
 
@@ -246,10 +242,11 @@ class Night:
             self.give("end")
         except Refused:
             pass
-        try:
-            self.process.wait(patience)
-        except subprocess.TimeoutExpired:
-            self.process.terminate()
+        for last_word in (self.process.terminate, self.process.kill):
+            try:
+                self.process.wait(patience)
+            except subprocess.TimeoutExpired:
+                last_word()
         status = self.process.wait()
         for reader in self.readers:
             reader.join()

@@ -4,21 +4,27 @@ A page that is open gets the whole state at each change, as server-sent events, 
 closed, opened again, or open twice. Each open page has a thread of its own, and a slow one delays
 nobody. The address holds a random word; a request without it, under another host's name or sent by
 another page is refused, so that no site in the operator's browser can move light.
+
+A press has a second. The page says when it was made by the desk's clock, which it knows from the
+events; the desk takes none that is older than `PRESS_DEADLINE`, and so its answer is back within
+the second after which the page gives up.
 """
 
 import hmac
 import json
+import re
 import secrets
+import socket
 import threading
 import time
 from http import HTTPStatus
-from http.server import BaseHTTPRequestHandler, ThreadingHTTPServer
 from pathlib import Path
 from typing import Any
 
 from cueplayer_tools.addresses import LOOPBACK
 from cueplayer_tools.desk_levels import LevelReader
 from cueplayer_tools.desk_night import Night
+from cueplayer_tools.desk_requests import Entrance, Request
 from cueplayer_tools.desk_view import state_view
 from cueplayer_tools.words import Refused, printable
 
@@ -28,6 +34,7 @@ FILES = {
     "desk.css": ("desk.css", "text/css; charset=utf-8"),
     "desk.js": ("desk.js", "text/javascript; charset=utf-8"),
 }
+PLAIN = "text/plain; charset=utf-8"
 HEADERS = {
     "Content-Security-Policy": (
         "default-src 'none'; script-src 'self'; style-src 'self'; connect-src 'self'; "
@@ -38,132 +45,174 @@ HEADERS = {
     "Cross-Origin-Opener-Policy": "same-origin",
     "Cross-Origin-Resource-Policy": "same-origin",
     "Cache-Control": "no-store",
+    "Connection": "close",
 }
-LONGEST_COMMAND = 200
 MOST_PAGES = 32
+MOST_WAITING = 128
 # A page that hears nothing for longer than some of these takes the desk for lost.
 ALIVE_EVERY = 1.0
 LEVELS_EVERY = 0.1
+# So long may one page block its own thread.
+PAGE_PATIENCE = 30.0
+# In milliseconds: how old a press may be when it comes, and by how much a browser that tells no
+# fine times may be ahead.
+PRESS_DEADLINE = 750
+AHEAD = 200
 
 
-class DeskServer(ThreadingHTTPServer):
+def _head(status: HTTPStatus, kind: str, more: dict[str, str]) -> bytes:
+    """The head of an answer."""
+    headers = {"Content-Type": kind, **HEADERS, **more}
+    lines = [f"HTTP/1.1 {status.value} {status.phrase}"]
+    lines += [f"{name}: {value}" for name, value in headers.items()]
+    return "\r\n".join([*lines, "", ""]).encode()
+
+
+def _answer(
+    connection: socket.socket, status: HTTPStatus, content: bytes = b"", kind: str = PLAIN
+) -> None:
+    """Answers, and closes. An answer is short enough for the system to take it at once."""
+    length = {} if status == HTTPStatus.NO_CONTENT else {"Content-Length": str(len(content))}
+    with connection:
+        try:
+            connection.sendall(_head(status, kind, length) + content)
+            connection.shutdown(socket.SHUT_WR)
+        except OSError:
+            # It has gone.
+            pass
+
+
+def _refuse(connection: socket.socket, status: HTTPStatus, told: str = "") -> None:
+    _answer(connection, status, (told or status.phrase).encode() + b"\n")
+
+
+class DeskServer:
     """The server of one night."""
 
-    daemon_threads = True
-
     def __init__(self, port: int) -> None:
-        super().__init__((LOOPBACK, port), _Handler)
+        self.listener = socket.socket(socket.AF_INET, socket.SOCK_STREAM)
+        try:
+            self.listener.setsockopt(socket.SOL_SOCKET, socket.SO_REUSEADDR, 1)
+            self.listener.bind((LOOPBACK, port))
+            self.listener.listen(MOST_WAITING)
+        except OSError:
+            self.listener.close()
+            raise
+        self.port = self.listener.getsockname()[1]
         self.token = secrets.token_urlsafe(24)
         self.pages = threading.BoundedSemaphore(MOST_PAGES)
         self.was_opened = False
-        self.hosts = {f"{name}:{self.server_port}" for name in (LOOPBACK, "localhost")}
+        self.began = time.monotonic()
+        # Read once: no disk stands between a press and the night.
+        self.files = {at: ((PAGE / name).read_bytes(), kind) for at, (name, kind) in FILES.items()}
+        self.hosts = {f"{name}:{self.port}" for name in (LOOPBACK, "localhost")}
 
     def show(self, night: Night, levels: LevelReader, view: dict[str, Any]) -> None:
         """Serves a night from here on."""
         self.night, self.levels, self.view = night, levels, view
-        threading.Thread(target=self.serve_forever, daemon=True).start()
+        entrance = Entrance(self.listener, self._take, _refuse)
+        threading.Thread(target=entrance.serve, daemon=True).start()
 
     @property
     def address(self) -> str:
-        return f"http://{LOOPBACK}:{self.server_port}/{self.token}/"
+        return f"http://{LOOPBACK}:{self.port}/{self.token}/"
 
-    def handle_error(self, request: Any, client_address: Any) -> None:
-        """A page that went away in the middle of an answer is no fault."""
+    def now(self) -> int:
+        """The desk's clock, in milliseconds: monotonic, and of this night."""
+        return round((time.monotonic() - self.began) * 1000)
 
-
-class _Handler(BaseHTTPRequestHandler):
-    server: DeskServer
-    server_version = "cueplayer-desk"
-    sys_version = ""
-    # So long may one page block its own thread.
-    timeout = 30
-
-    def log_message(self, *_: Any) -> None:
-        """Nothing is logged: an address would tell its word."""
-
-    def _refusal(self) -> HTTPStatus | None:
+    def _refusal(self, request: Request) -> HTTPStatus | None:
         """Why this request is not answered; None where it is one of our own page."""
-        if self.headers.get("Host") not in self.server.hosts:
+        if request.method not in ("GET", "POST"):
+            return HTTPStatus.NOT_IMPLEMENTED
+        if request.headers.get("Host") not in self.hosts:
             return HTTPStatus.FORBIDDEN
-        origin = self.headers.get("Origin")
-        if origin is not None and origin not in {f"http://{host}" for host in self.server.hosts}:
+        origin = request.headers.get("Origin")
+        if origin is not None and origin not in {f"http://{host}" for host in self.hosts}:
             return HTTPStatus.FORBIDDEN
-        if self.headers.get("Sec-Fetch-Site", "none") not in ("same-origin", "none"):
+        if request.headers.get("Sec-Fetch-Site", "none") not in ("same-origin", "none"):
             return HTTPStatus.FORBIDDEN
-        token = self.path.removeprefix("/").partition("/")[0]
-        if not hmac.compare_digest(token.encode("latin-1"), self.server.token.encode()):
+        token = request.path.removeprefix("/").partition("/")[0]
+        if not hmac.compare_digest(token.encode("latin-1"), self.token.encode()):
             return HTTPStatus.NOT_FOUND
         return None
 
-    def _name(self) -> str:
-        """What is asked for behind the word."""
-        return self.path.removeprefix("/").partition("/")[2]
-
-    def _answer(self, status: HTTPStatus, content: bytes, kind: str = "text/plain") -> None:
-        self.send_response(status)
-        self._write_headers(kind, {"Content-Length": str(len(content))})
-        self.wfile.write(content)
-
-    def _write_headers(self, kind: str, more: dict[str, str]) -> None:
-        for name, value in {"Content-Type": kind, **HEADERS, **more}.items():
-            self.send_header(name, value)
-        self.end_headers()
-
-    def _refuse(self, status: HTTPStatus, told: str = "") -> None:
-        self._answer(status, (told or status.phrase).encode() + b"\n")
-
-    def do_GET(self) -> None:  # noqa: N802  (the library's name)
-        """The page, its parts, and the events."""
-        refusal = self._refusal()
+    def _take(self, connection: socket.socket, request: Request) -> None:
+        """Answers a request. This is the thread of all requests, so it waits for nothing."""
+        refusal = self._refusal(request)
+        name = request.path.removeprefix("/").partition("/")[2]
         if refusal is not None:
-            self._refuse(refusal)
-        elif self._name() == "events":
-            self._send_events()
-        elif self._name() in FILES:
-            file, kind = FILES[self._name()]
-            self._answer(HTTPStatus.OK, (PAGE / file).read_bytes(), kind)
+            _refuse(connection, refusal)
+        elif request.method == "POST":
+            self._take_command(connection, request, name)
+        elif name == "events":
+            self._open_page(connection)
+        elif name in self.files:
+            content, kind = self.files[name]
+            _answer(connection, HTTPStatus.OK, content, kind)
         else:
-            self._refuse(HTTPStatus.NOT_FOUND)
+            _refuse(connection, HTTPStatus.NOT_FOUND)
 
-    def do_POST(self) -> None:  # noqa: N802  (the library's name)
+    def _take_command(self, connection: socket.socket, request: Request, name: str) -> None:
         """A command, in plain text: 204 says that it was handed on, the events what came of it."""
-        refusal = self._refusal()
-        size = self.headers.get("Content-Length", "")
-        if refusal is None and self.headers.get("Origin") is None:
-            refusal = HTTPStatus.FORBIDDEN
-        if refusal is None and self._name() != "command":
-            refusal = HTTPStatus.NOT_FOUND
-        if refusal is None and not (size.isdecimal() and int(size) <= LONGEST_COMMAND):
-            refusal = HTTPStatus.REQUEST_ENTITY_TOO_LARGE
-        if refusal is not None:
-            self._refuse(refusal)
-            return
-        line = self.rfile.read(int(size)).decode("latin-1")
-        try:
-            self.server.night.give(line)
-        except Refused as fault:
-            self.server.night.refuse(f"{printable(line, 40)}: {fault}")
-            self._refuse(HTTPStatus.CONFLICT, str(fault))
+        if request.headers.get("Origin") is None:
+            _refuse(connection, HTTPStatus.FORBIDDEN)
+        elif name != "command":
+            _refuse(connection, HTTPStatus.NOT_FOUND)
+        elif request.body is None:
+            _refuse(connection, HTTPStatus.REQUEST_ENTITY_TOO_LARGE)
+        elif (age := self._age(request)) is None:
+            _refuse(connection, HTTPStatus.BAD_REQUEST, "a command says when it was pressed")
         else:
-            self.send_response(HTTPStatus.NO_CONTENT)
-            self._write_headers("text/plain", {})
+            line = request.body.decode("latin-1")
+            try:
+                if age > PRESS_DEADLINE:
+                    raise Refused(f"pressed {age / 1000:.1f} s ago, too late: nothing was sent")
+                self.night.give(line)
+            except Refused as fault:
+                self.night.refuse(f"{printable(line, 40)}: {fault}")
+                _refuse(connection, HTTPStatus.CONFLICT, str(fault))
+            else:
+                _answer(connection, HTTPStatus.NO_CONTENT)
 
-    def _send_events(self) -> None:
-        if not self.server.pages.acquire(blocking=False):
-            self._refuse(HTTPStatus.SERVICE_UNAVAILABLE, "too many pages are open")
+    def _age(self, request: Request) -> int | None:
+        """How many milliseconds ago a command was pressed, at most; None where it does not say,
+        or says a time that has not come."""
+        pressed = request.headers.get("Desk-Time", "")
+        if not re.fullmatch(r"[0-9]{1,15}", pressed):
+            return None
+        age = self.now() - int(pressed)
+        return age if age >= -AHEAD else None
+
+    def _open_page(self, connection: socket.socket) -> None:
+        if not self.pages.acquire(blocking=False):
+            _refuse(connection, HTTPStatus.SERVICE_UNAVAILABLE, "too many pages are open")
             return
+        self.was_opened = True
+        connection.settimeout(PAGE_PATIENCE)
+        page = _OpenPage(self, connection)
+        threading.Thread(target=page.send, daemon=True).start()
+
+
+class _OpenPage:
+    """A page that is open, and gets events."""
+
+    def __init__(self, server: DeskServer, connection: socket.socket) -> None:
+        self.server = server
+        self.connection = connection
+
+    def send(self) -> None:
+        """Sends events until the page is closed."""
         try:
-            self.send_response(HTTPStatus.OK)
-            self._write_headers("text/event-stream", {"Connection": "close"})
-            self.server.was_opened = True
-            self._event("show", self.server.view)
-            self._send_changes()
+            with self.connection:
+                self.connection.sendall(_head(HTTPStatus.OK, "text/event-stream", {}))
+                self._event("show", self.server.view)
+                self._send_changes()
         except OSError:
             # The page was closed.
             pass
         finally:
             self.server.pages.release()
-            self.close_connection = True
 
     def _send_changes(self) -> None:
         night, levels = self.server.night, self.server.levels
@@ -190,10 +239,12 @@ class _Handler(BaseHTTPRequestHandler):
         levels = self.server.levels.levels
         slots = dict(levels.slots)
         changed = {at: slots[at].hex() for at in slots if slots[at] != shown.get(at)}
-        others = sorted(levels.others.values())
-        self._event("levels", {"reason": levels.reason, "slots": changed, "others": others})
+        told = {"reason": levels.reason, "slots": changed, "others": levels.others}
+        self._event("levels", told)
         return slots
 
     def _event(self, kind: str, data: dict[str, Any]) -> None:
+        """Sends an event, whose identity is the desk's clock before it was sent."""
         text = json.dumps(data, separators=(",", ":"))
-        self.wfile.write(f"event: {kind}\ndata: {text}\n\n".encode())
+        event = f"id: {self.server.now()}\nevent: {kind}\ndata: {text}\n\n"
+        self.connection.sendall(event.encode())

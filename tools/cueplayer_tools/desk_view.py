@@ -48,7 +48,7 @@ def state_view(night: Night) -> dict[str, Any]:
         "grand": state.grand,
         "lit_grand": state.lit_grand,
         "masters": dict(state.masters),
-        "waiting": len(night.waiting),
+        "waiting": len(night.input.waiting),
         "lost": dict(vars(state.lost)),
         "notices": [vars(notice) for notice in state.notices],
         "late": state.is_late,

@@ -5,6 +5,13 @@
 const SILENCE = 4000;
 const FADER_REST = 500;
 const SECOND_PRESS = 3000;
+// What is pressed is sent within a second, or not at all.
+const PRESS_DEADLINE = 1000;
+// Clocks run apart, so what was heard of the desk's is not kept for long.
+const CLOCK_KEPT = 30000;
+// A browser has six connections to a desk, and each page keeps one: two are left for presses.
+const MOST_PAGES = 4;
+const PLACE_EVERY = 1000;
 
 const byId = (id) => document.getElementById(id);
 const percent = (level) => `${Math.round(level * 100 / 255)} %`;
@@ -25,19 +32,42 @@ const page = {
   universe: 0,
   slots: new Map(),
   reason: "",
+  clock: [],
+  isCrowded: false,
 };
 
 // ---- what is pressed
 
-async function command(line) {
+async function command(line, pressed) {
   if (isDead()) return;
+  const at = Math.min(pressed, performance.now());
+  const left = at + PRESS_DEADLINE - performance.now();
+  const stop = new AbortController();
+  const timer = setTimeout(() => stop.abort(), left);
   try {
-    const answer = await fetch("command", { method: "POST", body: line });
+    if (left <= 0) stop.abort();
+    const headers = { "Desk-Time": String(deskTime(at)) };
+    const request = { method: "POST", body: line, headers, signal: stop.signal };
+    const answer = await fetch("command", request);
     page.unsent = answer.ok || answer.status === 409 ? "" : `${line}: not taken by the desk`;
   } catch {
-    page.unsent = `${line}: the desk was not reached`;
+    const why = stop.signal.aborted ? "not answered within a second" : "the desk was not reached";
+    page.unsent = `${line}: nothing was sent: ${why}`;
   }
+  clearTimeout(timer);
   showAlarms();
+}
+
+// The desk says its time with each event. One that took long to come says too little, so of
+// those of the last half minute the one counts that says most: no press is made younger by it.
+function hearClock(time) {
+  const now = performance.now();
+  page.clock = page.clock.filter(({ at }) => now - at < CLOCK_KEPT);
+  page.clock.push({ at: now, ahead: time - now });
+}
+
+function deskTime(at) {
+  return Math.max(Math.floor(at + Math.max(...page.clock.map(({ ahead }) => ahead))), 0);
 }
 
 function isSilent() {
@@ -48,17 +78,17 @@ function isDead() {
   return isSilent() || page.state === null || page.state.status !== null;
 }
 
-function blackout() {
+function blackout(event) {
   if (isDead()) return;
   const level = page.state.grand === 0 ? page.state.lit_grand : 0;
-  command(`master H${level.toString(16).padStart(2, "0")}`);
+  command(`master H${level.toString(16).padStart(2, "0")}`, event.timeStamp);
 }
 
 // A night is not ended by one slip of a finger.
-function askEnd() {
+function askEnd(event) {
   const button = byId("end");
   if (button.dataset.asked) {
-    command("end");
+    command("end", event.timeStamp);
     return;
   }
   button.dataset.asked = "yes";
@@ -74,7 +104,7 @@ function pressKey(event) {
   const line = { " ": "go", Backspace: "back" }[event.key];
   if (line === undefined) return;
   event.preventDefault();
-  if (event.type === "keydown" && !event.repeat) command(line);
+  if (event.type === "keydown" && !event.repeat) command(line, event.timeStamp);
 }
 
 // ---- cues
@@ -94,7 +124,7 @@ function cueButton(cue) {
     button.append(part);
   }
   button.setAttribute("aria-label", `Go to cue ${cue.number} ${cue.name}`);
-  button.addEventListener("click", () => command(`goto ${cue.number}`));
+  button.addEventListener("click", (event) => command(`goto ${cue.number}`, event.timeStamp));
   return button;
 }
 
@@ -159,6 +189,7 @@ class Fader {
     this.line = line;
     this.usual = usual;
     this.wanted = null;
+    this.wantedAt = 0;
     this.isSending = false;
     this.isHeld = false;
     this.restAt = 0;
@@ -172,7 +203,7 @@ class Fader {
     this.row = document.createElement("div");
     this.row.className = "fader";
     this.row.append(this.label, this.input, this.output);
-    this.input.addEventListener("input", () => this.move());
+    this.input.addEventListener("input", (event) => this.move(event));
     this.input.addEventListener("pointerdown", () => { this.isHeld = true; });
     for (const left of ["pointerup", "pointercancel", "blur", "change"]) {
       this.input.addEventListener(left, () => this.rest());
@@ -185,14 +216,15 @@ class Fader {
     return this.line === "master" ? page.state.grand : page.state.masters[this.line] ?? this.usual;
   }
 
-  async move() {
+  async move(event) {
     this.wanted = Number(this.input.value);
+    this.wantedAt = event.timeStamp;
     if (this.isSending) return;
     this.isSending = true;
     while (this.wanted !== null) {
       const level = this.wanted.toString(16).padStart(2, "0");
       this.wanted = null;
-      await command(`${this.line} H${level}`);
+      await command(`${this.line} H${level}`, this.wantedAt);
     }
     this.isSending = false;
     this.rest();
@@ -241,6 +273,10 @@ function alarm(words, dismiss) {
 function alarms() {
   const { state } = page;
   const told = [];
+  if (page.isCrowded) {
+    const words = `${MOST_PAGES} pages of this browser show the desk`;
+    told.push([`${words}: close one, and this one goes on`]);
+  }
   if (page.heard && isSilent()) told.push(["No word from the desk: what is shown here is old"]);
   if (page.unsent) told.push([page.unsent, () => { page.unsent = ""; }]);
   if (state === null) return told;
@@ -339,8 +375,14 @@ function showState(state) {
   showAlarms();
 }
 
+function linkWords() {
+  if (page.isCrowded) return "One page too many";
+  if (!page.heard) return "Waiting for the desk";
+  return isSilent() ? "No word from the desk" : "Desk is there";
+}
+
 function watch() {
-  setText("link", isSilent() ? "No word from the desk" : "Desk is there");
+  setText("link", linkWords());
   showFade();
   showAlarms();
 }
@@ -350,6 +392,7 @@ function listen() {
   const hear = (kind, take) => events.addEventListener(kind, (event) => {
     page.heard = performance.now();
     page.isGone = false;
+    hearClock(Number(event.lastEventId));
     take(JSON.parse(event.data));
     watch();
   });
@@ -374,11 +417,30 @@ function listen() {
     page.isGone = true;
     page.heard ||= 1;
     watch();
+    // A refusal ends it for good; what was cut off is opened again by the browser.
+    if (events.readyState === EventSource.CLOSED) setTimeout(listen, SILENCE);
   });
 }
 
-byId("go").addEventListener("click", () => command("go"));
-byId("back").addEventListener("click", () => command("back"));
+// Listens in one of the few places that the pages of a browser share, or waits until one is free.
+// A place is a lock of the browser, which lets it go with the page, however that ends.
+function takePlace(at) {
+  const name = `${location.pathname}${at}`;
+  navigator.locks.request(name, { ifAvailable: true }, (place) => {
+    page.isCrowded = place === null && at === MOST_PAGES;
+    if (place !== null) {
+      listen();
+      return new Promise(() => {});
+    }
+    if (at < MOST_PAGES) takePlace(at + 1);
+    else setTimeout(takePlace, PLACE_EVERY, 1);
+    showAlarms();
+    return null;
+  }).catch(listen);
+}
+
+byId("go").addEventListener("click", (event) => command("go", event.timeStamp));
+byId("back").addEventListener("click", (event) => command("back", event.timeStamp));
 byId("blackout").addEventListener("click", blackout);
 byId("end").addEventListener("click", askEnd);
 byId("before").addEventListener("click", () => chooseUniverse(-1));
@@ -387,5 +449,7 @@ byId("cues").addEventListener("keydown", moveInCues);
 document.addEventListener("keydown", pressKey);
 document.addEventListener("keyup", pressKey);
 buildGrid();
-listen();
+// Only this machine's own addresses have locks.
+if (navigator.locks) takePlace(1);
+else listen();
 setInterval(watch, 100);

@@ -1,0 +1,183 @@
+"""`tools/desk`: requests that are cut short, slow or many, and presses that come late."""
+
+import contextlib
+import os
+import resource
+import signal
+import socket
+import time
+
+from desks import DeskTest, Page
+from tooling import wait_for
+
+from cueplayer_tools.desk_requests import LONGEST_HEAD, Unreadable, request_in
+
+
+class Requests(DeskTest):
+    def sent(self, page, data, is_over=True):
+        """The status that these bytes are answered with; None where there is no answer."""
+        host, port = page.host.split(":")
+        with socket.create_connection((host, int(port)), timeout=10) as connection:
+            connection.sendall(data)
+            if is_over:
+                connection.shutdown(socket.SHUT_WR)
+            answer = b""
+            with contextlib.suppress(ConnectionResetError):
+                while more := connection.recv(4096):
+                    answer += more
+        return int(answer.split()[1]) if answer else None
+
+    def command(self, page, body, size=None):
+        """A command as bytes, which names this size."""
+        head = (
+            f"POST {page.path}command HTTP/1.1\r\nHost: {page.host}\r\nOrigin: {page.origin}\r\n"
+            f"Desk-Time: {page.desk_time()}\r\nContent-Length: {size or len(body)}\r\n\r\n"
+        )
+        return head.encode() + body
+
+    def test_command_cut_short(self):
+        """A command that does not come whole is none: 10 percent is not 100."""
+        _, page = self.opened()
+        self.assertEqual(400, self.sent(page, self.command(page, b"sub 1 10", size=9)))
+        self.assertEqual(400, self.sent(page, self.command(page, b"sub 1 100", size=8)))
+        self.assertEqual(204, self.sent(page, self.command(page, b"sub 1 20")))
+        page.wait(masters={"sub 1": 51})
+        whole = self.command(page, b"sub 1 100")
+        for size in range(1, len(whole), 7):
+            self.assertEqual(400, self.sent(page, whole[:size]), whole[:size])
+        page.command("group 3 FL")
+        page.wait(masters={"sub 1": 51, "group 3": 255})
+
+    def test_malformed(self):
+        """What is no request is answered, and does nothing."""
+        _, page = self.opened()
+        whole = self.command(page, b"go")
+        cases = {
+            400: (
+                b"\r\n\r\n",
+                b"go\r\n\r\n",
+                b"\0" * 100,
+                whole.replace(b"HTTP/1.1", b"HTTP/2.0"),
+                whole.replace(b"Content", b"Content-Length: 1\r\nContent"),
+                whole.replace(b"Content", b"Transfer-Encoding: chunked\r\nContent"),
+                whole.replace(b"Desk-Time", b"Other"),
+            ),
+            413: (
+                whole.replace(b"Length: 2", b"Length: 201"),
+                whole.replace(b"Length: 2", b"Length: -2"),
+                whole.replace(b"Length: 2", b"Length: x"),
+            ),
+            431: (
+                b"GET / HTTP/1.1\r\nA: " + b"a" * LONGEST_HEAD,
+                whole.replace(b"Content", b"A: b\r\n" * 200 + b"Content"),
+            ),
+        }
+        for status, requests in cases.items():
+            for request in requests:
+                with self.subTest(request[:200]):
+                    self.assertEqual(status, self.sent(page, request))
+        page.command("sub 1 FL")
+        self.assertIsNone(page.wait(masters={"sub 1": 255})["current"])
+
+    def test_pieces(self):
+        """A request that comes in pieces is whole at its last byte, and not before."""
+        whole = b"POST /x HTTP/1.1\r\nHost: here\r\nContent-Length: 2\r\n\r\ngo"
+        for size in range(len(whole)):
+            self.assertIsNone(request_in(whole[:size], False))
+            with self.assertRaises(Unreadable):
+                request_in(whole[:size], True)
+        for is_over in (False, True):
+            request = request_in(whole, is_over)
+            self.assertEqual(("POST", "/x", b"go"), (request.method, request.path, request.body))
+            self.assertEqual("here", request.headers["Host"])
+
+    def test_slow_request(self):
+        """A request has two seconds, however it is spread over them."""
+        _, page = self.opened()
+        whole = self.command(page, b"sub 1 100")
+        for sent in (whole[:1], whole[:-1]):
+            before = time.monotonic()
+            self.assertEqual(408, self.sent(page, sent, is_over=False))
+            self.assertLess(time.monotonic() - before, 8)
+        host, port = page.host.split(":")
+        with socket.create_connection((host, int(port)), timeout=10) as connection:
+            before = time.monotonic()
+            with contextlib.suppress(ConnectionResetError, BrokenPipeError):
+                for at in range(100):
+                    connection.send(whole[at : at + 1])
+                    time.sleep(0.1)
+            self.assertLess(time.monotonic() - before, 8)
+        page.command("group 3 FL")
+        page.wait(masters={"group 3": 255})
+
+    def test_many_slow_connections(self):
+        """However many hold a request back, a press is taken at once."""
+        desk, page = self.opened()
+        few = (200, 200)
+        resource.prlimit(desk.process.pid, resource.RLIMIT_NOFILE, few)
+        host, port = page.host.split(":")
+        front = self.command(page, b"go")[:-1]
+        with contextlib.ExitStack() as held:
+            for turn in range(800):
+                slow = held.enter_context(socket.create_connection((host, int(port))))
+                slow.send(front)
+                if turn % 50 == 0:
+                    before = time.monotonic()
+                    self.assertEqual(204, page.command(f"sub 1 {turn // 50}"))
+                    self.assertLess(time.monotonic() - before, 1)
+            again = Page(self, page.origin + page.path)
+            again.wait(masters={"sub 1": (15 * 255 + 50) // 100}, current=None)
+
+
+class Late(DeskTest):
+    def test_late_press(self):
+        """What was pressed too long ago, or does not say when, is refused, told, and not done."""
+        _, page = self.opened()
+        wait_for(lambda: int(page.desk_time()) > 1500, "the desk's clock")
+        self.assertEqual(409, page.command("go", Desk_Time=page.desk_time(ago=1000)))
+        told = r"^go: pressed [\d.]+ s ago, too late: nothing was sent$"
+        wait_for(page.notices, "a notice")
+        self.assertRegex(page.notices()[0], told)
+        ahead = page.desk_time(ago=-60_000)
+        for time_word in (None, "", "x", "-1", "1.5", "\u00b2", ahead, "9" * 16):
+            with self.subTest(time_word):
+                self.assertEqual(400, page.command("go", Desk_Time=time_word))
+        page.command("sub 1 FL")
+        self.assertIsNone(page.wait(masters={"sub 1": 255})["current"])
+        self.assertEqual(204, page.command("go", Desk_Time=page.desk_time(ago=300)))
+        page.wait(current="1")
+
+    def test_desk_that_stands_still(self):
+        """A press that waited for the desk is not carried out when it goes on."""
+        desk, page = self.opened()
+        host, port = page.host.split(":")
+        head = (
+            f"POST {page.path}command HTTP/1.1\r\nHost: {page.host}\r\nOrigin: {page.origin}\r\n"
+            f"Desk-Time: {page.desk_time()}\r\nContent-Length: 2\r\n\r\ngo"
+        )
+        os.kill(desk.process.pid, signal.SIGSTOP)
+        with socket.create_connection((host, int(port)), timeout=10) as connection:
+            connection.sendall(head.encode())
+            time.sleep(1.2)
+            os.kill(desk.process.pid, signal.SIGCONT)
+            self.assertIn(b" 409 ", connection.recv(4096))
+        page.command("sub 1 FL")
+        self.assertIsNone(page.wait(masters={"sub 1": 255})["current"])
+
+    def test_live_that_reads_nothing(self):
+        """A press that `live` does not read in a second is taken back, and those behind it are
+        refused until `live` reads again."""
+        desk, page = self.opened()
+        os.kill(desk.live, signal.SIGSTOP)
+        self.assertEqual([204, 204], [page.command("go"), page.command("sub 1 FL")])
+        page.wait(late=True, waiting=0, current=None)
+        why = "taken back, live did not read it in a second"
+        told = [f"go: {why}", f"sub 1 HFF: {why}"]
+        self.assertEqual(told, page.notices())
+        self.assertEqual(409, page.command("go"))
+        wait_for(lambda: len(page.notices()) == 3, "a notice")
+        self.assertEqual("go: live does not answer: nothing was sent", page.notices()[-1])
+        os.kill(desk.live, signal.SIGCONT)
+        page.wait(late=False, current=None, masters={})
+        page.command("goto 2")
+        page.wait(current="2", masters={})

@@ -1,0 +1,79 @@
+"""The pipe to a running `live`: the lines that were handed on, and those that it never read.
+
+A press that waits in a pipe is carried out whenever its reader goes on, when nobody expects it. So
+what `live` has not read within a second is read back, and the operator is told.
+"""
+
+import fcntl
+import os
+import struct
+import termios
+import time
+from collections import deque
+
+from cueplayer_tools.words import Refused
+
+# An answer takes some milliseconds.
+LATE = 1.0
+_MOST_IN_PIPE = 65_536
+
+
+class LiveInput:
+    """Standard input of `live`, by which lines are handed on. Each gets one answer, in order."""
+
+    def __init__(self) -> None:
+        self.theirs, self.ours = os.pipe()
+        os.set_blocking(self.ours, False)
+        # Opened anew, since not to block is a property of all who share an opened pipe.
+        again = f"/proc/self/fd/{self.theirs}"
+        self.back = os.open(again, os.O_RDONLY | os.O_NONBLOCK)
+        # The lines without an answer, each behind the time at which it was handed on.
+        self.waiting: deque[tuple[float, str]] = deque()
+        self.is_probed = False
+
+    def give(self, line: str) -> None:
+        """Hands on a line, or refuses it: it is never handed on later."""
+        if self.stands_still():
+            raise Refused("live does not answer: nothing was sent")
+        try:
+            os.write(self.ours, line.encode() + b"\n")
+        except (BlockingIOError, BrokenPipeError) as fault:
+            raise Refused("live takes no line now: nothing was sent") from fault
+        self.waiting.append((time.monotonic(), line))
+
+    def answered(self) -> str | None:
+        """The line that an answer is to: the oldest that waits."""
+        return self.waiting.popleft()[1] if self.waiting else None
+
+    def is_late(self) -> bool:
+        """Whether a line has waited for its answer for too long."""
+        return bool(self.waiting) and time.monotonic() - self.waiting[0][0] > LATE
+
+    def stands_still(self) -> bool:
+        """Whether `live` was seen to read nothing, and has not read since."""
+        if self.is_probed:
+            unread = fcntl.ioctl(self.back, termios.FIONREAD, bytes(4))
+            self.is_probed = struct.unpack("@i", unread) != (0,)
+        return self.is_probed
+
+    def take_back(self) -> list[str]:
+        """Takes back the lines that `live` has not read, where the oldest that waits is late."""
+        if self.stands_still() or not self.is_late():
+            return []
+        try:
+            unread = os.read(self.back, _MOST_IN_PIPE)
+        except BlockingIOError:
+            return []
+        taken: list[str] = []
+        while unread:
+            _, line = self.waiting[-1]
+            if len(line) >= len(unread):
+                # The front of this one was read: the rest belongs to it.
+                break
+            self.waiting.pop()
+            taken.append(line)
+            unread = unread[: -len(line) - 1]
+        # A line without words has no answer. Once it is read, `live` goes on.
+        os.write(self.ours, unread + b"\n")
+        self.is_probed = True
+        return taken[::-1]

@@ -1,0 +1,187 @@
+"""Requests over HTTP that come whole, and in time, or not at all.
+
+Whoever is on this machine may connect, be slow, or be a thousand. One thread reads them all: a
+connection has two seconds for its request, and where too many have not sent theirs the one that
+waits longest is closed for the next. An honest page sends its request at once, so it is served.
+"""
+
+import http.client
+import io
+import re
+import selectors
+import socket
+import time
+from collections.abc import Callable
+from dataclasses import dataclass, field
+from http import HTTPStatus
+
+# A browser's head has some 700 bytes.
+LONGEST_HEAD = 8_192
+LONGEST_BODY = 200
+DEADLINE = 2.0
+MOST_CONNECTIONS = 128
+MOST_AT_ONCE = 32
+HEAD_END = b"\r\n\r\n"
+_FIRST_LINE = re.compile(r"([A-Z]+) (\S+) HTTP/1\.[01]\r\n", re.ASCII)
+
+
+class Unreadable(ValueError):
+    """What came is no request."""
+
+    def __init__(self, status: HTTPStatus) -> None:
+        super().__init__(status.phrase)
+        self.status = status
+
+
+@dataclass(frozen=True)
+class Request:
+    """A request that came whole."""
+
+    method: str
+    path: str
+    headers: http.client.HTTPMessage
+    # None where it names no length, or one that is too great.
+    body: bytes | None
+
+
+def _head_in(head: bytes) -> tuple[str, str, http.client.HTTPMessage]:
+    first = _FIRST_LINE.match(head.decode("latin-1"))
+    if first is None:
+        raise Unreadable(HTTPStatus.BAD_REQUEST)
+    try:
+        headers = http.client.parse_headers(io.BytesIO(head[first.end() :]))
+    except http.client.HTTPException as fault:
+        raise Unreadable(HTTPStatus.REQUEST_HEADER_FIELDS_TOO_LARGE) from fault
+    lengths = headers.get_all("Content-Length", [])
+    if len(lengths) > 1 or headers["Transfer-Encoding"] is not None:
+        raise Unreadable(HTTPStatus.BAD_REQUEST)
+    return first[1], first[2], headers
+
+
+def request_in(data: bytes, is_over: bool) -> Request | None:
+    """The request that these bytes are; None where more has to come. Unreadable where it cannot
+    be one any more: cut off, with more than it says, or too long."""
+    end = data.find(HEAD_END)
+    if end < 0 and not is_over and len(data) <= LONGEST_HEAD:
+        return None
+    if end < 0 or end > LONGEST_HEAD:
+        too_long = HTTPStatus.REQUEST_HEADER_FIELDS_TOO_LARGE
+        raise Unreadable(too_long if len(data) > LONGEST_HEAD else HTTPStatus.BAD_REQUEST)
+    body_at = end + len(HEAD_END)
+    method, path, headers = _head_in(data[:body_at])
+    length, body = headers.get("Content-Length", ""), data[body_at:]
+    if method != "POST" or not re.fullmatch(r"[0-9]{1,9}", length) or int(length) > LONGEST_BODY:
+        return Request(method, path, headers, None)
+    missing = int(length) - len(body)
+    if missing < 0 or (missing and is_over):
+        raise Unreadable(HTTPStatus.BAD_REQUEST)
+    return None if missing else Request(method, path, headers, body)
+
+
+@dataclass
+class _Arrival:
+    """A connection whose request has not come whole yet."""
+
+    connection: socket.socket
+    until: float
+    data: bytearray = field(default_factory=bytearray)
+
+
+class Entrance:
+    """Where connections come in."""
+
+    def __init__(
+        self,
+        listener: socket.socket,
+        take: Callable[[socket.socket, Request], None],
+        refuse: Callable[[socket.socket, HTTPStatus], None],
+    ) -> None:
+        """`take` and `refuse` get each connection, which does not block, as their own. Neither
+        may wait."""
+        self.listener = listener
+        self.listener.setblocking(False)
+        self.take = take
+        self.refuse = refuse
+        # Those that came first stand first.
+        self.arrivals: dict[socket.socket, _Arrival] = {}
+        self.selector = selectors.DefaultSelector()
+        self.selector.register(listener, selectors.EVENT_READ)
+
+    def serve(self) -> None:
+        """Serves for ever."""
+        while True:
+            ready = self.selector.select(self._patience())
+            for key, _ in ready:
+                if key.fileobj is self.listener:
+                    self._accept()
+                elif (arrival := self.arrivals.get(key.fileobj)) is not None:
+                    self._read(arrival)
+            self._close_late()
+
+    def _patience(self) -> float | None:
+        for arrival in self.arrivals.values():
+            return max(arrival.until - time.monotonic(), 0.0)
+        return None
+
+    def _accept(self) -> None:
+        for _ in range(MOST_AT_ONCE):
+            try:
+                connection, _ = self.listener.accept()
+            except BlockingIOError:
+                return
+            except OSError:
+                # No descriptor is left: the oldest gives its own.
+                self._close_oldest()
+                return
+            if len(self.arrivals) >= MOST_CONNECTIONS:
+                self._close_oldest()
+            connection.setblocking(False)
+            self.arrivals[connection] = _Arrival(connection, time.monotonic() + DEADLINE)
+            self.selector.register(connection, selectors.EVENT_READ)
+
+    def _read(self, arrival: _Arrival) -> None:
+        try:
+            more = arrival.connection.recv(LONGEST_HEAD + LONGEST_BODY)
+        except BlockingIOError:
+            return
+        except OSError:
+            more = b""
+        arrival.data += more
+        try:
+            request = request_in(bytes(arrival.data), not more)
+        except Unreadable as fault:
+            self._leave(arrival)
+            self.refuse(arrival.connection, fault.status)
+            return
+        if request is not None:
+            self._leave(arrival)
+            self._take(arrival.connection, request)
+
+    def _take(self, connection: socket.socket, request: Request) -> None:
+        try:
+            self.take(connection, request)
+        except Exception:
+            # A fault at one request must not end the answers to all others.
+            connection.close()
+
+    def _leave(self, arrival: _Arrival) -> None:
+        self.selector.unregister(arrival.connection)
+        del self.arrivals[arrival.connection]
+
+    def _close_oldest(self) -> None:
+        for arrival in self.arrivals.values():
+            self._leave(arrival)
+            arrival.connection.close()
+            return
+        # Others of this process hold all descriptors; one will be free.
+        time.sleep(0.01)
+
+    def _close_late(self) -> None:
+        now = time.monotonic()
+        for arrival in [each for each in self.arrivals.values() if each.until <= now]:
+            self._leave(arrival)
+            if arrival.data:
+                self.refuse(arrival.connection, HTTPStatus.REQUEST_TIMEOUT)
+            else:
+                # A browser's connection to spare.
+                arrival.connection.close()
