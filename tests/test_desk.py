@@ -9,15 +9,18 @@ import socket
 import subprocess
 import sys
 import time
+import unittest
 import uuid
 
-from desks import DeskTest, Page
+from desks import SHOW, DeskTest, Page
 from program import CID, packet, text
 from test_osc import GREATEST_DOUBLE, message
 from tooling import PATIENCE, TOOLS, Started, run_tool, wait_for
 from wire import OPTIONS, TERMINATED, address_of, own_network, receiving
 
-from cueplayer_tools.show import has_follow_ons
+from cueplayer_tools.desk_night import State
+from cueplayer_tools.position import Position
+from cueplayer_tools.show import has_follow_ons, read_names
 from cueplayer_tools.teller import Teller
 
 
@@ -364,6 +367,18 @@ class Outputs(DeskTest):
             counted = sum(int(found[1]) for found in dropped if found)
             self.assertLessEqual(len(kept) + counted, 50)
             self.assertGreaterEqual(counted, 39)
+
+
+class Notices(unittest.TestCase):
+    def test_flood(self):
+        """What is refused of Open Sound Control drives out nothing but its like."""
+        state = State(Position(read_names(SHOW)))
+        state.tell("fault", "kept")
+        for number in range(100):
+            state.tell("osc", f"OSC: {number}")
+        self.assertEqual(["kept", "OSC: 99"], [notice.text for notice in state.notices])
+        state.accept(0, "go")
+        self.assertEqual(["kept"], [notice.text for notice in state.notices])
 
 
 class Cid(DeskTest):

@@ -2,6 +2,7 @@
 
 import contextlib
 import os
+import random
 import resource
 import signal
 import socket
@@ -90,6 +91,29 @@ class Requests(DeskTest):
             request = request_in(whole, is_over)
             self.assertEqual(("POST", "/x", b"go"), (request.method, request.path, request.body))
             self.assertEqual("here", request.headers["Host"])
+
+    def test_damaged(self):
+        """Whatever comes is a request, no request, or not whole; nothing else is raised."""
+        chance = random.Random(38)
+        whole = (
+            b"POST /x HTTP/1.1\r\nHost: here\r\nOrigin: http://here\r\nDesk-Time: 1\r\n"
+            b"Content-Length: 2\r\n\r\ngo"
+        )
+        for _ in range(5_000):
+            data = bytearray(whole)
+            for _ in range(chance.randint(1, 4)):
+                at, size = chance.randint(0, len(data)), chance.randint(0, 9)
+                match chance.randrange(3):
+                    case 0:
+                        data[at:at] = chance.randbytes(size)
+                    case 1:
+                        del data[at : at + size]
+                    case _:
+                        data[at:at] = data[at : at + 10 * size]
+            for is_over in (False, True):
+                with contextlib.suppress(Unreadable):
+                    request = request_in(bytes(data), is_over)
+                    self.assertTrue(request is not None or not is_over)
 
     def test_slow_request(self):
         """A request has two seconds, however it is spread over them."""

@@ -147,7 +147,7 @@ def run_desk(words: argparse.Namespace, tell: Teller, tell_address: Teller) -> i
         levels.read(night.wake)
         server.show(night, levels, view)
         if receiver is not None:
-            port = OscPort(receiver, lambda text: night.refuse(f"OSC: {text}"))
+            port = OscPort(receiver, lambda text: night.refuse(f"OSC: {text}", "osc"))
             threading.Thread(target=_take_osc, args=(night, port), daemon=True).start()
         tell(f"console {words.cid}, live is process {night.process.pid}")
         _watch(night, server, presses)

@@ -9,6 +9,7 @@ The program holds the desk's ends of its pipes open too: should the desk be kill
 input does not end and its output is not refused, and the light stays as it is.
 """
 
+import fcntl
 import os
 import subprocess
 import threading
@@ -26,6 +27,8 @@ from cueplayer_tools.words import Refused, command_line, level_byte, printable
 
 FULL = 255
 NOTICES_KEPT = 20
+# The most that Linux grants to everybody.
+PIPE_ROOM = 1 << 20
 
 
 @dataclass(frozen=True)
@@ -64,6 +67,9 @@ class State:
     status: int | None = None
 
     def tell(self, kind: str, text: str) -> None:
+        if kind == "osc":
+            # One of a flood must not drive out what else was told.
+            self._forget("osc")
         self.told += 1
         self.notices.append(Notice(self.told, kind, text))
 
@@ -80,8 +86,11 @@ class State:
             self.is_ending = True
         elif kind in MOVES:
             # What was refused before a move is behind us; other notices stay.
-            kept = [notice for notice in self.notices if notice.kind != "refused"]
-            self.notices = deque(kept, NOTICES_KEPT)
+            self._forget("refused", "osc")
+
+    def _forget(self, *kinds: str) -> None:
+        kept = [notice for notice in self.notices if notice.kind not in kinds]
+        self.notices = deque(kept, NOTICES_KEPT)
 
 
 class Clock:
@@ -111,6 +120,17 @@ def playing(cid: str) -> int | None:
     return None
 
 
+def _roomy_pipe() -> tuple[int, int]:
+    """A pipe with as much room as the system grants, for a desk that is held up for a while."""
+    reader, writer = os.pipe()
+    try:
+        fcntl.fcntl(writer, fcntl.F_SETPIPE_SZ, PIPE_ROOM)
+    except OSError:
+        # The usual 64 KB will do.
+        pass
+    return reader, writer
+
+
 class Night:
     """The program `live`, as long as it runs, and its state."""
 
@@ -131,8 +151,8 @@ class Night:
         self.version = 0
         self.changed = threading.Condition()
         self.input = LiveInput()
-        output, their_output = os.pipe()
-        faults, their_faults = os.pipe()
+        output, their_output = _roomy_pipe()
+        faults, their_faults = _roomy_pipe()
         # In a session of its own: control-C at the desk's terminal must not end the light.
         self.process = subprocess.Popen(
             [program(), "live", *words],
@@ -215,10 +235,10 @@ class Night:
                 raise Refused("the night has ended")
             self.input.give(line)
 
-    def refuse(self, text: str) -> None:
+    def refuse(self, text: str, kind: str = "refused") -> None:
         """Tells all pages of what was refused before it came to `live`."""
         with self.changed:
-            self.state.tell("refused", text)
+            self.state.tell(kind, text)
             self._change()
 
     def watch(self) -> None:

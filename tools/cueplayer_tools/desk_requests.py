@@ -149,24 +149,20 @@ class Entrance:
         arrival.data += more
         try:
             request = request_in(bytes(arrival.data), not more)
+            if request is not None:
+                self._leave(arrival)
+                self.take(arrival.connection, request)
         except Unreadable as fault:
             self._leave(arrival)
             self.refuse(arrival.connection, fault.status)
-            return
-        if request is not None:
-            self._leave(arrival)
-            self._take(arrival.connection, request)
-
-    def _take(self, connection: socket.socket, request: Request) -> None:
-        try:
-            self.take(connection, request)
         except Exception:
             # A fault at one request must not end the answers to all others.
-            connection.close()
+            self._leave(arrival)
+            arrival.connection.close()
 
     def _leave(self, arrival: _Arrival) -> None:
-        self.selector.unregister(arrival.connection)
-        del self.arrivals[arrival.connection]
+        if self.arrivals.pop(arrival.connection, None) is not None:
+            self.selector.unregister(arrival.connection)
 
     def _close_oldest(self) -> None:
         for arrival in self.arrivals.values():
