@@ -143,7 +143,7 @@ class DeskPage(DeskTest):
         desk, page, state = self.shown_page()
         os.kill(desk.process.pid, signal.SIGSTOP)
         page.press(" ", "Space", " ")
-        told = "go: nothing was sent: not answered within a second"
+        told = "go: nothing was sent: no answer within a second; press again"
         page.wait(f"document.getElementById('alarms').innerText.includes('{told}')")
         os.kill(desk.process.pid, signal.SIGCONT)
         page.wait("!document.body.classList.contains('is-dead')")
@@ -152,6 +152,17 @@ class DeskPage(DeskTest):
         page.press(" ", "Space", " ")
         state.wait(current="1")
         page.wait("document.getElementById('alarms').innerText === ''")
+
+    def test_page_that_is_busy(self):
+        """A press is as old as its event: it is told, and not carried out after the page's rest."""
+        _, page, state = self.shown_page()
+        busy = "const until = performance.now() + 1500; while (performance.now() < until);"
+        page.value(f"setTimeout(() => {{ {busy} }}, 0)")
+        page.press(" ", "Space", " ")
+        told = "go: nothing was sent: this page was busy for a second; press again"
+        page.wait(f"document.getElementById('alarms').innerText.includes('{told}')")
+        state.command("sub 1 FL")
+        self.assertIsNone(state.wait(masters={"sub 1": 255})["current"])
 
     def test_many_pages(self):
         """Four pages of a browser listen, so that presses have a way; a fifth is told."""

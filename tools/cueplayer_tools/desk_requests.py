@@ -127,7 +127,7 @@ class Entrance:
         for _ in range(MOST_AT_ONCE):
             try:
                 connection, _ = self.listener.accept()
-            except BlockingIOError:
+            except (BlockingIOError, ConnectionAbortedError):
                 return
             except OSError:
                 # No descriptor is left: the oldest gives its own.

@@ -51,11 +51,15 @@ async function command(line, pressed) {
     const answer = await fetch("command", request);
     page.unsent = answer.ok || answer.status === 409 ? "" : `${line}: not taken by the desk`;
   } catch {
-    const why = stop.signal.aborted ? "not answered within a second" : "the desk was not reached";
-    page.unsent = `${line}: nothing was sent: ${why}`;
+    page.unsent = `${line}: nothing was sent: ${whyUnsent(left, stop.signal.aborted)}`;
   }
   clearTimeout(timer);
   showAlarms();
+}
+
+function whyUnsent(left, isAborted) {
+  if (left <= 0) return "this page was busy for a second; press again";
+  return isAborted ? "no answer within a second; press again" : "the desk was not reached";
 }
 
 // The desk says its time with each event. One that took long to come says too little, so of
