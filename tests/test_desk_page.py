@@ -23,6 +23,19 @@ class DeskPage(DeskTest):
         page.wait("!document.body.classList.contains('is-dead')")
         return desk, page, Page(self, address)
 
+    def wait_for_alarm(self, page, *told):
+        """Waits until an alarm says one of these."""
+        found = set()
+
+        def is_told():
+            found.add(page.text("alarms"))
+            return any(words in text for words in told for text in found)
+
+        try:
+            wait_for(is_told, told)
+        except AssertionError as late:
+            raise AssertionError(f"{told} in {found}") from late
+
     def assertNoFaults(self):
         """Nothing was refused by the page's own policy, and no script failed."""
         self.assertEqual([], self.browser.faults)
@@ -144,7 +157,8 @@ class DeskPage(DeskTest):
         os.kill(desk.process.pid, signal.SIGSTOP)
         page.press(" ", "Space", " ")
         told = "go: nothing was sent: no answer within a second; press again"
-        page.wait(f"document.getElementById('alarms').innerText.includes('{told}')")
+        # A machine that is so busy that the press comes to the page late finds the page dead.
+        self.wait_for_alarm(page, told, "No word from the desk")
         os.kill(desk.process.pid, signal.SIGCONT)
         page.wait("!document.body.classList.contains('is-dead')")
         state.command("sub 1 FL")
@@ -160,7 +174,7 @@ class DeskPage(DeskTest):
         page.value(f"setTimeout(() => {{ {busy} }}, 0)")
         page.press(" ", "Space", " ")
         told = "go: nothing was sent: this page was busy for a second; press again"
-        page.wait(f"document.getElementById('alarms').innerText.includes('{told}')")
+        self.wait_for_alarm(page, told)
         state.command("sub 1 FL")
         self.assertIsNone(state.wait(masters={"sub 1": 255})["current"])
 
