@@ -3,6 +3,7 @@
 import math
 import random
 import re
+import select
 import signal
 import socket
 import struct
@@ -18,7 +19,9 @@ from tooling import PATIENCE, TOOLS, Started, run_tool, wait_for
 from wire import SLOT_1, address_of, received, receiving
 from worked import S1
 
+from cueplayer_tools.addresses import bound_socket
 from cueplayer_tools.osc_lines import lines_of
+from cueplayer_tools.osc_port import OscPort
 from cueplayer_tools.words import command_line
 
 
@@ -212,6 +215,59 @@ class Lines(unittest.TestCase):
             self.assertEqual(line, command_line(line))
         for text in refused:
             self.assertRegex(text, r"\A[ -~]{1,200}\Z")
+
+
+class Port(unittest.TestCase):
+    def setUp(self):
+        self.told, self.lines = [], []
+        self.receiver = bound_socket(("127.0.0.1", 0))
+        self.addCleanup(self.receiver.close)
+        self.port = OscPort(self.receiver, self.told.append)
+
+    def sender(self):
+        sender = socket.socket(socket.AF_INET, socket.SOCK_DGRAM)
+        self.addCleanup(sender.close)
+        sender.connect(self.receiver.getsockname())
+        return sender
+
+    def take(self):
+        """Takes all that has come."""
+        while select.select([self.receiver], [], [], 0)[0]:
+            self.port.take(self.lines.append)
+
+    def test_one_sender_floods(self):
+        """What one sends without end leaves room for the presses of others."""
+        one, other = self.sender(), self.sender()
+        began = time.monotonic()
+        for _ in range(1_500):
+            one.send(GO)
+            self.take()
+        other.send(message("/cueplayer/back"))
+        self.take()
+        self.assertEqual("back", self.lines[-1])
+        seconds = 1 + int(time.monotonic() - began)
+        self.assertLessEqual(len(self.lines), 1_000 * seconds + 1)
+        self.assertLessEqual(len(self.told), seconds + 1)
+        self.assertIn("go", self.lines)
+
+    def test_lost(self):
+        """What found no room before it was read is counted, and told."""
+        sender, sent = self.sender(), 40_000
+        for _ in range(sent):
+            sender.send(b"/cueplayer/")
+        time.sleep(1.1)
+        self.take()
+        time.sleep(1.1)
+        self.assertEqual(0.0, self.port.patience())
+        self.port.take(self.lines.append)
+        told = " ".join(self.told)
+        lost = sum(map(int, re.findall(r"(\d+) datagrams lost, unread", told)))
+        refused = sum(map(int, re.findall(r"refused (\d+) in a second", told)))
+        self.assertEqual(sent, lost + refused + told.count("refused from"))
+        self.assertGreater(lost, 0)
+        time.sleep(1.1)
+        self.port.take(self.lines.append)
+        self.assertIsNone(self.port.patience())
 
 
 class Flood:
