@@ -231,10 +231,12 @@ class Ends(DeskTest):
         desk.process.terminate()
         desk.process.wait(PATIENCE)
         lines = [line.split()[1:] for line in record.read_text().splitlines()]
-        commands = [line for line in lines if line != ["tick"]]
+        # What `live` does by itself to end a night is no line of the desk.
+        commands = [line for line in lines if line not in (["tick"], ["master", "0"])]
         self.assertEqual([["back"], ["go"], ["end"]], commands)
         told = [line.split()[1:] for line in replies.read_text().splitlines()]
-        self.assertEqual([["refused", "AtStart"], ["ok"], ["ok"]], told)
+        self.assertEqual([["refused", "AtStart"], ["ok"], ["ok"]], told[:3])
+        self.assertTrue(all(answer == ["ok"] for answer in told[3:]), told)
         again = run_tool("desk", self.show, "--to", self.to, "--replies", replies)
         self.assertEqual(2, again.returncode)
 

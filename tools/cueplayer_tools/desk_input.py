@@ -45,6 +45,10 @@ class LiveInput:
         """The line that an answer is to: the oldest that waits."""
         return self.waiting.popleft()[1] if self.waiting else None
 
+    def has_end(self) -> bool:
+        """Whether an `end` waits for its answer. Nothing is handed on behind it."""
+        return bool(self.waiting) and self.waiting[-1][1] == "end"
+
     def is_late(self) -> bool:
         """Whether a line has waited for its answer for too long."""
         return bool(self.waiting) and time.monotonic() - self.waiting[0][0] > LATE

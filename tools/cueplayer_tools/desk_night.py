@@ -201,7 +201,7 @@ class Night:
         moment, *words = line.split()
         self.clock.hear(int(moment))
         if words[0] in ("ok", "refused"):
-            # Where no line waits it is the `end` that the program gives at last.
+            # Where no line waits it is of what the program does to end the night.
             asked = self.input.answered() or "end"
             if words[0] == "ok":
                 self.state.accept(int(moment), asked)
@@ -233,6 +233,9 @@ class Night:
         with self.changed:
             if self.state.status is not None:
                 raise Refused("the night has ended")
+            # Behind an `end` the program takes no line, and answers none.
+            if self.state.is_ending or self.input.has_end():
+                raise Refused("the night is ending")
             self.input.give(line)
 
     def refuse(self, text: str, kind: str = "refused") -> None:
