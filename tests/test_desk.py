@@ -351,6 +351,18 @@ class Outputs(DeskTest):
             page.wait(current="1")
             desk.terminate()
 
+    def test_end_that_nobody_reads(self):
+        """A desk that can tell nothing ends its night all the same, with its status."""
+        reader, writer = self.full_pipe()
+        words = [sys.executable, TOOLS / "desk", self.show, "--to", self.to, "--cid", self.cid]
+        with reader, writer:
+            desk = subprocess.Popen(words, stdout=writer, stderr=writer)
+            self.addCleanup(desk.kill)
+            wait_for(lambda: self.came(0.05), "packets")
+            desk.terminate()
+            self.assertEqual(0, desk.wait(PATIENCE))
+        self.assertTrue(self.came()[-1][OPTIONS] & TERMINATED)
+
     def test_told_too_much(self):
         """What finds no room is counted, and told once somebody reads again."""
         reader, writer = self.full_pipe()

@@ -18,7 +18,7 @@ from cueplayer_tools.desk_server import DeskServer
 from cueplayer_tools.desk_view import show_view
 from cueplayer_tools.osc_port import OscPort
 from cueplayer_tools.show import read_show
-from cueplayer_tools.teller import Teller
+from cueplayer_tools.teller import Teller, leave_all
 from cueplayer_tools.words import Refused
 
 # How long a second control-C counts, and how long `live` may take to end.
@@ -164,13 +164,11 @@ def main(words: list[str]) -> int:
     """Runs the tool with these words, and answers its exit status."""
     chosen = _parser().parse_args(words)
     tell, tell_address = Teller(sys.stderr, "desk: "), Teller(sys.stdout)
+    status = 1
     try:
-        return run_desk(chosen, tell, tell_address)
+        status = run_desk(chosen, tell, tell_address)
     except (Refused, argparse.ArgumentTypeError) as fault:
         tell(str(fault))
     except OSError as fault:
         tell(f"cannot begin: {fault.strerror}")
-    finally:
-        tell.leave()
-        tell_address.leave()
-    return 1
+    return leave_all(status, tell, tell_address)

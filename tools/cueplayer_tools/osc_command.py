@@ -12,7 +12,7 @@ import time
 
 from cueplayer_tools.addresses import bound_socket, listening_address
 from cueplayer_tools.osc_port import LATE, OscPort
-from cueplayer_tools.teller import Teller
+from cueplayer_tools.teller import Teller, leave_all
 from cueplayer_tools.words import Refused
 
 USUAL = "127.0.0.1:8000"
@@ -82,13 +82,11 @@ def main(words: list[str]) -> int:
         receiver = bound_socket(address)
     except OSError as fault:
         tell(f"cannot listen at {address[0]}:{address[1]}: {fault.strerror}")
-        tell.leave()
-        return 1
+        return leave_all(1, tell)
     tell("listening at {}:{}".format(*receiver.getsockname()))
     with receiver:
         try:
             serve(OscPort(receiver, tell), Output(sys.stdout.fileno()))
         except (BrokenPipeError, KeyboardInterrupt):
             pass
-    tell.leave()
-    return 0
+    return leave_all(0, tell)

@@ -1,5 +1,6 @@
 """Telling lines without waiting for whoever reads them."""
 
+import os
 import queue
 import threading
 from collections.abc import Callable
@@ -58,3 +59,16 @@ class Teller:
         """What was told is written, if it can be at once."""
         self.lines.put("")
         self.printer.join(1.0)
+
+    def is_stuck(self) -> bool:
+        """Whether the stream takes nothing: then the interpreter could not close it at its end."""
+        return self.printer.is_alive()
+
+
+def leave_all(status: int, *tellers: Teller) -> int:
+    """The status of a tool that ends, behind what its tellers still can tell."""
+    for teller in tellers:
+        teller.leave()
+    if any(teller.is_stuck() for teller in tellers):
+        os._exit(status)
+    return status
