@@ -55,14 +55,25 @@ class LiveInput:
 
     def stands_still(self) -> bool:
         """Whether `live` was seen to read nothing, and has not read since."""
-        if self.is_probed:
-            unread = fcntl.ioctl(self.back, termios.FIONREAD, bytes(4))
-            self.is_probed = struct.unpack("@i", unread) != (0,)
+        self.is_probed = self.is_probed and self._unread() > 0
         return self.is_probed
 
+    def _unread(self) -> int:
+        """How many bytes `live` has not read yet."""
+        return struct.unpack("@i", fcntl.ioctl(self.back, termios.FIONREAD, bytes(4)))[0]
+
+    def _is_unread_late(self) -> bool:
+        """Whether the oldest line that was not read yet has waited for too long."""
+        unread, oldest = self._unread(), time.monotonic()
+        for given, line in reversed(self.waiting):
+            if unread <= 0:
+                break
+            unread, oldest = unread - len(line) - 1, given
+        return time.monotonic() - oldest > LATE
+
     def take_back(self) -> list[str]:
-        """Takes back the lines that `live` has not read, where the oldest that waits is late."""
-        if self.stands_still() or not self.is_late():
+        """Takes back the lines that `live` has not read, where the oldest of them is late."""
+        if self.stands_still() or not self._is_unread_late():
             return []
         try:
             unread = os.read(self.back, _MOST_IN_PIPE)
