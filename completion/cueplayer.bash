@@ -1,13 +1,13 @@
 # Completion for bash of the words of cueplayer: jobs, options, files.
 # shellcheck shell=bash
 
-# The options of a job. Each takes a value.
+# The options of a job. Each but --end-with-input takes a value.
 _cueplayer_options() {
     case $1 in
         look) echo --cid ;;
         slots) echo --base ;;
         play) echo --to --cid --priority --base ;;
-        live) echo --to --cid --priority --base --record ;;
+        live) echo --to --cid --priority --base --record --end-with-input ;;
     esac
 }
 
@@ -51,7 +51,7 @@ _cueplayer_parse() {
         elif [[ $word == -- ]]; then
             words_only=1
         elif [[ $word == -?* && -z $words_only ]]; then
-            [[ $word == -h || $word == --help ]] || option=$word
+            [[ $word == -h || $word == --help || $word == --end-with-input ]] || option=$word
             used+="$word "
         elif [[ -z $job ]]; then
             job=$word

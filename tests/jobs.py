@@ -8,7 +8,7 @@ from program import run
 
 
 class Job(NamedTuple):
-    """The words of a job in their order, and its options, each with the name of its value."""
+    """The words of a job in their order, and its options, each with the name of its value: none of a flag."""
 
     arguments: list
     options: dict
@@ -27,8 +27,8 @@ def jobs():
 
 
 def job_in(text):
-    """The job whose help this is. Each option but --help has a value."""
+    """The job whose help this is."""
     listed = text.partition("Arguments:\n")[2].partition("\n\n")[0]
     arguments = re.findall(r"(?m)^  <([A-Z]+)>", listed)
     options = text.partition("Options:\n")[2].partition("\n\n")[0]
-    return Job(arguments, dict(re.findall(r"(?m)^ +(--[a-z]+) <([A-Z]+)>", options)))
+    return Job(arguments, dict(re.findall(r"(?m)^ +(--[a-z-]+)(?: <([A-Z]+)>)?", options)))

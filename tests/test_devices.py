@@ -126,6 +126,7 @@ class Floods(FolderTest):
         """A night that the system holds for a second goes on: what it missed is not made up for."""
         record = self.folder / "night.play"
         words = [PROGRAM, "live", self.show, "--to", "127.0.0.1:9", "--cid", CID, "--record", record]
+        words.append("--end-with-input")
         night = subprocess.Popen(words, stdin=subprocess.PIPE, stdout=subprocess.PIPE)
         self.addCleanup(night.kill)
         while not record.exists() or record.read_bytes().count(b"tick") < 4:
@@ -161,7 +162,7 @@ class Outputs(ProgramTest):
             (("explain", "-"), b"WHAT\n" + SHOW),
             (("rehearse", show, script), b""),
             (("play", show, *to), b"0 tick\n"),
-            (("live", show, *to), b"go\n"),
+            (("live", show, *to, "--end-with-input"), b"go\n"),
         )
 
     def assertOutputFails(self, **options):

@@ -214,7 +214,7 @@ class Live(FailingCalls):
 
     def lived(self, *failures, stdin=b"sub 1 FL\nend\n"):
         """How a night ends, without its moments, and what came of its packets."""
-        words = ["live", self.show, "--to", self.to, *self.WORDS]
+        words = ["live", self.show, "--to", self.to, *self.WORDS, "--end-with-input"]
         status, out, err = self.failing(words, stdin, *failures)
         return status, without_moments(out), err, self.came()
 
@@ -245,11 +245,11 @@ class Live(FailingCalls):
             self.assertEqual((5, ["ok"] * (write - 1), DEVICE_FAULT), (status, out, err))
 
     def test_reads_that_fail(self):
-        """Nothing there yet is no fault; an input that cannot be read any more is one."""
+        """Nothing there yet is no fault; an input that cannot be read any more has ended."""
         status, out, err, _ = self.lived(("read", 1, 5, errno.EAGAIN))
         self.assertEqual((0, ["ok", "ok"], b""), (status, out, err))
         status, out, err, _ = self.lived(("read", 1, 1, errno.EIO))
-        self.assertEqual((5, [], DEVICE_FAULT), (status, out, err))
+        self.assertEqual((0, ["ok"], b""), (status, out, err))
 
     def test_input_cut(self):
         """In the middle of a line: what is there of it is a line, and the end of the night is given."""
@@ -297,7 +297,7 @@ class Network(FailingCalls):
 
     def test_network_that_comes(self):
         """A night that begins without its network goes on once it is there."""
-        words = [PROGRAM, "live", self.show, "--to", "127.0.0.1", "--cid", CID]
+        words = [PROGRAM, "live", self.show, "--to", "127.0.0.1", "--cid", CID, "--end-with-input"]
         done = subprocess.run(
             [*own_network(self), sys.executable, "-c", WITHOUT_NETWORK, *words],
             capture_output=True,

@@ -78,6 +78,7 @@ class HostileLive(unittest.TestCase):
             show.write_bytes(S1)
             to = address_of(socket)
             words = [PROGRAM, "live", show, "--to", to, "--cid", CID, "--record", record]
+            words.append("--end-with-input")
             night = subprocess.Popen(
                 words, stdin=subprocess.PIPE, stdout=subprocess.PIPE, stderr=subprocess.PIPE, bufsize=0
             )

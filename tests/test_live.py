@@ -3,6 +3,7 @@
 import os
 import pty
 import re
+import signal
 import subprocess
 import time
 
@@ -14,6 +15,11 @@ OTHER = CID[:-1] + "2"
 MOMENT = re.compile(rb"^\d+ ", re.MULTILINE)
 
 
+def ignore_hang_up():
+    """For a program whose terminal may go away."""
+    signal.signal(signal.SIGHUP, signal.SIG_IGN)
+
+
 def without_moments(printed):
     """What was printed, without the moments."""
     return MOMENT.sub(b"", printed).decode().splitlines()
@@ -22,10 +28,12 @@ def without_moments(printed):
 class LiveTest(ReceiverTest):
     SHOW = S1
 
-    def words(self, *options, cid=CID, to=None):
-        return ["live", self.show, "--to", to or self.to, "--cid", cid, *options]
+    def words(self, *options, cid=CID, to=None, holds=False):
+        """A night that ends with its input, unless it is to hold the light."""
+        ends = [] if holds else ["--end-with-input"]
+        return ["live", self.show, "--to", to or self.to, "--cid", cid, *ends, *options]
 
-    def begun(self, *options, stdin=subprocess.PIPE, **kept):
+    def begun(self, *options, stdin=subprocess.PIPE, preexec_fn=None, **kept):
         """A night that has begun."""
         night = subprocess.Popen(
             [PROGRAM, *self.words(*options, **kept)],
@@ -33,6 +41,7 @@ class LiveTest(ReceiverTest):
             stdout=subprocess.PIPE,
             stderr=subprocess.PIPE,
             bufsize=0,
+            preexec_fn=preexec_fn,
         )
         self.addCleanup(night.kill)
         return night
@@ -78,7 +87,7 @@ class Live(LiveTest):
         self.assertEqual(packet(1, {}, came[-1][SEQUENCE], TERMINATED), came[-1])
 
     def test_closed_input(self):
-        """The end of the input is the end of the night; a last line needs no LF."""
+        """With --end-with-input the end of the input is that of the night; a last line needs no LF."""
         for typed, replies in ((b"", []), (b"go", ["ok"]), (b"go\nback\nend", ["ok", "refused AtStart", "ok"])):
             with self.subTest(typed):
                 outcome = run(*self.words(), stdin=typed)
@@ -86,6 +95,25 @@ class Live(LiveTest):
                 told = without_moments(outcome.out)
                 self.assertEqual(replies + (["ok"] if b"end" not in typed else []), told)
                 self.assertTerminated(self.came())
+
+    def test_closed_input_holds(self):
+        """The end of the input ends no night: the light holds, and it is told once how it ends."""
+        night = self.begun(holds=True)
+        self.typed(night, b"sub 1 FL")
+        night.stdin.close()
+        line = night.stderr.readline()
+        self.assertTrue(line.startswith(b"input ended: the light holds; SIGTERM "), line)
+        self.assertEqual(["ok"], without_moments(night.stdout.readline()))
+        time.sleep(0.3)
+        self.came()
+        time.sleep(1)
+        came = self.came()
+        self.assertIsNone(night.poll())
+        self.assertIn(len(came), (1, 2))
+        self.assertEqual({(128, 0)}, {(each[SLOT_1], each[OPTIONS]) for each in came})
+        night.terminate()
+        self.assertEqual(-signal.SIGTERM, night.wait(timeout=30))
+        self.assertEqual((b"", b""), (night.stdout.read(), night.stderr.read()))
 
     def test_after_end(self):
         """What is typed after `end` is answered as a desk answers it."""
@@ -176,7 +204,7 @@ class Live(LiveTest):
         self.assertTerminated(self.came())
 
     def test_terminal(self):
-        """A terminal is read as a pipe is; its end of input, control-D, ends the night."""
+        """A terminal is read as a pipe is; its end of input, control-D, ends a night that ends so."""
         ours, theirs = pty.openpty()
         night = self.begun(stdin=theirs)
         os.close(theirs)
@@ -188,6 +216,32 @@ class Live(LiveTest):
         os.close(ours)
         self.assertEqual((0, b"", ["ok"]), (outcome.status, outcome.err, without_moments(outcome.out)))
         self.assertIn(128, [each[SLOT_1] for each in self.came()])
+
+    def test_terminal_that_holds(self):
+        """Control-D is answered in words, each time, and the terminal is read on; where it is gone the
+        light holds."""
+        for ends in (True, False):
+            with self.subTest(ends=ends):
+                ours, theirs = pty.openpty()
+                night = self.begun(stdin=theirs, holds=True, preexec_fn=ignore_hang_up)
+                os.close(theirs)
+                for _ in range(2):
+                    os.write(ours, b"\x04")
+                    self.assertEqual(b"type end to end the night\n", night.stderr.readline())
+                os.write(ours, b"sub 1 FL\n")
+                self.assertEqual(["ok"], without_moments(night.stdout.readline()))
+                if ends:
+                    os.write(ours, b"end\n")
+                    outcome = self.ended(night)
+                    os.close(ours)
+                    self.assertEqual((0, b""), (outcome.status, outcome.err))
+                else:
+                    os.close(ours)
+                    self.assertTrue(night.stderr.readline().startswith(b"input ended: the light holds; "))
+                    time.sleep(0.3)
+                    self.assertIsNone(night.poll())
+                    night.terminate()
+                    self.assertEqual((-signal.SIGTERM, b"", b""), self.ended(night))
 
     def test_input_from_a_file(self):
         """A file's lines are there at once, and so is its end."""

@@ -85,7 +85,7 @@ class Levels(PictureTest):
             to = address_of(receiver)
             content = text("CUE 1", "UP 1", "CHAN 1@FL", "PATCH 1 1<1@FL")
             file, kept = self.file("show.asc", content), self.folder / "night.play"
-            words = ["live", file, "--to", to, "--cid", CID, "--record", kept]
+            words = ["live", file, "--to", to, "--cid", CID, "--record", kept, "--end-with-input"]
             pipes = {"stdin": subprocess.PIPE, "stdout": subprocess.PIPE}
             live = subprocess.Popen([PROGRAM, *words], **pipes)
             self.addCleanup(live.kill)

@@ -129,6 +129,7 @@ class NoGrowths(Growths):
         """Commands, refused lines, a record, and the end."""
         record = self.folder / "night.play"
         words = ["live", self.show, "--to", "127.0.0.1:9", "--cid", CID, "--record", record]
+        words.append("--end-with-input")
         night = subprocess.Popen(
             [PROGRAM, *words],
             stdin=subprocess.PIPE,

@@ -37,9 +37,13 @@ pub fn run(rt: &HostRuntime, job: Job) -> Result<(), Failure>
         Job::Explain { show } => explain_show(rt, show.as_str()),
         Job::Slots { show, cue, base } => show_slots(rt, show.as_str(), cue, base),
         Job::Play(night) => play_lines(rt, &night, identity(&night)),
-        Job::Live { night, record_file } => {
+        Job::Live {
+            night,
+            record_file,
+            ends_with_input,
+        } => {
             let record_file = record_file.as_ref().map(Name::as_str);
-            play_live(rt, &night, identity(&night), record_file)
+            play_live(rt, &night, identity(&night), record_file, ends_with_input)
         }
         Job::Rehearse { show, script } => rehearse(rt, show.as_str(), script.as_str()),
         Job::Listen {
@@ -153,13 +157,14 @@ fn play_live(
     night: &Night,
     source: Identity,
     record_file: Option<&str>,
+    ends_with_input: bool,
 ) -> Result<(), Failure> {
     let input = TypedInput::open(rt)?;
     let text = file_text(rt, night.show.as_str())?;
     let text = text.as_slice();
     let record = Record::open(rt, record_file)?;
     let mut link = SendingSocket::open(rt, night.to)?;
-    let mut feed = LiveFeed::new(rt, input, record)?;
+    let mut feed = LiveFeed::new(rt, input, ends_with_input, record)?;
     let mut out = ShownOutput::new(SystemOutput::new(rt.stdout()));
     let answer = play::<StepFader, _, _, _>(
         rt.alloc(),

@@ -8,6 +8,12 @@ use devices::{Feed, LinkFault, Output};
 use live_input::{Given, LiveInput};
 use std::time::Instant;
 
+// Told where the input ends and the night goes on.
+const INPUT_ENDED: &[u8] = b"input ended: the light holds; SIGTERM to the program ends the night \
+    (--end-with-input ends it with its input)\n";
+
+const TYPED_END: &[u8] = b"type end to end the night\n";
+
 /// The input of a live night: what is typed, each line at its moment, and the ticks. It does not
 /// tell what it gave.
 #[derive(Drop)]
@@ -16,12 +22,19 @@ pub struct LiveFeed<'a> {
     start: Instant,
     live: LiveInput,
     input: TypedInput,
+    // The night ends where its input ends.
+    ends_with_input: bool,
     kept: Record,
 }
 
 impl<'a> LiveFeed<'a> {
     /// The night starts here: its moments are milliseconds from now on.
-    pub fn new(rt: &'a HostRuntime, input: TypedInput, kept: Record) -> Result<Self, Failure> {
+    pub fn new(
+        rt: &'a HostRuntime,
+        input: TypedInput,
+        ends_with_input: bool,
+        kept: Record,
+    ) -> Result<Self, Failure> {
         let start = match Instant::now(rt) {
             Ok(start) => start,
             Err(error) => return Err(Failure::of_device("the clock", error.kind())),
@@ -31,6 +44,7 @@ impl<'a> LiveFeed<'a> {
             start,
             live: LiveInput::new(),
             input,
+            ends_with_input,
             kept,
         })
     }
@@ -47,24 +61,29 @@ impl<'a> LiveFeed<'a> {
         let _ = err.write(text);
         let _ = err.write(b"\n");
     }
-}
 
-// Waits for bytes, or for a moment.
-fn wait(
-    live: &mut LiveInput,
-    input: &mut TypedInput,
-    rt: &HostRuntime,
-    milliseconds: u64,
-) -> Result<(), LinkFault>
-    requires { live.old.typed.unread ≡ [] }
-{
-    let mut block = [0; 4096];
-    match input.wait(rt, milliseconds, &mut block)? {
-        Came::Bytes(count) => live.take_bytes(&block[..count.min(4096)]),
-        Came::End => live.close(),
-        Came::Nothing => {}
+    fn tell(&self, text: &[u8]) {
+        let _ = SystemOutput::new(self.rt.stderr()).write(text);
     }
-    Ok(())
+
+    // Waits for bytes, or until so many milliseconds have passed.
+    fn wait(&mut self, milliseconds: u64) -> Result<(), LinkFault>
+        requires { self.old.live.typed.unread ≡ [] }
+    {
+        let mut block = [0; 4096];
+        match self.input.wait(self.rt, milliseconds, &mut block)? {
+            Came::Bytes(count) => self.live.take_bytes(&block[..count.min(4096)]),
+            Came::TypedEnd if !self.ends_with_input => self.tell(TYPED_END),
+            Came::End | Came::TypedEnd => {
+                self.live.close(self.ends_with_input);
+                if !self.ends_with_input {
+                    self.tell(INPUT_ENDED);
+                }
+            }
+            Came::Nothing => {}
+        }
+        Ok(())
+    }
 }
 
 impl Feed for LiveFeed<'_> {
@@ -86,7 +105,7 @@ impl Feed for LiveFeed<'_> {
                 Given::Refused(text) => self.refuse(text.as_slice()),
                 Given::Until(due) => {
                     let milliseconds = due.saturating_sub(moment);
-                    wait(&mut self.live, &mut self.input, self.rt, milliseconds)?;
+                    self.wait(milliseconds)?;
                 }
                 Given::Over => return Ok(0),
             }

@@ -3,7 +3,7 @@ use cueplayer_faults::RunFault;
 use devices::LinkFault;
 use mio::unix::SourceFd;
 use mio::{Events, Interest, Poll, Token};
-use std::io::{ErrorKind, Read};
+use std::io::{ErrorKind, IsTerminal, Read};
 use std::time::Duration;
 
 // Standard input.
@@ -37,8 +37,10 @@ pub struct TypedInput {
 pub enum Came {
     /// So many bytes, at the front of the block.
     Bytes(usize),
-    /// The end of the input.
+    /// The end of the input: nothing more can come.
     End,
+    /// An end of input that was typed at a terminal, as by control-D: more may be typed.
+    TypedEnd,
     /// Nothing.
     Nothing,
 }
@@ -96,7 +98,7 @@ impl TypedInput {
                 return Ok(Came::Nothing);
             }
         }
-        self.read(rt, block)
+        Ok(self.read(rt, block))
     }
 
     fn sleep(&mut self, milliseconds: u64) -> Result<(), LinkFault> {
@@ -106,20 +108,29 @@ impl TypedInput {
             .map_err(|_| LinkFault)
     }
 
-    fn read(&mut self, rt: &HostRuntime, block: &mut [u8; 4096]) -> Result<Came, LinkFault> {
+    // An input that cannot be read any more has ended.
+    fn read(&mut self, rt: &HostRuntime, block: &mut [u8; 4096]) -> Came {
         match rt.stdin().read(block) {
-            Ok(0) => {
-                if self.readiness == Readiness::Polled {
-                    let _ = self.poll.registry().deregister(&mut SourceFd(&DESCRIPTOR));
-                }
-                self.readiness = Readiness::Never;
-                Ok(Came::End)
-            }
-            Ok(count) => Ok(Came::Bytes(count)),
+            Ok(0) if rt.stdin().is_terminal() && !self.is_hung_up() => Came::TypedEnd,
+            Ok(0) => self.end(),
+            Ok(count) => Came::Bytes(count),
             Err(error) => match error.kind() {
-                ErrorKind::Interrupted | ErrorKind::WouldBlock => Ok(Came::Nothing),
-                _ => Err(LinkFault),
+                ErrorKind::Interrupted | ErrorKind::WouldBlock => Came::Nothing,
+                _ => self.end(),
             },
         }
+    }
+
+    // Whether the other side has gone for good, by the last wait.
+    fn is_hung_up(&self) -> bool {
+        self.events.iter().any(|event| event.is_read_closed())
+    }
+
+    fn end(&mut self) -> Came {
+        if self.readiness == Readiness::Polled {
+            let _ = self.poll.registry().deregister(&mut SourceFd(&DESCRIPTOR));
+        }
+        self.readiness = Readiness::Never;
+        Came::End
     }
 }

@@ -1,5 +1,5 @@
 -- Words that are written out, by evaluation.
-use Rattle.std.proofs.Common.{ℕ, List, [], ◌∷◌, false, Some, None, ◌≡◌, refl, codes}
+use Rattle.std.proofs.Common.{ℕ, List, [], ◌∷◌, true, false, Some, None, ◌≡◌, refl, codes}
 use Rattle.clap.specs.Words.{Text, fault_of, takes}
 use Rattle.clap.specs.declared.error.kind.ErrorKind.TheVariants.{MissingRequiredArgument}
 use Rattle.clap.proofs.OnLiterals.{clap_on_literals}
@@ -152,15 +152,21 @@ unfolding clap_on_literals
 live_passes = refl
 
 live_job : job_of (sending_words (codes "live") (codes "127.0.0.1") [])
-    ≡ Some (Live (night (127 ∷ 0 ∷ 0 ∷ 1 ∷ [], 5568) 100 1) None)
+    ≡ Some (Live (night (127 ∷ 0 ∷ 0 ∷ 1 ∷ [], 5568) 100 1) None false)
 unfolding clap_on_literals uuid_on_literals
 live_job = refl
 
 live_recorded : job_of (sending_words (codes "live") (codes "127.0.0.1:9")
     (codes "--record" ∷ codes "b.play" ∷ codes "--priority" ∷ codes "150" ∷ []))
-    ≡ Some (Live (night (127 ∷ 0 ∷ 0 ∷ 1 ∷ [], 9) 150 1) (Some (codes "b.play")))
+    ≡ Some (Live (night (127 ∷ 0 ∷ 0 ∷ 1 ∷ [], 9) 150 1) (Some (codes "b.play")) false)
 unfolding clap_on_literals uuid_on_literals
 live_recorded = refl
+
+live_ends : job_of (sending_words (codes "live") (codes "127.0.0.1:9")
+    (codes "--end-with-input" ∷ codes "--record" ∷ codes "b.play" ∷ []))
+    ≡ Some (Live (night (127 ∷ 0 ∷ 0 ∷ 1 ∷ [], 9) 100 1) (Some (codes "b.play")) true)
+unfolding clap_on_literals uuid_on_literals
+live_ends = refl
 
 -- `rehearse a.asc b.script`
 abbrev rehearse_words : List Text

@@ -1,6 +1,6 @@
 -- The job that words ask for.
 use Rattle.std.specs.Prelude.{◌≡◌, ℕ, ◌≤◌, List, Option, Some, None, codes, option_map}
-use Rattle.std.specs.Prelude.{option_and_then, if◌then◌else◌, nat_le, IfSome}
+use Rattle.std.specs.Prelude.{Bool, false, option_and_then, if◌then◌else◌, nat_le, IfSome}
 use Rattle.std.specs.Option.{option_map_or}
 use Rattle.std.specs.Str.{bytes_eq}
 use Rattle.clap.specs.Words.{Row, Text, first_of, subcommand_of}
@@ -20,6 +20,10 @@ value_by form id rows = option_and_then form (first_of id rows)
 -- the value of an argument that may be absent, and is this then
 abbrev pub value_or : {X : Type 0} → X → (Text → Option X) → Text → List Row → Option X
 value_or absent form id rows = option_map_or form (first_of id rows) (Some absent)
+
+-- whether a flag was given: clap has `true` for one that was, and `false` for one that was not
+abbrev pub has_flag : Text → List Row → Bool
+has_flag id rows = option_map_or (λ text. bytes_eq text (codes "true")) (first_of id rows) false
 
 -- a number from least to most
 abbrev pub number_between : ℕ → ℕ → Text → Option ℕ
@@ -79,9 +83,10 @@ night_of rows = night_with (first_of (codes "SHOW") rows) (value_by address_of (
 abbrev pub play_of : List Row → Option Job
 play_of rows = option_map Play (night_of rows)
 
--- the job of `live`, which has those of a night, and `[--record FILE]`
+-- the job of `live`, which has those of a night, and `[--record FILE] [--end-with-input]`
 abbrev pub live_of : List Row → Option Job
-live_of rows = option_map (λ night. Live night (first_of (codes "record") rows)) (night_of rows)
+live_of rows = option_map (λ night. Live night (first_of (codes "record") rows)
+    (has_flag (codes "end-with-input") rows)) (night_of rows)
 
 -- a rehearsal, where both of its values are there
 abbrev pub rehearse_with : Option Text → Option Text → Option Job
@@ -108,7 +113,7 @@ listen_of rows = listen_with (value_by address_of (codes "ADDR") rows)
 abbrev pub IsInRange : Job → Type 0
 IsInRange (Listen at universe count) = (1 ≤ universe) × (universe ≤ 63999)
 IsInRange (Play night) = night.priority ≤ 200
-IsInRange (Live night record_file) = night.priority ≤ 200
+IsInRange (Live night record_file ends_with_input) = night.priority ≤ 200
 IsInRange _ = Unit {0}
 
 -- this is the job that is asked for, if one is, and its numbers are in the ranges

@@ -4,6 +4,7 @@ use Rattle.clap.specs.Words.{App, Rule, Text, app_of, new_app, new_rule, rule_of
 use Rattle.clap.specs.Words.{with_subcommand}
 use Rattle.clap.specs.declared.builder.arg.Arg.{Arg}
 use Rattle.clap.specs.declared.builder.Command.{Command}
+use Rattle.clap.specs.declared.builder.action.ArgAction.TheVariants.{SetTrue}
 use Rattle.clap.specs.declared.builder.Command.TheViews.{out-Command as fields_of}
 
 -- an argument follows this rule, for one line alone
@@ -26,6 +27,10 @@ required_option id = record (required id) { long = Some id; value_names = 1 }
 abbrev pub option : Text → Rule
 option id = record (new_rule id) { long = Some id; value_names = 1 }
 
+-- a flag that may be absent: two dashes and its name, and no value
+abbrev pub flag : Text → Rule
+flag id = record (new_rule id) { long = Some id; action = Some SetTrue }
+
 -- the show of a line, by the name of its file
 abbrev pub show : Rule
 show = required (codes "SHOW")
@@ -47,6 +52,11 @@ abbrev pub night_arguments : List Rule
 night_arguments =
     show ∷ required_option (codes "to") ∷ cid ∷ option (codes "priority") ∷ base ∷ []
 
+-- those, and `[--record FILE] [--end-with-input]`
+abbrev pub live_arguments : List Rule
+live_arguments =
+    night_arguments ++ option (codes "record") ∷ flag (codes "end-with-input") ∷ []
+
 -- `ADDR UNIVERSE COUNT`
 abbrev pub listen_arguments : List Rule
 listen_arguments =
@@ -63,7 +73,7 @@ lines = line (codes "check") (show ∷ [])
     ∷ line (codes "look") (show ∷ cue ∷ cid ∷ [])
     ∷ line (codes "slots") (show ∷ cue ∷ base ∷ [])
     ∷ line (codes "play") night_arguments
-    ∷ line (codes "live") (night_arguments ++ option (codes "record") ∷ [])
+    ∷ line (codes "live") live_arguments
     ∷ line (codes "rehearse") (show ∷ required (codes "SCRIPT") ∷ [])
     ∷ line (codes "listen") listen_arguments
     ∷ []

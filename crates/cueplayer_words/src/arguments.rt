@@ -2,7 +2,7 @@ ghost use Rattle.std.specs.Prelude.{◌≡◌, ◌≤◌, IfOk, IfSome, codes, o
 ghost use Rattle.clap.specs.Words.{first_of, found_of, rows_of};
 ghost use Rattle.uuid.specs.Text.{parsed};
 ghost use Rattle.ascii_text.specs.Forms.{cue_number_of};
-ghost use Rattle.cueplayer_words.specs.Job.{number_between, value_by, value_or};
+ghost use Rattle.cueplayer_words.specs.Job.{has_flag, number_between, value_by, value_or};
 ghost use Rattle.cueplayer_words.specs.Address.{address_of};
 
 use crate::address::address;
@@ -21,6 +21,16 @@ pub(crate) fn text_at<'a>(matches: &ArgMatches<'a>, id: &str) -> Option<&'a str>
         ≡ first_of id.now (rows_of (found_of matches.now)) }
 {
     matches.get_str(id)
+}
+
+/// Whether a flag was given.
+pub(crate) fn has_flag(matches: &ArgMatches<'_>, id: &str) -> bool
+    ensures { result ≡ has_flag id.now (rows_of (found_of matches.now)) }
+{
+    match text_at(matches, id) {
+        Some(text) => text == "true",
+        None => false,
+    }
 }
 
 /// The name that an argument gives.

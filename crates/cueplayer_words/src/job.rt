@@ -85,12 +85,14 @@ pub enum Job {
     /// `play SHOW --to ADDR --cid UUID [--priority P] [--base U]`: play input lines to the network.
     Play(Night),
 
-    /// `live SHOW --to ADDR --cid UUID [--priority P] [--base U] [--record FILE]`: play by the
-    /// clock what is typed. `record_file` is where the lines that were played are written to, where
-    /// a file is named.
+    /// `live SHOW --to ADDR --cid UUID [--priority P] [--base U] [--record FILE]
+    /// [--end-with-input]`: play by the clock what is typed. `record_file` is where the lines that
+    /// were played are written to, where a file is named; the night ends where its input ends, or
+    /// the light holds.
     Live {
         night: Night,
         record_file: Option<Name>,
+        ends_with_input: bool,
     },
 
     /// `rehearse SHOW SCRIPT`: run a script in memory.

@@ -1,10 +1,10 @@
 ghost use Rattle.std.specs.Prelude.{◌≡◌, IfOk};
 ghost use Rattle.clap.specs.Words.{app_of};
 ghost use Rattle.cueplayer_words.specs.Program.{IsArgument, IsLine, required, required_option};
-ghost use Rattle.cueplayer_words.specs.Program.{option};
+ghost use Rattle.cueplayer_words.specs.Program.{flag, option};
 ghost use Rattle.cueplayer_words.specs.Line.{app_of_line, rule_of_argument, with_lines};
 
-use clap::{Arg, Command};
+use clap::{Arg, ArgAction, Command};
 use std::alloc::{AllocError, Global};
 
 /// An argument of a line: its name, the name of its value where it is an option, and its help.
@@ -18,6 +18,9 @@ pub(crate) enum Argument<'a> {
 
     /// An option that may be absent.
     Optional(&'a str, &'a str, &'a str),
+
+    /// An option without a value: its name and its help.
+    Flag(&'a str, &'a str),
 }
 
 impl<'a> Argument<'a> {
@@ -28,6 +31,7 @@ impl<'a> Argument<'a> {
             Argument::Positional(id, help) => required(alloc, id, help),
             Argument::Required(id, value, help) => required_option(alloc, id, value, help),
             Argument::Optional(id, value, help) => option(alloc, id, value, help),
+            Argument::Flag(id, help) => flag(alloc, id, help),
         }
     }
 }
@@ -82,6 +86,15 @@ fn option<'a>(alloc: Global, id: &'a str, value: &'a str, help: &'a str) -> Arg<
     ensures { IsArgument (option id.now) result }
 {
     Arg::new(alloc, id).help(help).long(id).value_name(value)
+}
+
+fn flag<'a>(alloc: Global, id: &'a str, help: &'a str) -> Arg<'a>
+    ensures { IsArgument (flag id.now) result }
+{
+    Arg::new(alloc, id)
+        .help(help)
+        .long(id)
+        .action(ArgAction::SetTrue)
 }
 
 fn required_option<'a>(alloc: Global, id: &'a str, value: &'a str, help: &'a str) -> Arg<'a>

@@ -48,6 +48,11 @@ const RECORD: Argument<'static> = Argument::Optional(
     "A new file, or an empty one, for the lines that are played: a text for play",
 );
 
+const END_WITH_INPUT: Argument<'static> = Argument::Flag(
+    "end-with-input",
+    "Ends the night where its input ends; without it the light holds",
+);
+
 const SCRIPT: Argument<'static> = Argument::Positional(
     "SCRIPT",
     "The script's file, of at most 16 MiB",
@@ -105,7 +110,7 @@ const LINES: [Line<'static>; 8] = [
         about: "Plays what is typed to the network, by the clock",
         example: "Example: cueplayer live night.asc --to 10.0.0.7 \
             --cid c0ffee00-0000-4000-8000-00000000e131",
-        arguments: &[SHOW_FILE, TO, CID, PRIORITY, BASE, RECORD],
+        arguments: &[SHOW_FILE, TO, CID, PRIORITY, BASE, RECORD, END_WITH_INPUT],
     },
     Line {
         name: "rehearse",

@@ -6,7 +6,7 @@ ghost use Rattle.cueplayer_words.specs.Job.{live_of, rehearse_of, listen_of};
 ghost use Rattle.cueplayer_words.specs.Asked.{Explains, IsAsked, RefusedBy};
 
 use crate::arguments::{
-    TOP_UNIVERSE, address_at, base_at, cid_at, cue_at, name_at, number_at, priority_at, text_at,
+    TOP_UNIVERSE, address_at, base_at, cid_at, cue_at, has_flag, name_at, number_at, priority_at, text_at,
 };
 use crate::job::{Job, Name, Night, WordsFault};
 use crate::program::program;
@@ -131,7 +131,11 @@ fn read_live(alloc: Global, matches: &ArgMatches<'_>) -> Result<Option<Job>, All
         return Ok(None);
     };
     let record_file = name_at(alloc, matches, "record")?;
-    Ok(Some(Job::Live { night, record_file }))
+    Ok(Some(Job::Live {
+        night,
+        record_file,
+        ends_with_input: has_flag(matches, "end-with-input"),
+    }))
 }
 
 // The night of a line that plays, where each of its texts has its form.

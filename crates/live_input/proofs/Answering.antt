@@ -15,9 +15,9 @@ one_more : (given : List Answer) (n : ℕ) (line : List ℕ)
 one_more given n line = grind arith
 
 -- what comes by itself answers none
-none_more : (given : List Answer) (closed : Bool) (n : ℕ)
-    → lines_answered (by_itself given closed n ∷ given) ≡ lines_answered given
-none_more given closed n = grind arith
+none_more : (given : List Answer) (ends : Bool) (n : ℕ)
+    → lines_answered (by_itself given ends n ∷ given) ≡ lines_answered given
+none_more given ends n = grind arith
 
 module _ {kept : Kept} {h : List Happening} {low clock : ℕ} {is_last : Bool} (moment : ℕ)
     (typed : TypedKept) (s : StandsFor kept h) (last : is_last ≡ were_three kept.progress.ended)
@@ -34,7 +34,7 @@ module _ {kept : Kept} {h : List Happening} {low clock : ℕ} {is_last : Bool} (
   abbrev IsAnswered : Answer → Type 0
   IsAnswered answer = (answer ≡ answer_to h moment)
       × ((progress : Progress) → Leaves progress (answer ∷ answers h)
-      → StandsFor (record { typed = typed; closed = kept.closed; now = clock; progress = progress })
+      → StandsFor (record { typed = typed; ends = kept.ends; now = clock; progress = progress })
       (asked moment ∷ h))
 
   answered : (answer : Answer) → answer ≡ answer_to h moment
@@ -43,7 +43,7 @@ module _ {kept : Kept} {h : List Happening} {low clock : ℕ} {is_last : Bool} (
     is,
     λ progress leaves. record {
       typed_stands = rw is at stands;
-      closed_is = s.closed_is;
+      ends_is = s.ends_is;
       now_is = clock_set;
       leaves = rw is at leaves;
     },
@@ -59,9 +59,9 @@ module _ {kept : Kept} {h : List Happening} {low clock : ℕ} {is_last : Bool} (
 
   -- none was left
   pub none_answered : TakesLine kept.typed typed None → typed.unread ≡ []
-      → IsAnswered (by_itself (answers h) kept.closed clock)
+      → IsAnswered (by_itself (answers h) kept.ends clock)
   none_answered takes unread =
       let took = takes (bytes_come h) (lines_answered (answers h)) s.typed_stands in
-      answered (by_itself (answers h) kept.closed clock)
-      (rw (clock_set, s.closed_is, not_over, none_left typed (bytes_come h) _ took unread) refl)
-      (rw (none_more (answers h) kept.closed clock) took)
+      answered (by_itself (answers h) kept.ends clock)
+      (rw (clock_set, s.ends_is, not_over, none_left typed (bytes_come h) _ took unread) refl)
+      (rw (none_more (answers h) kept.ends clock) took)

@@ -3,7 +3,7 @@ use Rattle.std.proofs.Common.{◌≡◌, ◌≤◌, ◌<◌, ◌^◌, ℕ, true,
 use Rattle.std.specs.Prelude.{nat_le}
 use Rattle.std.proofs.lemmas.Bool.{cond_both}
 use Rattle.std.proofs.lemmas.Bool.Decides.{nat_tests}
-use Rattle.live_input.specs.Night.{Answer, Happening, answer_to, answers, asked, due, is_closed}
+use Rattle.live_input.specs.Night.{Answer, Happening, answer_to, answers, asked, due, ends_with_input}
 use Rattle.live_input.specs.Night.{is_over, is_taken, lines_left, now, owes_end, to_lines, order}
 use Rattle.live_input.specs.Night.{close, tick, refusal, wait, over}
 
@@ -14,16 +14,16 @@ pub data Next (h : List Happening) (n : ℕ) : Answer → Type 0 where
       → is_taken (answers h) n line ≡ true → Next h n (order n line)
   refuses : (line : List ℕ) (later : List (List ℕ)) → lines_left (answers h) h ≡ line ∷ later
       → Next h n (refusal line)
-  closes : lines_left (answers h) h ≡ [] → owes_end (answers h) (is_closed h) ≡ true
+  closes : lines_left (answers h) h ≡ [] → owes_end (answers h) (ends_with_input h) ≡ true
       → Next h n (close n)
   ticks : is_over (answers h) ≡ false → lines_left (answers h) h ≡ []
-      → owes_end (answers h) (is_closed h) ≡ false → due (answers h) ≤ n → Next h n (tick n)
+      → owes_end (answers h) (ends_with_input h) ≡ false → due (answers h) ≤ n → Next h n (tick n)
   waits : lines_left (answers h) h ≡ [] → Next h n (wait (due (answers h)))
 
 lines_are : (h : List Happening) (n : ℕ) → is_over (answers h) ≡ false → (left : List (List ℕ))
-    → lines_left (answers h) h ≡ left → Next h n (to_lines left (answers h) (is_closed h) n)
+    → lines_left (answers h) h ≡ left → Next h n (to_lines left (answers h) (ends_with_input h) n)
 lines_are h n on [] is =
-    cond_both (owes_end (answers h) (is_closed h)) _ _ (Next h n) (λ owed. closes is owed)
+    cond_both (owes_end (answers h) (ends_with_input h)) _ _ (Next h n) (λ owed. closes is owed)
     (λ none. cond_both (nat_le (due (answers h)) n) _ _ (Next h n)
     (λ late. ticks on is none (grind (arith, nat_tests))) (λ early. waits is))
 lines_are h n on (line ∷ later) is =

@@ -11,7 +11,7 @@ use Rattle.ascii_text.specs.Text.{words_of}
 use Rattle.console_text.specs.Spelling.{command_of}
 use Rattle.live_input.specs.Laws.{AlwaysRise, IsAfterLines, Rise, moment_of, tick_of}
 use Rattle.live_input.specs.Night.{Answer, Happening, answers, due, now, close, ended, ended_by}
-use Rattle.live_input.specs.Night.{is_closed, is_end, lines_given, order, tick, were_three}
+use Rattle.live_input.specs.Night.{ends_with_input, has_room, is_end, lines_given, order, tick, were_three}
 use Rattle.live_input.specs.Night.{answer_to, asked, bytes_come, came, closed, is_over}
 use Rattle.live_input.specs.Night.{lines_answered, lines_left, over}
 use Rattle.live_input.specs.Typed.{typed_of}
@@ -74,7 +74,7 @@ counted_by h n _ (takes line later is fit) le below few =
     one_order _ n line (ended (answers h)) (ltb-true _ _ (and_parts _ _ fit).0) few
 counted_by h n _ (closes is owed) le below few = one_end _ n (ended (answers h)) _ owed few
 counted_by h n _ (ticks on is none late) le below few =
-    one_tick _ n (ended (answers h)) (is_closed h) on none few
+    one_tick _ n (ended (answers h)) (ends_with_input h) on none few
 counted_by h n _ _ le below few = few
 
 counted : (h : List Happening) → AreFew (length (lines_given (answers h))) (ended (answers h))
@@ -116,7 +116,7 @@ pub begins : (h : List Happening) → Adds (lines_answered (answers h)) (lines h
 begins [] = ([], refl)
 begins (asked moment ∷ h) = begins_by h _ _ (answer_is_next h moment) (begins h)
 begins (came bytes ∷ h) = grows _ (bytes_come h) bytes (begins h)
-begins (closed ∷ h) = grows _ (bytes_come h) (10 ∷ []) (begins h)
+begins (closed ends ∷ h) = grows _ (bytes_come h) (10 ∷ []) (begins h)
 
 none_left : (h : List Happening) → lines_left (answers h) h ≡ []
     → lines h ≡ lines_answered (answers h)
@@ -133,6 +133,14 @@ pub lines_first : (h : List Happening) (moment : ℕ) → IsAfterLines (answer_t
 lines_first h moment = first_by h _ _ (answer_is_next h moment)
 
 -- ---- the end
+
+close_only : (h : List Happening) (m n : ℕ) → Next h m (close n)
+    → (ends_with_input h || not (has_room (answers h))) ≡ true
+close_only h m _ (closes is owed) = (and_parts _ _ owed).1
+
+pub closes_asked : (h : List Happening) (moment n : ℕ) → answer_to h moment ≡ close n
+    → (ends_with_input h || not (has_room (answers h))) ≡ true
+closes_asked h moment n is = close_only h _ n (rw is at (answer_is_next h moment))
 
 over_only : (h : List Happening) (n : ℕ) → Next h n over → is_over (answers h) ≡ true
 over_only h n (nothing e) = e

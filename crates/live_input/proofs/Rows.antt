@@ -1,5 +1,5 @@
 -- Nights, evaluated.
-use Rattle.std.specs.Prelude.{◌≡◌, ◌++◌, refl, codes, [], ◌∷◌}
+use Rattle.std.specs.Prelude.{◌≡◌, ◌++◌, true, false, refl, codes, [], ◌∷◌}
 use Rattle.std.specs.Fmt.{digits}
 use Rattle.live_input.specs.Night.{answers, due_after, lines_given, shown, came, closed, asked}
 use Rattle.live_input.specs.Night.{order, close, tick, refusal, wait, over}
@@ -29,15 +29,22 @@ refused : answers (asked 1 ∷ asked 1 ∷ asked 1 ∷ came (codes "tick\njump 3
 unfolding digits
 refused = refl
 
--- the end of the input: the last line without LF, an `end`, three ticks, and nothing more
+-- the end of the input, where the night ends with it: the last line without LF, an `end`, three ticks, and nothing more
 ending : answers (asked 80 ∷ asked 75 ∷ asked 60 ∷ asked 50 ∷ asked 25 ∷ asked 1 ∷ asked 1
-    ∷ closed ∷ came (codes "go") ∷ asked 0 ∷ [])
+    ∷ closed true ∷ came (codes "go") ∷ asked 0 ∷ [])
     ≡ over ∷ tick 75 ∷ wait 75 ∷ tick 50 ∷ tick 25 ∷ close 1 ∷ order 1 (codes "go") ∷ tick 0 ∷ []
 unfolding digits
 ending = refl
 
+-- where it does not, ticks go on
+holding : answers (asked 50 ∷ asked 26 ∷ asked 25 ∷ asked 1 ∷ asked 1 ∷ closed false
+    ∷ came (codes "go") ∷ asked 0 ∷ [])
+    ≡ tick 50 ∷ wait 50 ∷ tick 25 ∷ wait 25 ∷ order 1 (codes "go") ∷ tick 0 ∷ []
+unfolding digits
+holding = refl
+
 -- an `end` that was typed, a command behind it, and the end of the input
-ended_already : answers (asked 50 ∷ asked 25 ∷ asked 2 ∷ asked 1 ∷ closed ∷ asked 1
+ended_already : answers (asked 50 ∷ asked 25 ∷ asked 2 ∷ asked 1 ∷ closed true ∷ asked 1
     ∷ came (codes "END\ngo\n") ∷ asked 0 ∷ [])
     ≡ tick 50 ∷ tick 25 ∷ wait 25 ∷ order 1 (codes "go") ∷ order 1 (codes "END") ∷ tick 0 ∷ []
 unfolding digits

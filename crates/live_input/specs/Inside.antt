@@ -6,7 +6,7 @@ use Rattle.live_input.specs.TypedView.{typed_kept}
 abbrev pub live_view : Inside → Kept
 live_view live = record {
   typed = typed_kept live.typed;
-  closed = live.closed;
+  ends = live.ends;
   now = live.now;
   progress = live.progress;
 }

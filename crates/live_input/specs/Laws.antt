@@ -1,5 +1,5 @@
 -- Laws over all nights: whatever bytes came, and whatever the clock said.
-use Rattle.std.specs.Prelude.{◌≡◌, ◌↔◌, ◌≤◌, ◌+◌, ◌++◌, ℕ, false, List, [], ◌∷◌, Option, Some}
+use Rattle.std.specs.Prelude.{◌≡◌, ◌↔◌, ◌≤◌, ◌+◌, ◌++◌, ◌||◌, ℕ, true, false, not, List, [], ◌∷◌, Option, Some}
 use Rattle.std.specs.Prelude.{None, All, length, codes, flat_map, reverse}
 use Rattle.std.specs.Prelude.{is_none, option_map, if◌then◌else◌}
 use Rattle.std.specs.List.{filter_map}
@@ -13,7 +13,7 @@ use Rattle.console_text.specs.declared.call.Call.TheVariants.{Order, Tick}
 use Rattle.console_text.specs.declared.reading.Reading.TheVariants.{At}
 use Rattle.console_text.specs.Spelling.{command_of, is_malformed, reading_of}
 use Rattle.live_input.specs.Night.{Answer, Happening, answer_to, answers, at_moment, bytes_come}
-use Rattle.live_input.specs.Night.{ended, lines_answered, lines_given}
+use Rattle.live_input.specs.Night.{ended, ends_with_input, has_room, lines_answered, lines_given}
 use Rattle.live_input.specs.Night.{order, close, tick, wait, over}
 use Rattle.live_input.specs.Typed.{typed_of}
 
@@ -95,6 +95,13 @@ IsAfterLines _ h = Unit {0}
 
 abbrev pub LinesGoFirst : Type 0
 LinesGoFirst = (h : List Happening) (moment : ℕ) → IsAfterLines (answer_to h moment) h
+
+-- an `end` that nobody typed comes only where the night ends with its input and that ended, or where
+-- all room for lines was used: whatever else ends, the light holds
+abbrev pub ClosesAreAsked : Type 0
+ClosesAreAsked =
+    (h : List Happening) (moment n : ℕ) → answer_to h moment ≡ close n
+    → (ends_with_input h || not (has_room (answers h))) ≡ true
 
 -- nothing comes any more exactly where there were three ticks after the first `end`, and there are
 -- never more

@@ -9,11 +9,11 @@ use Rattle.desk_core.specs.declared.command.Command.TheVariants.{End}
 use Rattle.console_text.specs.Spelling.{command_of}
 use Rattle.live_input.specs.Typed.{typed_of}
 
--- what happens to it: bytes came; the input ended; it was asked at a moment of the clock what is
--- next
+-- what happens to it: bytes came; the input ended, and whether the night is to end with it; it was
+-- asked at a moment of the clock what is next
 pub data Happening : Type 0 where
   came : List ℕ → Happening
-  closed : Happening
+  closed : Bool → Happening
   asked : ℕ → Happening
 
 -- what it answers: the line of a command, at a moment; an `end` that nobody typed; a tick; a line
@@ -99,7 +99,7 @@ abbrev pub to_line : List Answer → ℕ → List ℕ → Answer
 to_line given moment line =
     if is_taken given moment line then order moment line else refusal line
 
--- the input ended without an `end`, or all room was used
+-- the night ends with its input, which ended without an `end`; or all room was used
 abbrev pub owes_end : List Answer → Bool → Bool
 owes_end given at_end = is_none (ended given) && (at_end || not (has_room given))
 
@@ -127,13 +127,14 @@ is_over given = were_three (ended given)
 abbrev pub bytes_come : List Happening → List ℕ
 bytes_come [] = []
 bytes_come (came bytes ∷ older) = bytes_come older ++ bytes
-bytes_come (closed ∷ older) = bytes_come older ++ 10 ∷ []
+bytes_come (closed ends ∷ older) = bytes_come older ++ 10 ∷ []
 bytes_come (asked moment ∷ older) = bytes_come older
 
-abbrev pub is_closed : List Happening → Bool
-is_closed [] = false
-is_closed (closed ∷ older) = true
-is_closed (_ ∷ older) = is_closed older
+-- the input ended, and the night ends with it
+abbrev pub ends_with_input : List Happening → Bool
+ends_with_input [] = false
+ends_with_input (closed ends ∷ older) = ends || ends_with_input older
+ends_with_input (_ ∷ older) = ends_with_input older
 
 -- the clock, which never falls; 0 at first, and below 2^48 as a console's moments are
 abbrev pub now : List Happening → ℕ
@@ -150,7 +151,7 @@ lines_left given older =
 abbrev pub answer_after : List Answer → List Happening → ℕ → Answer
 answer_after given older moment =
     if is_over given then over
-    else to_lines (lines_left given older) given (is_closed older) (now (asked moment ∷ older))
+    else to_lines (lines_left given older) given (ends_with_input older) (now (asked moment ∷ older))
 
 -- all answers
 abbrev pub answers : List Happening → List Answer

@@ -1,7 +1,8 @@
 -- What a live input keeps, against what happened to it.
 use Rattle.std.specs.Prelude.{◌≡◌, ◌∷◌, ◌++◌, [], ℕ, List, length, drop, fold, Option, Some, None}
 use Rattle.live_input.specs.Kept.{Kept, TypedKept}
-use Rattle.live_input.specs.Night.{Happening, answers, bytes_come, is_closed, lines_answered, now}
+use Rattle.live_input.specs.Night.{Happening, answers, bytes_come, ends_with_input}
+use Rattle.live_input.specs.Night.{lines_answered, now}
 use Rattle.live_input.specs.Told.{Leaves}
 use Rattle.live_input.specs.Typed.{typed_of, with_byte}
 
@@ -29,6 +30,6 @@ TakesLine old new (Some line) =
 pub record StandsFor (kept : Kept) (happenings : List Happening) : Type 0 where
   pub typed_stands : TypedStands kept.typed (bytes_come happenings)
       (lines_answered (answers happenings))
-  pub closed_is : kept.closed ≡ is_closed happenings
+  pub ends_is : kept.ends ≡ ends_with_input happenings
   pub now_is : kept.now ≡ now happenings
   pub leaves : Leaves kept.progress (answers happenings)

@@ -1,7 +1,8 @@
 //! What holds of every night, whatever bytes came and whatever the clock said. Each law is the
 //! contract of a function that does nothing: call it where its fact is wanted.
 
-ghost use Rattle.live_input.specs.Laws.{AnswersAreSpelled, LinesAreFine, LinesComeInOrder};
+ghost use Rattle.live_input.specs.Laws.{AnswersAreSpelled, ClosesAreAsked, LinesAreFine};
+ghost use Rattle.live_input.specs.Laws.{LinesComeInOrder};
 ghost use Rattle.live_input.specs.Laws.{LinesGoFirst, MomentsNeverFall, NightsEnd, TicksAreApart};
 ghost use Rattle.live_input.specs.Laws.{EndsAreAccepted, TicksAreAccepted};
 
@@ -40,6 +41,12 @@ pub fn lines_come_in_order()
 #[tactic(auto, using(crate::proofs::Nights::lines_first))]
 pub fn lines_go_first()
     ensures { LinesGoFirst }
+{}
+
+/// An `end` that nobody typed comes only where the night was to end with its input and that ended,
+/// or where there is no room for a line more. Any other night gives none.
+pub fn closes_are_asked()
+    ensures { ClosesAreAsked }
 {}
 
 /// Nothing comes any more exactly where three ticks came after the first `end`.

@@ -24,8 +24,8 @@ const LATEST: u64 = MOMENTS - 1;
 pub struct LiveInput {
     // The bytes that came and are in no line that was answered.
     typed: TypedLines,
-    // Whether the end of the input came.
-    closed: bool,
+    // Whether the night ends with its input, which ended.
+    ends: bool,
     // The latest moment that the clock told.
     now: u64,
     // What the answers so far leave to come.
@@ -64,7 +64,7 @@ impl LiveInput {
     {
         LiveInput {
             typed: TypedLines::new(),
-            closed: false,
+            ends: false,
             now: 0,
             progress: Progress::new(),
         }
@@ -82,19 +82,21 @@ impl LiveInput {
         self.typed.extend(bytes);
     }
 
-    /// Takes the end of the input: a last line without LF is a line too.
+    /// Takes the end of the input: a last line without LF is a line too. The night ends with it where
+    /// it is told to; else the light holds, until an `end` comes some other way.
     #[tactic(auto, using(crate::proofs::TypedLemmas::more_typed))]
-    pub fn close(&mut self)
+    pub fn close(&mut self, ends: bool)
         requires taken { self.old.typed.unread ≡ [] }
         ensures { (happenings : List Happening) → StandsFor self.old happenings
-            → StandsFor self.new (closed ∷ happenings) }
+            → StandsFor self.new (closed ends ∷ happenings) }
     {
         self.typed.extend(b"\n");
-        self.closed = true;
+        self.ends = ends || self.ends;
     }
 
     /// What is next, at a moment of the clock: the answer to the next line that was typed, before
-    /// anything else; an `end` where the input ended without one; a tick where one is due.
+    /// anything else; an `end` where the night ends with its input and that ended; a tick where one is
+    /// due.
     pub fn next(&mut self, moment: u64) -> Given
         ensures tells { (happenings : List Happening) → StandsFor self.old happenings
             → Tells result (answer_to happenings moment) }
@@ -108,7 +110,7 @@ impl LiveInput {
         }
         match self.typed.next_line() {
             Some(line) => self.progress.answer(self.now, line.as_slice()),
-            None => self.progress.by_itself(self.now, self.closed),
+            None => self.progress.by_itself(self.now, self.ends),
         }
     }
 }

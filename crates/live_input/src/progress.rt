@@ -67,15 +67,15 @@ impl Progress {
     }
 
     // What comes without a line that was typed.
-    pub fn by_itself(&mut self, now: u64, closed: bool) -> Given
+    pub fn by_itself(&mut self, now: u64, ends: bool) -> Given
         requires below { now < 2 ^ 48 }
         requires not_over { ForSome self.old.ended (λ ticks. ticks < 3) }
         ensures tells { (given : List Answer) → Leaves self.old given
-            → Tells result (by_itself given closed now) }
+            → Tells result (by_itself given ends now) }
         ensures leaves { (given : List Answer) → Leaves self.old given
-            → Leaves self.new (by_itself given closed now ∷ given) }
+            → Leaves self.new (by_itself given ends now ∷ given) }
     {
-        if self.ended.is_none() && (closed || self.room == 0) {
+        if self.ended.is_none() && (ends || self.room == 0) {
             self.ended = Some(0);
             self.room = self.room.saturating_sub(1);
             return Given::Line(input_line(now, b"end"));

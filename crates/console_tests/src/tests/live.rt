@@ -5,7 +5,7 @@ use std::process::Abort;
 #[derive(Clone, Copy)]
 enum Step<'a> {
     Typed(u64, &'a [u8]),
-    Closed(u64),
+    Closed(u64, bool),
     Line(u64, &'a [u8]),
     Refused(u64, &'a [u8]),
     Until(u64, u64),
@@ -22,10 +22,10 @@ fn types(input: &mut LiveInput, moment: u64, bytes: &[u8]) -> bool {
     }
 }
 
-fn closes(input: &mut LiveInput, moment: u64) -> bool {
+fn closes(input: &mut LiveInput, moment: u64, ends: bool) -> bool {
     match input.next(moment) {
         Given::Until(_) => {
-            input.close();
+            input.close(ends);
             true
         }
         _ => false,
@@ -63,7 +63,7 @@ fn is_over(input: &mut LiveInput, moment: u64) -> bool {
 fn holds(input: &mut LiveInput, step: &Step<'_>) -> bool {
     match step {
         Step::Typed(moment, bytes) => types(input, *moment, bytes),
-        Step::Closed(moment) => closes(input, *moment),
+        Step::Closed(moment, ends) => closes(input, *moment, *ends),
         Step::Line(moment, line) => gives(input, *moment, line),
         Step::Refused(moment, text) => refuses(input, *moment, text),
         Step::Until(moment, until) => waits(input, *moment, *until),
@@ -98,7 +98,7 @@ fn ordinary_night(rt: HostRuntime) {
             Step::Line(61, b"61 go\n"),
             Step::Line(75, b"75 tick\n"),
             Step::Line(100, b"100 tick\n"),
-            Step::Closed(101),
+            Step::Closed(101, true),
             Step::Until(101, 125),
             Step::Line(125, b"125 tick\n"),
             Step::Over(150),
@@ -146,7 +146,7 @@ fn input_ends(rt: HostRuntime) {
             Step::Line(7, b"7 tick\n"),
             Step::Typed(8, b"go\nback"),
             Step::Line(8, b"8 go\n"),
-            Step::Closed(9),
+            Step::Closed(9, true),
             Step::Line(9, b"9 back\n"),
             Step::Line(10, b"10 end\n"),
             Step::Until(10, 30),
@@ -154,6 +154,23 @@ fn input_ends(rt: HostRuntime) {
             Step::Line(53, b"53 tick\n"),
             Step::Line(76, b"76 tick\n"),
             Step::Over(76),
+        ],
+    );
+}
+
+#[test]
+fn input_ends_and_light_holds(rt: HostRuntime) {
+    take_steps(
+        &rt,
+        &mut LiveInput::new(),
+        &[
+            Step::Line(7, b"7 tick\n"),
+            Step::Typed(8, b"go"),
+            Step::Closed(9, false),
+            Step::Line(9, b"9 go\n"),
+            Step::Until(10, 30),
+            Step::Line(30, b"30 tick\n"),
+            Step::Until(31, 53),
         ],
     );
 }
