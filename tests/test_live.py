@@ -168,6 +168,26 @@ class Live(LiveTest):
         moments = [int(moment) for moment, *_ in lines]
         self.assertEqual(sorted(moments), moments)
 
+    def test_long_commands(self):
+        """A tick that is due goes before commands that wait, however long each of them takes: here each
+        move makes 2,000 others."""
+        cues = "".join(f"CUE {n}\nFOLLOWON 0\nCHAN 1@{n % 100}\n" for n in range(1, 2001))
+        self.show.write_bytes(b"PATCH 1 1<1@FL\n" + cues.encode())
+        record = self.folder / "night.play"
+        night = self.begun("--record", record)
+        self.told(night, b"goto 1\n", pause=0.3)
+        night.stdin.write(b"goto 1\n" * 580)
+        replies = [night.stdout.readline() for _ in range(580)]
+        self.ended(night)
+        self.assertEqual(["ok"] * 580, without_moments(b"".join(replies)))
+        lines = [line.split() for line in record.read_text().splitlines()]
+        ticks = [int(moment) for moment, *words in lines if words == ["tick"]]
+        gaps = sorted(b - a for a, b in zip(ticks, ticks[1:]))
+        print(f"    {len(ticks)} ticks in {ticks[-1]} ms, {gaps[0]} to {gaps[-1]} ms apart")
+        self.assertGreaterEqual(gaps[0], 23)
+        # Between two ticks there are the commands that fit, and one.
+        self.assertLess(gaps[-1], 300)
+
     def test_record_replayed(self):
         """`play` of the record sends the same datagrams, byte for byte and in order, and prints the
         same replies."""

@@ -3,7 +3,7 @@ use Rattle.std.proofs.Common.{◌≡◌, ◌≤◌, ◌<◌, ◌^◌, ℕ, ◌+�
 use Rattle.std.proofs.Common.{◌∷◌, Option, Some, None}
 use Rattle.std.specs.Prelude.{option_map, is_none}
 use Rattle.std.specs.Option.{option_map_or}
-use Rattle.std.proofs.lemmas.Bool.{and_parts, cond_both}
+use Rattle.std.proofs.lemmas.Bool.{cond_both}
 use Rattle.std.proofs.lemmas.Bool.Decides.{nat_tests}
 use Rattle.ascii_text.specs.Text.{words_of}
 use Rattle.show_core.specs.Tables.{Tables}
@@ -95,14 +95,14 @@ agrees_by : (show : Tables) → Keeps (λ given n. Agrees (accepted show given) 
 agrees_by show h n _ (takes line left is fit) le below a =
     order_by show _ (answers h) n line below (later _ _ (now h) n le a)
     (command_of (words_of line)) refl
-agrees_by show h n _ (closes is owed) le below a =
-    let none = ended_none (ended (answers h)) (and_parts _ _ owed).0 in
-    rw (end_accepted show _ (answers h) n below (later _ _ (now h) n le a) none) (record {
+agrees_by show h n _ (closes none owed) le below a =
+    let is = ended_none (ended (answers h)) none in
+    rw (end_accepted show _ (answers h) n below (later _ _ (now h) n le a) is) (record {
       moment = omega arith;
-      since = rw (a.since, none) refl;
+      since = rw (a.since, is) refl;
       past = a.past;
     })
-agrees_by show h n _ (ticks on is none late) le below a =
+agrees_by show h n _ (ticks on room late) le below a =
     rw (tick_accepted show _ (answers h) n below (later _ _ (now h) n le a) on late) (record {
       moment = omega arith;
       since = ap (desk.ended_by desk.tick) a.since ∙ tick_ends (ended (answers h)) n;
@@ -123,7 +123,7 @@ ends_accepted show h = (agrees show h).since
 tick_only : (show : Tables) (h : List Happening) (m n : ℕ) → Next h m (tick n) → m < 2 ^ 48
     → Agrees (accepted show (answers h)) (answers h) m
     → refusal show (accepted show (answers h)) (act n desk.tick) ≡ None
-tick_only show h m _ (ticks on is none late) below a =
+tick_only show h m _ (ticks on room late) below a =
     tick_accepted show _ (answers h) m below a on late
 
 pub ticks_accepted : (show : Tables) (h : List Happening) (moment n : ℕ)

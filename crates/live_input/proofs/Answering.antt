@@ -1,18 +1,25 @@
 -- The answer to what is asked, and what is kept then.
 use Rattle.std.proofs.Common.{arith, ◌≡◌, ℕ, max, min, Bool, false, refl, sym, ◌∙◌, List, [], ◌∷◌}
-use Rattle.std.proofs.Common.{◌++◌, Some, None}
+use Rattle.std.proofs.Common.{◌++◌, Option, Some, None}
 use Rattle.live_input.specs.declared.progress.Progress.{Progress}
 use Rattle.live_input.specs.Kept.{Kept, TypedKept}
-use Rattle.live_input.specs.Night.{Answer, Happening, answer_to, answers, asked, bytes_come}
+use Rattle.live_input.specs.Night.{Answer, Happening, answer_to, answers, asked, before_lines}
+use Rattle.live_input.specs.Night.{bytes_come}
 use Rattle.live_input.specs.Night.{by_itself, is_over, lines_answered, now, to_line, were_three}
 use Rattle.live_input.specs.Stands.{StandsFor, TakesLine, TypedStands}
-use Rattle.live_input.specs.Told.{Leaves}
+use Rattle.live_input.specs.declared.given.Given.{Given}
+use Rattle.live_input.specs.Told.{Leaves, Tells, TellsFirst}
 use Rattle.live_input.proofs.TypedLemmas.{none_left}
 
 -- a line that was typed is answered
 one_more : (given : List Answer) (n : ℕ) (line : List ℕ)
     → lines_answered (to_line given n line ∷ given) ≡ lines_answered given ++ line ∷ []
 one_more given n line = grind arith
+
+-- what comes before any line answers none
+first_none : (given : List Answer) (n : ℕ) (answer : Answer) → before_lines given n ≡ Some answer
+    → lines_answered (answer ∷ given) ≡ lines_answered given
+first_none given n answer is = grind (arith, is)
 
 -- what comes by itself answers none
 none_more : (given : List Answer) (ends : Bool) (n : ℕ)
@@ -49,19 +56,39 @@ module _ {kept : Kept} {h : List Happening} {low clock : ℕ} {is_last : Bool} (
     },
   )
 
+  -- something comes before any line
+  pub first_answered : (answer : Answer) → typed ≡ kept.typed
+      → before_lines (answers h) clock ≡ Some answer → IsAnswered answer
+  first_answered answer same first =
+      let set = rw clock_set at first in
+      answered answer (rw (not_over, set) refl)
+      (rw (first_none (answers h) clock answer first, same) s.typed_stands)
+
   -- a line was taken
-  pub line_answered : (line : List ℕ) → TakesLine kept.typed typed (Some line)
-      → IsAnswered (to_line (answers h) clock line)
-  line_answered line takes =
+  pub line_answered : (line : List ℕ) → before_lines (answers h) clock ≡ None
+      → TakesLine kept.typed typed (Some line) → IsAnswered (to_line (answers h) clock line)
+  line_answered line first takes =
       let took = takes (bytes_come h) (lines_answered (answers h)) s.typed_stands in
-      answered (to_line (answers h) clock line) (rw (clock_set, not_over, took.0.1) refl)
+      let set = rw clock_set at first in
+      answered (to_line (answers h) clock line) (rw (clock_set, not_over, set, took.0.1) refl)
       (rw (one_more (answers h) clock line) took.1)
 
   -- none was left
-  pub none_answered : TakesLine kept.typed typed None → typed.unread ≡ []
-      → IsAnswered (by_itself (answers h) kept.ends clock)
-  none_answered takes unread =
+  pub none_answered : before_lines (answers h) clock ≡ None → TakesLine kept.typed typed None
+      → typed.unread ≡ [] → IsAnswered (by_itself (answers h) kept.ends clock)
+  none_answered first takes unread =
       let took = takes (bytes_come h) (lines_answered (answers h)) s.typed_stands in
+      let set = rw clock_set at first in
       answered (by_itself (answers h) kept.ends clock)
-      (rw (clock_set, s.ends_is, not_over, none_left typed (bytes_come h) _ took unread) refl)
+      (rw (clock_set, s.ends_is, not_over, set, none_left typed (bytes_come h) _ took unread) refl)
       (rw (none_more (answers h) kept.ends clock) took)
+
+-- what was told of what comes before any line
+pub some_first : (given : Given) (first : Option Answer) → TellsFirst (Some given) first
+    → (answer : Answer) × ((first ≡ Some answer) × Tells given answer)
+some_first given (Some answer) tells = (answer, (refl, tells))
+some_first given None tells = elim tells [ ]
+
+pub none_first : (first : Option Answer) → TellsFirst None first → first ≡ None
+none_first None tells = refl
+none_first (Some answer) tells = elim tells [ ]

@@ -40,8 +40,8 @@ spelled_by : (h : List Happening) (n : ℕ) (answer : Answer) → Next h n answe
 spelled_by h n _ (takes line later is fit) below =
     let fits = and_parts _ _ (and_parts (has_room (answers h)) _ fit).1 in
     (spells n line below _ refl fits.1).0
-spelled_by h n _ (closes is owed) below = reading_is n (codes "end") below
-spelled_by h n _ (ticks on is none late) below = reading_is n (codes "tick") below
+spelled_by h n _ (closes none owed) below = reading_is n (codes "end") below
+spelled_by h n _ (ticks on room late) below = reading_is n (codes "tick") below
 spelled_by h n _ _ below = tt
 
 pub spelled : (h : List Happening) (moment : ℕ) → IsSpelled (answer_to h moment)
@@ -103,9 +103,9 @@ good_by h n _ (takes line later is fit) le below g =
     let good = (spells n line below _ refl fits.1).1 in
     let whole = All-head (All NotLf) line later (rw is at (left_no_lf h)) in
     All-cons IsGood _ _ (one_good n line good (leb-true _ 200 fits.0) whole) g
-good_by h n _ (closes is owed) le below g =
+good_by h n _ (closes none owed) le below g =
     All-cons IsGood _ _ (short_good n (codes "end") below refl (omega arith) refl) g
-good_by h n _ (ticks on is none late) le below g =
+good_by h n _ (ticks on room late) le below g =
     All-cons IsGood _ _ (short_good n (codes "tick") below refl (omega arith) refl) g
 good_by h n _ _ le below g = g
 

@@ -9,11 +9,12 @@ use Rattle.std.proofs.lemmas.Bool.Decides.{nat_tests}
 use Rattle.std.proofs.Math.Seq.{drop-append_seam}
 use Rattle.ascii_text.specs.Text.{words_of}
 use Rattle.console_text.specs.Spelling.{command_of}
-use Rattle.live_input.specs.Laws.{AlwaysRise, IsAfterLines, Rise, moment_of, tick_of}
+use Rattle.live_input.specs.Laws.{AlwaysRise, LinesFollowTicks, Rise, TicksGoFirst, moment_of}
+use Rattle.live_input.specs.Laws.{tick_of}
 use Rattle.live_input.specs.Night.{Answer, Happening, answers, due, now, close, ended, ended_by}
 use Rattle.live_input.specs.Night.{ends_with_input, has_room, is_end, lines_given, order, tick, were_three}
 use Rattle.live_input.specs.Night.{answer_to, asked, bytes_come, came, closed, is_over}
-use Rattle.live_input.specs.Night.{lines_answered, lines_left, over}
+use Rattle.live_input.specs.Night.{goes_first, lines_answered, lines_left, over, wait, was_tick}
 use Rattle.live_input.specs.Typed.{typed_of}
 use Rattle.live_input.proofs.Cases.{Keeps, Next, closes, takes, through, ticks, answer_is_next}
 use Rattle.live_input.proofs.Cases.{nothing, refuses, waits}
@@ -31,8 +32,8 @@ without gap n (newest ∷ older) rise = rise.1
 
 moment_by : Keeps (λ given n. Rise 0 (n ∷ filter_map moment_of given))
 moment_by h n _ (takes line left is fit) le below rise = (omega arith, later 0 _ n _ le rise)
-moment_by h n _ (closes is owed) le below rise = (omega arith, later 0 _ n _ le rise)
-moment_by h n _ (ticks on is none late) le below rise = (omega arith, later 0 _ n _ le rise)
+moment_by h n _ (closes none owed) le below rise = (omega arith, later 0 _ n _ le rise)
+moment_by h n _ (ticks on room late) le below rise = (omega arith, later 0 _ n _ le rise)
 moment_by h n _ _ le below rise = later 0 (now h) n (filter_map moment_of (answers h)) le rise
 
 pub moments_rise : AlwaysRise 0 moment_of
@@ -40,7 +41,7 @@ moments_rise h = without 0 (now h) (filter_map moment_of (answers h))
     (through (λ given n. Rise 0 (n ∷ filter_map moment_of given)) tt moment_by h)
 
 tick_by : Keeps (λ given n. Rise 23 (due given ∷ filter_map tick_of given))
-tick_by h n _ (ticks on is none late) le below rise = (omega arith, later 23 _ n _ late rise)
+tick_by h n _ (ticks on room late) le below rise = (omega arith, later 23 _ n _ late rise)
 tick_by h n _ _ le below rise = rise
 
 pub ticks_rise : AlwaysRise 23 tick_of
@@ -60,21 +61,21 @@ one_order count n line None room few = cond_both (is_end (command_of (words_of l
     (AreFew (suc count)) (λ e. omega arith) (λ e. omega arith)
 one_order count n line (Some after) room few = omega (arith, few)
 
-one_end : (count n : ℕ) (since : Option ℕ) (c : Bool) → (is_none since && c) ≡ true
-    → AreFew count since → AreFew (suc count) (ended_by (close n) since)
-one_end count n since c owed few = grind (arith, owed, few)
+one_end : (count n : ℕ) (since : Option ℕ) → is_none since ≡ true → AreFew count since
+    → AreFew (suc count) (ended_by (close n) since)
+one_end count n since none few = grind (arith, none, few)
 
-one_tick : (count n : ℕ) (since : Option ℕ) (c : Bool) → were_three since ≡ false
-    → (is_none since && (c || not (nat_lt count 9999996))) ≡ false → AreFew count since
+one_tick : (count n : ℕ) (since : Option ℕ) → were_three since ≡ false
+    → (is_none since && not (nat_lt count 9999996)) ≡ false → AreFew count since
     → AreFew (suc count) (ended_by (tick n) since)
-one_tick count n since c on none few = grind (arith, nat_tests, on, none, few)
+one_tick count n since on room few = grind (arith, nat_tests, on, room, few)
 
 counted_by : Keeps (λ given n. AreFew (length (lines_given given)) (ended given))
 counted_by h n _ (takes line later is fit) le below few =
     one_order _ n line (ended (answers h)) (ltb-true _ _ (and_parts _ _ fit).0) few
-counted_by h n _ (closes is owed) le below few = one_end _ n (ended (answers h)) _ owed few
-counted_by h n _ (ticks on is none late) le below few =
-    one_tick _ n (ended (answers h)) (ends_with_input h) on none few
+counted_by h n _ (closes none owed) le below few = one_end _ n (ended (answers h)) none few
+counted_by h n _ (ticks on room late) le below few =
+    one_tick _ n (ended (answers h)) on room few
 counted_by h n _ _ le below few = few
 
 counted : (h : List Happening) → AreFew (length (lines_given (answers h))) (ended (answers h))
@@ -122,21 +123,33 @@ none_left : (h : List Happening) → lines_left (answers h) h ≡ []
     → lines h ≡ lines_answered (answers h)
 none_left h is = rw append-nil at (left_is (lines_answered (answers h)) (lines h) [] (begins h) is)
 
-first_by : (h : List Happening) (n : ℕ) (answer : Answer) → Next h n answer
-    → IsAfterLines answer h
-first_by h n _ (closes is owed) = none_left h is
-first_by h n _ (ticks on is none late) = none_left h is
-first_by h n _ (waits is) = none_left h is
-first_by h n _ _ = tt
+waits_only : (h : List Happening) (m n : ℕ) → Next h m (wait n)
+    → lines h ≡ lines_answered (answers h)
+waits_only h m _ (waits is) = none_left h is
 
-pub lines_first : (h : List Happening) (moment : ℕ) → IsAfterLines (answer_to h moment) h
-lines_first h moment = first_by h _ _ (answer_is_next h moment)
+pub waits_last : (h : List Happening) (moment n : ℕ) → answer_to h moment ≡ wait n
+    → lines h ≡ lines_answered (answers h)
+waits_last h moment n is = waits_only h _ n (rw is at (answer_is_next h moment))
+
+late_first : (given : List Answer) (n : ℕ) → was_tick given ≡ false → due given ≤ n
+    → goes_first given n ≡ true
+late_first given n none late = grind (arith, nat_tests, none, late)
+
+pub ticks_first : TicksGoFirst
+ticks_first h moment on none late = rw (on.0, on.1, late_first (answers h) _ none late) refl
+
+behind_tick : (given : List Answer) (n : ℕ) → was_tick given ≡ true → goes_first given n ≡ false
+behind_tick given n ticked = grind (arith, nat_tests, ticked)
+
+pub lines_follow : LinesFollowTicks
+lines_follow h moment line later on ticked left =
+    rw (on.0, on.1, behind_tick (answers h) (now (asked moment ∷ h)) ticked, left) refl
 
 -- ---- the end
 
 close_only : (h : List Happening) (m n : ℕ) → Next h m (close n)
     → (ends_with_input h || not (has_room (answers h))) ≡ true
-close_only h m _ (closes is owed) = (and_parts _ _ owed).1
+close_only h m _ (closes none owed) = owed
 
 pub closes_asked : (h : List Happening) (moment n : ℕ) → answer_to h moment ≡ close n
     → (ends_with_input h || not (has_room (answers h))) ≡ true

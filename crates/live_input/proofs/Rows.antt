@@ -16,16 +16,23 @@ commands : answers (asked 20 ∷ asked 30 ∷ asked 9 ∷ came (codes "Go ! now\
 unfolding digits
 commands = refl
 
--- half a line is none; the line goes before the tick that is due; what says nothing gives nothing
+-- half a line is none; the tick that is due goes before the line; what says nothing gives nothing
 half : answers (asked 40 ∷ asked 40 ∷ came (codes "ck\n\n! \n")
     ∷ asked 0 ∷ asked 0 ∷ came (codes "ba") ∷ [])
-    ≡ tick 40 ∷ order 40 (codes "back") ∷ wait 25 ∷ tick 0 ∷ []
+    ≡ order 40 (codes "back") ∷ tick 40 ∷ wait 25 ∷ tick 0 ∷ []
 unfolding digits
 half = refl
 
+-- where ticks are late each time, a line and a tick take turns
+turns : answers (asked 120 ∷ asked 90 ∷ asked 60 ∷ asked 30 ∷ came (codes "go\nback\ngo\n")
+    ∷ asked 0 ∷ [])
+    ≡ tick 120 ∷ order 90 (codes "back") ∷ tick 60 ∷ order 30 (codes "go") ∷ tick 0 ∷ []
+unfolding digits
+turns = refl
+
 -- no command ends nothing
-refused : answers (asked 1 ∷ asked 1 ∷ asked 1 ∷ came (codes "tick\njump 3\ngo\n") ∷ [])
-    ≡ order 1 (codes "go") ∷ refusal (codes "jump 3") ∷ refusal (codes "tick") ∷ []
+refused : answers (asked 1 ∷ asked 1 ∷ asked 1 ∷ asked 1 ∷ came (codes "tick\njump 3\ngo\n") ∷ [])
+    ≡ order 1 (codes "go") ∷ refusal (codes "jump 3") ∷ refusal (codes "tick") ∷ tick 1 ∷ []
 unfolding digits
 refused = refl
 

@@ -14,6 +14,7 @@ use Rattle.console_text.specs.declared.reading.Reading.TheVariants.{At}
 use Rattle.console_text.specs.Spelling.{command_of, is_malformed, reading_of}
 use Rattle.live_input.specs.Night.{Answer, Happening, answer_to, answers, at_moment, bytes_come}
 use Rattle.live_input.specs.Night.{ended, ends_with_input, has_room, lines_answered, lines_given}
+use Rattle.live_input.specs.Night.{asked, due, is_full, is_over, lines_left, now, to_line, was_tick}
 use Rattle.live_input.specs.Night.{order, close, tick, wait, over}
 use Rattle.live_input.specs.Typed.{typed_of}
 
@@ -86,15 +87,30 @@ LinesComeInOrder =
     (h : List Happening) → (later : List (List ℕ))
     × ((typed_of (bytes_come h)).lines ≡ lines_answered (answers h) ++ later)
 
--- it waits, ticks or ends the night by itself only where each line that was typed was answered
-abbrev pub IsAfterLines : Answer → List Happening → Type 0
-IsAfterLines (close moment) h = (typed_of (bytes_come h)).lines ≡ lines_answered (answers h)
-IsAfterLines (tick moment) h = (typed_of (bytes_come h)).lines ≡ lines_answered (answers h)
-IsAfterLines (wait due) h = (typed_of (bytes_come h)).lines ≡ lines_answered (answers h)
-IsAfterLines _ h = Unit {0}
+-- it waits only where each line that was typed was answered
+abbrev pub WaitsComeLast : Type 0
+WaitsComeLast =
+    (h : List Happening) (moment n : ℕ) → answer_to h moment ≡ wait n
+    → (typed_of (bytes_come h)).lines ≡ lines_answered (answers h)
 
-abbrev pub LinesGoFirst : Type 0
-LinesGoFirst = (h : List Happening) (moment : ℕ) → IsAfterLines (answer_to h moment) h
+-- the night goes on, and lines have room
+abbrev pub IsOn : List Answer → Type 0
+IsOn given = (is_over given ≡ false) × (is_full given ≡ false)
+
+-- a tick that is due goes before whatever lines wait, where the answer before was none. So between
+-- the moment at which a tick is due and the tick there is at most one line, and no other tick
+abbrev pub TicksGoFirst : Type 0
+TicksGoFirst =
+    (h : List Happening) (moment : ℕ) → IsOn (answers h) → was_tick (answers h) ≡ false
+    → due (answers h) ≤ now (asked moment ∷ h)
+    → answer_to h moment ≡ tick (now (asked moment ∷ h))
+
+-- a line that waits is the answer behind each tick: ticks that are late keep no line from its turn
+abbrev pub LinesFollowTicks : Type 0
+LinesFollowTicks =
+    (h : List Happening) (moment : ℕ) (line : List ℕ) (later : List (List ℕ)) → IsOn (answers h)
+    → was_tick (answers h) ≡ true → lines_left (answers h) h ≡ line ∷ later
+    → answer_to h moment ≡ to_line (answers h) (now (asked moment ∷ h)) line
 
 -- an `end` that nobody typed comes only where the night ends with its input and that ended, or where
 -- all room for lines was used: whatever else ends, the light holds

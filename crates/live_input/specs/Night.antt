@@ -2,6 +2,7 @@
 use Rattle.std.specs.Prelude.{ℕ, ◌+◌, ◌*◌, ◌/◌, max, min, nat_le, nat_lt, Bool, true, false}
 use Rattle.std.specs.Prelude.{◌&&◌, ◌||◌, not, if◌then◌else◌, List, [], ◌∷◌, ◌++◌, length, drop}
 use Rattle.std.specs.Prelude.{Option, Some, None, is_some, is_none, codes, decimal, map, take}
+use Rattle.std.specs.Prelude.{unwrap_or}
 use Rattle.std.specs.Option.{option_map_or}
 use Rattle.ascii_text.specs.Text.{words_of}
 use Rattle.desk_core.specs.declared.command.Command.{Command}
@@ -99,9 +100,34 @@ abbrev pub to_line : List Answer → ℕ → List ℕ → Answer
 to_line given moment line =
     if is_taken given moment line then order moment line else refusal line
 
--- the night ends with its input, which ended without an `end`; or all room was used
+-- the night ends with its input, which ended without an `end`
 abbrev pub owes_end : List Answer → Bool → Bool
-owes_end given at_end = is_none (ended given) && (at_end || not (has_room given))
+owes_end given at_end = is_none (ended given) && at_end
+
+-- there was no `end`, and there is room for one and its ticks alone
+abbrev pub is_full : List Answer → Bool
+is_full given = is_none (ended given) && not (has_room given)
+
+abbrev pub ticked_by : Answer → Bool → Bool
+ticked_by (tick moment) before = true
+ticked_by over before = before
+ticked_by _ before = false
+
+-- the answer before was a tick
+abbrev pub was_tick : List Answer → Bool
+was_tick [] = false
+was_tick (answer ∷ older) = ticked_by answer (was_tick older)
+
+-- a tick is due, and the answer before was none. Behind a tick one line has its turn: where the work
+-- of a tick takes as long as from tick to tick, an `end` that is typed is answered all the same
+abbrev pub goes_first : List Answer → ℕ → Bool
+goes_first given moment = nat_le (due given) moment && not (was_tick given)
+
+-- what comes before any line that was typed
+abbrev pub before_lines : List Answer → ℕ → Option Answer
+before_lines given moment =
+    if is_full given then Some (close moment)
+    else (if goes_first given moment then Some (tick moment) else None)
 
 -- where each typed line was answered
 abbrev pub by_itself : List Answer → Bool → ℕ → Answer
@@ -109,7 +135,7 @@ by_itself given at_end moment =
     if owes_end given at_end then close moment
     else (if nat_le (due given) moment then tick moment else wait (due given))
 
--- the first typed line that was not answered, before anything else
+-- the first typed line that was not answered
 abbrev pub to_lines : List (List ℕ) → List Answer → Bool → ℕ → Answer
 to_lines [] given at_end moment = by_itself given at_end moment
 to_lines (line ∷ lines) given at_end moment = to_line given moment line
@@ -151,7 +177,8 @@ lines_left given older =
 abbrev pub answer_after : List Answer → List Happening → ℕ → Answer
 answer_after given older moment =
     if is_over given then over
-    else to_lines (lines_left given older) given (ends_with_input older) (now (asked moment ∷ older))
+    else unwrap_or (before_lines given (now (asked moment ∷ older)))
+    (to_lines (lines_left given older) given (ends_with_input older) (now (asked moment ∷ older)))
 
 -- all answers
 abbrev pub answers : List Happening → List Answer

@@ -1,10 +1,10 @@
 -- What is given of an answer, and what is kept of the answers so far.
-use Rattle.std.specs.Prelude.{◌≡◌, ◌-◌, List, [], ◌∷◌, ◌++◌, codes, length}
+use Rattle.std.specs.Prelude.{◌≡◌, ◌-◌, List, [], ◌∷◌, ◌++◌, codes, length, Option, Some, None}
 use Rattle.live_input.specs.declared.given.Given.{Given}
 use Rattle.live_input.specs.declared.given.Given.TheVariants.{Line, Refused, Until, Over}
 use Rattle.live_input.specs.declared.progress.Progress.{Progress}
 use Rattle.live_input.specs.Night.{Answer, order, close, tick, refusal, wait, over}
-use Rattle.live_input.specs.Night.{at_moment, due, ended, lines_given, shown}
+use Rattle.live_input.specs.Night.{at_moment, due, ended, lines_given, shown, was_tick}
 
 -- a line with its LF, the text of a refused line, or a moment
 abbrev pub Tells : Given → Answer → Type 0
@@ -21,3 +21,14 @@ pub record Leaves (progress : Progress) (answers : List Answer) : Type 0 where
   pub due_is : progress.due ≡ due answers
   pub room_is : progress.room ≡ 9999996 - length (lines_given answers)
   pub ended_is : progress.ended ≡ ended answers
+  pub ticked_is : progress.ticked ≡ was_tick answers
+
+-- what comes before any line, where something does
+abbrev pub TellsFirst : Option Given → Option Answer → Type 0
+TellsFirst (Some given) (Some answer) = Tells given answer
+TellsFirst None None = Unit {0}
+TellsFirst _ _ = ⊥
+
+abbrev pub LeavesFirst : Progress → Option Answer → List Answer → Type 0
+LeavesFirst progress (Some answer) given = Leaves progress (answer ∷ given)
+LeavesFirst progress None given = Leaves progress given

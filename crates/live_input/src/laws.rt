@@ -3,7 +3,8 @@
 
 ghost use Rattle.live_input.specs.Laws.{AnswersAreSpelled, ClosesAreAsked, LinesAreFine};
 ghost use Rattle.live_input.specs.Laws.{LinesComeInOrder};
-ghost use Rattle.live_input.specs.Laws.{LinesGoFirst, MomentsNeverFall, NightsEnd, TicksAreApart};
+ghost use Rattle.live_input.specs.Laws.{LinesFollowTicks, MomentsNeverFall, NightsEnd};
+ghost use Rattle.live_input.specs.Laws.{TicksAreApart, TicksGoFirst, WaitsComeLast};
 ghost use Rattle.live_input.specs.Laws.{EndsAreAccepted, TicksAreAccepted};
 
 /// `play` takes all lines that are given: none is malformed or too long, and there are never more
@@ -37,10 +38,22 @@ pub fn lines_come_in_order()
     ensures { LinesComeInOrder }
 {}
 
-/// A tick, or an `end` that nobody typed, comes only where each line that was typed was answered.
-#[tactic(auto, using(crate::proofs::Nights::lines_first))]
-pub fn lines_go_first()
-    ensures { LinesGoFirst }
+/// It waits only where each line that was typed was answered.
+pub fn waits_come_last()
+    ensures { WaitsComeLast }
+{}
+
+/// A tick that is due goes before whatever lines wait, where the answer before was no tick: between
+/// its due moment and the tick there is at most one line, and no other tick.
+#[tactic(auto, using(crate::proofs::Nights::ticks_first))]
+pub fn ticks_go_first()
+    ensures { TicksGoFirst }
+{}
+
+/// A line that waits is the answer behind each tick, however late ticks are.
+#[tactic(auto, using(crate::proofs::Nights::lines_follow))]
+pub fn lines_follow_ticks()
+    ensures { LinesFollowTicks }
 {}
 
 /// An `end` that nobody typed comes only where the night was to end with its input and that ended,

@@ -94,9 +94,9 @@ impl LiveInput {
         self.ends = ends || self.ends;
     }
 
-    /// What is next, at a moment of the clock: the answer to the next line that was typed, before
-    /// anything else; an `end` where the night ends with its input and that ended; a tick where one is
-    /// due.
+    /// What is next, at a moment of the clock: a tick that is due, where the answer before was none;
+    /// else the answer to the next line that was typed; else an `end`, where the night ends with its
+    /// input and that ended, or a tick.
     pub fn next(&mut self, moment: u64) -> Given
         ensures tells { (happenings : List Happening) → StandsFor self.old happenings
             → Tells result (answer_to happenings moment) }
@@ -107,6 +107,9 @@ impl LiveInput {
         self.now = self.now.max(moment.min(LATEST));
         if self.progress.is_over() {
             return Given::Over;
+        }
+        if let Some(given) = self.progress.before_lines(self.now) {
+            return given;
         }
         match self.typed.next_line() {
             Some(line) => self.progress.answer(self.now, line.as_slice()),

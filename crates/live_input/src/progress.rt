@@ -1,7 +1,8 @@
-ghost use Rattle.std.specs.Prelude.{◌≡◌, ◌≢◌, ◌<◌, ◌^◌, ℕ, List, [], ◌∷◌};
+ghost use Rattle.std.specs.Prelude.{◌≡◌, ◌≢◌, ◌<◌, ◌^◌, ℕ, List, [], ◌∷◌, None, Some, IfNone};
 ghost use Rattle.std.specs.Option.{ForSome};
-ghost use Rattle.live_input.specs.Night.{Answer, by_itself, due_after, to_line, were_three};
-ghost use Rattle.live_input.specs.Told.{Leaves, Tells};
+ghost use Rattle.live_input.specs.Night.{Answer, before_lines, by_itself, close, due_after, tick};
+ghost use Rattle.live_input.specs.Night.{to_line, were_three};
+ghost use Rattle.live_input.specs.Told.{Leaves, LeavesFirst, Tells, TellsFirst};
 ghost use Rattle.live_input.specs.declared.given.Given.TheVariants.{Until};
 
 use crate::given::{Given, fits, input_line, shown};
@@ -26,6 +27,8 @@ pub struct Progress {
     pub room: u32,
     // The ticks since `end`.
     pub ended: Option<u8>,
+    // Whether the last answer was a tick.
+    pub ticked: bool,
 }
 
 impl Progress {
@@ -36,6 +39,7 @@ impl Progress {
             due: 0,
             room: LINES,
             ended: None,
+            ticked: false,
         }
     }
 
@@ -43,6 +47,26 @@ impl Progress {
         ensures { result ≡ were_three self.now.ended }
     {
         self.ended.is_some_and(|ticks| ticks >= ENDING_TICKS)
+    }
+
+    // What comes before any line that was typed.
+    pub fn before_lines(&mut self, now: u64) -> Option<Given>
+        requires below { now < 2 ^ 48 }
+        requires not_over { ForSome self.old.ended (λ ticks. ticks < 3) }
+        ensures none { IfNone result (self.new ≡ self.old) }
+        ensures tells { (given : List Answer) → Leaves self.old given
+            → TellsFirst result (before_lines given now) }
+        ensures leaves { (given : List Answer) → Leaves self.old given
+            → LeavesFirst self.new (before_lines given now) given }
+        ensures at_once { (until : ℕ) → result ≢ Some (Until until) }
+    {
+        if self.ended.is_none() && self.room == 0 {
+            return Some(self.close(now));
+        }
+        if now < self.due || self.ticked {
+            return None;
+        }
+        Some(self.tick(now))
     }
 
     // The answer to a line that was typed.
@@ -53,6 +77,7 @@ impl Progress {
             → Leaves self.new (to_line given now line.now ∷ given) }
         ensures at_once { (until : ℕ) → result ≢ Until until }
     {
+        self.ticked = false;
         if !fits(now, line) || self.room == 0 {
             return Given::Refused(shown(line));
         }
@@ -75,17 +100,41 @@ impl Progress {
         ensures leaves { (given : List Answer) → Leaves self.old given
             → Leaves self.new (by_itself given ends now ∷ given) }
     {
-        if self.ended.is_none() && (ends || self.room == 0) {
-            self.ended = Some(0);
-            self.room = self.room.saturating_sub(1);
-            return Given::Line(input_line(now, b"end"));
+        if self.ended.is_none() && ends {
+            return self.close(now);
         }
         if now < self.due {
+            self.ticked = false;
             return Given::Until(self.due);
         }
+        self.tick(now)
+    }
+
+    // An `end` that nobody typed.
+    fn close(&mut self, now: u64) -> Given
+        requires below { now < 2 ^ 48 }
+        requires on { self.old.ended ≡ None }
+        ensures tells { Tells result (close now) }
+        ensures leaves { (given : List Answer) → Leaves self.old given
+            → Leaves self.new (close now ∷ given) }
+    {
+        self.ended = Some(0);
+        self.room = self.room.saturating_sub(1);
+        self.ticked = false;
+        Given::Line(input_line(now, b"end"))
+    }
+
+    fn tick(&mut self, now: u64) -> Given
+        requires below { now < 2 ^ 48 }
+        requires not_over { ForSome self.old.ended (λ ticks. ticks < 3) }
+        ensures tells { Tells result (tick now) }
+        ensures leaves { (given : List Answer) → Leaves self.old given
+            → Leaves self.new (tick now ∷ given) }
+    {
         self.due = due_after(now);
         self.ended = self.ended.map(|ticks| ticks + 1);
         self.room = self.room.saturating_sub(1);
+        self.ticked = true;
         Given::Line(input_line(now, b"tick"))
     }
 }

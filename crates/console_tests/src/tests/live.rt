@@ -89,9 +89,9 @@ fn ordinary_night(rt: HostRuntime) {
             Step::Until(10, 25),
             Step::Line(25, b"25 tick\n"),
             Step::Typed(26, b"Sub 3 50 ! the desk\nmaster H80\r\n"),
+            Step::Line(50, b"50 tick\n"),
             Step::Line(50, b"50 Sub 3 50 ! the desk\n"),
-            Step::Line(50, b"50 master H80\r\n"),
-            Step::Line(51, b"51 tick\n"),
+            Step::Line(51, b"51 master H80\r\n"),
             Step::Typed(60, b"end\n"),
             Step::Line(60, b"60 end\n"),
             Step::Typed(61, b"go\n"),
@@ -133,6 +133,26 @@ fn refusals(rt: HostRuntime) {
             Step::Typed(1, b"\n ,\t\r\n! go\ngo\n"),
             Step::Line(1, b"1 go\n"),
             Step::Until(1, 25),
+        ],
+    );
+}
+
+#[test]
+fn late_ticks_and_lines_take_turns(rt: HostRuntime) {
+    take_steps(
+        &rt,
+        &mut LiveInput::new(),
+        &[
+            Step::Line(0, b"0 tick\n"),
+            Step::Typed(1, b"go\nback\ngo\nback\n"),
+            Step::Line(40, b"40 tick\n"),
+            Step::Line(70, b"70 go\n"),
+            Step::Line(100, b"100 tick\n"),
+            Step::Line(130, b"130 back\n"),
+            Step::Line(131, b"131 tick\n"),
+            Step::Line(132, b"132 go\n"),
+            Step::Line(133, b"133 back\n"),
+            Step::Until(134, 154),
         ],
     );
 }

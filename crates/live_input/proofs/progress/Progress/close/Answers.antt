@@ -1,9 +1,6 @@
 use Rattle.std.proofs.Common.{arith, length-append}
 use Rattle.std.proofs.lemmas.Fmt.{length-decimal-le}
-use Rattle.live_input.proofs.progress.Progress.by_itself.Goals as goal
+use Rattle.live_input.proofs.progress.Progress.close.Goals as goal
 
 pub input_line-requires : goal.input_line-requires
 input_line-requires c = simp length-append (omega (arith, length-decimal-le 15 c.args.now))
-
-pub input_line-requires-2 : goal.input_line-requires-2
-input_line-requires-2 c = simp length-append (omega (arith, length-decimal-le 15 c.args.now))
