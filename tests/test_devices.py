@@ -138,7 +138,7 @@ class Floods(FolderTest):
         out, _ = night.communicate(timeout=60)
         ticks = [int(at) for at in re.findall(rb"^(\d+) tick$", record.read_bytes(), re.MULTILINE)]
         gaps = [b - a for a, b in zip(ticks, ticks[1:])]
-        self.assertEqual((0, 1), (night.returncode, out.count(b" ok\n")))
+        self.assertEqual((0, 2), (night.returncode, out.count(b" ok\n")))
         self.assertGreater(max(gaps), 900)
         self.assertGreaterEqual(min(gaps), 23)
         # After the gap there are no more ticks than fit.

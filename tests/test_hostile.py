@@ -101,4 +101,5 @@ class HostileLive(unittest.TestCase):
         told = [b"line refused: " + re.sub(rb"[^ -~]", b"?", line) for line in told]
         self.assertEqual(told, err.splitlines())
         accepted = [line for line in lines if desk.command(words_of(line))]
-        self.assertEqual(len(accepted) + 1, len(out.splitlines()))
+        # The end of the night has two replies.
+        self.assertEqual(len(accepted) + 2, len(out.splitlines()))

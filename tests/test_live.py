@@ -64,10 +64,13 @@ class LiveTest(ReceiverTest):
         err = told(err)
         return Outcome(night.returncode, out, err)
 
-    def assertTerminated(self, came):
-        """The last three datagrams, and no others, carry the end."""
+    def assertTerminated(self, came, is_left=False):
+        """The last three datagrams, and no others, carry the end; four before them are dark, of levels
+        that are ordinary, unless the night was left."""
         ends = [bool(each[OPTIONS] & TERMINATED) for each in came]
         self.assertEqual([False] * (len(came) - 3) + [True] * 3, ends)
+        if not is_left:
+            self.assertEqual({0}, {each[SLOT_1] for each in came[-7:]})
 
 
 class Live(LiveTest):
@@ -76,7 +79,8 @@ class Live(LiveTest):
         night = self.begun()
         for line in (b"sub 1 FL\n", b"master 50\n", b"sub 1 0\n", b"end\n"):
             self.told(night, line)
-        self.assertEqual(Outcome(0, b"", b""), self.ended(night))
+        status, out, err = self.ended(night)
+        self.assertEqual((0, ["ok"], b""), (status, without_moments(out), err))
         came = self.came()
         self.assertEqual([k % 256 for k in range(len(came))], [each[SEQUENCE] for each in came])
         self.assertTerminated(came)
@@ -88,12 +92,12 @@ class Live(LiveTest):
 
     def test_closed_input(self):
         """With --end-with-input the end of the input is that of the night; a last line needs no LF."""
-        for typed, replies in ((b"", []), (b"go", ["ok"]), (b"go\nback\nend", ["ok", "refused AtStart", "ok"])):
+        for typed, replies in ((b"", []), (b"go", ["ok"]), (b"go\nback\nend", ["ok", "refused AtStart"])):
             with self.subTest(typed):
                 outcome = run(*self.words(), stdin=typed)
                 self.assertEqual((0, b""), (outcome.status, outcome.err))
                 told = without_moments(outcome.out)
-                self.assertEqual(replies + (["ok"] if b"end" not in typed else []), told)
+                self.assertEqual([*replies, "ok", "ok"], told)
                 self.assertTerminated(self.came())
 
     def test_closed_input_holds(self):
@@ -116,10 +120,30 @@ class Live(LiveTest):
         self.assertEqual((b"", b""), (night.stdout.read(), night.stderr.read()))
 
     def test_after_end(self):
-        """What is typed after `end` is answered as a desk answers it."""
-        outcome = run(*self.words(), stdin=b"end\ngo\nend\n")
-        self.assertEqual(["ok", "refused Ended", "refused Ended"], without_moments(outcome.out))
-        self.assertEqual((0, b""), (outcome.status, outcome.err))
+        """What is typed after `end` is refused: the lines that end a night come as they are."""
+        record = self.folder / "night.play"
+        outcome = run(*self.words("--record", record), stdin=b"end\ngo\nmaster FL\nend\nleave\n")
+        self.assertEqual(["ok", "ok"], without_moments(outcome.out))
+        refused = b"".join(b"line refused: %s\n" % line for line in (b"go", b"master FL", b"end", b"leave"))
+        self.assertEqual((0, refused), (outcome.status, outcome.err))
+        given = [line.split(" ", 1)[1] for line in record.read_text().splitlines()]
+        self.assertEqual(["tick", "master 0", *["tick"] * 4, "end", *["tick"] * 3], given)
+        self.came()
+
+    def test_end_is_dark(self):
+        """`end` brings the light down as ordinary levels, four packets, and then ends the streams: so a
+        receiver that holds the last look of a stream that ended is dark. `leave` ends them alone."""
+        for word, is_left in ((b"end\n", False), (b"Leave ! to the backup\n", True)):
+            with self.subTest(word):
+                night = self.begun()
+                self.told(night, b"sub 1 FL\n", pause=0.3)
+                night.stdin.write(word)
+                self.ended(night)
+                came = self.came()
+                self.assertTerminated(came, is_left)
+                levels = [each[SLOT_1] for each in came if not each[OPTIONS] & TERMINATED]
+                self.assertEqual([128] * 4 if is_left else [0] * 4, levels[-4:])
+                self.assertEqual(128, levels[-4 if is_left else -5])
 
     def test_refused_lines(self):
         """A line that is no command ends nothing, and is told with what can be printed of it."""
@@ -127,14 +151,14 @@ class Live(LiveTest):
         outcome = run(*self.words(), stdin=b"\n".join(lines) + b"\n  ! nothing\n\nGO ! now\n")
         told = [b"jump", b"go now", b"tick", b"5 go", b"sub 1", b"goto 0", b"g?o", b"caf??", b"x" * 200]
         self.assertEqual(b"".join(b"line refused: " + line + b"\n" for line in told), outcome.err)
-        self.assertEqual((0, ["ok", "ok"]), (outcome.status, without_moments(outcome.out)))
+        self.assertEqual((0, ["ok"] * 3), (outcome.status, without_moments(outcome.out)))
 
     def test_bytes_one_by_one(self):
         night = self.begun()
         self.typed(night, *(bytes([byte]) for byte in b"sub 1 FL\n"), pause=0.03)
         self.assertEqual(["ok"], without_moments(night.stdout.readline()))
         self.typed(night, b"en", b"d\n", pause=0.2)
-        self.assertEqual(["ok"], without_moments(self.ended(night).out))
+        self.assertEqual(["ok", "ok"], without_moments(self.ended(night).out))
         came = self.came()
         self.assertEqual({0, 128}, {each[SLOT_1] for each in came[:-3]})
 
@@ -147,7 +171,8 @@ class Live(LiveTest):
         time.sleep(1.3)
         self.ended(night)
         came = half + self.came()
-        levels = [each[SLOT_1] for each in came[:-3]]
+        self.assertTerminated(came)
+        levels = [each[SLOT_1] for each in came[:-7]]
         self.assertEqual(sorted(levels), levels)
         self.assertEqual((0, 255), (levels[0], levels[-1]))
         self.assertGreater(len(set(levels)), 20)
@@ -214,12 +239,12 @@ class Live(LiveTest):
         self.assertEqual(b"0 tick\n", record.read_bytes())
         record.write_bytes(b"")
         self.assertEqual(0, run(*self.words("--record", record), stdin=b"end\n").status)
-        self.assertEqual(5, record.read_bytes().count(b"\n"))
+        self.assertEqual(10, record.read_bytes().count(b"\n"))
 
     def test_record_on_a_full_disk(self):
         """It is told once, and the night goes on."""
         outcome = run(*self.words("--record", "/dev/full"), stdin=b"go\nend\n")
-        self.assertEqual((0, ["ok", "ok"]), (outcome.status, without_moments(outcome.out)))
+        self.assertEqual((0, ["ok"] * 3), (outcome.status, without_moments(outcome.out)))
         self.assertEqual(b"record: device fault\n", outcome.err)
         self.assertTerminated(self.came())
 
@@ -234,7 +259,8 @@ class Live(LiveTest):
         os.write(ours, b"\x04")
         outcome = self.ended(night)
         os.close(ours)
-        self.assertEqual((0, b"", ["ok"]), (outcome.status, outcome.err, without_moments(outcome.out)))
+        told = without_moments(outcome.out)
+        self.assertEqual((0, b"", ["ok", "ok"]), (outcome.status, outcome.err, told))
         self.assertIn(128, [each[SLOT_1] for each in self.came()])
 
     def test_terminal_that_holds(self):
@@ -270,7 +296,7 @@ class Live(LiveTest):
         with open(typed, "rb") as stdin:
             outcome = self.ended(self.begun(stdin=stdin))
         self.assertEqual((0, b""), (outcome.status, outcome.err))
-        self.assertEqual(["ok"] * 2001, without_moments(outcome.out))
+        self.assertEqual(["ok"] * 2002, without_moments(outcome.out))
         self.assertTerminated(self.came())
 
     def test_lost_packets(self):
@@ -279,7 +305,7 @@ class Live(LiveTest):
         lost = re.findall(rb":x(\d+)", outcome.out)
         self.assertTrue(lost)
         self.assertEqual((5, b"lost %d\n" % len(lost)), (outcome.status, outcome.err))
-        self.assertEqual([b"ok", b"ok"], re.findall(rb"ok$", outcome.out, re.MULTILINE))
+        self.assertEqual([b"ok"] * 3, re.findall(rb"ok$", outcome.out, re.MULTILINE))
 
     def test_before_the_night(self):
         """A fault of the show, the base or a file comes before anything is sent or recorded."""

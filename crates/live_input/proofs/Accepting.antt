@@ -1,134 +1,189 @@
 -- What a desk accepts of a night.
 use Rattle.std.proofs.Common.{◌≡◌, ◌≤◌, ◌<◌, ◌^◌, ℕ, ◌+◌, true, false, refl, ap, ◌∙◌, arith, List}
 use Rattle.std.proofs.Common.{◌∷◌, Option, Some, None}
-use Rattle.std.specs.Prelude.{option_map, is_none}
+use Rattle.std.specs.Prelude.{is_none}
 use Rattle.std.specs.Option.{option_map_or}
 use Rattle.std.proofs.lemmas.Bool.{cond_both}
 use Rattle.std.proofs.lemmas.Bool.Decides.{nat_tests}
-use Rattle.ascii_text.specs.Text.{words_of}
 use Rattle.show_core.specs.Tables.{Tables}
+use Rattle.master_core.specs.Settings.{Setting}
 use Rattle.desk_core.specs.declared.command.Command.{Command}
-use Rattle.desk_core.specs.declared.command.Command.TheVariants.{End}
+use Rattle.desk_core.specs.declared.command.Command.TheVariants.{End, Master}
 use Rattle.desk_core.specs.Played as desk
 use Rattle.desk_core.specs.Played.{Act, last_moment, last_tick, refusal}
-use Rattle.console_text.specs.Spelling.{command_of}
-use Rattle.live_input.specs.Laws.{accepted, taken}
-use Rattle.live_input.specs.Night.{Answer, Happening, answer_to, answers, asked, due, ended}
-use Rattle.live_input.specs.Night.{ended_by, is_over, now, order, tick}
-use Rattle.live_input.proofs.Cases.{Keeps, Next, answer_is_next, clock_below, closes, takes}
-use Rattle.live_input.proofs.Cases.{through, ticks}
+use Rattle.live_input.specs.declared.progress.Stage.{Stage}
+use Rattle.live_input.specs.declared.progress.Stage.TheVariants.{On, Dark, Ended}
+use Rattle.live_input.specs.Laws.{IsDim, accepted, since_end, taken}
+use Rattle.live_input.specs.Night.{Answer, Happening, answer_to, answers, asked, due, is_dark}
+use Rattle.live_input.specs.Night.{close, dim, is_on, is_through, now, order, stage, stage_by, tick}
+use Rattle.live_input.proofs.Cases.{Keeps, Next, answer_is_next, clock_below, is_end, through}
+use Rattle.live_input.proofs.Cases.{closes, darkens, dims, leaves, takes, ticks}
+use Rattle.live_input.proofs.Nights.{on_only}
 
 -- a desk with this history, at this moment, agrees with the answers given: its last tick, if there
--- was one, is 23 ms before the next is due
+-- was one, is 23 ms before the next is due, and its grand master is down where the night is dark
 record Agrees (history : List Act) (given : List Answer) (n : ℕ) : Type 0 where
   moment : last_moment history ≤ n
-  since : desk.ended history ≡ ended given
+  since : desk.ended history ≡ since_end (stage given)
   past : option_map_or (λ last. last + 23) (last_tick history) 0 ≤ due given
+  dark : IsDim (stage given) (desk.settings history)
 
 abbrev act : ℕ → desk.Call → Act
 act n call = record { moment = n; call = call }
 
--- a tick that is due is accepted, and so is the first `end`
-tick_accepted : (show : Tables) (history : List Act) (given : List Answer) (n : ℕ) → n < 2 ^ 48
-    → Agrees history given n → is_over given ≡ false → due given ≤ n
-    → refusal show history (act n desk.tick) ≡ None
-tick_accepted show history given n below a on late =
-    grind (arith, nat_tests, a.moment, a.since, a.past)
+-- ---- what is accepted
 
-end_accepted : (show : Tables) (history : List Act) (given : List Answer) (n : ℕ) → n < 2 ^ 48
-    → Agrees history given n → ended given ≡ None
+abbrev IsTimely : List Act → ℕ → ℕ → Type 0
+IsTimely history d n =
+    (last_moment history ≤ n) × (option_map_or (λ last. last + 23) (last_tick history) 0 ≤ d)
+
+tick_accepted : (show : Tables) (history : List Act) (d n : ℕ) (s : Stage) → n < 2 ^ 48
+    → IsTimely history d n → desk.ended history ≡ since_end s → is_through s ≡ false → d ≤ n
+    → refusal show history (act n desk.tick) ≡ None
+tick_accepted show history d n On below t since on late =
+    grind (arith, nat_tests, t.0, t.1, since)
+tick_accepted show history d n (Dark count) below t since on late =
+    grind (arith, nat_tests, t.0, t.1, since)
+tick_accepted show history d n (Ended count) below t since on late =
+    grind (arith, nat_tests, t.0, t.1, since, on)
+
+end_accepted : (show : Tables) (history : List Act) (n : ℕ) → n < 2 ^ 48
+    → last_moment history ≤ n → desk.ended history ≡ None
     → refusal show history (act n (desk.order End)) ≡ None
-end_accepted show history given n below a none = grind (arith, nat_tests, a.moment, a.since, a.past)
+end_accepted show history n below moment none = grind (arith, nat_tests, moment, none)
+
+dim_accepted : (show : Tables) (history : List Act) (n : ℕ) → n < 2 ^ 48
+    → last_moment history ≤ n → desk.ended history ≡ None
+    → refusal show history (act n (desk.order (Master 0))) ≡ None
+dim_accepted show history n below moment none = grind (arith, nat_tests, moment, none)
 
 -- ---- one answer more
 
--- an accepted command ends a night as the line that spells it
-order_ended : (c : Command) (since : Option ℕ) (n : ℕ) (line : List ℕ)
-    → command_of (words_of line) ≡ Some c
-    → desk.ended_by (desk.order c) since ≡ ended_by (order n line) since
-order_ended c since n line is = grind (arith, is)
+order_quiet : (c : Command) (since : Option ℕ) → is_end c ≡ false
+    → desk.ended_by (desk.order c) since ≡ since
+order_quiet End since other = cc
+order_quiet c since other = grind arith
 
--- and a refused one is no first `end`
-order_refused : (show : Tables) (history : List Act) (given : List Answer) (n : ℕ) (line : List ℕ)
-    → n < 2 ^ 48 → Agrees history given n → (c : Command) (since : Option ℕ) → ended given ≡ since
-    → command_of (words_of line) ≡ Some c
-    → is_none (refusal show history (act n (desk.order c))) ≡ false
-    → since ≡ ended_by (order n line) since
-order_refused show history given n line below a c (Some after) given_is is refused = refl
-order_refused show history given n line below a End None given_is is refused =
-    let accepted = end_accepted show history given n below a given_is in cc
-order_refused show history given n line below a c None given_is is refused = rw is refl
+tick_ends : (s : Stage) (n : ℕ)
+    → desk.ended_by desk.tick (since_end s) ≡ since_end (stage_by (tick n) s)
+tick_ends On n = refl
+tick_ends (Dark count) n = refl
+tick_ends (Ended count) n = refl
 
-order_by : (show : Tables) (history : List Act) (given : List Answer) (n : ℕ) (line : List ℕ)
-    → n < 2 ^ 48 → Agrees history given n → (spelled : Option Command)
-    → command_of (words_of line) ≡ spelled
-    → Agrees (taken show (option_map (λ c. act n (desk.order c)) spelled) history)
-    (order n line ∷ given) n
-order_by show history given n line below a None is =
-    record { moment = a.moment; since = grind (arith, a.since, is); past = a.past }
-order_by show history given n line below a (Some c) is =
-    cond_both (is_none (refusal show history (act n (desk.order c)))) _ _
-    (λ history. Agrees history (order n line ∷ given) n)
+tick_dims : (s : Stage) (n : ℕ) (settings : List Setting) → IsDim s settings
+    → IsDim (stage_by (tick n) s) settings
+tick_dims On n settings dark = tt
+tick_dims (Dark count) n settings dark = dark
+tick_dims (Ended count) n settings dark = tt
+
+on_none : (s : Stage) → is_on s ≡ true → since_end s ≡ None
+on_none s on = rw (on_only s on) refl
+
+dark_only : (s : Stage) → is_dark s ≡ true → (count : ℕ) × (s ≡ Dark count)
+dark_only (Dark count) dark = (count, refl)
+dark_only s dark = cc
+
+order_by : (show : Tables) (h : List Happening) (n : ℕ) (line : List ℕ) (c : Command)
+    → is_on (stage (answers h)) ≡ true → is_end c ≡ false → now h ≤ n
+    → Agrees (accepted show (answers h)) (answers h) (now h)
+    → Agrees (taken show (Some (act n (desk.order c))) (accepted show (answers h)))
+    (order n line ∷ answers h) n
+order_by show h n line c on other le a =
+    let s = on_only (stage (answers h)) on in
+    cond_both (is_none (refusal show (accepted show (answers h)) (act n (desk.order c)))) _ _
+    (λ history. Agrees history (order n line ∷ answers h) n)
     (λ e. record {
       moment = omega arith;
-      since = ap (desk.ended_by (desk.order c)) a.since ∙ order_ended c (ended given) n line is;
+      since = ap (desk.ended_by (desk.order c)) a.since ∙ order_quiet c _ other;
       past = a.past;
+      dark = rw s tt;
     })
     (λ e. record {
-      moment = a.moment;
-      since = a.since ∙ order_refused show history given n line below a c _ refl is e;
+      moment = omega (arith, a.moment);
+      since = a.since;
       past = a.past;
+      dark = rw s tt;
     })
 
-ended_none : (since : Option ℕ) → is_none since ≡ true → since ≡ None
-ended_none since owed = grind (arith, owed)
+dim_by : (show : Tables) (h : List Happening) (n : ℕ) (typed : Option (List ℕ)) → n < 2 ^ 48
+    → is_on (stage (answers h)) ≡ true → now h ≤ n
+    → Agrees (accepted show (answers h)) (answers h) (now h)
+    → Agrees (accepted show (dim n typed ∷ answers h)) (dim n typed ∷ answers h) n
+dim_by show h n typed below on le a =
+    let none = a.since ∙ on_none (stage (answers h)) on in
+    let s = on_only (stage (answers h)) on in
+    rw (dim_accepted show (accepted show (answers h)) n below (omega (arith, a.moment)) none) (record {
+      moment = omega arith;
+      since = rw s none;
+      past = a.past;
+      dark = rw s refl;
+    })
 
-tick_ends : (since : Option ℕ) (n : ℕ) → desk.ended_by desk.tick since ≡ ended_by (tick n) since
-tick_ends since n = grind arith
-
-later : (history : List Act) (given : List Answer) (m n : ℕ) → m ≤ n → Agrees history given m
-    → Agrees history given n
-later history given m n le a =
-    record { moment = omega (arith, a.moment); since = a.since; past = a.past }
+close_by : (show : Tables) (h : List Happening) (n : ℕ) (typed : Option (List ℕ)) → n < 2 ^ 48
+    → since_end (stage (answers h)) ≡ None
+    → stage_by (close n typed) (stage (answers h)) ≡ Ended 0 → now h ≤ n
+    → Agrees (accepted show (answers h)) (answers h) (now h)
+    → Agrees (accepted show (close n typed ∷ answers h)) (close n typed ∷ answers h) n
+close_by show h n typed below none s le a =
+    let before = a.since ∙ none in
+    rw (end_accepted show (accepted show (answers h)) n below (omega (arith, a.moment)) before) (record {
+      moment = omega arith;
+      since = rw (s, before) refl;
+      past = a.past;
+      dark = rw s tt;
+    })
 
 agrees_by : (show : Tables) → Keeps (λ given n. Agrees (accepted show given) given n)
-agrees_by show h n _ (takes line left is fit) le below a =
-    order_by show _ (answers h) n line below (later _ _ (now h) n le a)
-    (command_of (words_of line)) refl
-agrees_by show h n _ (closes none owed) le below a =
-    let is = ended_none (ended (answers h)) none in
-    rw (end_accepted show _ (answers h) n below (later _ _ (now h) n le a) is) (record {
+agrees_by show h n _ (takes line left is on room fit c spelled other) le below a =
+    rw spelled (order_by show h n line c on other le a)
+agrees_by show h n _ (darkens line left is on) le below a = dim_by show h n _ below on le a
+agrees_by show h n _ (dims on owed) le below a = dim_by show h n _ below on le a
+agrees_by show h n _ (leaves line left is on room) le below a =
+    close_by show h n _ below (on_none _ on) (rw (on_only _ on) refl) le a
+agrees_by show h n _ (closes dark) le below a =
+    let s = (dark_only (stage (answers h)) dark).1 in
+    close_by show h n _ below (rw s refl) (rw s refl) le a
+agrees_by show h n _ (ticks on light room late) le below a =
+    let timely : IsTimely (accepted show (answers h)) (due (answers h)) n =
+    (omega (arith, a.moment), a.past) in
+    rw (tick_accepted show _ (due (answers h)) n (stage (answers h)) below timely a.since on late)
+    (record {
       moment = omega arith;
-      since = rw (a.since, is) refl;
-      past = a.past;
-    })
-agrees_by show h n _ (ticks on room late) le below a =
-    rw (tick_accepted show _ (answers h) n below (later _ _ (now h) n le a) on late) (record {
-      moment = omega arith;
-      since = ap (desk.ended_by desk.tick) a.since ∙ tick_ends (ended (answers h)) n;
+      since = ap (desk.ended_by desk.tick) a.since ∙ tick_ends (stage (answers h)) n;
       past = omega arith;
+      dark = tick_dims (stage (answers h)) n _ a.dark;
     })
-agrees_by show h n _ _ le below a =
-    record { moment = omega (arith, a.moment); since = a.since; past = a.past }
+agrees_by show h n _ _ le below a = record {
+  moment = omega (arith, a.moment);
+  since = a.since;
+  past = a.past;
+  dark = a.dark;
+}
 
 agrees : (show : Tables) (h : List Happening)
     → Agrees (accepted show (answers h)) (answers h) (now h)
 agrees show = through (λ given n. Agrees (accepted show given) given n)
-    (record { moment = omega arith; since = refl; past = omega arith }) (agrees_by show)
+    (record { moment = omega arith; since = refl; past = omega arith; dark = tt })
+    (agrees_by show)
 
 pub ends_accepted : (show : Tables) (h : List Happening)
-    → desk.ended (accepted show (answers h)) ≡ ended (answers h)
+    → desk.ended (accepted show (answers h)) ≡ since_end (stage (answers h))
 ends_accepted show h = (agrees show h).since
 
+pub ends_dark : (show : Tables) (h : List Happening)
+    → IsDim (stage (answers h)) (desk.settings (accepted show (answers h)))
+ends_dark show h = (agrees show h).dark
+
 tick_only : (show : Tables) (h : List Happening) (m n : ℕ) → Next h m (tick n) → m < 2 ^ 48
-    → Agrees (accepted show (answers h)) (answers h) m
+    → now h ≤ m → Agrees (accepted show (answers h)) (answers h) (now h)
     → refusal show (accepted show (answers h)) (act n desk.tick) ≡ None
-tick_only show h m _ (ticks on room late) below a =
-    tick_accepted show _ (answers h) m below a on late
+tick_only show h m _ (ticks on light room late) below le a =
+    tick_accepted show (accepted show (answers h)) (due (answers h)) m (stage (answers h)) below
+    (omega (arith, a.moment), a.past) a.since on late
 
 pub ticks_accepted : (show : Tables) (h : List Happening) (moment n : ℕ)
     → answer_to h moment ≡ tick n
     → refusal show (accepted show (answers h)) (act n desk.tick) ≡ None
 ticks_accepted show h moment n is =
     tick_only show h _ n (rw is at (answer_is_next h moment)) (clock_below (asked moment ∷ h))
-    (later _ _ (now h) _ (omega arith) (agrees show h))
+    (omega arith) (agrees show h)

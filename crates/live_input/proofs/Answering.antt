@@ -4,8 +4,8 @@ use Rattle.std.proofs.Common.{◌++◌, Option, Some, None}
 use Rattle.live_input.specs.declared.progress.Progress.{Progress}
 use Rattle.live_input.specs.Kept.{Kept, TypedKept}
 use Rattle.live_input.specs.Night.{Answer, Happening, answer_to, answers, asked, before_lines}
-use Rattle.live_input.specs.Night.{bytes_come}
-use Rattle.live_input.specs.Night.{by_itself, is_over, lines_answered, now, to_line, were_three}
+use Rattle.live_input.specs.Night.{bytes_come, close, dim}
+use Rattle.live_input.specs.Night.{by_itself, is_over, is_through, lines_answered, now, to_line}
 use Rattle.live_input.specs.Stands.{StandsFor, TakesLine, TypedStands}
 use Rattle.live_input.specs.declared.given.Given.{Given}
 use Rattle.live_input.specs.Told.{Leaves, Tells, TellsFirst}
@@ -27,12 +27,12 @@ none_more : (given : List Answer) (ends : Bool) (n : ℕ)
 none_more given ends n = grind arith
 
 module _ {kept : Kept} {h : List Happening} {low clock : ℕ} {is_last : Bool} (moment : ℕ)
-    (typed : TypedKept) (s : StandsFor kept h) (last : is_last ≡ were_three kept.progress.ended)
+    (typed : TypedKept) (s : StandsFor kept h) (last : is_last ≡ is_through kept.progress.stage)
     (on : is_last ≡ false) (low_is : low ≡ min moment 281474976710655)
     (clock_is : clock ≡ max kept.now low) where
   -- the night is not over, and the clock was set
   not_over : is_over (answers h) ≡ false
-  not_over = rw s.leaves.ended_is at (sym last ∙ on)
+  not_over = rw s.leaves.stage_is at (sym last ∙ on)
 
   clock_set : clock ≡ now (asked moment ∷ h)
   clock_set = rw (← low_is, ← s.now_is) clock_is
@@ -92,3 +92,22 @@ some_first given None tells = elim tells [ ]
 pub none_first : (first : Option Answer) → TellsFirst None first → first ≡ None
 none_first None tells = refl
 none_first (Some answer) tells = elim tells [ ]
+
+-- what is kept does not tell whether a line asked for the end
+pub dim_leaves : (progress : Progress) (n : ℕ) (line : List ℕ) (given : List Answer)
+    → Leaves progress (dim n None ∷ given) → Leaves progress (dim n (Some line) ∷ given)
+dim_leaves progress n line given l = record {
+  due_is = l.due_is;
+  room_is = l.room_is;
+  stage_is = l.stage_is;
+  ticked_is = l.ticked_is;
+}
+
+pub close_leaves : (progress : Progress) (n : ℕ) (line : List ℕ) (given : List Answer)
+    → Leaves progress (close n None ∷ given) → Leaves progress (close n (Some line) ∷ given)
+close_leaves progress n line given l = record {
+  due_is = l.due_is;
+  room_is = l.room_is;
+  stage_is = l.stage_is;
+  ticked_is = l.ticked_is;
+}

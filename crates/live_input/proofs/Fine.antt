@@ -4,7 +4,7 @@ use Rattle.std.proofs.Common.{◌∷◌, ◌++◌, length, fold, reverse, append
 use Rattle.std.proofs.Common.{Some, None}
 use Rattle.std.specs.Prelude.{◌==◌, is_some, codes, decimal, flat_map, not, All}
 use Rattle.std.specs.List.{list_all}
-use Rattle.std.proofs.lemmas.Bool.{and_parts, cond_both, leb-true, not-true}
+use Rattle.std.proofs.lemmas.Bool.{cond_both, not-true}
 use Rattle.std.proofs.lemmas.Grind.{elements, moves}
 use Rattle.std.proofs.lemmas.List.Sums.{AllPass-from_list_all}
 use Rattle.std.proofs.lemmas.Fmt.{length-decimal-le}
@@ -17,10 +17,10 @@ use Rattle.console_text.specs.Spelling as spelling
 use Rattle.console_text.specs.Spelling.{call_of, command_of, is_malformed, reading_of}
 use Rattle.live_input.specs.Laws.{AreFine, IsSpelled, Spells, text_of}
 use Rattle.live_input.specs.Night.{Answer, Happening, answer_to, answers, asked, at_moment}
-use Rattle.live_input.specs.Night.{bytes_come, has_room, lines_given, lines_left}
+use Rattle.live_input.specs.Night.{bytes_come, lines_given, lines_left}
 use Rattle.live_input.specs.Typed.{Typed, no_bytes, says_nothing, typed_of, with_byte}
-use Rattle.live_input.proofs.Cases.{Keeps, Next, answer_is_next, clock_below, closes, takes}
-use Rattle.live_input.proofs.Cases.{through, ticks}
+use Rattle.live_input.proofs.Cases.{Keeps, Next, answer_is_next, clock_below, through}
+use Rattle.live_input.proofs.Cases.{closes, darkens, dims, leaves, takes, ticks}
 use Rattle.live_input.proofs.Nights.{few_lines}
 use Rattle.live_input.proofs.Spelled.{call_is, no_digit, reading_is}
 
@@ -37,11 +37,13 @@ spells n line below (Some command) e some =
 
 spelled_by : (h : List Happening) (n : ℕ) (answer : Answer) → Next h n answer → n < 2 ^ 48
     → IsSpelled answer
-spelled_by h n _ (takes line later is fit) below =
-    let fits = and_parts _ _ (and_parts (has_room (answers h)) _ fit).1 in
-    (spells n line below _ refl fits.1).0
-spelled_by h n _ (closes none owed) below = reading_is n (codes "end") below
-spelled_by h n _ (ticks on room late) below = reading_is n (codes "tick") below
+spelled_by h n _ (takes line later is on room fit c spelled other) below =
+    (spells n line below _ refl (rw spelled refl)).0
+spelled_by h n _ (darkens line later is on) below = reading_is n (codes "master 0") below
+spelled_by h n _ (dims on owed) below = reading_is n (codes "master 0") below
+spelled_by h n _ (leaves line later is on room) below = reading_is n (codes "end") below
+spelled_by h n _ (closes dark) below = reading_is n (codes "end") below
+spelled_by h n _ (ticks on light room late) below = reading_is n (codes "tick") below
 spelled_by h n _ _ below = tt
 
 pub spelled : (h : List Happening) (moment : ℕ) → IsSpelled (answer_to h moment)
@@ -89,23 +91,28 @@ one_good n line good short whole = record {
       (no_digit (λ b. b == 10) refl n) refl) whole;
 }
 
--- an `end` or a tick
+-- `master 0`, `end` or a tick
 short_good : (n : ℕ) (word : List ℕ) → n < 2 ^ 48
     → is_malformed (spelling.at_moment (Some n) (call_of (words_of word))) ≡ false
-    → length word ≤ 4 → list_all (λ b. not (b == 10)) word ≡ true → IsGood (at_moment n word)
+    → length word ≤ 8 → list_all (λ b. not (b == 10)) word ≡ true → IsGood (at_moment n word)
 short_good n word below good short whole = one_good n word (rw (reading_is n word below) good)
     (simp length-append (omega (arith, length-decimal-le 15 n)))
     (All-weaker _ NotLf (λ b. not-true (b == 10)) word (AllPass-from_list_all _ word whole))
 
 good_by : Keeps (λ given n. All IsGood (lines_given given))
-good_by h n _ (takes line later is fit) le below g =
-    let fits = and_parts _ _ (and_parts (has_room (answers h)) _ fit).1 in
-    let good = (spells n line below _ refl fits.1).1 in
+good_by h n _ (takes line later is on room fit c spelled other) le below g =
+    let good = (spells n line below _ refl (rw spelled refl)).1 in
     let whole = All-head (All NotLf) line later (rw is at (left_no_lf h)) in
-    All-cons IsGood _ _ (one_good n line good (leb-true _ 200 fits.0) whole) g
-good_by h n _ (closes none owed) le below g =
+    All-cons IsGood _ _ (one_good n line good fit whole) g
+good_by h n _ (darkens line later is on) le below g =
+    All-cons IsGood _ _ (short_good n (codes "master 0") below refl (omega arith) refl) g
+good_by h n _ (dims on owed) le below g =
+    All-cons IsGood _ _ (short_good n (codes "master 0") below refl (omega arith) refl) g
+good_by h n _ (leaves line later is on room) le below g =
     All-cons IsGood _ _ (short_good n (codes "end") below refl (omega arith) refl) g
-good_by h n _ (ticks on room late) le below g =
+good_by h n _ (closes dark) le below g =
+    All-cons IsGood _ _ (short_good n (codes "end") below refl (omega arith) refl) g
+good_by h n _ (ticks on light room late) le below g =
     All-cons IsGood _ _ (short_good n (codes "tick") below refl (omega arith) refl) g
 good_by h n _ _ le below g = g
 

@@ -2,6 +2,7 @@ mod Rows
 pub mod Accepting
 pub mod Answering
 pub mod Cases
+pub mod Ending
 pub mod Nights
 pub mod Fine
 pub mod Replies

@@ -1,8 +1,8 @@
 -- Nights, evaluated.
-use Rattle.std.specs.Prelude.{◌≡◌, ◌++◌, true, false, refl, codes, [], ◌∷◌}
+use Rattle.std.specs.Prelude.{◌≡◌, ◌++◌, true, false, Some, None, refl, codes, [], ◌∷◌}
 use Rattle.std.specs.Fmt.{digits}
 use Rattle.live_input.specs.Night.{answers, due_after, lines_given, shown, came, closed, asked}
-use Rattle.live_input.specs.Night.{order, close, tick, refusal, wait, over}
+use Rattle.live_input.specs.Night.{order, dim, close, tick, refusal, wait, over}
 
 -- ticks on the grid, one that is late, and those after it
 grid : (due_after 0 ≡ 25) × (due_after 25 ≡ 50) × (due_after 27 ≡ 50) × (due_after 28 ≡ 51)
@@ -36,10 +36,12 @@ refused : answers (asked 1 ∷ asked 1 ∷ asked 1 ∷ asked 1 ∷ came (codes "
 unfolding digits
 refused = refl
 
--- the end of the input, where the night ends with it: the last line without LF, an `end`, three ticks, and nothing more
-ending : answers (asked 80 ∷ asked 75 ∷ asked 60 ∷ asked 50 ∷ asked 25 ∷ asked 1 ∷ asked 1
-    ∷ closed true ∷ came (codes "go") ∷ asked 0 ∷ [])
-    ≡ over ∷ tick 75 ∷ wait 75 ∷ tick 50 ∷ tick 25 ∷ close 1 ∷ order 1 (codes "go") ∷ tick 0 ∷ []
+-- where the night ends with its input: the last line without LF; four ticks with the light down, an
+-- `end`, three ticks, and nothing more
+ending : answers (asked 200 ∷ asked 175 ∷ asked 150 ∷ asked 125 ∷ asked 101 ∷ asked 100 ∷ asked 75
+    ∷ asked 50 ∷ asked 25 ∷ asked 1 ∷ asked 1 ∷ closed true ∷ came (codes "go") ∷ asked 0 ∷ [])
+    ≡ over ∷ tick 175 ∷ tick 150 ∷ tick 125 ∷ close 101 None ∷ tick 100 ∷ tick 75 ∷ tick 50 ∷ tick 25
+    ∷ dim 1 None ∷ order 1 (codes "go") ∷ tick 0 ∷ []
 unfolding digits
 ending = refl
 
@@ -53,12 +55,20 @@ holding = refl
 -- an `end` that was typed, a command behind it, and the end of the input
 ended_already : answers (asked 50 ∷ asked 25 ∷ asked 2 ∷ asked 1 ∷ closed true ∷ asked 1
     ∷ came (codes "END\ngo\n") ∷ asked 0 ∷ [])
-    ≡ tick 50 ∷ tick 25 ∷ wait 25 ∷ order 1 (codes "go") ∷ order 1 (codes "END") ∷ tick 0 ∷ []
+    ≡ tick 50 ∷ tick 25 ∷ wait 25 ∷ refusal (codes "go") ∷ dim 1 (Some (codes "END")) ∷ tick 0 ∷ []
 unfolding digits
 ended_already = refl
 
-texts : (lines_given (tick 250 ∷ order 249 (codes "go") ∷ refusal (codes "x") ∷ close 0 ∷ [])
-    ≡ codes "250 tick" ∷ codes "249 go" ∷ codes "0 end" ∷ [])
+-- a night that is left
+left : answers (asked 75 ∷ asked 50 ∷ asked 25 ∷ asked 1 ∷ came (codes "Leave ! to the other\n")
+    ∷ asked 0 ∷ [])
+    ≡ tick 75 ∷ tick 50 ∷ tick 25 ∷ close 1 (Some (codes "Leave ! to the other")) ∷ tick 0 ∷ []
+unfolding digits
+left = refl
+
+texts : (lines_given (tick 250 ∷ order 249 (codes "go") ∷ refusal (codes "x") ∷ close 1 None
+    ∷ dim 0 (Some (codes "end")) ∷ [])
+    ≡ codes "250 tick" ∷ codes "249 go" ∷ codes "1 end" ∷ codes "0 master 0" ∷ [])
     × (shown (codes "go\t" ++ 0 ∷ 255 ∷ 126 ∷ []) ≡ codes "go???~")
 unfolding digits
 texts = (refl, refl)

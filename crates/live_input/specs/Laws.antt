@@ -1,21 +1,25 @@
 -- Laws over all nights: whatever bytes came, and whatever the clock said.
 use Rattle.std.specs.Prelude.{◌≡◌, ◌↔◌, ◌≤◌, ◌+◌, ◌++◌, ◌||◌, ℕ, true, false, not, List, [], ◌∷◌, Option, Some}
 use Rattle.std.specs.Prelude.{None, All, length, codes, flat_map, reverse}
-use Rattle.std.specs.Prelude.{is_none, option_map, if◌then◌else◌}
-use Rattle.std.specs.List.{filter_map}
+use Rattle.std.specs.Prelude.{Bool, is_none, option_map, replicate, if◌then◌else◌}
+use Rattle.std.specs.List.{filter_map, list_any}
 use Rattle.ascii_text.specs.Text.{lines_of, words_of}
 use Rattle.show_core.specs.Tables.{Tables}
+use Rattle.master_core.specs.Settings.{Setting, grand_after}
 use Rattle.desk_core.specs.Played as desk
 use Rattle.desk_core.specs.Played.{Act, refusal}
 use Rattle.desk_core.specs.declared.command.Command.{Command}
-use Rattle.desk_core.specs.declared.command.Command.TheVariants.{End}
+use Rattle.desk_core.specs.declared.command.Command.TheVariants.{End, Master}
 use Rattle.console_text.specs.declared.call.Call.TheVariants.{Order, Tick}
 use Rattle.console_text.specs.declared.reading.Reading.TheVariants.{At}
 use Rattle.console_text.specs.Spelling.{command_of, is_malformed, reading_of}
 use Rattle.live_input.specs.Night.{Answer, Happening, answer_to, answers, at_moment, bytes_come}
-use Rattle.live_input.specs.Night.{ended, ends_with_input, has_room, lines_answered, lines_given}
-use Rattle.live_input.specs.Night.{asked, due, is_full, is_over, lines_left, now, to_line, was_tick}
-use Rattle.live_input.specs.Night.{order, close, tick, wait, over}
+use Rattle.live_input.specs.Night.{ends_with_input, has_room, lines_answered, lines_given, stage}
+use Rattle.live_input.specs.Night.{asked, due, is_dark, is_full, is_over, lines_left, now, to_line}
+use Rattle.live_input.specs.Night.{was_tick}
+use Rattle.live_input.specs.Night.{order, dim, close, tick, wait, over}
+use Rattle.live_input.specs.declared.progress.Stage.{Stage}
+use Rattle.live_input.specs.declared.progress.Stage.TheVariants.{On, Dark, Ended}
 use Rattle.live_input.specs.Typed.{typed_of}
 
 -- ---- lines
@@ -39,10 +43,13 @@ abbrev pub Spells : Option Command → ℕ → List ℕ → Type 0
 Spells (Some command) moment line = reading_of (at_moment moment line) ≡ At moment (Order command)
 Spells None moment line = ⊥
 
--- a line that is given spells the very command that was typed, an `end`, or a tick, at its moment
+-- a line that is given spells the very command that was typed, `master 0`, `end` or a tick, at its
+-- moment
 abbrev pub IsSpelled : Answer → Type 0
 IsSpelled (order moment line) = Spells (command_of (words_of line)) moment line
-IsSpelled (close moment) = reading_of (at_moment moment (codes "end")) ≡ At moment (Order End)
+IsSpelled (dim moment typed) =
+    reading_of (at_moment moment (codes "master 0")) ≡ At moment (Order (Master 0))
+IsSpelled (close moment typed) = reading_of (at_moment moment (codes "end")) ≡ At moment (Order End)
 IsSpelled (tick moment) = reading_of (at_moment moment (codes "tick")) ≡ At moment Tick
 IsSpelled _ = Unit {0}
 
@@ -60,7 +67,8 @@ Rise gap (newest ∷ newer ∷ older) = (newer + gap ≤ newest) × Rise gap (ne
 -- the moment of a line that was given
 abbrev pub moment_of : Answer → Option ℕ
 moment_of (order moment line) = Some moment
-moment_of (close moment) = Some moment
+moment_of (dim moment typed) = Some moment
+moment_of (close moment typed) = Some moment
 moment_of (tick moment) = Some moment
 moment_of _ = None
 
@@ -93,9 +101,10 @@ WaitsComeLast =
     (h : List Happening) (moment n : ℕ) → answer_to h moment ≡ wait n
     → (typed_of (bytes_come h)).lines ≡ lines_answered (answers h)
 
--- the night goes on, and lines have room
+-- the night is not over, does not end at this moment, and lines have room
 abbrev pub IsOn : List Answer → Type 0
-IsOn given = (is_over given ≡ false) × (is_full given ≡ false)
+IsOn given =
+    (is_over given ≡ false) × (is_dark (stage given) ≡ false) × (is_full given ≡ false)
 
 -- a tick that is due goes before whatever lines wait, where the answer before was none. So between
 -- the moment at which a tick is due and the tick there is at most one line, and no other tick
@@ -112,19 +121,62 @@ LinesFollowTicks =
     → was_tick (answers h) ≡ true → lines_left (answers h) h ≡ line ∷ later
     → answer_to h moment ≡ to_line (answers h) (now (asked moment ∷ h)) line
 
--- an `end` that nobody typed comes only where the night ends with its input and that ended, or where
+-- a night begins to end where nobody typed it only if it ends with its input and that ended, or if
 -- all room for lines was used: whatever else ends, the light holds
-abbrev pub ClosesAreAsked : Type 0
-ClosesAreAsked =
-    (h : List Happening) (moment n : ℕ) → answer_to h moment ≡ close n
+abbrev pub EndsAreAsked : Type 0
+EndsAreAsked =
+    (h : List Happening) (moment n : ℕ) → answer_to h moment ≡ dim n None
     → (ends_with_input h || not (has_room (answers h))) ≡ true
 
--- nothing comes any more exactly where there were three ticks after the first `end`, and there are
--- never more
+-- nothing comes any more exactly where there were three ticks after `end`, and there are never more
 abbrev pub NightsEnd : Type 0
 NightsEnd =
     (h : List Happening) (moment : ℕ)
-    → (answer_to h moment ≡ over) ↔ (ended (answers h) ≡ Some 3)
+    → (answer_to h moment ≡ over) ↔ (stage (answers h) ≡ Ended 3)
+
+-- ---- how a night ends
+
+-- what was given, without moments, the newest first
+abbrev pub with_words : Answer → List (List ℕ) → List (List ℕ)
+with_words (order moment line) given = line ∷ given
+with_words (dim moment typed) given = codes "master 0" ∷ given
+with_words (close moment typed) given = codes "end" ∷ given
+with_words (tick moment) given = codes "tick" ∷ given
+with_words _ given = given
+
+abbrev pub words_given : List Answer → List (List ℕ)
+words_given [] = []
+words_given (answer ∷ older) = with_words answer (words_given older)
+
+-- `leave` was typed
+abbrev pub is_left : Answer → Bool
+is_left (close moment (Some line)) = true
+is_left _ = false
+
+abbrev pub was_left : List Answer → Bool
+was_left = list_any is_left
+
+-- so many ticks
+abbrev pub ticks : ℕ → List (List ℕ)
+ticks count = replicate count (codes "tick")
+
+abbrev pub Begins : List (List ℕ) → List (List ℕ) → Type 0
+Begins front given = (older : List (List ℕ)) × (given ≡ front ++ older)
+
+-- what was given last: from `master 0` on nothing but four ticks, `end` and three ticks; where the
+-- night was left, from `end` on nothing but three ticks
+abbrev pub IsEnding : Stage → Bool → List (List ℕ) → Type 0
+IsEnding On left given = Unit {0}
+IsEnding (Dark count) left given = (count ≤ 4) × Begins (ticks count ++ codes "master 0" ∷ []) given
+IsEnding (Ended count) true given = (count ≤ 3) × Begins (ticks count ++ codes "end" ∷ []) given
+IsEnding (Ended count) false given =
+    (count ≤ 3)
+    × Begins (ticks count ++ codes "end" ∷ ticks 4 ++ codes "master 0" ∷ []) given
+
+abbrev pub EndsAreWhole : Type 0
+EndsAreWhole =
+    (h : List Happening)
+    → IsEnding (stage (answers h)) (was_left (answers h)) (words_given (answers h))
 
 -- ---- a desk that plays it
 
@@ -133,7 +185,8 @@ abbrev pub act_of : Answer → Option Act
 act_of (order moment line) =
     option_map (λ command. record { moment = moment; call = desk.order command })
     (command_of (words_of line))
-act_of (close moment) = Some (record { moment = moment; call = desk.order End })
+act_of (dim moment typed) = Some (record { moment = moment; call = desk.order (Master 0) })
+act_of (close moment typed) = Some (record { moment = moment; call = desk.order End })
 act_of (tick moment) = Some (record { moment = moment; call = desk.tick })
 act_of _ = None
 
@@ -148,12 +201,27 @@ abbrev pub accepted : Tables → List Answer → List Act
 accepted show [] = []
 accepted show (answer ∷ older) = taken show (act_of answer) (accepted show older)
 
--- a desk of any show accepts the first `end`, and each tick. So the three ticks after it end its
--- streams
+-- the ticks since `end`; none before it
+abbrev pub since_end : Stage → Option ℕ
+since_end (Ended count) = Some count
+since_end _ = None
+
+-- a desk of any show accepts `end`, and each tick. So the three ticks after it end its streams
 abbrev pub EndsAreAccepted : Type 0
 EndsAreAccepted =
     (show : Tables) (h : List Happening)
-    → desk.ended (accepted show (answers h)) ≡ ended (answers h)
+    → desk.ended (accepted show (answers h)) ≡ since_end (stage (answers h))
+
+-- from `master 0` on the grand master of a desk of any show is at 0, up to `end`: it accepts that,
+-- and nothing sets a master after it
+abbrev pub IsDim : Stage → List Setting → Type 0
+IsDim (Dark count) settings = grand_after settings ≡ 0
+IsDim _ settings = Unit {0}
+
+abbrev pub EndsAreDark : Type 0
+EndsAreDark =
+    (show : Tables) (h : List Happening)
+    → IsDim (stage (answers h)) (desk.settings (accepted show (answers h)))
 
 abbrev pub TicksAreAccepted : Type 0
 TicksAreAccepted =

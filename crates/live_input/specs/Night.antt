@@ -1,13 +1,15 @@
 -- What a live input answers, by what happened to it. Happenings and answers have the newest first.
 use Rattle.std.specs.Prelude.{ℕ, ◌+◌, ◌*◌, ◌/◌, max, min, nat_le, nat_lt, Bool, true, false}
 use Rattle.std.specs.Prelude.{◌&&◌, ◌||◌, not, if◌then◌else◌, List, [], ◌∷◌, ◌++◌, length, drop}
-use Rattle.std.specs.Prelude.{Option, Some, None, is_some, is_none, codes, decimal, map, take}
+use Rattle.std.specs.Prelude.{Option, Some, None, codes, decimal, map, take}
 use Rattle.std.specs.Prelude.{unwrap_or}
-use Rattle.std.specs.Option.{option_map_or}
+use Rattle.ascii_text.specs.Forms.{same_word}
 use Rattle.ascii_text.specs.Text.{words_of}
 use Rattle.desk_core.specs.declared.command.Command.{Command}
 use Rattle.desk_core.specs.declared.command.Command.TheVariants.{End}
 use Rattle.console_text.specs.Spelling.{command_of}
+use Rattle.live_input.specs.declared.progress.Stage.{Stage}
+use Rattle.live_input.specs.declared.progress.Stage.TheVariants.{On, Dark, Ended}
 use Rattle.live_input.specs.Typed.{typed_of}
 
 -- what happens to it: bytes came; the input ended, and whether the night is to end with it; it was
@@ -17,11 +19,13 @@ pub data Happening : Type 0 where
   closed : Bool → Happening
   asked : ℕ → Happening
 
--- what it answers: the line of a command, at a moment; an `end` that nobody typed; a tick; a line
--- that is refused; that nothing is due before a moment; that nothing comes any more
+-- what it answers: the line of a command, at a moment; `master 0`, with which a night begins to
+-- end, and `end`, each with the typed line that it answers, where one was typed; a tick; a line that
+-- is refused; that nothing is due before a moment; that nothing comes any more
 pub data Answer : Type 0 where
   order : ℕ → List ℕ → Answer
-  close : ℕ → Answer
+  dim : ℕ → Option (List ℕ) → Answer
+  close : ℕ → Option (List ℕ) → Answer
   tick : ℕ → Answer
   refusal : List ℕ → Answer
   wait : ℕ → Answer
@@ -36,7 +40,8 @@ at_moment moment words = decimal moment ++ codes " " ++ words
 -- the lines that were given, without their LF
 abbrev pub with_given : Answer → List (List ℕ) → List (List ℕ)
 with_given (order moment line) lines = at_moment moment line ∷ lines
-with_given (close moment) lines = at_moment moment (codes "end") ∷ lines
+with_given (dim moment typed) lines = at_moment moment (codes "master 0") ∷ lines
+with_given (close moment typed) lines = at_moment moment (codes "end") ∷ lines
 with_given (tick moment) lines = at_moment moment (codes "tick") ∷ lines
 with_given _ lines = lines
 
@@ -47,6 +52,8 @@ lines_given (answer ∷ older) = with_given answer (lines_given older)
 -- the typed lines that were answered, the oldest first
 abbrev pub with_answered : List (List ℕ) → Answer → List (List ℕ)
 with_answered lines (order moment line) = lines ++ line ∷ []
+with_answered lines (dim moment (Some line)) = lines ++ line ∷ []
+with_answered lines (close moment (Some line)) = lines ++ line ∷ []
 with_answered lines (refusal line) = lines ++ line ∷ []
 with_answered lines _ = lines
 
@@ -54,20 +61,41 @@ abbrev pub lines_answered : List Answer → List (List ℕ)
 lines_answered [] = []
 lines_answered (answer ∷ older) = with_answered (lines_answered older) answer
 
-abbrev pub is_end : Option Command → Bool
-is_end (Some End) = true
-is_end _ = false
+-- a tick more, where ticks are counted
+abbrev pub after_tick : Stage → Stage
+after_tick On = On
+after_tick (Dark ticks) = Dark (ticks + 1)
+after_tick (Ended ticks) = Ended (ticks + 1)
 
--- the ticks since the first `end`; none where there was none
-abbrev pub ended_by : Answer → Option ℕ → Option ℕ
-ended_by (order moment line) None = if is_end (command_of (words_of line)) then Some 0 else None
-ended_by (close moment) None = Some 0
-ended_by (tick moment) (Some ticks) = Some (ticks + 1)
-ended_by _ ended = ended
+-- how far the night is: it is dark from `master 0` on, and ended from `end` on, by so many ticks
+abbrev pub stage_by : Answer → Stage → Stage
+stage_by (dim moment typed) On = Dark 0
+stage_by (close moment typed) On = Ended 0
+stage_by (close moment typed) (Dark ticks) = Ended 0
+stage_by (tick moment) stage = after_tick stage
+stage_by _ stage = stage
 
-abbrev pub ended : List Answer → Option ℕ
-ended [] = None
-ended (answer ∷ older) = ended_by answer (ended older)
+abbrev pub stage : List Answer → Stage
+stage [] = On
+stage (answer ∷ older) = stage_by answer (stage older)
+
+abbrev pub is_on : Stage → Bool
+is_on On = true
+is_on _ = false
+
+-- the light was down for four ticks: a receiver that loses three packets in a row has seen it
+abbrev pub is_dark : Stage → Bool
+is_dark (Dark ticks) = nat_le 4 ticks
+is_dark _ = false
+
+abbrev pub has_ended : Stage → Bool
+has_ended (Ended ticks) = true
+has_ended _ = false
+
+-- three ticks after `end`
+abbrev pub is_through : Stage → Bool
+is_through (Ended ticks) = nat_le 3 ticks
+is_through _ = false
 
 -- when the tick after a tick of this moment is due: at the next multiple of 25, and not before
 -- 23 ms have passed. So a late one is made at once, and those that were missed are not made up for
@@ -83,30 +111,38 @@ abbrev pub due : List Answer → ℕ
 due [] = 0
 due (answer ∷ older) = due_by answer (due older)
 
--- `play` takes 10,000,000 lines: the last four are kept for an `end` and three ticks
+-- `play` takes 10,000,000 lines: the last nine are kept for `master 0`, four ticks, `end` and three
+-- ticks
 abbrev pub has_room : List Answer → Bool
-has_room given = nat_lt (length (lines_given given)) 9999996
+has_room given = nat_lt (length (lines_given given)) 9999991
 
 -- ---- the next answer, after those given
 
--- a typed line is given where it spells a command and has at most 200 bytes with its moment; where
--- there is no room for one line more it is refused too
-abbrev pub is_taken : List Answer → ℕ → List ℕ → Bool
-is_taken given moment line =
-    has_room given
-    && (nat_le (length (at_moment moment line)) 200 && is_some (command_of (words_of line)))
+-- `leave`, which ends the night and leaves the light to another console
+abbrev pub is_leave : List (List ℕ) → Bool
+is_leave (word ∷ []) = same_word word (codes "leave")
+is_leave _ = false
 
+-- `end` brings the light down first; any other command is given as it is
+abbrev pub to_command : ℕ → List ℕ → Option Command → Answer
+to_command moment line None = refusal line
+to_command moment line (Some End) = dim moment (Some line)
+to_command moment line (Some command) = order moment line
+
+abbrev pub by_words : ℕ → List ℕ → Answer
+by_words moment line = if is_leave (words_of line) then close moment (Some line)
+    else to_command moment line (command_of (words_of line))
+
+-- what is no command is refused, and so is what has more than 200 bytes with its moment, and all
+-- that is typed behind an `end`
 abbrev pub to_line : List Answer → ℕ → List ℕ → Answer
 to_line given moment line =
-    if is_taken given moment line then order moment line else refusal line
-
--- the night ends with its input, which ended without an `end`
-abbrev pub owes_end : List Answer → Bool → Bool
-owes_end given at_end = is_none (ended given) && at_end
+    if is_on (stage given) && nat_le (length (at_moment moment line)) 200
+    then by_words moment line else refusal line
 
 -- there was no `end`, and there is room for one and its ticks alone
 abbrev pub is_full : List Answer → Bool
-is_full given = is_none (ended given) && not (has_room given)
+is_full given = is_on (stage given) && not (has_room given)
 
 abbrev pub ticked_by : Answer → Bool → Bool
 ticked_by (tick moment) before = true
@@ -126,13 +162,14 @@ goes_first given moment = nat_le (due given) moment && not (was_tick given)
 -- what comes before any line that was typed
 abbrev pub before_lines : List Answer → ℕ → Option Answer
 before_lines given moment =
-    if is_full given then Some (close moment)
-    else (if goes_first given moment then Some (tick moment) else None)
+    if is_dark (stage given) then Some (close moment None)
+    else (if is_full given then Some (dim moment None)
+    else (if goes_first given moment then Some (tick moment) else None))
 
--- where each typed line was answered
+-- where each typed line was answered: the night ends with its input, which ended without an `end`
 abbrev pub by_itself : List Answer → Bool → ℕ → Answer
 by_itself given at_end moment =
-    if owes_end given at_end then close moment
+    if is_on (stage given) && at_end then dim moment None
     else (if nat_le (due given) moment then tick moment else wait (due given))
 
 -- the first typed line that was not answered
@@ -141,11 +178,8 @@ to_lines [] given at_end moment = by_itself given at_end moment
 to_lines (line ∷ lines) given at_end moment = to_line given moment line
 
 -- three ticks after `end` nothing comes any more
-abbrev pub were_three : Option ℕ → Bool
-were_three ended = option_map_or (nat_le 3) ended false
-
 abbrev pub is_over : List Answer → Bool
-is_over given = were_three (ended given)
+is_over given = is_through (stage given)
 
 -- ---- what happened
 

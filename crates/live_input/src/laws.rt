@@ -1,7 +1,8 @@
 //! What holds of every night, whatever bytes came and whatever the clock said. Each law is the
 //! contract of a function that does nothing: call it where its fact is wanted.
 
-ghost use Rattle.live_input.specs.Laws.{AnswersAreSpelled, ClosesAreAsked, LinesAreFine};
+ghost use Rattle.live_input.specs.Laws.{AnswersAreSpelled, EndsAreAsked, EndsAreDark, EndsAreWhole};
+ghost use Rattle.live_input.specs.Laws.{LinesAreFine};
 ghost use Rattle.live_input.specs.Laws.{LinesComeInOrder};
 ghost use Rattle.live_input.specs.Laws.{LinesFollowTicks, MomentsNeverFall, NightsEnd};
 ghost use Rattle.live_input.specs.Laws.{TicksAreApart, TicksGoFirst, WaitsComeLast};
@@ -14,7 +15,8 @@ pub fn lines_are_fine()
     ensures { LinesAreFine }
 {}
 
-/// A line that is given spells the command that was typed, an `end` or a tick, at its moment.
+/// A line that is given spells the command that was typed, `master 0`, `end` or a tick, at its
+/// moment.
 #[tactic(auto, using(crate::proofs::Fine::spelled))]
 pub fn answers_are_spelled()
     ensures { AnswersAreSpelled }
@@ -56,19 +58,32 @@ pub fn lines_follow_ticks()
     ensures { LinesFollowTicks }
 {}
 
-/// An `end` that nobody typed comes only where the night was to end with its input and that ended,
-/// or where there is no room for a line more. Any other night gives none.
-pub fn closes_are_asked()
-    ensures { ClosesAreAsked }
+/// A night that was to end with its input, which ended, begins to end by itself; so does one with no
+/// room for a line more. Any other night goes on.
+pub fn ends_are_asked()
+    ensures { EndsAreAsked }
 {}
 
-/// Nothing comes any more exactly where three ticks came after the first `end`.
+/// What is given from `master 0` on is four ticks, `end` and three ticks, and nothing else; where
+/// the night was left, from `end` on three ticks, and nothing else.
+#[tactic(auto, using(crate::proofs::Ending::ends_whole))]
+pub fn ends_are_whole()
+    ensures { EndsAreWhole }
+{}
+
+/// From `master 0` to `end` the grand master of a desk of any show is at 0.
+#[tactic(auto, using(crate::proofs::Accepting::ends_dark))]
+pub fn ends_are_dark()
+    ensures { EndsAreDark }
+{}
+
+/// Nothing comes any more exactly where three ticks came after `end`.
 #[tactic(auto, using(crate::proofs::Nights::over_is))]
 pub fn nights_end()
     ensures { NightsEnd }
 {}
 
-/// A desk of any show accepts the first `end`, and counts the ticks after it as they are given.
+/// A desk of any show accepts `end`, and counts the ticks after it as they are given.
 #[tactic(auto, using(crate::proofs::Accepting::ends_accepted))]
 pub fn ends_are_accepted()
     ensures { EndsAreAccepted }
