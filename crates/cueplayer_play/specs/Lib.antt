@@ -5,3 +5,4 @@ pub mod Stage
 pub mod Play
 pub mod Untold
 pub mod Opened
+pub mod OldShows
