@@ -100,7 +100,7 @@ last_accepted w r (e ∷ past) run =
     (omega (arith, last_accepted w r past run.1, (timely w past e run.0).after))
 
 -- a delivery, with the number of its console
-abbrev Coming : Type 0
+abbrev pub Coming : Type 0
 Coming = ℕ × Delivery
 
 abbrev pub source_of : World → ℕ → Identity
@@ -111,7 +111,7 @@ abbrev pub ours : World → ℕ → ℕ → List Event → List Packet
 ours w r i past = sent w i (universe_at w r) past
 
 -- the deliveries of one console
-abbrev own : ℕ → List Coming → List Delivery
+abbrev pub own : ℕ → List Coming → List Delivery
 own i [] = []
 own i (c ∷ cs) = if nat_eq c.0 i then c.1 ∷ own i cs else own i cs
 
@@ -130,18 +130,18 @@ abbrev left : World → ℕ → List Arrival → List Entry
 left w r arrivals = heard_all 4 (universe_at w r) arrivals
 
 -- of these moments none is after t, nor after the one before it in the list
-abbrev AreInTime : ℕ → List ℕ → Type 0
+abbrev pub AreInTime : ℕ → List ℕ → Type 0
 AreInTime t [] = Unit {0}
 AreInTime t (m ∷ ms) = (m ≤ t) × AreInTime m ms
 
 abbrev pub IsInTime : ℕ → List Delivery → Type 0
 IsInTime t ds = AreInTime t (map (λ d. d.moment) ds)
 
-later_too : (s t : ℕ) (ms : List ℕ) → s ≤ t → AreInTime s ms → AreInTime t ms
+pub later_too : (s t : ℕ) (ms : List ℕ) → s ≤ t → AreInTime s ms → AreInTime t ms
 later_too s t [] l h = tt
 later_too s t (m ∷ ms) l h = (omega (arith, h.0), h.1)
 
-own_in_time : (i t : ℕ) (cs : List Coming) → AreInTime t (map (λ c. c.1.moment) cs)
+pub own_in_time : (i t : ℕ) (cs : List Coming) → AreInTime t (map (λ c. c.1.moment) cs)
     → IsInTime t (own i cs)
 own_in_time i t [] h = tt
 own_in_time i t (c ∷ cs) h =
@@ -149,7 +149,7 @@ own_in_time i t (c ∷ cs) h =
     (λ _. (h.0, own_in_time i c.1.moment cs h.1))
     (λ _. later_too c.1.moment t _ h.0 (own_in_time i c.1.moment cs h.1))
 
-own_from : (i : ℕ) (d : Delivery) (cs : List Coming) → In d (own i cs) → In (i, d) cs
+pub own_from : (i : ℕ) (d : Delivery) (cs : List Coming) → In d (own i cs) → In (i, d) cs
 own_from i d [] h = absurd h
 own_from i d (c ∷ cs) h = by_test (nat_eq c.0 i) (λ q. elim (rw q at h) [
   | inl s ↦ inl (λ k. (sym (eqb-true c.0 i q) k, s k))
@@ -272,7 +272,7 @@ came w v r (e ∷ past) run n =
     leaves w v r e past s.after (came w v r past run.1 n.1) e.what s.there n.0
 
 -- what is accepted came
-In_accepted : (e : Entry) (es : List Entry) → In e (accepted 4 es) → In e es
+pub In_accepted : (e : Entry) (es : List Entry) → In e (accepted 4 es) → In e es
 In_accepted e [] i = i
 In_accepted e (x ∷ es) i =
     cond_both (is_accepted 4 (accepted 4 es) x.moment x.cid x.number) (x ∷ accepted 4 es)

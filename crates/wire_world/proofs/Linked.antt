@@ -101,7 +101,7 @@ get_taken (x ∷ xs) (suc n) (suc k) l = get_taken xs n k (omega (arith, l))
 -- ---- what a link keeps of a universe is its stream, packet by packet
 
 -- packet k of a numbered stream
-numbered_at : (source : Identity) (u j n : ℕ) (ps : List Packet) (k : ℕ) → n ≡ j + k
+pub numbered_at : (source : Identity) (u j n : ℕ) (ps : List Packet) (k : ℕ) → n ≡ j + k
     → slice_get (numbered source u j ps) k ≡ option_map (packet_bytes source u n) (slice_get ps k)
 numbered_at source u j n [] k e = refl
 numbered_at source u j n (p ∷ ps) zero e = grind arith

@@ -169,7 +169,7 @@ module _ (c : Identity) where
   kept_of t (d ∷ ds) w i = inr (kept_in_window t d ds w i)
 
 -- the light of what is kept, while it is there and has not ended
-abbrev lit_by : ℕ → Option Entry → Option Light
+abbrev pub lit_by : ℕ → Option Entry → Option Light
 lit_by t None = None
 lit_by t (Some e) = if is_there t e && not e.ended then Some (light_of e) else None
 
@@ -204,29 +204,29 @@ module _ (t : ℕ) (h : List Entry) (cid : ℕ → List ℕ) (is : List ℕ)
           rw (sym c.1) (In_map light_of x (live h t) (In_filter (λ e. not e.ended) x (records h t)
           (In_filter (is_there t) x (newest h) (found_newest (cid j) h x e) b.0) b.1))
 
-  shown_lit : (slot : ℕ) → shown h t slot ≡ merged (map f (filter p is)) slot
+  pub shown_lit : (slot : ℕ) → shown h t slot ≡ merged (map f (filter p is)) slot
   shown_lit slot = merged_same (map light_of (live h t)) (map f (filter p is)) slot one_lit lit_one
 
 -- one light alone is what is shown
-one_light : (l : Light) (slot : ℕ) → merged (l ∷ []) slot ≡ slice_index l.slots slot
+pub one_light : (l : Light) (slot : ℕ) → merged (l ∷ []) slot ≡ slice_index l.slots slot
 one_light l slot = grind (arith, nat_tests)
 
-same_slots : (h : List Entry) (t : ℕ) (slots : List ℕ) → length slots ≡ 512
+pub same_slots : (h : List Entry) (t : ℕ) (slots : List ℕ) → length slots ≡ 512
     → ((slot : ℕ) → slot < 512 → shown h t slot ≡ slice_index slots slot) → shown_slots h t ≡ slots
 same_slots h t slots size same =
     sym (fill_by_all (shown h t) slots 512 0 size (λ slot l. sym (same slot l)))
 
-dark_slots : (h : List Entry) (t : ℕ) → ((slot : ℕ) → shown h t slot ≡ 0) → shown_slots h t ≡ dark
+pub dark_slots : (h : List Entry) (t : ℕ) → ((slot : ℕ) → shown h t slot ≡ 0) → shown_slots h t ≡ dark
 dark_slots h t zero =
     same_slots h t dark refl (λ slot l. zero slot ∙ sym (get_or-replicate 512 slot 0 0 l))
 
-silent_at : (t : ℕ) (ds : List Delivery) (d : Delivery)
+pub silent_at : (t : ℕ) (ds : List Delivery) (d : Delivery)
     → list_all (λ x. nat_le (x.moment + 2500) t) ds ≡ true → In d ds → d.moment + 2500 ≤ t
 silent_at t [] d s i = absurd i
 silent_at t (e ∷ ds) d s (inl same) = rw same (leb-true (e.moment + 2500) t (and_parts _ _ s).0)
 silent_at t (e ∷ ds) d s (inr i) = silent_at t ds d (and_parts _ _ s).1 i
 
-fresh_parts : (t : ℕ) (ps : List Packet) (ds : List Delivery) → IsFreshIn t ps ds
+pub fresh_parts : (t : ℕ) (ps : List Packet) (ds : List Delivery) → IsFreshIn t ps ds
     → (suc (newest_of ds) ≡ length ps) × (t < arrived ds + 2500)
 fresh_parts t ps [] f = absurd f
 fresh_parts t ps (d ∷ ds) f = f

@@ -1,0 +1,8 @@
+pub mod Sources
+pub mod Playing
+pub mod Receipts
+pub mod Sends
+pub mod Showing
+pub mod Listening
+pub mod Nights
+mod Rows

@@ -1,0 +1,52 @@
+-- What `listen` prints of what a play sent.
+use Rattle.std.proofs.Common.{◌≡◌, ◌≤◌, ℕ, ◌++◌, refl, ap, sym, ◌∙◌, arith, List, [], ◌∷◌, map}
+use Rattle.std.specs.Prelude.{reverse}
+use Rattle.std.proofs.lemmas.List.{append_cancel_left, reverse-reverse}
+use Rattle.devices.specs.Tape.{Tape, with_more}
+use Rattle.sacn_receiver.specs.Arrivals.{Arrival, heard_all, last_arrival, NeverFall}
+use Rattle.sacn_receiver.specs.Shown.{shown_slots}
+use Rattle.sacn_receiver.specs.Taking.{heard as heard_one}
+use Rattle.receiver_text.specs.Replies.{slots_line}
+use Rattle.cueplayer_play.specs.Run.{sends_of}
+use Rattle.cueplayer_runs.specs.Listening.{listen_text, replies, history}
+use Rattle.stage_light.specs.Plays.{Play, IsPlay}
+use Rattle.stage_light.specs.Traffic.{arrivals_in, datagrams_in}
+use Rattle.stage_light.specs.Programs.{ListenLaw, PlayToListen}
+use Rattle.stage_light.proofs.Showing.{headline}
+
+-- what never falls and is over at moment 0 was all of it at moment 0
+history_is : (u : ℕ) (arrivals : List Arrival) → NeverFall arrivals → last_arrival arrivals ≤ 0
+    → history u (map (λ a. a.datagram) arrivals) ≡ heard_all 4 u arrivals
+history_is u [] falls over = refl
+history_is u (a ∷ older) falls over =
+    let now : a.moment ≡ 0 = omega (arith, over) in
+    ap (λ h. heard_one 4 u h 0 a.datagram)
+    (history_is u older falls.1 (omega (arith, over, falls.0)))
+    ∙ ap (λ m. heard_one 4 u (heard_all 4 u older) m a.datagram) (sym now)
+
+pub listen_law : ListenLaw
+listen_law play u traffic is hears fresh =
+    ap (λ slots. replies u (datagrams_in traffic) ++ slots_line slots)
+    (ap (λ h. shown_slots h 0)
+    (history_is u (arrivals_in traffic) hears.in_order.0 hears.in_order.1)
+    ∙ headline play u 0 traffic is hears fresh)
+
+pub play_to_listen : PlayToListen
+play_to_listen p lines before after lost offered ran after_is u count given gives printed prints
+    traffic listened gave hears fresh =
+    let play : Play = record { production = p; lines = lines; offered = offered } in
+    let is : IsPlay play = record {
+      run = ran.run;
+      lines_are = ran.lines_are;
+      is_run = ran.is_run;
+      offered_are = append_cancel_left before.offered offered (sends_of ran.run)
+          (sym after_is ∙ ran.offered_is);
+    } in
+    let these : List (List ℕ) = datagrams_in traffic in
+    let same : listened.datagrams ≡ these =
+    sym (reverse-reverse listened.datagrams)
+    ∙ ap reverse (append_cancel_left given.items (reverse listened.datagrams) (reverse these)
+    (ap (λ (t : Tape (List ℕ)). t.items) (sym listened.gave) ∙ gave))
+    ∙ reverse-reverse these in
+    listened.leaves ∙ ap (λ ds. with_more printed (listen_text u ds)) same
+    ∙ ap (with_more printed) (listen_law play u traffic is hears fresh)

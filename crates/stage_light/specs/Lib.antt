@@ -1,0 +1,4 @@
+pub mod Plays
+pub mod Traffic
+pub mod Laws
+pub mod Programs

@@ -1,0 +1,111 @@
+-- What the programs promise, joined: what `play` did, also in a live night, is a play; and from a
+-- play to what `listen` prints.
+use Rattle.std.specs.Prelude.{◌≡◌, ℕ, ◌-◌, ◌++◌, List, [], ◌∷◌, reverse, Result, Ok, Err}
+use Rattle.devices.specs.Send.{Send}
+use Rattle.devices.specs.Tape.{Tape, with_more}
+use Rattle.desk_core.specs.Meaning.{latest_frame}
+use Rattle.receiver_text.specs.Replies.{slots_line}
+use Rattle.console.specs.Streams.{Production}
+use Rattle.cueplayer_faults.specs.declared.fault.RunFault.{RunFault}
+use Rattle.cueplayer_faults.specs.declared.fault.RunFault.TheVariants as run
+use Rattle.cueplayer_play.specs.Lines.{Cut, cut_of}
+use Rattle.cueplayer_play.specs.Play.{Plays}
+use Rattle.cueplayer_play.specs.Run.{Emitted, Ran, history_of}
+use Rattle.cueplayer_play.specs.Stage.{RunsDry}
+use Rattle.cueplayer_runs.specs.Listening.{listen_text, replies, Listened}
+use Rattle.live_input.specs.Laws.{text_of}
+use Rattle.live_input.specs.Night.{Happening, answers, lines_given}
+use Rattle.stage_light.specs.Plays.{Play, IsPlay, sends_for, frame_for}
+use Rattle.stage_light.specs.Traffic.{Traffic, datagrams_in, receipts, IsFresh}
+use Rattle.stage_light.specs.Laws.{HearsOne}
+
+-- ---- what `play` did is a play
+
+-- these lines, and what the link was offered from before to after, are a play
+pub record HasPlayed (p : Production) (lines : List (List ℕ)) (before after : Emitted)
+    : Type 0 where
+  pub offered : List Send
+  pub after_is : after.offered ≡ before.offered ++ offered
+  pub is_play : IsPlay (record { production = p; lines = lines; offered = offered })
+
+-- where all lines were carried out
+abbrev pub RunsArePlays : Type 0
+RunsArePlays =
+    (p : Production) (lines : List (List ℕ)) (before after : Emitted) (lost : ℕ)
+    → Ran p lines before after lost → HasPlayed p lines before after
+
+-- and where the output failed at the last of them: what the link was offered at it counts too
+abbrev pub DryRunsArePlays : Type 0
+DryRunsArePlays =
+    (p : Production) (cut : Cut) (before after : Emitted) → RunsDry p cut before after
+    → HasPlayed p (cut.rest ∷ cut.lines) before after
+
+-- whatever a `play` that took its input answers, where its devices tell
+abbrev pub PlaysArePlays : Type 0 → Type 0
+PlaysArePlays ended =
+    (p : Production) (result : Result (Unit {0}) RunFault) (fed feeds : Tape ℕ)
+    (before after : Emitted) → Plays p result ended fed feeds before after
+    → (lines : List (List ℕ)) × HasPlayed p lines before after
+
+-- ---- a live night is a play
+
+-- the lines that a live input has given, as `play` has them: the newest first
+abbrev pub night_lines : List Happening → List (List ℕ)
+night_lines happenings = (cut_of (text_of (lines_given (answers happenings)))).lines
+
+-- the lines of a night that a `play` did not carry out, by its answer: none, or those behind the
+-- line at which its output failed. It never refuses one
+abbrev pub AreLeft : Result (Unit {0}) RunFault → List (List ℕ) → Type 0
+AreLeft (Ok done) later = later ≡ []
+AreLeft (Err (run.Lost n)) later = later ≡ []
+AreLeft (Err run.Device) later = Unit {0}
+AreLeft (Err fault) later = ⊥
+
+-- the first lines of a night were played, and the later ones left out
+pub record IsNight (p : Production) (happenings : List Happening)
+    (result : Result (Unit {0}) RunFault) (before after : Emitted) : Type 0 where
+  pub lines : List (List ℕ)
+  pub later : List (List ℕ)
+  pub lines_are : night_lines happenings ≡ later ++ lines
+  pub are_left : AreLeft result later
+  pub has_played : HasPlayed p lines before after
+
+-- A LIVE NIGHT IS A PLAY. Whatever bytes came and whatever the clock said: a `play` whose input was
+-- what a live input has given carried out all of it, or as much as its output took. So the laws of
+-- plays hold of each live night
+abbrev pub NightsArePlays : Type 0 → Type 0
+NightsArePlays ended =
+    (p : Production) (happenings : List Happening) (result : Result (Unit {0}) RunFault)
+    (fed feeds : Tape ℕ) (before after : Emitted) → Plays p result ended fed feeds before after
+    → feeds ≡ with_more fed (text_of (lines_given (answers happenings)))
+    → IsNight p happenings result before after
+
+-- ---- from `play` to `listen`
+
+-- FROM PLAY TO LISTEN. Whatever lines a play has carried out, and whatever a `listen` of a universe
+-- received, all at moment 0 as it takes it: where it hears the play alone, and the newest that was
+-- sent is among it, its text ends with the slots that the show means at the latest tick
+abbrev pub ListenLaw : Type 0
+ListenLaw =
+    (play : Play) (universe : ℕ) (traffic : Traffic ℕ) → IsPlay play
+    → HearsOne play universe 0 traffic → IsFresh 0 (sends_for play universe) (receipts traffic)
+    → (let datagrams = datagrams_in traffic in
+    listen_text universe datagrams
+    ≡ replies universe datagrams ++ slots_line (frame_for play universe))
+
+-- THE TWO PROGRAMS. The same of what the contracts of `play` and `listen` say. After a run of these
+-- lines a link was offered these sends more; a `listen` printed what it received. Where that is
+-- traffic in which it hears the run alone, and the newest send is among it, what it printed ends
+-- with the slots that the show means at the latest tick of the lines
+abbrev pub PlayToListen : Type 0
+PlayToListen =
+    (p : Production) (lines : List (List ℕ)) (before after : Emitted) (lost : ℕ)
+    (offered : List Send) → Ran p lines before after lost
+    → after.offered ≡ before.offered ++ offered
+    → (universe count : ℕ) (given gives : Tape (List ℕ)) (printed prints : Tape ℕ)
+    (traffic : Traffic ℕ) → Listened universe count given gives printed prints
+    → gives.items ≡ given.items ++ reverse (datagrams_in traffic)
+    → (let play : Play = record { production = p; lines = lines; offered = offered } in
+    HearsOne play universe 0 traffic → IsFresh 0 (sends_for play universe) (receipts traffic)
+    → prints ≡ with_more printed (replies universe (datagrams_in traffic)
+    ++ slots_line (latest_frame p.show (history_of p.show lines) (universe - p.base))))
