@@ -55,7 +55,7 @@ class Package(unittest.TestCase):
     def make(self, top: Path, name: str) -> Path:
         made = self.folder / name
         out = self.assertRuns(top / "dev/package", made)
-        self.assertEqual({str(made / file) for file in files(made)}, set(out.split()))
+        self.assertEqual({str(made / file) for file in files(made)}, set(out.splitlines()))
         return made
 
     def copy(self, name: str) -> Path:
