@@ -162,7 +162,6 @@ class Outputs(ProgramTest):
             (("explain", "-"), b"WHAT\n" + SHOW),
             (("rehearse", show, script), b""),
             (("play", show, *to), b"0 tick\n"),
-            (("live", show, *to, "--end-with-input"), b"go\n"),
         )
 
     def assertOutputFails(self, **options):

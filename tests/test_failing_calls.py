@@ -239,10 +239,11 @@ class Live(FailingCalls):
                 self.assertEqual([TERMINATED] * 3, [each[OPTIONS] for each in came[-3:]])
 
     def test_each_write_fails(self):
-        """A reply that nobody takes ends the night: its line was carried out."""
-        for write in (1, 2):
-            status, out, err, _ = self.lived(("write", write, write, errno.EIO))
-            self.assertEqual((5, ["ok"] * (write - 1), DEVICE_FAULT), (status, out, err))
+        """A reply that cannot be written is told of once, no reply follows it, and the night goes on."""
+        for write in (1, 2, 3):
+            status, out, err, came = self.lived(("write", write, write, errno.EIO))
+            self.assertEqual((0, ["ok"] * (write - 1), b"replies: device fault\n"), (status, out, err))
+            self.assertEqual([TERMINATED] * 3, [each[OPTIONS] for each in came[-3:]])
 
     def test_reads_that_fail(self):
         """Nothing there yet is no fault; an input that cannot be read any more has ended."""

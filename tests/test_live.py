@@ -222,7 +222,7 @@ class Live(LiveTest):
         outcome = self.ended(night)
         self.assertEqual((0, b"line refused: nonsense\n"), (outcome.status, outcome.err))
         came = self.came()
-        words = ["play", *self.words()[1:], "--priority", "150", "--base", "7"]
+        words = ["play", *self.words(holds=True)[1:], "--priority", "150", "--base", "7"]
         replay = run(*words, stdin=record.read_bytes())
         self.assertEqual((0, b""), (replay.status, replay.err))
         self.assertEqual(came, self.came())

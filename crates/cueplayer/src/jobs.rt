@@ -4,6 +4,7 @@ ghost use Rattle.cueplayer_words.specs.Job.{IsInRange};
 use crate::failure::Failure;
 use crate::input::SystemInput;
 use crate::live_feed::LiveFeed;
+use crate::messages::Messages;
 use crate::output::SystemOutput;
 use crate::reading::{file_text, script_text, show_text};
 use crate::record::Record;
@@ -23,6 +24,7 @@ use fade_core::StepFader;
 use sacn_packet::SourceName;
 use sacn_source::Identity;
 use std::io::{BufWriter, ErrorKind};
+use std::os::fd::AsFd;
 
 // Bytes that a rehearsal gathers before it writes them.
 const PRINTED: usize = 65_536;
@@ -159,13 +161,20 @@ fn play_live(
     record_file: Option<&str>,
     ends_with_input: bool,
 ) -> Result<(), Failure> {
+    // Before anything is opened, which would get the descriptor of what is closed.
+    let is_told = rt.stderr().as_fd().try_clone_to_owned().is_ok();
+    if let Err(error) = rt.stdout().as_fd().try_clone_to_owned() {
+        return Err(Failure::of_device("standard output", error.kind()));
+    }
     let input = TypedInput::open(rt)?;
+    let mut out = ShownOutput::new(rt, Messages::new(rt, is_told)?)?;
     let text = file_text(rt, night.show.as_str())?;
     let text = text.as_slice();
     let record = Record::open(rt, record_file)?;
     let mut link = SendingSocket::open(rt, night.to)?;
-    let mut feed = LiveFeed::new(rt, input, ends_with_input, record)?;
-    let mut out = ShownOutput::new(SystemOutput::new(rt.stdout()));
+    link.never_wait()?;
+    let kept = (record, Messages::new(rt, is_told)?);
+    let mut feed = LiveFeed::new(rt, input, ends_with_input, kept)?;
     let answer = play::<StepFader, _, _, _>(
         rt.alloc(),
         text,
@@ -175,7 +184,9 @@ fn play_live(
         &mut link,
         &mut out,
     );
-    played(answer, text, &link, out.failure())
+    feed.finish();
+    out.finish();
+    played(answer, text, &link, None)
 }
 
 // How a night ended. Of packets that were lost the last is told.

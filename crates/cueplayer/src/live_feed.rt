@@ -1,10 +1,11 @@
 ghost use Rattle.std.specs.Prelude.{◌≡◌, []};
 
 use crate::failure::Failure;
-use crate::output::SystemOutput;
+use crate::messages::Messages;
 use crate::record::Record;
 use crate::typed_input::{Came, TypedInput};
-use devices::{Feed, LinkFault, Output};
+use arrayvec::ArrayVec;
+use devices::{Feed, LinkFault};
 use live_input::{Given, LiveInput};
 use std::time::Instant;
 
@@ -25,6 +26,7 @@ pub struct LiveFeed<'a> {
     // The night ends where its input ends.
     ends_with_input: bool,
     kept: Record,
+    messages: Messages,
 }
 
 impl<'a> LiveFeed<'a> {
@@ -33,7 +35,7 @@ impl<'a> LiveFeed<'a> {
         rt: &'a HostRuntime,
         input: TypedInput,
         ends_with_input: bool,
-        kept: Record,
+        (kept, messages): (Record, Messages),
     ) -> Result<Self, Failure> {
         let start = match Instant::now(rt) {
             Ok(start) => start,
@@ -46,6 +48,7 @@ impl<'a> LiveFeed<'a> {
             input,
             ends_with_input,
             kept,
+            messages,
         })
     }
 
@@ -55,15 +58,18 @@ impl<'a> LiveFeed<'a> {
         Ok(u64::try_from(elapsed.as_millis()).unwrap_or(u64::MAX))
     }
 
-    fn refuse(&self, text: &[u8]) {
-        let mut err = SystemOutput::new(self.rt.stderr());
-        let _ = err.write(b"line refused: ");
-        let _ = err.write(text);
-        let _ = err.write(b"\n");
+    /// Hands on what waits, at the end of the night.
+    pub fn finish(&mut self) {
+        self.kept.finish(&mut self.messages);
+        self.messages.finish();
     }
 
-    fn tell(&self, text: &[u8]) {
-        let _ = SystemOutput::new(self.rt.stderr()).write(text);
+    fn refuse(&mut self, text: &[u8]) {
+        let mut line = ArrayVec::<u8, 256>::new();
+        let _ = line.try_extend_from_slice(b"line refused: ");
+        let _ = line.try_extend_from_slice(text);
+        let _ = line.try_extend_from_slice(b"\n");
+        self.messages.tell(line.as_slice());
     }
 
     // Waits for bytes, or until so many milliseconds have passed.
@@ -73,11 +79,11 @@ impl<'a> LiveFeed<'a> {
         let mut block = [0; 4096];
         match self.input.wait(self.rt, milliseconds, &mut block)? {
             Came::Bytes(count) => self.live.take_bytes(&block[..count.min(4096)]),
-            Came::TypedEnd if !self.ends_with_input => self.tell(TYPED_END),
+            Came::TypedEnd if !self.ends_with_input => self.messages.tell(TYPED_END),
             Came::End | Came::TypedEnd => {
                 self.live.close(self.ends_with_input);
                 if !self.ends_with_input {
-                    self.tell(INPUT_ENDED);
+                    self.messages.tell(INPUT_ENDED);
                 }
             }
             Came::Nothing => {}
@@ -95,10 +101,11 @@ impl Feed for LiveFeed<'_> {
 
     fn read(&mut self, buf: &mut [u8; 4096]) -> Result<usize, LinkFault> {
         for _ in 0..u64::MAX {
+            self.messages.hand_on();
             let moment = self.moment()?;
             match self.live.next(moment) {
                 Given::Line(line) => {
-                    self.kept.keep(self.rt, line.as_slice());
+                    self.kept.keep(line.as_slice(), &mut self.messages);
                     buf[..line.len()].copy_from_slice(line.as_slice());
                     return Ok(line.len());
                 }

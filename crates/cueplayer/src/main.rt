@@ -1,10 +1,12 @@
 //! The program: it reads its words, runs what they ask for, and reports how that ended.
 #![tactic(auto)]
 
+mod bounded_output;
 mod failure;
 mod input;
 mod jobs;
 mod live_feed;
+mod messages;
 mod misfit;
 mod output;
 mod reading;

@@ -86,6 +86,13 @@ impl SendingSocket {
         })
     }
 
+    /// From now on a packet that would have to wait is lost.
+    pub fn never_wait(&self) -> Result<(), Failure> {
+        self.inner
+            .set_nonblocking(true)
+            .map_err(|error| Failure::of_device("the socket", error.kind()))
+    }
+
     /// Where the last send that failed went to, and the system's reason.
     pub fn failure(&self) -> Option<(AddressText, ErrorKind)> {
         let (address, kind) = self.failure?;

@@ -1,0 +1,50 @@
+use crate::bounded_output::{BoundedOutput, Names};
+use crate::failure::Failure;
+use std::io::Stderr;
+
+const NAMES: Names = Names {
+    output: "standard error",
+    mark: "",
+    lines: "messages",
+};
+
+/// What a night tells on standard error, which may be closed, and holds nobody up.
+#[derive(Drop)]
+pub struct Messages {
+    inner: Option<BoundedOutput<Stderr>>,
+}
+
+impl Messages {
+    /// # Errors
+    ///
+    /// As those of [`BoundedOutput::new`].
+    pub fn new(rt: &HostRuntime, is_open: bool) -> Result<Self, Failure> {
+        let inner = if is_open {
+            Some(BoundedOutput::new(rt, rt.stderr(), NAMES)?)
+        } else {
+            None
+        };
+        Ok(Messages { inner })
+    }
+
+    /// Tells a line.
+    pub fn tell(&mut self, line: &[u8]) {
+        if let Some(inner) = &mut self.inner {
+            inner.put(line);
+        }
+    }
+
+    /// Hands on what waits.
+    pub fn hand_on(&mut self) {
+        if let Some(inner) = &mut self.inner {
+            inner.hand_on();
+        }
+    }
+
+    /// Hands on what waits, at the end of the night.
+    pub fn finish(&mut self) {
+        if let Some(inner) = &mut self.inner {
+            inner.finish();
+        }
+    }
+}
