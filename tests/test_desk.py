@@ -231,9 +231,8 @@ class Ends(DeskTest):
         desk.process.terminate()
         desk.process.wait(PATIENCE)
         lines = [line.split()[1:] for line in record.read_text().splitlines()]
-        # What `live` does by itself to end a night is no line of the desk.
-        commands = [line for line in lines if line not in (["tick"], ["master", "0"])]
-        self.assertEqual([["back"], ["go"], ["end"]], commands)
+        commands = [line for line in lines if line != ["tick"]]
+        self.assertEqual([["back"], ["go"], ["master", "0"], ["end"]], commands)
         told = [line.split()[1:] for line in replies.read_text().splitlines()]
         self.assertEqual([["refused", "AtStart"], ["ok"], ["ok"]], told[:3])
         self.assertTrue(all(answer == ["ok"] for answer in told[3:]), told)

@@ -73,8 +73,7 @@ impl<W: Write + AsRawFd + Drop> BoundedOutput<W> {
     /// was refused.
     pub fn new(rt: &HostRuntime, inner: W, names: Names) -> Result<Self, Failure> {
         let descriptor = inner.as_raw_fd();
-        let poll =
-            Poll::new(rt).map_err(|error| Failure::of_device(names.output, error.kind()))?;
+        let poll = Poll::new(rt).map_err(|error| Failure::of_device(names.output, error.kind()))?;
         let (Ok(events), Ok(waiting)) = (
             Events::with_capacity(rt.alloc(), 1),
             Vec::with_capacity(rt.alloc(), ROOM),

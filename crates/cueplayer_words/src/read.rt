@@ -6,7 +6,8 @@ ghost use Rattle.cueplayer_words.specs.Job.{live_of, rehearse_of, listen_of};
 ghost use Rattle.cueplayer_words.specs.Asked.{Explains, IsAsked, RefusedBy};
 
 use crate::arguments::{
-    TOP_UNIVERSE, address_at, base_at, cid_at, cue_at, has_flag, name_at, number_at, priority_at, text_at,
+    TOP_UNIVERSE, address_at, base_at, cid_at, cue_at, has_flag, name_at, number_at, priority_at,
+    text_at,
 };
 use crate::job::{Job, Name, Night, WordsFault};
 use crate::program::program;
