@@ -11,17 +11,19 @@ import sys
 import time
 import unittest
 import uuid
+from unittest import mock
 
 from desks import SHOW, DeskTest, Page
-from program import CID, packet, text
+from program import CID, FolderTest, packet, text
 from test_osc import GREATEST_DOUBLE, message
 from tooling import PATIENCE, TOOLS, Started, run_tool, wait_for
 from wire import OPTIONS, TERMINATED, address_of, own_network, receiving
 
-from cueplayer_tools.desk_night import State
+from cueplayer_tools.desk_night import Night, State
 from cueplayer_tools.position import Position
 from cueplayer_tools.show import has_follow_ons, read_names
 from cueplayer_tools.teller import Teller
+from cueplayer_tools.words import Refused
 
 
 class Playback(DeskTest):
@@ -234,8 +236,7 @@ class Ends(DeskTest):
         commands = [line for line in lines if line != ["tick"]]
         self.assertEqual([["back"], ["go"], ["master", "0"], ["end"]], commands)
         told = [line.split()[1:] for line in replies.read_text().splitlines()]
-        self.assertEqual([["refused", "AtStart"], ["ok"], ["ok"]], told[:3])
-        self.assertTrue(all(answer == ["ok"] for answer in told[3:]), told)
+        self.assertEqual([["refused", "AtStart"], ["ok"], ["ok"]], told)
         again = run_tool("desk", self.show, "--to", self.to, "--replies", replies)
         self.assertEqual(2, again.returncode)
 
@@ -392,6 +393,34 @@ class Notices(unittest.TestCase):
         self.assertEqual(["kept", "OSC: 99"], [notice.text for notice in state.notices])
         state.accept(0, "go")
         self.assertEqual(["kept"], [notice.text for notice in state.notices])
+
+
+class Replies(FolderTest):
+    def test_replies_dropped(self):
+        """Where answers are missing no later one is taken for them: for a second nothing is handed
+        on, and the page is told that it may be wrong."""
+        script = "#!/bin/sh\nread line; echo 100 ok; read line; read line\n"
+        script += "echo 2 replies dropped; echo 300 ok; read line; echo 900 ok\n"
+        stub = self.file("stub", script.encode())
+        stub.chmod(0o755)
+        told = []
+        with mock.patch.dict(os.environ, CUEPLAYER=str(stub)):
+            night = Night(read_names(SHOW), [], told.append, told.append)
+        night.give("go")
+        wait_for(lambda: night.state.position.current == 1000, "the first cue")
+        night.give("go")
+        night.give("sub 1 FL")
+        wait_for(lambda: "300 ok" in told, "the late answer")
+        texts = [notice.text for notice in night.state.notices]
+        lost = "2 replies of live were lost: another cue may be on than is shown here"
+        self.assertEqual([lost], texts)
+        with self.assertRaises(Refused):
+            night.give("goto 2")
+        self.assertEqual((1000, {}), (night.state.position.current, night.state.masters))
+        time.sleep(1.1)
+        night.give("goto 2")
+        wait_for(lambda: night.state.position.current == 2000, "the cue after")
+        self.assertEqual(0, night.end(PATIENCE))
 
 
 class Cid(DeskTest):

@@ -27,6 +27,8 @@ from cueplayer_tools.words import Refused, command_line, level_byte, printable
 
 FULL = 255
 NOTICES_KEPT = 20
+# Seconds within which each answer has come that is still to come.
+UNSURE = 1.0
 # The most that Linux grants to everybody.
 PIPE_ROOM = 1 << 20
 
@@ -149,6 +151,7 @@ class Night:
         self.state = State(Position(show))
         self.clock = Clock()
         self.version = 0
+        self.unsure_until = 0.0
         self.changed = threading.Condition()
         self.input = LiveInput()
         output, their_output = _roomy_pipe()
@@ -199,8 +202,13 @@ class Night:
         """A line of standard output: the answer to a line, or a tick that lost a packet."""
         self.keep(line)
         moment, *words = line.split()
+        if words == ["replies", "dropped"]:
+            self._lose_track(moment)
+            return
         self.clock.hear(int(moment))
         if words[0] in ("ok", "refused"):
+            if time.monotonic() < self.unsure_until:
+                return
             # Where no line waits it is of what the program does to end the night.
             asked = self.input.answered() or "end"
             if words[0] == "ok":
@@ -213,6 +221,14 @@ class Night:
             if item.startswith("x") and universe.isdecimal():
                 lost = self.state.lost
                 lost.count, lost.moment, lost.universe = lost.count + 1, int(moment), int(universe)
+
+    def _lose_track(self, count: str) -> None:
+        """Answers are missing, and nobody knows which. Those that are still to come are here within
+        a second, and are taken for none of a later line."""
+        self.input.waiting.clear()
+        self.unsure_until = time.monotonic() + UNSURE
+        text = f"{count} replies of live were lost: another cue may be on than is shown here"
+        self.state.tell("fault", text)
 
     def _hear_fault(self, line: str) -> None:
         text = printable(line, 300)
@@ -233,6 +249,8 @@ class Night:
         with self.changed:
             if self.state.status is not None:
                 raise Refused("the night has ended")
+            if time.monotonic() < self.unsure_until:
+                raise Refused("replies of live were lost: press again in a second")
             # Behind an `end` the program takes no line, and answers none.
             if self.state.is_ending or self.input.has_end():
                 raise Refused("the night is ending")

@@ -1,0 +1,351 @@
+#!/usr/bin/env python3
+"""A bad night at sixteen universes, by a seed: the desk and its readers stand still, pages open and
+close, floods come, slow connections are held, others send, and the link goes down and up.
+
+usage: tests/bad_night.py [--seconds N] [--seed S]
+
+It makes a network of its own, where a desk plays multicast through a link that it can take down.
+What must hold: no tick is later than 60 ms beyond what bare sleepers on this machine were, no
+packet is off its place, no press is carried out late, and the night ends with its streams. It
+prints what was seen; the exit status is 1 where something was wrong.
+"""
+
+import argparse
+import collections
+import contextlib
+import http.client
+import json
+import os
+import random
+import re
+import select
+import signal
+import socket
+import subprocess
+import sys
+import tempfile
+import threading
+import time
+import uuid
+from pathlib import Path
+
+sys.dont_write_bytecode = True
+sys.path.insert(0, str(Path(__file__).resolve().parent))
+
+from program import packet  # noqa: E402  (tests/ is on the path from here on)
+from tooling import TOOLS  # noqa: E402
+from wire import OPTIONS, SEQUENCE, TERMINATED  # noqa: E402
+
+UNIVERSES = 16
+DIMMERS = 512 * UNIVERSES
+CHANNELS = 4096
+# Cues of the page's presses, and behind them those of Open Sound Control.
+CUES = 400
+TICK, BEYOND, LATE = 25, 60, 1000
+HERE = "10.77.0.1"
+UP = "ip link set stage up && ip route replace 239.0.0.0/8 dev stage"
+LINK = (
+    "ip link set lo up && ip link add stage type veth peer name hall && ip link set hall up && "
+    f"ip addr add {HERE}/24 dev stage && {UP}"
+)
+SLEEPER = """
+import sys, time
+begin, worst = time.monotonic(), 0.0
+while (now := time.monotonic()) - begin < float(sys.argv[1]):
+    due = begin + (int((now - begin) / 0.025) + 1) * 0.025
+    time.sleep(due - now)
+    worst = max(worst, time.monotonic() - due)
+print(round(worst * 1000))
+"""
+
+
+def show_text(chance: random.Random) -> str:
+    """A show with every dimmer patched, and cues that change in a second or two."""
+    lines = [f"PATCH 1 {1 + (at - 1) % CHANNELS}<{at}@FL" for at in range(1, DIMMERS + 1)]
+    for cue in range(1, 2 * CUES + 1):
+        lines += [f"CUE {cue}", f"UP {1 + cue % 2}"]
+        for _ in range(8):
+            first = chance.randint(1, CHANNELS - 8)
+            pairs = [f"{first + at}@{chance.randint(0, 100)}" for at in range(8)]
+            lines.append(" ".join(["CHAN", *pairs]))
+    return "".join(line + "\n" for line in lines)
+
+
+def milliseconds() -> float:
+    return time.monotonic() * 1000
+
+
+class Receiver:
+    """Receives all universes, and sees whether each packet is the next of its universe."""
+
+    def __init__(self, cid: uuid.UUID) -> None:
+        self.cid = cid.bytes
+        self.last: dict[int, int] = {}
+        self.count = 0
+        self.ended = 0
+        self.wrong: list[str] = []
+        # While the link is down, and shortly after, packets may be missing.
+        self.may_miss_until = 0.0
+        self.sockets = [self._joined(universe) for universe in range(1, UNIVERSES + 1)]
+        threading.Thread(target=self._read, daemon=True).start()
+
+    def _joined(self, universe: int) -> socket.socket:
+        group = f"239.255.0.{universe}"
+        receiver = socket.socket(socket.AF_INET, socket.SOCK_DGRAM)
+        receiver.setsockopt(socket.SOL_SOCKET, socket.SO_REUSEADDR, 1)
+        receiver.setsockopt(socket.SOL_SOCKET, socket.SO_RCVBUF, 1 << 22)
+        receiver.bind((group, 5568))
+        membership = socket.inet_aton(group) + socket.inet_aton(HERE)
+        receiver.setsockopt(socket.IPPROTO_IP, socket.IP_ADD_MEMBERSHIP, membership)
+        return receiver
+
+    def _read(self) -> None:
+        while True:
+            for ready in select.select(self.sockets, [], [])[0]:
+                self._take(ready.recv(2048))
+
+    def _take(self, data: bytes) -> None:
+        if len(data) != 638 or data[22:38] != self.cid:
+            return
+        universe, number = int.from_bytes(data[113:115], "big"), data[SEQUENCE]
+        self.count += 1
+        self.ended += bool(data[OPTIONS] & TERMINATED)
+        step = (number - self.last.get(universe, number - 1)) % 256
+        self.last[universe] = number
+        if step != 1 and time.monotonic() > self.may_miss_until:
+            self.wrong.append(f"universe {universe}: {step} steps to number {number}")
+
+
+class Desk:
+    """A desk whose night has begun, and one page of it that listens."""
+
+    def __init__(self, folder: Path, cid: uuid.UUID, chance: random.Random) -> None:
+        self.record = folder / "night.play"
+        show = folder / "show.asc"
+        show.write_text(show_text(chance))
+        words = [sys.executable, TOOLS / "desk", show, "--to", "239.255.0.0", "--cid", str(cid)]
+        words += ["--record", self.record, "--replies", folder / "replies", "--osc", "0"]
+        pipes = {"stdout": subprocess.PIPE, "stderr": subprocess.PIPE}
+        self.process = subprocess.Popen(list(map(str, words)), text=True, **pipes)
+        address = self.process.stdout.readline().split()[-1]
+        self.host, self.path = re.fullmatch(r"http://([^/]+)(/.*/)", address).groups()
+        self.live = int(re.search(r"process (\d+)", self.process.stderr.readline())[1])
+        self.port = int(self.host.split(":")[1])
+        self.ahead = collections.deque([-1e15], maxlen=100)
+        self.state: dict = {}
+        self.osc = 0
+        self.events = self.opened()
+        threading.Thread(target=self._read, daemon=True).start()
+        while not (self.state and self.osc):
+            time.sleep(0.01)
+
+    def opened(self) -> http.client.HTTPResponse:
+        connection = http.client.HTTPConnection(self.host, timeout=60)
+        connection.request("GET", self.path + "events")
+        return connection.getresponse()
+
+    def _read(self) -> None:
+        for line in self.events:
+            if line.startswith(b"id: "):
+                self.ahead.append(int(line[4:]) - milliseconds())
+            elif line.startswith(b'data: {"title"'):
+                self.osc = int(json.loads(line[6:])["osc"].split(":")[1])
+            elif line.startswith(b'data: {"current"'):
+                self.state = json.loads(line[6:])
+
+    def press(self, line: str) -> int | None:
+        """Presses as the page does; the status, or None where there was none in a second."""
+        at = max(int(milliseconds() + max(self.ahead)), 0)
+        connection = http.client.HTTPConnection(self.host, timeout=1.0)
+        headers = {"Origin": f"http://{self.host}", "Desk-Time": str(at)}
+        try:
+            connection.request("POST", self.path + "command", line, headers)
+            return connection.getresponse().status
+        except OSError:
+            return None
+        finally:
+            connection.close()
+
+
+class Presses:
+    """Presses of a page and of a tablet, each of a cue of its own, and when each was made."""
+
+    def __init__(self, desk: Desk, chance: random.Random) -> None:
+        self.desk = desk
+        self.chance = chance
+        self.made: list[tuple[float, int]] = []
+        self.answers: collections.Counter = collections.Counter()
+        self.is_over = threading.Event()
+        self.threads = [threading.Thread(target=self._press, args=(kind,)) for kind in (0, 1)]
+        for thread in self.threads:
+            thread.start()
+
+    def _press(self, kind: int) -> None:
+        tablet = socket.socket(socket.AF_INET, socket.SOCK_DGRAM)
+        number = 0
+        while not self.is_over.wait(self.chance.uniform(0.2, 0.6)):
+            cue = 1 + number % CUES + kind * CUES
+            number += 1
+            self.made.append((milliseconds(), cue))
+            if kind == 0:
+                self.answers[self.desk.press(f"goto {cue}")] += 1
+            else:
+                asked = b"/cueplayer/goto\0,i\0\0" + cue.to_bytes(4, "big")
+                tablet.sendto(asked, ("127.0.0.1", self.desk.osc))
+
+    def end(self) -> None:
+        self.is_over.set()
+        for thread in self.threads:
+            thread.join()
+
+
+class Trouble:
+    """What goes wrong in the night, one thing after the other, by a seed."""
+
+    def __init__(self, desk: Desk, receiver: Receiver, chance: random.Random) -> None:
+        self.desk = desk
+        self.receiver = receiver
+        self.chance = chance
+        self.happened: collections.Counter = collections.Counter()
+        self.kinds = {
+            "rest": lambda: time.sleep(1),
+            "desk stands still": self.stop_desk,
+            "pages come and go": self.open_pages,
+            "slow connections": self.hold_connections,
+            "flood": self.flood,
+            "link goes down": self.take_link_down,
+            "others send": self.send_as_others,
+        }
+
+    def until(self, end: float) -> None:
+        while time.monotonic() < end:
+            kind = self.chance.choice(list(self.kinds))
+            self.happened[kind] += 1
+            self.kinds[kind]()
+
+    def stop_desk(self) -> None:
+        self.desk.process.send_signal(signal.SIGSTOP)
+        time.sleep(self.chance.uniform(0.1, 3))
+        self.desk.process.send_signal(signal.SIGCONT)
+
+    def open_pages(self) -> None:
+        with contextlib.suppress(OSError):
+            pages = [self.desk.opened() for _ in range(self.chance.randint(1, 8))]
+            time.sleep(self.chance.uniform(0, 2))
+            for page in pages:
+                page.close()
+
+    def hold_connections(self) -> None:
+        with contextlib.ExitStack() as held, contextlib.suppress(OSError):
+            for _ in range(300):
+                slow = socket.create_connection(("127.0.0.1", self.desk.port), 1)
+                held.enter_context(slow)
+                slow.send(b"GET / HTTP/1.1\r\n")
+            time.sleep(self.chance.uniform(0, 1))
+
+    def flood(self) -> None:
+        junk = self.chance.choice((b"junk", b"/accxyz\0,f\0\0????", b"/cueplayer/no\0\0\0,\0\0\0"))
+        with socket.socket(socket.AF_INET, socket.SOCK_DGRAM) as sender:
+            sender.connect(("127.0.0.1", self.desk.osc))
+            for _ in range(40):
+                for _ in range(400):
+                    with contextlib.suppress(OSError):
+                        sender.send(junk)
+                time.sleep(0.02)
+
+    def take_link_down(self) -> None:
+        self.receiver.may_miss_until = time.monotonic() + 3600
+        subprocess.run(["ip", "link", "set", "stage", "down"], check=True)
+        time.sleep(self.chance.uniform(0.1, 2))
+        subprocess.run(UP, shell=True, check=True)
+        self.receiver.may_miss_until = time.monotonic() + 1
+
+    def send_as_others(self) -> None:
+        with socket.socket(socket.AF_INET, socket.SOCK_DGRAM) as other:
+            for number in range(200):
+                universe = self.chance.randint(1, UNIVERSES)
+                strange = packet(universe, {1: 9}, number, cid=str(uuid.UUID(int=number % 12 + 1)))
+                with contextlib.suppress(OSError):
+                    other.sendto(strange, (f"239.255.0.{universe}", 5568))
+                time.sleep(0.002)
+
+
+def late_presses(lines: list[list[str]], made: list[tuple[float, int]]) -> tuple[int, list[str]]:
+    """How many presses were carried out, and those that were later than a second."""
+    moves = [(int(moment), int(words[1])) for moment, *words in lines if words[0] == "goto"]
+    by_cue = collections.defaultdict(list)
+    for pressed, cue in made:
+        by_cue[cue].append(pressed)
+    # The clock of `live` and this one: the quickest press took next to nothing.
+    first = min(moment - pressed for moment, cue in moves for pressed in by_cue[cue][:1])
+    late = []
+    for moment, cue in moves:
+        ages = [moment - pressed - first for pressed in by_cue[cue]]
+        age = min((each for each in ages if each >= -1), default=1e9)
+        if age > LATE:
+            late.append(f"goto {cue} at {moment} was {age:.0f} ms old")
+    return len(moves), late
+
+
+def faults_of(desk: Desk, receiver: Receiver, presses: Presses, slept: int) -> list[str]:
+    """What was wrong in a night that has ended; prints what was seen."""
+    lines = [line.split() for line in desk.record.read_text().splitlines()]
+    ticks = [int(moment) for moment, *words in lines if words == ["tick"]]
+    worst = max(after - before for before, after in zip(ticks, ticks[1:])) - TICK
+    moves, faults = late_presses(lines, presses.made)
+    faults += receiver.wrong[:10]
+    print(f"{len(ticks)} ticks, the latest by {worst} ms; bare sleepers by {slept} ms")
+    print(f"{len(presses.made)} presses, {moves} carried out; answers {dict(presses.answers)}")
+    print(f"{receiver.count} packets received, {receiver.ended} ended streams")
+    if worst > slept + BEYOND:
+        faults.append(f"a tick was {worst} ms late")
+    if moves < len(presses.made) // 3:
+        faults.append("most presses were not carried out")
+    if receiver.ended < UNIVERSES:
+        faults.append("the streams have not ended")
+    return faults
+
+
+def play(seconds: float, seed: int) -> list[str]:
+    """Plays the night in this network; what was wrong in it."""
+    subprocess.run(LINK, shell=True, check=True)
+    chance, cid = random.Random(seed), uuid.uuid4()
+    with tempfile.TemporaryDirectory() as folder:
+        receiver = Receiver(cid)
+        desk = Desk(Path(folder), cid, chance)
+        try:
+            words = [sys.executable, "-c", SLEEPER, str(seconds)]
+            sleepers = [subprocess.Popen(words, stdout=subprocess.PIPE) for _ in range(3)]
+            presses = Presses(desk, random.Random(seed + 1))
+            trouble = Trouble(desk, receiver, chance)
+            trouble.until(time.monotonic() + seconds)
+            presses.end()
+            slept = max(int(sleeper.communicate()[0]) for sleeper in sleepers)
+            print(", ".join(f"{kind} {count}" for kind, count in sorted(trouble.happened.items())))
+            desk.process.terminate()
+            desk.process.wait(30)
+            time.sleep(0.2)
+            return faults_of(desk, receiver, presses, slept)
+        finally:
+            desk.process.kill()
+            with contextlib.suppress(ProcessLookupError):
+                os.kill(desk.live, signal.SIGKILL)
+
+
+def main() -> int:
+    parser = argparse.ArgumentParser(description=__doc__.splitlines()[0])
+    parser.add_argument("--seconds", type=float, default=600)
+    parser.add_argument("--seed", type=int, default=38)
+    parser.add_argument("--inside", action="store_true", help=argparse.SUPPRESS)
+    words = parser.parse_args()
+    if not words.inside:
+        network = ["unshare", *(["--user", "--map-root-user"] if os.geteuid() else []), "--net"]
+        return subprocess.run([*network, sys.executable, *sys.argv, "--inside"]).returncode
+    faults = play(words.seconds, words.seed)
+    for fault in faults:
+        print(f"WRONG: {fault}")
+    return 1 if faults else 0
+
+
+if __name__ == "__main__":
+    sys.exit(main())
