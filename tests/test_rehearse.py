@@ -1,7 +1,7 @@
 """`rehearse`: its scripts, and what it prints of them."""
 
-import os
 import subprocess
+from subprocess import DEVNULL
 
 from program import CID, DEVICE_FAULT, PROGRAM, FolderTest, run, text
 from worked import HEADER, S1, codes, rehearsal_of, rehearsals, steps, table, tables, with_examples
@@ -86,38 +86,32 @@ class Rehearse(FolderTest):
         self.assertFullDisk(self.words(S1, text(*HEADER, "0 tick 0")))
 
 
-def most_memory(words: list[str]) -> int:
-    """The most memory that this run of the program holds, in bytes."""
-    with subprocess.Popen([PROGRAM, *words], stdout=subprocess.DEVNULL) as night:
-        _, status, used = os.wait4(night.pid, 0)
-        night.returncode = os.waitstatus_to_exitcode(status)
-    assert night.returncode == 0, night.returncode
-    return 1024 * used.ru_maxrss
-
-
 class Memory(FolderTest):
-    """A rehearsal lets go what no later event delivers, and keeps nothing that no event delivers."""
+    """A rehearsal keeps no packet that no later event delivers."""
 
     TICKS = 100_000
-    PACKET = 638
+    # In kibibytes: fewer than the packets of a long night take, 638 bytes each.
+    ROOM = 57_344
 
-    def most_of(self, delivers: bool, *last: int) -> int:
-        """The most memory of a long night: each packet is delivered at once, or none is; and these
-        are delivered at the end."""
+    def status_of(self, delivers: bool, *last: int) -> int:
+        """How a long night ends in this room: each packet is delivered at once, or none is; and
+        these are delivered at the end."""
         lines = list(HEADER)
         for i in range(self.TICKS):
             lines += [f"{25 * i} do 0 sub 1 {i % 90}", f"{25 * i} tick 0"]
             lines += [f"{25 * i} deliver 0 0 1 {i}"] * delivers
         lines += [f"{25 * self.TICKS} deliver 0 0 1 {k}" for k in last]
         show, script = self.file("show.asc", S1), self.file("night.script", text(*lines))
-        return most_memory(["rehearse", show, script])
-
-    def assertKeeps(self, most: int, least: int):
-        """The one night keeps all of its packets, and the other hardly one."""
-        self.assertGreater(most - least, self.TICKS * self.PACKET // 2)
+        words = [PROGRAM, "rehearse", show, script]
+        limited = ["sh", "-c", f'ulimit -v {self.ROOM}; exec "$@"', "sh", *words]
+        night = subprocess.run(limited, stdout=DEVNULL, stderr=DEVNULL, timeout=60)
+        return night.returncode
 
     def test_packets_delivered(self):
-        self.assertKeeps(self.most_of(True, 0), self.most_of(True))
+        """Where the first packet comes once more at the end, all are kept, and memory is wanted."""
+        self.assertEqual(0, self.status_of(True))
+        self.assertEqual(6, self.status_of(True, 0))
 
     def test_packets_never_delivered(self):
-        self.assertKeeps(self.most_of(False, self.TICKS - 1, 0), self.most_of(False, 0))
+        self.assertEqual(0, self.status_of(False, 0))
+        self.assertEqual(6, self.status_of(False, self.TICKS - 1, 0))
