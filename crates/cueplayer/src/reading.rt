@@ -1,5 +1,5 @@
 ghost use Rattle.std.specs.Prelude.{◌≡◌, ◌≤◌, IfOk, IfErr, IfSome, length, take};
-ghost use Rattle.std.specs.Io.KnownBytes.{ReadConsumes};
+ghost use Rattle.std.specs.Io.KnownBytes.{Consumes, ReadConsumes};
 ghost use Rattle.cueplayer.specs.Reading.{IsUnread};
 
 use crate::failure::Failure;
@@ -103,6 +103,8 @@ fn script_bytes<R: Read>(alloc: Global, reader: &mut R) -> Result<Vec<u8>, Unrea
     ensures most { IfOk result (λ bytes. length bytes.items ≤ 16777217) }
     ensures first { IfOk result (λ bytes. IfSome (R.remaining reader.old)
         (λ left. bytes.items ≡ take 16777217 left)) }
+    ensures rest { IfOk result (λ bytes.
+        Consumes (R.remaining reader.old) (R.remaining reader.new) bytes.items) }
 {
     read_most(alloc, reader, LONGEST_SCRIPT + 1)
 }
@@ -113,15 +115,19 @@ fn first_bytes<R: Read>(alloc: Global, reader: &mut R) -> Result<Vec<u8>, Unread
     ensures most { IfOk result (λ bytes. length bytes.items ≤ 1048577) }
     ensures first { IfOk result (λ bytes. IfSome (R.remaining reader.old)
         (λ left. bytes.items ≡ take 1048577 left)) }
+    ensures rest { IfOk result (λ bytes.
+        Consumes (R.remaining reader.old) (R.remaining reader.new) bytes.items) }
 {
     read_most(alloc, reader, MOST)
 }
 
-// The first bytes of a reader, at most so many.
+// The first bytes of a reader, at most so many. The reader has those behind them still.
 fn read_most<R: Read>(alloc: Global, reader: &mut R, most: usize) -> Result<Vec<u8>, Unread>
     ensures most { IfOk result (λ bytes. length bytes.items ≤ most) }
     ensures first { IfOk result (λ bytes. IfSome (R.remaining reader.old)
         (λ left. bytes.items ≡ take most left)) }
+    ensures rest { IfOk result (λ bytes.
+        Consumes (R.remaining reader.old) (R.remaining reader.new) bytes.items) }
 {
     let mut bytes = Vec::new(alloc);
     let mut block = [0u8; BLOCK];
