@@ -1,5 +1,5 @@
-"""From `play` to the light: nights whose packets come to `listen` over a network that loses, repeats and
-reorders them. What the slots must be then, the second reader works out from the show and the lines alone."""
+"""From `play` to the light: nights whose packets come to `listen` over a network that loses,
+repeats and reorders them. The second reader works out the slots from the show and the lines."""
 
 import random
 import subprocess
@@ -13,7 +13,7 @@ from expected.runs import play_line
 from expected.words import lines_of
 from program import CID, PROGRAM, FolderTest, packet, slots_line, text
 from test_listen import Listener
-from wire import address_of, received, receiving
+from wire import SLOT_1, address_of, received, receiving
 
 # The window: how far a packet may be behind the newest that arrived before it, and how far ahead.
 BEHIND, AHEAD = 19, 217
@@ -39,8 +39,8 @@ class Console(NamedTuple):
 
 
 class Meaning(NamedTuple):
-    """What a show means for a universe at the latest tick: its slots that are not 0, and whether the
-    stream goes on."""
+    """What a show means for a universe at the latest tick: its slots that are not 0, and whether
+    the stream goes on."""
 
     slots: dict
     is_live: bool
@@ -70,9 +70,11 @@ def show_by_chance(r: random.Random) -> bytes:
         if record.startswith("CUE"):
             lines += [f"UP {r.choice(TIMES)}", f"DOWN {r.choice(TIMES)}"]
             lines += [f"FOLLOWON {r.choice(TIMES)}"] if r.random() < 0.1 else []
-        lines.append(" ".join(["CHAN", *(f"{n}@{r.choice(LEVELS)}" for n in r.sample(range(1, 9), 4))]))
+        levels = (f"{n}@{r.choice(LEVELS)}" for n in r.sample(range(1, 9), 4))
+        lines.append(" ".join(["CHAN", *levels]))
     dimmers = r.sample(range(1, r.choice([512, 1024]) + 1), 12)
-    lines.append(" ".join(["PATCH 1", *(f"{r.randrange(1, 9)}<{n}@{r.choice(LEVELS)}" for n in dimmers)]))
+    patches = (f"{r.randrange(1, 9)}<{n}@{r.choice(LEVELS)}" for n in dimmers)
+    lines.append(" ".join(["PATCH 1", *patches]))
     return text(*lines)
 
 
@@ -86,7 +88,8 @@ def lines_by_chance(r: random.Random, count: int) -> bytes:
             words = ["go"]
         lines.append(" ".join([str(moment), *words]))
     if r.random() < 0.15:
-        lines += [f"{moment + 1} end", *(f"{moment + 25 * n} tick" for n in range(1, r.randrange(2, 6)))]
+        ticks = (f"{moment + 25 * n} tick" for n in range(1, r.randrange(2, 6)))
+        lines += [f"{moment + 1} end", *ticks]
     return "".join(line + "\n" for line in lines).encode()
 
 
@@ -100,9 +103,10 @@ def console_by_chance(r: random.Random, cid: str, base: int) -> Console:
 
 
 def arrivals(r: random.Random, count: int) -> list:
-    """Packets 0 to `count` - 1 of a stream as they arrive, by their numbers: by chance some are lost, some come
-    again and some come late, all in the window; and the newest arrives."""
-    loss, again, late = r.choice([0, 0.1, 0.5, 0.9, 0.995]), r.choice([0, 0.1, 0.5]), r.choice([0, 2, 19, 40])
+    """Packets 0 to `count` - 1 of a stream as they arrive, by their numbers: by chance some are
+    lost, some come again and some come late, all in the window; and the newest arrives."""
+    loss, again = r.choice([0, 0.1, 0.5, 0.9, 0.995]), r.choice([0, 0.1, 0.5])
+    late = r.choice([0, 2, 19, 40])
     times = []
     for k in range(count):
         copies = 0 if r.random() < loss else 1 + (r.random() < again) * r.randrange(1, 4)
@@ -112,7 +116,8 @@ def arrivals(r: random.Random, count: int) -> list:
 
 
 def in_window(numbers: list) -> list:
-    """Of these arrivals those that the window allows; where too many in a row are lost, one of them arrives."""
+    """Of these arrivals those that the window allows; where too many in a row are lost, one of them
+    arrives."""
     newest, found = numbers[0], []
     for k in numbers:
         while k > newest + AHEAD:
@@ -125,7 +130,8 @@ def in_window(numbers: list) -> list:
 
 
 def is_in_window(numbers: list) -> bool:
-    """Whether each packet but the first is at most 19 behind and 217 ahead of the newest that came before it."""
+    """Whether each packet but the first is at most 19 behind and 217 ahead of the newest that came
+    before it."""
     newest = numbers[0]
     for k in numbers[1:]:
         if not (newest <= k + 19 and k <= newest + 217):
@@ -135,10 +141,11 @@ def is_in_window(numbers: list) -> bool:
 
 
 class Tally:
-    """What networks did: how many packets they lost, repeated and brought late, and how far they went."""
+    """What networks did: how many packets they lost, repeated and brought late, how far they went,
+    and in how many nights they brought an old packet last."""
 
     def __init__(self):
-        self.lost = self.repeated = self.late = self.wraps = 0
+        self.lost = self.repeated = self.late = self.wraps = self.misled = 0
         self.furthest_behind = self.furthest_ahead = 0
 
     def add(self, count: int, numbers: list):
@@ -158,7 +165,7 @@ def universe_of(datagram: bytes) -> int:
 
 
 def strangers(r: random.Random, universe: int, others: list) -> list:
-    """Datagrams that are not heard on a universe: no packets, and packets of other universes and previews."""
+    """Datagrams not heard on a universe: no packets, packets of other universes, previews."""
     kinds = [b"", b"\1\2", packet(universe + 1, {1: 255}), packet(universe, {1: 255}, options=0x80)]
     return r.choices(kinds + others, k=r.randrange(6))
 
@@ -208,7 +215,7 @@ class StageLight(FolderTest):
         return out
 
     def carried(self, r: random.Random, universe: int, sent: list) -> list:
-        """What arrives of the consoles' datagrams at a receiver of a universe, and what strangers send."""
+        """What arrives at a receiver of a universe: of the consoles, and of strangers."""
         streams, others = [], []
         for datagrams in sent:
             stream = [each for each in datagrams if universe_of(each) == universe]
@@ -216,6 +223,8 @@ class StageLight(FolderTest):
             numbers = arrivals(r, len(stream)) if stream else []
             self.tally.add(len(stream), numbers)
             streams.append([stream[k] for k in numbers])
+            # The last packet that arrives is an old one, with other slots than the newest.
+            self.tally.misled += stream != [] and streams[-1][-1][SLOT_1:] != stream[-1][SLOT_1:]
         return shuffled(r, [*streams, strangers(r, universe, others)])
 
     def assertNightShows(self, r: random.Random, consoles: list, universe: int, slots: dict):
@@ -226,7 +235,8 @@ class StageLight(FolderTest):
         self.assertEqual(slots_line(slots) + "\n", self.shown(universe, datagrams).decode())
 
     def test_one_console(self):
-        """Whatever the network does in the window, the slots are what the show means at the latest tick."""
+        """Whatever the network does in the window, the slots are what the show means at the latest
+        tick."""
         for seed in range(200):
             r = random.Random(f"one console {seed}")
             console = console_by_chance(r, CID, r.choice([1, 1, 7, 63984]))
@@ -234,13 +244,14 @@ class StageLight(FolderTest):
             with self.subTest(seed=seed):
                 self.assertNightShows(r, [console], universe, meaning(console, universe).slots)
         self.assertGreater(min(self.tally.lost, self.tally.repeated, self.tally.late), 1000)
+        self.assertGreater(self.tally.misled, 20)
         self.assertEqual(BEHIND, self.tally.furthest_behind)
         self.assertGreater(self.tally.furthest_ahead, 100)
         self.assertGreater(self.tally.wraps, 10)
 
     def test_two_consoles(self):
-        """The greatest that the consoles of the greatest priority mean, slot by slot; one that ended its stream
-        counts for nothing."""
+        """The greatest that the consoles of the greatest priority mean, slot by slot; one that
+        ended its stream counts for nothing."""
         priorities = set()
         for seed in range(50):
             r = random.Random(f"two consoles {seed}")
@@ -262,7 +273,7 @@ class StageLight(FolderTest):
         self.assertLessEqual({(2, 2), (2, 1), (1, 1), (0, 0)}, priorities)
 
     def test_window(self):
-        """The network of these tests loses, repeats and reorders, and keeps to the window up to its edges."""
+        """The network of these tests loses, repeats and reorders, in the window up to its edges."""
         for count in (1, 2, 40, 700):
             tally = Tally()
             for seed in range(100):
@@ -274,8 +285,10 @@ class StageLight(FolderTest):
                 self.assertGreater(min(tally.lost, tally.repeated, tally.late), 100)
                 self.assertEqual(BEHIND, tally.furthest_behind)
         self.assertEqual(AHEAD, tally.furthest_ahead)
-        for numbers, is_in in (([0, 217], True), ([0, 218], False), ([19, 0], True), ([20, 0], False)):
-            self.assertEqual(is_in, is_in_window(numbers), numbers)
+        for numbers in ([0, 217], [19, 0]):
+            self.assertTrue(is_in_window(numbers), numbers)
+        for numbers in ([0, 218], [20, 0]):
+            self.assertFalse(is_in_window(numbers), numbers)
 
     def test_outside_the_window(self):
         """There the slots may be others: a packet that is 20 behind is taken, and shows."""

@@ -135,11 +135,19 @@ lines_of-text (line ∷ lines) g =
 all_reverse : (lines : List (List ℕ)) → All IsGood lines → All IsGood (reverse lines)
 all_reverse lines g = λ i d inside. grind (arith, moves, elements)
 
+all_good : (h : List Happening) → All IsGood (reverse (lines_given (answers h)))
+all_good h = all_reverse (lines_given (answers h)) (through
+    (λ given n. All IsGood (lines_given given)) (All-nil IsGood) good_by h)
+
+-- each line is read as it was given
+pub lines_whole : (h : List Happening)
+    → lines_of (text_of (lines_given (answers h))) ≡ reverse (lines_given (answers h))
+lines_whole h = lines_of-text (reverse (lines_given (answers h))) (all_good h)
+
 pub lines_fine : (h : List Happening) → AreFine (lines_of (text_of (lines_given (answers h))))
 lines_fine h =
     let lines : List (List ℕ) = reverse (lines_given (answers h)) in
-    let good = all_reverse (lines_given (answers h)) (through
-    (λ given n. All IsGood (lines_given given)) (All-nil IsGood) good_by h) in
+    let good = all_good h in
     rw (lines_of-text lines good) (record {
       none_malformed = All-weaker IsGood (λ (l : List ℕ). is_malformed (reading_of l) ≡ false)
           (λ l g. g.good) lines good;

@@ -1,29 +1,43 @@
 -- What `play` makes of what a live input has given it.
 use Rattle.std.proofs.Common.{◌≡◌, ◌≤◌, ℕ, true, false, refl, ap, sym, subst, ◌∙◌, arith, List, []}
 use Rattle.std.proofs.Common.{◌∷◌, ◌++◌, ◌⊎◌, inl, inr, length, fold, reverse, append-nil}
-use Rattle.std.proofs.Common.{append_assoc, length-append, Ok, Err}
-use Rattle.std.specs.Prelude.{flat_map, nat_eq, All, Contains}
+use Rattle.std.proofs.Common.{append_assoc, length-append, Ok, Err, Option, Some, None}
+use Rattle.std.specs.Prelude.{flat_map, nat_eq, All, Contains, codes, is_none, option_map}
+use Rattle.std.specs.Prelude.{if◌then◌else◌, ◌-◌}
 use Rattle.std.proofs.lemmas.Bool.{eq-eqb, eqb-true}
-use Rattle.std.proofs.lemmas.List.{append_cancel_left}
+use Rattle.std.proofs.lemmas.List.{append_cancel_left, reverse-append, reverse-reverse}
 use Rattle.std.proofs.lemmas.List.Elements.{Contains-append_left, Contains-append_right}
 use Rattle.std.proofs.lemmas.List.Sums.{fold-append}
-use Rattle.ascii_text.specs.Text.{lines_of}
+use Rattle.ascii_text.specs.Text.{lines_of, words_of}
 use Rattle.console.specs.Streams.{Production}
-use Rattle.console_text.specs.Spelling.{is_malformed, reading_of}
+use Rattle.console_text.specs.declared.call.Call.{Call}
+use Rattle.console_text.specs.declared.call.Call.TheVariants.{Order, Tick}
+use Rattle.console_text.specs.declared.reading.Reading.TheVariants.{At}
+use Rattle.console_text.specs.Spelling.{act_of, command_of, is_malformed, reading_of}
 use Rattle.cueplayer_faults.specs.declared.fault.RunFault.TheVariants as run
 use Rattle.cueplayer_play.specs.declared.fault.PlayFault.TheVariants as early
 use Rattle.cueplayer_play.specs.Lines.{Cut, closed, cut_of, in_order, no_bytes, with_byte}
 use Rattle.cueplayer_play.specs.Play.{EndsEarly}
-use Rattle.cueplayer_play.specs.Run.{Emitted, Ran}
+use Rattle.cueplayer_play.specs.Run.{Emitted, Ran, history_of, taken, taken_by}
 use Rattle.cueplayer_play.specs.Stage.{IsRefused, late, long, malformed}
 use Rattle.cueplayer_play.proofs.InputLines.{lines_are}
+use Rattle.desk_core.specs.declared.answer.Refused.{Refused}
+use Rattle.desk_core.specs.declared.command.Command.{Command}
+use Rattle.desk_core.specs.declared.command.Command.TheVariants.{End, Master}
+use Rattle.desk_core.specs.Meaning.{latest_frame}
+use Rattle.desk_core.specs.Played.{Act, order, refusal}
 use Rattle.devices.specs.Tape.{Tape, with_more}
-use Rattle.live_input.specs.Laws.{text_of}
-use Rattle.live_input.specs.Night.{Happening, answers, lines_given}
-use Rattle.live_input.proofs.Fine.{lines_fine}
+use Rattle.show_core.specs.Tables.{Tables}
+use Rattle.live_input.specs.Laws as live
+use Rattle.live_input.specs.Laws.{accepted, text_of}
+use Rattle.live_input.specs.Night as answer
+use Rattle.live_input.specs.Night.{Answer, Happening, answer_to, answers, at_moment, lines_given}
+use Rattle.live_input.specs.Night.{with_given}
+use Rattle.live_input.proofs.Fine.{lines_fine, lines_whole, spelled}
 use Rattle.sacn_receiver.proofs.Members.{by_test, In, place_from_in}
-use Rattle.stage_light.specs.Programs.{IsNight, NightsArePlays, night_lines}
+use Rattle.stage_light.specs.Programs.{IsNight, NightHeadline, NightsArePlays, NightsAreTyped}
 use Rattle.stage_light.proofs.Playing.{dry_runs_plays, runs_plays}
+use Rattle.stage_light.proofs.Showing.{headline}
 
 -- ---- lines that bytes end
 
@@ -137,6 +151,11 @@ as_long [] = refl
 as_long (l ∷ lines) = let n = as_long lines in
     omega (arith, length-append (in_order lines) (l ∷ []), n)
 
+as_reverse : (lines : List (List ℕ)) → in_order lines ≡ reverse lines
+as_reverse [] = refl
+as_reverse (l ∷ lines) = ap (λ ls. ls ++ l ∷ []) (as_reverse lines)
+    ∙ sym (reverse-append (l ∷ []) lines)
+
 in_middle : (more : List (List ℕ)) (line : List ℕ) (older : List (List ℕ))
     → In line (more ++ line ∷ older)
 in_middle [] line older = inl refl
@@ -149,7 +168,7 @@ module _ (h : List Happening) where
   text = text_of (lines_given (answers h))
 
   abbrev all : List (List ℕ)
-  all = night_lines h
+  all = (cut_of text).lines
 
   no_rest_left : (cut_of text).rest ≡ []
   no_rest_left = leaves_none no_bytes (reverse (lines_given (answers h))) refl
@@ -159,6 +178,11 @@ module _ (h : List Happening) where
 
   are_all : in_order all ≡ lines_of text
   are_all = ap (λ bytes. in_order (cut_of bytes).lines) (sym is_closed) ∙ lines_are text
+
+  given : all ≡ lines_given (answers h)
+  given = sym (reverse-reverse all)
+      ∙ ap reverse (sym (as_reverse all) ∙ are_all ∙ lines_whole h)
+      ∙ reverse-reverse (lines_given (answers h))
 
   each : (P : List ℕ → Type 0) → All P (lines_of text) → (line : List ℕ) → In line all → P line
   each P holds line i =
@@ -242,9 +266,11 @@ module _ (h : List Happening) where
 
     module _ (p : Production) (before after : Emitted) where
       all_ran : (bytes : List ℕ) (lost : ℕ) → feeds ≡ with_more fed bytes
-          → Ran p (cut_of (closed bytes)).lines before after lost → Ran p all before after lost
-      all_ran bytes lost read ran = subst (λ bs. Ran p (cut_of bs).lines before after lost)
-          (ap closed (same_bytes bytes read) ∙ is_closed) ran
+          → Ran p (cut_of (closed bytes)).lines before after lost
+          → Ran p (lines_given (answers h)) before after lost
+      all_ran bytes lost read ran = subst (λ lines. Ran p lines before after lost)
+          (ap (λ bs. (cut_of bs).lines) (ap closed (same_bytes bytes read) ∙ is_closed)
+          ∙ given) ran
 
       none_early : (n : ℕ) (ended : Type 0)
           → EndsEarly p (early.Line n) ended fed feeds before after → ⊥
@@ -268,26 +294,26 @@ module _ (h : List Happening) where
           record {
             lines = (cut_of e.front).rest ∷ (cut_of e.front).lines;
             later = here.0;
-            lines_are = here.1;
+            lines_are = sym given ∙ here.1;
             are_left = tt;
             has_played = dry_runs_plays p (cut_of e.front) before after e.leaves;
           }
 
 pub nights_plays : (ended : Type 0) → NightsArePlays ended
 nights_plays ended p h (Ok done) fed feeds before after is gives = record {
-  lines = night_lines h;
+  lines = lines_given (answers h);
   later = [];
   lines_are = refl;
   are_left = refl;
-  has_played = runs_plays p (night_lines h) before after 0
+  has_played = runs_plays p (lines_given (answers h)) before after 0
       (all_ran h fed feeds gives p before after is.bytes 0 is.read is.ran);
 }
 nights_plays ended p h (Err (run.Lost n)) fed feeds before after is gives = record {
-  lines = night_lines h;
+  lines = lines_given (answers h);
   later = [];
   lines_are = refl;
   are_left = refl;
-  has_played = runs_plays p (night_lines h) before after n
+  has_played = runs_plays p (lines_given (answers h)) before after n
       (all_ran h fed feeds gives p before after is.1.bytes n is.1.read is.1.ran);
 }
 nights_plays ended p h (Err (run.Line n)) fed feeds before after is gives =
@@ -295,3 +321,55 @@ nights_plays ended p h (Err (run.Line n)) fed feeds before after is gives =
 nights_plays ended p h (Err run.Device) fed feeds before after is gives =
     dry h fed feeds gives p before after ended is
 nights_plays ended p h (Err _) fed feeds before after is gives = absurd is
+
+-- ---- what was typed
+
+same_taken : (o : Option Refused) (act : Act) (history : List Act)
+    → taken_by o act history ≡ (if is_none o then act ∷ history else history)
+same_taken None act history = refl
+same_taken (Some refused) act history = refl
+
+module _ (show : Tables) (history : List Act) where
+  -- a line that spells a call
+  spells : (moment : ℕ) (call : Call) (line : List ℕ) → reading_of line ≡ At moment call
+      → taken show (reading_of line) history
+      ≡ live.taken show (Some (act_of moment call)) history
+  spells moment call line e = ap (λ reading. taken show reading history) e
+      ∙ same_taken (refusal show history (act_of moment call)) (act_of moment call) history
+
+  commands : (o : Option Command) (moment : ℕ) (line : List ℕ) → live.Spells o moment line
+      → taken show (reading_of (at_moment moment line)) history
+      ≡ live.taken show (option_map (λ c. record { moment = moment; call = order c }) o) history
+  commands None moment line s = absurd s
+  commands (Some command) moment line s =
+      spells moment (Order command) (at_moment moment line) s
+
+  one : (answer : Answer) (lines : List (List ℕ)) → history_of show lines ≡ history
+      → live.IsSpelled answer
+      → history_of show (with_given answer lines) ≡ live.taken show (live.act_of answer) history
+  one (answer.order moment line) lines e s =
+      ap (taken show (reading_of (at_moment moment line))) e
+      ∙ commands (command_of (words_of line)) moment line s
+  one (answer.dim moment typed) lines e s =
+      ap (taken show (reading_of (at_moment moment (codes "master 0")))) e
+      ∙ spells moment (Order (Master 0)) (at_moment moment (codes "master 0")) s
+  one (answer.close moment typed) lines e s =
+      ap (taken show (reading_of (at_moment moment (codes "end")))) e
+      ∙ spells moment (Order End) (at_moment moment (codes "end")) s
+  one (answer.tick moment) lines e s =
+      ap (taken show (reading_of (at_moment moment (codes "tick")))) e
+      ∙ spells moment Tick (at_moment moment (codes "tick")) s
+  one _ lines e s = e
+
+pub nights_typed : NightsAreTyped
+nights_typed show [] = refl
+nights_typed show (answer.asked moment ∷ older) =
+    one show (accepted show (answers older)) (answer_to older moment) (lines_given (answers older))
+    (nights_typed show older) (spelled older moment)
+nights_typed show (_ ∷ older) = nights_typed show older
+
+pub night_headline : NightHeadline
+night_headline p h offered is u t traffic hears fresh =
+    headline (record { production = p; lines = lines_given (answers h); offered = offered }) u t
+    traffic is hears fresh
+    ∙ ap (λ history. latest_frame p.show history (u - p.base)) (nights_typed p.show h)

@@ -5,18 +5,19 @@ use Rattle.devices.specs.Send.{Send}
 use Rattle.devices.specs.Tape.{Tape, with_more}
 use Rattle.desk_core.specs.Meaning.{latest_frame}
 use Rattle.receiver_text.specs.Replies.{slots_line}
+use Rattle.show_core.specs.Tables.{Tables}
 use Rattle.console.specs.Streams.{Production}
 use Rattle.cueplayer_faults.specs.declared.fault.RunFault.{RunFault}
 use Rattle.cueplayer_faults.specs.declared.fault.RunFault.TheVariants as run
-use Rattle.cueplayer_play.specs.Lines.{Cut, cut_of}
+use Rattle.cueplayer_play.specs.Lines.{Cut}
 use Rattle.cueplayer_play.specs.Play.{Plays}
 use Rattle.cueplayer_play.specs.Run.{Emitted, Ran, history_of}
 use Rattle.cueplayer_play.specs.Stage.{RunsDry}
 use Rattle.cueplayer_runs.specs.Listening.{listen_text, replies, Listened}
-use Rattle.live_input.specs.Laws.{text_of}
+use Rattle.live_input.specs.Laws.{accepted, text_of}
 use Rattle.live_input.specs.Night.{Happening, answers, lines_given}
 use Rattle.stage_light.specs.Plays.{Play, IsPlay, sends_for, frame_for}
-use Rattle.stage_light.specs.Traffic.{Traffic, datagrams_in, receipts, IsFresh}
+use Rattle.stage_light.specs.Traffic.{Traffic, datagrams_in, receipts, slots_at, IsFresh}
 use Rattle.stage_light.specs.Laws.{HearsOne}
 
 -- ---- what `play` did is a play
@@ -49,10 +50,6 @@ PlaysArePlays ended =
 
 -- ---- a live night is a play
 
--- the lines that a live input has given, as `play` has them: the newest first
-abbrev pub night_lines : List Happening → List (List ℕ)
-night_lines happenings = (cut_of (text_of (lines_given (answers happenings)))).lines
-
 -- the lines of a night that a `play` did not carry out, by its answer: none, or those behind the
 -- line at which its output failed. It never refuses one
 abbrev pub AreLeft : Result (Unit {0}) RunFault → List (List ℕ) → Type 0
@@ -61,12 +58,12 @@ AreLeft (Err (run.Lost n)) later = later ≡ []
 AreLeft (Err run.Device) later = Unit {0}
 AreLeft (Err fault) later = ⊥
 
--- the first lines of a night were played, and the later ones left out
+-- the first lines that a live input gave were played, and the later ones left out
 pub record IsNight (p : Production) (happenings : List Happening)
     (result : Result (Unit {0}) RunFault) (before after : Emitted) : Type 0 where
   pub lines : List (List ℕ)
   pub later : List (List ℕ)
-  pub lines_are : night_lines happenings ≡ later ++ lines
+  pub lines_are : lines_given (answers happenings) ≡ later ++ lines
   pub are_left : AreLeft result later
   pub has_played : HasPlayed p lines before after
 
@@ -79,6 +76,27 @@ NightsArePlays ended =
     (fed feeds : Tape ℕ) (before after : Emitted) → Plays p result ended fed feeds before after
     → feeds ≡ with_more fed (text_of (lines_given (answers happenings)))
     → IsNight p happenings result before after
+
+-- A NIGHT IS WHAT WAS TYPED. The history under which a show is meant then is what a desk accepts
+-- of the answers: the commands that were typed, the ticks, and the end of the night, each at its
+-- moment
+abbrev pub NightsAreTyped : Type 0
+NightsAreTyped =
+    (show : Tables) (happenings : List Happening)
+    → history_of show (lines_given (answers happenings)) ≡ accepted show (answers happenings)
+
+-- FROM WHAT WAS TYPED TO THE LIGHT. So the headline of a live night: where all that a live input
+-- has given was played, a receiver that hears this play alone, and to which it is fresh, shows what
+-- the show means at the latest tick, under the commands that were typed before that tick
+abbrev pub NightHeadline : Type 0
+NightHeadline =
+    (p : Production) (happenings : List Happening) (offered : List Send)
+    → (let given = answers happenings in
+    let play : Play = record { production = p; lines = lines_given given; offered = offered } in
+    IsPlay play → (universe t : ℕ) (traffic : Traffic ℕ) → HearsOne play universe t traffic
+    → IsFresh t (sends_for play universe) (receipts traffic)
+    → slots_at universe traffic t
+    ≡ latest_frame p.show (accepted p.show given) (universe - p.base))
 
 -- ---- from `play` to `listen`
 

@@ -18,7 +18,8 @@ ghost use Rattle.stage_light.specs.Laws.{Headline, MergeLaw, SendsAreAddressed, 
 ghost use Rattle.stage_light.specs.Laws.{SendsStay, SilenceIsDark, UnpatchedSlotsAreZero};
 ghost use Rattle.stage_light.specs.Laws.{WindowLaw};
 ghost use Rattle.stage_light.specs.Programs.{DryRunsArePlays, ListenLaw, NightsArePlays};
-ghost use Rattle.stage_light.specs.Programs.{PlaysArePlays, PlayToListen, RunsArePlays};
+ghost use Rattle.stage_light.specs.Programs.{NightHeadline, NightsAreTyped, PlaysArePlays};
+ghost use Rattle.stage_light.specs.Programs.{PlayToListen, RunsArePlays};
 
 use devices::Feed;
 
@@ -38,10 +39,13 @@ pub fn plays_are_plays<R: Feed>(_input: &R)
 
 /// And so is a live night: whatever was typed and whatever the clock said, a `play` whose input was
 /// what a live input gave carries out all of it, or as much as its output takes, and refuses no
-/// line.
-#[tactic(auto, using(crate::proofs::Nights::nights_plays))]
+/// line (`plays`). Its history is that of the commands that were typed, of the ticks, and of the
+/// end of the night (`typed`); so the promise holds of a live night, under the commands that were
+/// typed (`headline`).
 pub fn nights_are_plays<R: Feed>(_input: &R)
-    ensures { NightsArePlays (R.ended _input.now) }
+    ensures plays { NightsArePlays (R.ended _input.now) }
+    ensures typed { NightsAreTyped }
+    ensures headline { NightHeadline }
 {}
 
 /// What a play's link is offered for a universe is the stream of that universe, packet by packet;
@@ -70,17 +74,17 @@ pub fn window_law()
     ensures silence { SilenceIsDark }
 {}
 
-/// A receiver that hears up to four plays with CIDs of their own (`HearsAll`), each of them fresh or
-/// silent, shows in each slot the greatest level that those of the greatest priority mean. A play
-/// that is silent, or that has ticked after `end`, counts for nothing.
+/// A receiver that hears up to four plays with CIDs of their own (`HearsAll`), each of them fresh
+/// or silent, shows in each slot the greatest level that those of the greatest priority mean. A
+/// play that is silent, or that has ticked after `end`, counts for nothing.
 #[tactic(auto, using(crate::proofs::Showing::merge_law))]
 pub fn merge_law()
     ensures { MergeLaw }
 {}
 
-/// A `listen` that hears one play alone, and has received its newest send, prints the slots that the
-/// show means at the latest tick: of the definitions (`text`), and of what the contracts of `play`
-/// and `listen` say (`programs`).
+/// A `listen` that hears one play alone, and has received its newest send, prints the slots that
+/// the show means at the latest tick: of the definitions (`text`), and of what the contracts of
+/// `play` and `listen` say (`programs`).
 pub fn listen_law()
     ensures text { ListenLaw }
     ensures programs { PlayToListen }
