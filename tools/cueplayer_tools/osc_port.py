@@ -156,9 +156,16 @@ class OscPort:
         self.second = now
         self.spent.clear()
         self.refusals.flush()
-        counts = self.socket.getsockopt(socket.SOL_SOCKET, _SO_MEMINFO, _COUNTS.size)
-        lost = _COUNTS.unpack(counts)[_DROPS]
+        lost = self._lost()
         if lost != self.lost:
             more = (lost - self.lost) % 2**32
             self.tell(f"{more} datagrams lost, unread: too many came; press again what did nothing")
             self.lost = lost
+
+    def _lost(self) -> int:
+        """How many datagrams found no room; as before where the system does not say."""
+        try:
+            counts = self.socket.getsockopt(socket.SOL_SOCKET, _SO_MEMINFO, _COUNTS.size)
+            return _COUNTS.unpack(counts)[_DROPS]
+        except (OSError, struct.error):
+            return self.lost
