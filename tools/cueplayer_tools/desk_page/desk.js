@@ -414,7 +414,8 @@ function listen() {
   hear("levels", ({ reason, slots, others }) => {
     page.reason = reason;
     for (const [universe, hex] of Object.entries(slots)) page.slots.set(Number(universe), hex);
-    setText("others", others.length ? `Another source sends here: ${others.join("; ")}` : "");
+    const sends = others.length > 1 ? "Other sources send here" : "Another source sends here";
+    setText("others", others.length ? `${sends}: ${others.join("; ")}` : "");
     showLevels();
   });
   events.addEventListener("error", () => {
