@@ -270,8 +270,10 @@ class Trouble:
                 time.sleep(0.002)
 
 
-def late_presses(lines: list[list[str]], made: list[tuple[float, int]]) -> tuple[int, list[str]]:
-    """How many presses were carried out, and those that were later than a second."""
+def late_presses(
+    lines: list[list[str]], made: list[tuple[float, int]], latest: int
+) -> tuple[int, list[str]]:
+    """How many presses were carried out, and those that were later than so many milliseconds."""
     moves = [(int(moment), int(words[1])) for moment, *words in lines if words[0] == "goto"]
     by_cue = collections.defaultdict(list)
     for pressed, cue in made:
@@ -282,7 +284,7 @@ def late_presses(lines: list[list[str]], made: list[tuple[float, int]]) -> tuple
     for moment, cue in moves:
         ages = [moment - pressed - first for pressed in by_cue[cue]]
         age = min((each for each in ages if each >= -1), default=1e9)
-        if age > LATE:
+        if age > latest:
             late.append(f"goto {cue} at {moment} was {age:.0f} ms old")
     return len(moves), late
 
@@ -292,7 +294,8 @@ def faults_of(desk: Desk, receiver: Receiver, presses: Presses, slept: int) -> l
     lines = [line.split() for line in desk.record.read_text().splitlines()]
     ticks = [int(moment) for moment, *words in lines if words == ["tick"]]
     worst = max(after - before for before, after in zip(ticks, ticks[1:])) - TICK
-    moves, faults = late_presses(lines, presses.made)
+    # What is in time for the desk waits for `live`, at most as long as a tick may.
+    moves, faults = late_presses(lines, presses.made, LATE + slept + BEYOND)
     faults += receiver.wrong[:10]
     print(f"{len(ticks)} ticks, the latest by {worst} ms; bare sleepers by {slept} ms")
     print(f"{len(presses.made)} presses, {moves} carried out; answers {dict(presses.answers)}")
