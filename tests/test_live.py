@@ -6,6 +6,7 @@ import re
 import signal
 import subprocess
 import time
+from pathlib import Path
 
 from program import CID, PROGRAM, Outcome, packet, run, text, told
 from wire import OPTIONS, SEQUENCE, SLOT_1, TERMINATED, ReceiverTest, address_of, receiving
@@ -306,6 +307,18 @@ class Live(LiveTest):
         self.assertTrue(lost)
         self.assertEqual((5, b"lost %d\n" % len(lost)), (outcome.status, outcome.err))
         self.assertEqual([b"ok"] * 3, re.findall(rb"ok$", outcome.out, re.MULTILINE))
+
+    def test_socket_does_not_block(self):
+        """A packet that would have to wait is lost, and the night does not wait: so the system says of the
+        socket."""
+        night = self.begun()
+        self.told(night, b"back\n", "refused AtStart")
+        descriptors = Path(f"/proc/{night.pid}/fd")
+        sockets = [each for each in descriptors.iterdir() if os.readlink(each).startswith("socket:")]
+        self.assertEqual(1, len(sockets))
+        told = Path(f"/proc/{night.pid}/fdinfo", sockets[0].name).read_text()
+        flags = int(re.search(r"(?m)^flags:\s+([0-7]+)$", told)[1], 8)
+        self.assertTrue(flags & os.O_NONBLOCK)
 
     def test_before_the_night(self):
         """A fault of the show, the base or a file comes before anything is sent or recorded."""
