@@ -14,6 +14,10 @@ PROGRAM = Path(os.environ.get("CUEPLAYER") or SHIPPED).resolve()
 
 CID = "c0ffee00-0000-4000-8000-00000000e131"
 
+# The locks of consoles are in a folder of this run alone.
+RUNTIME = tempfile.TemporaryDirectory(prefix="cueplayer-")
+os.environ["XDG_RUNTIME_DIR"] = RUNTIME.name
+
 NO_PATCH = b"no dimmer is patched\n"
 UNFIT = b"words refused\n"
 DEVICE_FAULT = b"device fault\n"

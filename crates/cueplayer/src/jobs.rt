@@ -1,6 +1,7 @@
 ghost use Rattle.std.specs.Prelude.{◌≡◌, ◌≤◌, codes};
 ghost use Rattle.cueplayer_words.specs.Job.{IsInRange};
 
+use crate::cid_lock::CidLock;
 use crate::failure::Failure;
 use crate::input::SystemInput;
 use crate::live_feed::LiveFeed;
@@ -25,6 +26,9 @@ use sacn_packet::SourceName;
 use sacn_source::Identity;
 use std::io::{BufWriter, ErrorKind};
 use std::os::fd::AsFd;
+
+// Told where a night has no lock of its CID.
+const NO_LOCK: &[u8] = b"cid: no lock can be made, so a second console of this CID would begin\n";
 
 // Bytes that a rehearsal gathers before it writes them.
 const PRINTED: usize = 65_536;
@@ -153,6 +157,15 @@ fn play_lines(rt: &HostRuntime, night: &Night, source: Identity) -> Result<(), F
     played(answer, text, &link, out.failure())
 }
 
+// Whether standard error is open; standard output has to be. They are asked for before anything is
+// opened, which would get the descriptor of what is closed.
+fn is_error_open(rt: &HostRuntime) -> Result<bool, Failure> {
+    match rt.stdout().as_fd().try_clone_to_owned() {
+        Ok(_) => Ok(rt.stderr().as_fd().try_clone_to_owned().is_ok()),
+        Err(error) => Err(Failure::of_device("standard output", error.kind())),
+    }
+}
+
 // Plays by the clock what is typed.
 fn play_live(
     rt: &HostRuntime,
@@ -161,14 +174,15 @@ fn play_live(
     record_file: Option<&str>,
     ends_with_input: bool,
 ) -> Result<(), Failure> {
-    // Before anything is opened, which would get the descriptor of what is closed.
-    let is_told = rt.stderr().as_fd().try_clone_to_owned().is_ok();
-    if let Err(error) = rt.stdout().as_fd().try_clone_to_owned() {
-        return Err(Failure::of_device("standard output", error.kind()));
-    }
+    let is_told = is_error_open(rt)?;
     let input = TypedInput::open(rt)?;
-    let mut out = ShownOutput::new(rt, Messages::new(rt, is_told)?)?;
+    let mut messages = Messages::new(rt, is_told)?;
     let text = file_text(rt, night.show.as_str())?;
+    let lock = CidLock::take(rt, night.cid)?;
+    if lock.is_none() {
+        messages.tell(NO_LOCK);
+    }
+    let mut out = ShownOutput::new(rt, messages)?;
     let text = text.as_slice();
     let record = Record::open(rt, record_file)?;
     let mut link = SendingSocket::open(rt, night.to)?;

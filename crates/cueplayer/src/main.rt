@@ -2,6 +2,7 @@
 #![tactic(auto)]
 
 mod bounded_output;
+mod cid_lock;
 mod failure;
 mod input;
 mod jobs;
