@@ -112,7 +112,8 @@ dim_by : (show : Tables) (h : List Happening) (n : ℕ) (typed : Option (List �
 dim_by show h n typed below on le a =
     let none = a.since ∙ on_none (stage (answers h)) on in
     let s = on_only (stage (answers h)) on in
-    rw (dim_accepted show (accepted show (answers h)) n below (omega (arith, a.moment)) none) (record {
+    rw (dim_accepted show (accepted show (answers h)) n below (omega (arith, a.moment)) none)
+    (record {
       moment = omega arith;
       since = rw s none;
       past = a.past;
@@ -126,7 +127,8 @@ close_by : (show : Tables) (h : List Happening) (n : ℕ) (typed : Option (List 
     → Agrees (accepted show (close n typed ∷ answers h)) (close n typed ∷ answers h) n
 close_by show h n typed below none s le a =
     let before = a.since ∙ none in
-    rw (end_accepted show (accepted show (answers h)) n below (omega (arith, a.moment)) before) (record {
+    rw (end_accepted show (accepted show (answers h)) n below (omega (arith, a.moment)) before)
+    (record {
       moment = omega arith;
       since = rw (s, before) refl;
       past = a.past;

@@ -26,7 +26,10 @@ one_tick : (n : ℕ) (s : Stage) (left : Bool) (given : List (List ℕ)) → is_
     → Ends (stage_by (tick n) s) left (codes "tick" ∷ given)
 one_tick n On left given light on e = (tt, e.1)
 one_tick n (Dark count) left given light on e = (
-  (grind (arith, nat_tests, light), rw (more count) (e.0.1.0, ap (λ ws. codes "tick" ∷ ws) e.0.1.1)),
+  (
+    grind (arith, nat_tests, light),
+    rw (more count) (e.0.1.0, ap (λ ws. codes "tick" ∷ ws) e.0.1.1),
+  ),
   e.1,
 )
 one_tick n (Ended count) true given light on e = (

@@ -9,7 +9,8 @@ use Rattle.std.proofs.lemmas.Bool.Decides.{nat_tests}
 use Rattle.std.proofs.Math.Seq.{drop-append_seam}
 use Rattle.live_input.specs.Laws.{AlwaysRise, LinesFollowTicks, Rise, TicksGoFirst, moment_of}
 use Rattle.live_input.specs.Laws.{tick_of}
-use Rattle.live_input.specs.Night.{Answer, Happening, answers, due, now, close, dim, stage, stage_by}
+use Rattle.live_input.specs.Night.{Answer, Happening, answers, due, now, close, dim, stage}
+use Rattle.live_input.specs.Night.{stage_by}
 use Rattle.live_input.specs.Night.{ends_with_input, has_room, is_dark, is_on, is_through}
 use Rattle.live_input.specs.Night.{lines_given, tick}
 use Rattle.live_input.specs.Night.{answer_to, asked, bytes_come, came, closed, is_over}

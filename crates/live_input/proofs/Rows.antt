@@ -40,8 +40,8 @@ refused = refl
 -- `end`, three ticks, and nothing more
 ending : answers (asked 200 ∷ asked 175 ∷ asked 150 ∷ asked 125 ∷ asked 101 ∷ asked 100 ∷ asked 75
     ∷ asked 50 ∷ asked 25 ∷ asked 1 ∷ asked 1 ∷ closed true ∷ came (codes "go") ∷ asked 0 ∷ [])
-    ≡ over ∷ tick 175 ∷ tick 150 ∷ tick 125 ∷ close 101 None ∷ tick 100 ∷ tick 75 ∷ tick 50 ∷ tick 25
-    ∷ dim 1 None ∷ order 1 (codes "go") ∷ tick 0 ∷ []
+    ≡ over ∷ tick 175 ∷ tick 150 ∷ tick 125 ∷ close 101 None ∷ tick 100 ∷ tick 75 ∷ tick 50
+    ∷ tick 25 ∷ dim 1 None ∷ order 1 (codes "go") ∷ tick 0 ∷ []
 unfolding digits
 ending = refl
 

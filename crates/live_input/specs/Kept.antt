@@ -7,7 +7,8 @@ pub record TypedKept : Type 0 where
   pub unread : List ℕ
   pub line : List ℕ
 
--- what was typed; whether the night ends with its input, which ended; the clock; and what the answers so far leave
+-- what was typed; whether the night ends with its input, which ended; the clock; and what the
+-- answers so far leave
 pub record Kept : Type 0 where
   pub typed : TypedKept
   pub ends : Bool

@@ -20,8 +20,8 @@ pub data Happening : Type 0 where
   asked : ℕ → Happening
 
 -- what it answers: the line of a command, at a moment; `master 0`, with which a night begins to
--- end, and `end`, each with the typed line that it answers, where one was typed; a tick; a line that
--- is refused; that nothing is due before a moment; that nothing comes any more
+-- end, and `end`, each with the typed line that it answers, where one was typed; a tick; a line
+-- that is refused; that nothing is due before a moment; that nothing comes any more
 pub data Answer : Type 0 where
   order : ℕ → List ℕ → Answer
   dim : ℕ → Option (List ℕ) → Answer
@@ -154,8 +154,8 @@ abbrev pub was_tick : List Answer → Bool
 was_tick [] = false
 was_tick (answer ∷ older) = ticked_by answer (was_tick older)
 
--- a tick is due, and the answer before was none. Behind a tick one line has its turn: where the work
--- of a tick takes as long as from tick to tick, an `end` that is typed is answered all the same
+-- a tick is due, and the answer before was no tick. Behind a tick one line has its turn: where the
+-- work of a tick takes as long as from tick to tick, an `end` is still answered
 abbrev pub goes_first : List Answer → ℕ → Bool
 goes_first given moment = nat_le (due given) moment && not (was_tick given)
 

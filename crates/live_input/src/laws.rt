@@ -58,8 +58,8 @@ pub fn lines_follow_ticks()
     ensures { LinesFollowTicks }
 {}
 
-/// A night that was to end with its input, which ended, begins to end by itself; so does one with no
-/// room for a line more. Any other night goes on.
+/// A night that was to end with its input, which ended, begins to end by itself; so does one with
+/// no room for a line more. Any other night goes on.
 pub fn ends_are_asked()
     ensures { EndsAreAsked }
 {}

@@ -82,8 +82,8 @@ impl LiveInput {
         self.typed.extend(bytes);
     }
 
-    /// Takes the end of the input: a last line without LF is a line too. The night ends with it where
-    /// it is told to; else the light holds, until an `end` comes some other way.
+    /// Takes the end of the input: a last line without LF is a line too. The night ends with it
+    /// where it is told to; else the light holds.
     #[tactic(auto, using(crate::proofs::TypedLemmas::more_typed))]
     pub fn close(&mut self, ends: bool)
         requires taken { self.old.typed.unread ≡ [] }
@@ -94,9 +94,9 @@ impl LiveInput {
         self.ends = ends || self.ends;
     }
 
-    /// What is next, at a moment of the clock: a tick that is due, where the answer before was none;
-    /// else the answer to the next line that was typed; else an `end`, where the night ends with its
-    /// input and that ended, or a tick.
+    /// What is next, at a moment of the clock: a tick that is due, where the answer before was no
+    /// tick; else the answer to the next line that was typed; else what ends a night that ends with
+    /// its input, or a tick.
     pub fn next(&mut self, moment: u64) -> Given
         ensures tells { (happenings : List Happening) → StandsFor self.old happenings
             → Tells result (answer_to happenings moment) }

@@ -1,5 +1,5 @@
-ghost use Rattle.std.specs.Prelude.{◌≡◌, ◌≢◌, ◌<◌, ◌^◌, ℕ, List, [], ◌∷◌, IfNone, Option, None, Some};
-ghost use Rattle.std.specs.Prelude.{true, false};
+ghost use Rattle.std.specs.Prelude.{◌≡◌, ◌≢◌, ◌<◌, ◌^◌, ℕ, List, [], ◌∷◌, IfNone, Option, None};
+ghost use Rattle.std.specs.Prelude.{Some, true, false};
 ghost use Rattle.live_input.specs.Night.{Answer, before_lines, by_itself, close, due_after, tick};
 ghost use Rattle.live_input.specs.Night.{dim, is_dark, is_leave, is_on, is_through};
 ghost use Rattle.live_input.specs.Night.{after_tick, has_ended};
