@@ -11,9 +11,10 @@ import uuid
 from pathlib import Path
 
 from cueplayer_tools.addresses import LOOPBACK, bound_socket, port_number, sending_address
+from cueplayer_tools.cid_lock import holder
 from cueplayer_tools.console_cid import console_cid
 from cueplayer_tools.desk_levels import LevelReader
-from cueplayer_tools.desk_night import Night, playing
+from cueplayer_tools.desk_night import Night
 from cueplayer_tools.desk_server import DeskServer
 from cueplayer_tools.desk_view import show_view
 from cueplayer_tools.osc_port import OscPort
@@ -125,7 +126,7 @@ def run_desk(words: argparse.Namespace, tell: Teller, tell_address: Teller) -> i
     show = read_show(words.show)
     to = sending_address(words.to)
     words.cid = words.cid or console_cid(tell)
-    other = playing(str(words.cid))
+    other = holder(words.cid)
     if other is not None:
         raise Refused(f"process {other} plays live under this CID already: `kill {other}` ends it")
     server = DeskServer(words.port)

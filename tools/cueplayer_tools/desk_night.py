@@ -17,7 +17,6 @@ import time
 from collections import deque
 from collections.abc import Callable
 from dataclasses import dataclass, field
-from pathlib import Path
 
 from cueplayer_tools.desk_input import LiveInput
 from cueplayer_tools.position import MOVES, Position
@@ -107,19 +106,6 @@ class Clock:
 
     def now(self) -> int:
         return self.moment + round((time.monotonic() - self.at) * 1000)
-
-
-def playing(cid: str) -> int | None:
-    """The number of a process on this machine that plays live under this CID. Receivers would take
-    two of them for one source, and the light would go to and fro between them."""
-    for process in Path("/proc").glob("[0-9]*"):
-        try:
-            words = (process / "cmdline").read_bytes().lower().split(b"\0")
-        except OSError:
-            continue
-        if b"live" in words[1:2] and cid.encode() in words:
-            return int(process.name)
-    return None
 
 
 def _roomy_pipe() -> tuple[int, int]:
