@@ -12,7 +12,9 @@ use show_core::{BuildFault, Rate, Show};
 use std::alloc::{AllocError, Global};
 use std::process::Abort;
 use std::test::Fail;
-use wire_world::{Event, Fault, Offers, Rehearsal, Reply, Report, Setup, Skip, What, laws, rehearse};
+use wire_world::{
+    Event, Fault, Offers, Rehearsal, Reply, Report, Setup, Skip, What, laws, rehearse,
+};
 
 // Adds a cue with one channel at full.
 fn add_cue(rt: &impl Abort, show: &mut Show, n: u32, channel: u16) -> Result<(), BuildFault> {
@@ -343,9 +345,7 @@ fn is_group(replies: &[Reply], number: u8, first: u8) -> bool {
         return false;
     };
     is_told(newest, Told::Taken(number))
-        && late
-            .iter()
-            .all(|reply| is_told(reply, Told::Ignored(Ignored::OutOfSequence)))
+        && late.iter().all(|reply| is_told(reply, Told::Ignored(Ignored::OutOfSequence)))
         && is_told(shown, Told::Shown(first))
 }
 
