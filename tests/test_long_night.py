@@ -160,6 +160,8 @@ class LongNight(LiveTest):
             for reader, share in zip(self.readers, (0.6, 0.8)):
                 reader.is_dead = reader.is_dead or elapsed > share * SECONDS
         self.writer.send_signal(signal.SIGCONT)
+        # The last press is to be seen before the light goes down.
+        time.sleep(0.5)
 
     def end(self):
         self.night.stdin.write(b"end\n")
