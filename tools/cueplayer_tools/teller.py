@@ -42,7 +42,9 @@ class Teller:
 
     def _write(self, text: str) -> None:
         try:
-            print(self.prefix + text, file=self.stream, flush=True)
+            # One write, so that no other's line falls into it.
+            self.stream.write(f"{self.prefix}{text}\n")
+            self.stream.flush()
         except (OSError, ValueError):
             # Nobody reads any more; the work goes on.
             pass
