@@ -351,6 +351,8 @@ class Outputs(DeskTest):
             page.command("go")
             page.wait(current="1")
             desk.terminate()
+            # Killed before its night has ended it would leave a `live` behind.
+            self.assertEqual(0, desk.wait(PATIENCE))
 
     def test_end_that_nobody_reads(self):
         """A desk that can tell nothing ends its night all the same, with its status."""
