@@ -129,7 +129,9 @@ class Desk:
         self.process = subprocess.Popen(list(map(str, words)), text=True, **pipes)
         address = self.process.stdout.readline().split()[-1]
         self.host, self.path = re.fullmatch(r"http://([^/]+)(/.*/)", address).groups()
-        self.live = int(re.search(r"process (\d+)", self.process.stderr.readline())[1])
+        live = int(re.search(r"process (\d+)", self.process.stderr.readline())[1])
+        # Its number may be another process's by the time that it has ended.
+        self.live = os.pidfd_open(live)
         self.port = int(self.host.split(":")[1])
         self.ahead = collections.deque([-1e15], maxlen=100)
         self.state: dict = {}
@@ -332,7 +334,7 @@ def play(seconds: float, seed: int) -> list[str]:
         finally:
             desk.process.kill()
             with contextlib.suppress(ProcessLookupError):
-                os.kill(desk.live, signal.SIGKILL)
+                signal.pidfd_send_signal(desk.live, signal.SIGKILL)
 
 
 def main() -> int:

@@ -27,10 +27,10 @@ class Browser:
         words.append(f"--user-data-dir={profile.name}")
         if os.geteuid() == 0:
             words.append("--no-sandbox")
-        # The browser reads at number 3 and writes at number 4.
+        # The browser reads at number 3 and writes at number 4. Not every sh copies a number from 10 on.
         script = f'exec "$@" 3<&{theirs_in} 4>&{theirs_out}'
         self.process = subprocess.Popen(
-            ["sh", "-c", script, "sh", *words],
+            ["bash", "-c", script, "bash", *words],
             pass_fds=(theirs_in, theirs_out),
             stdin=subprocess.DEVNULL,
             stdout=subprocess.DEVNULL,
