@@ -1,7 +1,6 @@
 """`live`: a night by the clock. What is typed, what it prints, its record, and its datagrams."""
 
 import os
-import pty
 import re
 import signal
 import subprocess
@@ -9,7 +8,8 @@ import time
 from pathlib import Path
 
 from program import CID, PROGRAM, Outcome, packet, run, text, told
-from wire import OPTIONS, SEQUENCE, SLOT_1, TERMINATED, ReceiverTest, address_of, received, receiving
+from wire import OPTIONS, SEQUENCE, SLOT_1, TERMINATED, ReceiverTest
+from wire import address_of, received, receiving, terminal
 from worked import S1
 
 OTHER = CID[:-1] + "2"
@@ -253,7 +253,7 @@ class Live(LiveTest):
 
     def test_terminal(self):
         """A terminal is read as a pipe is; its end of input, control-D, ends a night that ends so."""
-        ours, theirs = pty.openpty()
+        ours, theirs = terminal(self)
         night = self.begun(stdin=theirs)
         os.close(theirs)
         os.write(ours, b"sub 1 FL\n")
@@ -271,7 +271,7 @@ class Live(LiveTest):
         light holds."""
         for ends in (True, False):
             with self.subTest(ends=ends):
-                ours, theirs = pty.openpty()
+                ours, theirs = terminal(self)
                 night = self.begun(stdin=theirs, holds=True, preexec_fn=ignore_hang_up)
                 os.close(theirs)
                 for _ in range(2):

@@ -2,7 +2,6 @@
 
 import fcntl
 import os
-import pty
 import re
 import subprocess
 import termios
@@ -11,7 +10,7 @@ import time
 
 from program import PROGRAM, run
 from test_live import LiveTest, without_moments
-from wire import OPTIONS, SEQUENCE, SLOT_1, TERMINATED
+from wire import OPTIONS, SEQUENCE, SLOT_1, TERMINATED, terminal
 
 # A tick may be so late on a busy machine, in milliseconds; what holds up the light does for seconds.
 LATE = 400
@@ -159,7 +158,7 @@ class Outputs(LiveTest):
 
     def test_terminal_that_is_stopped(self):
         """Control-S holds up what is printed, and not the light."""
-        ours, theirs = pty.openpty()
+        ours, theirs = terminal(self)
         record = self.folder / "night.play"
         night = self.night("--record", record, stdout=theirs, stderr=theirs)
         termios.tcflow(theirs, termios.TCOOFF)

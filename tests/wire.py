@@ -1,6 +1,7 @@
 """Datagrams on this machine: sockets that receive them, and where a packet has its fields."""
 
 import os
+import pty
 import select
 import shutil
 import socket
@@ -31,6 +32,14 @@ def received(receiver, wait=0.1):
     while select.select([receiver], [], [], wait)[0]:
         datagrams.append(receiver.recv(65536))
     return datagrams
+
+
+def terminal(test):
+    """The two ends of a terminal; where the system has none the test is skipped."""
+    try:
+        return pty.openpty()
+    except OSError as fault:
+        test.skipTest(f"no terminal can be made: {fault}")
 
 
 def own_network(test, *tools):
