@@ -114,6 +114,7 @@ class Page:
 
     def desk_time(self, ago=0):
         """What the desk's clock says, or said so many milliseconds ago."""
+        wait_for(lambda: self.ahead is not None, "an event, which says what the desk's clock is")
         return str(max(round(time.monotonic() * 1000) + self.ahead - ago, 0))
 
     def command(self, line, **headers):
