@@ -5,4 +5,3 @@ pub mod Taking
 pub mod InputLines
 pub mod Playing
 pub mod Beginning
-pub mod OldShows

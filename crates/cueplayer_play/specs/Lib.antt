@@ -5,4 +5,3 @@ pub mod Stage
 pub mod Play
 pub mod Untold
 pub mod Opened
-pub mod OldShows

@@ -8,3 +8,4 @@ pub mod Fine
 pub mod Replies
 pub mod Spelled
 pub mod TypedLemmas
+pub mod Turns

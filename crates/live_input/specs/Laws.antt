@@ -1,5 +1,5 @@
 -- Laws over all nights: whatever bytes came, and whatever the clock said.
-use Rattle.std.specs.Prelude.{◌≡◌, ◌↔◌, ◌≤◌, ◌+◌, ◌++◌, ◌||◌, ℕ, true, false, not, List, [], ◌∷◌}
+use Rattle.std.specs.Prelude.{◌≡◌, ◌↔◌, ◌⊎◌, ◌≤◌, ◌+◌, ◌++◌, ◌||◌, ℕ, true, false, not, List, [], ◌∷◌}
 use Rattle.std.specs.Prelude.{Option, Some}
 use Rattle.std.specs.Prelude.{None, All, length, codes, flat_map, reverse}
 use Rattle.std.specs.Prelude.{Bool, is_none, option_map, replicate, if◌then◌else◌}
@@ -107,8 +107,7 @@ abbrev pub IsOn : List Answer → Type 0
 IsOn given =
     (is_over given ≡ false) × (is_dark (stage given) ≡ false) × (is_full given ≡ false)
 
--- a tick that is due goes before whatever lines wait, where the answer before was none. So between
--- the moment at which a tick is due and the tick there is at most one line, and no other tick
+-- a tick that is due goes before whatever lines wait, where the answer before was none
 abbrev pub TicksGoFirst : Type 0
 TicksGoFirst =
     (h : List Happening) (moment : ℕ) → IsOn (answers h) → was_tick (answers h) ≡ false
@@ -121,6 +120,26 @@ LinesFollowTicks =
     (h : List Happening) (moment : ℕ) (line : List ℕ) (later : List (List ℕ)) → IsOn (answers h)
     → was_tick (answers h) ≡ true → lines_left (answers h) h ≡ line ∷ later
     → answer_to h moment ≡ to_line (answers h) (now (asked moment ∷ h)) line
+
+abbrev pub IsTick : Answer → Type 0
+IsTick (tick moment) = Unit {0}
+IsTick _ = ⊥
+
+-- nothing is asked meanwhile: bytes come, or the input ends
+abbrev pub NothingIsAsked : List Happening → Type 0
+NothingIsAsked [] = Unit {0}
+NothingIsAsked (asked moment ∷ older) = ⊥
+NothingIsAsked (_ ∷ older) = NothingIsAsked older
+
+-- where a tick is due when it is asked what is next, that is the answer, or the answer to what is
+-- asked then: between the moment at which a tick is due and the tick there is at most one line, and
+-- no other tick
+abbrev pub TicksAreNext : Type 0
+TicksAreNext =
+    (h meanwhile : List Happening) (moment next : ℕ) → NothingIsAsked meanwhile
+    → IsOn (answers h) → due (answers h) ≤ now (asked moment ∷ h)
+    → IsOn (answers (meanwhile ++ asked moment ∷ h))
+    → IsTick (answer_to h moment) ⊎ IsTick (answer_to (meanwhile ++ asked moment ∷ h) next)
 
 -- a night begins to end where nobody typed it only if it ends with its input and that ended, or if
 -- all room for lines was used: whatever else ends, the light holds

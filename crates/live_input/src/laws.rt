@@ -5,7 +5,7 @@ ghost use Rattle.live_input.specs.Laws.{AnswersAreSpelled, EndsAreAsked, EndsAre
 ghost use Rattle.live_input.specs.Laws.{LinesAreFine};
 ghost use Rattle.live_input.specs.Laws.{LinesComeInOrder};
 ghost use Rattle.live_input.specs.Laws.{LinesFollowTicks, MomentsNeverFall, NightsEnd};
-ghost use Rattle.live_input.specs.Laws.{TicksAreApart, TicksGoFirst, WaitsComeLast};
+ghost use Rattle.live_input.specs.Laws.{TicksAreApart, TicksAreNext, TicksGoFirst, WaitsComeLast};
 ghost use Rattle.live_input.specs.Laws.{EndsAreAccepted, TicksAreAccepted};
 
 /// `play` takes all lines that are given: none is malformed or too long, and there are never more
@@ -45,11 +45,17 @@ pub fn waits_come_last()
     ensures { WaitsComeLast }
 {}
 
-/// A tick that is due goes before whatever lines wait, where the answer before was no tick: between
-/// its due moment and the tick there is at most one line, and no other tick.
+/// A tick that is due goes before whatever lines wait, where the answer before was no tick.
 #[tactic(auto, using(crate::proofs::Nights::ticks_first))]
 pub fn ticks_go_first()
     ensures { TicksGoFirst }
+{}
+
+/// Between the moment at which a tick is due and the tick there is at most one line, and no other
+/// tick.
+#[tactic(auto, using(crate::proofs::Turns::ticks_next))]
+pub fn ticks_are_next()
+    ensures { TicksAreNext }
 {}
 
 /// A line that waits is the answer behind each tick, however late ticks are.

@@ -5,4 +5,5 @@ pub mod Sends
 pub mod Showing
 pub mod Listening
 pub mod Nights
+pub mod OldShows
 mod Rows

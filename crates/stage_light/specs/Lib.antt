@@ -2,3 +2,4 @@ pub mod Plays
 pub mod Traffic
 pub mod Laws
 pub mod Programs
+pub mod OldShows

@@ -17,6 +17,7 @@
 ghost use Rattle.stage_light.specs.Laws.{Headline, MergeLaw, SendsAreAddressed, SendsAreTheStream};
 ghost use Rattle.stage_light.specs.Laws.{SendsStay, SilenceIsDark, UnpatchedSlotsAreZero};
 ghost use Rattle.stage_light.specs.Laws.{WindowLaw};
+ghost use Rattle.stage_light.specs.OldShows.{OldShowsLaw};
 ghost use Rattle.stage_light.specs.Programs.{DryRunsArePlays, ListenLaw, NightsArePlays};
 ghost use Rattle.stage_light.specs.Programs.{NightHeadline, NightsAreTyped, PlaysArePlays};
 ghost use Rattle.stage_light.specs.Programs.{PlayToListen, RunsArePlays};
@@ -95,4 +96,11 @@ pub fn listen_law()
 #[tactic(auto, using(crate::proofs::Showing::sends_stay))]
 pub fn sends_stay()
     ensures { SendsStay }
+{}
+
+/// A show of a desk with 2,048 channels and 4,096 dimmers means the same here: at each tick the
+/// same frames, and the same universes.
+#[tactic(auto, using(crate::proofs::OldShows::old_shows))]
+pub fn old_shows_mean_the_same()
+    ensures { OldShowsLaw }
 {}

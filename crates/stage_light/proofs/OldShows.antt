@@ -19,7 +19,7 @@ use Rattle.show_reader.specs.Shows.{IsShowOf}
 use Rattle.show_reader.specs.Text.{statements_of}
 use Rattle.show_reader.proofs.Limits.{reads_alike}
 use Rattle.show_reader.proofs.OneShow.{same_show}
-use Rattle.cueplayer_play.specs.OldShows.{MeanAlike, old_limits}
+use Rattle.stage_light.specs.OldShows.{MeanAlike, old_limits}
 
 -- what holds of an answer holds where there is one
 there : {X : Type 0} (o : Option X) (P : X → Type 0) (n : ℕ)
