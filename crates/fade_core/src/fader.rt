@@ -3,7 +3,6 @@ ghost use Rattle.std.specs.Prelude.{Contains, IfOk, IfSome, length, slice_index}
 ghost use Rattle.std.specs.Ordering.{nat_cmp};
 ghost use Rattle.std.specs.FinMap.{is_sorted};
 ghost use Rattle.show_core.specs.Numbers.{AreLevels};
-ghost use Rattle.show_core.specs.Readers.{IsRateInRange};
 ghost use Rattle.fade_core.specs.Level.{Start, level_after};
 
 use show_core::Rate;
@@ -43,13 +42,10 @@ pub trait Fader: Drop {
         ensures channels { IfOk result (λ fader. channels fader ≡ channel_count) };
 
     /// Starts a fade of all channels, from their levels at this moment, to the look: pairs of a
-    /// channel and its level byte, the channels strictly ascending. Each time and delay is at most
-    /// 5,999,990 milliseconds, as `Rate::is_in_range` tests.
+    /// channel and its level byte, the channels strictly ascending.
     fn start(&mut self, look: &[(u16, u8)], up: Rate, down: Rate, moment: u64)
         requires ascending { IsTrue (is_sorted nat_cmp look.now) }
         requires in_range { All (λ pair. (1 ≤ pair.0) × (pair.0 ≤ channels self.old)) look.now }
-        requires up_range { IsRateInRange up }
-        requires down_range { IsRateInRange down }
         requires not_before { latest self.old ≤ moment }
         requires below { moment < 2 ^ 48 }
         ensures stands { (starts : List Start) → stands_for self.old starts

@@ -1,5 +1,7 @@
-ghost use Rattle.std.specs.Prelude.{◌≡◌, ◌≤◌, false, length, map, take};
-ghost use Rattle.devices.specs.Failing.{AreFirst};
+ghost use Rattle.std.specs.Prelude.{◌≡◌, ◌≤◌, ◌+◌, ◌||◌, ◌&&◌, not, [], ◌∷◌, false, is_err};
+ghost use Rattle.std.specs.Prelude.{IfOk, OnErr, length, map, nat_eq, take, if◌then◌else◌};
+ghost use Rattle.devices.specs.Failing.{AreFirst, IsCounted, is_failing};
+ghost use Rattle.devices.specs.Tape.{given, with_failure, with_more};
 
 use crate::memory::Faults;
 use crate::{Datagrams, LinkFault};
@@ -44,7 +46,30 @@ impl Datagrams for MemoryDatagrams<'_> {
     } };
 
     #[tactic(auto, using(std::proofs::lemmas::List::map_more))]
-    fn receive(&mut self, buf: &mut [u8; 1500]) -> Result<usize, LinkFault> {
+    fn receive(&mut self, buf: &mut [u8; 1500]) -> Result<usize, LinkFault>
+        ensures fails { is_err result ≡ (is_failing self.old.faults
+            || nat_eq self.old.next (length self.old.datagrams.now)) }
+        ensures counts { IsCounted self.old.faults self.new.faults }
+        ensures exhausted { self.new.exhausted ≡ (self.old.exhausted
+            || (not (is_failing self.old.faults)
+            && nat_eq self.old.next (length self.old.datagrams.now))) }
+        ensures within { IfOk result (λ count. count ≤ 1500) }
+        ensures told { self.new.exhausted ≡ false → self.old.exhausted ≡ false }
+        ensures ok { IfOk result (λ count. self.new.exhausted ≡ false
+            → given (map (λ d. take 1500 d.now) (take self.new.next self.new.datagrams.now))
+            self.new.faults.failed
+            ≡ with_more (given
+            (map (λ d. take 1500 d.now) (take self.old.next self.old.datagrams.now))
+            self.old.faults.failed) (take count buf.new ∷ [])) }
+        ensures err { OnErr result (self.new.exhausted ≡ false
+            → given (map (λ d. take 1500 d.now) (take self.new.next self.new.datagrams.now))
+            self.new.faults.failed
+            ≡ with_failure (given
+            (map (λ d. take 1500 d.now) (take self.old.next self.old.datagrams.now))
+            self.old.faults.failed)) }
+        ensures next { self.new.next ≡ (if is_err result then self.old.next else self.old.next + 1) }
+        ensures same { self.new.datagrams.now ≡ self.old.datagrams.now }
+    {
         self.faults.count()?;
         if self.next == self.datagrams.len() {
             self.exhausted = true;

@@ -1,4 +1,4 @@
-ghost use Rattle.std.specs.Prelude.{◌≡◌, ◌+◌, ◌-◌, ◌<◌, ◌^◌, ◌↔◌, IsErr, OnOk, OnErr};
+ghost use Rattle.std.specs.Prelude.{◌≡◌, ◌+◌, ◌<◌, ◌^◌, is_err};
 
 use crate::LinkFault;
 
@@ -14,7 +14,7 @@ pub struct Faults {
 }
 
 impl Faults {
-    ghost use Rattle.devices.specs.Failing.{AreFirst};
+    ghost use Rattle.devices.specs.Failing.{AreFirst, IsCounted, is_failing};
 
     /// Before the first call.
     pub fn new(passing: u64, failing: u64) -> Faults
@@ -29,12 +29,8 @@ impl Faults {
 
     /// Counts a call, and fails where it is one of those that fail.
     pub fn count(&mut self) -> Result<(), LinkFault>
-        ensures fails { IsErr result ↔ (self.old.passing ≡ 0) × (0 < self.old.failing) }
-        ensures passing { self.new.passing ≡ self.old.passing - 1 }
-        ensures passes { OnOk result ((self.new.failing ≡ self.old.failing)
-            × (self.new.failed ≡ self.old.failed)) }
-        ensures failed { OnErr result ((self.new.failing ≡ self.old.failing - 1)
-            × (self.new.failed ≡ self.old.failed + 1)) }
+        ensures fails { is_err result ≡ is_failing self.old }
+        ensures counts { IsCounted self.old self.new }
     {
         if self.passing > 0 {
             self.passing -= 1;

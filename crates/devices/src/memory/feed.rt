@@ -1,5 +1,6 @@
-ghost use Rattle.std.specs.Prelude.{◌≡◌, ◌≤◌, length, take, ⊤};
-ghost use Rattle.devices.specs.Failing.{AreFirst};
+ghost use Rattle.std.specs.Prelude.{◌≡◌, ◌≤◌, ◌-◌, is_err, length, min, take, ⊤, IfOk, OnErr};
+ghost use Rattle.devices.specs.Failing.{AreFirst, IsCounted, is_failing};
+ghost use Rattle.devices.specs.Tape.{given, with_failure, with_more};
 
 use crate::memory::Faults;
 use crate::{Feed, LinkFault};
@@ -40,11 +41,24 @@ impl<'a> MemoryFeed<'a> {
 impl Feed for MemoryFeed<'_> {
     ghost tells = { λ _. ⊤ };
 
-    ghost tape = { λ m. record { items = take m.next m.bytes.now; failures = m.faults.failed } };
+    ghost tape = { λ m. given (take m.next m.bytes.now) m.faults.failed };
 
     ghost ended = { λ m. m.next ≡ length m.bytes.now };
 
-    fn read(&mut self, buf: &mut [u8; 4096]) -> Result<usize, LinkFault> {
+    fn read(&mut self, buf: &mut [u8; 4096]) -> Result<usize, LinkFault>
+        ensures fails { is_err result ≡ is_failing self.old.faults }
+        ensures counts { IsCounted self.old.faults self.new.faults }
+        ensures within { IfOk result (λ count. count ≤ 4096) }
+        ensures count { IfOk result (λ count. count
+            ≡ min (min (length self.old.bytes.now - self.old.next) self.old.step) 4096) }
+        ensures ok { IfOk result (λ count. ⊤ → given (take self.new.next self.new.bytes.now) self.new.faults.failed
+            ≡ with_more (given (take self.old.next self.old.bytes.now) self.old.faults.failed) (take count buf.new)) }
+        ensures end { IfOk result (λ count. count ≡ 0 → ⊤
+            → self.new.next ≡ length self.new.bytes.now) }
+        ensures err { OnErr result (⊤ → given (take self.new.next self.new.bytes.now) self.new.faults.failed ≡ with_failure (given (take self.old.next self.old.bytes.now) self.old.faults.failed)) }
+        ensures same { (self.new.bytes.now ≡ self.old.bytes.now)
+            × (self.new.step ≡ self.old.step) }
+    {
         self.faults.count()?;
         let left = self.bytes.len() - self.next;
         let count = left.min(self.step).min(buf.len());

@@ -1,6 +1,6 @@
-ghost use Rattle.std.specs.Prelude.{◌≡◌, [], ◌∷◌, ◌++◌, false, map, OnOk};
+ghost use Rattle.std.specs.Prelude.{◌≡◌, [], ◌∷◌, ◌++◌, false, is_err, map, OnOk};
 ghost use Rattle.devices.specs.Sends.{send_of};
-ghost use Rattle.devices.specs.Failing.{AreFirst};
+ghost use Rattle.devices.specs.Failing.{AreFirst, IsCounted, is_failing};
 
 use crate::memory::Faults;
 use crate::{Link, LinkFault};
@@ -65,7 +65,14 @@ impl Link for MemoryLink {
 
     ghost offered = { λ m. map send_of m.sends.items };
 
-    fn send(&mut self, universe: u16, bytes: &[u8]) -> Result<(), LinkFault> {
+    fn send(&mut self, universe: u16, bytes: &[u8]) -> Result<(), LinkFault>
+        ensures fails { is_err result ≡ is_failing self.old.faults }
+        ensures counts { IsCounted self.old.faults self.new.faults }
+        ensures told { self.new.full ≡ false → self.old.full ≡ false }
+        ensures offered { self.new.full ≡ false
+            → map send_of self.new.sends.items ≡ map send_of self.old.sends.items
+            ++ record { universe = universe; bytes = bytes.now; failed = is_err result } ∷ [] }
+    {
         let counted = self.faults.count();
         let failed = counted.is_err();
         if keep(self.alloc, &mut self.sends, universe, bytes, failed).is_err() {

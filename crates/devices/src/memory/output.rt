@@ -1,5 +1,5 @@
-ghost use Rattle.std.specs.Prelude.{◌≡◌, [], false};
-ghost use Rattle.devices.specs.Failing.{AreFirst};
+ghost use Rattle.std.specs.Prelude.{◌≡◌, [], ◌++◌, false, is_err, OnOk, OnErr};
+ghost use Rattle.devices.specs.Failing.{AreFirst, IsCounted, is_failing};
 
 use crate::memory::Faults;
 use crate::{LinkFault, Output};
@@ -35,7 +35,15 @@ impl Output for MemoryOutput {
 
     ghost tape = { λ m. record { items = m.bytes.items; failures = m.faults.failed } };
 
-    fn write(&mut self, bytes: &[u8]) -> Result<(), LinkFault> {
+    fn write(&mut self, bytes: &[u8]) -> Result<(), LinkFault>
+        ensures fails { is_err result ≡ is_failing self.old.faults }
+        ensures counts { IsCounted self.old.faults self.new.faults }
+        ensures told { self.new.full ≡ false → self.old.full ≡ false }
+        ensures ok { OnOk result (self.new.full ≡ false
+            → self.new.bytes.items ≡ self.old.bytes.items ++ bytes.now) }
+        ensures err { OnErr result ((self.new.bytes.items ≡ self.old.bytes.items)
+            × (self.new.full ≡ self.old.full)) }
+    {
         self.faults.count()?;
         if self.bytes.extend_from_slice(bytes).is_err() {
             self.full = true;

@@ -29,4 +29,4 @@ returns-clause-ok c = λ _.
     let long : length c.copy_from_slice.new.self ≡ n = grind (arith, common_steps) in
     tapes_same (given_more c.args.self.now.bytes.now c.copy_from_slice.new.self _
     c.args.self.now.next n long copied.after)
-    c.in_ok-count.ensures.passes.1
+    (rw (← c.in_ok-count.ensures.fails) at c.in_ok-count.ensures.counts.failed)
