@@ -1,15 +1,18 @@
 -- Which packets the events to come want, and that they are kept.
 use Rattle.std.proofs.Common.{◌≡◌, ℕ, zero, suc, ◌+◌, ◌<◌, ◌≤◌, refl, ap, sym, subst, ◌∙◌, List, []}
-use Rattle.std.proofs.Common.{◌∷◌, length, set, Some, inl, inr, arith, Option, None}
+use Rattle.std.proofs.Common.{◌∷◌, ◌-◌, ◌^◌, length, set, replicate, Some, inl, inr, arith, Option}
+use Rattle.std.proofs.Common.{None}
 use Rattle.std.proofs.lemmas.Option.{same_Some, get_or_from_slice_get, slice_get_within}
 use Rattle.std.specs.Prelude.{slice_get, slice_index, All}
 use Rattle.std.proofs.lemmas.Bool.{cases_eq}
-use Rattle.std.proofs.lemmas.List.{get_or-set_other, get_or-set_same}
+use Rattle.std.proofs.lemmas.List.{get_or-set_other, get_or-set_same, get_or-replicate}
+use Rattle.std.proofs.lemmas.List.{length-replicate}
 use Rattle.std.proofs.Math.ListN.{length-set}
 use Rattle.wire_world.specs.declared.event.Event.{Event}
 use Rattle.wire_world.specs.declared.event.What.{What}
 use Rattle.wire_world.specs.declared.event.What.TheVariants.{Deliver}
-use Rattle.wire_world.specs.Wanted.{IsUpTo, Spares, row_of, AreLows, AreUpTo, Holds, span_at}
+use Rattle.wire_world.specs.Wanted.{IsFrom, IsUpTo, Spares, row_of, AreLows, AreUpTo, Holds}
+use Rattle.wire_world.specs.Wanted.{span_at}
 use Rattle.std.specs.Option.{option_map}
 use Rattle.fade_core.specs.Level.{Start}
 use Rattle.wire_world.specs.World.{World, console_at}
@@ -32,6 +35,31 @@ pub record AreLowsFrom (events : List Event) (lows least : List ℕ) (n : ℕ) :
   pub least_are : (j : ℕ) (f : Event) → n ≤ j → slice_get events j ≡ Some f → IsLeast least f.what
   pub lows_are : (i j : ℕ) (e f : Event) → n ≤ i → i < j → slice_get events i ≡ Some e
       → slice_get events j ≡ Some f → Spares e.what (slice_index lows i) f.what
+  pub greatest : (row low : ℕ) → row < 64 → low < 2 ^ 64
+      → ((j : ℕ) (f : Event) → n ≤ j → slice_get events j ≡ Some f → IsFrom row low f.what)
+      → low ≤ slice_index least row
+  pub greatest_are : (i r c u k low : ℕ) (e : Event) → n ≤ i → slice_get events i ≡ Some e
+      → e.what ≡ Deliver r c u k → low < 2 ^ 64
+      → ((j : ℕ) (f : Event) → i < j → slice_get events j ≡ Some f
+      → IsFrom (row_of c u) low f.what) → low ≤ slice_index lows i
+
+-- before the last event nothing is wanted yet
+pub lows_first : (events : List Event) (lows : List ℕ) → length lows ≡ length events
+    → AreLowsFrom events lows (replicate 64 (2 ^ 64 - 1)) (length events)
+lows_first events lows long = record {
+  long = long;
+  wide = length-replicate 64 (2 ^ 64 - 1);
+  least_are = λ j f l g. absurd (omega (arith, l, slice_get_within events j f g));
+  lows_are = λ i j e f l m a b. absurd (omega (arith, l, slice_get_within events i e a));
+  greatest = λ row low inside wide all.
+      omega (arith, get_or-replicate 64 row (2 ^ 64 - 1) 0 inside, wide);
+  greatest_are = λ i r c u k low e l a is wide all.
+      absurd (omega (arith, l, slice_get_within events i e a));
+}
+
+-- each row is one of the table
+row_within : (c u : ℕ) → row_of c u < 64
+row_within c u = omega arith
 
 -- a lower one in its place
 index_less : (xs : List ℕ) (i j y : ℕ) → y ≤ slice_index xs i
@@ -62,10 +90,13 @@ module _ (events : List Event) (lows least : List ℕ) (from n : ℕ) (e : Event
       → length new_least ≡ length least
       → ((row : ℕ) → slice_index new_least row ≤ slice_index least row)
       → IsLeast new_least e.what
+      → ((row low : ℕ) → IsFrom row low e.what → low ≤ slice_index least row
+      → low ≤ slice_index new_least row)
       → ((i : ℕ) → n < i → slice_index new_lows i ≡ slice_index lows i)
-      → ((later : What) → IsLeast least later → Spares e.what (slice_index new_lows n) later)
+      → ((r c u k : ℕ) → e.what ≡ Deliver r c u k
+      → slice_index new_lows n ≡ slice_index least (row_of c u))
       → AreLowsFrom events new_lows new_least n
-  lows_with new_lows new_least long wide less first past spared = record {
+  lows_with new_lows new_least long wide less first kept past here = record {
     long = long ∙ all.long;
     wide = wide ∙ all.wide;
     least_are = λ j f l g. one_more (λ j f. n ≤ j → IsLeast new_least f.what) events n e at
@@ -74,23 +105,45 @@ module _ (events : List Event) (lows least : List ℕ) (from n : ℕ) (e : Event
         omega (arith, less (row_of i u), was)) j f g l;
     lows_are = λ i j d f l m a b. one_more
         (λ i d. n ≤ i → i < j → Spares d.what (slice_index new_lows i) f.what) events n e at
-        (λ _ m. spared f.what (all.least_are j f (omega (arith, m)) b))
+        (λ _ m r c u k q v is other. omega (
+          arith,
+          here r c u k is,
+          all.least_are j f (omega (arith, m)) b q c u v other,
+        ))
         (λ i d q a l m. rw (past i (omega (arith, l, q)))
         (all.lows_are i j d f (omega (arith, l, q)) m a b)) i d a l m;
+    greatest = λ row low inside wide h. kept row low (h n e (omega arith) at)
+        (all.greatest row low inside wide (λ j f l g. h j f (omega (arith, l, next)) g));
+    greatest_are = λ i r c u k low d l a is wide h. one_more
+        (λ i d. n ≤ i → d.what ≡ Deliver r c u k → ((j : ℕ) (f : Event) → i < j
+        → slice_get events j ≡ Some f → IsFrom (row_of c u) low f.what)
+        → low ≤ slice_index new_lows i) events n e at
+        (λ _ is h. omega (
+          arith,
+          here r c u k is,
+          all.greatest (row_of c u) low (row_within c u)
+              wide (λ j f l g. h j f (omega (arith, l, next)) g),
+        ))
+        (λ i d q a l is h. omega (
+          arith,
+          past i (omega (arith, l, q)),
+          all.greatest_are i r c u k low d (omega (arith, next, l, q)) a is wide h,
+        )) i d a l is h;
   }
 
   -- no delivery
   pub lows_still : ((r i u k : ℕ) → e.what ≡ Deliver r i u k → ⊥)
       → AreLowsFrom events lows least n
   lows_still other = lows_with lows least refl refl (λ row. omega arith)
-      (λ r i u k is. absurd (other r i u k is)) (λ i l. refl)
-      (λ later h r i u k q m is. absurd (other r i u k is))
+      (λ r i u k is. absurd (other r i u k is)) (λ row low _ l. l) (λ i l. refl)
+      (λ r c u k is. absurd (other r c u k is))
 
   -- a delivery
   pub lows_more : (r c u k row y : ℕ) → e.what ≡ Deliver r c u k → row ≡ row_of c u
       → n < length events → row < length least → y ≤ slice_index least row → y ≤ k
+      → ((low : ℕ) → low ≤ slice_index least row → low ≤ k → low ≤ y)
       → AreLowsFrom events (set lows n (slice_index least row)) (set least row y) n
-  lows_more r c u k row y is named within inside less low =
+  lows_more r c u k row y is named within inside less low meet =
       let kept = get_or-set_same lows n (slice_index least row) 0
       (omega (arith, within, all.long)) in
       let lower = get_or-set_same least row y 0 inside in
@@ -98,9 +151,19 @@ module _ (events : List Event) (lows least : List ℕ) (from n : ℕ) (e : Event
       (length-set least row y) (λ j. index_less least row j y less)
       (λ q d v m e. let same : row ≡ row_of d v = cc in let k_is : k ≡ m = cc in
       omega (arith, lower, ap (slice_index (set least row y)) same, low))
+      (λ other n h l. elim (cases_eq row other) [
+        | inl q ↦ omega (
+          arith,
+          lower,
+          ap (slice_index (set least row y)) q,
+          meet n (omega (arith, l, ap (slice_index least) q))
+              (h r c u k is (sym named ∙ q)),
+        )
+        | inr q ↦ omega (arith, l, get_or-set_other least row other y 0 (λ e. q (sym e)))
+      ])
       (λ i l. get_or-set_other lows n i (slice_index least row) 0 (λ q. omega (arith, l, q)))
-      (λ later h r d v k q m e f. let same : row ≡ row_of d v = cc in
-      omega (arith, kept, ap (slice_index least) same, h q d v m f))
+      (λ q d v m e. let same : row ≡ row_of d v = cc in
+      omega (arith, kept, ap (slice_index least) same))
 
 -- ---- the last packet of all
 

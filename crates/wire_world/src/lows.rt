@@ -1,5 +1,5 @@
 ghost use Rattle.std.specs.Prelude.{◌≡◌, ◌<◌, ◌≤◌, ℕ, IfOk, length};
-ghost use Rattle.wire_world.specs.Wanted.{AreLows, AreUpTo, IsUpTo, row_of};
+ghost use Rattle.wire_world.specs.Wanted.{AreGreatest, AreLows, AreUpTo, IsUpTo, row_of};
 
 use crate::{Event, What};
 use std::alloc::{AllocError, Global};
@@ -9,6 +9,7 @@ use std::alloc::{AllocError, Global};
 pub(crate) fn lows(alloc: Global, events: &[Event]) -> Result<Vec<u64>, AllocError>
     ensures each { IfOk result (λ lows. length lows.items ≡ length events.now) }
     ensures lows { IfOk result (λ lows. AreLows events.now lows.items) }
+    ensures greatest { IfOk result (λ lows. AreGreatest events.now lows.items) }
 {
     let mut lows = vec![in alloc; 0; events.len()]?;
     // Four consoles have at most sixteen universes each, in a row.

@@ -4,7 +4,7 @@ ghost use Rattle.wire_world.specs.declared.event.What.{What as WhatData};
 ghost use Rattle.wire_world.specs.World.{World};
 ghost use Rattle.wire_world.specs.StageStands.{StageStands, Tells};
 ghost use Rattle.wire_world.specs.Stands.{AllStand, AllTell};
-ghost use Rattle.wire_world.specs.Wanted.{Holds, Spares};
+ghost use Rattle.wire_world.specs.Wanted.{Holds, IsReleased, Spares};
 
 use crate::What;
 use crate::stage::Stage;
@@ -18,6 +18,7 @@ pub(crate) fn release<F: Fader>(stages: &mut [Stage<F>], what: What, low: u64)
         → AllStand (StageStands F.stands_for) stages.new w past }
     ensures holds { (later : WhatData) → Holds stages.old later → Spares what low later
         → Holds stages.new later }
+    ensures left { IsReleased stages.new what low }
 {
     if let What::Deliver {
         console,

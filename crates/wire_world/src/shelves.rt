@@ -3,7 +3,7 @@ ghost use Rattle.std.specs.Prelude.{if◌then◌else◌, find, map, slice_get, t
 ghost use Rattle.std.specs.List.{position};
 ghost use Rattle.std.specs.Option.{option_map};
 ghost use Rattle.wire_world.specs.Sends.{send_of, sent_to};
-ghost use Rattle.wire_world.specs.Shelves.{IsRest, gone_of, kept_of};
+ghost use Rattle.wire_world.specs.Shelves.{IsRest, KeepsFrom, gone_of, kept_of};
 
 use crate::packets::Spare;
 use crate::queue::Queue;
@@ -80,7 +80,7 @@ pub(crate) fn release(shelves: &mut [Shelf], universe: u16, low: u64, spare: &mu
         → IsRest (gone_of shelves.new u) (kept_of shelves.new u) all }
     ensures gone { (u k : ℕ) → gone_of shelves.old u ≤ k → (universe ≡ u → low ≤ k)
         → gone_of shelves.new u ≤ k }
-    ensures left { (kept_of shelves.new universe ≡ []) ⊎ (low ≤ gone_of shelves.new universe) }
+    ensures left { KeepsFrom shelves.new universe low }
 {
     if let Some(i) = place_of(shelves, universe) {
         shelves[i].release(low, spare);

@@ -1,5 +1,5 @@
 ghost use Rattle.std.specs.Prelude.{◌≡◌, ◌↔◌, ℕ, List, [], ◌∷◌, map, IfOk, OnOk, OnErr, Err};
-ghost use Rattle.std.specs.Prelude.{IsFalse, ◌+◌, ◌⊎◌, ◌≤◌, ◌++◌, false, take};
+ghost use Rattle.std.specs.Prelude.{IsFalse, ◌+◌, ◌≤◌, ◌++◌, false, take};
 ghost use Rattle.std.specs.Option.{option_map};
 ghost use Rattle.patch_core.specs.Frame.{is_base};
 ghost use Rattle.patch_core.specs.declared.fault.RigFault.TheVariants.{Universe};
@@ -8,7 +8,7 @@ ghost use Rattle.console.specs.Streams.{Production, dues_at, order_at, tick_at};
 ghost use Rattle.wire_world.specs.Happened.{bytes_of};
 ghost use Rattle.wire_world.specs.Replies.{due_answer};
 ghost use Rattle.wire_world.specs.Sends.{sends_of, sent_to};
-ghost use Rattle.wire_world.specs.Shelves.{IsRest, gone_of, kept_of};
+ghost use Rattle.wire_world.specs.Shelves.{IsRest, KeepsFrom, gone_of, kept_of};
 
 use crate::Offers;
 use crate::packets::Packets;
@@ -143,8 +143,7 @@ impl<F: Fader> Stage<F> {
             → StageStands F.stands_for self.new p history }
         ensures gone { (u k : ℕ) → gone_of self.old.shelves.items u ≤ k → (universe ≡ u → low ≤ k)
             → gone_of self.new.shelves.items u ≤ k }
-        ensures left { (kept_of self.new.shelves.items universe ≡ [])
-            ⊎ (low ≤ gone_of self.new.shelves.items universe) }
+        ensures left { KeepsFrom self.new.shelves.items universe low }
         ensures last { self.new.last ≡ self.old.last }
     {
         release(

@@ -1,6 +1,6 @@
-use Rattle.std.proofs.Common.{ℕ, ◌-◌, ◌<◌, length, arith}
+use Rattle.std.proofs.Common.{rules, ℕ, ◌-◌, ◌<◌, length, arith}
 use Rattle.std.proofs.lemmas.Option.{slice_get-get_or}
-use Rattle.wire_world.proofs.Wants.{lows_more, lows_still}
+use Rattle.wire_world.proofs.Wants.{lows_first, lows_more, lows_still}
 use Rattle.wire_world.proofs.lows.lows.Goals as goal
 
 pub loop-i-preserved-in-Deliver : goal.loop-i-preserved-in-Deliver
@@ -13,6 +13,7 @@ loop-i-preserved-in-Deliver c =
     c.loop-i.invariant c.in-Deliver.receiver _ _ _ _ _ c.in-Deliver.is c.row_of-row.ensures.row
     within (omega (arith, c.row_of-row.ensures.within, c.loop-i.invariant.wide))
     (omega (arith, c.min.ensures)) (omega (arith, c.min.ensures))
+    (λ low l m. omega (arith, c.min.ensures, l, m))
 
 pub loop-i-preserved : goal.loop-i-preserved
 loop-i-preserved c =
@@ -25,3 +26,10 @@ loop-i-preserved c =
 pub returns-clause-lows : goal.returns-clause-lows
 returns-clause-lows c = λ i j e f.
     c.loop-i.invariant.lows_are i j e f (omega (arith, c.loop-i-test.false))
+
+pub returns-clause-greatest : goal.returns-clause-greatest
+returns-clause-greatest c = λ i r q u k low e.
+    c.loop-i.invariant.greatest_are i r q u k low e (omega (arith, c.loop-i-test.false))
+
+pub loop-i-init : goal.loop-i-init
+loop-i-init c = lows_first c.args.events.now c.in_ok-lows.lows.items (search rules)

@@ -1,12 +1,12 @@
 use borrow.Author.Rules.{scaled_Fits}
-use Rattle.std.proofs.Common.{◌≡◌, ◌≤◌, arith}
+use Rattle.std.proofs.Common.{◌≡◌, ◌≤◌, arith, subst}
 use Rattle.std.proofs.Math.ListN.{length-set}
-use Rattle.std.proofs.lemmas.Option.{slice_get-get_or}
+use Rattle.std.proofs.lemmas.Option.{slice_get-get_or, slice_get_within}
 use Rattle.wire_world.specs.declared.event.What.TheVariants.{Deliver}
 use Rattle.wire_world.specs.StageStands.{StageStands, Tells}
 use Rattle.wire_world.specs.World.{console_at}
 use Rattle.wire_world.specs.Happened.{acts}
-use Rattle.wire_world.specs.Shelves.{gone_of}
+use Rattle.wire_world.specs.Shelves.{KeepsFrom, gone_of}
 use Rattle.wire_world.proofs.Events.{all_set, tell_set}
 use Rattle.wire_world.proofs.releasing.release.Goals as goal
 
@@ -31,7 +31,24 @@ returns-then-i-stages g c =
             c.release.ensures.gone u n was.0 (λ same. spared _ _ _ _ r n c.in-Deliver.is (cc)),
             omega (arith, c.release.ensures.last, was.1),
           )) (λ j s _ at e. h r j u n s e at) j s found e;
+      left = λ r j u n s e found. all_set (λ j s. c.args.what ≡ Deliver r j u n
+          → KeepsFrom s.shelves.items u c.args.low) c.args.stages.now i c.release.new.self
+          (λ e. let same : c.in-Deliver.universe ≡ u = cc in
+          subst (λ u. KeepsFrom c.release.new.self.shelves.items u c.args.low) same
+          c.release.ensures.left)
+          (λ j s other _ e. absurd (other (cc))) j s found e;
     }
+
+pub returns-else-i-stages-clause-left : goal.returns-else-i-stages-clause-left
+returns-else-i-stages-clause-left g c = λ r j u k s is at.
+    let same : c.in-Deliver.console ≡ j = cc in
+    absurd (omega (
+      arith,
+      same,
+      c.from-i.ensures,
+      c.if-i-stages.false,
+      slice_get_within c.args.stages.now j s at,
+    ))
 
 pub offset_bounds-stages-i : goal.offset_bounds-stages-i
 offset_bounds-stages-i g c = search scaled_Fits
