@@ -1,3 +1,4 @@
+mod memory;
 mod packet;
 mod receiver;
 mod replies;
