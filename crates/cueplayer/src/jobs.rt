@@ -1,19 +1,12 @@
 ghost use Rattle.std.specs.Prelude.{◌≡◌, ◌≤◌, codes};
 ghost use Rattle.cueplayer_words.specs.Job.{IsInRange};
 
-use crate::cid_lock::CidLock;
+use crate::device_failure::{of_record, of_socket};
 use crate::failure::Failure;
-use crate::input::SystemInput;
 use crate::live_feed::LiveFeed;
-use crate::messages::Messages;
-use crate::output::SystemOutput;
 use crate::reading::{file_text, script_text, show_text};
-use crate::record::Record;
 use crate::remark::of_device;
 use crate::shown_output::ShownOutput;
-use crate::socket::{ReceivingSocket, SendingSocket};
-use crate::typed_input::TypedInput;
-use crate::watched_output::WatchedOutput;
 use cueplayer_explain::explain;
 use cueplayer_faults::RunFault;
 use cueplayer_play::play;
@@ -26,6 +19,10 @@ use sacn_packet::SourceName;
 use sacn_source::Identity;
 use std::io::{BufWriter, ErrorKind};
 use std::os::fd::AsFd;
+use system_devices::{
+    CidLock, Messages, ReceivingSocket, Record, SendingSocket, SystemInput, SystemOutput,
+    TypedInput, WatchedOutput,
+};
 
 // Told where a night has no lock of its CID.
 const NO_LOCK: &[u8] = b"cid: no lock can be made, so a second console of this CID would begin\n";
@@ -132,7 +129,7 @@ fn listen_at(rt: &HostRuntime, at: ([u8; 4], u16), universe: u16, count: u32) ->
     match listen(&mut source, universe, count, &mut out) {
         Ok(()) => Ok(()),
         Err(fault) => match source.failure() {
-            Some(kind) => Err(Failure::of_device("the socket", kind)),
+            Some(kind) => Err(of_socket(kind)),
             None => Err(Failure::of_run(fault, &[], out.failure())),
         },
     }
@@ -141,6 +138,10 @@ fn listen_at(rt: &HostRuntime, at: ([u8; 4], u16), universe: u16, count: u32) ->
 // Plays the lines of standard input.
 fn play_lines(rt: &HostRuntime, night: &Night, source: Identity) -> Result<(), Failure> {
     let text = file_text(rt, night.show.as_str())?;
+    let lock = CidLock::take(rt, night.cid)?;
+    if lock.is_none() {
+        tell(rt, NO_LOCK);
+    }
     let text = text.as_slice();
     let mut link = SendingSocket::open(rt, night.to)?;
     let mut input = SystemInput::new(rt.stdin());
@@ -184,9 +185,9 @@ fn play_live(
     }
     let mut out = ShownOutput::new(rt, messages)?;
     let text = text.as_slice();
-    let record = Record::open(rt, record_file)?;
+    let record = Record::open(rt, record_file).map_err(|fault| of_record(record_file, fault))?;
     let mut link = SendingSocket::open(rt, night.to)?;
-    link.never_wait()?;
+    link.never_wait().map_err(of_socket)?;
     let kept = (record, Messages::new(rt, is_told)?);
     let mut feed = LiveFeed::new(rt, input, ends_with_input, kept)?;
     let answer = play::<StepFader, _, _, _>(

@@ -1,13 +1,10 @@
 ghost use Rattle.std.specs.Prelude.{◌≡◌, []};
 
-use crate::failure::Failure;
-use crate::messages::Messages;
-use crate::record::Record;
-use crate::typed_input::{Came, TypedInput};
 use arrayvec::ArrayVec;
 use devices::{Feed, LinkFault};
 use live_input::{Given, LiveInput};
 use std::time::Instant;
+use system_devices::{Came, DeviceFault, Messages, Record, TypedInput};
 
 // Told where the input ends and the night goes on.
 const INPUT_ENDED: &[u8] = b"input ended: the light holds; SIGTERM to the program ends the night \
@@ -36,10 +33,10 @@ impl<'a> LiveFeed<'a> {
         input: TypedInput,
         ends_with_input: bool,
         (kept, messages): (Record, Messages),
-    ) -> Result<Self, Failure> {
+    ) -> Result<Self, DeviceFault> {
         let start = match Instant::now(rt) {
             Ok(start) => start,
-            Err(error) => return Err(Failure::of_device("the clock", error.kind())),
+            Err(error) => return Err(DeviceFault::Device("the clock", error.kind())),
         };
         Ok(LiveFeed {
             rt,
@@ -60,7 +57,7 @@ impl<'a> LiveFeed<'a> {
 
     /// Hands on what waits, at the end of the night.
     pub fn finish(&mut self) {
-        self.kept.finish(&mut self.messages);
+        self.kept.finish(self.rt, &mut self.messages);
         self.messages.finish();
     }
 

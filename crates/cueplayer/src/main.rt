@@ -1,22 +1,14 @@
 //! The program: it reads its words, runs what they ask for, and reports how that ended.
 #![tactic(auto)]
 
-mod bounded_output;
-mod cid_lock;
+mod device_failure;
 mod failure;
-mod input;
 mod jobs;
 mod live_feed;
-mod messages;
 mod misfit;
-mod output;
 mod reading;
-mod record;
 mod remark;
 mod shown_output;
-mod socket;
-mod typed_input;
-mod watched_output;
 mod words;
 
 use clap::Error;
@@ -26,11 +18,11 @@ use devices::Output;
 use failure::Failure;
 use jobs::run;
 use misfit::misfit;
-use output::SystemOutput;
 use remark::{Remark, of_word, plain};
 use std::env;
 use std::io::ErrorKind;
 use std::process::ExitCode;
+use system_devices::SystemOutput;
 use words::UserWords;
 
 // The exit status of words that are refused.

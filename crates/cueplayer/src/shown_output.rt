@@ -1,11 +1,9 @@
 ghost use Rattle.std.specs.Prelude.{[]};
 
-use crate::bounded_output::{BoundedOutput, Names};
-use crate::failure::Failure;
-use crate::messages::Messages;
 use devices::{LinkFault, Output};
 use live_input::is_shown;
 use std::io::Stdout;
+use system_devices::{BoundedOutput, DeviceFault, Messages, Names};
 
 const NAMES: Names = Names {
     output: "standard output",
@@ -26,7 +24,7 @@ impl ShownOutput {
     /// # Errors
     ///
     /// As those of [`BoundedOutput::new`].
-    pub fn new(rt: &HostRuntime, messages: Messages) -> Result<Self, Failure> {
+    pub fn new(rt: &HostRuntime, messages: Messages) -> Result<Self, DeviceFault> {
         Ok(ShownOutput {
             replies: BoundedOutput::new(rt, rt.stdout(), NAMES)?,
             messages,

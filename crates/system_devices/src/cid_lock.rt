@@ -1,6 +1,4 @@
-use crate::failure::Failure;
 use arrayvec::ArrayString;
-use cueplayer_faults::RunFault;
 use std::env::VarError;
 use std::fmt::Write;
 use std::fs::{File, OpenOptions, TryLockError, create_dir, metadata, symlink_metadata};
@@ -16,8 +14,17 @@ const TURNS: u32 = 20;
 // How long a turn is, in milliseconds.
 const TURN: u64 = 50;
 
-// There is room for the folder that the environment names.
-type PathText = ArrayString<512>;
+/// There is room for the folder that the environment names.
+pub type PathText = ArrayString<512>;
+
+/// Why a lock is not had.
+#[derive(Debug, Drop)]
+pub enum LockFault {
+    /// Another console holds it, by this file.
+    Held(PathText),
+    /// A growth was refused.
+    Memory,
+}
 
 /// The lock of a CID on this machine. It is held as long as this value is there, and the system
 /// lets it go where the program ends, however it ends.
@@ -31,12 +38,12 @@ impl CidLock {
     ///
     /// # Errors
     ///
-    /// `Device` where another console holds it; `Memory` where a growth was refused.
-    pub fn take(rt: &HostRuntime, cid: [u8; 16]) -> Result<Option<Self>, Failure> {
+    /// `Held` where another console holds it; `Memory` where a growth was refused.
+    pub fn take(rt: &HostRuntime, cid: [u8; 16]) -> Result<Option<Self>, LockFault> {
         let (path, file) = match open(rt, cid) {
             Ok(opened) => opened,
             Err(error) if error.kind() == ErrorKind::OutOfMemory => {
-                return Err(Failure::from(RunFault::Memory));
+                return Err(LockFault::Memory);
             }
             Err(_) => return Ok(None),
         };
@@ -47,13 +54,7 @@ impl CidLock {
                 Err(TryLockError::WouldBlock) => sleep(rt, Duration::from_millis(TURN)),
             }
         }
-        let mut words = ArrayString::<700>::new();
-        let path = path.as_str();
-        let _ = write!(
-            words,
-            "another console on this machine sends under this CID, by {path}"
-        );
-        Err(Failure::device(words.as_str()))
+        Err(LockFault::Held(path))
     }
 }
 

@@ -1,6 +1,6 @@
 ghost use Rattle.std.specs.Prelude.{[]};
 
-use crate::reading::read_some;
+use byte_reading::read_some;
 use devices::{Feed, LinkFault};
 use std::io::Read;
 

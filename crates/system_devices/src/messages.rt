@@ -1,5 +1,5 @@
 use crate::bounded_output::{BoundedOutput, Names};
-use crate::failure::Failure;
+use crate::fault::DeviceFault;
 use std::io::Stderr;
 
 const NAMES: Names = Names {
@@ -18,7 +18,7 @@ impl Messages {
     /// # Errors
     ///
     /// As those of [`BoundedOutput::new`].
-    pub fn new(rt: &HostRuntime, is_open: bool) -> Result<Self, Failure> {
+    pub fn new(rt: &HostRuntime, is_open: bool) -> Result<Self, DeviceFault> {
         let inner = if is_open {
             Some(BoundedOutput::new(rt, rt.stderr(), NAMES)?)
         } else {

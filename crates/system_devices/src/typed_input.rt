@@ -1,5 +1,4 @@
-use crate::failure::Failure;
-use cueplayer_faults::RunFault;
+use crate::fault::DeviceFault;
 use devices::LinkFault;
 use mio::unix::SourceFd;
 use mio::{Events, Interest, Poll, Token};
@@ -53,10 +52,10 @@ impl TypedInput {
     ///
     /// `Device` where standard input is closed or cannot be waited for; `Memory` where a growth was
     /// refused.
-    pub fn open(rt: &HostRuntime) -> Result<Self, Failure> {
-        let poll = Poll::new(rt).map_err(|error| Failure::of_device(NAME, error.kind()))?;
+    pub fn open(rt: &HostRuntime) -> Result<Self, DeviceFault> {
+        let poll = Poll::new(rt).map_err(|error| DeviceFault::Device(NAME, error.kind()))?;
         let Ok(events) = Events::with_capacity(rt.alloc(), 1) else {
-            return Err(Failure::from(RunFault::Memory));
+            return Err(DeviceFault::Memory);
         };
         let registered = poll
             .registry()
@@ -64,7 +63,7 @@ impl TypedInput {
         let readiness = match registered {
             Ok(()) => Readiness::Polled,
             Err(error) if error.kind() == ErrorKind::PermissionDenied => Readiness::Always,
-            Err(error) => return Err(Failure::of_device(NAME, error.kind())),
+            Err(error) => return Err(DeviceFault::Device(NAME, error.kind())),
         };
         Ok(TypedInput {
             poll,

@@ -1,11 +1,17 @@
 ghost use Rattle.std.specs.Prelude.{[]};
 
-use crate::failure::Failure;
 use arrayvec::ArrayString;
 use devices::{Datagrams, Link, LinkFault};
 use std::fmt::Write;
 use std::io::ErrorKind;
 use std::net::{IpAddr, Net, SocketAddr, UdpSocket};
+
+/// Why a socket cannot be had at an address of this machine: the system's reason.
+#[derive(Debug, Drop)]
+pub struct SocketFault {
+    pub address: AddressText,
+    pub kind: ErrorKind,
+}
 
 /// A UDP socket that receives. It does not tell what it gave.
 #[derive(Drop)]
@@ -16,7 +22,7 @@ pub struct ReceivingSocket {
 
 impl ReceivingSocket {
     /// A socket at an IPv4 address and a port of this machine.
-    pub fn bind(rt: &impl Net, at: ([u8; 4], u16)) -> Result<Self, Failure> {
+    pub fn bind(rt: &impl Net, at: ([u8; 4], u16)) -> Result<Self, SocketFault> {
         Ok(ReceivingSocket {
             inner: bind(rt, at)?,
             failure: None,
@@ -75,7 +81,7 @@ pub struct SendingSocket {
 impl SendingSocket {
     /// A socket that sends all universes to this IPv4 address and port; or, where the address is
     /// 239.255.0.0, each to the multicast group of its number (E1.31, multicast addressing).
-    pub fn open(rt: &impl Net, to: ([u8; 4], u16)) -> Result<Self, Failure> {
+    pub fn open(rt: &impl Net, to: ([u8; 4], u16)) -> Result<Self, SocketFault> {
         let inner = bind(rt, ([0, 0, 0, 0], 0))?;
         let (host, port) = to;
         Ok(SendingSocket {
@@ -87,10 +93,14 @@ impl SendingSocket {
     }
 
     /// From now on a packet that would have to wait is lost.
-    pub fn never_wait(&self) -> Result<(), Failure> {
+    ///
+    /// # Errors
+    ///
+    /// The system's reason.
+    pub fn never_wait(&self) -> Result<(), ErrorKind> {
         self.inner
             .set_nonblocking(true)
-            .map_err(|error| Failure::of_device("the socket", error.kind()))
+            .map_err(|error| error.kind())
     }
 
     /// Where the last send that failed went to, and the system's reason.
@@ -142,11 +152,14 @@ fn text_of(address: SocketAddr) -> AddressText {
     text
 }
 
-fn bind(rt: &impl Net, at: ([u8; 4], u16)) -> Result<UdpSocket, Failure> {
+fn bind(rt: &impl Net, at: ([u8; 4], u16)) -> Result<UdpSocket, SocketFault> {
     let (host, port) = at;
     let address = SocketAddr::new(IpAddr::from(host), port);
     match UdpSocket::bind(rt, address) {
         Ok(socket) => Ok(socket),
-        Err(error) => Err(Failure::of_device(text_of(address).as_str(), error.kind())),
+        Err(error) => Err(SocketFault {
+            address: text_of(address),
+            kind: error.kind(),
+        }),
     }
 }

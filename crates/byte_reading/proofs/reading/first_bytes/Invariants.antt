@@ -1,6 +1,6 @@
 use Rattle.std.proofs.Common.{◌≡◌, ◌≤◌, ◌-◌, length}
 use Rattle.std.specs.Io.KnownBytes.{Consumes}
-use Rattle.cueplayer.proofs.reading.read_most.Given as goal
+use Rattle.byte_reading.proofs.reading.first_bytes.Given as goal
 
 -- the bytes so far are the first of the reader
 abbrev pub invariant-loop-block : goal.invariant-loop-block

@@ -1,8 +1,7 @@
 ghost use Rattle.std.specs.Prelude.{◌≡◌, ◌≤◌, length};
 
-use crate::failure::Failure;
+use crate::fault::DeviceFault;
 use arrayvec::ArrayString;
-use cueplayer_faults::RunFault;
 use mio::unix::SourceFd;
 use mio::{Events, Interest, Poll, Token};
 use std::fmt::Write as _;
@@ -59,6 +58,8 @@ pub struct BoundedOutput<W> {
     events: Events,
     readiness: Readiness,
     waiting: Vec<u8>,
+    // Bytes that it took.
+    taken: u64,
     // Lines that were dropped, and are not told of.
     dropped: u64,
     // How often it was told that lines were dropped.
@@ -71,14 +72,14 @@ impl<W: Write + AsRawFd + Drop> BoundedOutput<W> {
     ///
     /// `Device` where the output cannot be asked whether it takes bytes; `Memory` where a growth
     /// was refused.
-    pub fn new(rt: &HostRuntime, inner: W, names: Names) -> Result<Self, Failure> {
+    pub fn new(rt: &HostRuntime, inner: W, names: Names) -> Result<Self, DeviceFault> {
         let descriptor = inner.as_raw_fd();
-        let poll = Poll::new(rt).map_err(|error| Failure::of_device(names.output, error.kind()))?;
+        let poll = Poll::new(rt).map_err(|error| DeviceFault::Device(names.output, error.kind()))?;
         let (Ok(events), Ok(waiting)) = (
             Events::with_capacity(rt.alloc(), 1),
             Vec::with_capacity(rt.alloc(), ROOM),
         ) else {
-            return Err(Failure::from(RunFault::Memory));
+            return Err(DeviceFault::Memory);
         };
         let registered = poll
             .registry()
@@ -86,7 +87,7 @@ impl<W: Write + AsRawFd + Drop> BoundedOutput<W> {
         let readiness = match registered {
             Ok(()) => Readiness::Polled,
             Err(error) if error.kind() == ErrorKind::PermissionDenied => Readiness::Always,
-            Err(error) => return Err(Failure::of_device(names.output, error.kind())),
+            Err(error) => return Err(DeviceFault::Device(names.output, error.kind())),
         };
         Ok(BoundedOutput {
             inner,
@@ -96,6 +97,7 @@ impl<W: Write + AsRawFd + Drop> BoundedOutput<W> {
             events,
             readiness,
             waiting,
+            taken: 0,
             dropped: 0,
             gaps: 0,
             failure: None,
@@ -171,6 +173,7 @@ impl<W: Write + AsRawFd + Drop> BoundedOutput<W> {
     fn let_go(&mut self, count: usize) {
         let left = self.waiting.len().saturating_sub(count);
         let taken = self.waiting.len() - left;
+        self.taken = self.taken.saturating_add(taken as u64);
         self.waiting.as_mut_slice().copy_within(taken.., 0);
         self.waiting.truncate(left);
         if left == 0 && self.dropped > 0 {
@@ -195,6 +198,11 @@ impl<W> BoundedOutput<W> {
     /// The system's reason where a write failed. Nothing is written any more then.
     pub fn failure(&self) -> Option<ErrorKind> {
         self.failure
+    }
+
+    /// How many bytes it took.
+    pub fn taken(&self) -> u64 {
+        self.taken
     }
 
     /// How many times lines are missing in it.

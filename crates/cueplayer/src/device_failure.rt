@@ -1,0 +1,52 @@
+use crate::failure::Failure;
+use arrayvec::ArrayString;
+use cueplayer_faults::RunFault;
+use std::fmt::Write;
+use std::io::ErrorKind;
+use system_devices::{DeviceFault, LockFault, RecordFault, SocketFault};
+
+impl From<DeviceFault> for Failure {
+    fn from(fault: DeviceFault) -> Failure {
+        match fault {
+            DeviceFault::Device(name, kind) => Failure::of_device(name, kind),
+            DeviceFault::Memory => Failure::from(RunFault::Memory),
+        }
+    }
+}
+
+impl From<SocketFault> for Failure {
+    fn from(fault: SocketFault) -> Failure {
+        Failure::of_device(fault.address.as_str(), fault.kind)
+    }
+}
+
+impl From<LockFault> for Failure {
+    fn from(fault: LockFault) -> Failure {
+        let LockFault::Held(path) = fault else {
+            return Failure::from(RunFault::Memory);
+        };
+        let mut words = ArrayString::<700>::new();
+        let path = path.as_str();
+        let _ = write!(
+            words,
+            "another console on this machine sends under this CID, by {path}"
+        );
+        Failure::device(words.as_str())
+    }
+}
+
+/// Why a record in the file of this name cannot be kept.
+pub fn of_record(name: Option<&str>, fault: RecordFault) -> Failure {
+    match fault {
+        RecordFault::File(kind) => Failure::of_device(name.unwrap_or("the record"), kind),
+        RecordFault::NotEmpty => {
+            Failure::device("the record's file is not empty: no night is written over another")
+        }
+        RecordFault::Way(fault) => Failure::from(fault),
+    }
+}
+
+/// The socket failed, for the system's reason.
+pub fn of_socket(kind: ErrorKind) -> Failure {
+    Failure::of_device("the socket", kind)
+}
