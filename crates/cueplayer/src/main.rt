@@ -5,7 +5,6 @@ mod device_failure;
 mod failure;
 mod jobs;
 mod live_feed;
-mod misfit;
 mod reading;
 mod remark;
 mod shown_output;
@@ -17,8 +16,7 @@ use cueplayer_words::{WordsFault, read_words};
 use devices::Output;
 use failure::Failure;
 use jobs::run;
-use misfit::misfit;
-use remark::{Remark, of_word, plain};
+use remark::{Remark, of_misfit, plain};
 use std::env;
 use std::io::ErrorKind;
 use std::process::ExitCode;
@@ -56,17 +54,6 @@ fn unfit(rt: &HostRuntime, remark: &Remark) -> u8 {
     REFUSED
 }
 
-// What keeps the words from their form, where one word alone does.
-fn remark_on(rt: &HostRuntime, words: &[String]) -> Remark {
-    match misfit(rt.alloc(), words) {
-        Ok(Some((place, form))) => match words.get(place) {
-            Some(word) => of_word(word.as_str(), form),
-            None => Remark::new(),
-        },
-        _ => Remark::new(),
-    }
-}
-
 // Shows the text of an error: help on standard output, any other on standard error.
 fn show_error(rt: &HostRuntime, error: &Error) -> u8 {
     let printed = error.print(rt);
@@ -94,7 +81,7 @@ fn status(rt: &HostRuntime) -> u8 {
     match read_words(rt.alloc(), words.as_slice()) {
         Ok(job) => report(rt, &run(rt, job)),
         Err(WordsFault::Refused(error)) => show_error(rt, &error),
-        Err(WordsFault::Unfit) => unfit(rt, &remark_on(rt, words.as_slice())),
+        Err(WordsFault::Unfit(misfit)) => unfit(rt, &of_misfit(&misfit)),
         Err(WordsFault::Memory) => report(rt, &Err(Failure::from(RunFault::Memory))),
     }
 }

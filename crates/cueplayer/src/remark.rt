@@ -1,6 +1,8 @@
-use arrayvec::ArrayVec;
+use arrayvec::{ArrayString, ArrayVec};
 use ascii_text::Lines;
+use cueplayer_words::Misfit;
 use show_reader::ShowFault;
+use std::fmt::Write;
 use std::io::ErrorKind;
 use wire_faults::Fault;
 
@@ -28,10 +30,20 @@ pub fn of_device(name: &str, kind: ErrorKind) -> Remark {
     remark
 }
 
-/// A word that is refused, and the form that it should have.
-pub fn of_word(word: &str, form: &str) -> Remark {
-    let mut remark = plain("`");
-    push_shown(&mut remark, word.as_bytes());
+/// An argument as it was typed, and the form that it should have. An option's name is in small
+/// letters, and stands behind two dashes.
+pub fn of_misfit(misfit: &Misfit<'_>) -> Remark {
+    let dashes = if misfit.argument.starts_with(char::is_lowercase) {
+        "--"
+    } else {
+        ""
+    };
+    let mut form = ArrayString::<128>::new();
+    let _ = write!(form, "{}", misfit.form);
+    let mut remark = plain(dashes);
+    push_shown(&mut remark, misfit.argument.as_bytes());
+    push_shown(&mut remark, b" `");
+    push_shown(&mut remark, misfit.text.as_bytes());
     push_shown(&mut remark, b"`: ");
     push_shown(&mut remark, form.as_bytes());
     remark

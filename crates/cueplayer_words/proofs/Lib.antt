@@ -1,3 +1,4 @@
 pub mod Texts
+pub mod Given
 pub mod WordsLemmas
 mod Rows

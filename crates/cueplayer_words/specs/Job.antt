@@ -1,6 +1,6 @@
 -- The job that words ask for.
-use Rattle.std.specs.Prelude.{◌≡◌, ℕ, ◌≤◌, List, Option, Some, None, codes, option_map}
-use Rattle.std.specs.Prelude.{Bool, false, option_and_then, if◌then◌else◌, nat_le, IfSome}
+use Rattle.std.specs.Prelude.{ℕ, ◌≤◌, List, Option, Some, None, codes, option_map}
+use Rattle.std.specs.Prelude.{Bool, false, option_and_then, if◌then◌else◌, nat_le}
 use Rattle.std.specs.Option.{option_map_or}
 use Rattle.std.specs.Str.{bytes_eq}
 use Rattle.clap.specs.Words.{Row, Text, first_of, subcommand_of}
@@ -115,10 +115,6 @@ IsInRange (Listen at universe count) = (1 ≤ universe) × (universe ≤ 63999)
 IsInRange (Play night) = night.priority ≤ 200
 IsInRange (Live night record_file ends_with_input) = night.priority ≤ 200
 IsInRange _ = Unit {0}
-
--- this is the job that is asked for, if one is, and its numbers are in the ranges
-abbrev pub IsJob : Option Job → Option Job → Type 0
-IsJob asked job = (job ≡ asked) × IfSome job IsInRange
 
 -- the job of a line, by its name and the texts of its arguments
 abbrev pub line_of : Text × List Row → Option Job

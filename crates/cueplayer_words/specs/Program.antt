@@ -1,5 +1,7 @@
 -- The lines of the program, as a command of clap.
-use Rattle.std.specs.Prelude.{◌≡◌, true, false, Some, List, [], ◌∷◌, ◌++◌, codes, fold}
+use Rattle.std.specs.Prelude.{◌≡◌, true, false, Some, List, [], ◌∷◌, ◌++◌, codes, find, fold}
+use Rattle.std.specs.Option.{option_map_or}
+use Rattle.std.specs.Str.{bytes_eq}
 use Rattle.clap.specs.Words.{App, Rule, Text, app_of, new_app, new_rule, rule_of, with_rule}
 use Rattle.clap.specs.Words.{with_subcommand}
 use Rattle.clap.specs.declared.builder.arg.Arg.{Arg}
@@ -87,3 +89,8 @@ without_lines = record (new_app (codes "cueplayer")) {
 -- the program with all its lines
 abbrev pub program : App
 program = fold (λ app line. with_subcommand app line.top) without_lines lines
+
+-- the rules of the line of this name, in order
+abbrev pub rules_of : Text → List Rule
+rules_of name =
+    option_map_or (λ l. l.top.rules) (find (λ l. bytes_eq name l.top.name) lines) []

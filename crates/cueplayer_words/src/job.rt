@@ -1,6 +1,8 @@
 ghost use Rattle.std.specs.Prelude.{◌≡◌, ℕ, List, IfOk};
 ghost use Rattle.std.specs.String.{string_bytes};
+ghost use Rattle.cueplayer_words.specs.declared.job.WordsFault.TheVariants.{Unfit, Memory};
 
+use crate::misfit::Misfit;
 use std::alloc::{AllocError, Global};
 use std::marker::Model;
 use thiserror::Error;
@@ -113,17 +115,33 @@ pub enum Job {
 
 /// Why words give no job.
 #[derive(Debug, Drop, Error)]
-pub enum WordsFault {
+pub enum WordsFault<'a> {
     /// No line takes the words, or they ask for help. The error has the text for the user; its kind
     /// says whether that goes to standard output, as help does, and how the program ends.
     #[error(transparent)]
     Refused(clap::Error),
 
-    /// A line takes the words, and one of them lacks its form.
-    #[error("words refused")]
-    Unfit,
+    /// A line takes the words, and this argument, the first in the line's order, lacks its form.
+    #[error(transparent)]
+    Unfit(Misfit<'a>),
 
     /// A growth was refused.
     #[error("memory")]
     Memory,
+}
+
+impl<'a> From<Misfit<'a>> for WordsFault<'a> {
+    ghost from_gives = { λ misfit fault. fault ≡ Unfit misfit };
+
+    fn from(misfit: Misfit<'a>) -> WordsFault<'a> {
+        WordsFault::Unfit(misfit)
+    }
+}
+
+impl<'a> From<AllocError> for WordsFault<'a> {
+    ghost from_gives = { λ _ fault. fault ≡ Memory };
+
+    fn from(_error: AllocError) -> WordsFault<'a> {
+        WordsFault::Memory
+    }
 }

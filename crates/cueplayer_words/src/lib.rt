@@ -13,8 +13,10 @@ mod address;
 mod arguments;
 mod job;
 mod line;
+mod misfit;
 mod program;
 mod read;
 
 pub use job::{Job, Name, Night, WordsFault};
+pub use misfit::{Form, Misfit};
 pub use read::read_words;

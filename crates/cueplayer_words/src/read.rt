@@ -1,13 +1,17 @@
-ghost use Rattle.std.specs.Prelude.{◌≡◌, ◌≤◌, map, option_and_then, IfOk, IfErr, IfSome};
-ghost use Rattle.clap.specs.Words.{found_of, rows_of, subcommand_rows_of};
-ghost use Rattle.cueplayer_words.specs.Job.{IsInRange, IsJob, line_of, check_of, explain_of};
+ghost use Rattle.std.specs.Prelude.{◌≡◌, ◌≤◌, map, option_and_then, codes, IfOk, IfErr, IfSome};
+ghost use Rattle.std.specs.Prelude.{true, is_some};
+ghost use Rattle.clap.specs.Words.{first_of, found_of, rows_of, subcommand_rows_of};
+ghost use Rattle.cueplayer_words.specs.Program.{live_arguments, listen_arguments, night_arguments};
+ghost use Rattle.cueplayer_words.specs.Program.{rules_of};
+ghost use Rattle.cueplayer_words.specs.Job.{IsInRange, line_of, check_of, explain_of};
 ghost use Rattle.cueplayer_words.specs.Job.{look_of, slots_of, night_of, play_of};
 ghost use Rattle.cueplayer_words.specs.Job.{live_of, rehearse_of, listen_of};
-ghost use Rattle.cueplayer_words.specs.Asked.{Explains, IsAsked, RefusedBy};
+ghost use Rattle.cueplayer_words.specs.Misfit.{IsWhole, first_misfit, has_texts, misfit_in};
+ghost use Rattle.cueplayer_words.specs.Asked.{Answers, Explains, IsAsked, RefusedBy};
 
 use crate::arguments::{
-    TOP_UNIVERSE, address_at, base_at, cid_at, cue_at, has_flag, name_at, number_at, priority_at,
-    text_at,
+    address_at, base_at, cid_at, count_at, cue_at, has_flag, name_at, priority_at, text_at,
+    universe_at,
 };
 use crate::job::{Job, Name, Night, WordsFault};
 use crate::program::program;
@@ -21,7 +25,7 @@ use std::convert::AsStr;
 /// The first that applies is answered: Refused where no line of the program takes the words, Unfit
 /// where an argument lacks its form, and else the job. Memory comes in place of any of them where a
 /// growth was refused.
-pub fn read_words<S: AsStr>(alloc: Global, words: &[S]) -> Result<Job, WordsFault>
+pub fn read_words<'a, S: AsStr>(alloc: Global, words: &'a [S]) -> Result<Job, WordsFault<'a>>
     ensures ok { IfOk result (IsAsked (map S.text words.now)) }
     ensures ranges { IfOk result IsInRange }
     ensures err { IfErr result (Explains (map S.text words.now)) }
@@ -33,14 +37,11 @@ pub fn read_words<S: AsStr>(alloc: Global, words: &[S]) -> Result<Job, WordsFaul
         Ok(matches) => matches,
         Err(error) => return Err(refusal(error)),
     };
-    match read_line(alloc, &matches) {
-        Ok(Some(job)) => Ok(job),
-        Ok(None) => Err(WordsFault::Unfit),
-        Err(_) => Err(WordsFault::Memory),
-    }
+    let (line, inner) = matches.subcommand().unwrap();
+    read_line(alloc, line, inner)
 }
 
-fn refusal(error: Error) -> WordsFault
+fn refusal(error: Error) -> WordsFault<'static>
     ensures { RefusedBy error result }
 {
     if error.kind() == ErrorKind::OutOfMemory {
@@ -50,144 +51,133 @@ fn refusal(error: Error) -> WordsFault
     }
 }
 
-// The job of the line that the words name, where each of its texts has its form.
-fn read_line(alloc: Global, matches: &ArgMatches<'_>) -> Result<Option<Job>, AllocError>
-    ensures { IfOk result (IsJob (option_and_then line_of (subcommand_rows_of matches.now))) }
+// The job of the line of this name, where each of its texts has its form.
+fn read_line<'a>(alloc: Global, line: &str, matches: &ArgMatches<'a>) -> Result<Job, WordsFault<'a>>
+    requires { IsWhole (line.now, rows_of (found_of matches.now)) }
+    ensures { Answers IsInRange (line_of (line.now, rows_of (found_of matches.now)))
+        (misfit_in (line.now, rows_of (found_of matches.now))) result }
 {
-    let Some((line, inner)) = matches.subcommand() else {
-        return Ok(None);
-    };
     if line == "check" {
-        read_check(alloc, inner)
+        read_check(alloc, matches)
     } else if line == "explain" {
-        read_explain(alloc, inner)
+        read_explain(alloc, matches)
     } else if line == "look" {
-        read_look(alloc, inner)
+        read_look(alloc, matches)
     } else if line == "slots" {
-        read_slots(alloc, inner)
+        read_slots(alloc, matches)
     } else if line == "play" {
-        read_play(alloc, inner)
+        read_play(alloc, matches)
     } else if line == "live" {
-        read_live(alloc, inner)
+        read_live(alloc, matches)
     } else if line == "rehearse" {
-        read_rehearse(alloc, inner)
-    } else if line == "listen" {
-        Ok(read_listen(inner))
+        read_rehearse(alloc, matches)
     } else {
-        Ok(None)
+        read_listen(matches)
     }
 }
 
-fn read_check(alloc: Global, matches: &ArgMatches<'_>) -> Result<Option<Job>, AllocError>
-    ensures { IfOk result (IsJob (check_of (rows_of (found_of matches.now)))) }
+fn read_check<'a>(alloc: Global, matches: &ArgMatches<'a>) -> Result<Job, WordsFault<'a>>
+    requires { has_texts (rules_of (codes "check")) (rows_of (found_of matches.now)) ≡ true }
+    ensures { Answers IsInRange (check_of (rows_of (found_of matches.now)))
+        (misfit_in (codes "check", rows_of (found_of matches.now))) result }
 {
-    let show = name_at(alloc, matches, "SHOW")?;
-    Ok(show.map(|show| Job::Check { show }))
+    let show = Name::new(alloc, text_at(matches, "SHOW"))?;
+    Ok(Job::Check { show })
 }
 
-fn read_explain(alloc: Global, matches: &ArgMatches<'_>) -> Result<Option<Job>, AllocError>
-    ensures { IfOk result (IsJob (explain_of (rows_of (found_of matches.now)))) }
+fn read_explain<'a>(alloc: Global, matches: &ArgMatches<'a>) -> Result<Job, WordsFault<'a>>
+    requires { has_texts (rules_of (codes "explain")) (rows_of (found_of matches.now)) ≡ true }
+    ensures { Answers IsInRange (explain_of (rows_of (found_of matches.now)))
+        (misfit_in (codes "explain", rows_of (found_of matches.now))) result }
 {
-    let show = name_at(alloc, matches, "SHOW")?;
-    Ok(show.map(|show| Job::Explain { show }))
+    let show = Name::new(alloc, text_at(matches, "SHOW"))?;
+    Ok(Job::Explain { show })
 }
 
-fn read_look(alloc: Global, matches: &ArgMatches<'_>) -> Result<Option<Job>, AllocError>
-    ensures { IfOk result (IsJob (look_of (rows_of (found_of matches.now)))) }
+fn read_look<'a>(alloc: Global, matches: &ArgMatches<'a>) -> Result<Job, WordsFault<'a>>
+    requires { has_texts (rules_of (codes "look")) (rows_of (found_of matches.now)) ≡ true }
+    ensures { Answers IsInRange (look_of (rows_of (found_of matches.now)))
+        (misfit_in (codes "look", rows_of (found_of matches.now))) result }
 {
-    let show = text_at(matches, "SHOW");
-    let cue = cue_at(matches, "CUE");
-    let cid = cid_at(matches, "cid");
-    let (Some(show), Some(cue), Some(cid)) = (show, cue, cid) else {
-        return Ok(None);
-    };
-    let show = Name::new(alloc, show)?;
-    Ok(Some(Job::Look { show, cue, cid }))
+    let cue = cue_at(matches)?;
+    let cid = cid_at(matches)?;
+    let show = Name::new(alloc, text_at(matches, "SHOW"))?;
+    Ok(Job::Look { show, cue, cid })
 }
 
-fn read_slots(alloc: Global, matches: &ArgMatches<'_>) -> Result<Option<Job>, AllocError>
-    ensures { IfOk result (IsJob (slots_of (rows_of (found_of matches.now)))) }
+fn read_slots<'a>(alloc: Global, matches: &ArgMatches<'a>) -> Result<Job, WordsFault<'a>>
+    requires { has_texts (rules_of (codes "slots")) (rows_of (found_of matches.now)) ≡ true }
+    ensures { Answers IsInRange (slots_of (rows_of (found_of matches.now)))
+        (misfit_in (codes "slots", rows_of (found_of matches.now))) result }
 {
-    let show = text_at(matches, "SHOW");
-    let cue = cue_at(matches, "CUE");
-    let base = base_at(matches);
-    let (Some(show), Some(cue), Some(base)) = (show, cue, base) else {
-        return Ok(None);
-    };
-    let show = Name::new(alloc, show)?;
-    Ok(Some(Job::Slots { show, cue, base }))
+    let cue = cue_at(matches)?;
+    let base = base_at(matches)?;
+    let show = Name::new(alloc, text_at(matches, "SHOW"))?;
+    Ok(Job::Slots { show, cue, base })
 }
 
-fn read_play(alloc: Global, matches: &ArgMatches<'_>) -> Result<Option<Job>, AllocError>
-    ensures { IfOk result (IsJob (play_of (rows_of (found_of matches.now)))) }
+fn read_play<'a>(alloc: Global, matches: &ArgMatches<'a>) -> Result<Job, WordsFault<'a>>
+    requires { has_texts (rules_of (codes "play")) (rows_of (found_of matches.now)) ≡ true }
+    ensures { Answers IsInRange (play_of (rows_of (found_of matches.now)))
+        (misfit_in (codes "play", rows_of (found_of matches.now))) result }
 {
     let night = read_night(alloc, matches)?;
-    Ok(night.map(|night| Job::Play(night)))
+    Ok(Job::Play(night))
 }
 
-fn read_live(alloc: Global, matches: &ArgMatches<'_>) -> Result<Option<Job>, AllocError>
-    ensures { IfOk result (IsJob (live_of (rows_of (found_of matches.now)))) }
+fn read_live<'a>(alloc: Global, matches: &ArgMatches<'a>) -> Result<Job, WordsFault<'a>>
+    requires { has_texts (rules_of (codes "live")) (rows_of (found_of matches.now)) ≡ true }
+    ensures { Answers IsInRange (live_of (rows_of (found_of matches.now)))
+        (misfit_in (codes "live", rows_of (found_of matches.now))) result }
 {
-    let Some(night) = read_night(alloc, matches)? else {
-        return Ok(None);
-    };
+    let night = read_night(alloc, matches)?;
     let record_file = name_at(alloc, matches, "record")?;
-    Ok(Some(Job::Live {
+    Ok(Job::Live {
         night,
         record_file,
         ends_with_input: has_flag(matches, "end-with-input"),
-    }))
+    })
 }
 
 // The night of a line that plays, where each of its texts has its form.
-fn read_night(alloc: Global, matches: &ArgMatches<'_>) -> Result<Option<Night>, AllocError>
-    ensures night { IfOk result (λ night. night ≡ night_of (rows_of (found_of matches.now))) }
-    ensures range { IfOk result (λ asked. IfSome asked (λ night. night.priority ≤ 200)) }
+fn read_night<'a>(alloc: Global, matches: &ArgMatches<'a>) -> Result<Night, WordsFault<'a>>
+    requires { has_texts night_arguments (rows_of (found_of matches.now)) ≡ true }
+    ensures { Answers (λ night. night.priority ≤ 200) (night_of (rows_of (found_of matches.now)))
+        (first_misfit night_arguments (rows_of (found_of matches.now))) result }
 {
-    let show = text_at(matches, "SHOW");
-    let to = address_at(matches, "to");
-    let cid = cid_at(matches, "cid");
-    let priority = priority_at(matches);
-    let base = base_at(matches);
-    let (Some(show), Some(to), Some(cid), Some(priority), Some(base)) = (
-        show, to, cid, priority, base,
-    ) else {
-        return Ok(None);
-    };
-    let show = Name::new(alloc, show)?;
-    Ok(Some(Night {
+    let to = address_at(matches, "to")?;
+    let cid = cid_at(matches)?;
+    let priority = priority_at(matches)?;
+    let base = base_at(matches)?;
+    let show = Name::new(alloc, text_at(matches, "SHOW"))?;
+    Ok(Night {
         show,
         to,
         cid,
         priority,
         base,
-    }))
+    })
 }
 
-fn read_rehearse(alloc: Global, matches: &ArgMatches<'_>) -> Result<Option<Job>, AllocError>
-    ensures { IfOk result (IsJob (rehearse_of (rows_of (found_of matches.now)))) }
+fn read_rehearse<'a>(alloc: Global, matches: &ArgMatches<'a>) -> Result<Job, WordsFault<'a>>
+    requires { has_texts (rules_of (codes "rehearse")) (rows_of (found_of matches.now)) ≡ true }
+    ensures { Answers IsInRange (rehearse_of (rows_of (found_of matches.now)))
+        (misfit_in (codes "rehearse", rows_of (found_of matches.now))) result }
 {
-    let show = text_at(matches, "SHOW");
-    let script = text_at(matches, "SCRIPT");
-    let (Some(show), Some(script)) = (show, script) else {
-        return Ok(None);
-    };
-    let show = Name::new(alloc, show)?;
-    let script = Name::new(alloc, script)?;
-    Ok(Some(Job::Rehearse { show, script }))
+    let show = Name::new(alloc, text_at(matches, "SHOW"))?;
+    let script = Name::new(alloc, text_at(matches, "SCRIPT"))?;
+    Ok(Job::Rehearse { show, script })
 }
 
-fn read_listen(matches: &ArgMatches<'_>) -> Option<Job>
-    ensures { IsJob (listen_of (rows_of (found_of matches.now))) result }
+fn read_listen<'a>(matches: &ArgMatches<'a>) -> Result<Job, WordsFault<'a>>
+    requires { has_texts (rules_of (codes "listen")) (rows_of (found_of matches.now)) ≡ true }
+    ensures { Answers IsInRange (listen_of (rows_of (found_of matches.now)))
+        (misfit_in (codes "listen", rows_of (found_of matches.now))) result }
 {
-    let at = address_at(matches, "ADDR");
-    let universe = number_at(matches, "UNIVERSE", 1, TOP_UNIVERSE);
-    let count = number_at(matches, "COUNT", 1, 1_000_000);
-    let (Some(at), Some(universe), Some(count)) = (at, universe, count) else {
-        return None;
-    };
-    let universe = universe as u16;
-    Some(Job::Listen {
+    let at = address_at(matches, "ADDR")?;
+    let universe = universe_at(matches)?;
+    let count = count_at(matches)?;
+    Ok(Job::Listen {
         at,
         universe,
         count,
