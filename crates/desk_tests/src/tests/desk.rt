@@ -129,6 +129,64 @@ fn dark_before_first_tick(rt: HostRuntime) -> Result<(), Fail> {
     )
 }
 
+// The growths of the tests below are those of this one: a desk that is open takes no memory.
+#[test]
+fn opened(rt: HostRuntime) -> Result<(), Fail> {
+    take_steps(&rt, rt.alloc(), &[])
+}
+
+// Ticks that draw all levels, some of them and none, to the end.
+#[test]
+fn goto_mid_fade(rt: HostRuntime) -> Result<(), Fail> {
+    take_steps(
+        &rt,
+        rt.alloc(),
+        &[
+            Step::Order(0, Command::Go, Ok(())),
+            Step::Tick(0, Ok(Ticked::Live)),
+            Step::Slots(0, 0),
+            Step::Tick(2500, Ok(Ticked::Live)),
+            Step::Slots(127, 0),
+            Step::Tick(2525, Ok(Ticked::Live)),
+            Step::Slots(129, 0),
+            Step::Tick(5000, Ok(Ticked::Live)),
+            Step::Slots(255, 0),
+            Step::Tick(5025, Ok(Ticked::Live)),
+            Step::Order(10000, Command::Go, Ok(())),
+            Step::Tick(11000, Ok(Ticked::Live)),
+            Step::Slots(191, 127),
+            Step::Order(11000, Command::Goto(1000), Ok(())),
+            Step::Tick(12000, Ok(Ticked::Live)),
+            Step::Slots(204, 102),
+            Step::Order(12000, Command::Back, Err(Refused::AtStart)),
+            Step::Order(12000, Command::End, Ok(())),
+            Step::Tick(12025, Ok(Ticked::Ending(1))),
+        ],
+    )
+}
+
+#[test]
+fn submaster_and_grand(rt: HostRuntime) -> Result<(), Fail> {
+    take_steps(
+        &rt,
+        rt.alloc(),
+        &[
+            Step::Order(0, Command::Sub(1, 128), Ok(())),
+            Step::Tick(0, Ok(Ticked::Live)),
+            Step::Slots(64, 0),
+            Step::Order(25, Command::Sub(1, 255), Ok(())),
+            Step::Tick(25, Ok(Ticked::Live)),
+            Step::Slots(128, 0),
+            Step::Order(100, Command::Go, Ok(())),
+            Step::Tick(5100, Ok(Ticked::Live)),
+            Step::Slots(255, 0),
+            Step::Order(5125, Command::Master(128), Ok(())),
+            Step::Tick(5125, Ok(Ticked::Live)),
+            Step::Slots(128, 0),
+        ],
+    )
+}
+
 fn universes_of(alloc: Global, show: &Show, base: u16) -> Result<(usize, Option<u16>), RigFault> {
     let desk: Desk<PlainFader> = Desk::open(alloc, show, base)?;
     Ok(numbers(&desk))
