@@ -64,6 +64,12 @@ TESTED = {
 }
 # Public calls whose growths are refused in the program alone, and the test that refuses them.
 IN_THE_PROGRAM = {"read_words": "test_refused_growths.RefusedGrowths.test_words"}
+# Calls that take no memory once something is open: tests of them that ask for as much as one that only
+# opens it.
+OPENED = {
+    "desk_tests::desk": ("opened", ("goto_mid_fade", "submaster_and_grand")),
+    "stream_tests::receiver": ("every_law", ("four_sources", "source_loss", "stranger_termination")),
+}
 # Which takes long.
 LEFT_OUT = {"program_tests::play": ("devices_fail::each_send_fails",)}
 # How a test fails: by a failed assertion, or by an error that it answers.
@@ -162,6 +168,17 @@ class CrateGrowths(Growths):
                 with self.subTest(place=place, test=test):
                     self.assertIn(test, tests_of(place))
                     self.assertGreater(self.assertEachRefused(place, test), 0)
+
+    def test_no_growth_once_open(self):
+        """Nor one that would be given: the growths are counted, and none is refused."""
+        for place in self.programs(sorted(OPENED)):
+            opened, tests = OPENED[place]
+            counted = {}
+            for test in (opened, *tests):
+                status, told = self.run_without(place, test, 0)
+                self.assertEqual(0, status, told)
+                counted[test], _ = self.growths()
+            self.assertEqual({counted[opened]}, set(counted.values()), counted)
 
     def test_other_tests(self):
         """Nothing falls, and nothing hangs."""

@@ -1,5 +1,5 @@
 """Each growth of a run's memory refused in turn: the run then tells its want of memory and prints nothing,
-or ends as it does with all memory. And: once datagrams go or come, no memory is asked for."""
+or ends as it does with all memory. And: once a run is open, it asks for no memory."""
 
 import re
 import struct
@@ -106,7 +106,13 @@ class RefusedGrowths(Growths):
 
 
 class NoGrowths(Growths):
-    """What is asked for before the first datagram is all that is asked for."""
+    """What is asked for before the first line or datagram is all that is asked for."""
+
+    # Of cue 50 two channels move, which a tick draws alone; of cue 51, which follows, too many for that.
+    SHOW = SHOW + text(
+        *("CUE 50", "UP 1", "FOLLOWON 2", "CHAN 1@FL 40@FL", "CUE 51", "UP 1"),
+        "CHAN " + " ".join(f"{channel}@H80" for channel in range(1, 801)),
+    )
 
     def assertNoneAfterTheFirst(self):
         growths, before = self.growths()
@@ -114,16 +120,21 @@ class NoGrowths(Growths):
         self.assertEqual(before, growths)
 
     def test_play(self):
-        """Every command, refused ones, changes and quiet ticks, and the end."""
-        lines = ["0 tick"]
-        for n in range(1, 201):
-            lines += [f"{25 * n} {COMMANDS[n % len(COMMANDS)]}", f"{25 * n} tick", f"{25 * n} tick"]
-        lines += ["5025 end", "5025 tick", "5050 tick", "5075 tick", "5100 tick", "x"]
+        """Every command, refused ones, and the end; ticks that draw all, some and none of the levels.
+
+        It asks for as much as a play that ends before its first line: so at its first tick for none."""
         words = ["play", self.show, "--to", "127.0.0.1:9", "--cid", CID]
+        run(*words, stdin=b"", env=self.environment(0))
+        opened, _ = self.growths()
+        lines = ["0 tick", "50 goto 50", *(f"{moment} tick" for moment in range(50, 3500, 50))]
+        for n in range(35, 235):
+            lines += [f"{100 * n} {COMMANDS[n % len(COMMANDS)]}"]
+            lines += [f"{100 * n + later} tick" for later in (0, 0, 25, 50)]
+        lines += ["23500 end", *(f"{23500 + 25 * n} tick" for n in range(4)), "x"]
         outcome = run(*words, stdin=text(*lines), env=self.environment(0))
-        self.assertEqual((4, b"line 607 refused\n"), (outcome.status, outcome.err))
+        self.assertEqual((4, text(f"line {len(lines)} refused")), (outcome.status, outcome.err))
         self.assertIn(b" s", outcome.out.replace(b"1:", b" "))
-        self.assertNoneAfterTheFirst()
+        self.assertEqual((opened, opened), self.growths())
 
     def test_live(self):
         """Commands, refused lines, a record, and the end."""

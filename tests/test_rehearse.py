@@ -8,6 +8,7 @@ from worked import HEADER, S1, codes, rehearsal_of, rehearsals, steps, table, ta
 
 OTHER = CID[:-1] + "2"
 LONGEST_SCRIPT = 16_777_216
+SIXTEEN = text("CUE 1", "CHAN 1@FL", "PATCH 1 " + " ".join(f"1<{512 * k + 1}@FL" for k in range(16)))
 
 
 @with_examples("Line", "Reply")
@@ -67,6 +68,20 @@ class Rehearse(FolderTest):
             (b"0 slots 0\n", "slots 1:255"),
             (b"", "end 0 slots 1:255"),
         )
+
+    def test_sixteen_universes(self):
+        """All of them in one tick, and a packet of the first and of the last; at both ends of what numbers
+        and priorities there are."""
+        for base, priority in ((1, 0), (63984, 200)):
+            sent = " ".join(f"{universe}:s0" for universe in range(base, base + 16))
+            steps = [(f"console {base} {priority} {CID}", None)]
+            steps += [(f"receiver {universe}", None) for universe in (base, base + 15)]
+            steps += [("0 do 0 go", "ok"), ("0 tick 0", "live " + sent)]
+            steps += [(f"0 deliver {r} 0 {base + 15 * r} 0", "taken 0") for r in range(2)]
+            steps = [(text(line), reply) for line, reply in steps]
+            steps += [(b"", f"end {r} slots 1:255") for r in range(2)]
+            with self.subTest(base=base):
+                self.assertRehearses(rehearsal_of(SIXTEEN, steps))
 
     def test_order_of_faults(self):
         """The show first, and only then the script's size."""
