@@ -68,24 +68,26 @@ class Messages(unittest.TestCase):
         self.assertEqual((2, told), run("slots", "-", "1", "--base", "63999", stdin=show))
 
     def test_words(self):
-        """The word that lacks its form, and the form."""
+        """The first argument, in the order of the line, that lacks its form; its text; and the form."""
         to = ("--to", "127.0.0.1")
         cid = ("--cid", CID)
-        for words, word, form in (
-            (("look", "a", "x", *cid), b"x", CUE),
-            (("look", "a", "1", "--cid", "c0ffee"), b"c0ffee", UUID),
-            (("look", "a", "1", "--cid=c0ffee"), b"--cid=c0ffee", UUID),
-            (("play", "a", "--to", "10.0.0", *cid), b"10.0.0", ADDRESS),
-            (("play", "a", *to, *cid, "--priority", "201"), b"201", PRIORITY),
-            (("live", "a", *to, *cid, "--base", "0"), b"0", UNIVERSE),
-            (("listen", "::1", "1", "1"), b"::1", ADDRESS),
-            (("listen", "127.0.0.1", "64000", "1"), b"64000", UNIVERSE),
-            (("listen", "127.0.0.1", "1", "1000001"), b"1000001", COUNT),
-            (("look", "a", "1", "--cid", "\u00fc"), b"??", UUID),
+        for words, argument, form in (
+            (("look", "a", "x", *cid), b"CUE `x`", CUE),
+            (("look", "a", "1", "--cid", "c0ffee"), b"--cid `c0ffee`", UUID),
+            (("look", "a", "1", "--cid=c0ffee"), b"--cid `c0ffee`", UUID),
+            (("play", "a", "--to", "10.0.0", *cid), b"--to `10.0.0`", ADDRESS),
+            (("play", "a", *to, *cid, "--priority", "201"), b"--priority `201`", PRIORITY),
+            (("live", "a", *to, *cid, "--base", "0"), b"--base `0`", UNIVERSE),
+            (("listen", "::1", "1", "1"), b"ADDR `::1`", ADDRESS),
+            (("listen", "127.0.0.1", "64000", "1"), b"UNIVERSE `64000`", UNIVERSE),
+            (("listen", "127.0.0.1", "1", "1000001"), b"COUNT `1000001`", COUNT),
+            (("look", "a", "1", "--cid", "\u00fc"), b"--cid `??`", UUID),
+            # More than one of them lacks its form.
+            (("look", "a", "x", "--cid", "c0ffee"), b"CUE `x`", CUE),
+            (("look", "a", "--cid", "c0ffee", "x"), b"CUE `x`", CUE),
+            (("play", "a", "--base", "0", "--cid", "c0ffee", "--to", "10"), b"--to `10`", ADDRESS),
         ):
-            self.assertEqual((2, [b"words refused", b"`" + word + b"`: " + form]), run(*words), words)
-        # Two words lack their forms.
-        self.assertEqual((2, [b"words refused"]), run("look", "a", "x", "--cid", "c0ffee"))
+            self.assertEqual((2, [b"words refused", argument + b": " + form]), run(*words), words)
         self.assertEqual((2, [b"words refused", b"the words are text in UTF-8"]), run("check", b"\xff"))
 
     def test_lines(self):
