@@ -206,7 +206,7 @@ class Ends(DeskTest):
 
         usual = ("--to", self.to, "--cid", self.cid)
         over = "desk: live has ended with status 2\n"
-        remark = "desk: live: `201`: a priority is a number from 0 to 200\n"
+        remark = "desk: live: --priority `201`: a priority is a number from 0 to 200\n"
         self.assertEqual((2, "desk: live: words refused\n" + remark + over),
                          told(self.show, *usual, "--priority", 201))
         self.assertEqual((1, "desk: no IPv4 address: 'x'\n"), told(self.show, "--to", "x"))

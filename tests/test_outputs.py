@@ -30,11 +30,17 @@ def full_pipe():
         return reader, writer, filled
 
 
-class Outputs(LiveTest):
+class OutputsTest(LiveTest):
+    # What is started, and its environment.
+    PROGRAM = PROGRAM
+    env = None
+
     def night(self, *options, stdout=subprocess.PIPE, stderr=subprocess.PIPE, **kept):
         """A night with these outputs."""
-        words = [PROGRAM, *self.words(*options, **kept)]
-        night = subprocess.Popen(words, stdin=subprocess.PIPE, stdout=stdout, stderr=stderr, bufsize=0)
+        words = [self.PROGRAM, *self.words(*options, **kept)]
+        night = subprocess.Popen(
+            words, stdin=subprocess.PIPE, stdout=stdout, stderr=stderr, bufsize=0, env=self.env
+        )
         self.addCleanup(night.kill)
         self.addCleanup(lambda: [each.close() for each in (night.stdin, night.stdout, night.stderr) if each])
         return night
@@ -66,6 +72,8 @@ class Outputs(LiveTest):
         numbers = [each[SEQUENCE] for each in came]
         self.assertEqual([(numbers[0] + k) % 256 for k in range(len(numbers))], numbers)
 
+
+class Outputs(OutputsTest):
     def test_dead_reader_of_replies(self):
         """It is told once, and the night goes on to its end."""
         for is_there in (True, False):

@@ -1,0 +1,165 @@
+"""A record that is a file goes through a writer of its own, which may wait for the disk: `./cueplayer`
+starts it. A disk that stalls is a writer that is stopped."""
+
+import os
+import re
+import shutil
+import signal
+import subprocess
+import time
+from pathlib import Path
+
+from program import PROGRAM, TOP, run
+from test_outputs import OutputsTest
+
+NEVER = 30
+
+
+def commands(record):
+    """The commands of a record, without their moments."""
+    words = re.findall(rb"(?m)^\d+ (.+)$", record.read_bytes())
+    return [each for each in words if each != b"tick"]
+
+
+class RecordWriter(OutputsTest):
+    PROGRAM = TOP / "cueplayer"
+
+    def setUp(self):
+        super().setUp()
+        self.env = os.environ | {"CUEPLAYER": str(PROGRAM)}
+        self.record = self.folder / "night of May.play"
+
+    def writer(self, night):
+        """The process that writes the record of a night."""
+        until = time.monotonic() + NEVER
+        while time.monotonic() < until:
+            for each in Path(f"/proc/{night.pid}/task/{night.pid}/children").read_text().split():
+                if Path(f"/proc/{each}/comm").read_text() == "cat\n":
+                    self.addCleanup(self.end, int(each))
+                    return int(each)
+            time.sleep(0.01)
+        self.fail("no writer")
+
+    def end(self, writer):
+        try:
+            os.kill(writer, signal.SIGKILL)
+        except ProcessLookupError:
+            pass
+
+    def ends(self, writer):
+        """The writer has ended, and so has written all that it will."""
+        until = time.monotonic() + NEVER
+        while time.monotonic() < until:
+            try:
+                if Path(f"/proc/{writer}/stat").read_text().rpartition(")")[2].split()[0] == "Z":
+                    return
+            except (FileNotFoundError, ProcessLookupError):
+                return
+            time.sleep(0.01)
+        self.fail("the writer does not end")
+
+    def test_whole_at_the_end(self):
+        """When the program has ended, the record has all of it."""
+        for option in (("--record", self.record), (f"--record={self.record}",)):
+            with self.subTest(option):
+                night = self.night(*option)
+                self.light(night, b"sub 1 FL\n", 128)
+                self.light(night, b"sub 1 0\n", 0)
+                self.assertEnds(night)
+                wanted = [b"sub 1 FL", b"sub 1 0", b"master 0", b"end"]
+                self.assertEqual(wanted, commands(self.record))
+                self.assertTrue(self.record.read_bytes().endswith(b" tick\n"))
+                self.assertEqual(b"", night.stderr.read())
+                replay = run("play", *self.words(holds=True)[1:], stdin=self.record.read_bytes())
+                self.assertEqual((0, b""), (replay.status, replay.err))
+                self.assertTerminated(self.came()[-7:])
+                self.record.unlink()
+
+    def test_disk_that_stalls(self):
+        """The light goes on, without a late tick; it is told once, and again when all is written."""
+        night = self.night("--record", self.record, stdout=subprocess.DEVNULL)
+        self.light(night, b"sub 1 FL\n", 128)
+        writer = self.writer(night)
+        os.kill(writer, signal.SIGSTOP)
+        line = b"master FL ! " + b"x" * 150 + b"\n"
+        night.stdin.write(line * 600)
+        self.assertEqual(b"record: late, and the light goes on\n", night.stderr.readline())
+        self.light(night, b"sub 1 50\n", 64)
+        time.sleep(3)
+        self.light(night, b"sub 1 0\n", 0)
+        os.kill(writer, signal.SIGCONT)
+        self.assertEqual(b"record: whole again\n", night.stderr.readline())
+        self.assertEnds(night)
+        self.assertEqual(b"", night.stderr.read())
+        self.assertTicks(self.record)
+        wanted = [b"sub 1 FL", *[line[:-1]] * 600, b"sub 1 50", b"sub 1 0", b"master 0", b"end"]
+        self.assertEqual(wanted, commands(self.record))
+
+    def test_killed_beside_its_writer(self):
+        """What was carried out is recorded, though the disk stalled and the program was killed."""
+        night = self.night("--record", self.record)
+        self.light(night, b"sub 1 FL\n", 128)
+        writer = self.writer(night)
+        os.kill(writer, signal.SIGSTOP)
+        self.light(night, b"sub 1 50\n", 64)
+        self.light(night, b"master 50\n", 32)
+        night.kill()
+        night.wait()
+        os.kill(writer, signal.SIGCONT)
+        self.ends(writer)
+        self.assertEqual([b"sub 1 FL", b"sub 1 50", b"master 50"], commands(self.record))
+
+    def test_writer_that_is_killed(self):
+        """It is told, and the night goes on to its end."""
+        night = self.night("--record", self.record)
+        self.light(night, b"sub 1 FL\n", 128)
+        os.kill(self.writer(night), signal.SIGKILL)
+        self.light(night, b"sub 1 50\n", 64)
+        self.light(night, b"sub 1 0\n", 0)
+        self.assertEnds(night)
+        self.assertEqual(b"record: device fault\n", night.stderr.read())
+        self.assertEqual(b"sub 1 FL", commands(self.record)[0])
+
+    def test_stalled_to_the_end(self):
+        """The program ends, and says how much its writer has still."""
+        night = self.night("--record", self.record)
+        self.light(night, b"sub 1 FL\n", 128)
+        writer = self.writer(night)
+        os.kill(writer, signal.SIGSTOP)
+        self.light(night, b"sub 1 0\n", 0)
+        before = self.record.stat().st_size
+        self.assertEnds(night)
+        told = re.fullmatch(rb"record: (\d+) bytes are still with its writer\n", night.stderr.read())
+        os.kill(writer, signal.SIGCONT)
+        self.ends(writer)
+        self.assertEqual(before + int(told[1]), self.record.stat().st_size)
+        self.assertEqual(b"end", commands(self.record)[-1])
+
+    def test_refused(self):
+        """A run that is refused leaves no file, and changes none."""
+        for words in (("live", self.show), ("live", self.show, "--to", "x", "--cid", "1")):
+            done = subprocess.run(
+                [self.PROGRAM, *words, "--record", self.record], env=self.env, capture_output=True, timeout=NEVER
+            )
+            self.assertEqual(2, done.returncode)
+            self.assertFalse(self.record.exists())
+        self.record.write_bytes(b"0 tick\n")
+        night = self.night("--record", self.record)
+        self.assertEqual(5, night.wait(timeout=NEVER))
+        told = b"device fault\nthe record's file is not empty: no night is written over another\n"
+        self.assertEqual(told, night.stderr.read())
+        self.assertEqual(b"0 tick\n", self.record.read_bytes())
+
+    def test_without_a_pipe(self):
+        """Where no pipe can be made that is told, and the program writes the file itself."""
+        tools = self.folder / "tools"
+        tools.mkdir()
+        for name in ("sh", "readlink", "sha256sum", "cat", "dd", "rm", "mkfifo"):
+            (tools / name).symlink_to(shutil.which(name))
+        self.env = self.env | {"PATH": str(tools)}
+        night = self.night("--record", self.record)
+        self.light(night, b"sub 1 FL\n", 128)
+        self.assertEnds(night)
+        told = b"cueplayer: no pipe to the record: a disk that stalls holds up the light\n"
+        self.assertEqual(told, night.stderr.read())
+        self.assertEqual([b"sub 1 FL", b"master 0", b"end"], commands(self.record))
