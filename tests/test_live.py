@@ -391,6 +391,31 @@ class Lock(LiveTest):
             self.assertEqual((0, b""), (outcome.status, outcome.err))
         self.assertEqual((0, b""), (self.ended(first).status, b""))
 
+    def test_play(self):
+        """`play` holds it too, and does not begin beside another; one after the other, both play."""
+        words = ["play", self.show, "--to", self.to, "--cid", CID]
+        first = self.begun()
+        self.told(first, b"back\n", "refused AtStart")
+        with receiving() as other:
+            words_elsewhere = ["play", self.show, "--to", address_of(other), "--cid", CID]
+            second = subprocess.run(
+                [PROGRAM, *words_elsewhere], input=b"0 tick\n", capture_output=True, timeout=30
+            )
+            self.assertEqual(5, second.returncode)
+            self.assertIn(b"another console on this machine sends under this CID", second.stderr)
+            self.assertEqual([], received(other))
+        self.assertEqual(0, self.ended(first).status)
+        playing = subprocess.Popen([PROGRAM, *words], stdin=subprocess.PIPE, stdout=subprocess.PIPE)
+        self.addCleanup(playing.kill)
+        playing.stdin.write(b"0 tick\n")
+        playing.stdin.flush()
+        self.assertTrue(playing.stdout.readline())
+        self.assertEqual(5, run(*self.words(), stdin=b"").status)
+        playing.communicate(timeout=30)
+        self.assertEqual(0, playing.returncode)
+        for _ in range(2):
+            self.assertEqual(0, run(*words, stdin=b"0 tick\n").status)
+
     def test_console_that_died(self):
         """The lock is free at once, also where the one that held it was killed."""
         for _ in range(3):

@@ -129,7 +129,8 @@ class RecordWriter(OutputsTest):
         self.light(night, b"sub 1 0\n", 0)
         before = self.record.stat().st_size
         self.assertEnds(night)
-        told = re.fullmatch(rb"record: (\d+) bytes are still with its writer\n", night.stderr.read())
+        told = night.stderr.readline()
+        told = re.fullmatch(rb"record: (\d+) bytes are still with its writer\n", told)
         os.kill(writer, signal.SIGCONT)
         self.ends(writer)
         self.assertEqual(before + int(told[1]), self.record.stat().st_size)
