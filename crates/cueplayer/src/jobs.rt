@@ -167,6 +167,69 @@ fn is_error_open(rt: &HostRuntime) -> Result<bool, Failure> {
     }
 }
 
+// The descriptors that a live night was started with.
+#[derive(Drop)]
+struct Standard {
+    input: TypedInput,
+    messages: Messages,
+    // Standard error is open.
+    is_told: bool,
+}
+
+impl Standard {
+    fn open(rt: &HostRuntime) -> Result<Self, Failure> {
+        let is_told = is_error_open(rt)?;
+        let input = TypedInput::open(rt)?;
+        let messages = Messages::new(rt, is_told)?;
+        Ok(Standard {
+            input,
+            messages,
+            is_told,
+        })
+    }
+}
+
+// What a live night plays from and to.
+#[derive(Drop)]
+struct LiveDevices<'a> {
+    lock: Option<CidLock>,
+    feed: LiveFeed<'a>,
+    link: SendingSocket,
+    out: ShownOutput,
+}
+
+impl<'a> LiveDevices<'a> {
+    fn open(
+        rt: &'a HostRuntime,
+        night: &Night,
+        record_file: Option<&str>,
+        ends_with_input: bool,
+        standard: Standard,
+    ) -> Result<Self, Failure> {
+        let Standard {
+            input,
+            mut messages,
+            is_told,
+        } = standard;
+        let lock = CidLock::take(rt, night.cid)?;
+        if lock.is_none() {
+            messages.tell(NO_LOCK);
+        }
+        let out = ShownOutput::new(rt, messages)?;
+        let record = Record::open(rt, record_file).map_err(|fault| of_record(record_file, fault))?;
+        let link = SendingSocket::open(rt, night.to)?;
+        link.never_wait().map_err(of_socket)?;
+        let kept = (record, Messages::new(rt, is_told)?);
+        let feed = LiveFeed::new(rt, input, ends_with_input, kept)?;
+        Ok(LiveDevices {
+            lock,
+            feed,
+            link,
+            out,
+        })
+    }
+}
+
 // Plays by the clock what is typed.
 fn play_live(
     rt: &HostRuntime,
@@ -175,21 +238,15 @@ fn play_live(
     record_file: Option<&str>,
     ends_with_input: bool,
 ) -> Result<(), Failure> {
-    let is_told = is_error_open(rt)?;
-    let input = TypedInput::open(rt)?;
-    let mut messages = Messages::new(rt, is_told)?;
+    let standard = Standard::open(rt)?;
     let text = file_text(rt, night.show.as_str())?;
-    let lock = CidLock::take(rt, night.cid)?;
-    if lock.is_none() {
-        messages.tell(NO_LOCK);
-    }
-    let mut out = ShownOutput::new(rt, messages)?;
     let text = text.as_slice();
-    let record = Record::open(rt, record_file).map_err(|fault| of_record(record_file, fault))?;
-    let mut link = SendingSocket::open(rt, night.to)?;
-    link.never_wait().map_err(of_socket)?;
-    let kept = (record, Messages::new(rt, is_told)?);
-    let mut feed = LiveFeed::new(rt, input, ends_with_input, kept)?;
+    let LiveDevices {
+        lock: _lock,
+        mut feed,
+        mut link,
+        mut out,
+    } = LiveDevices::open(rt, night, record_file, ends_with_input, standard)?;
     let answer = play::<StepFader, _, _, _>(
         rt.alloc(),
         text,

@@ -10,6 +10,10 @@ use system_devices::{Came, DeviceFault, Messages, Record, TypedInput};
 const INPUT_ENDED: &[u8] = b"input ended: the light holds; SIGTERM to the program ends the night \
     (--end-with-input ends it with its input)\n";
 
+// An `end` that was typed before the input ended is given within so many milliseconds, since the
+// light goes down first. Then the night does not go on, and the end of its input is not told.
+const PATIENCE: u64 = 250;
+
 const TYPED_END: &[u8] = b"type end to end the night\n";
 
 /// The input of a live night: what is typed, each line at its moment, and the ticks. It does not
@@ -22,6 +26,8 @@ pub struct LiveFeed<'a> {
     input: TypedInput,
     // The night ends where its input ends.
     ends_with_input: bool,
+    // When the input ended, until that is told.
+    input_ended: Option<u64>,
     kept: Record,
     messages: Messages,
 }
@@ -44,6 +50,7 @@ impl<'a> LiveFeed<'a> {
             live: LiveInput::new(),
             input,
             ends_with_input,
+            input_ended: None,
             kept,
             messages,
         })
@@ -69,10 +76,21 @@ impl<'a> LiveFeed<'a> {
         self.messages.tell(line.as_slice());
     }
 
-    // Waits for bytes, or until so many milliseconds have passed.
-    fn wait(&mut self, milliseconds: u64) -> Result<(), LinkFault>
+    // Tells once that the night goes on without its input.
+    fn tell_input_ended(&mut self, moment: u64) {
+        if let Some(ended) = self.input_ended
+            && moment.saturating_sub(ended) >= PATIENCE
+        {
+            self.input_ended = None;
+            self.messages.tell(INPUT_ENDED);
+        }
+    }
+
+    // Waits for bytes, or for what is due.
+    fn wait(&mut self, moment: u64, due: u64) -> Result<(), LinkFault>
         requires { self.old.live.typed.unread ≡ [] }
     {
+        let milliseconds = due.saturating_sub(moment);
         let mut block = [0; 4096];
         match self.input.wait(self.rt, milliseconds, &mut block)? {
             Came::Bytes(count) => self.live.take_bytes(&block[..count.min(4096)]),
@@ -80,7 +98,7 @@ impl<'a> LiveFeed<'a> {
             Came::End | Came::TypedEnd => {
                 self.live.close(self.ends_with_input);
                 if !self.ends_with_input {
-                    self.messages.tell(INPUT_ENDED);
+                    self.input_ended = Some(moment);
                 }
             }
             Came::Nothing => {}
@@ -100,17 +118,18 @@ impl Feed for LiveFeed<'_> {
         for _ in 0..u64::MAX {
             self.messages.hand_on();
             let moment = self.moment()?;
+            self.tell_input_ended(moment);
             match self.live.next(moment) {
                 Given::Line(line) => {
                     self.kept.keep(line.as_slice(), &mut self.messages);
+                    if line.as_slice().ends_with(b" end\n") {
+                        self.input_ended = None;
+                    }
                     buf[..line.len()].copy_from_slice(line.as_slice());
                     return Ok(line.len());
                 }
                 Given::Refused(text) => self.refuse(text.as_slice()),
-                Given::Until(due) => {
-                    let milliseconds = due.saturating_sub(moment);
-                    self.wait(milliseconds)?;
-                }
+                Given::Until(due) => self.wait(moment, due)?,
                 Given::Over => return Ok(0),
             }
         }
