@@ -101,6 +101,15 @@ class Live(LiveTest):
                 self.assertEqual([*replies, "ok", "ok"], told)
                 self.assertTerminated(self.came())
 
+    def test_input_that_ends_behind_an_end(self):
+        """The night ends, and nobody is told that the light holds."""
+        for lines in (b"end\n", b"sub 1 FL\nend\n", b"leave\n", b"sub 1 FL\nend"):
+            with self.subTest(lines):
+                night = self.begun(holds=True)
+                out, err = night.communicate(lines, timeout=30)
+                self.assertEqual((0, b""), (night.returncode, err))
+                self.came()
+
     def test_closed_input_holds(self):
         """The end of the input ends no night: the light holds, and it is told once how it ends."""
         night = self.begun(holds=True)

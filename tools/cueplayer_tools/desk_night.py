@@ -28,6 +28,9 @@ FULL = 255
 NOTICES_KEPT = 20
 # Seconds within which each answer has come that is still to come.
 UNSURE = 1.0
+# Seconds for what `live` said last, behind its end: the writer of its record, which may wait for a
+# disk, has standard error open too.
+LAST_WORDS = 2.0
 # The most that Linux grants to everybody.
 PIPE_ROOM = 1 << 20
 
@@ -224,7 +227,7 @@ class Night:
     def _wait(self) -> None:
         status = self.process.wait()
         for reader in self.readers:
-            reader.join()
+            reader.join(LAST_WORDS)
         with self.changed:
             self.state.status = status
             self._change()
@@ -276,5 +279,5 @@ class Night:
                 last_word()
         status = self.process.wait()
         for reader in self.readers:
-            reader.join()
+            reader.join(LAST_WORDS)
         return status

@@ -1,5 +1,5 @@
-"""Running the program: the one that `CUEPLAYER` names, the one that these tools came with, or one
-on the PATH."""
+"""Running the program: by the script that these tools came with, which starts the one that
+`CUEPLAYER` names, or its own; without a script, the one of `CUEPLAYER`, or one on the PATH."""
 
 import os
 import subprocess
@@ -11,8 +11,8 @@ SCRIPT = TOP / "cueplayer"
 
 
 def program() -> str:
-    """The program to run."""
-    return os.environ.get("CUEPLAYER") or (str(SCRIPT) if SCRIPT.is_file() else "cueplayer")
+    """The program to run. The script gives the record of a night a writer of its own."""
+    return str(SCRIPT) if SCRIPT.is_file() else os.environ.get("CUEPLAYER") or "cueplayer"
 
 
 @dataclass(frozen=True)
