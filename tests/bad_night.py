@@ -1,6 +1,7 @@
 #!/usr/bin/env python3
-"""A bad night at sixteen universes, by a seed: the desk and its readers stand still, pages open and
-close, floods come, slow connections are held, others send, and the link goes down and up.
+"""A bad night at sixteen universes, by a seed: the desk and its readers stand still, the disk of the
+record stalls, pages open and close, floods come, slow connections are held, others send, and the
+link goes down and up.
 
 usage: tests/bad_night.py [--seconds N] [--seed S]
 
@@ -212,6 +213,7 @@ class Trouble:
         self.kinds = {
             "rest": lambda: time.sleep(1),
             "desk stands still": self.stop_desk,
+            "disk stalls": self.stall_disk,
             "pages come and go": self.open_pages,
             "slow connections": self.hold_connections,
             "flood": self.flood,
@@ -229,6 +231,17 @@ class Trouble:
         self.desk.process.send_signal(signal.SIGSTOP)
         time.sleep(self.chance.uniform(0.1, 3))
         self.desk.process.send_signal(signal.SIGCONT)
+
+    def stall_disk(self) -> None:
+        """The process that writes the record stands still, as where it waits for the disk."""
+        lives = children(self.desk.process.pid)
+        writers = [each for live in lives for each in children(live) if name_of(each) == "cat"]
+        for writer in writers:
+            os.kill(writer, signal.SIGSTOP)
+        self.happened["writers that stalled"] += len(writers)
+        time.sleep(self.chance.uniform(0.1, 3))
+        for writer in writers:
+            os.kill(writer, signal.SIGCONT)
 
     def open_pages(self) -> None:
         with contextlib.suppress(OSError):
@@ -270,6 +283,15 @@ class Trouble:
                 with contextlib.suppress(OSError):
                     other.sendto(strange, (f"239.255.0.{universe}", 5568))
                 time.sleep(0.002)
+
+
+def children(process: int) -> list[int]:
+    tasks = Path(f"/proc/{process}/task").glob("*/children")
+    return [int(each) for task in tasks for each in task.read_text().split()]
+
+
+def name_of(process: int) -> str:
+    return Path(f"/proc/{process}/comm").read_text().strip()
 
 
 def late_presses(
