@@ -197,6 +197,15 @@ class Outputs(ProgramTest):
     def test_closed_output(self):
         self.assertOutputFails(preexec_fn=lambda: os.close(1))
 
+    def test_closed_input_of_play(self):
+        """It is a fault, and nothing that is opened takes its place."""
+        *_, (words, _) = self.jobs()
+        done = subprocess.run(
+            [PROGRAM, *words], capture_output=True, timeout=60, preexec_fn=lambda: os.close(0)
+        )
+        self.assertEqual((5, DEVICE_FAULT), (done.returncode, told(done.stderr)))
+        self.assertEqual(b"", done.stdout)
+
     def test_status_where_nothing_can_be_told(self):
         """Where the text on standard error can't be written the status still tells."""
         for status, words, show in (

@@ -137,6 +137,7 @@ fn listen_at(rt: &HostRuntime, at: ([u8; 4], u16), universe: u16, count: u32) ->
 
 // Plays the lines of standard input.
 fn play_lines(rt: &HostRuntime, night: &Night, source: Identity) -> Result<(), Failure> {
+    ask_for_standard(rt)?;
     let text = file_text(rt, night.show.as_str())?;
     let lock = CidLock::take(rt, night.cid)?;
     if lock.is_none() {
@@ -156,6 +157,15 @@ fn play_lines(rt: &HostRuntime, night: &Night, source: Identity) -> Result<(), F
         &mut out,
     );
     played(answer, text, &link, out.failure())
+}
+
+// Standard input and output have to be open, as for a live night.
+fn ask_for_standard(rt: &HostRuntime) -> Result<(), Failure> {
+    if let Err(error) = rt.stdin().as_fd().try_clone_to_owned() {
+        return Err(Failure::of_device("standard input", error.kind()));
+    }
+    is_error_open(rt)?;
+    Ok(())
 }
 
 // Whether standard error is open; standard output has to be. They are asked for before anything is
@@ -218,7 +228,9 @@ impl<'a> LiveDevices<'a> {
         let out = ShownOutput::new(rt, messages)?;
         let record = Record::open(rt, record_file).map_err(|fault| of_record(record_file, fault))?;
         let link = SendingSocket::open(rt, night.to)?;
-        link.never_wait().map_err(of_socket)?;
+        if let Err(kind) = link.never_wait() {
+            return Err(of_socket(kind));
+        }
         let kept = (record, Messages::new(rt, is_told)?);
         let feed = LiveFeed::new(rt, input, ends_with_input, kept)?;
         Ok(LiveDevices {
