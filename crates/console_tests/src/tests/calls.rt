@@ -14,6 +14,19 @@ fn calls_of_lines(rt: HostRuntime) {
             Reading::At(25, Call::Order(Command::Goto(1500))),
         ),
         (
+            b"7 goto 13 IN 1:30.5",
+            Reading::At(
+                7,
+                Call::Order(Command::GotoIn {
+                    cue: 13000,
+                    time: 90500,
+                }),
+            ),
+        ),
+        (b"7 goto 13 in", Reading::Malformed),
+        (b"7 goto 13 to 4", Reading::Malformed),
+        (b"7 goto 13 in 4 5", Reading::Malformed),
+        (
             b"1 sub 65535 50",
             Reading::At(1, Call::Order(Command::Sub(65535, 128))),
         ),

@@ -166,6 +166,32 @@ fn goto_mid_fade(rt: HostRuntime) -> Result<(), Fail> {
 }
 
 #[test]
+fn goto_in_mid_fade(rt: HostRuntime) -> Result<(), Fail> {
+    take_steps(
+        &rt,
+        rt.alloc(),
+        &[
+            Step::Order(0, Command::Go, Ok(())),
+            Step::Order(
+                2500,
+                Command::GotoIn {
+                    cue: 2000,
+                    time: 8000,
+                },
+                Ok(()),
+            ),
+            Step::Tick(4500, Ok(Ticked::Live)),
+            Step::Slots(96, 64),
+            Step::Order(
+                4500,
+                Command::GotoIn { cue: 3000, time: 0 },
+                Err(Refused::NoCue),
+            ),
+        ],
+    )
+}
+
+#[test]
 fn submaster_and_grand(rt: HostRuntime) -> Result<(), Fail> {
     take_steps(
         &rt,

@@ -17,6 +17,7 @@ enum Step {
     Go(Result<u32, NoMove>),
     Back(Result<u32, NoMove>),
     Goto(u32, Result<u32, NoMove>),
+    GotoIn(u32, u32, Result<u32, NoMove>),
     Stop,
     Pass,
     Due(bool),
@@ -40,6 +41,7 @@ fn holds<F: Fader>(
         Step::Go(answer) => playback.go(show, now) == *answer,
         Step::Back(answer) => playback.back(show, now) == *answer,
         Step::Goto(n, answer) => playback.goto(show, *n, now) == *answer,
+        Step::GotoIn(n, time, answer) => playback.goto_in(show, *n, *time, now) == *answer,
         Step::Stop => {
             playback.stop(show, now);
             true
@@ -153,6 +155,28 @@ fn follow_after_stop(rt: HostRuntime) -> Result<(), Fail> {
             (20000, Step::Goto(1000, Ok(1000))),
             (30000, Step::Stop),
             (30000, Step::Current(Some(2000))),
+        ],
+    )
+}
+
+// The first cue is reached at once, and followed at its own time by the second, which takes its own
+// times; a move in eight seconds takes these up and down.
+#[test]
+fn goto_in(rt: HostRuntime) -> Result<(), Fail> {
+    take_steps(
+        &rt,
+        rt.alloc(),
+        &[Part::Follow(1000, 10000)],
+        &[
+            (0, Step::GotoIn(3000, 0, Err(NoMove::NoCue))),
+            (0, Step::GotoIn(1000, 0, Ok(1000))),
+            (0, Step::Levels(65025, 0)),
+            (9999, Step::Due(false)),
+            (11000, Step::Pass),
+            (11000, Step::Levels(48769, 32512)),
+            (20000, Step::GotoIn(1000, 8000, Ok(1000))),
+            (22000, Step::Pass),
+            (22000, Step::Levels(16256, 48769)),
         ],
     )
 }
