@@ -262,9 +262,14 @@ taken_no_skip : (r : Result Taken Ignored) → is_skip (taken_reply r) ≡ false
 taken_no_skip (Ok x) = refl
 taken_no_skip (Err x) = refl
 
+answered_no_skip : (o : Option Refused) (r : Reply) → is_skip r ≡ false
+    → is_skip (option_map_or reply.Refused o r) ≡ false
+answered_no_skip None r h = h
+answered_no_skip (Some x) r h = refl
+
 no_skip : (w : World) (past : List Event) (t : ℕ) (x : What) → is_skip (replied w past t x) ≡ false
-no_skip w past t (Order i c) = grind arith
-no_skip w past t (Tick i) = grind arith
+no_skip w past t (Order i c) = answered_no_skip _ reply.Done refl
+no_skip w past t (Tick i) = answered_no_skip _ (reply.Ticked _ _) refl
 no_skip w past t (Deliver r i u k) = taken_no_skip _
 no_skip w past t (Stray r from to) = taken_no_skip _
 no_skip w past t (Show r) = refl
