@@ -19,7 +19,9 @@ CUE = b"a cue is a number from 0.001 to 9999.999, as 2.5"
 PRIORITY = b"a priority is a number from 0 to 200"
 UNIVERSE = b"a universe is a number from 1 to 63999"
 COUNT = b"a count is a number from 1 to 1000000"
-INPUT_LINE = b"MOMENT and go, back, goto CUE, sub N LEVEL, group N LEVEL, master LEVEL, end or tick"
+INPUT_LINE = (
+    b"MOMENT and go, back, goto CUE, goto CUE in TIME, sub N LEVEL, group N LEVEL, master LEVEL, end or tick"
+)
 SCRIPT_LINE = b"console BASE PRIORITY UUID, receiver UNIVERSE, or MOMENT and do, tick, deliver, stray or slots"
 SHOW = text("CUE 1", "CHAN 1@FL", "PATCH 1 1<1@FL")
 

@@ -5,8 +5,8 @@ use crate::remark::{Remark, of_device, of_line, of_setup, of_show, plain};
 use cueplayer_faults::RunFault;
 use std::io::ErrorKind;
 
-const INPUT_LINE: &str =
-    "MOMENT and go, back, goto CUE, sub N LEVEL, group N LEVEL, master LEVEL, end or tick";
+const INPUT_LINE: &str = "MOMENT and go, back, goto CUE, goto CUE in TIME, sub N LEVEL, \
+    group N LEVEL, master LEVEL, end or tick";
 
 const SCRIPT_LINE: &str = "console BASE PRIORITY UUID, receiver UNIVERSE, \
     or MOMENT and do, tick, deliver, stray or slots";
