@@ -101,6 +101,7 @@ def command(r):
     return r.choice(
         [
             ["go"], ["go"], ["go"], ["back"], ["goto", r.choice(CUES)], ["goto", r.choice(CUES)],
+            ["goto", r.choice(CUES), "in", r.choice(TIMES)],
             ["sub", r.choice("1123"), r.choice(LEVELS)], ["sub", r.choice("1123"), r.choice(LEVELS)],
             ["group", r.choice("1123"), r.choice(LEVELS)], ["master", r.choice(LEVELS)],
             ["end"] if r.random() < 0.2 else ["go"],

@@ -70,7 +70,7 @@ IN_THE_PROGRAM = {
 # Calls that take no memory once something is open: tests of them that ask for as much as one that only
 # opens it.
 OPENED = {
-    "desk_tests::desk": ("opened", ("goto_mid_fade", "submaster_and_grand")),
+    "desk_tests::desk": ("opened", ("goto_mid_fade", "goto_in_mid_fade", "submaster_and_grand")),
     "stream_tests::receiver": ("every_law", ("four_sources", "source_loss", "stranger_termination")),
 }
 # Which takes long.

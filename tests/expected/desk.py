@@ -2,7 +2,7 @@
 
 from .follow_on import due_moves, next_cue
 from .stream import Stream
-from .words import cue_number, level, number
+from .words import cue_number, level, number, time
 
 LATEST = 1 << 48
 FULL = 255
@@ -31,6 +31,9 @@ def command(words):
     name, given = words[0].lower(), words[1:]
     if name in (b"go", b"back", b"end"):
         return None if given else (name.decode(),)
+    if name == b"goto" and len(given) == 3:
+        cue, link, length = cue_number(given[0]), given[1].lower(), time(given[2])
+        return None if link != b"in" or None in (cue, length) else ("goto", cue, length)
     forms = {
         b"goto": (cue_number,),
         b"sub": (lambda word: number(word, most=65535), level),
@@ -60,14 +63,16 @@ class Desk:
             slots.append(((dimmer - 1) % 512 + 1, channel, byte))
         self.streams = {base + k: (k, Stream()) for k in show.universes()}
 
-    def move(self, cue, moment):
-        """Every channel starts from where it is, and goes to the cue's level in the cue's times."""
+    def move(self, cue, moment, length=None):
+        """Every channel starts from where it is, and goes to the cue's level: in the cue's times, or over
+        this length without delay."""
         looked = self.show.cues[cue]
         channels = set(self.fading) | set(looked.levels)
         fading = {}
         for channel in channels:
             start, target = self.playback(channel, moment), 255 * looked.levels.get(channel, 0)
-            fading[channel] = (start, target, looked.rises() if target > start else looked.falls())
+            times = looked.rises() if target > start else looked.falls()
+            fading[channel] = (start, target, times if length is None else (length, 0))
         self.cue, self.moved, self.fading = cue, moment, fading
 
     def playback(self, channel, moment):
@@ -118,7 +123,7 @@ class Desk:
             return refusal
         self.make(due)
         if move:
-            self.move(move, moment)
+            self.move(move, moment, asked[2] if asked[0] == "goto" and len(asked) == 3 else None)
         elif asked[0] == "end":
             self.endings = 0
         elif asked[0] == "master":
