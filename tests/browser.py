@@ -120,22 +120,24 @@ class BrowserPage:
         script = f"(() => {{ try {{ return {expression}; }} catch {{ return false; }} }})()"
         return wait_for(lambda: self.value(script), expression)
 
-    def press(self, key, code=None, text=""):
-        """Presses and lets go a key."""
+    def press(self, key, code=None, text="", shift=False):
+        """Presses and lets go a key, at wish with Shift held."""
         virtual = {" ": 32, "Enter": 13, "Backspace": 8, "ArrowRight": 39, "ArrowDown": 40}
         self.call("Page.bringToFront")
         named = {"key": key, "code": code or key, "windowsVirtualKeyCode": virtual[key]}
+        named["modifiers"] = 8 if shift else 0
         self.call("Input.dispatchKeyEvent", type="keyDown", text=text, **named)
         self.call("Input.dispatchKeyEvent", type="keyUp", **named)
 
-    def click(self, expression):
-        """Clicks in the middle of an element."""
+    def click(self, expression, shift=False):
+        """Clicks in the middle of an element, at wish with Shift held."""
         script = f"(() => {{ const at = ({expression}); at.scrollIntoView({{block: 'center'}});"
         script += "const box = at.getBoundingClientRect();"
         script += "return [box.x + box.width / 2, box.y + box.height / 2]; })()"
         x, y = self.value(script)
         for kind in ("mousePressed", "mouseReleased"):
-            self.call("Input.dispatchMouseEvent", type=kind, x=x, y=y, button="left", clickCount=1)
+            held = {"button": "left", "clickCount": 1, "modifiers": 8 if shift else 0}
+            self.call("Input.dispatchMouseEvent", type=kind, x=x, y=y, **held)
 
     def names(self, role):
         """The names that a screen reader has for the parts of this role."""

@@ -51,6 +51,8 @@ class Playback(DeskTest):
         page.wait(current="2", next=None)
         page.command("BACK")
         page.wait(current="1.5", next="2")
+        page.command("goto 2 in 0:08")
+        self.assertEqual(8000, page.wait(current="2", next=None)["fade"]["whole"])
         for line in ("sub 1 50", "group 3 FL", "master H40", "master 0"):
             page.command(line)
         page.wait(masters={"sub 1": 128, "group 3": 255}, grand=0, lit_grand=64)

@@ -100,6 +100,19 @@ class DeskPage(DeskTest):
         reached = page.value("document.querySelectorAll('#cues [tabindex=\"0\"]').length")
         self.assertEqual(1, reached)
 
+    def test_cue_list_with_shift(self):
+        """With Shift held, a click or Enter goes to a cue at once; the bar shows that nothing is left."""
+        _, page, state = self.shown_page()
+        page.click("document.querySelectorAll('#cues button')[1]", shift=True)
+        self.assertEqual(0, state.wait(current="1.5")["fade"]["whole"])
+        self.wait_for_level(255)
+        page.click("document.querySelectorAll('#cues button')[0]")
+        state.wait(current="1")
+        page.value("document.querySelectorAll('#cues button')[1].focus()")
+        page.press("Enter", "Enter", "\r", shift=True)
+        self.assertEqual(0, state.wait(current="1.5")["fade"]["whole"])
+        self.assertNoFaults()
+
     def test_faders_and_blackout(self):
         _, page, state = self.shown_page()
         page.value("document.getElementById('sub-1').focus()")

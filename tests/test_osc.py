@@ -69,6 +69,15 @@ ASKED = (
     (message("/cueplayer/goto", "2.50"), "goto 2.5"),
     (message("/cueplayer/goto", ".25"), "goto 0.25"),
     (message("/cueplayer/goto/1.5", 1.0), "goto 1.5"),
+    (message("/cueplayer/goto/13/in", 0), "goto 13 in 0"),
+    (message("/cueplayer/goto/13/in", 0.0), "goto 13 in 0"),
+    (message("/cueplayer/goto/2.50/in", 4.1), "goto 2.5 in 4.1"),
+    (message("/cueplayer/goto/1/in", 0.256), "goto 1 in 0.26"),
+    (message("/cueplayer/goto/1/in", 100), "goto 1 in 100"),
+    (message("/cueplayer/goto/1/in", "1:30.5"), "goto 1 in 90.5"),
+    (message("/cueplayer/goto/1/in", "99:59.99"), "goto 1 in 5999.99"),
+    (message("/cueplayer/goto/1/in/0"), "goto 1 in 0"),
+    (message("/cueplayer/goto/1/in/.5", 1.0), "goto 1 in 0.5"),
     (message("/cueplayer/sub/3", 0.5), "sub 3 H80"),
     (message("/cueplayer/sub/3", "0.5"), "sub 3 H80"),
     (message("/cueplayer/sub/65535", 0.0), "sub 65535 H00"),
@@ -84,6 +93,7 @@ RELEASED = (
     message("/cueplayer/back", 0),
     message("/cueplayer/end", False),
     message("/cueplayer/goto/1.5", 0.0),
+    message("/cueplayer/goto/1.5/in/0", 0.0),
 )
 REFUSED = (
     (b"", "an empty datagram"),
@@ -112,6 +122,15 @@ REFUSED = (
     (message("/cueplayer/goto", float("nan")), "/cueplayer/goto: no number from 0: nan"),
     (message("/cueplayer/goto", "1\n2 go"), "/cueplayer/goto: no cue number: 1?2 go"),
     (message("/cueplayer/goto", True), "/cueplayer/goto: no cue number"),
+    (message("/cueplayer/goto/1/in"), "/cueplayer/goto/1/in: 0 arguments in the place of one"),
+    (message("/cueplayer/goto/1/in", True), "/cueplayer/goto/1/in: no time"),
+    (message("/cueplayer/goto/1/in", -1.0), "/cueplayer/goto/1/in: no number from 0: -1"),
+    (message("/cueplayer/goto/1/in", 6000), "/cueplayer/goto/1/in: no time: 6000.00"),
+    (message("/cueplayer/goto/1/in", 1e9), "/cueplayer/goto/1/in: no time: 1e+09"),
+    (message("/cueplayer/goto/1/in", "1:60"), "/cueplayer/goto/1/in: no time: 1:60"),
+    (message("/cueplayer/goto/0/in", 1), "/cueplayer/goto/0/in: no cue number: 0"),
+    (message("/cueplayer/goto/1/in/x"), "/cueplayer/goto/1/in/x: no time: x"),
+    (message("/cueplayer/goto/1/to/4"), "/cueplayer/goto/1/to/4: no such address"),
     (message("/cueplayer/go", -1.0), "/cueplayer/go: no number from 0: -1"),
     (message("/cueplayer/go", tags="b"), "an argument of type b: /cueplayer/go???,b??"),
     (message("/cueplayer/go", tags="i"), "an argument is cut off: /cueplayer/go???,i??"),
@@ -185,7 +204,7 @@ class Lines(unittest.TestCase):
         numbers += [("f", chance.randbytes(4)) for _ in range(2000)]
         numbers += [("i", chance.randbytes(4)) for _ in range(200)]
         for tag, data in numbers:
-            for address in ("go", "goto", "goto/1", "sub/1", "group/65535", "master"):
+            for address in ("go", "goto", "goto/1", "goto/1/in", "sub/1", "group/65535", "master"):
                 self.assertReadable(message(f"/cueplayer/{address}", tags=tag) + data)
 
     def test_damaged(self):

@@ -49,8 +49,9 @@ class PictureTest(FolderTest):
 
 class Levels(PictureTest):
     def test_rows(self):
-        """The levels of two worked plays, at their ticks, also of other universes."""
-        for name, base, slots in (("five_second_fade", 1, [1]), ("goto_mid_fade", 7, [1, 2])):
+        """The levels of worked plays, at their ticks, also of other universes."""
+        rows = (("five_second_fade", 1, [1]), ("goto_mid_fade", 7, [1, 2]), ("goto_in", 1, [1, 2]))
+        for name, base, slots in rows:
             (play,) = plays(name)
             lines = play.stdin.decode().splitlines()
             found = self.night(lines, universes=[base], base=base)

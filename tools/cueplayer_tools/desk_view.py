@@ -39,7 +39,7 @@ def state_view(night: Night) -> dict[str, Any]:
     fade = None
     if position.moves:
         latest = position.moves[-1]
-        whole = night.show.cues[latest.cue].fade
+        whole = night.show.cues[latest.cue].fade if latest.time is None else latest.time
         fade = {"whole": whole, "elapsed": max(night.clock.now() - latest.moment, 0)}
     return {
         "current": _spelled(position.current),

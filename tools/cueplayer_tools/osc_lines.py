@@ -8,9 +8,11 @@ from cueplayer_tools.words import (
     Refused,
     cue_word,
     level_word,
+    milliseconds_of,
     printable,
     record_number,
     thousandths_of,
+    time_word,
 )
 
 PREFIX = "/cueplayer/"
@@ -58,6 +60,19 @@ def _cue(argument: Argument) -> str:
     return cue_word(thousandths_of(f"{thousandths // 1000}.{thousandths % 1000:03}"))
 
 
+def _time(argument: Argument) -> str:
+    """A time: a string spells it; a float has seconds, to the nearest hundredth."""
+    if isinstance(argument, bool):
+        raise Refused("no time")
+    if isinstance(argument, str):
+        return time_word(milliseconds_of(argument))
+    number = _number(argument)
+    if number > GREATEST:
+        raise Refused(f"no time: {number:g}")
+    hundredths = math.floor(number * 100 + 0.5)
+    return time_word(milliseconds_of(f"{hundredths // 100}.{hundredths % 100:02}"))
+
+
 def line_of(message: Message) -> str | None:
     """The line that a message asks for; None at the release of a button."""
     arguments = message.arguments
@@ -71,6 +86,11 @@ def line_of(message: Message) -> str | None:
         case ["goto", number]:
             cue = cue_word(thousandths_of(number))
             return f"goto {cue}" if _is_pressed(arguments) else None
+        case ["goto", number, "in"]:
+            return f"goto {cue_word(thousandths_of(number))} in {_time(_only(arguments))}"
+        case ["goto", number, "in", word]:
+            line = f"goto {cue_word(thousandths_of(number))} in {_time(word)}"
+            return line if _is_pressed(arguments) else None
         case [("sub" | "group") as kind, number]:
             level = level_word(_number(_only(arguments)))
             return f"{kind} {record_number(number)} {level}"

@@ -6,17 +6,19 @@ The program answers whether a move was made; where it came to follows from the o
 from dataclasses import dataclass, field
 
 from cueplayer_tools.show import Show
-from cueplayer_tools.words import thousandths_of
+from cueplayer_tools.words import milliseconds_of, thousandths_of
 
 MOVES = ("go", "back", "goto")
 
 
 @dataclass(frozen=True)
 class Move:
-    """A move to a cue: its moment in milliseconds, and the cue."""
+    """A move to a cue: its moment in milliseconds, the cue, and the time that it takes where that is
+    not the cue's, in milliseconds."""
 
     moment: int
     cue: int
+    time: int | None = None
 
 
 @dataclass
@@ -55,7 +57,8 @@ class Position:
         """A command that the program accepted at this moment."""
         self.advance(moment)
         if words[0] == "goto":
-            self._move(moment, thousandths_of(words[1]))
+            time = milliseconds_of(words[3]) if len(words) == 4 else None
+            self._move(moment, thousandths_of(words[1]), time)
         elif words[0] == "go":
             self._move(moment, self.following())
         elif words[0] == "back":
@@ -64,6 +67,6 @@ class Position:
         elif words[0] == "end":
             self.is_stopped = True
 
-    def _move(self, moment: int, cue: int | None) -> None:
+    def _move(self, moment: int, cue: int | None, time: int | None = None) -> None:
         if cue is not None:
-            self.moves.append(Move(moment, cue))
+            self.moves.append(Move(moment, cue, time))

@@ -8,7 +8,7 @@ from cueplayer_tools.words import Refused
 _MOMENT = re.compile(r"\d{1,15}", re.ASCII)
 _SEPARATORS = re.compile(r"[ \t\r\x1a,;/<=>@]+")
 # How many words a line of each kind has behind its moment.
-_FORMS = {"go": 1, "back": 1, "end": 1, "tick": 1, "goto": 2, "master": 2, "sub": 3, "group": 3}
+_SIZES = {"go": 1, "back": 1, "end": 1, "tick": 1, "goto": 2, "master": 2, "sub": 3, "group": 3}
 
 
 @dataclass(frozen=True)
@@ -36,7 +36,8 @@ def given_in(words: list[str]) -> Given | None:
     """The line that these words are, or None where they are none."""
     if words and _MOMENT.fullmatch(words[0]) and len(words) > 1:
         lower = tuple(word.lower() for word in words[1:])
-        if _FORMS.get(lower[0]) == len(lower):
+        is_timed = lower[0] == "goto" and lower[2:3] == ("in",) and len(lower) == 4
+        if is_timed or _SIZES.get(lower[0]) == len(lower):
             return Given(int(words[0]), lower)
     return None
 

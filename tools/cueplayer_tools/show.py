@@ -10,7 +10,7 @@ from collections.abc import Iterator
 from dataclasses import dataclass, field
 
 from cueplayer_tools.program import run
-from cueplayer_tools.words import Refused, thousandths_of
+from cueplayer_tools.words import Refused, milliseconds_of, thousandths_of
 
 SEPARATORS = re.compile(rb"[ \t\r\x1a,;/<=>@]+")
 LONGEST_NAME = 80
@@ -93,13 +93,6 @@ def slot_of(dimmer: int, base: int) -> tuple[int, int]:
     return base + (dimmer - 1) // 512, (dimmer - 1) % 512 + 1
 
 
-def milliseconds_of(word: bytes) -> int:
-    """The value of a time word, which the program has taken for one."""
-    minutes, _, seconds = word.decode("latin-1").rpartition(":")
-    whole, _, parts = seconds.partition(".")
-    return (int(minutes or 0) * 60 + int(whole or 0)) * 1000 + int(parts.ljust(2, "0") or 0) * 10
-
-
 def name_in(text: bytes) -> str:
     """A text as a name: on one line, printable, and cut."""
     try:
@@ -170,8 +163,7 @@ class _Reader:
             text = line.partition(b"!")[0].strip(b" \t\r\x1a,;/<=>@")[len(keyword) :]
             self.owner.name = name_in(text.strip(b" \t\r\x1a,;/<=>@\"")) or self.owner.name
         elif isinstance(self.owner, Cue) and keyword in (b"UP", b"DOWN"):
-            times = [milliseconds_of(word) for word in words[:2]]
-            rate = Rate(*times)
+            rate = Rate(*(milliseconds_of(word.decode("latin-1")) for word in words[:2]))
             if keyword == b"UP":
                 self.owner.up = rate
             else:
@@ -183,8 +175,8 @@ class _Reader:
 def follow_of(words: list[bytes]) -> int | None:
     """The time of a FOLLOWON line; None where it has none, and the program skips it."""
     try:
-        return milliseconds_of(words[0])
-    except (IndexError, ValueError):
+        return milliseconds_of(words[0].decode("latin-1"))
+    except (IndexError, Refused):
         return None
 
 

@@ -4,9 +4,15 @@ import math
 import re
 
 HIGHEST_NUMBER = 65_535
+MOST_MINUTES = 99
+MOST_SECONDS = 5999
 LONGEST_NAMED = 80
 _CUE = re.compile(r"(?P<whole>\d{1,9})?(?:\.(?P<parts>\d{1,3}))?", re.ASCII)
 _NUMBER = re.compile(r"\d{1,9}", re.ASCII)
+_SECONDS = re.compile(r"(?P<whole>\d{1,9})?(?:\.(?P<parts>\d{1,2}))?", re.ASCII)
+_MINUTES = re.compile(
+    r"(?P<minutes>\d{1,9}):(?P<whole>\d{1,2})(?:\.(?P<parts>\d{1,2}))?", re.ASCII
+)
 
 
 class Refused(ValueError):
@@ -36,6 +42,28 @@ def cue_word(thousandths: int) -> str:
     """The shortest spelling of a cue number."""
     whole, parts = divmod(thousandths, 1000)
     return f"{whole}.{parts:03}".rstrip("0").rstrip(".")
+
+
+def milliseconds_of(word: str) -> int:
+    """The time that a word spells, in milliseconds: seconds, or minutes, a colon and seconds."""
+    found = _SECONDS.fullmatch(word) if word else None
+    if found and int(found["whole"] or 0) <= MOST_SECONDS:
+        return _in_milliseconds(0, found)
+    found = _MINUTES.fullmatch(word)
+    if found and int(found["minutes"]) <= MOST_MINUTES and int(found["whole"]) < 60:
+        return _in_milliseconds(int(found["minutes"]), found)
+    raise Refused(f"no time: {printable(word)}")
+
+
+def _in_milliseconds(minutes: int, found: re.Match[str]) -> int:
+    hundredths = int((found["parts"] or "").ljust(2, "0"))
+    return 60_000 * minutes + 1000 * int(found["whole"] or 0) + 10 * hundredths
+
+
+def time_word(milliseconds: int) -> str:
+    """The shortest spelling of a time, in seconds."""
+    seconds, rest = divmod(milliseconds, 1000)
+    return f"{seconds}.{rest // 10:02}".rstrip("0").rstrip(".")
 
 
 def record_number(word: str) -> int:
@@ -71,6 +99,9 @@ def command_line(text: str) -> str:
             return word
         case ["goto", number]:
             return f"goto {cue_word(thousandths_of(number))}"
+        case ["goto", number, "in", time]:
+            cue = cue_word(thousandths_of(number))
+            return f"goto {cue} in {time_word(milliseconds_of(time))}"
         case [("sub" | "group") as kind, number, level]:
             return f"{kind} {record_number(number)} H{level_byte(level):02X}"
         case ["master", level]:

@@ -128,7 +128,10 @@ function cueButton(cue) {
     button.append(part);
   }
   button.setAttribute("aria-label", `Go to cue ${cue.number} ${cue.name}`);
-  button.addEventListener("click", (event) => command(`goto ${cue.number}`, event.timeStamp));
+  button.addEventListener("click", (event) => {
+    const line = event.shiftKey ? `goto ${cue.number} in 0` : `goto ${cue.number}`;
+    command(line, event.timeStamp);
+  });
   return button;
 }
 
