@@ -85,8 +85,14 @@ impl ShownOutput {
 
 impl Written for ShownOutput {
     fn unwritten(&self, rt: &HostRuntime) -> u64 {
-        let now = lengths(self.replies.written_file(rt), self.messages.written_file(rt));
-        let replies = self.before.output.saturating_add(self.replies.handed_over());
+        let now = lengths(
+            self.replies.written_file(rt),
+            self.messages.written_file(rt),
+        );
+        let replies = self
+            .before
+            .output
+            .saturating_add(self.replies.handed_over());
         let told = self.told.saturating_add(self.messages.handed_over());
         if now.is_one_file {
             return replies.saturating_add(told).saturating_sub(now.output);
