@@ -19,7 +19,7 @@ const NAMES: Names = Names {
 // The bytes in the files of standard output and standard error that other processes write. Where
 // both are one file, the output has all of them.
 #[derive(Clone, Copy)]
-struct Lengths {
+struct FileLengths {
     output: u64,
     error: u64,
     is_one_file: bool,
@@ -33,7 +33,7 @@ pub struct ShownOutput {
     messages: Messages,
     is_failure_told: bool,
     // Those before the night.
-    before: Lengths,
+    before: FileLengths,
     // Bytes that others told on standard error.
     told: u64,
 }
@@ -121,12 +121,12 @@ impl Output for ShownOutput {
     }
 }
 
-fn lengths(output: Option<Metadata>, error: Option<Metadata>) -> Lengths {
+fn lengths(output: Option<Metadata>, error: Option<Metadata>) -> FileLengths {
     let is_one_file = match (&output, &error) {
         (Some(output), Some(error)) => output.dev() == error.dev() && output.ino() == error.ino(),
         _ => false,
     };
-    Lengths {
+    FileLengths {
         output: length(output),
         error: if is_one_file { 0 } else { length(error) },
         is_one_file,
