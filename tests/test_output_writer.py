@@ -81,6 +81,25 @@ class OutputWriter(WriterTest):
         self.assertEqual(wanted, without_moments(self.out.read_bytes()))
         self.assertEqual(WRONG * 600, self.err.read_bytes())
 
+    def test_more_than_there_is_room(self):
+        """What a disk that stalls for long leaves no room for is dropped, and counted in its place."""
+        with open(self.out, "wb") as out:
+            night = self.night("--record", self.record, stdout=out)
+        self.light(night, b"sub 1 FL\n", 128)
+        writer = self.writer(night, self.out)
+        os.kill(writer, signal.SIGSTOP)
+        count = 7_000
+        night.stdin.write(b"back\n" * count)
+        self.light(night, b"sub 1 0\n", 0)
+        os.kill(writer, signal.SIGCONT)
+        self.assertEnds(night)
+        self.assertTicks(self.record)
+        printed = self.out.read_bytes().splitlines()
+        dropped = [int(each.split()[0]) for each in printed if each.endswith(b" replies dropped")]
+        self.assertEqual(1, len(dropped))
+        self.assertEqual(count + 4, dropped[0] + len(printed) - 1)
+        self.assertEqual(b"", night.stderr.read())
+
     def test_one_file(self):
         """Both in one file have one writer, and stand there in the order in which they came."""
         for mode, before in (("wb", b""), ("ab", BEFORE)):
