@@ -67,7 +67,7 @@ impl<'a> LiveFeed<'a> {
     pub fn finish(&mut self) -> u64 {
         self.kept.finish(self.rt, &mut self.messages);
         self.messages.finish();
-        self.messages.handed_over()
+        self.messages.piped_bytes()
     }
 
     fn refuse(&mut self, text: &[u8]) {

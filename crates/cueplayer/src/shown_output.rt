@@ -7,7 +7,7 @@ use std::fmt::Write;
 use std::fs::Metadata;
 use std::io::Stdout;
 use std::os::unix::fs::MetadataExt;
-use system_devices::{BoundedOutput, DeviceFault, Messages, Names, Written, wait_for_writers};
+use system_devices::{BoundedOutput, DeviceFault, Messages, Names, PipedOutput, wait_for_writers};
 
 const NAMES: Names = Names {
     output: "standard output",
@@ -83,8 +83,8 @@ impl ShownOutput {
     }
 }
 
-impl Written for ShownOutput {
-    fn unwritten(&self, rt: &HostRuntime) -> u64 {
+impl PipedOutput for ShownOutput {
+    fn unwritten_bytes(&self, rt: &HostRuntime) -> u64 {
         let now = lengths(
             self.replies.written_file(rt),
             self.messages.written_file(rt),
@@ -92,8 +92,8 @@ impl Written for ShownOutput {
         let replies = self
             .before
             .output
-            .saturating_add(self.replies.handed_over());
-        let told = self.told.saturating_add(self.messages.handed_over());
+            .saturating_add(self.replies.piped_bytes());
+        let told = self.told.saturating_add(self.messages.piped_bytes());
         if now.is_one_file {
             return replies.saturating_add(told).saturating_sub(now.output);
         }

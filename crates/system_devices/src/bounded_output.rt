@@ -223,7 +223,7 @@ impl<W> BoundedOutput<W> {
 
     /// How many bytes the process that writes its file was given. It is 0 where there is none, or
     /// where it has failed.
-    pub fn handed_over(&self) -> u64 {
+    pub fn piped_bytes(&self) -> u64 {
         if self.way.is_pipe() && self.failure.is_none() {
             self.taken
         } else {

@@ -27,4 +27,4 @@ pub use record::{Record, RecordFault};
 pub use socket::{AddressText, ReceivingSocket, SendingSocket, SocketFault};
 pub use typed_input::{Came, TypedInput};
 pub use watched_output::WatchedOutput;
-pub use writers::{Written, wait_for_writers};
+pub use writers::{PipedOutput, wait_for_writers};

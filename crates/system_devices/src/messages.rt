@@ -58,9 +58,9 @@ impl Messages {
     }
 
     /// How many bytes the process that writes that file was given.
-    pub fn handed_over(&self) -> u64 {
+    pub fn piped_bytes(&self) -> u64 {
         match &self.inner {
-            Some(inner) => inner.handed_over(),
+            Some(inner) => inner.piped_bytes(),
             None => 0,
         }
     }

@@ -1,7 +1,7 @@
 use crate::bounded_output::{BoundedOutput, Names};
 use crate::fault::DeviceFault;
 use crate::messages::Messages;
-use crate::writers::{Written, wait_for_writers};
+use crate::writers::{PipedOutput, wait_for_writers};
 use arrayvec::ArrayString;
 use std::fmt::Write;
 use std::fs::{File, OpenOptions, metadata};
@@ -114,13 +114,13 @@ impl Record {
     }
 }
 
-impl Written for Record {
-    fn unwritten(&self, rt: &HostRuntime) -> u64 {
+impl PipedOutput for Record {
+    fn unwritten_bytes(&self, rt: &HostRuntime) -> u64 {
         let Some(lines) = &self.lines else {
             return 0;
         };
         match lines.written_file(rt) {
-            Some(file) => lines.handed_over().saturating_sub(file.len()),
+            Some(file) => lines.piped_bytes().saturating_sub(file.len()),
             None => 0,
         }
     }
