@@ -5,8 +5,8 @@ use std::fs::{File, Metadata, OpenOptions, metadata};
 use std::io::{Error, ErrorKind, Result as IoResult, Write};
 use std::os::fd::{AsRawFd, RawFd};
 
-/// The way of an output's bytes: into the output itself, or, where that is a file, through a pipe to
-/// a process that writes it, and may wait for the disk.
+/// The way of an output's bytes: into the output itself, or, where that is a file, through a pipe
+/// to a process that writes it, and may wait for the disk.
 #[derive(Drop)]
 pub struct Way<W> {
     output: W,
