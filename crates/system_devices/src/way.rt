@@ -14,7 +14,8 @@ pub struct Way<W> {
 }
 
 impl<W: AsRawFd + Drop> Way<W> {
-    /// The pipe is the one that this variable of the environment names, if it does.
+    /// Opens the way of an output: by the pipe that this variable of the environment names, where it
+    /// names one and the output is a regular file.
     ///
     /// # Errors
     ///
