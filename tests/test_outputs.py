@@ -35,11 +35,17 @@ class OutputsTest(LiveTest):
     PROGRAM = PROGRAM
     env = None
 
-    def night(self, *options, stdout=subprocess.PIPE, stderr=subprocess.PIPE, **kept):
+    def night(self, *options, stdout=subprocess.PIPE, stderr=subprocess.PIPE, preexec_fn=None, **kept):
         """A night with these outputs."""
         words = [self.PROGRAM, *self.words(*options, **kept)]
         night = subprocess.Popen(
-            words, stdin=subprocess.PIPE, stdout=stdout, stderr=stderr, bufsize=0, env=self.env
+            words,
+            stdin=subprocess.PIPE,
+            stdout=stdout,
+            stderr=stderr,
+            bufsize=0,
+            env=self.env,
+            preexec_fn=preexec_fn,
         )
         self.addCleanup(night.kill)
         self.addCleanup(lambda: [each.close() for each in (night.stdin, night.stdout, night.stderr) if each])

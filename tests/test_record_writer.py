@@ -21,7 +21,7 @@ def commands(record):
     return [each for each in words if each != b"tick"]
 
 
-class RecordWriter(OutputsTest):
+class WriterTest(OutputsTest):
     PROGRAM = TOP / "cueplayer"
 
     def setUp(self):
@@ -29,14 +29,19 @@ class RecordWriter(OutputsTest):
         self.env = os.environ | {"CUEPLAYER": str(PROGRAM)}
         self.record = self.folder / "night of May.play"
 
-    def writer(self, night):
-        """The process that writes the record of a night."""
+    def writers(self, night):
+        """The processes that write the files of a night."""
+        children = Path(f"/proc/{night.pid}/task/{night.pid}/children").read_text().split()
+        return [int(each) for each in children if Path(f"/proc/{each}/comm").read_text() == "cat\n"]
+
+    def writer(self, night, file=None):
+        """The process that writes a file of a night, the record where none is named."""
         until = time.monotonic() + NEVER
         while time.monotonic() < until:
-            for each in Path(f"/proc/{night.pid}/task/{night.pid}/children").read_text().split():
-                if Path(f"/proc/{each}/comm").read_text() == "cat\n":
-                    self.addCleanup(self.end, int(each))
-                    return int(each)
+            for each in self.writers(night):
+                if os.path.samefile(f"/proc/{each}/fd/1", file or self.record):
+                    self.addCleanup(self.end, each)
+                    return each
             time.sleep(0.01)
         self.fail("no writer")
 
@@ -58,6 +63,8 @@ class RecordWriter(OutputsTest):
             time.sleep(0.01)
         self.fail("the writer does not end")
 
+
+class RecordWriter(WriterTest):
     def test_whole_at_the_end(self):
         """When the program has ended, the record has all of it."""
         for option in (("--record", self.record), (f"--record={self.record}",)):

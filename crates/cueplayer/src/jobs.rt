@@ -159,21 +159,19 @@ fn play_lines(rt: &HostRuntime, night: &Night, source: Identity) -> Result<(), F
     played(answer, text, &link, out.failure())
 }
 
-// Standard input and output have to be open, as for a live night.
+// Standard input, output and error have to be open. They are asked for before anything is opened,
+// which would get the descriptor of what is closed.
 fn ask_for_standard(rt: &HostRuntime) -> Result<(), Failure> {
-    if let Err(error) = rt.stdin().as_fd().try_clone_to_owned() {
-        return Err(Failure::of_device("standard input", error.kind()));
-    }
-    is_error_open(rt)?;
-    Ok(())
+    ask_for(&rt.stdin(), "standard input")?;
+    ask_for(&rt.stdout(), "standard output")?;
+    ask_for(&rt.stderr(), "standard error")
 }
 
-// Whether standard error is open; standard output has to be. They are asked for before anything is
-// opened, which would get the descriptor of what is closed.
-fn is_error_open(rt: &HostRuntime) -> Result<bool, Failure> {
-    match rt.stdout().as_fd().try_clone_to_owned() {
-        Ok(_) => Ok(rt.stderr().as_fd().try_clone_to_owned().is_ok()),
-        Err(error) => Err(Failure::of_device("standard output", error.kind())),
+// Whether what has this name is open.
+fn ask_for<F: AsFd>(file: &F, name: &str) -> Result<(), Failure> {
+    match file.as_fd().try_clone_to_owned() {
+        Ok(_) => Ok(()),
+        Err(error) => Err(Failure::of_device(name, error.kind())),
     }
 }
 
@@ -188,7 +186,8 @@ struct Standard {
 
 impl Standard {
     fn open(rt: &HostRuntime) -> Result<Self, Failure> {
-        let is_told = is_error_open(rt)?;
+        ask_for(&rt.stdout(), "standard output")?;
+        let is_told = ask_for(&rt.stderr(), "standard error").is_ok();
         let input = TypedInput::open(rt)?;
         let messages = Messages::new(rt, is_told)?;
         Ok(Standard {
@@ -218,14 +217,14 @@ impl<'a> LiveDevices<'a> {
     ) -> Result<Self, Failure> {
         let Standard {
             input,
-            mut messages,
+            messages,
             is_told,
         } = standard;
+        let mut out = ShownOutput::new(rt, messages)?;
         let lock = CidLock::take(rt, night.cid)?;
         if lock.is_none() {
-            messages.tell(NO_LOCK);
+            out.tell(NO_LOCK);
         }
-        let out = ShownOutput::new(rt, messages)?;
         let record = Record::open(rt, record_file).map_err(|fault| of_record(record_file, fault))?;
         let link = SendingSocket::open(rt, night.to)?;
         if let Err(kind) = link.never_wait() {
@@ -268,8 +267,8 @@ fn play_live(
         &mut link,
         &mut out,
     );
-    feed.finish();
-    out.finish();
+    let told = feed.finish();
+    out.finish(rt, told);
     played(answer, text, &link, None)
 }
 

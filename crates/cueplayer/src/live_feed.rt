@@ -62,10 +62,12 @@ impl<'a> LiveFeed<'a> {
         Ok(u64::try_from(elapsed.as_millis()).unwrap_or(u64::MAX))
     }
 
-    /// Hands on what waits, at the end of the night.
-    pub fn finish(&mut self) {
+    /// Hands on what waits, at the end of the night. Returns how many bytes the process that writes
+    /// the file of standard error was given.
+    pub fn finish(&mut self) -> u64 {
         self.kept.finish(self.rt, &mut self.messages);
         self.messages.finish();
+        self.messages.piped_bytes()
     }
 
     fn refuse(&mut self, text: &[u8]) {

@@ -1,10 +1,12 @@
 ghost use Rattle.std.specs.Prelude.{◌≡◌, ◌≤◌, length};
 
 use crate::fault::DeviceFault;
+use crate::way::Way;
 use arrayvec::ArrayString;
 use mio::unix::SourceFd;
 use mio::{Events, Interest, Poll, Token};
 use std::fmt::Write as _;
+use std::fs::Metadata;
 use std::io::{ErrorKind, Write};
 use std::os::fd::{AsRawFd, RawFd};
 use std::time::Duration;
@@ -29,6 +31,8 @@ const OUTPUT: Token = Token(0);
 pub struct Names {
     /// Its name in messages.
     pub output: &'static str,
+    /// The variable of the environment that names the pipe to the writer of its file.
+    pub pipe: &'static str,
     /// What stands in front of a notice in the output itself.
     pub mark: &'static str,
     /// Its lines: "replies".
@@ -51,7 +55,7 @@ enum Readiness {
 /// lines that were.
 #[derive(Drop)]
 pub struct BoundedOutput<W> {
-    inner: W,
+    way: Way<W>,
     descriptor: RawFd,
     names: Names,
     poll: Poll,
@@ -67,13 +71,23 @@ pub struct BoundedOutput<W> {
     failure: Option<ErrorKind>,
 }
 
+impl Names {
+    fn fault(self, kind: ErrorKind) -> DeviceFault {
+        match kind {
+            ErrorKind::OutOfMemory => DeviceFault::Memory,
+            kind => DeviceFault::Device(self.output, kind),
+        }
+    }
+}
+
 impl<W: Write + AsRawFd + Drop> BoundedOutput<W> {
     /// # Errors
     ///
-    /// `Device` where the output cannot be asked whether it takes bytes; `Memory` where a growth
-    /// was refused.
-    pub fn new(rt: &HostRuntime, inner: W, names: Names) -> Result<Self, DeviceFault> {
-        let descriptor = inner.as_raw_fd();
+    /// `Device` where the output cannot be asked whether it takes bytes, or the pipe to its writer
+    /// cannot be opened; `Memory` where a growth was refused.
+    pub fn new(rt: &HostRuntime, output: W, names: Names) -> Result<Self, DeviceFault> {
+        let way = Way::open(rt, output, names.pipe).map_err(|error| names.fault(error.kind()))?;
+        let descriptor = way.as_raw_fd();
         let poll = Poll::new(rt).map_err(|error| DeviceFault::Device(names.output, error.kind()))?;
         let (Ok(events), Ok(waiting)) = (
             Events::with_capacity(rt.alloc(), 1),
@@ -90,7 +104,7 @@ impl<W: Write + AsRawFd + Drop> BoundedOutput<W> {
             Err(error) => return Err(DeviceFault::Device(names.output, error.kind())),
         };
         Ok(BoundedOutput {
-            inner,
+            way,
             descriptor,
             names,
             poll,
@@ -160,7 +174,7 @@ impl<W: Write + AsRawFd + Drop> BoundedOutput<W> {
 
     fn write_part(&mut self) {
         let count = self.waiting.len().min(PART);
-        match self.inner.write(&self.waiting.as_slice()[..count]) {
+        match self.way.write(&self.waiting.as_slice()[..count]) {
             Ok(count) => self.let_go(count),
             Err(error) => match error.kind() {
                 ErrorKind::Interrupted | ErrorKind::WouldBlock => {}
@@ -194,15 +208,27 @@ impl<W: Write + AsRawFd + Drop> BoundedOutput<W> {
     }
 }
 
+impl<W: AsRawFd> BoundedOutput<W> {
+    /// Its file, if another process writes it.
+    pub fn written_file(&self, rt: &HostRuntime) -> Option<Metadata> {
+        self.way.written_file(rt)
+    }
+}
+
 impl<W> BoundedOutput<W> {
     /// The system's reason where a write failed. Nothing is written any more then.
     pub fn failure(&self) -> Option<ErrorKind> {
         self.failure
     }
 
-    /// How many bytes it took.
-    pub fn taken(&self) -> u64 {
-        self.taken
+    /// How many bytes the process that writes its file was given. It is 0 where there is none, or
+    /// where it has failed.
+    pub fn piped_bytes(&self) -> u64 {
+        if self.way.is_pipe() && self.failure.is_none() {
+            self.taken
+        } else {
+            0
+        }
     }
 
     /// How many times lines are missing in it.

@@ -14,6 +14,8 @@ mod record;
 mod socket;
 mod typed_input;
 mod watched_output;
+mod way;
+mod writers;
 
 pub use bounded_output::{BoundedOutput, Names};
 pub use cid_lock::{CidLock, LockFault, PathText};
@@ -25,3 +27,4 @@ pub use record::{Record, RecordFault};
 pub use socket::{AddressText, ReceivingSocket, SendingSocket, SocketFault};
 pub use typed_input::{Came, TypedInput};
 pub use watched_output::WatchedOutput;
+pub use writers::{PipedOutput, wait_for_writers};

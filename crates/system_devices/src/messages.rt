@@ -1,9 +1,11 @@
 use crate::bounded_output::{BoundedOutput, Names};
 use crate::fault::DeviceFault;
+use std::fs::Metadata;
 use std::io::Stderr;
 
 const NAMES: Names = Names {
     output: "standard error",
+    pipe: "CUEPLAYER_ERROR_PIPE",
     mark: "",
     lines: "messages",
 };
@@ -45,6 +47,21 @@ impl Messages {
     pub fn finish(&mut self) {
         if let Some(inner) = &mut self.inner {
             inner.finish();
+        }
+    }
+    /// The file of standard error, if another process writes it.
+    pub fn written_file(&self, rt: &HostRuntime) -> Option<Metadata> {
+        match &self.inner {
+            Some(inner) => inner.written_file(rt),
+            None => None,
+        }
+    }
+
+    /// How many bytes the process that writes that file was given.
+    pub fn piped_bytes(&self) -> u64 {
+        match &self.inner {
+            Some(inner) => inner.piped_bytes(),
+            None => 0,
         }
     }
 }

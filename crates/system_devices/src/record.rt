@@ -1,23 +1,16 @@
 use crate::bounded_output::{BoundedOutput, Names};
 use crate::fault::DeviceFault;
 use crate::messages::Messages;
+use crate::writers::{PipedOutput, wait_for_writers};
 use arrayvec::ArrayString;
-use std::env::{self, VarError};
 use std::fmt::Write;
 use std::fs::{File, OpenOptions, metadata};
-use std::io::{Error, ErrorKind, Result as IoResult};
+use std::io::ErrorKind;
 use std::os::unix::fs::FileTypeExt;
-use std::thread::sleep;
-use std::time::Duration;
-
-// What names the pipe to the record's writer, where who started the program made one.
-const PIPE: &str = "CUEPLAYER_RECORD_PIPE";
-
-// At the end the writer is waited for so many milliseconds.
-const PATIENCE: u32 = 2000;
 
 const NAMES: Names = Names {
     output: "the record",
+    pipe: "CUEPLAYER_RECORD_PIPE",
     mark: "! ",
     lines: "lines",
 };
@@ -43,8 +36,6 @@ pub enum RecordFault {
 #[derive(Drop)]
 pub struct Record {
     lines: Option<BoundedOutput<File>>,
-    // The file, where a writer of its own gets the lines by a pipe, and may wait for the disk.
-    file: Option<File>,
     // Lines wait, or were dropped, and that was told.
     is_late: bool,
     // The gaps that were told.
@@ -62,21 +53,13 @@ impl Record {
         let Some(name) = name else {
             return Ok(Record {
                 lines: None,
-                file: None,
                 is_late: false,
                 gaps: 0,
             });
         };
-        let file = open_file(rt, name)?;
-        let (lines, file) = match open_pipe(rt, &file) {
-            Ok(Some(pipe)) => (pipe, Some(file)),
-            Ok(None) => (file, None),
-            Err(error) => return Err(of_pipe(error.kind())),
-        };
-        match BoundedOutput::new(rt, lines, NAMES) {
+        match BoundedOutput::new(rt, open_file(rt, name)?, NAMES) {
             Ok(lines) => Ok(Record {
                 lines: Some(lines),
-                file,
                 is_late: false,
                 gaps: 0,
             }),
@@ -102,28 +85,11 @@ impl Record {
             lines.finish();
         }
         self.tell_state(messages);
-        for _ in 0..PATIENCE {
-            if self.unwritten() == 0 {
-                return;
-            }
-            sleep(rt, Duration::from_millis(1));
-        }
-        let left = self.unwritten();
+        let left = wait_for_writers(rt, self);
         if left > 0 {
             let mut text = ArrayString::<80>::new();
             let _ = writeln!(text, "record: {left} bytes are still with its writer");
             messages.tell(text.as_str().as_bytes());
-        }
-    }
-
-    // How many bytes a writer has taken that its file has not yet.
-    fn unwritten(&self) -> u64 {
-        match (&self.lines, &self.file) {
-            (Some(lines), Some(file)) => match file.metadata() {
-                Ok(found) => lines.taken().saturating_sub(found.len()),
-                Err(_) => 0,
-            },
-            _ => 0,
         }
     }
 
@@ -148,6 +114,18 @@ impl Record {
     }
 }
 
+impl PipedOutput for Record {
+    fn unwritten_bytes(&self, rt: &HostRuntime) -> u64 {
+        let Some(lines) = &self.lines else {
+            return 0;
+        };
+        match lines.written_file(rt) {
+            Some(file) => lines.piped_bytes().saturating_sub(file.len()),
+            None => 0,
+        }
+    }
+}
+
 // A FIFO is opened for reading too: so it is there at once, whether anybody reads it or not.
 fn open_file(rt: &HostRuntime, name: &str) -> Result<File, RecordFault> {
     let is_fifo = match metadata(rt, name) {
@@ -165,31 +143,4 @@ fn open_file(rt: &HostRuntime, name: &str) -> Result<File, RecordFault> {
         Ok(_) => Err(RecordFault::NotEmpty),
         Err(error) => Err(RecordFault::File(error.kind())),
     }
-}
-
-// The pipe to the writer of a file, if there is one. It is opened for writing alone, so that a writer
-// that has gone is seen; that does not wait for one, since until then it is open both ways.
-fn open_pipe(rt: &HostRuntime, file: &File) -> IoResult<Option<File>> {
-    if !file.metadata()?.is_file() {
-        return Ok(None);
-    }
-    match env::var(rt, PIPE) {
-        Ok(name) => {
-            let _both_ways = OpenOptions::new()
-                .read(true)
-                .write(true)
-                .open(rt, name.as_str())?;
-            let pipe = OpenOptions::new().write(true).open(rt, name.as_str())?;
-            Ok(Some(pipe))
-        }
-        Err(VarError::OutOfMemory) => Err(Error::from(ErrorKind::OutOfMemory)),
-        Err(_) => Ok(None),
-    }
-}
-
-fn of_pipe(kind: ErrorKind) -> RecordFault {
-    RecordFault::Way(match kind {
-        ErrorKind::OutOfMemory => DeviceFault::Memory,
-        kind => DeviceFault::Device("the pipe to the record", kind),
-    })
 }
