@@ -1,8 +1,8 @@
 -- What lines say of labels, one line after the other.
 use Rattle.std.proofs.Common.{◌≡◌, ℕ, ◌+◌, ◌≤◌, ◌&&◌, true, false, cond, List, [], ◌∷◌, ◌++◌}
-use Rattle.std.proofs.Common.{length, reverse, take, refl, sym, ap, subst, ◌∙◌, arith, Option, Some}
+use Rattle.std.proofs.Common.{length, reverse, take, refl, sym, ap, subst, ◌∙◌, Option, Some}
 use Rattle.std.proofs.Common.{None}
-use Rattle.std.specs.Prelude.{fold, option_to_list, unwrap_or}
+use Rattle.std.specs.Prelude.{option_to_list, unwrap_or}
 use Rattle.std.specs.Option.{option_or}
 use Rattle.std.proofs.lemmas.List.{append-nil}
 use Rattle.std.proofs.lemmas.List.Sums.{fold-append}
@@ -118,7 +118,8 @@ module _ {text : List ℕ} {count : ℕ} {lines left : List (List ℕ)} {ahead :
     (h : StandsBehind text count lines left ahead owner said) where
   -- so many lines are read
   pub all_read : length lines ≡ count → AreOf (reverse (take count (lines_of text))) said
-  all_read is = subst (λ ls. AreOf ls said) (all_that_are_read text count lines left h.all is) h.labels
+  all_read is =
+      subst (λ ls. AreOf ls said) (all_that_are_read text count lines left h.all is) h.labels
 
   -- the text has no line more
   pub no_more : ahead ≡ [] → AreOf (reverse (take count (lines_of text))) said

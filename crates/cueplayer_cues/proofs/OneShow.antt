@@ -9,20 +9,20 @@ use Rattle.show_reader.specs.Text.{statements_of}
 use Rattle.show_reader.proofs.OneShow.{of_its_show}
 use Rattle.cueplayer_cues.specs.Json.{json_text}
 use Rattle.cueplayer_cues.specs.Labels.{label_after, label_in}
-use Rattle.cueplayer_cues.specs.Prints.{IsJsonOf, IsTableOf}
+use Rattle.cueplayer_cues.specs.Prints.{IsCueJson, IsCueTable}
 use Rattle.cueplayer_cues.specs.Table.{table_text}
 
 module _ (show written : List ℕ) (lines : ℕ) (s : Tables)
     (is : IsShowOf (statements_of desk_limits show) s) (read : lines ≡ lines_read desk_limits show)
-    where
-  pub table_of : written ≡ table_text (label_after (reverse (take lines (lines_of show)))) s
-      → IsTableOf show written
-  table_of wrote =
-      of_its_show show (λ t. written ≡ table_text (label_in show) t) s is
-      (wrote ∙ ap (λ n. table_text (label_after (reverse (take n (lines_of show)))) s) read)
+  where
+    pub table_of : written ≡ table_text (label_after (reverse (take lines (lines_of show)))) s
+        → IsCueTable show written
+    table_of wrote =
+        of_its_show show (λ t. written ≡ table_text (label_in show) t) s is
+        (wrote ∙ ap (λ n. table_text (label_after (reverse (take n (lines_of show)))) s) read)
 
-  pub json_of : written ≡ json_text (label_after (reverse (take lines (lines_of show)))) s
-      → IsJsonOf show written
-  json_of wrote =
-      of_its_show show (λ t. written ≡ json_text (label_in show) t) s is
-      (wrote ∙ ap (λ n. json_text (label_after (reverse (take n (lines_of show)))) s) read)
+    pub json_of : written ≡ json_text (label_after (reverse (take lines (lines_of show)))) s
+        → IsCueJson show written
+    json_of wrote =
+        of_its_show show (λ t. written ≡ json_text (label_in show) t) s is
+        (wrote ∙ ap (λ n. json_text (label_after (reverse (take n (lines_of show)))) s) read)

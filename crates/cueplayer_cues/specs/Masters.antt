@@ -3,8 +3,8 @@
 use Rattle.std.specs.Prelude.{ℕ, List, codes}
 use Rattle.show_line.specs.declared.statement.Record.{Record}
 use Rattle.show_line.specs.declared.statement.Record.TheVariants.{Group, Sub}
-use Rattle.cueplayer_cues.specs.declared.rows.Masters.{Masters}
-use Rattle.cueplayer_cues.specs.declared.rows.Masters.TheVariants.{Groups, Subs}
+use Rattle.cueplayer_cues.specs.declared.cue_rows.Masters.{Masters}
+use Rattle.cueplayer_cues.specs.declared.cue_rows.Masters.TheVariants.{Groups, Subs}
 
 abbrev pub record_in : Masters → ℕ → Record
 record_in Subs n = Sub n

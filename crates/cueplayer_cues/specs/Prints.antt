@@ -6,9 +6,9 @@ use Rattle.cueplayer_cues.specs.Labels.{label_in}
 use Rattle.cueplayer_cues.specs.Table.{table_text}
 
 -- the table of the show that the text means, with the text's labels
-abbrev pub IsTableOf : List ℕ → List ℕ → Type 0
-IsTableOf show text = OfItsShow show (λ s. text ≡ table_text (label_in show) s)
+abbrev pub IsCueTable : List ℕ → List ℕ → Type 0
+IsCueTable show text = OfItsShow show (λ s. text ≡ table_text (label_in show) s)
 
 -- its object
-abbrev pub IsJsonOf : List ℕ → List ℕ → Type 0
-IsJsonOf show text = OfItsShow show (λ s. text ≡ json_text (label_in show) s)
+abbrev pub IsCueJson : List ℕ → List ℕ → Type 0
+IsCueJson show text = OfItsShow show (λ s. text ≡ json_text (label_in show) s)

@@ -4,7 +4,7 @@ use Rattle.std.specs.FinMap as maps
 use Rattle.show_core.specs.declared.cue.CueData.{CueData}
 use Rattle.show_core.specs.Readers.{ordinal_of, rate_of}
 use Rattle.show_core.specs.Tables.{CueMap, PatchMap}
-use Rattle.cueplayer_cues.specs.declared.rows.CueRow.{CueRow}
+use Rattle.cueplayer_cues.specs.declared.cue_rows.CueRow.{CueRow}
 
 -- a cue as it is played: without UP its rising levels take the rate of DOWN, and the reverse; how
 -- many channels it lists

@@ -1,5 +1,5 @@
-ghost use Rattle.std.specs.Prelude.{◌≡◌, ◌++◌, ◌==◌, [], ◌∷◌, IfOk, OnOk, codes, flat_map};
-ghost use Rattle.std.specs.Prelude.{decimal, if◌then◌else◌};
+ghost use Rattle.std.specs.Prelude.{◌≡◌, ◌++◌, ◌==◌, [], ◌∷◌, IfOk, OnOk, codes};
+ghost use Rattle.std.specs.Prelude.{if◌then◌else◌};
 ghost use Rattle.hex.specs.Hex.{encode_lower};
 ghost use Rattle.cueplayer_cues.specs.LabelLines.{label_by};
 ghost use Rattle.cueplayer_cues.specs.Masters.{record_in};
@@ -8,8 +8,8 @@ ghost use Rattle.cueplayer_cues.specs.Json.{json_text, master_text, string_byte,
 ghost use Rattle.cueplayer_cues.specs.Json.{rate_text, universe_text};
 
 use crate::cell::{push_decimal, push_number};
+use crate::cue_rows::{CueRow, Masters, channel_count, cue_rows, dimmer_count};
 use crate::labels::Labels;
-use crate::rows::{CueRow, Masters, channel_count, cue_rows, dimmer_count};
 use show_core::{Levels, Rate, Show};
 use show_line::Record;
 use std::alloc::{AllocError, Global};
@@ -49,11 +49,7 @@ fn push_break(text: &mut Vec<u8>, place: usize) -> Result<(), AllocError>
     }
 }
 
-fn push_cues(
-    text: &mut Vec<u8>,
-    cues: &[CueRow],
-    labels: &Labels<'_>,
-) -> Result<(), AllocError>
+fn push_cues(text: &mut Vec<u8>, cues: &[CueRow], labels: &Labels<'_>) -> Result<(), AllocError>
     ensures { OnOk result (text.new.items ≡ text.old.items
         ++ array_text (cue_text (label_by labels.now.lines.items)) cues.now) }
 {

@@ -1,9 +1,9 @@
-ghost use Rattle.std.specs.Prelude.{◌≡◌, ◌&&◌, if◌then◌else◌, option_map};
-ghost use Rattle.ascii_text.specs.Text.{is_word, words_of};
+ghost use Rattle.std.specs.Prelude.{◌≡◌, option_map};
+ghost use Rattle.ascii_text.specs.Text.{words_of};
 ghost use Rattle.show_line.specs.declared.statement.Record.{Record};
 ghost use Rattle.show_line.specs.declared.statement.Statement.TheVariants.{Quiet};
 ghost use Rattle.show_reader.specs.Keys.{table_of};
-ghost use Rattle.show_reader.specs.Meaning.{Is, Silent, after, empties, same_record};
+ghost use Rattle.show_reader.specs.Meaning.{after, empties, same_record};
 ghost use Rattle.cueplayer_cues.specs.declared.label_line.LabelKind.{LabelKind};
 ghost use Rattle.cueplayer_cues.specs.Labels.{is_text, label_news_of, label_part};
 ghost use Rattle.cueplayer_cues.specs.LabelLines.{label_if, line_news, news_in};

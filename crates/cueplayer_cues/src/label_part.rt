@@ -1,7 +1,8 @@
 ghost use Rattle.std.specs.Prelude.{◌≡◌, ◌+◌, ◌≤◌, drop, length};
-ghost use Rattle.std.specs.List.{after_first, before_first, position_or_len, prefix_len, suffix_len};
+ghost use Rattle.std.specs.List.{after_first, before_first, position_or_len};
 ghost use Rattle.ascii_text.specs.Text.{is_bang, is_separator};
-ghost use Rattle.cueplayer_cues.specs.Labels.{inner, is_edge, label_part, without_end, without_front};
+ghost use Rattle.cueplayer_cues.specs.Labels.{inner, is_edge, label_part, without_end};
+ghost use Rattle.cueplayer_cues.specs.Labels.{without_front};
 
 use crate::label_line::LabelKind;
 

@@ -1,6 +1,6 @@
 ghost use Rattle.std.specs.Prelude.{◌≡◌, ◌<◌, ◌^◌, ◌++◌, ℕ, List, ◌∷◌, length, reverse, take};
 ghost use Rattle.std.specs.Prelude.{IfOk, OnOk, if◌then◌else◌, option_map, option_to_list};
-ghost use Rattle.ascii_text.specs.Text.{lines_of, words_of};
+ghost use Rattle.ascii_text.specs.Text.{lines_of};
 ghost use Rattle.show_line.specs.Keywords.{may_own};
 ghost use Rattle.show_line.specs.Said.{desk_limits, record_opened};
 ghost use Rattle.show_reader.specs.Text.{owner_below};

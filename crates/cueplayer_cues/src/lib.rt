@@ -11,12 +11,12 @@
 #![tactic(auto)]
 
 mod cell;
+mod cue_rows;
 mod json;
 mod label_line;
 mod label_part;
 mod labels;
 mod listing;
-mod rows;
 mod table;
 
 pub use listing::{cues, cues_json};

@@ -4,7 +4,7 @@ ghost use Rattle.cueplayer_runs.specs.Faults.{CheckFails, ReadsFirst};
 ghost use Rattle.cueplayer_runs.specs.Prints.{PrintsTo};
 ghost use Rattle.cueplayer_cues.specs.Json.{json_text};
 ghost use Rattle.cueplayer_cues.specs.Labels.{label_after};
-ghost use Rattle.cueplayer_cues.specs.Prints.{IsJsonOf, IsTableOf};
+ghost use Rattle.cueplayer_cues.specs.Prints.{IsCueJson, IsCueTable};
 ghost use Rattle.cueplayer_cues.specs.Table.{table_text};
 
 use crate::json::json_text;
@@ -26,7 +26,7 @@ use std::alloc::{AllocError, Global};
 ///
 /// The text's fault; `Memory` where a growth was refused; `Device` where the write failed.
 pub fn cues<W: Output>(alloc: Global, show: &[u8], out: &mut W) -> Result<(), RunFault>
-    ensures prints { PrintsTo W.tells W.tape out.old out.new result (IsTableOf show.now) }
+    ensures prints { PrintsTo W.tells W.tape out.old out.new result (IsCueTable show.now) }
     ensures reads { ReadsFirst show.now (CheckFails show.now) result }
 {
     let loaded = read_show(alloc, show)?;
@@ -47,7 +47,7 @@ pub fn cues<W: Output>(alloc: Global, show: &[u8], out: &mut W) -> Result<(), Ru
 ///
 /// The text's fault; `Memory` where a growth was refused; `Device` where the write failed.
 pub fn cues_json<W: Output>(alloc: Global, show: &[u8], out: &mut W) -> Result<(), RunFault>
-    ensures prints { PrintsTo W.tells W.tape out.old out.new result (IsJsonOf show.now) }
+    ensures prints { PrintsTo W.tells W.tape out.old out.new result (IsCueJson show.now) }
     ensures reads { ReadsFirst show.now (CheckFails show.now) result }
 {
     let loaded = read_show(alloc, show)?;

@@ -1,13 +1,12 @@
-ghost use Rattle.std.specs.Prelude.{◌≡◌, ◌++◌, IfOk, OnOk, codes, decimal, flat_map, take};
-ghost use Rattle.show_line.specs.declared.statement.Record.TheVariants.{Group, Sub};
+ghost use Rattle.std.specs.Prelude.{◌≡◌, ◌++◌, IfOk, OnOk, codes, flat_map, take};
 ghost use Rattle.cueplayer_cues.specs.LabelLines.{label_by};
 ghost use Rattle.cueplayer_cues.specs.Masters.{masters_head, record_in};
-ghost use Rattle.cueplayer_cues.specs.Table.{cue_line, follow_cell, label_cell, master_line, rate_cells};
-ghost use Rattle.cueplayer_cues.specs.Table.{cell, section, table_text, universe_line};
+ghost use Rattle.cueplayer_cues.specs.Table.{cue_line, follow_cell, label_cell, master_line};
+ghost use Rattle.cueplayer_cues.specs.Table.{rate_cells, section, table_text, universe_line};
 
 use crate::cell::{push_cell, push_decimal_cell, push_number_cell};
+use crate::cue_rows::{CueRow, Masters, channel_count, cue_rows, dimmer_count};
 use crate::labels::Labels;
-use crate::rows::{CueRow, Masters, channel_count, cue_rows, dimmer_count};
 use cueplayer_explain::push_shown;
 use show_core::{Levels, Rate, Show};
 use show_line::Record;

@@ -14,7 +14,8 @@ returns c =
     let b : c.extend_from_slice-2.new.self.items
     ≡ c.push_decimal.new.out.items ++ codes "\",\"label\":" =
     c.in_ok-extend_from_slice-2.ensures.items in
-    let d : c.push_string.new.text.items ≡ c.extend_from_slice-2.new.self.items ++ string_text label =
+    let d : c.push_string.new.text.items
+    ≡ c.extend_from_slice-2.new.self.items ++ string_text label =
     c.in_ok-push_string.ensures
     ∙ ap (λ l. c.extend_from_slice-2.new.self.items ++ string_text l) c.label.ensures in
     let e : c.extend_from_slice-3.new.self.items

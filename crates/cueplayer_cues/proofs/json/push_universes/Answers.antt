@@ -7,5 +7,4 @@ pub loop-place-preserved : goal.loop-place-preserved
 loop-place-preserved c =
     next_item (universe_text c.args.show.now.patch) c.args.ordinals.now c.loop-place.place _
     c.loop-place-test.true _ _ _ _ _ c.loop-place.invariant c.in_ok-push_break.ensures
-    c.in_ok-push_universe.ensures
-    (refl)
+    c.in_ok-push_universe.ensures refl

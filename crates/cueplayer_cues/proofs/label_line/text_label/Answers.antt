@@ -1,4 +1,4 @@
-use Rattle.std.proofs.Common.{◌∙◌, ap, Some, sym}
+use Rattle.std.proofs.Common.{◌∙◌, ap, sym}
 use Rattle.show_line.specs.declared.statement.Statement.TheVariants.{Quiet}
 use Rattle.cueplayer_cues.specs.Labels.{label_news_of}
 use Rattle.cueplayer_cues.proofs.Labelling.{quiet_news, text_news}

@@ -1,4 +1,4 @@
-use Rattle.std.proofs.Common.{◌≡◌, ◌∙◌, subst, take, reverse, IfOk}
+use Rattle.std.proofs.Common.{◌≡◌, subst, take, reverse, IfOk}
 use Rattle.ascii_text.specs.Text.{lines_of}
 use Rattle.cueplayer_cues.specs.Table.{table_text}
 use Rattle.cueplayer_cues.proofs.Labelling.{all_labels}

@@ -1,4 +1,4 @@
-use Rattle.std.proofs.Common.{◌∷◌, ◌++◌, List, ℕ, option_to_list, subst, sym}
+use Rattle.std.proofs.Common.{◌∷◌, subst, sym}
 use Rattle.ascii_text.specs.Text.{words_of}
 use Rattle.cueplayer_explain.proofs.Lines.{reading_is}
 use Rattle.cueplayer_cues.specs.LabelLines.{AreOf}

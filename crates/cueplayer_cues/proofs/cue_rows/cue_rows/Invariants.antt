@@ -3,7 +3,7 @@ use Rattle.std.specs.FinMap as maps
 use Rattle.show_core.specs.declared.cue.CueData.{CueData}
 use Rattle.cueplayer_cues.specs.Rows.{cue_row}
 use Rattle.cueplayer_cues.proofs.Ascending.{first_key}
-use Rattle.cueplayer_cues.proofs.rows.cue_rows.Given as goal
+use Rattle.cueplayer_cues.proofs.cue_rows.cue_rows.Given as goal
 
 -- the entries are those that have rows, and those that are left
 abbrev pub invariant-loop-row : goal.invariant-loop-row
