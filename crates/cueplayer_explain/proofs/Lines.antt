@@ -23,11 +23,11 @@ use Rattle.cueplayer_explain.specs.Skipped.{explained, line_explained, skipped_l
 -- ---- one line
 
 -- what was read of a line
-record IsReading (owner : Option Record) (l : Words) (reading : Reading) : Type 0 where
+pub record IsReading (owner : Option Record) (l : Words) (reading : Reading) : Type 0 where
   pub statement : reading.statement ≡ said_under desk_limits owner l
   pub keyword : reading.keyword ≡ keyword_in l
 
-reading_is : (owner : Option Record) (l : Words) (reading : Reading)
+pub reading_is : (owner : Option Record) (l : Words) (reading : Reading)
     → Some reading ≡ reading_of desk_limits owner l → IsReading owner l reading
 reading_is owner [] reading e = cc
 reading_is owner (w ∷ words) reading e =
@@ -123,7 +123,7 @@ next_numbered n (l ∷ rest) number bytes behind e =
     (rest, ap (λ b. b.1 ∷ rest) (sym first), cc, ap (λ b. b.0) first)
 
 -- where none is numbered, none is left
-none_left : (n : ℕ) (left : List (List ℕ)) → numbered_from n left ≡ [] → left ≡ []
+pub none_left : (n : ℕ) (left : List (List ℕ)) → numbered_from n left ≡ [] → left ≡ []
 none_left n [] e = refl
 none_left n (l ∷ left) e = cc
 
@@ -139,22 +139,34 @@ front_of lines left =
         ap (take (length (reverse lines))) (reverse_onto lines l left)
         ∙ take-append_seam (reverse lines) (l ∷ left)
 
+-- lines that are as many as are read are all that are read
+pub all_that_are_read : (text : List ℕ) (count : ℕ) (lines left : List (List ℕ))
+    → lines_of text ≡ reverse_aux lines left → length lines ≡ count
+    → lines ≡ reverse (take count (lines_of text))
+all_that_are_read text count lines left all is =
+    sym (ap (λ ls. reverse (take count ls)) all
+    ∙ ap (λ n. reverse (take n (reverse_aux lines left))) (sym is)
+    ∙ ap reverse (front_of lines left) ∙ reverse-reverse lines)
+
+-- so are fewer, where the text has no line more
+pub all_that_are_there : (text : List ℕ) (count : ℕ) (lines : List (List ℕ))
+    → lines_of text ≡ reverse lines → length lines ≤ count
+    → lines ≡ reverse (take count (lines_of text))
+all_that_are_there text count lines whole within =
+    let short : length (reverse lines) ≤ count = omega (arith, length-reverse lines, within) in
+    sym (ap (λ ls. reverse (take count ls)) whole
+    ∙ ap reverse (take_all count (reverse lines) short) ∙ reverse-reverse lines)
+
 module _ {text : List ℕ} {count : ℕ} {lines left : List (List ℕ)} {ahead : List (ℕ × List ℕ)}
     {above : Heading} {out : List ℕ} (h : StandsBehind text count lines left ahead above out) where
   -- so many lines are read
   pub all_read : length lines ≡ count → out ≡ explained (reverse (take count (lines_of text)))
-  all_read is =
-      h.wrote
-      ∙ ap explained (sym (ap (λ ls. reverse (take count ls)) h.all
-      ∙ ap (λ n. reverse (take n (reverse_aux lines left))) (sym is)
-      ∙ ap reverse (front_of lines left) ∙ reverse-reverse lines))
+  all_read is = h.wrote ∙ ap explained (all_that_are_read text count lines left h.all is)
 
   -- the text has no line more
   pub no_more : ahead ≡ [] → out ≡ explained (reverse (take count (lines_of text)))
   no_more none =
       let empty : left ≡ [] = none_left (length lines + 1) left (sym h.numbered ∙ none) in
-      let whole : lines_of text ≡ reverse lines = h.all ∙ ap (reverse_aux lines) empty in
-      let short : length (reverse lines) ≤ count = omega (arith, length-reverse lines, h.within) in
       h.wrote
-      ∙ ap explained (sym (ap (λ ls. reverse (take count ls)) whole
-      ∙ ap reverse (take_all count (reverse lines) short) ∙ reverse-reverse lines))
+      ∙ ap explained (all_that_are_there text count lines
+      (h.all ∙ ap (reverse_aux lines) empty) h.within)

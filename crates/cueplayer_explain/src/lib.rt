@@ -19,3 +19,4 @@ mod reason;
 mod skipped;
 
 pub use explanation::explain;
+pub use skipped::push_shown;

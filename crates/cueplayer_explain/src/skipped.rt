@@ -87,7 +87,12 @@ fn first_bytes<'a>(line: &'a [u8]) -> &'a [u8]
     &line[..line.len().min(200)]
 }
 
-/// Appends bytes as they are shown.
+/// Appends bytes as they are shown: printable ASCII as it is, a tab and a CR as a space, and each
+/// other byte as `?`.
+///
+/// # Errors
+///
+/// Where a growth was refused.
 pub fn push_shown(out: &mut Vec<u8>, bytes: &[u8]) -> Result<(), AllocError>
     ensures { OnOk result (out.new.items ≡ out.old.items ++ shown bytes.now) }
 {

@@ -9,7 +9,7 @@ use Rattle.cueplayer_words.specs.Address.{address_of}
 use Rattle.cueplayer_words.specs.Job.{job_of, number_between}
 use Rattle.cueplayer_words.specs.Asked.{Passes}
 use Rattle.cueplayer_words.specs.declared.job.Night.{Night}
-use Rattle.cueplayer_words.specs.declared.job.Job.TheVariants.{Check, Explain, Look, Slots}
+use Rattle.cueplayer_words.specs.declared.job.Job.TheVariants.{Check, Explain, Cues, Look, Slots}
 use Rattle.cueplayer_words.specs.declared.job.Job.TheVariants.{Play, Live, Rehearse, Listen}
 
 -- `check a.asc`
@@ -47,6 +47,19 @@ explain_job : job_of (codes "cueplayer" ∷ codes "explain" ∷ codes "-" ∷ []
     ≡ Some (Explain (codes "-"))
 unfolding clap_on_literals
 explain_job = refl
+
+-- `cues a.asc`, with more options
+abbrev cues_words : List Text → List Text
+cues_words more = codes "cueplayer" ∷ codes "cues" ∷ codes "a.asc" ∷ more
+
+cues_passes : Passes (cues_words (codes "--json" ∷ []))
+unfolding clap_on_literals
+cues_passes = refl
+
+cues_job : (job_of (cues_words []) ≡ Some (Cues (codes "a.asc") false))
+    × (job_of (cues_words (codes "--json" ∷ [])) ≡ Some (Cues (codes "a.asc") true))
+unfolding clap_on_literals
+cues_job = (refl, refl)
 
 look_passes : Passes (look_words (codes "1"))
 unfolding clap_on_literals

@@ -10,7 +10,7 @@ use Rattle.cueplayer_words.specs.Address.{address_of}
 use Rattle.cueplayer_words.specs.Program.{program}
 use Rattle.cueplayer_words.specs.declared.job.Night.{Night}
 use Rattle.cueplayer_words.specs.declared.job.Job.{Job}
-use Rattle.cueplayer_words.specs.declared.job.Job.TheVariants.{Check, Explain, Look, Slots}
+use Rattle.cueplayer_words.specs.declared.job.Job.TheVariants.{Check, Explain, Cues, Look, Slots}
 use Rattle.cueplayer_words.specs.declared.job.Job.TheVariants.{Play, Live, Rehearse, Listen}
 
 -- the value of an argument that has to be there: its text, read by a form
@@ -37,6 +37,11 @@ check_of rows = option_map Check (first_of (codes "SHOW") rows)
 -- the job of `explain SHOW`
 abbrev pub explain_of : List Row → Option Job
 explain_of rows = option_map Explain (first_of (codes "SHOW") rows)
+
+-- the job of `cues SHOW [--json]`
+abbrev pub cues_of : List Row → Option Job
+cues_of rows =
+    option_map (λ show. Cues show (has_flag (codes "json") rows)) (first_of (codes "SHOW") rows)
 
 -- a look, where each of its values is there
 abbrev pub look_with : Option Text → Option ℕ → Option (List ℕ) → Option Job
@@ -120,12 +125,13 @@ IsInRange _ = Unit {0}
 abbrev pub line_of : Text × List Row → Option Job
 line_of line = if bytes_eq line.0 (codes "check") then check_of line.1
     else (if bytes_eq line.0 (codes "explain") then explain_of line.1
+    else (if bytes_eq line.0 (codes "cues") then cues_of line.1
     else (if bytes_eq line.0 (codes "look") then look_of line.1
     else (if bytes_eq line.0 (codes "slots") then slots_of line.1
     else (if bytes_eq line.0 (codes "play") then play_of line.1
     else (if bytes_eq line.0 (codes "live") then live_of line.1
     else (if bytes_eq line.0 (codes "rehearse") then rehearse_of line.1
-    else (if bytes_eq line.0 (codes "listen") then listen_of line.1 else None)))))))
+    else (if bytes_eq line.0 (codes "listen") then listen_of line.1 else None))))))))
 
 -- the job of the line that clap's meaning of the program gives for the words, where each of the
 -- texts that this meaning gives has its form

@@ -72,6 +72,7 @@ line name arguments = fold with_rule (new_app name) arguments
 abbrev pub lines : List App
 lines = line (codes "check") (show ∷ [])
     ∷ line (codes "explain") (show ∷ [])
+    ∷ line (codes "cues") (show ∷ flag (codes "json") ∷ [])
     ∷ line (codes "look") (show ∷ cue ∷ cid ∷ [])
     ∷ line (codes "slots") (show ∷ cue ∷ base ∷ [])
     ∷ line (codes "play") night_arguments

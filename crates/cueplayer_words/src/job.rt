@@ -67,6 +67,12 @@ pub enum Job {
         show: Name,
     },
 
+    /// `cues SHOW [--json]`: print the cue list, as a table for people or as JSON for tools.
+    Cues {
+        show: Name,
+        is_json: bool,
+    },
+
     /// `look SHOW CUE --cid UUID`: print the packets of one cue at full. The cue number is in
     /// thousandths, 1 to 9,999,999, and the CID is the UUID's 16 bytes in order.
     Look {

@@ -53,6 +53,8 @@ const END_WITH_INPUT: Argument<'static> = Argument::Flag(
     "Ends the night where its input ends; without it the light holds",
 );
 
+const JSON: Argument<'static> = Argument::Flag("json", "Prints JSON, for tools");
+
 const SCRIPT: Argument<'static> = Argument::Positional(
     "SCRIPT",
     "The script's file, of at most 16 MiB",
@@ -73,7 +75,7 @@ const COUNT: Argument<'static> = Argument::Positional(
     "How many datagrams to receive, 1 to 1000000: then the run ends",
 );
 
-const LINES: [Line<'static>; 8] = [
+const LINES: [Line<'static>; 9] = [
     Line {
         name: "check",
         about: "Reads a show and prints its counts",
@@ -85,6 +87,12 @@ const LINES: [Line<'static>; 8] = [
         about: "Prints which lines of a show are skipped, and why, and notes for its author",
         example: "Example: cueplayer explain night.asc",
         arguments: &[SHOW],
+    },
+    Line {
+        name: "cues",
+        about: "Prints the cue list with its labels and times, and what else the show has",
+        example: "Example: cueplayer cues night.asc --json",
+        arguments: &[SHOW, JSON],
     },
     Line {
         name: "look",

@@ -3,7 +3,7 @@ ghost use Rattle.std.specs.Prelude.{true, is_some};
 ghost use Rattle.clap.specs.Words.{first_of, found_of, rows_of, subcommand_rows_of};
 ghost use Rattle.cueplayer_words.specs.Program.{live_arguments, listen_arguments, night_arguments};
 ghost use Rattle.cueplayer_words.specs.Program.{rules_of};
-ghost use Rattle.cueplayer_words.specs.Job.{IsInRange, line_of, check_of, explain_of};
+ghost use Rattle.cueplayer_words.specs.Job.{IsInRange, line_of, check_of, explain_of, cues_of};
 ghost use Rattle.cueplayer_words.specs.Job.{look_of, slots_of, night_of, play_of};
 ghost use Rattle.cueplayer_words.specs.Job.{live_of, rehearse_of, listen_of};
 ghost use Rattle.cueplayer_words.specs.Misfit.{IsWhole, first_misfit, has_texts, misfit_in};
@@ -61,6 +61,8 @@ fn read_line<'a>(alloc: Global, line: &str, matches: &ArgMatches<'a>) -> Result<
         read_check(alloc, matches)
     } else if line == "explain" {
         read_explain(alloc, matches)
+    } else if line == "cues" {
+        read_cues(alloc, matches)
     } else if line == "look" {
         read_look(alloc, matches)
     } else if line == "slots" {
@@ -92,6 +94,18 @@ fn read_explain<'a>(alloc: Global, matches: &ArgMatches<'a>) -> Result<Job, Word
 {
     let show = Name::new(alloc, text_at(matches, "SHOW"))?;
     Ok(Job::Explain { show })
+}
+
+fn read_cues<'a>(alloc: Global, matches: &ArgMatches<'a>) -> Result<Job, WordsFault<'a>>
+    requires { has_texts (rules_of (codes "cues")) (rows_of (found_of matches.now)) ≡ true }
+    ensures { Answers IsInRange (cues_of (rows_of (found_of matches.now)))
+        (misfit_in (codes "cues", rows_of (found_of matches.now))) result }
+{
+    let show = Name::new(alloc, text_at(matches, "SHOW"))?;
+    Ok(Job::Cues {
+        show,
+        is_json: has_flag(matches, "json"),
+    })
 }
 
 fn read_look<'a>(alloc: Global, matches: &ArgMatches<'a>) -> Result<Job, WordsFault<'a>>

@@ -1,0 +1,5 @@
+pub mod Ascending
+pub mod Items
+pub mod Labelling
+pub mod OneShow
+mod Rows
