@@ -2,7 +2,7 @@
 use Rattle.std.proofs.Common.{◌≡◌, ◌≤◌, ◌<◌, ◌^◌, ℕ, Bool, true, false, refl, arith, List, [], ◌∷◌}
 use Rattle.std.proofs.Common.{length, Option, Some, None}
 use Rattle.std.specs.Prelude.{◌&&◌, ◌||◌, nat_le, not, unwrap_or}
-use Rattle.std.proofs.lemmas.Bool.{and_parts, cond_both, leb-true}
+use Rattle.std.proofs.lemmas.Bool.{and_parts, cond_both, leb-true, not-true}
 use Rattle.ascii_text.specs.Text.{words_of}
 use Rattle.desk_core.specs.declared.command.Command.{Command}
 use Rattle.desk_core.specs.declared.command.Command.TheVariants.{End}
@@ -10,7 +10,7 @@ use Rattle.console_text.specs.Spelling.{command_of}
 use Rattle.live_input.specs.Night.{Answer, Happening, answer_to, answers, asked, at_moment}
 use Rattle.live_input.specs.Night.{before_lines, due, ends_with_input, goes_first, has_room}
 use Rattle.live_input.specs.Night.{is_dark, is_full, is_leave, is_on, is_over, lines_left, now}
-use Rattle.live_input.specs.Night.{stage, to_command, to_line, to_lines}
+use Rattle.live_input.specs.Night.{stage, to_command, to_line, to_lines, was_tick}
 use Rattle.live_input.specs.Night.{order, dim, close, tick, refusal, wait, over}
 
 abbrev pub is_end : Command → Bool
@@ -31,13 +31,15 @@ pub data Next (h : List Happening) (n : ℕ) : Answer → Type 0 where
       → is_on (stage (answers h)) ≡ true → has_room (answers h) ≡ true
       → Next h n (close n (Some line))
   refuses : (line : List ℕ) (later : List (List ℕ)) → lines_left (answers h) h ≡ line ∷ later
-      → Next h n (refusal line)
+      → is_full (answers h) ≡ false → Next h n (refusal line)
   dims : is_on (stage (answers h)) ≡ true
       → (ends_with_input h || not (has_room (answers h))) ≡ true → Next h n (dim n None)
   closes : is_dark (stage (answers h)) ≡ true → Next h n (close n None)
   ticks : is_over (answers h) ≡ false → is_dark (stage (answers h)) ≡ false
-      → is_full (answers h) ≡ false → due (answers h) ≤ n → Next h n (tick n)
-  waits : lines_left (answers h) h ≡ [] → Next h n (wait (due (answers h)))
+      → (is_full (answers h) ≡ true → was_tick (answers h) ≡ false) → due (answers h) ≤ n
+      → Next h n (tick n)
+  waits : lines_left (answers h) h ≡ [] → is_full (answers h) ≡ false
+      → Next h n (wait (due (answers h)))
 
 -- the night goes on, is not to be closed now, and lines have room where they are taken
 record IsFree (h : List Happening) : Type 0 where
@@ -50,12 +52,12 @@ has_room_on on room is full = grind (arith, is, full)
 
 command_is : (h : List Happening) (n : ℕ) (line : List ℕ) (later : List (List ℕ))
     → lines_left (answers h) h ≡ line ∷ later → is_on (stage (answers h)) ≡ true
-    → has_room (answers h) ≡ true → length (at_moment n line) ≤ 200
-    → (spelled : Option Command) → command_of (words_of line) ≡ spelled
+    → is_full (answers h) ≡ false → has_room (answers h) ≡ true
+    → length (at_moment n line) ≤ 200 → (spelled : Option Command) → command_of (words_of line) ≡ spelled
     → Next h n (to_command n line spelled)
-command_is h n line later left on room fit None is = refuses line later left
-command_is h n line later left on room fit (Some End) is = darkens line later left on
-command_is h n line later left on room fit (Some c) is =
+command_is h n line later left on free room fit None is = refuses line later left free
+command_is h n line later left on free room fit (Some End) is = darkens line later left on
+command_is h n line later left on free room fit (Some c) is =
     takes line later left on room fit c is refl
 
 line_is : (h : List Happening) (n : ℕ) (line : List ℕ) (later : List (List ℕ)) → IsFree h
@@ -66,8 +68,8 @@ line_is h n line later free left =
     let room = has_room_on _ (has_room (answers h)) parts.0 free.room in
     cond_both (is_leave (words_of line)) _ _ (Next h n)
     (λ leave. leaves line later left parts.0 room)
-    (λ other. command_is h n line later left parts.0 room (leb-true _ 200 parts.1) _ refl))
-    (λ unfit. refuses line later left)
+    (λ other. command_is h n line later left parts.0 free.room room (leb-true _ 200 parts.1) _ refl))
+    (λ unfit. refuses line later left free.room)
 
 lines_are : (h : List Happening) (n : ℕ) → IsFree h → (left : List (List ℕ))
     → lines_left (answers h) h ≡ left → Next h n (to_lines left (answers h) (ends_with_input h) n)
@@ -75,7 +77,7 @@ lines_are h n free [] is =
     cond_both (is_on (stage (answers h)) && ends_with_input h) _ _ (Next h n)
     (λ owed. let parts = and_parts _ _ owed in dims parts.0 (rw parts.1 refl))
     (λ none. cond_both (nat_le (due (answers h)) n) _ _ (Next h n)
-    (λ late. ticks free.on free.light free.room (leb-true _ n late)) (λ early. waits is))
+    (λ late. ticks free.on free.light (λ full. let none = free.room in cc) (leb-true _ n late)) (λ early. waits is free.room))
 lines_are h n free (line ∷ later) is = line_is h n line later free is
 
 full_dims : (ends room : Bool) → not room ≡ true → (ends || not room) ≡ true
@@ -87,12 +89,13 @@ first_is : (h : List Happening) (n : ℕ) → is_over (answers h) ≡ false → 
 first_is h n on rest later =
     cond_both (is_dark (stage (answers h))) _ _ (λ b. Next h n (unwrap_or b rest))
     (λ dark. closes dark)
-    (λ light. cond_both (is_full (answers h)) _ _ (λ b. Next h n (unwrap_or b rest))
+    (λ light. cond_both (goes_first (answers h) n) _ _ (λ b. Next h n (unwrap_or b rest))
+    (λ first. let parts = and_parts _ _ first in
+    ticks on light (λ full. not-true _ parts.1) (leb-true _ n parts.0))
+    (λ none. cond_both (is_full (answers h)) _ _ (λ b. Next h n (unwrap_or b rest))
     (λ full. let parts = and_parts _ _ full in
     dims parts.0 (full_dims (ends_with_input h) (has_room (answers h)) parts.1))
-    (λ room. cond_both (goes_first (answers h) n) _ _ (λ b. Next h n (unwrap_or b rest))
-    (λ first. ticks on light room (leb-true _ n (and_parts _ _ first).0))
-    (λ none. later (record { on = on; light = light; room = room }))))
+    (λ room. later (record { on = on; light = light; room = room }))))
 
 pub answer_is_next : (h : List Happening) (moment : ℕ)
     → Next h (now (asked moment ∷ h)) (answer_to h moment)

@@ -107,11 +107,12 @@ abbrev pub IsOn : List Answer → Type 0
 IsOn given =
     (is_over given ≡ false) × (is_dark (stage given) ≡ false) × (is_full given ≡ false)
 
--- a tick that is due goes before whatever lines wait, where the answer before was none
+-- a tick that is due goes before whatever lines wait, and before a night ends by itself, where the
+-- answer before was none
 abbrev pub TicksGoFirst : Type 0
 TicksGoFirst =
-    (h : List Happening) (moment : ℕ) → IsOn (answers h) → was_tick (answers h) ≡ false
-    → due (answers h) ≤ now (asked moment ∷ h)
+    (h : List Happening) (moment : ℕ) → is_over (answers h) ≡ false
+    → is_dark (stage (answers h)) ≡ false → was_tick (answers h) ≡ false → due (answers h) ≤ now (asked moment ∷ h)
     → answer_to h moment ≡ tick (now (asked moment ∷ h))
 
 -- a line that waits is the answer behind each tick: ticks that are late keep no line from its turn
@@ -131,14 +132,13 @@ NothingIsAsked [] = Unit {0}
 NothingIsAsked (asked moment ∷ older) = ⊥
 NothingIsAsked (_ ∷ older) = NothingIsAsked older
 
--- where a tick is due when it is asked what is next, that is the answer, or the answer to what is
--- asked then: between the moment at which a tick is due and the tick there is at most one line, and
--- no other tick
+-- at any time of a night: where a tick is due when it is asked what is next, that is the answer, or
+-- the answer to what is asked then. So between the moment at which a tick is due and the tick there
+-- is at most one line, and no other tick
 abbrev pub TicksAreNext : Type 0
 TicksAreNext =
     (h meanwhile : List Happening) (moment next : ℕ) → NothingIsAsked meanwhile
-    → IsOn (answers h) → due (answers h) ≤ now (asked moment ∷ h)
-    → IsOn (answers (meanwhile ++ asked moment ∷ h))
+    → is_over (answers h) ≡ false → due (answers h) ≤ now (asked moment ∷ h)
     → IsTick (answer_to h moment) ⊎ IsTick (answer_to (meanwhile ++ asked moment ∷ h) next)
 
 -- a night begins to end where nobody typed it only if it ends with its input and that ended, or if

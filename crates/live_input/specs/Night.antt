@@ -111,10 +111,10 @@ abbrev pub due : List Answer → ℕ
 due [] = 0
 due (answer ∷ older) = due_by answer (due older)
 
--- `play` takes 10,000,000 lines: the last nine are kept for `master 0`, four ticks, `end` and three
--- ticks
+-- `play` takes 10,000,000 lines: the last ten are kept for a tick that is due, `master 0`, four
+-- ticks, `end` and three ticks
 abbrev pub has_room : List Answer → Bool
-has_room given = nat_lt (length (lines_given given)) 9999991
+has_room given = nat_lt (length (lines_given given)) 9999990
 
 -- ---- the next answer, after those given
 
@@ -163,8 +163,8 @@ goes_first given moment = nat_le (due given) moment && not (was_tick given)
 abbrev pub before_lines : List Answer → ℕ → Option Answer
 before_lines given moment =
     if is_dark (stage given) then Some (close moment None)
-    else (if is_full given then Some (dim moment None)
-    else (if goes_first given moment then Some (tick moment) else None))
+    else (if goes_first given moment then Some (tick moment)
+    else (if is_full given then Some (dim moment None) else None))
 
 -- where each typed line was answered: the night ends with its input, which ended without an `end`
 abbrev pub by_itself : List Answer → Bool → ℕ → Answer

@@ -52,7 +52,7 @@ pub fn ticks_go_first()
 {}
 
 /// Between the moment at which a tick is due and the tick there is at most one line, and no other
-/// tick.
+/// tick, at any time of a night.
 #[tactic(auto, using(crate::proofs::Turns::ticks_next))]
 pub fn ticks_are_next()
     ensures { TicksAreNext }

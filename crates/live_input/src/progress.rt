@@ -16,10 +16,10 @@ use desk_core::{Command, ENDING_TICKS, SHORTEST_GAP};
 // Ticks come on a grid, 40 a second.
 const GRID: u64 = 25;
 
-// `play` takes 10,000,000 lines, and the last nine are `master 0`, its four ticks, `end` and its
-// three. At 40 ticks a second that is after 69 hours: a night that is still on then is ended in
+// `play` takes 10,000,000 lines, and the last ten are a tick that is due, `master 0`, its four
+// ticks, `end` and its three. At 40 ticks a second that is after 69 hours: a night that is still on then is ended in
 // order, so that receivers let go of its levels at once, and those of a second console count.
-const LINES: u32 = 9_999_991;
+const LINES: u32 = 9_999_990;
 
 // Ticks with the light down before `end`. A receiver that ignores the levels of a termination, as
 // E1.31 has it, holds the last look: so that is a dark one.
@@ -90,13 +90,13 @@ impl Progress {
         if matches!(self.stage, Stage::Dark(ticks) if ticks >= DARK_TICKS) {
             return Some(self.close(now));
         }
+        if now >= self.due && !self.ticked {
+            return Some(self.tick(now));
+        }
         if self.stage == Stage::On && self.room == 0 {
             return Some(self.dim(now));
         }
-        if now < self.due || self.ticked {
-            return None;
-        }
-        Some(self.tick(now))
+        None
     }
 
     // The answer to a line that was typed.
