@@ -1,10 +1,10 @@
 -- What holds through a night.
 use Rattle.std.proofs.Common.{◌≤◌, ℕ, List, [], ◌∷◌, arith, ◌≡◌, suc, ◌+◌, true, false}
 use Rattle.std.proofs.Common.{length, Option, Some, None, ◌↔◌, refl, ◌++◌, drop, append_assoc}
-use Rattle.std.proofs.Common.{append-nil}
+use Rattle.std.proofs.Common.{append-nil, Bool}
 use Rattle.std.specs.Prelude.{◌&&◌, ◌||◌, not, nat_lt}
 use Rattle.std.specs.List.{filter_map}
-use Rattle.std.proofs.lemmas.Bool.{by_test, ltb-true}
+use Rattle.std.proofs.lemmas.Bool.{ltb-true}
 use Rattle.std.proofs.lemmas.Bool.Decides.{nat_tests}
 use Rattle.std.proofs.Math.Seq.{drop-append_seam}
 use Rattle.live_input.specs.Laws.{AlwaysRise, LinesFollowTicks, Rise, TicksGoFirst, moment_of}
@@ -81,6 +81,10 @@ one_close : (count n : ℕ) (typed : Option (List ℕ)) (ticked : Bool) (s : Sta
 one_close count n typed ticked (Dark k) dark few = omega (arith, few)
 one_close count n typed ticked s dark few = cc
 
+pub by_test : {A : Type 0} (b : Bool) → (b ≡ true → A) → (b ≡ false → A) → A
+by_test true then other = then refl
+by_test false then other = other refl
+
 -- where no line more has room, the answer before was no tick
 at_most_one : (count : ℕ) (ticked : Bool) → (not (nat_lt count 9999990) ≡ true → ticked ≡ false)
     → (ticked ≡ false → count ≤ 9999990) → count ≤ 9999990
@@ -114,7 +118,7 @@ counted_by h n _ (dims on owed) le below few = one_dim _ n None _ (stage (answer
 counted_by h n _ (closes dark) le below few = one_close _ n None _ (stage (answers h)) dark few
 counted_by h n _ (ticks on light room late) le below few =
     one_tick _ n _ (stage (answers h)) on light room few
-counted_by h n _ (nothing over) le below few = few
+counted_by h n _ (nothing ends) le below few = few
 counted_by h n _ (refuses line later is room) le below few =
     none_ticked _ _ (stage (answers h)) room few
 counted_by h n _ (waits is room) le below few = none_ticked _ _ (stage (answers h)) room few

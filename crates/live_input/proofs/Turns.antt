@@ -1,7 +1,6 @@
 -- Between a tick's due moment and the tick there is at most one line.
 use Rattle.std.proofs.Common.{◌≡◌, ◌⊎◌, inl, inr, ◌≤◌, ℕ, true, false, List, [], ◌∷◌, ◌++◌, arith}
 use Rattle.std.proofs.Common.{Option, None, refl}
-use Rattle.std.proofs.lemmas.Bool.{by_test}
 use Rattle.live_input.specs.Laws.{IsTick, NothingIsAsked, TicksAreNext}
 use Rattle.live_input.specs.Night.{Answer, Happening, answer_to, answers, asked, came, close}
 use Rattle.live_input.specs.Night.{closed, dim, due, is_dark, is_over, is_through, now, order, over}
@@ -9,7 +8,7 @@ use Rattle.live_input.specs.Night.{refusal, stage, stage_by, tick, wait, was_tic
 use Rattle.live_input.specs.declared.progress.Stage.{Stage}
 use Rattle.live_input.specs.declared.progress.Stage.TheVariants.{On, Dark, Ended}
 use Rattle.live_input.proofs.Cases.{Next, answer_is_next, nothing}
-use Rattle.live_input.proofs.Nights.{ticks_first}
+use Rattle.live_input.proofs.Nights.{by_test, ticks_first}
 
 -- the answer is no tick, the tick is due as before, and the night goes on and is not to be closed
 record Stays (given : List Answer) (answer : Answer) : Type 0 where

@@ -5,9 +5,9 @@ use Rattle.patch_core.proofs.greatest.max_vector.Goals as goal
 
 pub greater-most-requires : goal.greater-most-requires
 greater-most-requires c = (
-    length-chunk c.args.from 32 c.args.a.now c.requires.0,
-    length-chunk c.args.from 32 c.args.b.now c.requires.1,
-  )
+  length-chunk c.args.from 32 c.args.a.now c.requires.0,
+  length-chunk c.args.from 32 c.args.b.now c.requires.1,
+)
 
 pub returns-clause-before : goal.returns-clause-before
 returns-clause-before c = λ s lt. get_or-put_chunk_below c.args.from c.args.a.now _ s 0 lt
