@@ -1,9 +1,10 @@
 # Completion for bash of the words of cueplayer: jobs, options, files.
 # shellcheck shell=bash
 
-# The options of a job. Each but --end-with-input takes a value.
+# The options of a job. Each but --end-with-input and --json takes a value.
 _cueplayer_options() {
     case $1 in
+        cues) echo --json ;;
         look) echo --cid ;;
         slots) echo --base ;;
         play) echo --to --cid --priority --base ;;
@@ -14,7 +15,7 @@ _cueplayer_options() {
 # How many words of a job, from its first on, name files.
 _cueplayer_files() {
     case $1 in
-        check | explain | look | slots | play | live) echo 1 ;;
+        check | explain | cues | look | slots | play | live) echo 1 ;;
         rehearse) echo 2 ;;
         *) echo 0 ;;
     esac
@@ -51,7 +52,10 @@ _cueplayer_parse() {
         elif [[ $word == -- ]]; then
             words_only=1
         elif [[ $word == -?* && -z $words_only ]]; then
-            [[ $word == -h || $word == --help || $word == --end-with-input ]] || option=$word
+            case $word in
+                -h | --help | --end-with-input | --json) ;;
+                *) option=$word ;;
+            esac
             used+="$word "
         elif [[ -z $job ]]; then
             job=$word
@@ -63,7 +67,7 @@ _cueplayer_parse() {
 
 # Fills COMPREPLY with what may stand where the cursor is.
 _cueplayer() {
-    local jobs="check explain look slots play live rehearse listen help"
+    local jobs="check explain cues look slots play live rehearse listen help"
     local job='' option='' used=' ' place=0 words_only='' choices='' is_file='' name
     local -a words=()
     _cueplayer_join

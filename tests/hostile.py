@@ -32,8 +32,9 @@ from program import CID, PROGRAM, told as without_remark  # noqa: E402
 
 HUNG = -999
 DATAGRAMS = 60  # of one run of `listen`
-# How often each comes: of `check`, `look` and `slots` the show is changed, of others what is played too.
-JOBS = ["check"] * 3 + ["look"] * 2 + ["slots"] * 2 + ["play"] * 6 + ["rehearse"] * 3 + ["listen"] * 5
+# How often each comes: of `check`, `cues`, `look` and `slots` the show is changed, of others what is played too.
+JOBS = ["check"] * 3 + ["cues"] * 2 + ["look"] * 2 + ["slots"] * 2 + ["play"] * 6 + ["rehearse"] * 3
+JOBS += ["listen"] * 5
 
 
 @dataclass(frozen=True)
@@ -53,6 +54,8 @@ class Case:
     def expected(self):
         if self.job == "check":
             return runs.check(*self.parts)
+        if self.job == "cues":
+            return runs.cues(*self.parts)
         if self.job == "look":
             return runs.look(*self.parts, cue_number(self.cue.encode()))
         if self.job == "slots":
@@ -89,8 +92,8 @@ class Runner:
         self.folder.cleanup()
 
     def answer(self, case):
-        if case.job == "check":
-            return self.run(["check", "-"], case.parts[0])
+        if case.job in ("check", "cues"):
+            return self.run([case.job, "-"], case.parts[0])
         if case.job == "look":
             return self.run(["look", "-", case.cue, "--cid", CID], case.parts[0])
         if case.job == "slots":
@@ -154,7 +157,7 @@ def made(r, job):
         datagrams = inputs.datagrams(r, DATAGRAMS)
         return Case(job, tuple(changes.changed(r, each, changes.OF_BYTES, 1) for each in datagrams))
     base = r.choice([1] * 16 + [2, 63984, 63985, 63998, 63999])
-    if job in ("check", "look", "slots"):
+    if job in ("check", "cues", "look", "slots"):
         show = changes.changed(r, inputs.show(r, odd=0.004), changes.OF_TEXTS, 3)
         cues = [f"{n // 1000}.{n % 1000:03}" for n in getattr(shows.read(show), "cues", ())]
         cue = r.choice(cues) if cues and r.random() < 0.9 else r.choice(inputs.CUES)

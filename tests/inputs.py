@@ -19,7 +19,7 @@ BEHIND = [1, 1, 1, 2, 3, 18, 19, 20, 21, 127, 128, 217, 235, 236, 237, 255, 0]
 OTHER_LINES = [
     "IDENT 3:0", "IDENT 3:0 x", "SET CHANNELS 96", "CONSOLE x", "MANUFACTURER", "CLEAR GROUPS", "CLEAR CUES",
     "CLEAR PATCH", "CLEAR SUB", "CLEAR CUE 2", "CLEAR x", "CLEAR", "$MAKER 9", "$", "$$FADE 7", "$$", "MACRO 7",
-    "TEXT x", "LINK 2", "PART 1", "PATCH 2 x", "PATCH 1", "", "! comment", "\xef\xbb\xbfCUE 1", "CHAN", "DOWN 1 2",
+    "TEXT x", "TEXT \"a b\" ", "LINK 2", "PART 1", "PATCH 2 x", "PATCH 1", "", "! comment", "\xef\xbb\xbfCUE 1", "CHAN", "DOWN 1 2",
 ]  # fmt: skip
 HARDER_LINES = ["UP x", "CHAN 1 x", "DOWN", "CLEAR ALL", "ENDDATA"]
 CIDS = [CID[:-1] + digit for digit in "123456"]

@@ -113,7 +113,8 @@ class ProgramTest(unittest.TestCase):
     def assertFault(self, show, fault):
         """What reads a show refuses it with this fault."""
         err = f"show{fault}\n".encode()
-        for job in (["check", "-"], ["explain", "-"], ["look", "-", "1", "--cid", CID], ["slots", "-", "1"]):
+        alone = ["check", "-"], ["explain", "-"], ["cues", "-"]
+        for job in (*alone, ["look", "-", "1", "--cid", CID], ["slots", "-", "1"]):
             self.assertRuns(job, show, status=3, err=err)
 
     def assertLooks(self, show, cue, universes):

@@ -5,8 +5,8 @@ import unittest
 from program import text
 import tooling  # noqa: F401  (puts the tools on the path)
 
+from cueplayer_tools.cue_list import read_show
 from cueplayer_tools.position import Move, Position
-from cueplayer_tools.show import read_names
 from cueplayer_tools.words import Refused, command_line
 
 SPELLED = (
@@ -38,7 +38,7 @@ class Commands(unittest.TestCase):
                 command_line(words)
 
     def position(self, *lines, then=()):
-        position = Position(read_names(text("CUE 1", *lines, "CUE 2", "CUE 3")))
+        position = Position(read_show("-", text("CUE 1", *lines, "CUE 2", "CUE 3")))
         for moment, words in then:
             position.take(moment, words.split())
         return position

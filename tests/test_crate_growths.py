@@ -56,7 +56,8 @@ TESTED = {
             "listening::listen_three",
         ),
     ),
-    "program_tests::explain": Tested(("explain",), ("faults", "notes")),
+    "program_tests::explain": Tested(("explain", "push_shown"), ("faults", "notes")),
+    "program_tests::cues": Tested(("cues", "cues_json"), ("faults", "lists")),
     "program_tests::play": Tested(("play", "Console::open"), ("rows::each_growth_refused",)),
     "program_tests::rehearsal": Tested(
         ("rehearse_text",), ("devices_fail::each_device_fails", "rows::rehearse_basic")

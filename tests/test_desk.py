@@ -19,9 +19,9 @@ from test_osc import GREATEST_DOUBLE, message
 from tooling import PATIENCE, TOOLS, Started, run_tool, wait_for
 from wire import OPTIONS, TERMINATED, address_of, own_network, receiving
 
+from cueplayer_tools.cue_list import read_show
 from cueplayer_tools.desk_night import Night, State
 from cueplayer_tools.position import Position
-from cueplayer_tools.show import has_follow_ons, read_names
 from cueplayer_tools.teller import Teller
 from cueplayer_tools.words import Refused
 
@@ -117,8 +117,6 @@ class Playback(DeskTest):
 
     def test_follow_on(self):
         """A cue that follows by itself is current without a press."""
-        if not has_follow_ons():
-            self.skipTest("the program plays no FOLLOWON lines")
         lines = ("CUE 1", "FOLLOWON 0.5", "CUE 2", "CHAN 1@FL", "PATCH 1 1<1@FL")
         self.show.write_bytes(text(*lines))
         _, page = self.opened()
@@ -391,7 +389,7 @@ class Outputs(DeskTest):
 class Notices(unittest.TestCase):
     def test_flood(self):
         """What is refused of Open Sound Control drives out nothing but its like."""
-        state = State(Position(read_names(SHOW)))
+        state = State(Position(read_show("-", SHOW)))
         state.tell("fault", "kept")
         for number in range(100):
             state.tell("osc", f"OSC: {number}")
@@ -410,7 +408,7 @@ class Replies(FolderTest):
         stub.chmod(0o755)
         told = []
         with mock.patch.dict(os.environ, CUEPLAYER=str(stub)):
-            night = Night(read_names(SHOW), [], told.append, told.append)
+            night = Night(read_show("-", SHOW), [], told.append, told.append)
         night.give("go")
         wait_for(lambda: night.state.position.current == 1000, "the first cue")
         night.give("go")

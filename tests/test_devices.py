@@ -160,6 +160,8 @@ class Outputs(ProgramTest):
             (LOOK, SHOW),
             (("slots", "-", "1"), SHOW),
             (("explain", "-"), b"WHAT\n" + SHOW),
+            (("cues", "-"), SHOW),
+            (("cues", "-", "--json"), SHOW),
             (("rehearse", show, script), b""),
             (("play", show, *to), b"0 tick\n"),
         )

@@ -12,7 +12,7 @@ from tooling import run_tool
 from wire import SEQUENCE, SLOT_1, address_of, received, receiving
 from worked import S1, plays
 
-from cueplayer_tools import night, record, rehearsal, show
+from cueplayer_tools import cue_list, night, record, rehearsal
 from cueplayer_tools.axis import clock
 from cueplayer_tools.curves import ranges
 from cueplayer_tools.words import Refused
@@ -248,37 +248,38 @@ class Pictures(PictureTest):
 class Shows(PictureTest):
     def test_names(self):
         """A cue is called by its TEXT line, else by the comment of its line."""
-        found = show.read_names(
+        found = cue_list.read_show(
+            "-",
             text(
                 "IDENT 3:0", "CUE 1 ! one", "UP 1:30.5 2", "CUE 2", 'TEXT "two, or  so" ! no',
                 "CUE .5 1 ! \xe9", "DOWN 4", "SUB 3 ! three", "GROUP 4", "TEXT four",
                 "CUE 9 2 ! foreign", "TEXT foreign", "$MAKER", "CUE 7", "UP .5", "DOWN 1 .25",
                 "PATCH 1 1<1@FL 2<600@FL 2<2@FL 0<2@FL", "TEXT of none", "ENDDATA", "CUE 8",
-            )
-        )
+            ),
+        )  # fmt: skip
         names = {number: cue.name for number, cue in found.cues.items()}
         self.assertEqual({1000: "one", 2000: "two, or so", 500: "\xe9", 7000: ""}, names)
-        self.assertEqual({3: show.Record("three")}, found.subs)
-        self.assertEqual({4: show.Record("four")}, found.groups)
-        fades = [found.cues[number].fade for number in found.cues]
-        self.assertEqual([92500, 0, 4000, 1250], fades)
+        self.assertEqual({3: cue_list.Record("three")}, found.subs)
+        self.assertEqual({4: cue_list.Record("four")}, found.groups)
+        fades = {number: cue.fade for number, cue in found.cues.items()}
+        self.assertEqual({1000: 92500, 2000: 0, 500: 4000, 7000: 1250}, fades)
         self.assertEqual({1: 1, 600: 2}, found.patch)
         self.assertEqual([(3, 88)], found.slots_of(2, 2))
 
     def test_cleared(self):
         lines = ("CUE 1", "SUB 1", "GROUP 1", "PATCH 1 1<1@FL")
         for word, left in (("ALL", "0000"), ("CUE", "0111"), ("SUBS", "1011"), ("PATCH", "1110")):
-            found = show.read_names(text(*lines, f"CLEAR {word}"))
+            found = cue_list.read_show("-", text(*lines, f"CLEAR {word}"))
             tables = (found.cues, found.subs, found.groups, found.patch)
             self.assertEqual(left, "".join(str(len(table)) for table in tables))
 
     def test_examples_as_the_program_reads_them(self):
         for file in EXAMPLES.glob("*.asc"):
-            self.assertTrue(show.read_show(str(file)).cues)
+            self.assertTrue(cue_list.read_show(str(file)).cues)
 
     def test_faults(self):
         with self.assertRaisesRegex(Refused, "device fault"):
-            show.read_show(str(self.folder / "none"))
+            cue_list.read_show(str(self.folder / "none"))
 
 
 class Texts(unittest.TestCase):

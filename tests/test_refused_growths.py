@@ -72,6 +72,11 @@ class RefusedGrowths(Growths):
     def test_explain(self):
         self.assertEachRefused(["explain", "-"], SHOW + b"WHAT\nCHAN 99@FL\n" * 20)
 
+    def test_cues(self):
+        show = SHOW + b"TEXT a label\nSUB 9 ! another\n"
+        for words in (["cues", "-"], ["cues", "--json", "-"]):
+            self.assertEachRefused(words, show)
+
     def test_play(self):
         words = ["play", self.show, "--to", "127.0.0.1:9", "--cid", CID]
         self.assertEachRefused(words, b"0 go\n0 tick\n25 sub 1 50\n25 tick\n50 end\n50 tick\n")

@@ -4,6 +4,7 @@ from typing import NamedTuple
 
 from program import CID, packet
 
+from . import cue_list
 from . import script as scripts
 from . import show as shows
 from .desk import FULL, Desk, command, slot_byte
@@ -44,6 +45,11 @@ def check(text):
     return Answer(
         0, f"lines {show.lines} {tables} dimmers {len(show.patch)} skipped {show.skipped}\n".encode()
     )
+
+
+def cues(text):
+    show = shows.read(text)
+    return refused(3, show) if isinstance(show, str) else Answer(0, cue_list.table(show).encode())
 
 
 def full(text, cue):

@@ -13,6 +13,8 @@ FAULTS = (
     "Ident", "MissingNumber", "BadNumber", "BadLevel", "BadTime", "HalfPair", "HalfTriple", "Limit",
 )  # fmt: skip
 MAKER, NOBODY = "maker", "nobody"
+# No label begins or ends with one of these.
+EDGES = b" \t\r\x1a,;/<=>@\""
 
 
 class LineFault(Exception):
@@ -43,7 +45,12 @@ class Cue:
 class Show:
     def __init__(self):
         self.cues, self.subs, self.groups, self.patch = {}, {}, {}, {}
+        # What labels the records of a table, by their numbers: the last TEXT and the last comment.
+        self.texts, self.comments = ({"cues": {}, "subs": {}, "groups": {}} for _ in range(2))
         self.lines = self.skipped = 0
+
+    def label(self, table, n):
+        return self.texts[table].get(n) or self.comments[table].get(n, b"")
 
     def universes(self):
         """The show's universes that have a patched dimmer, from 0, ascending."""
@@ -56,10 +63,14 @@ class Reader:
     def __init__(self):
         self.show = Show()
         self.owner = NOBODY
+        # The table and the number of the owner, and the line that is read.
+        self.named = None
+        self.line = b""
 
-    def take(self, words):
+    def take(self, words, line):
         """Takes a line with words; False where it is skipped."""
         first = words[0].upper()
+        self.line = line
         if first in PRIMARY:
             self.owner = NOBODY
             return self.primary(first, words)
@@ -96,6 +107,8 @@ class Reader:
         emptied = tables.get(words[1].upper()) if len(words) == 2 else None
         for table in emptied or ():
             getattr(self.show, table).clear()
+            self.show.texts.get(table, {}).clear()
+            self.show.comments.get(table, {}).clear()
         return emptied is not None
 
     def open(self, first, words):
@@ -108,11 +121,20 @@ class Reader:
             LineFault.check([] if 1 <= n <= {b"SUB": 100, b"GROUP": 500}[first] else ["Limit"])
         if page != 1:
             return False
-        table = {b"CUE": self.show.cues, b"SUB": self.show.subs, b"GROUP": self.show.groups}[first]
+        name = first.decode().lower() + "s"
+        table = getattr(self.show, name)
         if first == b"CUE" and n not in table:
             LineFault.check([] if len(table) < 2000 else ["Limit"])
         self.owner = table.setdefault(n, Cue() if first == b"CUE" else {})
+        self.named = name, n
+        self.label(self.show.comments, self.line.partition(b"!")[2])
         return True
+
+    def label(self, labels, part):
+        """Labels the owner with a part of the line, unless nothing of it is left."""
+        table, n = self.named
+        if part.strip(EDGES):
+            labels[table][n] = part.strip(EDGES)
 
     def patch(self, words):
         LineFault.check([] if words[1:] else ["MissingNumber"])
@@ -154,6 +176,9 @@ class Reader:
             setattr(self.owner, first.decode().lower(), (rate[0], rate[1] if rate[1:] else 0))
         elif first == b"FOLLOWON" and is_cue and follow_on.HAS_FOLLOW_ONS:
             self.owner.follow = self.times(words[1:2])[0]
+        elif first == b"TEXT":
+            said = self.line.partition(b"!")[0].strip(EDGES)
+            self.label(self.show.texts, said[len(first) :])
 
     def times(self, words):
         """The times of a line of a cue; the first must be there."""
@@ -176,7 +201,7 @@ def read(text):
         if words[0].upper() == b"ENDDATA":
             break
         try:
-            reader.show.skipped += not reader.take(words)
+            reader.show.skipped += not reader.take(words, line)
         except LineFault as fault:
             return f"show line {reader.show.lines}: {fault}"
     return reader.show

@@ -3,8 +3,8 @@
 from dataclasses import dataclass
 
 from cueplayer_tools.axis import LEFT, RIGHT, Axis
+from cueplayer_tools.cue_list import Show
 from cueplayer_tools.night import Curve, Night, Slot
-from cueplayer_tools.show import Show
 from cueplayer_tools.svg import Drawing, colour, number, spread
 from cueplayer_tools.words import Refused
 

@@ -13,12 +13,12 @@ from pathlib import Path
 from cueplayer_tools.addresses import LOOPBACK, bound_socket, port_number, sending_address
 from cueplayer_tools.cid_lock import holder
 from cueplayer_tools.console_cid import console_cid
+from cueplayer_tools.cue_list import read_show
 from cueplayer_tools.desk_levels import LevelReader
 from cueplayer_tools.desk_night import Night
 from cueplayer_tools.desk_server import DeskServer
 from cueplayer_tools.desk_view import show_view
 from cueplayer_tools.osc_port import OscPort
-from cueplayer_tools.show import read_show
 from cueplayer_tools.teller import Teller, leave_all
 from cueplayer_tools.words import Refused
 

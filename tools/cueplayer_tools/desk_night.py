@@ -18,10 +18,10 @@ from collections import deque
 from collections.abc import Callable
 from dataclasses import dataclass, field
 
+from cueplayer_tools.cue_list import Show
 from cueplayer_tools.desk_input import LiveInput
 from cueplayer_tools.position import MOVES, Position
 from cueplayer_tools.program import program
-from cueplayer_tools.show import Show
 from cueplayer_tools.words import Refused, command_line, level_byte, printable
 
 FULL = 255

@@ -2,8 +2,8 @@
 
 from typing import Any
 
+from cueplayer_tools.cue_list import Record, Show
 from cueplayer_tools.desk_night import Night
-from cueplayer_tools.show import Record, Show
 from cueplayer_tools.words import cue_word
 
 

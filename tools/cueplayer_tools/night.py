@@ -7,10 +7,10 @@ with a receiver of each universe that is handed each packet at once and asked fo
 from bisect import bisect_left
 from dataclasses import dataclass, field
 
+from cueplayer_tools.cue_list import Show
 from cueplayer_tools.position import MOVES, Move, Position
 from cueplayer_tools.record import Given
 from cueplayer_tools.rehearsal import MOST_RECEIVERS, Event, rehearse
-from cueplayer_tools.show import Show
 from cueplayer_tools.words import Refused, level_byte
 
 # Any identity does: what is shown of a night does not hang on its name.

@@ -5,13 +5,13 @@ import re
 import sys
 from pathlib import Path
 
+from cueplayer_tools.cue_list import read_show
 from cueplayer_tools.curves import all_of, chosen
 from cueplayer_tools.night import LEAST_APART, Slot, filled, night_of, thinned
 from cueplayer_tools.picture_night import NightPicture, draw_night
 from cueplayer_tools.picture_rehearsal import draw_rehearsal, moments_between
 from cueplayer_tools.record import lost_in, read_record, words_of
 from cueplayer_tools.rehearsal import rehearse, with_questions, with_replies
-from cueplayer_tools.show import read_show
 from cueplayer_tools.words import Refused
 
 QUESTIONS = 480

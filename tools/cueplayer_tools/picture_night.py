@@ -3,10 +3,10 @@
 from dataclasses import dataclass
 
 from cueplayer_tools.axis import LEFT, RIGHT, ROW, Axis, Label, clock, draw_labels, label_rows
+from cueplayer_tools.cue_list import Show
 from cueplayer_tools.curves import Named, draw_levels
 from cueplayer_tools.night import Night, masters_of, moves_of
 from cueplayer_tools.record import Lost
-from cueplayer_tools.show import Show
 from cueplayer_tools.svg import Drawing, number
 from cueplayer_tools.words import cue_word
 

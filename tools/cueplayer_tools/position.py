@@ -5,7 +5,7 @@ The program answers whether a move was made; where it came to follows from the o
 
 from dataclasses import dataclass, field
 
-from cueplayer_tools.show import Show
+from cueplayer_tools.cue_list import Show
 from cueplayer_tools.words import milliseconds_of, thousandths_of
 
 MOVES = ("go", "back", "goto")

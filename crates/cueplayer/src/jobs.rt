@@ -7,6 +7,7 @@ use crate::live_feed::LiveFeed;
 use crate::reading::{file_text, script_text, show_text};
 use crate::remark::of_device;
 use crate::shown_output::ShownOutput;
+use cueplayer_cues::{cues, cues_json};
 use cueplayer_explain::explain;
 use cueplayer_faults::RunFault;
 use cueplayer_play::play;
@@ -38,6 +39,7 @@ pub fn run(rt: &HostRuntime, job: Job) -> Result<(), Failure>
         Job::Check { show } => check_show(rt, show.as_str()),
         Job::Look { show, cue, cid } => look_at(rt, show.as_str(), cue, cid),
         Job::Explain { show } => explain_show(rt, show.as_str()),
+        Job::Cues { show, is_json } => show_cues(rt, show.as_str(), is_json),
         Job::Slots { show, cue, base } => show_slots(rt, show.as_str(), cue, base),
         Job::Play(night) => play_lines(rt, &night, identity(&night)),
         Job::Live {
@@ -80,6 +82,17 @@ fn explain_show(rt: &HostRuntime, show: &str) -> Result<(), Failure> {
     let text = show_text(rt, show)?;
     let mut out = SystemOutput::new(rt.stdout());
     let answer = explain(rt.alloc(), text.as_slice(), &mut out);
+    ended(answer, text.as_slice(), out.failure())
+}
+
+fn show_cues(rt: &HostRuntime, show: &str, is_json: bool) -> Result<(), Failure> {
+    let text = show_text(rt, show)?;
+    let mut out = SystemOutput::new(rt.stdout());
+    let answer = if is_json {
+        cues_json(rt.alloc(), text.as_slice(), &mut out)
+    } else {
+        cues(rt.alloc(), text.as_slice(), &mut out)
+    };
     ended(answer, text.as_slice(), out.failure())
 }
 

@@ -1,3 +1,4 @@
+mod cues;
 mod explain;
 mod faults;
 mod play;
