@@ -21,7 +21,12 @@ fn run(alloc: Global, form: Form, show: &[u8], out: &mut MemoryOutput) -> Result
 // The answer of a run and its output, of which so many of the first writes fail.
 //
 // Where the one growth that a run lets fail was refused here, the second run has all it needs.
-fn end(alloc: Global, form: Form, show: &[u8], failing: u64) -> (Result<(), RunFault>, MemoryOutput) {
+fn end(
+    alloc: Global,
+    form: Form,
+    show: &[u8],
+    failing: u64,
+) -> (Result<(), RunFault>, MemoryOutput) {
     let mut out = MemoryOutput::new(alloc, 0, failing);
     let answer = run(alloc, form, show, &mut out);
     let refused = answer == Err(RunFault::Memory) && out.faults.failed == 0 || out.full;
