@@ -1,6 +1,4 @@
 use Rattle.std.proofs.Common.{◌≡◌, ◌∙◌, ◌-◌, arith}
-use Rattle.std.specs.Prelude.{max}
-use Rattle.playback_core.specs.Played.{playback_level}
 use Rattle.std.proofs.lemmas.List.Elements.{All-get_or}
 use Rattle.patch_core.specs.Frame.{listed_level}
 use Rattle.patch_core.proofs.Redrawn.{channel_range}
