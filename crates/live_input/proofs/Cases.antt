@@ -52,23 +52,20 @@ has_room_on on room is full = grind (arith, is, full)
 
 command_is : (h : List Happening) (n : ℕ) (line : List ℕ) (later : List (List ℕ))
     → lines_left (answers h) h ≡ line ∷ later → is_on (stage (answers h)) ≡ true
-    → is_full (answers h) ≡ false → has_room (answers h) ≡ true
-    → length (at_moment n line) ≤ 200 → (spelled : Option Command) → command_of (words_of line) ≡ spelled
-    → Next h n (to_command n line spelled)
-command_is h n line later left on free room fit None is = refuses line later left free
-command_is h n line later left on free room fit (Some End) is = darkens line later left on
-command_is h n line later left on free room fit (Some c) is =
-    takes line later left on room fit c is refl
+    → IsFree h → length (at_moment n line) ≤ 200 → (spelled : Option Command)
+    → command_of (words_of line) ≡ spelled → Next h n (to_command n line spelled)
+command_is h n line later left on free fit None is = refuses line later left free.room
+command_is h n line later left on free fit (Some End) is = darkens line later left on
+command_is h n line later left on free fit (Some c) is =
+    takes line later left on (has_room_on _ _ on free.room) fit c is refl
 
 line_is : (h : List Happening) (n : ℕ) (line : List ℕ) (later : List (List ℕ)) → IsFree h
     → lines_left (answers h) h ≡ line ∷ later → Next h n (to_line (answers h) n line)
 line_is h n line later free left =
     cond_both (is_on (stage (answers h)) && nat_le (length (at_moment n line)) 200) _ _ (Next h n)
-    (λ fit. let parts = and_parts _ _ fit in
-    let room = has_room_on _ (has_room (answers h)) parts.0 free.room in
-    cond_both (is_leave (words_of line)) _ _ (Next h n)
-    (λ leave. leaves line later left parts.0 room)
-    (λ other. command_is h n line later left parts.0 free.room room (leb-true _ 200 parts.1) _ refl))
+    (λ fit. let parts = and_parts _ _ fit in cond_both (is_leave (words_of line)) _ _ (Next h n)
+    (λ leave. leaves line later left parts.0 (has_room_on _ _ parts.0 free.room))
+    (λ other. command_is h n line later left parts.0 free (leb-true _ 200 parts.1) _ refl))
     (λ unfit. refuses line later left free.room)
 
 lines_are : (h : List Happening) (n : ℕ) → IsFree h → (left : List (List ℕ))
@@ -77,7 +74,8 @@ lines_are h n free [] is =
     cond_both (is_on (stage (answers h)) && ends_with_input h) _ _ (Next h n)
     (λ owed. let parts = and_parts _ _ owed in dims parts.0 (rw parts.1 refl))
     (λ none. cond_both (nat_le (due (answers h)) n) _ _ (Next h n)
-    (λ late. ticks free.on free.light (λ full. let none = free.room in cc) (leb-true _ n late)) (λ early. waits is free.room))
+    (λ late. ticks free.on free.light (λ full. let none = free.room in cc) (leb-true _ n late))
+    (λ early. waits is free.room))
 lines_are h n free (line ∷ later) is = line_is h n line later free is
 
 full_dims : (ends room : Bool) → not room ≡ true → (ends || not room) ≡ true

@@ -1,12 +1,10 @@
 -- Between a tick's due moment and the tick there is at most one line.
 use Rattle.std.proofs.Common.{◌≡◌, ◌⊎◌, inl, inr, ◌≤◌, ℕ, false, List, [], ◌∷◌, ◌++◌, arith}
-use Rattle.std.proofs.Common.{Option, None, refl}
+use Rattle.std.proofs.Common.{refl}
 use Rattle.live_input.specs.Laws.{IsTick, NothingIsAsked, TicksAreNext}
 use Rattle.live_input.specs.Night.{Answer, Happening, answer_to, answers, asked, came, close}
-use Rattle.live_input.specs.Night.{closed, dim, due, is_dark, is_over, is_through, now, order, over}
-use Rattle.live_input.specs.Night.{refusal, stage, stage_by, tick, wait, was_tick}
-use Rattle.live_input.specs.declared.progress.Stage.{Stage}
-use Rattle.live_input.specs.declared.progress.Stage.TheVariants.{On, Dark, Ended}
+use Rattle.live_input.specs.Night.{closed, dim, due, is_dark, is_over, now, over}
+use Rattle.live_input.specs.Night.{stage, tick, was_tick}
 use Rattle.live_input.proofs.Cases.{Next, answer_is_next, nothing}
 use Rattle.live_input.proofs.Nights.{by_test, ticks_first}
 
@@ -17,34 +15,16 @@ record Stays (given : List Answer) (answer : Answer) : Type 0 where
   on : is_over (answer ∷ given) ≡ false
   light : is_dark (stage (answer ∷ given)) ≡ false
 
-dims : (n : ℕ) (typed : Option (List ℕ)) (s : Stage) → is_through s ≡ false → is_dark s ≡ false
-    → (is_through (stage_by (dim n typed) s) ≡ false) × (is_dark (stage_by (dim n typed) s) ≡ false)
-dims n typed On on light = (refl, refl)
-dims n typed s on light = (on, light)
-
-closes : (n : ℕ) (typed : Option (List ℕ)) (s : Stage) → is_through s ≡ false
-    → (is_through (stage_by (close n typed) s) ≡ false)
-    × (is_dark (stage_by (close n typed) s) ≡ false)
-closes n typed On on = (refl, refl)
-closes n typed (Dark k) on = (refl, refl)
-closes n typed (Ended k) on = (on, refl)
-
 -- no answer but a tick changes when the next one is due
 tick_or_line : (given : List Answer) (answer : Answer) → is_over given ≡ false
     → is_dark (stage given) ≡ false → (answer ≡ over → ⊥) → IsTick answer ⊎ Stays given answer
 tick_or_line given (tick n) on light other = inl tt
 tick_or_line given over on light other = absurd (other refl)
 tick_or_line given (dim n typed) on light other =
-    let still = dims n typed (stage given) on light in
-    inr (record { none = refl; same = refl; on = still.0; light = still.1 })
+    inr (record { none = refl; same = refl; on = grind (arith, on); light = grind (arith, light) })
 tick_or_line given (close n typed) on light other =
-    let still = closes n typed (stage given) on in
-    inr (record { none = refl; same = refl; on = still.0; light = still.1 })
-tick_or_line given (order n line) on light other =
-    inr (record { none = refl; same = refl; on = on; light = light })
-tick_or_line given (refusal line) on light other =
-    inr (record { none = refl; same = refl; on = on; light = light })
-tick_or_line given (wait n) on light other =
+    inr (record { none = refl; same = refl; on = grind (arith, on); light = grind (arith, light) })
+tick_or_line given _ on light other =
     inr (record { none = refl; same = refl; on = on; light = light })
 
 -- what was answered is as it was, and the clock does not fall
@@ -83,9 +63,12 @@ not_over h n _ _ on is = cc
 stays_or_ticks : (h : List Happening) (moment : ℕ) → is_over (answers h) ≡ false
     → IsTick (answer_to h moment) ⊎ Stays (answers h) (answer_to h moment)
 stays_or_ticks h moment on = by_test (is_dark (stage (answers h)))
-    (λ dark. rw (on, dark) (
-    let still = closes (now (asked moment ∷ h)) None (stage (answers h)) on in
-    inr (record { none = refl; same = refl; on = still.0; light = still.1 })))
+    (λ dark. rw (on, dark) (inr (record {
+      none = refl;
+      same = refl;
+      on = grind (arith, dark);
+      light = grind (arith, dark);
+    })))
     (λ light. tick_or_line (answers h) (answer_to h moment) on light
     (not_over h _ (answer_to h moment) (answer_is_next h moment) on))
 

@@ -1,6 +1,6 @@
 -- Laws over all nights: whatever bytes came, and whatever the clock said.
-use Rattle.std.specs.Prelude.{◌≡◌, ◌↔◌, ◌⊎◌, ◌≤◌, ◌+◌, ◌++◌, ◌||◌, ℕ, true, false, not, List, [], ◌∷◌}
-use Rattle.std.specs.Prelude.{Option, Some}
+use Rattle.std.specs.Prelude.{◌≡◌, ◌↔◌, ◌⊎◌, ◌≤◌, ◌+◌, ◌++◌, ◌||◌, ℕ, true, false, not, List, []}
+use Rattle.std.specs.Prelude.{◌∷◌, Option, Some}
 use Rattle.std.specs.Prelude.{None, All, length, codes, flat_map, reverse}
 use Rattle.std.specs.Prelude.{Bool, is_none, option_map, replicate, if◌then◌else◌}
 use Rattle.std.specs.List.{filter_map, list_any}
@@ -112,7 +112,8 @@ IsOn given =
 abbrev pub TicksGoFirst : Type 0
 TicksGoFirst =
     (h : List Happening) (moment : ℕ) → is_over (answers h) ≡ false
-    → is_dark (stage (answers h)) ≡ false → was_tick (answers h) ≡ false → due (answers h) ≤ now (asked moment ∷ h)
+    → is_dark (stage (answers h)) ≡ false → was_tick (answers h) ≡ false
+    → due (answers h) ≤ now (asked moment ∷ h)
     → answer_to h moment ≡ tick (now (asked moment ∷ h))
 
 -- a line that waits is the answer behind each tick: ticks that are late keep no line from its turn

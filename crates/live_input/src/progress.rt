@@ -17,8 +17,9 @@ use desk_core::{Command, ENDING_TICKS, SHORTEST_GAP};
 const GRID: u64 = 25;
 
 // `play` takes 10,000,000 lines, and the last ten are a tick that is due, `master 0`, its four
-// ticks, `end` and its three. At 40 ticks a second that is after 69 hours: a night that is still on then is ended in
-// order, so that receivers let go of its levels at once, and those of a second console count.
+// ticks, `end` and its three. At 40 ticks a second that is after 69 hours: a night that is still on
+// then is ended in order, so that receivers let go of its levels at once, and those of a second
+// console count.
 const LINES: u32 = 9_999_990;
 
 // Ticks with the light down before `end`. A receiver that ignores the levels of a termination, as
