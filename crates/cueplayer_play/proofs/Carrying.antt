@@ -85,8 +85,8 @@ answered_quiet p history reading before after text nothing same written = record
 -- a call at which nothing is due
 pub performed_quiet : (p : Production) (history : List Act) (moment : ℕ) (call : Call)
     (before after : List Send) (answer : Answer) (r : Option Refused)
-    → refusal p.show history (act_of moment call) ≡ r → due_by r call (dues_at p history moment) ≡ []
-    → after ≡ before → answer ≡ answer_to r call (ended history) []
+    → refusal p.show history (act_of moment call) ≡ r
+    → due_by r call (dues_at p history moment) ≡ [] → after ≡ before → answer ≡ answer_to r call (ended history) []
     → Performs p history moment call before after answer
 performed_quiet p history moment call before after answer r e nothing same is = record {
   sends = [];

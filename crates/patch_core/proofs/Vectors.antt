@@ -1,5 +1,6 @@
 -- A vector as the list of its lanes: the greater of two, and a vector in a list of slots.
-use Rattle.std.proofs.Common.{◌≡◌, ℕ, ◌+◌, ◌-◌, ◌<◌, ◌≤◌, max, List, Bool, true, false, cond, ltb, length, get_or, refl, ap, ◌∙◌, arith}
+use Rattle.std.proofs.Common.{◌≡◌, ℕ, ◌+◌, ◌-◌, ◌<◌, ◌≤◌, max, List, Bool, true, false, cond}
+use Rattle.std.proofs.Common.{ltb, length, get_or, refl, ap, ◌∙◌, arith}
 use Rattle.std.specs.Simd.Lanes.{zip2, sel_l, chunk, put_chunk}
 use Rattle.std.proofs.lemmas.Bool.{ltb-true, ltb-false}
 use Rattle.std.proofs.lemmas.Simd.{length-zip2, get_or-zip2, length-sel_l, get_or-sel_l, get_or-chunk, get_or-put_chunk_at}

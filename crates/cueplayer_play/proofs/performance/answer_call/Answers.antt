@@ -45,4 +45,5 @@ returns-in-Ok-tick-clause-performed g c = λ p h s tells.
 pub returns-in-Err-tick-clause-performed : goal.returns-in-Err-tick-clause-performed
 returns-in-Err-tick-clause-performed g c = λ p h s tells.
     let e = c.in-Err-tick.ensures.answer p h s in
-    rw c.in-Tick.is (performed_quiet p h _ _ _ _ _ _ e refl (c.in-Err-tick.ensures.quiet tells) refl)
+    rw c.in-Tick.is
+    (performed_quiet p h _ _ _ _ _ _ e refl (c.in-Err-tick.ensures.quiet tells) refl)
