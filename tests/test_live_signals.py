@@ -1,0 +1,85 @@
+"""`./cueplayer live`: control-C and a closed window leave the light on."""
+
+import os
+import signal
+import subprocess
+import time
+
+from program import PROGRAM, TOP
+from test_live import LiveTest, without_moments
+from wire import SLOT_1, terminal
+
+TOLD = b"cueplayer: end ends the night; control-C and a closed window leave the light on\n"
+CONTROL_C = b"\x03"
+
+
+def take_terminal():
+    """Makes standard input the terminal of a session of its own."""
+    os.setsid()
+    os.close(os.open(os.ttyname(0), os.O_RDWR))
+
+
+class Signals(LiveTest):
+    def night(self, stdin=subprocess.PIPE, preexec_fn=None):
+        night = subprocess.Popen(
+            [TOP / "cueplayer", *self.words(holds=True)],
+            env=os.environ | {"CUEPLAYER": str(PROGRAM)},
+            stdin=stdin,
+            stdout=subprocess.PIPE,
+            stderr=subprocess.PIPE,
+            bufsize=0,
+            preexec_fn=preexec_fn,
+        )
+        self.addCleanup(night.wait)
+        self.addCleanup(night.kill)
+        return night
+
+    def lit(self):
+        """The level of slot 1 in the packets of a second that begins now."""
+        self.came()
+        time.sleep(1)
+        return {each[SLOT_1] for each in self.came()}
+
+    def test_interrupt_and_hang_up(self):
+        """The light stays, the next command is taken, and an `end` ends the night."""
+        night = self.night()
+        self.told(night, b"sub 1 FL\n")
+        for each in (signal.SIGINT, signal.SIGHUP):
+            night.send_signal(each)
+        self.assertEqual({128}, self.lit())
+        self.told(night, b"sub 1 50\n")
+        self.told(night, b"end\n")
+        self.assertEqual((0, b""), (night.wait(timeout=30), night.stderr.read()))
+        self.assertTerminated(self.came())
+
+    def test_termination(self):
+        night = self.night()
+        self.told(night, b"sub 1 FL\n")
+        night.send_signal(signal.SIGTERM)
+        self.assertEqual(-signal.SIGTERM, night.wait(timeout=30))
+
+    def test_control_c_at_a_terminal(self):
+        """It is told at the start; control-C drops what was typed and leaves the light on."""
+        ours, its = terminal(self)
+        self.addCleanup(os.close, ours)
+        night = self.night(stdin=its, preexec_fn=take_terminal)
+        os.close(its)
+        self.assertEqual(TOLD, night.stderr.readline())
+        os.write(ours, b"sub 1 FL\n")
+        self.assertEqual(["ok"], without_moments(night.stdout.readline()))
+        os.write(ours, b"sub 1 0" + CONTROL_C)
+        self.assertEqual({128}, self.lit())
+        os.write(ours, b"end\n")
+        self.assertEqual(0, night.wait(timeout=30))
+
+    def test_closed_window(self):
+        """The terminal goes away, and the light does not."""
+        ours, its = terminal(self)
+        night = self.night(stdin=its, preexec_fn=take_terminal)
+        os.close(its)
+        night.stderr.readline()
+        os.write(ours, b"sub 1 FL\n")
+        self.assertEqual(["ok"], without_moments(night.stdout.readline()))
+        os.close(ours)
+        self.assertEqual({128}, self.lit())
+        self.assertIsNone(night.poll())
