@@ -1,10 +1,12 @@
 ghost use Rattle.std.specs.Prelude.{◌≡◌, ◌↔◌, None, Some, Err, IsFalse, List, [], ◌∷◌, IfOk, OnOk};
-ghost use Rattle.std.specs.Prelude.{OnErr, MatchResult};
+ghost use Rattle.std.specs.Prelude.{OnErr, MatchResult, is_some};
 ghost use Rattle.std.specs.Coded.{codes};
 ghost use Rattle.show_core.specs.contracts.show.Show as show_model;
 ghost use Rattle.patch_core.specs.Frame.{is_base};
 ghost use Rattle.patch_core.specs.declared.fault.RigFault.TheVariants.{Universe};
-ghost use Rattle.desk_core.specs.Played.{Act, ended, outcome, refusal, ticked};
+ghost use Rattle.playback_core.specs.Placed.{IsAt};
+ghost use Rattle.playback_core.specs.Played.{current_after};
+ghost use Rattle.desk_core.specs.Played.{Act, ended, moves, outcome, refusal, ticked};
 ghost use Rattle.console.specs.ConsoleState.{ConsoleState};
 ghost use Rattle.console.specs.Offering.{Offers as OffersTo};
 ghost use Rattle.console.specs.Stands.{StandsFor};
@@ -15,6 +17,7 @@ use crate::tick::offer_all;
 use desk_core::{Command, Desk, Refused, Ticked};
 use fade_core::Fader;
 use patch_core::RigFault;
+use playback_core::Place;
 use sacn_source::{Identity, Link, Sender};
 use show_core::Show;
 use std::alloc::{AllocError, Global};
@@ -120,5 +123,33 @@ impl<F: Fader> Console<F> {
         let answer = self.desk.tick(moment)?;
         let offers = offer_all(&self.desk, &mut self.sender, moment, answer, link);
         Ok((answer, offers))
+    }
+
+    /// The current cue, in thousandths: that of the latest move.
+    pub fn current(&self) -> Option<u32>
+        ensures { (production : Production) (history : List Act)
+            → StandsFor F.stands_for production self.now history
+            → result ≡ current_after (moves production.show history) }
+    {
+        self.desk.current()
+    }
+
+    /// The place in the cue list: the current cue, and when the next one follows it by itself.
+    pub fn place(&self) -> Place
+        ensures { (production : Production) (history : List Act)
+            → StandsFor F.stands_for production self.now history
+            → IsAt production.show result (moves production.show history)
+            (is_some (ended history)) }
+    {
+        self.desk.place()
+    }
+
+    /// The show that is played.
+    pub fn show(&self) -> &Show
+        ensures { (production : Production) (history : List Act)
+            → StandsFor F.stands_for production self.now history
+            → result.now ≡ production.show }
+    {
+        self.desk.show()
     }
 }

@@ -8,6 +8,7 @@ use Rattle.sacn_source.specs.declared.offered.Offered.TheVariants.{Sent, Lost, Q
 use Rattle.console_text.specs.declared.call.Call.TheVariants.{Order, Tick}
 use Rattle.console_text.specs.declared.reading.Reading.TheVariants.{Blank, Malformed, At}
 use Rattle.console_text.specs.Spelling.{reading_of}
+use Rattle.console_text.specs.CueLine.{cue_line}
 use Rattle.console_text.specs.Texts.{done_text, numbered, refused_text, ticked_text}
 
 calls : (reading_of (codes "0 go") ≡ At 0 (Order Go))
@@ -33,3 +34,9 @@ answers : (numbered 0 done_text ≡ codes "0 ok\n")
     × (numbered 23 (ticked_text (Ending 2) ((1, Sent 1) ∷ [])) ≡ codes "23 ending 2 1:s1\n")
 unfolding digits
 answers = (refl, refl, refl, refl)
+
+moves : (cue_line 0 1000 ≡ codes "0 cue 1\n") × (cue_line 25 1500 ≡ codes "25 cue 1.5\n")
+    × (cue_line 10000 12250 ≡ codes "10000 cue 12.25\n")
+    × (cue_line 7 999905 ≡ codes "7 cue 999.905\n") × (cue_line 7 1 ≡ codes "7 cue 0.001\n")
+unfolding digits
+moves = (refl, refl, refl, refl, refl)

@@ -1,10 +1,10 @@
 //! A console in words: the commands that words spell, the call that an input line spells, and the
-//! texts of the answers.
+//! texts of the answers and of moves.
 //!
 //! [`read_call`] reads a whole line with its moment; [`command_in`] and [`call_in`] read the words
 //! behind one. [`done_line`], [`refused_line`] and [`ticked_line`] write an answer behind a number,
 //! which is the call's moment, or a script line's own number; [`reason_line`] writes why something
-//! else was not done.
+//! else was not done, and [`cue_line`] which cue is current from a moment on.
 //!
 //! ```
 //! let reading = read_call(b"25 goto 1.5");
@@ -16,8 +16,10 @@
 
 mod answer;
 mod call;
+mod move_line;
 mod reading;
 
 pub use answer::{AnswerLine, done_line, reason_line, refused_line, ticked_line};
 pub use call::{Call, call_in, command_in};
+pub use move_line::{CueLine, cue_line};
 pub use reading::{Reading, read_call};

@@ -1,5 +1,5 @@
 -- A call that is carried out.
-use Rattle.std.proofs.Common.{◌≡◌, ℕ, Bool, true, false, cond, refl, arith, sym, ◌∙◌, List, []}
+use Rattle.std.proofs.Common.{◌≡◌, ℕ, Bool, true, false, cond, refl, ap, arith, sym, ◌∙◌, List, []}
 use Rattle.std.proofs.Common.{Some, None, Ok, Err, Result, append-nil}
 use Rattle.std.specs.Prelude.{Option, count_by}
 use Rattle.std.proofs.lemmas.List.Sums.{sum_by-cons}
@@ -13,12 +13,18 @@ use Rattle.sacn_source.specs.declared.offered.Offered.TheVariants.{Quiet}
 use Rattle.sacn_source.specs.Offering.{answer_of}
 use Rattle.console.specs.Offering.{AreOffered, none, quiet, sent, Offers}
 use Rattle.console.specs.Streams.{Due, Production, dues_at, tick_at}
-use Rattle.console_text.specs.declared.call.Call.TheVariants.{Tick}
+use Rattle.console_text.specs.declared.call.Call.{Call}
+use Rattle.console_text.specs.declared.call.Call.TheVariants.{Order, Tick}
+use Rattle.console_text.specs.Spelling.{act_of}
 use Rattle.console_text.specs.declared.reading.Reading.{Reading}
 use Rattle.console_text.specs.declared.reading.Reading.TheVariants.{At}
-use Rattle.console_text.specs.Texts.{numbered, ticked_text}
+use Rattle.console_text.specs.Texts.{numbered}
 use Rattle.cueplayer_play.specs.Lost.{is_lost}
-use Rattle.cueplayer_play.specs.Run.{IsAnswered, due_after, line_text}
+use Rattle.cueplayer_play.specs.Run.{IsAnswered, answer_text, due_after, due_by, line_text}
+use Rattle.cueplayer_play.specs.declared.performance.Answer.{Answer}
+use Rattle.cueplayer_play.specs.declared.performance.Answer.TheVariants as answer
+use Rattle.cueplayer_play.specs.Perform.{Performs, answer_to, text_of_answer}
+use Rattle.cueplayer_play.specs.Perform.{lost_of as lost_of_answer}
 
 -- why a call was refused, or that it was not, by its answer
 pub accepted : {X : Type 0} (o : Option Refused) (a b : X) (r : Result X Refused) → r ≡ Ok a
@@ -74,19 +80,64 @@ answered_quiet p history reading before after text nothing same written = record
   lost_is = refl;
 }
 
+-- ---- a call that is performed
+
+-- a call at which nothing is due
+pub performed_quiet : (p : Production) (history : List Act) (moment : ℕ) (call : Call)
+    (before after : List Send) (answer : Answer) (r : Option Refused)
+    → refusal p.show history (act_of moment call) ≡ r → due_by r call (dues_at p history moment) ≡ []
+    → after ≡ before → answer ≡ answer_to r call (ended history) []
+    → Performs p history moment call before after answer
+performed_quiet p history moment call before after answer r e nothing same is = record {
+  sends = [];
+  offers = [];
+  are_offered = rw (e, nothing) none;
+  after_is = same ∙ sym (append-nil before);
+  answer_is = rw e is;
+}
+
 -- a tick that is accepted
-pub answered_tick : (p : Production) (history : List Act) (moment : ℕ) (before after : List Send)
-    (text : List ℕ) (t : Ticked) (pairs : List (ℕ × Offered)) (lost : ℕ)
+pub performed_tick : (p : Production) (history : List Act) (moment : ℕ) (before after : List Send)
+    (t : Ticked) (pairs : List (ℕ × Offered))
     → refusal p.show history (tick_at moment) ≡ None → t ≡ ticked (ended history)
     → Offers p.source (dues_at p history moment) pairs before after
-    → text ≡ numbered moment (ticked_text t pairs) → lost ≡ lost_of pairs
-    → IsAnswered p history (At moment Tick) before after text lost
-answered_tick p history moment before after text t pairs lost e is offers written counted =
+    → Performs p history moment Tick before after (answer.Ticked t pairs)
+performed_tick p history moment before after t pairs e is offers = record {
+  sends = offers.sends;
+  offers = pairs;
+  are_offered = rw e offers.are_offered;
+  after_is = offers.after_is;
+  answer_is = rw (e, is) refl;
+}
+
+text_same : (m : ℕ) (r : Option Refused) (c : Call) (ticks : Option ℕ) (offers : List (ℕ × Offered))
+    → text_of_answer m (answer_to r c ticks offers) ≡ numbered m (answer_text r c ticks offers)
+text_same m (Some refused) c ticks offers = refl
+text_same m None (Order command) ticks offers = refl
+text_same m None Tick ticks offers = refl
+
+lost_same : {source : Identity} (r : Option Refused) (c : Call) (ticks : Option ℕ) (ds : List Due)
+    {ss : List Send} {ps : List (ℕ × Offered)} → AreOffered source (due_by r c ds) ss ps
+    → lost_of_answer (answer_to r c ticks ps) ≡ failures_of ss
+lost_same (Some refused) c ticks ds none = refl
+lost_same None (Order command) ticks ds none = refl
+lost_same None Tick ticks ds offered = lost_offers offered
+
+-- a call that was performed is answered by its text
+pub answered_by : (p : Production) (history : List Act) (moment : ℕ) (call : Call)
+    (before after : List Send) (answer : Answer) (text : List ℕ) (lost : ℕ)
+    → Performs p history moment call before after answer → text ≡ text_of_answer moment answer
+    → lost ≡ lost_of_answer answer
+    → IsAnswered p history (At moment call) before after text lost
+answered_by p history moment call before after answer text lost did written counted =
+    let r = refusal p.show history (act_of moment call) in
     record {
-      sends = offers.sends;
-      offers = pairs;
-      are_offered = rw e offers.are_offered;
-      after_is = offers.after_is;
-      text_is = rw (e, ← is) written;
-      lost_is = counted ∙ lost_offers offers.are_offered;
+      sends = did.sends;
+      offers = did.offers;
+      are_offered = did.are_offered;
+      after_is = did.after_is;
+      text_is = written ∙ ap (text_of_answer moment) did.answer_is
+          ∙ text_same moment r call (ended history) did.offers;
+      lost_is = counted ∙ ap lost_of_answer did.answer_is
+          ∙ lost_same r call (ended history) (dues_at p history moment) did.are_offered;
     }

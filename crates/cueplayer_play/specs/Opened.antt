@@ -1,5 +1,4 @@
 -- How a play opens its console.
--- Of use inside the crate: what its public calls answer is said without these.
 use Rattle.std.specs.Prelude.{◌≡◌, ℕ, false, List, [], Err, None, IsTrue}
 use Rattle.fade_core.specs.Level.{Start}
 use Rattle.patch_core.specs.Frame.{is_base}

@@ -20,7 +20,9 @@ mod fault;
 pub mod laws;
 mod line;
 mod lines;
+mod performance;
 mod run;
 mod stage;
 
-pub use run::play;
+pub use performance::{Answer, Performed, perform};
+pub use run::{open, play};

@@ -70,8 +70,14 @@ pub fn play<F: Fader, R: Feed, L: Link, W: Output>(
     }
 }
 
-// A console for the show of a text. It has a copy of the show: what was read is let go.
-fn open<F: Fader>(
+/// A console for the show of a text, with `base` as the universe number of ordinal 0 and `identity`
+/// as who sends, that has done nothing yet. It has a copy of the show: what was read is let go.
+///
+/// # Errors
+///
+/// `Show` with the show's first fault; `Base` where a universe would have no number; `Memory` where
+/// a growth was refused.
+pub fn open<F: Fader>(
     alloc: Global,
     show: &[u8],
     identity: Identity,

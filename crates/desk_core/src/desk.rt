@@ -6,6 +6,7 @@ ghost use Rattle.std.specs.List.Sorted.{IsStrictlyIncreasing};
 ghost use Rattle.show_core.specs.Numbers.{is_channel};
 ghost use Rattle.show_core.specs.Tables.{Tables};
 ghost use Rattle.show_core.specs.contracts.show.Show as show_model;
+ghost use Rattle.playback_core.specs.Placed.{IsAt};
 ghost use Rattle.playback_core.specs.Played.{current_after, with_due};
 ghost use Rattle.playback_core.specs.Stands as playback_stands;
 ghost use Rattle.master_core.specs.Settings as masters_stand;
@@ -27,7 +28,7 @@ use arrayvec::ArrayVec;
 use fade_core::Fader;
 use master_core::Masters;
 use patch_core::{Rig, RigFault};
-use playback_core::Playback;
+use playback_core::{Place, Playback};
 use show_core::{CHANNELS, Frame, Show};
 use std::alloc::Global;
 use std::fmt;
@@ -391,6 +392,22 @@ impl<F: Fader> Desk<F> {
             → result ≡ current_after (moves show history) }
     {
         self.playback.current()
+    }
+
+    /// The place in the cue list: the current cue, and when the next one follows it by itself.
+    pub fn place(&self) -> Place
+        ensures { (show : Tables) (base : ℕ) (history : List Act)
+            → StandsFor F.stands_for show base self.now history
+            → IsAt show result (moves show history) (is_some (ended history)) }
+    {
+        self.playback.place()
+    }
+
+    /// The show that is played.
+    pub fn show(&self) -> &Show
+        ensures { result.now ≡ self.now.show }
+    {
+        &self.show
     }
 }
 

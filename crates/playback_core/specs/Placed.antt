@@ -1,5 +1,4 @@
 -- Where a playback is in the cue list.
--- Of use inside the crate: what its public calls answer is said without these.
 use Rattle.std.specs.Prelude.{◌≡◌, ℕ, nat_lt, Bool, List, Option, unwrap_or, filter, length}
 use Rattle.std.specs.FinMap as map
 use Rattle.show_core.specs.Tables.{CueMap, Tables}

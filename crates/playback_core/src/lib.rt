@@ -2,7 +2,8 @@
 //!
 //! A [`Playback`] is asked for moves, each at its moment, and is refused exactly where there is no
 //! such cue; [`Playback::advance`] makes the moves that have fallen due, each at its own moment. It
-//! keeps no show, so each call is handed the same one.
+//! keeps no show, so each call is handed the same one. [`Place::follow`] walks the moves that are
+//! due without making them.
 //!
 //! ```
 //! let mut playback = Playback::<StepFader>::new(rt.alloc())?;
@@ -16,4 +17,5 @@ pub mod laws;
 mod place;
 mod playback;
 
+pub use place::Place;
 pub use playback::{NoMove, Playback};

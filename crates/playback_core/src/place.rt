@@ -7,17 +7,18 @@ ghost use Rattle.playback_core.specs.Played.{Move, current_after, due_moment, mo
 
 use show_core::Show;
 
-/// A place in the cue list: the current cue, and the moment at which the next one follows it by
-/// itself.
+/// A place in the cue list.
 #[derive(Clone, Copy, Debug)]
 pub struct Place {
+    /// The current cue, in thousandths.
     pub current: Option<u32>,
+    /// The moment at which the next cue follows it by itself, in milliseconds.
     pub due: Option<u64>,
 }
 
 impl Place {
     /// At no cue.
-    pub fn start() -> Place
+    pub(crate) fn start() -> Place
         ensures current { result.current ≡ None }
         ensures due { result.due ≡ None }
     {
@@ -28,7 +29,7 @@ impl Place {
     }
 
     /// At cue `n`, which went at this moment.
-    pub fn at(show: &Show, n: u32, moment: u64) -> Place
+    pub(crate) fn at(show: &Show, n: u32, moment: u64) -> Place
         requires { moment < 2 ^ 48 }
         ensures current { result.current ≡ Some n }
         ensures due { let move : Move = record { cue = n; moment = moment } in
@@ -42,14 +43,14 @@ impl Place {
     }
 
     /// Whether the next cue is due by this moment.
-    pub fn is_due(self, moment: u64) -> bool
+    pub(crate) fn is_due(self, moment: u64) -> bool
         ensures { result ≡ is_by self.due moment }
     {
         self.due.is_some_and(|due| due <= moment)
     }
 
-    /// Goes on to the next cue, where it is due by this moment: that cue, and the moment of the
-    /// move.
+    /// Goes on to the next cue, where it is due by this moment, below 2^48: that cue, and the moment
+    /// of the move.
     pub fn follow(&mut self, show: &Show, moment: u64) -> Option<(u32, u64)>
         requires { moment < 2 ^ 48 }
         ensures due { IfSome result (λ next. self.old.due ≡ Some next.1) }
@@ -79,7 +80,7 @@ impl Place {
     }
 
     /// The cue that is current once the moves due by this moment are made.
-    pub fn current_by(mut self, show: &Show, moment: u64) -> Option<u32>
+    pub(crate) fn current_by(mut self, show: &Show, moment: u64) -> Option<u32>
         requires { moment < 2 ^ 48 }
         ensures { (moves : List Move) (stopped : Bool) → IsAt show.now self moves stopped
             → result ≡ current_after (moves_by show.now stopped moment moves) }

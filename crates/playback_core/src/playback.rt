@@ -169,6 +169,15 @@ impl<F: Fader> Playback<F> {
         self.place.current
     }
 
+    /// The place in the cue list: the current cue, and when the next one follows it by itself.
+    pub fn place(&self) -> Place
+        ensures { (show : Tables) (moves : List Move) (stopped : Bool)
+            → StandsFor F.stands_for show self.now moves stopped
+            → IsAt show result moves stopped }
+    {
+        self.place
+    }
+
     /// The level of a channel, 1 to 4096, at the latest moment given: 0 to 65025.
     pub fn level(&self, channel: u16) -> u32
         requires from_one { 1 ≤ channel }
