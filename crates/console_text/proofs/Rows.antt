@@ -3,7 +3,8 @@ use Rattle.std.specs.Prelude.{◌≡◌, refl, codes, [], ◌∷◌}
 use Rattle.std.specs.Fmt.{digits}
 use Rattle.desk_core.specs.declared.answer.Refused.TheVariants.{AtStart}
 use Rattle.desk_core.specs.declared.answer.Ticked.TheVariants.{Live, Ending}
-use Rattle.desk_core.specs.declared.command.Command.TheVariants.{Go, Goto, Sub, Group, Master}
+use Rattle.desk_core.specs.declared.command.Command.TheVariants.{Go, Goto, GotoIn, Sub, Group}
+use Rattle.desk_core.specs.declared.command.Command.TheVariants.{Master}
 use Rattle.sacn_source.specs.declared.offered.Offered.TheVariants.{Sent, Lost, Quiet}
 use Rattle.console_text.specs.declared.call.Call.TheVariants.{Order, Tick}
 use Rattle.console_text.specs.declared.reading.Reading.TheVariants.{Blank, Malformed, At}
@@ -16,9 +17,12 @@ calls : (reading_of (codes "0 go") ≡ At 0 (Order Go))
     × (reading_of (codes "5 sub 65535 FL") ≡ At 5 (Order (Sub 65535 255)))
     × (reading_of (codes "5 group 0 50") ≡ At 5 (Order (Group 0 128)))
     × (reading_of (codes "007 goto 1.5") ≡ At 7 (Order (Goto 1500)))
+    × (reading_of (codes "7 goto 13 in 0") ≡ At 7 (Order (GotoIn 13000 0)))
+    × (reading_of (codes "7 GOTO .5 In 1:30.5") ≡ At 7 (Order (GotoIn 500 90500)))
+    × (reading_of (codes "7 goto 13 in 99:59.99") ≡ At 7 (Order (GotoIn 13000 5999990)))
     × (reading_of (codes "1 master H80") ≡ At 1 (Order (Master 128)))
     × (reading_of (codes "  ! 0 go") ≡ Blank)
-calls = (refl, refl, refl, refl, refl, refl, refl)
+calls = (refl, refl, refl, refl, refl, refl, refl, refl, refl, refl)
 
 malformed : (reading_of (codes "5 jump") ≡ Malformed)
     × (reading_of (codes "0 sub 65536 FL") ≡ Malformed)
@@ -26,7 +30,13 @@ malformed : (reading_of (codes "5 jump") ≡ Malformed)
     × (reading_of (codes "0 go 1") ≡ Malformed)
     × (reading_of (codes "0 tick 1") ≡ Malformed)
     × (reading_of (codes "0") ≡ Malformed)
-malformed = (refl, refl, refl, refl, refl, refl)
+    × (reading_of (codes "0 goto 13 in") ≡ Malformed)
+    × (reading_of (codes "0 goto 13 in x") ≡ Malformed)
+    × (reading_of (codes "0 goto 13 to 4") ≡ Malformed)
+    × (reading_of (codes "0 goto 13 in 4 5") ≡ Malformed)
+    × (reading_of (codes "0 goto 13 in 6000") ≡ Malformed)
+    × (reading_of (codes "0 master 13 in 4") ≡ Malformed)
+malformed = (refl, refl, refl, refl, refl, refl, refl, refl, refl, refl, refl, refl)
 
 answers : (numbered 0 done_text ≡ codes "0 ok\n")
     × (numbered 0 (refused_text AtStart) ≡ codes "0 refused AtStart\n")

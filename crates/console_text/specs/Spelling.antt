@@ -1,11 +1,11 @@
 -- The call that a line spells, by its words.
-use Rattle.std.specs.Prelude.{ℕ, Bool, true, false, List, [], ◌∷◌, Option, Some, None}
+use Rattle.std.specs.Prelude.{ℕ, Bool, true, false, ◌&&◌, List, [], ◌∷◌, Option, Some, None}
 use Rattle.std.specs.Prelude.{option_map, option_and_then, if◌then◌else◌, codes, drop}
 use Rattle.ascii_text.specs.Text.{words_of}
-use Rattle.ascii_text.specs.Forms.{same_word, moment_of, cue_number_of, level_of, whole_of}
+use Rattle.ascii_text.specs.Forms.{same_word, moment_of, cue_number_of, level_of, time_of, whole_of}
 use Rattle.desk_core.specs.declared.command.Command.{Command}
-use Rattle.desk_core.specs.declared.command.Command.TheVariants.{Go, Back, Goto, Sub, Group}
-use Rattle.desk_core.specs.declared.command.Command.TheVariants.{Master, End}
+use Rattle.desk_core.specs.declared.command.Command.TheVariants.{Go, Back, Goto, GotoIn, Sub}
+use Rattle.desk_core.specs.declared.command.Command.TheVariants.{Group, Master, End}
 use Rattle.desk_core.specs.Played.{Act}
 use Rattle.console.specs.Streams.{order_at, tick_at}
 use Rattle.console_text.specs.declared.call.Call.{Call}
@@ -43,12 +43,21 @@ with_two keyword number operand =
     then master_of (λ n byte. Group n byte) number operand
     else None)
 
+-- `goto N in TIME`: a cue number, and a time as behind UP in a show
+abbrev pub with_three : List ℕ → List ℕ → List ℕ → List ℕ → Option Command
+with_three keyword number link operand =
+    if same_word keyword (codes "goto") && same_word link (codes "in")
+    then option_and_then (λ n. option_map (λ time. GotoIn n time) (time_of operand))
+    (cue_number_of number)
+    else None
+
 -- a keyword and its operands; extra words spell nothing
 abbrev pub command_with : List ℕ → List (List ℕ) → Option Command
 command_with keyword [] = with_none keyword
 command_with keyword (a ∷ []) = with_one keyword a
 command_with keyword (a ∷ b ∷ []) = with_two keyword a b
-command_with keyword (a ∷ b ∷ c ∷ rest) = None
+command_with keyword (a ∷ b ∷ c ∷ []) = with_three keyword a b c
+command_with keyword (a ∷ b ∷ c ∷ d ∷ rest) = None
 
 -- the command that words spell
 abbrev pub command_of : List (List ℕ) → Option Command
@@ -68,11 +77,11 @@ call_of (keyword ∷ operands) =
     else option_map (λ command. Order command) (command_with keyword operands)
 
 -- the words that are left when a call was read: `tick` and one word are taken, or a keyword and
--- three
+-- four
 abbrev pub words_behind : List (List ℕ) → List (List ℕ)
 words_behind [] = []
 words_behind (keyword ∷ operands) =
-    if same_word keyword (codes "tick") then drop 1 operands else drop 3 operands
+    if same_word keyword (codes "tick") then drop 1 operands else drop 4 operands
 
 abbrev pub at_moment : Option ℕ → Option Call → Reading
 at_moment (Some moment) (Some call) = At moment call

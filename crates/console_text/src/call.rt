@@ -1,8 +1,8 @@
 ghost use Rattle.std.specs.Prelude.{◌≡◌, drop};
 ghost use Rattle.console_text.specs.Spelling.{call_of, command_of, command_with, words_behind};
-ghost use Rattle.console_text.specs.Spelling.{with_none, with_one, with_two};
+ghost use Rattle.console_text.specs.Spelling.{with_none, with_one, with_two, with_three};
 
-use ascii_text::{Words, cue_number, level, same_word, whole};
+use ascii_text::{Words, cue_number, level, same_word, time, whole};
 use desk_core::Command;
 
 /// A call of a console, without its moment.
@@ -14,18 +14,19 @@ pub enum Call {
     Tick,
 }
 
-/// The command that the words spell, to their end: `go`, `back`, `goto N`, `sub N L`, `group N L`,
-/// `master L` or `end`, without regard to ASCII case. N of `goto` is a cue number, that of `sub`
-/// and `group` a number up to 65535, and L a level. At most the first four words are taken.
+/// The command that the words spell, to their end: `go`, `back`, `goto N`, `goto N in TIME`,
+/// `sub N L`, `group N L`, `master L` or `end`, without regard to ASCII case. N of `goto` is a cue
+/// number, that of `sub` and `group` a number up to 65535, L a level, and TIME a time as behind
+/// `UP` in a show. At most the first five words are taken.
 pub fn command_in(words: &mut Words<'_>) -> Option<Command>
     ensures command { result ≡ command_of words.old }
-    ensures left { words.new ≡ drop 4 words.old }
+    ensures left { words.new ≡ drop 5 words.old }
 {
     let keyword = words.next()?;
     command_with(keyword, words)
 }
 
-/// The call that the words spell, to their end: a command, or `tick`. At most the first four words
+/// The call that the words spell, to their end: a command, or `tick`. At most the first five words
 /// are taken, and behind `tick` one.
 pub fn call_in(words: &mut Words<'_>) -> Option<Call>
     ensures call { result ≡ call_of words.old }
@@ -45,7 +46,7 @@ pub fn call_in(words: &mut Words<'_>) -> Option<Call>
 
 fn command_with(keyword: &[u8], operands: &mut Words<'_>) -> Option<Command>
     ensures command { result ≡ command_with keyword.now operands.old }
-    ensures left { operands.new ≡ drop 3 operands.old }
+    ensures left { operands.new ≡ drop 4 operands.old }
 {
     let Some(first) = operands.next() else {
         return with_none(keyword);
@@ -53,10 +54,13 @@ fn command_with(keyword: &[u8], operands: &mut Words<'_>) -> Option<Command>
     let Some(second) = operands.next() else {
         return with_one(keyword, first);
     };
+    let Some(third) = operands.next() else {
+        return with_two(keyword, first, second);
+    };
     if operands.next().is_some() {
         return None;
     }
-    with_two(keyword, first, second)
+    with_three(keyword, first, second, third)
 }
 
 fn with_none(keyword: &[u8]) -> Option<Command>
@@ -98,6 +102,18 @@ fn with_two(keyword: &[u8], number: &[u8], operand: &[u8]) -> Option<Command>
         let number = whole(number, 65535)?;
         let byte = level(operand)?;
         Some(Command::Group(number as u16, byte))
+    } else {
+        None
+    }
+}
+
+fn with_three(keyword: &[u8], number: &[u8], link: &[u8], operand: &[u8]) -> Option<Command>
+    ensures { result ≡ with_three keyword.now number.now link.now operand.now }
+{
+    if same_word(keyword, b"goto") && same_word(link, b"in") {
+        let cue = cue_number(number)?;
+        let time = time(operand)?;
+        Some(Command::GotoIn { cue, time })
     } else {
         None
     }

@@ -9,6 +9,8 @@
 //! ```
 //! let reading = read_call(b"25 goto 1.5");
 //! // Reading::At(25, Call::Order(Command::Goto(1500)))
+//! let reading = read_call(b"25 goto 13 in 0.5");
+//! // Reading::At(25, Call::Order(Command::GotoIn { cue: 13000, time: 500 }))
 //! let answer = done_line(25);
 //! // answer.as_str() is "25 ok\n".
 //! ```

@@ -18,8 +18,8 @@ use Rattle.master_core.specs.Merged.{greatest_in, merged_after}
 use Rattle.master_core.specs.Settings.{sub_after, group_after, grand_after}
 use Rattle.patch_core.specs.Frame.{listed_level, dimmer_slot, frame_of, AreDrawn}
 use Rattle.desk_core.specs.declared.command.Command.{Command}
-use Rattle.desk_core.specs.declared.command.Command.TheVariants.{Go, Back, Goto, Sub, Group, Master}
-use Rattle.desk_core.specs.declared.command.Command.TheVariants.{End}
+use Rattle.desk_core.specs.declared.command.Command.TheVariants.{Go, Back, Goto, GotoIn, Sub}
+use Rattle.desk_core.specs.declared.command.Command.TheVariants.{Group, Master, End}
 use Rattle.std.proofs.lemmas.Bool.{false≢true}
 use Rattle.desk_core.specs.Stands.{keeps_floors}
 use Rattle.desk_core.specs.Meaning.{dark, channel_level, frame}
@@ -56,6 +56,7 @@ pub floors_same : (show : Tables) (history : List Act) (moment channel : ℕ) (c
 floors_same show history moment channel Go h = refl
 floors_same show history moment channel Back h = refl
 floors_same show history moment channel (Goto n) h = refl
+floors_same show history moment channel (GotoIn n time) h = refl
 floors_same show history moment channel (Sub n byte) h = absurd (false≢true h)
 floors_same show history moment channel (Group n byte) h = absurd (false≢true h)
 floors_same show history moment channel (Master byte) h = refl

@@ -1,6 +1,6 @@
 -- What a console does with a small show, evaluated.
 use Rattle.std.proofs.Common.{◌≡◌, ℕ, ◌+◌, ◌-◌, ◌<◌, List, [], ◌∷◌, Some, None, get_or, refl, ◌∙◌}
-use Rattle.std.proofs.Common.{arith, lit<}
+use Rattle.std.proofs.Common.{Option, arith, lit<}
 use Rattle.std.specs.FinMap as map
 use Rattle.std.proofs.lemmas.List.FromFn.{get_or-map-range_with_len}
 use Rattle.show_core.specs.declared.cue.CueData.{CueData}
@@ -9,8 +9,8 @@ use Rattle.show_core.specs.Tables.{LevelMap, Tables}
 use Rattle.fade_core.specs.Level.{split_fade}
 use Rattle.master_core.specs.Settings.{grand_after}
 use Rattle.patch_core.specs.Frame.{dimmer_slot}
-use Rattle.desk_core.specs.declared.command.Command.TheVariants.{Go, Back, Goto, Sub, Group, Master}
-use Rattle.desk_core.specs.declared.command.Command.TheVariants.{End}
+use Rattle.desk_core.specs.declared.command.Command.TheVariants.{Go, Back, Goto, GotoIn, Sub}
+use Rattle.desk_core.specs.declared.command.Command.TheVariants.{Group, Master, End}
 use Rattle.desk_core.specs.declared.answer.Ticked.TheVariants.{Live, Ending}
 use Rattle.desk_core.specs.declared.answer.Refused.TheVariants.{Backwards, MomentTooLarge, Ended}
 use Rattle.desk_core.specs.declared.answer.Refused.TheVariants.{TooSoon, AtEnd, AtStart, NoCue}
@@ -65,18 +65,18 @@ module _ (show : Tables) (is : IsSmall show) where
   no_move : (moment : ℕ) → with_due show moment [] ≡ []
   no_move moment = with_due-none show moment [] tt
 
-  after_first : (moment at : ℕ) (older : List Move)
-      → with_due show moment (record { cue = 1000; moment = at } ∷ older)
-      ≡ record { cue = 1000; moment = at } ∷ older
-  after_first moment at older = with_due-none show moment
-      (record { cue = 1000; moment = at } ∷ older)
+  after_first : (moment at : ℕ) (time : Option ℕ) (older : List Move)
+      → with_due show moment (record { cue = 1000; moment = at; time = time } ∷ older)
+      ≡ record { cue = 1000; moment = at; time = time } ∷ older
+  after_first moment at time older = with_due-none show moment
+      (record { cue = 1000; moment = at; time = time } ∷ older)
       (simp (map.get-entries show.cues 1000, is.cues_are, is.first_follow) tt)
 
-  after_second : (moment at : ℕ) (older : List Move)
-      → with_due show moment (record { cue = 2000; moment = at } ∷ older)
-      ≡ record { cue = 2000; moment = at } ∷ older
-  after_second moment at older = with_due-none show moment
-      (record { cue = 2000; moment = at } ∷ older)
+  after_second : (moment at : ℕ) (time : Option ℕ) (older : List Move)
+      → with_due show moment (record { cue = 2000; moment = at; time = time } ∷ older)
+      ≡ record { cue = 2000; moment = at; time = time } ∷ older
+  after_second moment at time older = with_due-none show moment
+      (record { cue = 2000; moment = at; time = time } ∷ older)
       (simp (map.get-entries show.cues 2000, is.cues_are, is.second_follow) tt)
 
   -- ---- refusals
@@ -89,6 +89,7 @@ module _ (show : Tables) (is : IsSmall show) where
       × (refusal show one_tick (at 281474976710656 tick) ≡ Some MomentTooLarge)
       × (refusal show one_tick (at 281474976710655 tick) ≡ None)
       × (refusal show one_tick (at 100 (order (Goto 3000))) ≡ Some NoCue)
+      × (refusal show one_tick (at 100 (order (GotoIn 3000 0))) ≡ Some NoCue)
       × (refusal show one_tick (at 100 (order (Sub 2 1))) ≡ Some NoSub)
       × (refusal show one_tick (at 100 (order (Group 1 1))) ≡ Some NoGroup)
       × (refusal show one_tick (at 100 (order Go)) ≡ None)
@@ -98,6 +99,7 @@ module _ (show : Tables) (is : IsSmall show) where
     refl,
     refl,
     refl,
+    rw (map.contains_key-keys show.cues 3000, is.cues_are) refl,
     rw (map.contains_key-keys show.cues 3000, is.cues_are) refl,
     rw (map.contains_key-keys show.subs 2, is.subs_are) refl,
     rw (map.contains_key-keys show.groups 1, is.groups_are) refl,
@@ -350,6 +352,89 @@ module _ (show : Tables) (is : IsSmall show) where
   goto_mid_fade-2 : slot show returned 12000 2 ≡ 102
   unfolding returned two_goes
   goto_mid_fade-2 = slot_2 returned 12000 26010 255 refl goto_mid_fade-2-level refl
+
+  -- half way up cue 1, cue 2 in eight seconds: two seconds later each channel has gone a quarter
+  slowed : List Act
+  slowed = at 2500 (order (GotoIn 2000 8000)) ∷ at 0 (order Go) ∷ []
+
+  goto_in_mid_fade-level : channel_level show slowed 4500 1 ≡ 24384
+  unfolding slowed split_fade
+  goto_in_mid_fade-level = simp (
+    no_move,
+    after_first,
+    after_second,
+    map.get-entries show.cues 1000,
+    map.get-entries show.cues 2000,
+    is.cues_are,
+    is.subs_are,
+    is.groups_are,
+    map.get-entries is.first.levels 1,
+    is.first_is,
+    map.get-entries is.second.levels 1,
+    is.second_is,
+    map.get-entries is.sub 1,
+    is.sub_is,
+    is.first_up,
+    is.first_down,
+  ) refl
+
+  goto_in_mid_fade : slot show slowed 4500 1 ≡ 96
+  unfolding slowed
+  goto_in_mid_fade = slot_1 slowed 4500 24384 255 refl goto_in_mid_fade-level refl
+
+  goto_in_mid_fade-2-level : channel_level show slowed 4500 2 ≡ 16256
+  unfolding slowed split_fade
+  goto_in_mid_fade-2-level = simp (
+    no_move,
+    after_first,
+    after_second,
+    map.get-entries show.cues 1000,
+    map.get-entries show.cues 2000,
+    is.cues_are,
+    is.subs_are,
+    is.groups_are,
+    map.get-entries is.first.levels 2,
+    is.first_is,
+    map.get-entries is.second.levels 2,
+    is.second_is,
+    map.get-entries is.sub 2,
+    is.sub_is,
+    is.first_up,
+    is.first_down,
+  ) refl
+
+  goto_in_mid_fade-2 : slot show slowed 4500 2 ≡ 64
+  unfolding slowed
+  goto_in_mid_fade-2 = slot_2 slowed 4500 16256 255 refl goto_in_mid_fade-2-level refl
+
+  -- cue 1 at once, and then cue 2 over its own times
+  snapped : List Act
+  snapped = at 1000 (order Go) ∷ at 0 (order (GotoIn 1000 0)) ∷ []
+
+  goto_in_then_go-level : channel_level show snapped 2000 1 ≡ 48769
+  unfolding snapped split_fade
+  goto_in_then_go-level = simp (
+    no_move,
+    after_first,
+    after_second,
+    map.get-entries show.cues 1000,
+    map.get-entries show.cues 2000,
+    is.cues_are,
+    is.subs_are,
+    is.groups_are,
+    map.get-entries is.first.levels 1,
+    is.first_is,
+    map.get-entries is.second.levels 1,
+    is.second_is,
+    map.get-entries is.sub 1,
+    is.sub_is,
+    is.second_up,
+    is.second_down,
+  ) refl
+
+  goto_in_then_go : slot show snapped 2000 1 ≡ 191
+  unfolding snapped
+  goto_in_then_go = slot_1 snapped 2000 48769 255 refl goto_in_then_go-level refl
 
   sub_at_half : List Act
   sub_at_half = at 0 (order (Sub 1 128)) ∷ []

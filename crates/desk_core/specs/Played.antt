@@ -10,8 +10,8 @@ use Rattle.playback_core.specs.Played.{Move, current_after, go_target, back_targ
 use Rattle.playback_core.specs.Played.{with_due, moves_by}
 use Rattle.master_core.specs.Settings.{Setting, sub_setting, group_setting, grand_setting}
 use Rattle.desk_core.specs.declared.command.Command.{Command}
-use Rattle.desk_core.specs.declared.command.Command.TheVariants.{Go, Back, Goto, Sub, Group}
-use Rattle.desk_core.specs.declared.command.Command.TheVariants.{Master, End}
+use Rattle.desk_core.specs.declared.command.Command.TheVariants.{Go, Back, Goto, GotoIn, Sub}
+use Rattle.desk_core.specs.declared.command.Command.TheVariants.{Group, Master, End}
 use Rattle.desk_core.specs.declared.answer.Ticked.{Ticked}
 use Rattle.desk_core.specs.declared.answer.Ticked.TheVariants.{Live, Ending}
 use Rattle.desk_core.specs.declared.answer.Refused.{Refused}
@@ -61,12 +61,18 @@ abbrev pub target : Tables → Option ℕ → Call → Option ℕ
 target show current (order Go) = go_target show.cues current
 target show current (order Back) = back_target show.cues current
 target show current (order (Goto n)) = goto_target show.cues n
+target show current (order (GotoIn n time)) = goto_target show.cues n
 target show current _ = None
 
+-- the time that a call gives its move in place of the cue's, where it gives one
+abbrev pub own_time : Call → Option ℕ
+own_time (order (GotoIn n time)) = Some time
+own_time call = None
+
 -- a move more, where there is a cue to move to
-abbrev pub moved_to : Option ℕ → ℕ → List Move → List Move
-moved_to None moment older = older
-moved_to (Some n) moment older = record { cue = n; moment = moment } ∷ older
+abbrev pub moved_to : Option ℕ → ℕ → Option ℕ → List Move → List Move
+moved_to None moment time older = older
+moved_to (Some n) moment time older = record { cue = n; moment = moment; time = time } ∷ older
 
 -- the moves of a history, the newest first: before each call those that are due by its moment, as
 -- long as there was no End, and then its own
@@ -74,7 +80,7 @@ abbrev pub moves : Tables → List Act → List Move
 moves show [] = []
 moves show (act ∷ older) =
     let made = moves_by show (is_some (ended older)) act.moment (moves show older) in
-    moved_to (target show (current_after made) act.call) act.moment made
+    moved_to (target show (current_after made) act.call) act.moment (own_time act.call) made
 
 -- a setting more, where the call sets a master
 abbrev pub set_by : Call → List Setting → List Setting
@@ -123,6 +129,7 @@ abbrev pub lacks : Tables → Option ℕ → Call → Refused → Bool
 lacks show current (order Go) AtEnd = is_none (go_target show.cues current)
 lacks show current (order Back) AtStart = is_none (back_target show.cues current)
 lacks show current (order (Goto n)) NoCue = is_none (goto_target show.cues n)
+lacks show current (order (GotoIn n time)) NoCue = is_none (goto_target show.cues n)
 lacks show current (order (Sub n byte)) NoSub = not (map.contains_key show.subs n)
 lacks show current (order (Group n byte)) NoGroup = not (map.contains_key show.groups n)
 lacks show current call _ = false

@@ -514,6 +514,9 @@ fn carry_out<F: Fader>(
         Command::Goto(n) => {
             playback.goto(show, n, moment)?;
         }
+        Command::GotoIn { cue, time } => {
+            playback.goto_in(show, cue, time, moment)?;
+        }
         Command::Sub(n, byte) => {
             masters.set_sub(show, n, byte)?;
             playback.advance(show, moment);

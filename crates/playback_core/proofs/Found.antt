@@ -1,5 +1,5 @@
 -- A cue that is found above or below another is there, and a move goes to it.
-use Rattle.std.proofs.Common.{◌≡◌, ℕ, Bool, true, List, [], ◌∷◌, Option, Some, refl, arith}
+use Rattle.std.proofs.Common.{◌≡◌, ℕ, Bool, true, List, [], ◌∷◌, Option, Some, None, refl, arith}
 use Rattle.std.specs.Prelude.{find, reverse, Result}
 use Rattle.std.specs.List.{list_any}
 use Rattle.std.specs.Option.{ok_or}
@@ -51,7 +51,7 @@ pub steps_to : {F : Type 0} {stands_for : F → List Start → Type 0} {latest :
     → ((moves : List Move) (stopped : Bool) → StandsFor stands_for show before moves stopped
     → current ≡ current_after (moves_by show stopped moment moves))
     → result ≡ ok_or (goto_target show.cues cue) NoCue
-    → Moves stands_for latest show moment before after result
+    → Moves stands_for latest show moment None before after result
     → Steps stands_for latest show moment before after result (λ c. ok_or (target c) refused)
 steps_to {show = show} {cue = cue} target refused current there found is answer moved = record {
   answer = λ moves stopped stands. rw (answer, there, ← is moves stopped stands, found) refl;

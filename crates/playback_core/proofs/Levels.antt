@@ -2,11 +2,12 @@
 use Rattle.std.proofs.Common.{◌≡◌, ℕ, ◌-◌, ◌*◌, ◌≤◌, List, [], ◌∷◌, inl, refl, arith}
 use Rattle.std.specs.Prelude.{map}
 use Rattle.std.specs.FinMap.{get-entries}
-use Rattle.show_core.specs.Readers.{rate_of, level_in}
+use Rattle.show_core.specs.Readers.{level_in}
 use Rattle.show_core.specs.Tables.{Tables}
 use Rattle.fade_core.specs.Level.{level_after, IsTowards}
 use Rattle.fade_core.proofs.Fade.{split_fade_towards}
-use Rattle.playback_core.specs.Played.{Move, start_of, cue_at, playback_level, playback_target}
+use Rattle.playback_core.specs.Played.{Move, start_of, cue_at, up_rate, down_rate}
+use Rattle.playback_core.specs.Played.{playback_level, playback_target}
 
 pub level_after-map : (show : Tables) (moves : List Move) (channel moment : ℕ)
     → level_after (map (start_of show) moves) channel moment
@@ -24,7 +25,6 @@ pub playback_level_towards : (show : Tables) (moves : List Move) (channel x y : 
     (playback_level show moves channel y)
 playback_level_towards show [] channel x y le = inl (omega arith, omega arith)
 playback_level_towards show (move ∷ older) channel x y le =
-    let cue = cue_at show move.cue in
     split_fade_towards (playback_level show older channel move.moment)
-    (255 * level_in cue.levels channel) (rate_of cue.up cue.down) (rate_of cue.down cue.up)
-    (x - move.moment) (y - move.moment) (omega arith)
+    (255 * level_in (cue_at show move.cue).levels channel) (up_rate show move)
+    (down_rate show move) (x - move.moment) (y - move.moment) (omega arith)

@@ -1,6 +1,6 @@
 -- The place in the cue list, as the moves that are due are made.
-use Rattle.std.proofs.Common.{◌≡◌, ℕ, ◌≤◌, Bool, true, false, List, [], ◌∷◌, Option, Some, refl}
-use Rattle.std.proofs.Common.{sym, ◌∙◌, arith}
+use Rattle.std.proofs.Common.{◌≡◌, ℕ, ◌≤◌, Bool, true, false, List, [], ◌∷◌, Option, Some, None}
+use Rattle.std.proofs.Common.{refl, sym, ◌∙◌, arith}
 use Rattle.std.specs.Prelude.{unwrap_or, option_map}
 use Rattle.std.proofs.lemmas.Bool.Decides.{nat_tests}
 use Rattle.show_core.specs.Readers.{cue_above}
@@ -12,7 +12,7 @@ use Rattle.playback_core.specs.Played.{is_by}
 use Rattle.playback_core.proofs.Due.{with_due-due, with_due-none}
 
 abbrev pub move_to : ℕ → ℕ → Move
-move_to n moment = record { cue = n; moment = moment }
+move_to n moment = record { cue = n; moment = moment; time = None }
 
 -- what is due at a moment goes to the cue that was found
 due_is : (show : Tables) (moves : List Move) (n moment : ℕ)

@@ -42,10 +42,10 @@ record TwoCues (show : Tables) : Type 0 where
   second_down : second.down ≡ Some (record { time = 4000; delay = 0 })
 
 abbrev first_at : ℕ → Move
-first_at moment = record { cue = 1000; moment = moment }
+first_at moment = record { cue = 1000; moment = moment; time = None }
 
 abbrev second_at : ℕ → Move
-second_at moment = record { cue = 2000; moment = moment }
+second_at moment = record { cue = 2000; moment = moment; time = None }
 
 split_crossfade : (show : Tables) → TwoCues show
     → playback_level show (second_at 10000 ∷ first_at 0 ∷ []) 1 11000 ≡ 48769
@@ -103,6 +103,65 @@ goto_mid_fade-2 show is = simp (
   is.second_down,
 ) refl
 
+-- moves of a time of their own
+abbrev first_in : ℕ → ℕ → Move
+first_in time moment = record { cue = 1000; moment = moment; time = Some time }
+
+abbrev second_in : ℕ → ℕ → Move
+second_in time moment = record { cue = 2000; moment = moment; time = Some time }
+
+-- in no time channel 1 is at full at once
+goto_in_zero : (show : Tables) → TwoCues show
+    → playback_level show (first_in 0 0 ∷ []) 1 0 ≡ 65025
+unfolding split_fade
+goto_in_zero show is = simp (is.is_first, is.first_lists_1) refl
+
+-- whatever times and delays the cue has: in two seconds channel 1 is half way after one
+goto_in_delayed : (show : Tables) (first : CueData) → map.get show.cues 1000 ≡ Some first
+    → map.get first.levels 1 ≡ Some 255
+    → playback_level show (first_in 2000 0 ∷ []) 1 1000 ≡ 32512
+unfolding split_fade
+goto_in_delayed show first is lists = simp (is, lists) refl
+
+-- half way up cue 1, cue 2 in eight seconds: two seconds later channel 1 has fallen by a quarter
+goto_in_mid_fade : (show : Tables) → TwoCues show
+    → playback_level show (second_in 8000 2500 ∷ first_at 0 ∷ []) 1 4500 ≡ 24384
+unfolding split_fade
+goto_in_mid_fade show is = simp (
+  is.is_first,
+  is.is_second,
+  is.first_lists_1,
+  is.second_lists_no_1,
+  is.first_up,
+  is.first_down,
+) refl
+
+-- and channel 2 has risen by a quarter
+goto_in_mid_fade-2 : (show : Tables) → TwoCues show
+    → playback_level show (second_in 8000 2500 ∷ first_at 0 ∷ []) 2 4500 ≡ 16256
+unfolding split_fade
+goto_in_mid_fade-2 show is = simp (
+  is.is_first,
+  is.is_second,
+  is.first_lists_no_2,
+  is.second_lists_2,
+  is.first_up,
+  is.first_down,
+) refl
+
+-- the next move takes its cue's times
+goto_in_then_go : (show : Tables) → TwoCues show
+    → playback_level show (second_at 1000 ∷ first_in 0 0 ∷ []) 1 2000 ≡ 48769
+unfolding split_fade
+goto_in_then_go show is = simp (
+  is.is_first,
+  is.is_second,
+  is.first_lists_1,
+  is.second_lists_no_1,
+  is.second_up,
+  is.second_down,
+) refl
+
 -- these two cues, and the first is followed so long after
 record Follows (show : Tables) (time : ℕ) : Type 0 where
   two : TwoCues show
@@ -144,3 +203,10 @@ follow_zero : (show : Tables) → Follows show 0 → with_due show 0 (first_at 0
     ≡ second_at 0 ∷ first_at 0 ∷ []
 unfolding with_due
 follow_zero show is = simp (is.keys, is.two.is_first, is.first_follow) refl
+
+-- a cue is followed at its own time, whatever time the move to it took, and the cue that follows
+-- takes its own times
+follow_after_goto_in : (show : Tables) → Follows show 10000
+    → with_due show 11000 (first_in 2000 0 ∷ []) ≡ second_at 10000 ∷ first_in 2000 0 ∷ []
+unfolding with_due
+follow_after_goto_in show is = simp (is.keys, is.two.is_first, is.first_follow) refl

@@ -5,15 +5,18 @@ use Rattle.std.specs.Prelude.{option_map}
 use Rattle.std.specs.Option.{option_map_or}
 use Rattle.std.specs.FinMap as map
 use Rattle.show_core.specs.declared.cue.CueData.{CueData}
+use Rattle.show_core.specs.declared.rate.Rate.{Rate}
 use Rattle.show_core.specs.Builders.{blank}
 use Rattle.show_core.specs.Readers.{rate_of, level_in, cue_above, cue_below}
 use Rattle.show_core.specs.Tables.{CueMap, Tables}
 use Rattle.fade_core.specs.Level.{Start, split_fade}
 
--- a move to a cue. Lists of moves have the newest first
+-- a move to a cue, with the time that it takes where that is not the cue's. Lists of moves have the
+-- newest first
 pub record Move : Type 0 where
   pub cue : ℕ
   pub moment : ℕ
+  pub time : Option ℕ
 
 -- the cue of the newest move is the current one
 abbrev pub current_after : List Move → Option ℕ
@@ -38,9 +41,10 @@ cue_at show n = unwrap_or (map.get show.cues n) blank
 
 -- ---- moves by themselves
 
--- the move to a cue so long after a moment, where there are both
+-- the move to a cue so long after a moment, where there are both; it takes the cue's times
 abbrev pub move_after : ℕ → Option ℕ → Option ℕ → Option Move
-move_after moment (Some cue) (Some time) = Some (record { cue = cue; moment = moment + time })
+move_after moment (Some cue) (Some time) =
+    Some (record { cue = cue; moment = moment + time; time = None })
 move_after moment _ _ = None
 
 -- the move that is due after these: to the next cue number, so long after the newest move as the
@@ -79,14 +83,29 @@ is_by (Some due) moment = nat_le due moment
 
 -- ---- levels
 
+-- the rate of a move: its own time without delay, where it has one, or else the cue's rate
+abbrev pub move_rate : Option ℕ → Rate → Rate
+move_rate (Some time) of_cue = record { time = time; delay = 0 }
+move_rate None of_cue = of_cue
+
+-- the rate at which levels rise in a move
+abbrev pub up_rate : Tables → Move → Rate
+up_rate show move =
+    let cue = cue_at show move.cue in move_rate move.time (rate_of cue.up cue.down)
+
+-- the rate at which levels fall in a move
+abbrev pub down_rate : Tables → Move → Rate
+down_rate show move =
+    let cue = cue_at show move.cue in move_rate move.time (rate_of cue.down cue.up)
+
 -- the level of a channel at a moment after these moves: 0 before the first; a move fades from the
--- level at its moment to 255 times the byte in its cue, at the cue's rates
+-- level at its moment to 255 times the byte in its cue, at the rates of the move
 abbrev pub playback_level : Tables → List Move → ℕ → ℕ → ℕ
 playback_level show [] channel moment = 0
 playback_level show (move ∷ older) channel moment =
-    let cue = cue_at show move.cue in
-    split_fade (playback_level show older channel move.moment) (255 * level_in cue.levels channel)
-    (rate_of cue.up cue.down) (rate_of cue.down cue.up) (moment - move.moment)
+    split_fade (playback_level show older channel move.moment)
+    (255 * level_in (cue_at show move.cue).levels channel)
+    (up_rate show move) (down_rate show move) (moment - move.moment)
 
 -- where a channel goes after these moves
 abbrev pub playback_target : Tables → List Move → ℕ → ℕ
@@ -96,10 +115,9 @@ playback_target show (move ∷ older) channel = 255 * level_in (cue_at show move
 -- the start that a move makes
 abbrev pub start_of : Tables → Move → Start
 start_of show move =
-    let cue = cue_at show move.cue in
     record {
-      look = map.entries cue.levels;
-      up = rate_of cue.up cue.down;
-      down = rate_of cue.down cue.up;
+      look = map.entries (cue_at show move.cue).levels;
+      up = up_rate show move;
+      down = down_rate show move;
       moment = move.moment;
     }

@@ -1,5 +1,5 @@
 -- What a playback keeps, against the moves so far.
-use Rattle.std.specs.Prelude.{◌≡◌, ℕ, Bool, false, List, ◌∷◌, map, Option, Some, Result}
+use Rattle.std.specs.Prelude.{◌≡◌, ℕ, Bool, false, List, ◌∷◌, map, Option, Some, None, Result}
 use Rattle.std.specs.Prelude.{IfOk, OnOk, OnErr}
 use Rattle.show_core.specs.Tables.{Tables}
 use Rattle.fade_core.specs.Level.{Start}
@@ -24,26 +24,26 @@ MovesTo fader_stands_for show before after move =
     (moves : List Move) (stopped : Bool) → StandsFor fader_stands_for show before moves stopped
     → StandsFor fader_stands_for show after (move ∷ moves_by show stopped move.moment moves) false
 
--- a playback was asked to move at a moment: at Ok it moved to the cue that is answered, which is
--- current now; at Err nothing changed
+-- a playback was asked to move at a moment, over a time of its own or the cue's: at Ok it moved to
+-- the cue that is answered, which is current now; at Err nothing changed
 pub record Moves {F : Type 0} (fader_stands_for : F → List Start → Type 0) (latest : F → ℕ)
-    (show : Tables) (moment : ℕ) (before after : Playing F) (result : Result ℕ NoMove)
-    : Type 0 where
+    (show : Tables) (moment : ℕ) (time : Option ℕ) (before after : Playing F)
+    (result : Result ℕ NoMove) : Type 0 where
   pub stands : IfOk result (λ cue. MovesTo fader_stands_for show before after
-      (record { cue = cue; moment = moment }))
+      (record { cue = cue; moment = moment; time = time }))
   pub current : IfOk result (λ cue. after.current ≡ Some cue)
   pub latest_is : OnOk result (latest after.fader ≡ moment)
   pub unchanged : OnErr result (after ≡ before)
 
--- it was asked to move from the cue that is current at the moment, the moves due by then made: it
--- answers what is the answer for that cue
+-- it was asked to move from the cue that is current at the moment, the moves due by then made, over
+-- the times of the cue that it moves to: it answers what is the answer for the current cue
 pub record Steps {F : Type 0} (fader_stands_for : F → List Start → Type 0) (latest : F → ℕ)
     (show : Tables) (moment : ℕ) (before after : Playing F) (result : Result ℕ NoMove)
     (answer_from : Option ℕ → Result ℕ NoMove) : Type 0 where
   pub answer : (moves : List Move) (stopped : Bool)
       → StandsFor fader_stands_for show before moves stopped
       → result ≡ answer_from (current_after (moves_by show stopped moment moves))
-  pub moved : Moves fader_stands_for latest show moment before after result
+  pub moved : Moves fader_stands_for latest show moment None before after result
 
 -- a playback moved on to a moment: the moves that are due by then are made, and whether it is
 -- stopped follows from whether it was

@@ -1,5 +1,5 @@
 ghost use Rattle.std.specs.Prelude.{◌≡◌, ◌^◌, ◌<◌, ◌≤◌, Bool, false, IsTrue, List, [], ◌∷◌};
-ghost use Rattle.std.specs.Prelude.{Some, IfSome, IfNone};
+ghost use Rattle.std.specs.Prelude.{Some, None, IfSome, IfNone};
 ghost use Rattle.std.specs.Option.{OnSome};
 ghost use Rattle.std.specs.FinMap as map;
 ghost use Rattle.playback_core.specs.Placed.{IsAt, cues_above};
@@ -32,7 +32,7 @@ impl Place {
     pub(crate) fn at(show: &Show, n: u32, moment: u64) -> Place
         requires { moment < 2 ^ 48 }
         ensures current { result.current ≡ Some n }
-        ensures due { let move : Move = record { cue = n; moment = moment } in
+        ensures due { let move : Move = record { cue = n; moment = moment; time = None } in
             result.due ≡ due_moment show.now false (move ∷ []) }
         ensures in_order { IfSome result.due (λ due. moment ≤ due) }
     {
@@ -61,7 +61,7 @@ impl Place {
             < cues_above show.now.cues self.old.current) }
         ensures moved { IfSome result (λ next. (moves : List Move) (stopped : Bool)
             → IsAt show.now self.old moves stopped
-            → let move : Move = record { cue = next.0; moment = next.1 } in
+            → let move : Move = record { cue = next.0; moment = next.1; time = None } in
             IsAt show.now self.new (move ∷ moves) stopped
             × (moves_by show.now stopped moment moves
             ≡ moves_by show.now stopped moment (move ∷ moves))) }
@@ -93,7 +93,7 @@ impl Place {
 // The moment at which the next cue follows cue `n`, which went at this moment.
 fn followed_at(show: &Show, n: u32, moment: u64) -> Option<u64>
     requires { moment < 2 ^ 48 }
-    ensures due { let move : Move = record { cue = n; moment = moment } in
+    ensures due { let move : Move = record { cue = n; moment = moment; time = None } in
         result ≡ due_moment show.now false (move ∷ []) }
     ensures in_order { IfSome result (λ due. moment ≤ due) }
 {

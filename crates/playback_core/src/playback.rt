@@ -1,18 +1,18 @@
 ghost use Rattle.std.specs.Prelude.{◌≡◌, ℕ, ◌-◌, ◌^◌, ◌<◌, ◌≤◌, Bool, true, false, IsTrue};
-ghost use Rattle.std.specs.Prelude.{List, [], map, All, Contains, IfOk, IfSome};
+ghost use Rattle.std.specs.Prelude.{List, [], map, All, Contains, Some, None, IfOk, IfSome};
 ghost use Rattle.std.specs.Prelude.{length, slice_index};
 ghost use Rattle.std.specs.Option.{ok_or};
 ghost use Rattle.show_core.specs.Numbers.{is_channel, AreLevels};
 ghost use Rattle.show_core.specs.Tables.{Tables};
 ghost use Rattle.playback_core.specs.Placed.{IsAt};
 ghost use Rattle.playback_core.specs.Played.{Move, go_target, back_target, goto_target};
-ghost use Rattle.playback_core.specs.Played.{moves_by, is_by, start_of};
+ghost use Rattle.playback_core.specs.Played.{moves_by, is_by, move_rate, start_of};
 ghost use Rattle.playback_core.specs.Played.{playback_level};
 ghost use Rattle.playback_core.specs.Stands.{StandsFor, Moves, MovesOn, Steps};
 
 use crate::place::Place;
 use fade_core::Fader;
-use show_core::{CHANNELS, Show};
+use show_core::{CHANNELS, Rate, Show};
 use std::alloc::{AllocError, Global};
 use std::marker::Model;
 use thiserror::Error;
@@ -35,7 +35,7 @@ pub enum NoMove {
 ///
 /// All calls are given equal shows. Moments are in milliseconds, below 2^48, and never go back; the
 /// latest given is 0 at first. A move starts every channel from its level at that moment, and aims
-/// at the whole look of the cue, with the cue's times.
+/// at the whole look of the cue, over the cue's times or, by [`Playback::goto_in`], over another.
 ///
 /// A cue with a follow-on time is followed by the next cue so long after it went, if no other move
 /// is made before. Each accepted call first makes such moves of moments up to its own, each at its
@@ -125,11 +125,45 @@ impl<F: Fader> Playback<F> {
         requires not_before { F.latest self.old.fader ≤ moment }
         requires below { moment < 2 ^ 48 }
         ensures answer { result ≡ ok_or (goto_target show.now.cues n) NoMove.NoCue }
-        ensures moved { Moves F.stands_for F.latest show.now moment self.old self.new result }
+        ensures moved { Moves F.stands_for F.latest show.now moment None self.old self.new result }
+    {
+        self.start_move(show, n, None, moment)
+    }
+
+    /// Moves to cue `n` (in thousandths) as `goto` does, but over this time in milliseconds, up and
+    /// down and without delay, in place of the cue's times. The cue's follow-on time holds.
+    ///
+    /// # Errors
+    ///
+    /// `NoCue` where the show has no such cue; then nothing changed.
+    pub fn goto_in(&mut self, show: &Show, n: u32, time: u32, moment: u64) -> Result<u32, NoMove>
+        requires not_before { F.latest self.old.fader ≤ moment }
+        requires below { moment < 2 ^ 48 }
+        ensures answer { result ≡ ok_or (goto_target show.now.cues n) NoMove.NoCue }
+        ensures moved { Moves F.stands_for F.latest show.now moment (Some time) self.old self.new
+            result }
+    {
+        self.start_move(show, n, Some(time), moment)
+    }
+
+    // Moves to this cue, over this time or the cue's.
+    fn start_move(
+        &mut self,
+        show: &Show,
+        n: u32,
+        time: Option<u32>,
+        moment: u64,
+    ) -> Result<u32, NoMove>
+        requires not_before { F.latest self.old.fader ≤ moment }
+        requires below { moment < 2 ^ 48 }
+        ensures answer { result ≡ ok_or (goto_target show.now.cues n) NoMove.NoCue }
+        ensures moved { Moves F.stands_for F.latest show.now moment time self.old self.new result }
     {
         let cue = show.cue(n).ok_or(NoMove::NoCue)?;
         make_due(&mut self.fader, &mut self.place, show, moment);
-        self.fader.start(cue.pairs(), cue.up(), cue.down(), moment);
+        let up = move_rate(time, cue.up());
+        let down = move_rate(time, cue.down());
+        self.fader.start(cue.pairs(), up, down, moment);
         self.place = Place::at(show, n, moment);
         Ok(n)
     }
@@ -219,6 +253,13 @@ impl<F: Fader> Playback<F> {
     {
         self.fader.moving()
     }
+}
+
+// The rate of a move: this time without delay, or else the cue's rate.
+fn move_rate(time: Option<u32>, of_cue: Rate) -> Rate
+    ensures { result ≡ move_rate time of_cue }
+{
+    time.map_or(of_cue, |time| Rate { time, delay: 0 })
 }
 
 // Makes the moves that are due by this moment, each at its own.

@@ -1,5 +1,5 @@
 use Rattle.playback_core.proofs.Look.{is_sorted-entries, channels_in_range}
-use Rattle.playback_core.proofs.playback.Playback.goto.Goals as goal
+use Rattle.playback_core.proofs.playback.Playback.start_move.Goals as goal
 
 pub start-requires-clause-ascending : goal.start-requires-clause-ascending
 start-requires-clause-ascending g c = rw c.pairs.ensures.entries (is_sorted-entries _)
