@@ -164,11 +164,11 @@ module _ {V : Type 0} (stays : V → Bool) (es ps : List (ℕ × V)) (i least : 
       ap (λ l. es ++ l) (take_more ps i p lt ∙ ap (λ x. take i ps ++ x ∷ []) (sym is))
       ∙ sym (append_assoc es (take i ps) (p ∷ []))
 
-  pub behind_below : All (λ e. e.0 < p.0 + 1) (es ++ take (i + 1) ps)
-  behind_below =
-      All-same (λ e. e.0 < p.0 + 1) _ _ one_more
-      (All-push (λ e. e.0 < p.0 + 1) (es ++ take i ps) p
-      (λ k d within. omega (arith, from, below k d within)) (omega arith))
+  pub behind_below : (next : ℕ) → p.0 < next → All (λ e. e.0 < next) (es ++ take (i + 1) ps)
+  behind_below next behind =
+      All-same (λ e. e.0 < next) _ _ one_more
+      (All-push (λ e. e.0 < next) (es ++ take i ps) p
+      (λ k d within. omega (arith, from, behind, below k d within)) behind)
 
   pub behind_more : stays p.1 ≡ true → with_entries stays es (take i ps) ≡ es ++ take i ps
       → with_entries stays es (take (i + 1) ps) ≡ es ++ take (i + 1) ps

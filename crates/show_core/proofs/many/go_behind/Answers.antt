@@ -1,4 +1,4 @@
-use Rattle.std.proofs.Common.{◌≤◌, sym, ◌∙◌, arith}
+use Rattle.std.proofs.Common.{◌≡◌, ◌≤◌, true, arith}
 use Rattle.show_core.proofs.Entries.{behind_more, behind_below}
 use Rattle.show_core.proofs.many.go_behind.Goals as goal
 
@@ -11,11 +11,11 @@ loop-entry-preserved g c =
     let p = c.entry-item.result in
     let lt = c.loop-entry-test.true in
     let least = c.loop-entry.least in
-    let from : least ≤ p.0 = omega (arith, c.from.ensures, c.if-from-least.false) in
+    let from : least ≤ p.0 = omega arith in
+    let says : stays p.1 ≡ true = grind arith in
     let below = c.loop-entry.invariant.below in
     record {
-      so_far = behind_more stays es ps i least p lt c.entry-item.is from below
-          (sym c.stays.ensures ∙ c.if-not-stays.false) c.loop-entry.invariant.so_far;
-      below = rw c.behind-least.ensures.next
-          (behind_below stays es ps i least p lt c.entry-item.is from below);
+      so_far = behind_more stays es ps i least p lt c.entry-item.is from below says
+          c.loop-entry.invariant.so_far;
+      below = behind_below stays es ps i least p lt c.entry-item.is from below _ (omega arith);
     }
