@@ -12,7 +12,8 @@ use Rattle.console_text.specs.declared.reading.Reading.TheVariants.{At}
 use Rattle.console_text.specs.Spelling.{act_of}
 use Rattle.console_text.specs.Texts.{done_text, numbered, refused_text, ticked_text}
 use Rattle.cueplayer_play.specs.declared.performance.Answer.{Answer}
-use Rattle.cueplayer_play.specs.declared.performance.Answer.TheVariants.{Done, Refused as Refuse, Ticked}
+use Rattle.cueplayer_play.specs.declared.performance.Answer.TheVariants.{Done, Ticked}
+use Rattle.cueplayer_play.specs.declared.performance.Answer.TheVariants.{Refused as Refuse}
 use Rattle.cueplayer_play.specs.Lost.{is_lost}
 use Rattle.cueplayer_play.specs.Run.{due_after}
 
