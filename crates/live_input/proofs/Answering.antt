@@ -98,7 +98,6 @@ pub dim_leaves : (progress : Progress) (n : ℕ) (line : List ℕ) (given : List
     → Leaves progress (dim n None ∷ given) → Leaves progress (dim n (Some line) ∷ given)
 dim_leaves progress n line given l = record {
   due_is = l.due_is;
-  room_is = l.room_is;
   stage_is = l.stage_is;
   ticked_is = l.ticked_is;
 }
@@ -107,7 +106,6 @@ pub close_leaves : (progress : Progress) (n : ℕ) (line : List ℕ) (given : Li
     → Leaves progress (close n None ∷ given) → Leaves progress (close n (Some line) ∷ given)
 close_leaves progress n line given l = record {
   due_is = l.due_is;
-  room_is = l.room_is;
   stage_is = l.stage_is;
   ticked_is = l.ticked_is;
 }

@@ -5,7 +5,6 @@ pub mod Cases
 pub mod Ending
 pub mod Nights
 pub mod Fine
-pub mod Replies
 pub mod Spelled
 pub mod TypedLemmas
 pub mod Turns

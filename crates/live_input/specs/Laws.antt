@@ -1,5 +1,5 @@
 -- Laws over all nights: whatever bytes came, and whatever the clock said.
-use Rattle.std.specs.Prelude.{◌≡◌, ◌↔◌, ◌⊎◌, ◌≤◌, ◌+◌, ◌++◌, ◌||◌, ℕ, true, false, not, List, [], ◌∷◌}
+use Rattle.std.specs.Prelude.{◌≡◌, ◌↔◌, ◌⊎◌, ◌≤◌, ◌+◌, ◌++◌, ℕ, true, false, List, [], ◌∷◌}
 use Rattle.std.specs.Prelude.{Option, Some}
 use Rattle.std.specs.Prelude.{None, All, length, codes, flat_map, reverse}
 use Rattle.std.specs.Prelude.{Bool, is_none, option_map, replicate, if◌then◌else◌}
@@ -15,8 +15,8 @@ use Rattle.console_text.specs.declared.call.Call.TheVariants.{Order, Tick}
 use Rattle.console_text.specs.declared.reading.Reading.TheVariants.{At}
 use Rattle.console_text.specs.Spelling.{command_of, is_malformed, reading_of}
 use Rattle.live_input.specs.Night.{Answer, Happening, answer_to, answers, at_moment, bytes_come}
-use Rattle.live_input.specs.Night.{ends_with_input, has_room, lines_answered, lines_given, stage}
-use Rattle.live_input.specs.Night.{asked, due, is_dark, is_full, is_over, lines_left, now, to_line}
+use Rattle.live_input.specs.Night.{ends_with_input, lines_answered, lines_given, stage}
+use Rattle.live_input.specs.Night.{asked, due, is_dark, is_over, lines_left, now, to_line}
 use Rattle.live_input.specs.Night.{was_tick}
 use Rattle.live_input.specs.Night.{order, dim, close, tick, wait, over}
 use Rattle.live_input.specs.declared.progress.Stage.{Stage}
@@ -29,12 +29,10 @@ use Rattle.live_input.specs.Typed.{typed_of}
 abbrev pub text_of : List (List ℕ) → List ℕ
 text_of lines = flat_map (λ line. line ++ 10 ∷ []) (reverse lines)
 
--- `play` takes these lines: none is malformed or has more than 200 bytes, and there are at most
--- 10,000,000
+-- `play` takes each of these lines: none is malformed or has more than 200 bytes
 pub record AreFine (lines : List (List ℕ)) : Type 0 where
   pub none_malformed : All (λ line. is_malformed (reading_of line) ≡ false) lines
   pub none_long : All (λ line. length line ≤ 200) lines
-  pub few : length lines ≤ 10000000
 
 abbrev pub LinesAreFine : Type 0
 LinesAreFine = (h : List Happening) → AreFine (lines_of (text_of (lines_given (answers h))))
@@ -102,10 +100,9 @@ WaitsComeLast =
     (h : List Happening) (moment n : ℕ) → answer_to h moment ≡ wait n
     → (typed_of (bytes_come h)).lines ≡ lines_answered (answers h)
 
--- the night is not over, does not end at this moment, and lines have room
+-- the night is not over, and is not to be closed now
 abbrev pub IsOn : List Answer → Type 0
-IsOn given =
-    (is_over given ≡ false) × (is_dark (stage given) ≡ false) × (is_full given ≡ false)
+IsOn given = (is_over given ≡ false) × (is_dark (stage given) ≡ false)
 
 -- a tick that is due goes before whatever lines wait, where the answer before was none
 abbrev pub TicksGoFirst : Type 0
@@ -132,21 +129,20 @@ NothingIsAsked (asked moment ∷ older) = ⊥
 NothingIsAsked (_ ∷ older) = NothingIsAsked older
 
 -- where a tick is due when it is asked what is next, that is the answer, or the answer to what is
--- asked then: between the moment at which a tick is due and the tick there is at most one line, and
--- no other tick
+-- asked then, until the night is over: between the moment at which a tick is due and the tick there
+-- is at most one line, and no other tick
 abbrev pub TicksAreNext : Type 0
 TicksAreNext =
     (h meanwhile : List Happening) (moment next : ℕ) → NothingIsAsked meanwhile
-    → IsOn (answers h) → due (answers h) ≤ now (asked moment ∷ h)
-    → IsOn (answers (meanwhile ++ asked moment ∷ h))
+    → is_over (answers h) ≡ false → due (answers h) ≤ now (asked moment ∷ h)
     → IsTick (answer_to h moment) ⊎ IsTick (answer_to (meanwhile ++ asked moment ∷ h) next)
 
--- a night begins to end where nobody typed it only if it ends with its input and that ended, or if
--- all room for lines was used: whatever else ends, the light holds
+-- a night begins to end where nobody typed it only if it ends with its input and that ended:
+-- whatever else ends, the light holds
 abbrev pub EndsAreAsked : Type 0
 EndsAreAsked =
     (h : List Happening) (moment n : ℕ) → answer_to h moment ≡ dim n None
-    → (ends_with_input h || not (has_room (answers h))) ≡ true
+    → ends_with_input h ≡ true
 
 -- nothing comes any more exactly where there were three ticks after `end`, and there are never more
 abbrev pub NightsEnd : Type 0

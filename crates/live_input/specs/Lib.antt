@@ -6,4 +6,3 @@ pub mod TypedView
 pub mod Told
 pub mod Inside
 pub mod Laws
-pub mod Shown

@@ -1,5 +1,5 @@
 -- What a live input answers, by what happened to it. Happenings and answers have the newest first.
-use Rattle.std.specs.Prelude.{ℕ, ◌+◌, ◌*◌, ◌/◌, max, min, nat_le, nat_lt, Bool, true, false}
+use Rattle.std.specs.Prelude.{ℕ, ◌+◌, ◌*◌, ◌/◌, max, min, nat_le, Bool, true, false}
 use Rattle.std.specs.Prelude.{◌&&◌, ◌||◌, not, if◌then◌else◌, List, [], ◌∷◌, ◌++◌, length, drop}
 use Rattle.std.specs.Prelude.{Option, Some, None, codes, decimal, map, take}
 use Rattle.std.specs.Prelude.{unwrap_or}
@@ -111,11 +111,6 @@ abbrev pub due : List Answer → ℕ
 due [] = 0
 due (answer ∷ older) = due_by answer (due older)
 
--- `play` takes 10,000,000 lines: the last nine are kept for `master 0`, four ticks, `end` and three
--- ticks
-abbrev pub has_room : List Answer → Bool
-has_room given = nat_lt (length (lines_given given)) 9999991
-
 -- ---- the next answer, after those given
 
 -- `leave`, which ends the night and leaves the light to another console
@@ -140,10 +135,6 @@ to_line given moment line =
     if is_on (stage given) && nat_le (length (at_moment moment line)) 200
     then by_words moment line else refusal line
 
--- there was no `end`, and there is room for one and its ticks alone
-abbrev pub is_full : List Answer → Bool
-is_full given = is_on (stage given) && not (has_room given)
-
 abbrev pub ticked_by : Answer → Bool → Bool
 ticked_by (tick moment) before = true
 ticked_by over before = before
@@ -163,8 +154,7 @@ goes_first given moment = nat_le (due given) moment && not (was_tick given)
 abbrev pub before_lines : List Answer → ℕ → Option Answer
 before_lines given moment =
     if is_dark (stage given) then Some (close moment None)
-    else (if is_full given then Some (dim moment None)
-    else (if goes_first given moment then Some (tick moment) else None))
+    else (if goes_first given moment then Some (tick moment) else None)
 
 -- where each typed line was answered: the night ends with its input, which ended without an `end`
 abbrev pub by_itself : List Answer → Bool → ℕ → Answer

@@ -15,8 +15,8 @@ const LATEST: u64 = MOMENTS - 1;
 
 /// The input of a live night: it is told which bytes came, and asked what is next.
 ///
-/// A line that is typed is a command of `play` without its moment; it is given with the moment at
-/// which it is asked for. Moments are in milliseconds from the start of the night; they never
+/// A line that is typed is a command without its moment; it is given with the moment at which it is
+/// asked for. Moments are in milliseconds from the start of the night; they never
 /// fall, whatever the clock says.
 ///
 /// Nothing takes memory.

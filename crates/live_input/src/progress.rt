@@ -8,18 +8,13 @@ ghost use Rattle.live_input.specs.Told.{IsRequest, Leaves, LeavesFirst, Tells, T
 ghost use Rattle.ascii_text.specs.Text.{words_of};
 ghost use Rattle.live_input.specs.declared.given.Given.TheVariants.{Until};
 
-use crate::given::{Given, fits, input_line, shown};
+use crate::given::{Given, fits, given_line, shown};
 use ascii_text::{Words, same_word};
-use console_text::command_in;
+use console_text::{Call, command_in};
 use desk_core::{Command, ENDING_TICKS, SHORTEST_GAP};
 
 // Ticks come on a grid, 40 a second.
 const GRID: u64 = 25;
-
-// `play` takes 10,000,000 lines, and the last nine are `master 0`, its four ticks, `end` and its
-// three. At 40 ticks a second that is after 69 hours: a night that is still on then is ended in
-// order, so that receivers let go of its levels at once, and those of a second console count.
-const LINES: u32 = 9_999_991;
 
 // Ticks with the light down before `end`. A receiver that ignores the levels of a termination, as
 // E1.31 has it, holds the last look: so that is a dark one.
@@ -40,7 +35,7 @@ pub enum Stage {
 #[derive(Clone, Copy, Debug)]
 enum Request {
     Nothing,
-    Command,
+    Command(Command),
     End,
     Leave,
 }
@@ -50,8 +45,6 @@ enum Request {
 pub struct Progress {
     // When the next tick is due.
     pub due: u64,
-    // How many lines more there may be, besides those that end the night.
-    pub room: u32,
     pub stage: Stage,
     // Whether the last answer was a tick.
     pub ticked: bool,
@@ -63,7 +56,6 @@ impl Progress {
     {
         Progress {
             due: 0,
-            room: LINES,
             stage: Stage::On,
             ticked: false,
         }
@@ -90,9 +82,6 @@ impl Progress {
         if matches!(self.stage, Stage::Dark(ticks) if ticks >= DARK_TICKS) {
             return Some(self.close(now));
         }
-        if self.stage == Stage::On && self.room == 0 {
-            return Some(self.dim(now));
-        }
         if now < self.due || self.ticked {
             return None;
         }
@@ -115,10 +104,9 @@ impl Progress {
             Request::Nothing => self.refuse(line),
             Request::Leave => self.close(now),
             Request::End => self.dim(now),
-            Request::Command => {
+            Request::Command(command) => {
                 self.ticked = false;
-                self.room = self.room.saturating_sub(1);
-                Given::Line(input_line(now, line))
+                Given::Line(given_line(now, Call::Order(command), line))
             }
         }
     }
@@ -163,9 +151,8 @@ impl Progress {
         ensures at_once { (until : ℕ) → result ≢ Until until }
     {
         self.stage = Stage::Dark(0);
-        self.room = self.room.saturating_sub(1);
         self.ticked = false;
-        Given::Line(input_line(now, b"master 0"))
+        Given::Line(given_line(now, Call::Order(Command::Master(0)), b"master 0"))
     }
 
     // The streams end.
@@ -178,9 +165,8 @@ impl Progress {
         ensures at_once { (until : ℕ) → result ≢ Until until }
     {
         self.stage = Stage::Ended(0);
-        self.room = self.room.saturating_sub(1);
         self.ticked = false;
-        Given::Line(input_line(now, b"end"))
+        Given::Line(given_line(now, Call::Order(Command::End), b"end"))
     }
 
     fn tick(&mut self, now: u64) -> Given
@@ -193,9 +179,8 @@ impl Progress {
     {
         self.due = due_after(now);
         self.stage = self.stage.after_tick();
-        self.room = self.room.saturating_sub(1);
         self.ticked = true;
-        Given::Line(input_line(now, b"tick"))
+        Given::Line(given_line(now, Call::Tick, b"tick"))
     }
 }
 
@@ -223,7 +208,7 @@ fn read_request(line: &[u8]) -> Request
     match command_in(&mut Words::new(line)) {
         None => Request::Nothing,
         Some(Command::End) => Request::End,
-        Some(_) => Request::Command,
+        Some(command) => Request::Command(command),
     }
 }
 

@@ -1,8 +1,14 @@
 use Rattle.std.proofs.Common.{◌≡◌, true, arith, sym, length}
 use Rattle.std.specs.Prelude.{nat_le}
+use Rattle.ascii_text.specs.Text.{words_of}
 use Rattle.live_input.specs.Night.{at_moment, is_on, stage}
 use Rattle.live_input.proofs.Answering.{close_leaves, dim_leaves}
+use Rattle.live_input.proofs.Spelled.{call_is}
 use Rattle.live_input.proofs.progress.Progress.answer.Goals as goal
+
+pub given_line-requires-clause-spells : goal.given_line-requires-clause-spells
+given_line-requires-clause-spells c =
+    call_is (words_of c.args.line.now) _ (c.in-Command.ensures c.args.now).1
 
 pub returns-in-Leave-clause-leaves : goal.returns-in-Leave-clause-leaves
 returns-in-Leave-clause-leaves c = λ given leaves.
