@@ -29,8 +29,8 @@ failed t text = record { never_fewer = omega arith; whole = λ same. absurd (ome
 
 -- a line was recorded
 pub record Keeps (before after : BoothState) (line : List ℕ) : Type 0 where
-  takes : Takes before.kept after.kept line
-  rest : after ≡ record before { kept = after.kept }
+  pub takes : Takes before.kept after.kept line
+  pub rest : after ≡ record before { kept = after.kept }
 
 pub kept_by : {E : Type 0} (r : Result (Unit {0}) E) (tells : Type 0) (s t : BoothState)
     (line : List ℕ)

@@ -1,6 +1,6 @@
 -- Where a night on its way stands.
 -- Of use inside the crate: what its public calls answer is said without these.
-use Rattle.std.specs.Prelude.{◌≡◌, ◌++◌, ◌∷◌, [], ℕ, List, Option, None}
+use Rattle.std.specs.Prelude.{◌≡◌, ◌++◌, ◌∷◌, [], ℕ, Bool, true, false, List, Option, None}
 use Rattle.devices.specs.Send.{Send, failures_of}
 use Rattle.fade_core.specs.Level.{Start}
 use Rattle.desk_core.specs.Played.{Act}
@@ -12,6 +12,8 @@ use Rattle.console.specs.Streams.{Production}
 use Rattle.console_text.specs.declared.call.Call.{Call}
 use Rattle.console_text.specs.declared.call.Call.TheVariants.{Order}
 use Rattle.console_text.specs.Spelling.{reading_of}
+use Rattle.cueplayer_play.specs.declared.performance.Answer.{Answer}
+use Rattle.cueplayer_play.specs.declared.performance.Answer.TheVariants.{Refused}
 use Rattle.cueplayer_play.specs.Run.{due_after, history_of}
 use Rattle.live_input.specs.Night.{Happening, answers, lines_given}
 use Rattle.live_input.specs.Stands as live
@@ -19,6 +21,10 @@ use Rattle.cueplayer_live.specs.declared.night.Night.{Night}
 use Rattle.cueplayer_live.specs.Booth.{BoothState}
 use Rattle.cueplayer_live.specs.Night.{Lives, Seen}
 use Rattle.cueplayer_live.specs.Shown.{Takes, shown_of}
+
+abbrev pub is_accepted : Answer → Bool
+is_accepted (Refused why) = false
+is_accepted _ = true
 
 -- the cue to which an accepted call moved, from the one that is current behind it
 abbrev pub own_move : Call → Option ℕ → Option ℕ

@@ -10,7 +10,7 @@ ghost use Rattle.live_input.specs.Told.{IsGiven};
 ghost use Rattle.cueplayer_live.specs.Night.{seen};
 ghost use Rattle.cueplayer_live.specs.Shown as shown;
 ghost use Rattle.cueplayer_live.specs.Shown.{cue_lines, made, shown_answer};
-ghost use Rattle.cueplayer_live.specs.Stands.{CarriesOut, Shows, own_move};
+ghost use Rattle.cueplayer_live.specs.Stands.{CarriesOut, Shows, is_accepted, own_move};
 
 use crate::booth::Booth;
 use console::Console;
@@ -50,7 +50,7 @@ pub fn carry_out<F: Fader, B: Booth, L: Link>(
     let place = console.place();
     let performed = perform(console, given.moment, given.call, link);
     show_answer(&performed.answer, given.moment, booth);
-    if !matches!(performed.answer, Answer::Refused(_)) {
+    if is_accepted(&performed.answer) {
         let own = own_move(given.call, performed.current);
         show_moves(place, console.show(), given.moment, own, booth);
     }
@@ -65,6 +65,15 @@ fn show_answer<B: Booth>(answer: &Answer, moment: u64, booth: &mut B)
 {
     if is_shown(answer) {
         let _ = booth.show(answer.line(moment).as_str().as_bytes());
+    }
+}
+
+fn is_accepted(answer: &Answer) -> bool
+    ensures { result ≡ is_accepted answer.now }
+{
+    match answer {
+        Answer::Refused(_) => false,
+        _ => true,
     }
 }
 

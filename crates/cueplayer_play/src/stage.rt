@@ -7,6 +7,9 @@ use console::Console;
 use devices::{Feed, Link, Output};
 use fade_core::Fader;
 
+// The most lines that a play carries out.
+const MOST_LINES: u32 = 10_000_000;
+
 // Where a play stands in its input.
 #[derive(Drop)]
 pub struct Stage<F: Fader> {
@@ -46,7 +49,7 @@ impl<F: Fader> Stage<F> {
             (emitted (L.offered link.new) (W.tape out.new))) }
     {
         let number = self.number + 1;
-        if self.number == 10_000_000 {
+        if self.number == MOST_LINES {
             return Err(PlayFault::Line(number));
         }
         if byte != b'\n' {

@@ -1,6 +1,7 @@
 use Rattle.std.proofs.Common.{◌∙◌, arith, rules}
 use Rattle.std.proofs.lemmas.Grind.{common_steps}
 use Rattle.cueplayer_play.specs.Run.{emitted, history_of}
+use Rattle.cueplayer_play.specs.Stage.{late}
 use Rattle.cueplayer_play.proofs.Faults.{handed_on}
 use Rattle.cueplayer_play.proofs.Running.{left_behind, ran_ended}
 use Rattle.cueplayer_play.proofs.Taking.{ended_here}
@@ -31,8 +32,10 @@ returns-in_err-lost-clause-ended g c =
     (c.in_err-lost.ensures.leaves p (history_of p.show cut.lines) stands.console_stands tell.0
     tell.1)))
 
-pub returns-then-self-eq10000000-clause-ended : goal.returns-then-self-eq10000000-clause-ended
-returns-then-self-eq10000000-clause-ended g c = ended_here (search rules) (search rules)
+pub returns-then-self-eq-MOST_LINES-clause-ended : goal.returns-then-self-eq-MOST_LINES-clause-ended
+returns-then-self-eq-MOST_LINES-clause-ended g c =
+    ended_here (λ p cut stands.
+    let next = stands.number_is in (omega (arith, next), late (omega (arith, next)))) (search rules)
 
 pub returns-then-is_full-clause-ended : goal.returns-then-is_full-clause-ended
 returns-then-is_full-clause-ended g c = ended_here (search rules) (search rules)
