@@ -93,7 +93,7 @@ reading_is moment line below = rw (words_behind moment line below, moment_is mom
 -- `tick` spells no command
 not_tick : (keyword : List ℕ) (operands : List (List ℕ)) → same_word keyword (codes "tick") ≡ true
     → command_with keyword operands ≡ None
-not_tick keyword (a ∷ b ∷ c ∷ rest) h = refl
+not_tick keyword (a ∷ b ∷ c ∷ d ∷ rest) h = refl
 not_tick keyword _ h =
     rw ((bytes_eq-Decides (map to_ascii_lowercase keyword) (codes "tick")).0 h) refl
 

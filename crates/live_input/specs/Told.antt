@@ -1,5 +1,5 @@
 -- What is given of an answer, and what is kept of the answers so far.
-use Rattle.std.specs.Prelude.{◌≡◌, List, [], ◌∷◌, ◌++◌, ℕ, codes, Option, Some, None}
+use Rattle.std.specs.Prelude.{◌≡◌, ◌<◌, ◌^◌, List, [], ◌∷◌, ◌++◌, ℕ, codes, Option, Some, None}
 use Rattle.ascii_text.specs.Text.{words_of}
 use Rattle.console_text.specs.declared.reading.Reading.TheVariants.{At}
 use Rattle.console_text.specs.Spelling.{command_of, reading_of}
@@ -16,6 +16,7 @@ use Rattle.live_input.specs.Night.{at_moment, by_words, due, shown, stage, was_t
 pub record IsGiven (given : GivenLine) (line : List ℕ) : Type 0 where
   pub text_is : given.text.items ≡ line ++ 10 ∷ []
   pub spells : reading_of line ≡ At given.moment given.call
+  pub below : given.moment < 2 ^ 48
 
 -- a line and its call, the text of a refused line, or a moment
 abbrev pub Tells : Given → Answer → Type 0

@@ -8,4 +8,5 @@ returns c = record {
   text_is = c.input_line.ensures;
   spells = reading_is c.args.moment c.args.words.now c.requires.below
       ∙ ap (spelling.at_moment (Some c.args.moment)) c.requires.spells;
+  below = c.requires.below;
 }
