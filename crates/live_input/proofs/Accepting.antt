@@ -16,7 +16,8 @@ use Rattle.live_input.specs.declared.progress.Stage.TheVariants.{On, Dark, Ended
 use Rattle.live_input.specs.Laws.{IsDim, accepted, since_end, taken}
 use Rattle.live_input.specs.Night.{Answer, Happening, answer_to, answers, asked, due, is_dark}
 use Rattle.live_input.specs.Night.{close, dim, is_on, is_through, now, order, stage, stage_by, tick}
-use Rattle.live_input.proofs.Cases.{Keeps, Next, answer_is_next, clock_below, is_end, through}
+use Rattle.live_input.proofs.Asked.{is_end}
+use Rattle.live_input.proofs.Cases.{Keeps, Next, answer_is_next, clock_below, through}
 use Rattle.live_input.proofs.Cases.{closes, darkens, dims, leaves, takes, ticks}
 use Rattle.live_input.proofs.Nights.{on_only}
 

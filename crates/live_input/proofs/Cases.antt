@@ -5,58 +5,52 @@ use Rattle.std.specs.Prelude.{◌&&◌, nat_le, unwrap_or}
 use Rattle.std.proofs.lemmas.Bool.{and_parts, cond_both, leb-true}
 use Rattle.ascii_text.specs.Text.{words_of}
 use Rattle.desk_core.specs.declared.command.Command.{Command}
-use Rattle.desk_core.specs.declared.command.Command.TheVariants.{End}
 use Rattle.console_text.specs.Spelling.{command_of}
 use Rattle.live_input.specs.Night.{Answer, Happening, answer_to, answers, asked, at_moment}
 use Rattle.live_input.specs.Laws.{IsOn}
 use Rattle.live_input.specs.Night.{before_lines, due, ends_with_input, goes_first}
-use Rattle.live_input.specs.Night.{is_dark, is_leave, is_on, is_over, lines_left, now}
-use Rattle.live_input.specs.Night.{stage, to_command, to_line, to_lines}
-use Rattle.live_input.specs.Night.{order, dim, close, tick, refusal, wait, over}
-
-abbrev pub is_end : Command → Bool
-is_end End = true
-is_end _ = false
+use Rattle.live_input.specs.Night.{is_dark, is_on, is_over, lines_left, now}
+use Rattle.live_input.specs.Night.{stage, to_lines, to_request}
+use Rattle.live_input.specs.Night.{order, dim, close, tick, place, help, refusal, wait, over}
+use Rattle.live_input.specs.declared.reason.Reason.{Reason}
+use Rattle.live_input.specs.declared.request.Request.{Request}
+use Rattle.live_input.specs.declared.request.Request.TheVariants.{Nothing, Where, Help, Leave}
+use Rattle.live_input.specs.declared.request.Request.TheVariants.{Finish, Order}
+use Rattle.live_input.specs.Keys.{without_keys}
+use Rattle.live_input.proofs.Asked.{Meets, is_end, request_meets}
 
 -- each answer at a moment after these happenings, and when it comes
 pub data Next (h : List Happening) (n : ℕ) : Answer → Type 0 where
   nothing : is_over (answers h) ≡ true → Next h n over
   takes : (line : List ℕ) (later : List (List ℕ)) → lines_left (answers h) h ≡ line ∷ later
       → is_on (stage (answers h)) ≡ true → length (at_moment n line) ≤ 200
-      → (command : Command) → command_of (words_of line) ≡ Some command → is_end command ≡ false
-      → Next h n (order n line)
+      → (command : Command) → command_of (words_of (without_keys line)) ≡ Some command
+      → is_end command ≡ false → Next h n (order n line)
   darkens : (line : List ℕ) (later : List (List ℕ)) → lines_left (answers h) h ≡ line ∷ later
       → is_on (stage (answers h)) ≡ true → Next h n (dim n (Some line))
   leaves : (line : List ℕ) (later : List (List ℕ)) → lines_left (answers h) h ≡ line ∷ later
       → is_on (stage (answers h)) ≡ true → Next h n (close n (Some line))
-  refuses : (line : List ℕ) (later : List (List ℕ)) → lines_left (answers h) h ≡ line ∷ later
-      → IsOn (answers h) → Next h n (refusal line)
+  places : (line : List ℕ) (later : List (List ℕ)) → lines_left (answers h) h ≡ line ∷ later
+      → IsOn (answers h) → Next h n (place n line)
+  helps : (line : List ℕ) (later : List (List ℕ)) → lines_left (answers h) h ≡ line ∷ later
+      → IsOn (answers h) → Next h n (help line)
+  refuses : (why : Reason) (line : List ℕ) (later : List (List ℕ))
+      → lines_left (answers h) h ≡ line ∷ later → IsOn (answers h) → Next h n (refusal why line)
   dims : is_on (stage (answers h)) ≡ true → ends_with_input h ≡ true → Next h n (dim n None)
   closes : is_dark (stage (answers h)) ≡ true → Next h n (close n None)
   ticks : is_over (answers h) ≡ false → is_dark (stage (answers h)) ≡ false
       → due (answers h) ≤ n → Next h n (tick n)
   waits : lines_left (answers h) h ≡ [] → IsOn (answers h) → Next h n (wait (due (answers h)))
 
-command_is : (h : List Happening) (n : ℕ) (line : List ℕ) (later : List (List ℕ))
-    → IsOn (answers h)
-    → lines_left (answers h) h ≡ line ∷ later → is_on (stage (answers h)) ≡ true
-    → length (at_moment n line) ≤ 200
-    → (spelled : Option Command) → command_of (words_of line) ≡ spelled
-    → Next h n (to_command n line spelled)
-command_is h n line later free left on fit None is = refuses line later left free
-command_is h n line later free left on fit (Some End) is = darkens line later left on
-command_is h n line later free left on fit (Some c) is =
-    takes line later left on fit c is refl
-
-line_is : (h : List Happening) (n : ℕ) (line : List ℕ) (later : List (List ℕ))
-    → IsOn (answers h) → lines_left (answers h) h ≡ line ∷ later → Next h n (to_line (answers h) n line)
-line_is h n line later free left =
-    cond_both (is_on (stage (answers h)) && nat_le (length (at_moment n line)) 200) _ _ (Next h n)
-    (λ fit. let parts = and_parts _ _ fit in
-    cond_both (is_leave (words_of line)) _ _ (Next h n)
-    (λ leave. leaves line later left parts.0)
-    (λ other. command_is h n line later free left parts.0 (leb-true _ 200 parts.1) _ refl))
-    (λ unfit. refuses line later left free)
+request_is : (h : List Happening) (n : ℕ) (line : List ℕ) (later : List (List ℕ))
+    → IsOn (answers h) → lines_left (answers h) h ≡ line ∷ later → (request : Request)
+    → Meets (is_on (stage (answers h))) n line request → Next h n (to_request n line request)
+request_is h n line later free left (Nothing why) m = refuses why line later left free
+request_is h n line later free left Where m = places line later left free
+request_is h n line later free left Help m = helps line later left free
+request_is h n line later free left Leave m = leaves line later left m
+request_is h n line later free left Finish m = darkens line later left m
+request_is h n line later free left (Order c) m = takes line later left m.0 m.1 c m.2 m.3
 
 lines_are : (h : List Happening) (n : ℕ) → IsOn (answers h) → (left : List (List ℕ))
     → lines_left (answers h) h ≡ left → Next h n (to_lines left (answers h) (ends_with_input h) n)
@@ -65,7 +59,8 @@ lines_are h n on [] is =
     (λ owed. let parts = and_parts _ _ owed in dims parts.0 parts.1)
     (λ none. cond_both (nat_le (due (answers h)) n) _ _ (Next h n)
     (λ late. ticks on.0 on.1 (leb-true _ n late)) (λ early. waits is on))
-lines_are h n on (line ∷ later) is = line_is h n line later on is
+lines_are h n on (line ∷ later) is = request_is h n line later on is _
+    (request_meets (is_on (stage (answers h))) n line)
 
 -- what comes before any line, or else the rest
 first_is : (h : List Happening) (n : ℕ) → is_over (answers h) ≡ false → (rest : Answer)

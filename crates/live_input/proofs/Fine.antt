@@ -20,6 +20,8 @@ use Rattle.live_input.specs.Night.{bytes_come, lines_given, lines_left}
 use Rattle.live_input.specs.Typed.{Typed, no_bytes, says_nothing, typed_of, with_byte}
 use Rattle.live_input.proofs.Cases.{Keeps, Next, answer_is_next, clock_below, through}
 use Rattle.live_input.proofs.Cases.{closes, darkens, dims, leaves, takes, ticks}
+use Rattle.live_input.specs.Keys.{without_keys}
+use Rattle.live_input.proofs.KeyLemmas.{keys_short, keys_whole}
 use Rattle.live_input.proofs.Spelled.{call_is, no_digit, reading_is}
 
 -- ---- what lines spell
@@ -36,7 +38,7 @@ spells n line below (Some command) e some =
 spelled_by : (h : List Happening) (n : ℕ) (answer : Answer) → Next h n answer → n < 2 ^ 48
     → IsSpelled answer
 spelled_by h n _ (takes line later is on fit c spelled other) below =
-    (spells n line below _ refl (rw spelled refl)).0
+    (spells n (without_keys line) below _ refl (rw spelled refl)).0
 spelled_by h n _ (darkens line later is on) below = reading_is n (codes "master 0") below
 spelled_by h n _ (dims on owed) below = reading_is n (codes "master 0") below
 spelled_by h n _ (leaves line later is on) below = reading_is n (codes "end") below
@@ -99,9 +101,10 @@ short_good n word below good short whole = one_good n word (rw (reading_is n wor
 
 good_by : Keeps (λ given n. All IsGood (lines_given given))
 good_by h n _ (takes line later is on fit c spelled other) le below g =
-    let good = (spells n line below _ refl (rw spelled refl)).1 in
+    let good = (spells n (without_keys line) below _ refl (rw spelled refl)).1 in
     let whole = All-head (All NotLf) line later (rw is at (left_no_lf h)) in
-    All-cons IsGood _ _ (one_good n line good fit whole) g
+    All-cons IsGood _ _ (one_good n (without_keys line) good (keys_short n line fit)
+    (keys_whole NotLf line whole)) g
 good_by h n _ (darkens line later is on) le below g =
     All-cons IsGood _ _ (short_good n (codes "master 0") below refl (omega arith) refl) g
 good_by h n _ (dims on owed) le below g =

@@ -1,7 +1,9 @@
 mod Rows
 pub mod Accepting
 pub mod Answering
+pub mod Asked
 pub mod Cases
+pub mod KeyLemmas
 pub mod Ending
 pub mod Nights
 pub mod Fine

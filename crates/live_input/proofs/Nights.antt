@@ -17,7 +17,7 @@ use Rattle.live_input.specs.declared.progress.Stage.TheVariants.{On, Dark, Ended
 use Rattle.live_input.specs.Night.{goes_first, lines_answered, lines_left, over, wait, was_tick}
 use Rattle.live_input.specs.Typed.{typed_of}
 use Rattle.live_input.proofs.Cases.{Keeps, Next, closes, takes, through, ticks, answer_is_next}
-use Rattle.live_input.proofs.Cases.{nothing, refuses, waits, darkens, dims, leaves}
+use Rattle.live_input.proofs.Cases.{nothing, places, helps, refuses, waits, darkens, dims, leaves}
 use Rattle.live_input.proofs.TypedLemmas.{Adds, grows}
 
 -- ---- the moments of lines and of ticks
@@ -120,7 +120,9 @@ begins_by : (h : List Happening) (n : ℕ) (answer : Answer) → Next h n answer
 begins_by h n _ (takes line later is _ _ _ _ _) b = one_answered _ (lines h) later line b is
 begins_by h n _ (darkens line later is _) b = one_answered _ (lines h) later line b is
 begins_by h n _ (leaves line later is _) b = one_answered _ (lines h) later line b is
-begins_by h n _ (refuses line later is _) b = one_answered _ (lines h) later line b is
+begins_by h n _ (places line later is _) b = one_answered _ (lines h) later line b is
+begins_by h n _ (helps line later is _) b = one_answered _ (lines h) later line b is
+begins_by h n _ (refuses why line later is _) b = one_answered _ (lines h) later line b is
 begins_by h n _ _ b = b
 
 pub begins : (h : List Happening) → Adds (lines_answered (answers h)) (lines h)

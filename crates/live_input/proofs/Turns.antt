@@ -4,11 +4,11 @@ use Rattle.std.proofs.Common.{refl, Option, Some, None}
 use Rattle.live_input.specs.Laws.{IsOn, IsTick, NothingIsAsked, TicksAreNext}
 use Rattle.live_input.specs.Night.{Answer, Happening, answer_to, answers, asked, came, closed}
 use Rattle.live_input.specs.Night.{due, is_dark, is_on, is_over, is_through, now, stage, stage_by}
-use Rattle.live_input.specs.Night.{was_tick, order, dim, close, refusal, wait}
+use Rattle.live_input.specs.Night.{was_tick, order, dim, close, place, help, refusal, wait}
 use Rattle.live_input.specs.declared.progress.Stage.{Stage}
 use Rattle.live_input.specs.declared.progress.Stage.TheVariants.{Dark}
 use Rattle.live_input.proofs.Cases.{Next, answer_is_next, nothing, ticks, takes, darkens, leaves}
-use Rattle.live_input.proofs.Cases.{refuses, dims, closes, waits}
+use Rattle.live_input.proofs.Cases.{places, helps, refuses, dims, closes, waits}
 use Rattle.live_input.proofs.Nights.{on_only, ticks_first}
 
 -- the night is on at this stage, and not to be closed now
@@ -53,7 +53,9 @@ tick_or_line h n _ (darkens line later _ is) on =
     stays h (dim n (Some line)) refl refl (dim_open n (Some line) (stage (answers h)) is)
 tick_or_line h n _ (leaves line later _ is) on =
     stays h (close n (Some line)) refl refl (leave_open n (Some line) (stage (answers h)) is)
-tick_or_line h n _ (refuses line later _ is) on = stays h (refusal line) refl refl is
+tick_or_line h n _ (places line later _ is) on = stays h (place n line) refl refl is
+tick_or_line h n _ (helps line later _ is) on = stays h (help line) refl refl is
+tick_or_line h n _ (refuses why line later _ is) on = stays h (refusal why line) refl refl is
 tick_or_line h n _ (dims is _) on =
     stays h (dim n None) refl refl (dim_open n None (stage (answers h)) is)
 tick_or_line h n _ (closes dark) on =

@@ -21,6 +21,7 @@ use Rattle.live_input.specs.Night.{was_tick}
 use Rattle.live_input.specs.Night.{order, dim, close, tick, wait, over}
 use Rattle.live_input.specs.declared.progress.Stage.{Stage}
 use Rattle.live_input.specs.declared.progress.Stage.TheVariants.{On, Dark, Ended}
+use Rattle.live_input.specs.Keys.{without_keys}
 use Rattle.live_input.specs.Typed.{typed_of}
 
 -- ---- lines
@@ -45,7 +46,8 @@ Spells None moment line = ⊥
 -- a line that is given spells the very command that was typed, `master 0`, `end` or a tick, at its
 -- moment
 abbrev pub IsSpelled : Answer → Type 0
-IsSpelled (order moment line) = Spells (command_of (words_of line)) moment line
+IsSpelled (order moment line) =
+    Spells (command_of (words_of (without_keys line))) moment (without_keys line)
 IsSpelled (dim moment typed) =
     reading_of (at_moment moment (codes "master 0")) ≡ At moment (Order (Master 0))
 IsSpelled (close moment typed) = reading_of (at_moment moment (codes "end")) ≡ At moment (Order End)
@@ -154,7 +156,7 @@ NightsEnd =
 
 -- what was given, without moments, the newest first
 abbrev pub with_words : Answer → List (List ℕ) → List (List ℕ)
-with_words (order moment line) given = line ∷ given
+with_words (order moment line) given = without_keys line ∷ given
 with_words (dim moment typed) given = codes "master 0" ∷ given
 with_words (close moment typed) given = codes "end" ∷ given
 with_words (tick moment) given = codes "tick" ∷ given
@@ -200,7 +202,7 @@ EndsAreWhole =
 abbrev pub act_of : Answer → Option Act
 act_of (order moment line) =
     option_map (λ command. record { moment = moment; call = desk.order command })
-    (command_of (words_of line))
+    (command_of (words_of (without_keys line)))
 act_of (dim moment typed) = Some (record { moment = moment; call = desk.order (Master 0) })
 act_of (close moment typed) = Some (record { moment = moment; call = desk.order End })
 act_of (tick moment) = Some (record { moment = moment; call = desk.tick })

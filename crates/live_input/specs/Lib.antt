@@ -1,3 +1,5 @@
+pub mod Keys
+pub mod Reasons
 pub mod Typed
 pub mod Night
 pub mod Kept

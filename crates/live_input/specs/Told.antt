@@ -1,16 +1,14 @@
 -- What is given of an answer, and what is kept of the answers so far.
 use Rattle.std.specs.Prelude.{◌≡◌, ◌<◌, ◌^◌, List, [], ◌∷◌, ◌++◌, ℕ, codes, Option, Some, None}
-use Rattle.ascii_text.specs.Text.{words_of}
 use Rattle.console_text.specs.declared.reading.Reading.TheVariants.{At}
-use Rattle.console_text.specs.Spelling.{command_of, reading_of}
+use Rattle.console_text.specs.Spelling.{reading_of}
 use Rattle.live_input.specs.declared.given.Given.{Given}
 use Rattle.live_input.specs.declared.given.GivenLine.{GivenLine}
-use Rattle.live_input.specs.declared.given.Given.TheVariants.{Line, Refused, Until, Over}
+use Rattle.live_input.specs.declared.given.Given.TheVariants.{Line, Where, Help, Refused, Until, Over}
 use Rattle.live_input.specs.declared.progress.Progress.{Progress}
-use Rattle.live_input.specs.Night.{Answer, order, dim, close, tick, refusal, wait, over}
-use Rattle.live_input.specs.declared.progress.Request.{Request}
-use Rattle.live_input.specs.declared.progress.Request.TheVariants.{Nothing, Command, End, Leave}
-use Rattle.live_input.specs.Night.{at_moment, by_words, due, shown, stage, was_tick}
+use Rattle.live_input.specs.Night.{Answer, order, dim, close, tick, place, help, refusal, wait, over}
+use Rattle.live_input.specs.Keys.{without_keys}
+use Rattle.live_input.specs.Night.{at_moment, due, shown, stage, was_tick}
 
 -- this line with its LF, and the moment and the call that it spells
 pub record IsGiven (given : GivenLine) (line : List ℕ) : Type 0 where
@@ -18,13 +16,15 @@ pub record IsGiven (given : GivenLine) (line : List ℕ) : Type 0 where
   pub spells : reading_of line ≡ At given.moment given.call
   pub below : given.moment < 2 ^ 48
 
--- a line and its call, the text of a refused line, or a moment
+-- a line and its call, the text of a refused line and why, or a moment
 abbrev pub Tells : Given → Answer → Type 0
-Tells (Line given) (order moment words) = IsGiven given (at_moment moment words)
+Tells (Line given) (order moment line) = IsGiven given (at_moment moment (without_keys line))
 Tells (Line given) (dim moment typed) = IsGiven given (at_moment moment (codes "master 0"))
 Tells (Line given) (close moment typed) = IsGiven given (at_moment moment (codes "end"))
 Tells (Line given) (tick moment) = IsGiven given (at_moment moment (codes "tick"))
-Tells (Refused text) (refusal line) = text.items ≡ shown line
+Tells (Where moment) (place asked line) = moment ≡ asked
+Tells Help (help line) = Unit {0}
+Tells (Refused text why) (refusal reason line) = (text.items ≡ shown line) × (why ≡ reason)
 Tells (Until moment) (wait due) = moment ≡ due
 Tells Over over = Unit {0}
 Tells _ _ = ⊥
@@ -44,11 +44,3 @@ TellsFirst _ _ = ⊥
 abbrev pub LeavesFirst : Progress → Option Answer → List Answer → Type 0
 LeavesFirst progress (Some answer) given = Leaves progress (answer ∷ given)
 LeavesFirst progress None given = Leaves progress given
-
--- what the words of a line ask for, against its answer
-abbrev pub IsRequest : List ℕ → ℕ → Request → Type 0
-IsRequest line moment Nothing = by_words moment line ≡ refusal line
-IsRequest line moment (Command command) = (by_words moment line ≡ order moment line)
-    × (command_of (words_of line) ≡ Some command)
-IsRequest line moment End = by_words moment line ≡ dim moment (Some line)
-IsRequest line moment Leave = by_words moment line ≡ close moment (Some line)

@@ -5,6 +5,7 @@ ghost use Rattle.live_input.specs.Night.{at_moment};
 ghost use Rattle.live_input.specs.Night as night;
 ghost use Rattle.live_input.specs.Told.{IsGiven};
 
+use crate::reason::Reason;
 use arrayvec::ArrayVec;
 use console_text::Call;
 use itoa::Buffer;
@@ -30,8 +31,12 @@ pub struct GivenLine {
 pub enum Given {
     /// A line for the console.
     Line(GivenLine),
-    /// What to show of a line that was refused.
-    Refused(RefusedText),
+    /// Where the night is was asked, at this moment in milliseconds.
+    Where(u64),
+    /// Which commands there are was asked.
+    Help,
+    /// What to show of a line that was refused, and why it was.
+    Refused(RefusedText, Reason),
     /// Nothing is due before this moment, in milliseconds, unless bytes come.
     Until(u64),
     /// Nothing comes any more.

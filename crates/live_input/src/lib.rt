@@ -12,10 +12,14 @@
 #![tactic(auto)]
 
 mod given;
+mod keys;
 pub mod laws;
 mod live;
 mod progress;
+mod reason;
+mod request;
 mod typed;
 
 pub use given::{Given, GivenLine, InputLine, RefusedText};
 pub use live::LiveInput;
+pub use reason::Reason;

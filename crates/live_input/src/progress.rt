@@ -1,16 +1,16 @@
 ghost use Rattle.std.specs.Prelude.{◌≡◌, ◌≢◌, ◌<◌, ◌^◌, ℕ, List, [], ◌∷◌, IfNone, Option, None};
-ghost use Rattle.std.specs.Prelude.{Some, true, false};
+ghost use Rattle.std.specs.Prelude.{◌≤◌, Some, true, false, length};
 ghost use Rattle.live_input.specs.Night.{Answer, before_lines, by_itself, close, due_after, tick};
-ghost use Rattle.live_input.specs.Night.{dim, is_dark, is_leave, is_on, is_through};
+ghost use Rattle.live_input.specs.Night.{dim, is_dark, is_on, is_through};
 ghost use Rattle.live_input.specs.Night.{after_tick, has_ended};
-ghost use Rattle.live_input.specs.Night.{refusal, to_line};
-ghost use Rattle.live_input.specs.Told.{IsRequest, Leaves, LeavesFirst, Tells, TellsFirst};
-ghost use Rattle.ascii_text.specs.Text.{words_of};
+ghost use Rattle.live_input.specs.Night.{to_line};
+ghost use Rattle.live_input.specs.Told.{Leaves, LeavesFirst, Tells, TellsFirst};
 ghost use Rattle.live_input.specs.declared.given.Given.TheVariants.{Until};
 
-use crate::given::{Given, fits, given_line, shown};
-use ascii_text::{Words, same_word};
-use console_text::{Call, command_in};
+use crate::given::{Given, given_line, shown};
+use crate::keys::without_keys;
+use crate::request::{Request, request_of};
+use console_text::Call;
 use desk_core::{Command, ENDING_TICKS, SHORTEST_GAP};
 
 // Ticks come on a grid, 40 a second.
@@ -29,15 +29,6 @@ pub enum Stage {
     Dark(u8),
     /// The streams end, since so many ticks.
     Ended(u8),
-}
-
-// What the words of a line ask for.
-#[derive(Clone, Copy, Debug)]
-enum Request {
-    Nothing,
-    Command(Command),
-    End,
-    Leave,
 }
 
 // What the answers so far leave.
@@ -91,22 +82,23 @@ impl Progress {
     // The answer to a line that was typed.
     pub fn answer(&mut self, now: u64, line: &[u8]) -> Given
         requires below { now < 2 ^ 48 }
+        requires looked_at { length line.now ≤ 201 }
         ensures tells { (given : List Answer) → Leaves self.old given
             → Tells result (to_line given now line.now) }
         ensures leaves { (given : List Answer) → Leaves self.old given
             → Leaves self.new (to_line given now line.now ∷ given) }
         ensures at_once { (until : ℕ) → result ≢ Until until }
     {
-        if self.stage != Stage::On || !fits(now, line) {
-            return self.refuse(line);
-        }
-        match read_request(line) {
-            Request::Nothing => self.refuse(line),
+        let text = without_keys(line);
+        let text = text.as_slice();
+        match request_of(self.is_on(), now, line, text) {
+            Request::Nothing(why) => self.give(Given::Refused(shown(line), why)),
+            Request::Where => self.give(Given::Where(now)),
+            Request::Help => self.give(Given::Help),
             Request::Leave => self.close(now),
-            Request::End => self.dim(now),
-            Request::Command(command) => {
-                self.ticked = false;
-                Given::Line(given_line(now, Call::Order(command), line))
+            Request::Finish => self.dim(now),
+            Request::Order(command) => {
+                self.give(Given::Line(given_line(now, Call::Order(command), text)))
             }
         }
     }
@@ -131,14 +123,19 @@ impl Progress {
         self.tick(now)
     }
 
-    fn refuse(&mut self, line: &[u8]) -> Given
-        ensures tells { Tells result (refusal line.now) }
-        ensures leaves { (given : List Answer) → Leaves self.old given
-            → Leaves self.new (refusal line.now ∷ given) }
-        ensures at_once { (until : ℕ) → result ≢ Until until }
+    fn is_on(&self) -> bool
+        ensures { result ≡ is_on self.now.stage }
+    {
+        self.stage == Stage::On
+    }
+
+    // Gives what is no tick, and leaves the stage as it is.
+    fn give(&mut self, given: Given) -> Given
+        ensures same { result ≡ given }
+        ensures ticked { self.new ≡ record self.old { ticked = false } }
     {
         self.ticked = false;
-        Given::Refused(shown(line))
+        given
     }
 
     // The light goes down.
@@ -196,29 +193,6 @@ impl Stage {
             Stage::Dark(ticks) => Stage::Dark(ticks + 1),
             Stage::Ended(ticks) => Stage::Ended(ticks + 1),
         }
-    }
-}
-
-fn read_request(line: &[u8]) -> Request
-    ensures { (moment : ℕ) → IsRequest line.now moment result }
-{
-    if is_leave(line) {
-        return Request::Leave;
-    }
-    match command_in(&mut Words::new(line)) {
-        None => Request::Nothing,
-        Some(Command::End) => Request::End,
-        Some(command) => Request::Command(command),
-    }
-}
-
-fn is_leave(line: &[u8]) -> bool
-    ensures { result ≡ is_leave (words_of line.now) }
-{
-    let mut words = Words::new(line);
-    match words.next() {
-        Some(word) => words.next().is_none() && same_word(word, b"leave"),
-        None => false,
     }
 }
 

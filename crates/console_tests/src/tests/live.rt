@@ -1,6 +1,6 @@
 use console_text::Call;
 use desk_core::Command;
-use live_input::{Given, LiveInput};
+use live_input::{Given, LiveInput, Reason};
 use std::process::Abort;
 
 const TICK: Call = Call::Tick;
@@ -19,7 +19,9 @@ enum Step<'a> {
     Typed(u64, &'a [u8]),
     Closed(u64, bool),
     Line(u64, Call, &'a [u8]),
-    Refused(u64, &'a [u8]),
+    Refused(u64, &'a [u8], Reason),
+    Where(u64),
+    Help(u64),
     Until(u64, u64),
     Over(u64),
 }
@@ -53,9 +55,23 @@ fn gives(input: &mut LiveInput, moment: u64, call: Call, line: &[u8]) -> bool {
     }
 }
 
-fn refuses(input: &mut LiveInput, moment: u64, text: &[u8]) -> bool {
+fn refuses(input: &mut LiveInput, moment: u64, text: &[u8], reason: Reason) -> bool {
     match input.next(moment) {
-        Given::Refused(given) => given.as_slice() == text,
+        Given::Refused(given, why) => given.as_slice() == text && why == reason,
+        _ => false,
+    }
+}
+
+fn asks_where(input: &mut LiveInput, moment: u64) -> bool {
+    match input.next(moment) {
+        Given::Where(given) => given == moment,
+        _ => false,
+    }
+}
+
+fn asks_help(input: &mut LiveInput, moment: u64) -> bool {
+    match input.next(moment) {
+        Given::Help => true,
         _ => false,
     }
 }
@@ -79,7 +95,9 @@ fn holds(input: &mut LiveInput, step: &Step<'_>) -> bool {
         Step::Typed(moment, bytes) => types(input, *moment, bytes),
         Step::Closed(moment, ends) => closes(input, *moment, *ends),
         Step::Line(moment, call, line) => gives(input, *moment, *call, line),
-        Step::Refused(moment, text) => refuses(input, *moment, text),
+        Step::Refused(moment, text, reason) => refuses(input, *moment, text, *reason),
+        Step::Where(moment) => asks_where(input, *moment),
+        Step::Help(moment) => asks_help(input, *moment),
         Step::Until(moment, until) => waits(input, *moment, *until),
         Step::Over(moment) => is_over(input, *moment),
     }
@@ -113,7 +131,7 @@ fn ordinary_night(rt: HostRuntime) {
             Step::Typed(60, b"end\n"),
             Step::Line(60, DARK, b"60 master 0\n"),
             Step::Typed(61, b"go\n"),
-            Step::Refused(61, b"go"),
+            Step::Refused(61, b"go", Reason::Ending),
             Step::Line(75, TICK, b"75 tick\n"),
             Step::Line(100, TICK, b"100 tick\n"),
             Step::Closed(101, true),
@@ -138,21 +156,21 @@ fn refusals(rt: HostRuntime) {
         &[
             Step::Line(0, TICK, b"0 tick\n"),
             Step::Typed(1, b"jump\n"),
-            Step::Refused(1, b"jump"),
+            Step::Refused(1, b"jump", Reason::Unknown),
             Step::Typed(1, b"tick\n"),
-            Step::Refused(1, b"tick"),
+            Step::Refused(1, b"tick", Reason::Unknown),
             Step::Typed(1, b"25 go\n"),
-            Step::Refused(1, b"25 go"),
+            Step::Refused(1, b"25 go", Reason::Moment),
             Step::Typed(1, b"go 1\n"),
-            Step::Refused(1, b"go 1"),
+            Step::Refused(1, b"go 1", Reason::Go),
             Step::Typed(1, b"sub 65536 50\n"),
-            Step::Refused(1, b"sub 65536 50"),
+            Step::Refused(1, b"sub 65536 50", Reason::Numbered),
             Step::Typed(1, b"goto 0\n"),
-            Step::Refused(1, b"goto 0"),
+            Step::Refused(1, b"goto 0", Reason::Goto),
             Step::Typed(1, b"g\0o\n"),
-            Step::Refused(1, b"g?o"),
+            Step::Refused(1, b"g?o", Reason::Unknown),
             Step::Typed(1, b"\x1b[2Jgo\xff\n"),
-            Step::Refused(1, b"?[2Jgo?"),
+            Step::Refused(1, b"?[2Jgo?", Reason::Unknown),
             Step::Typed(1, b"\n ,\t\r\n! go\ngo\n"),
             Step::Line(1, GO, b"1 go\n"),
             Step::Until(1, 25),
@@ -214,9 +232,9 @@ fn night_is_left(rt: HostRuntime) {
         &[
             Step::Line(0, TICK, b"0 tick\n"),
             Step::Typed(3, b"leave now\nLEAVE ! to the backup\ngo\n"),
-            Step::Refused(4, b"leave now"),
+            Step::Refused(4, b"leave now", Reason::Alone),
             Step::Line(4, END, b"4 end\n"),
-            Step::Refused(5, b"go"),
+            Step::Refused(5, b"go", Reason::Ending),
             Step::Line(25, TICK, b"25 tick\n"),
             Step::Line(50, TICK, b"50 tick\n"),
             Step::Line(75, TICK, b"75 tick\n"),
@@ -240,4 +258,63 @@ fn input_ends_and_light_holds(rt: HostRuntime) {
             Step::Until(31, 53),
         ],
     );
+}
+
+#[test]
+fn questions(rt: HostRuntime) {
+    take_steps(
+        &rt,
+        &mut LiveInput::new(),
+        &[
+            Step::Line(0, TICK, b"0 tick\n"),
+            Step::Typed(3, b"where\n?\nHelp ! please\nwhere now\nend\n"),
+            Step::Where(4),
+            Step::Help(4),
+            Step::Help(5),
+            Step::Refused(5, b"where now", Reason::Alone),
+            Step::Line(6, DARK, b"6 master 0\n"),
+            Step::Typed(7, b"where\nhelp\n"),
+            Step::Where(8),
+            Step::Help(8),
+            Step::Until(9, 25),
+        ],
+    );
+}
+
+#[test]
+fn keys_are_left_out(rt: HostRuntime) {
+    let mut input = LiveInput::new();
+    take_steps(
+        &rt,
+        &mut input,
+        &[
+            Step::Line(0, TICK, b"0 tick\n"),
+            Step::Typed(3, b"\x1b[A\x1b[Ago\n\x1bOBback\n\x1b[3~\n"),
+            Step::Line(4, GO, b"4 go\n"),
+        ],
+    );
+    assert!(rt; input.ignored_keys());
+    take_steps(
+        &rt,
+        &mut input,
+        &[Step::Line(5, BACK, b"5 back\n"), Step::Refused(6, b"?[3~", Reason::Keys)],
+    );
+    assert!(rt; input.ignored_keys());
+    take_steps(&rt, &mut input, &[Step::Typed(7, b"go\n"), Step::Line(8, GO, b"8 go\n")]);
+    assert!(rt; !input.ignored_keys());
+}
+
+#[test]
+fn long_lines(rt: HostRuntime) {
+    let mut line = [b'x'; 210];
+    line[209] = b'\n';
+    let mut input = LiveInput::new();
+    take_steps(&rt, &mut input, &[Step::Line(0, TICK, b"0 tick\n"), Step::Typed(1, &line)]);
+    take_steps(&rt, &mut input, &[Step::Refused(1, &[b'x'; 200], Reason::Long)]);
+}
+
+#[test]
+fn reasons(rt: HostRuntime) {
+    assert!(rt; Reason::Go.text() == "go takes no number; goto 4 goes to a cue");
+    assert!(rt; Reason::Unknown.text() == "no such command; help lists the commands");
 }
