@@ -1,7 +1,8 @@
 -- A line that is carried out.
 use Rattle.std.proofs.Common.{◌≡◌, ℕ, Bool, true, false, refl, ap, sym, ◌∙◌, List, [], ◌∷◌, ◌++◌}
 use Rattle.std.proofs.Common.{Option, Some, None, arith, append-nil}
-use Rattle.std.specs.Prelude.{find, is_none, is_some, option_or}
+use Rattle.std.specs.Prelude.{find, is_none, is_some}
+use Rattle.std.specs.Option.{option_or}
 use Rattle.show_core.specs.Tables.{Tables}
 use Rattle.playback_core.specs.Played.{Move, current_after, moves_by, with_due}
 use Rattle.desk_core.specs.declared.command.Command.{Command}

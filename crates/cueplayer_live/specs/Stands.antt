@@ -2,7 +2,6 @@
 -- Of use inside the crate: what its public calls answer is said without these.
 use Rattle.std.specs.Prelude.{◌≡◌, ◌++◌, ◌∷◌, [], ℕ, List, Option, None}
 use Rattle.devices.specs.Send.{Send, failures_of}
-use Rattle.fade_core.specs.declared.fader.Fader.{Ghosts}
 use Rattle.fade_core.specs.Level.{Start}
 use Rattle.desk_core.specs.Played.{Act}
 use Rattle.desk_core.specs.declared.command.Command.TheVariants.{Go, Back, Goto, GotoIn}
@@ -50,16 +49,16 @@ pub record CarriesOut (p : Production) (history : List Act) (line : List ℕ) (b
 
 -- a night on its way stands for what happened to its input: its console has carried out the lines
 -- that the input gave
-pub record StandsFor {F : Type 0} {G : Ghosts F} (fader_stands_for : F → List Start → Type 0)
-    (p : Production) (night : Night F G) (happened : List Happening) : Type 0 where
+pub record StandsFor {F : Type 0} (fader_stands_for : F → List Start → Type 0)
+    (p : Production) (night : Night F) (happened : List Happening) : Type 0 where
   pub console_stands : console.StandsFor fader_stands_for p night.console
       (history_of p.show (lines_given (answers happened)))
   pub input_stands : live.StandsFor night.input happened
 
 -- a night has gone on: it stands for what happened since, behind what happened before; and where
 -- its devices tell, it has lived through all of that
-pub record GoesOn {F : Type 0} {G : Ghosts F} (fader_stands_for : F → List Start → Type 0)
-    (tell : Type 0) (old new : Night F G) (before after : Seen) : Type 0 where
+pub record GoesOn {F : Type 0} (fader_stands_for : F → List Start → Type 0)
+    (tell : Type 0) (old new : Night F) (before after : Seen) : Type 0 where
   pub since : List Happening
   pub stands : (p : Production) (happened : List Happening)
       → StandsFor fader_stands_for p old happened

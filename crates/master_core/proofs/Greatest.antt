@@ -25,11 +25,6 @@ module _ {A : Type 0} (level : A → ℕ) (xs : List A) (i : ℕ) (x : A) (lt : 
       ∙ greatest_more (map level (take i xs)) (level (get_or xs i x))
       ∙ ap (λ y. max (greatest (map level (take i xs))) (level y)) (sym is)
 
-  -- a record that makes 0 adds nothing
-  pub greatest_dark : level x ≡ 0
-      → greatest (map level (take (i + 1) xs)) ≡ greatest (map level (take i xs))
-  greatest_dark dark = omega (arith, greatest_next, dark)
-
 -- masters that agree at the records make the same
 greatest_same : {V : Type 0} (byte : V → ℕ) (master other : ℕ → ℕ) (es : List (ℕ × V))
     → All (λ e. master e.0 ≡ other e.0) es

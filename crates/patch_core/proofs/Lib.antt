@@ -2,4 +2,5 @@ pub mod Frames
 pub mod Indexed
 pub mod Redrawn
 pub mod Sourced
+pub mod Vectors
 mod Rows

@@ -1,5 +1,6 @@
 ghost use Rattle.std.specs.Prelude.{◌≡◌, ◌+◌, ◌==◌, ◌<◌, ◌≤◌, ℕ, Bool, true, not, List, [], ◌++◌};
 ghost use Rattle.std.specs.Prelude.{length, All, count_by, IsTrue, IsOk, IfOk, OnOk, OnErr};
+ghost use Rattle.std.specs.Prelude.{if◌then◌else◌};
 ghost use Rattle.std.specs.Ordering.{nat_cmp};
 ghost use Rattle.std.specs.FinMap as map;
 ghost use Rattle.show_core.specs.Many.{with_entries, IsTableOf};
@@ -177,6 +178,13 @@ fn fill<V: Kept>(table: &mut [Option<V>], entries: &[(u16, V)])
     }
 }
 
+// What a table has at a key with this value: none, where the value does not stay.
+fn table_value<V: Kept>(value: V) -> Option<V>
+    ensures { result ≡ if V.stays value then Some value else None }
+{
+    value.stays().then_some(value)
+}
+
 // Writes the new ones over what the table has, one after the other.
 fn overwrite<V: Kept>(table: &mut [Option<V>], new: &[(u16, V)])
     requires { All (λ e. e.0 < length table.old) new.now }
@@ -184,8 +192,7 @@ fn overwrite<V: Kept>(table: &mut [Option<V>], new: &[(u16, V)])
         → IsTableOf table.new (with_entries V.stays entries new.now) }
 {
     for entry in new {
-        let stays = entry.1.stays();
-        table[usize::from(entry.0)] = if stays { Some(entry.1) } else { None };
+        table[usize::from(entry.0)] = table_value(entry.1);
     }
 }
 

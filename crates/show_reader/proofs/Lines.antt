@@ -139,13 +139,14 @@ module _ (lines : List Words) (l : Words) (r : Reader) (h : Reads lines r) where
   pub line_read : (d : Draft) → IsSound s → refused_by (meant r.draft) s ≡ None → IsDraft d
       → meant d ≡ applied s (meant r.draft)
       → (IsSettled r.draft → grows s ≡ false → IsSettled d)
+      → (skipped : ℕ) → skipped ≡ r.skipped + cond (is_skipped s) 1 0
       → Reads (l ∷ lines) (record {
         draft = d;
         owner = cond (owns l) (record_opened s) r.owner;
         lines = r.lines + 1;
-        skipped = r.skipped + cond (is_skipped s) 1 0;
+        skipped = skipped;
       })
-  line_read d sound fine drafted ok settled =
+  line_read d sound fine drafted ok settled skipped counted =
       let ss = said_by lines in
       record {
         shows = rw ok (step ss s (meant r.draft) owner_here h.shows);
@@ -157,7 +158,8 @@ module _ (lines : List Words) (l : Words) (r : Reader) (h : Reads lines r) where
         owner = rw h.owner refl;
         count = rw ok (count_step ss s (meant r.draft) h.shows h.count);
         number = omega (arith, h.number);
-        skipped = omega (arith, h.skipped, sum_by-cons (λ t. cond (is_skipped t) 1 0) s ss);
+        skipped = omega
+            (arith, counted, h.skipped, sum_by-cons (λ t. cond (is_skipped t) 1 0) s ss);
       }
 
   -- why reading ends at it
@@ -178,8 +180,8 @@ pub quiet_line : (lines : List Words) (l : Words) (r : Reader) (n : ℕ) → Rea
     → n ≡ r.lines + 1 → None ≡ reading_of desk_limits r.owner l
     → Reads (l ∷ lines) (record r { lines = n })
 quiet_line lines [] r n h next none =
-    rw (next, sym (add-zero r.skipped)) (line_read lines [] r h r.draft tt refl h.drafted refl
-    (λ settled none. settled))
+    rw next (line_read lines [] r h r.draft tt refl h.drafted refl (λ settled none. settled)
+    r.skipped (sym (add-zero r.skipped)))
 quiet_line lines (w ∷ words) r n h next none = absurd (none-some _ none)
 
 -- ---- a whole text

@@ -110,9 +110,7 @@ impl Reader {
         }
         self.owner = owner;
         self.lines = number;
-        if skipped {
-            self.skipped += 1;
-        }
+        self.skipped += u32::from(skipped);
         Ok(keyword.is_end())
     }
 }

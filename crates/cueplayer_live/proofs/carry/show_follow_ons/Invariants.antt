@@ -6,8 +6,8 @@ use Rattle.cueplayer_live.specs.Stands.{Shows}
 use Rattle.cueplayer_live.proofs.carry.show_follow_ons.Given as goal
 
 -- these moves were shown, and stand in front of those before
-abbrev pub invariant-loop : goal.invariant-loop
-invariant-loop g l =
+abbrev pub invariant-loop-cue : goal.invariant-loop-cue
+invariant-loop-cue g l =
     let B = g.B.Booth in
     record {
       newer : List Move;
@@ -19,5 +19,5 @@ invariant-loop g l =
       shows : B.tells l.booth → Shows (B.state l.fn.booth) (B.state l.booth) (cue_lines newer);
     }
 
-abbrev pub decreases-loop : goal.decreases-loop
-decreases-loop g l = cues_above l.show.cues l.place.current
+abbrev pub decreases-loop-cue : goal.decreases-loop-cue
+decreases-loop-cue g l = cues_above l.show.cues l.place.current

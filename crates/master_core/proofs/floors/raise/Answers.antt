@@ -35,7 +35,7 @@ loop-number-preserved c =
           let next = greatest_next (level place) c.args.records.now c.loop-number.number-index
           item c.loop-number-test.true c.loop-number-item.is in
           let before = c.loop-number.invariant.raised place (omega arith) in
-          grind (arith, common_steps, byte, next, before);
+          grind (arith, byte, next, before);
       full = grind (arith, common_steps, c.loop-number.invariant.full);
     }
 

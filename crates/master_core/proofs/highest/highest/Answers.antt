@@ -1,5 +1,4 @@
 use Rattle.std.proofs.Common.{ℕ, ◌*◌, get_or, arith}
-use Rattle.std.proofs.lemmas.Grind.{common_steps}
 use Rattle.show_core.specs.Readers.{level_in}
 use Rattle.show_core.specs.Tables.{LevelMap}
 use Rattle.master_core.proofs.Greatest.{greatest_next}
@@ -12,6 +11,6 @@ loop-number-preserved c =
     let next = greatest_next level c.args.records.now c.loop-number.number-index
     c.loop-number-item.result c.loop-number-test.true c.loop-number-item.is in
     record {
-      so_far = grind (arith, common_steps, next);
+      so_far = grind (arith, next);
       full = grind arith;
     }

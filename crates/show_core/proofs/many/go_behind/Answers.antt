@@ -12,7 +12,7 @@ loop-entry-preserved g c =
     let lt = c.loop-entry-test.true in
     let least = c.loop-entry.least in
     let from : least ≤ p.0 = omega arith in
-    let says : stays p.1 ≡ true = grind arith in
+    let says : stays p.1 ≡ true = cc in
     let below = c.loop-entry.invariant.below in
     record {
       so_far = behind_more stays es ps i least p lt c.entry-item.is from below says

@@ -1,4 +1,4 @@
-use Rattle.std.proofs.Common.{◌≡◌, ◌<◌, length, arith, take, Some, None, cond}
+use Rattle.std.proofs.Common.{◌<◌, length, arith, take, Some, None, cond}
 use Rattle.std.proofs.lemmas.List.{take_all}
 use Rattle.show_core.specs.Many.{with_entries}
 use Rattle.show_core.proofs.Entries.{table_set, read_of, find_with_entry, with_entries-more}
@@ -14,9 +14,8 @@ loop-entry-preserved g c = λ es holds.
     let here =
     read_of (λ e. e.0 < length c.args.table.now) ps i p c.requires lt c.entry-item.is in
     let fits : p.0 < length c.loop-entry.table = omega (arith, here, c.loop-entry.auto.table) in
-    let written : c.if-stays.table ≡ cond (stays p.1) (Some p.1) None = grind arith in
     let before = with_entries stays es (take i ps) in
-    rw (c.from.ensures, written, with_entries-more stays es ps i p lt c.entry-item.is)
+    rw (c.from.ensures, c.table_value.ensures, with_entries-more stays es ps i p lt c.entry-item.is)
     (table_set c.loop-entry.table before _ p.0 (cond (stays p.1) (Some p.1) None)
     (c.loop-entry.invariant es holds) fits (find_with_entry stays before p))
 

@@ -50,4 +50,4 @@ pub returns-else-take_offer-clause-offered : goal.returns-else-take_offer-clause
 returns-else-take_offer-clause-offered g c = rw (← c.self.view_is) (λ who offers s tells.
     let o : Offer = record { moment = c.args.moment; frame = c.args.slots.now } in
     rw (due_as who _ offers o _ s c.replace_slots-differs.ensures.differs _ false
-    c.take_offer.ensures.due c.if-take_offer.false) (refl, refl))
+    c.take_offer.ensures.due c.if-take_offer.false) (refl, assumption))
