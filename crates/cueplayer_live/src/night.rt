@@ -46,7 +46,9 @@ impl<F: Fader> Night<F> {
                 let lost = carry_out(&mut self.console, &given, booth, link);
                 self.lost = self.lost.saturating_add(lost as u64);
             }
-            Given::Refused(text) => booth.refuse(text.as_slice()),
+            Given::Refused(text, _why) => booth.refuse(text.as_slice()),
+            Given::Where(_moment) => {}
+            Given::Help => {}
             Given::Until(due) => {
                 let mut block = [0; 4096];
                 match booth.wait(moment, due, &mut block)? {
