@@ -24,7 +24,7 @@ SHOW = text(
     "UP 2 1",
     "DOWN 1",
     "CHAN 1@FL",
-    "CUE 2 ! two <b>",
+    "CUE 2 ! two <b>s",
     "CHAN 1@20",
     "SUB 1 ! all",
     "CHAN 1@FL",

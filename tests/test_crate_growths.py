@@ -66,6 +66,7 @@ TESTED = {
 # Public calls whose growths are refused in the program alone, and the test that refuses them.
 IN_THE_PROGRAM = {
     "first_bytes": "test_refused_growths.RefusedGrowths.test_check",
+    "open": "test_refused_growths.RefusedGrowths.test_play",
     "read_words": "test_refused_growths.RefusedGrowths.test_words",
 }
 # Calls that take no memory once something is open: tests of them that ask for as much as one that only

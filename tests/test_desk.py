@@ -38,7 +38,7 @@ class Playback(DeskTest):
         _, page = self.opened()
         kinds = ("number", "name", "up", "down")
         cues = [tuple(cue[kind] for kind in kinds) for cue in page.newest["show"]["cues"]]
-        expected = [("1", "one", 0, 0), ("1.5", "half past", 3000, 1000), ("2", "two <b>", 0, 0)]
+        expected = [("1", "one", 0, 0), ("1.5", "half past", 3000, 1000), ("2", "two <b>s", 0, 0)]
         self.assertEqual(expected, cues)
         faders = [{"line": "sub 1", "name": "all"}, {"line": "group 3", "name": ""}]
         self.assertEqual(faders, page.newest["show"]["faders"])
@@ -407,8 +407,9 @@ class Replies(FolderTest):
         stub = self.file("stub", script.encode())
         stub.chmod(0o755)
         told = []
+        show = read_show("-", SHOW)
         with mock.patch.dict(os.environ, CUEPLAYER=str(stub)):
-            night = Night(read_show("-", SHOW), [], told.append, told.append)
+            night = Night(show, [], told.append, told.append)
         night.give("go")
         wait_for(lambda: night.state.position.current == 1000, "the first cue")
         night.give("go")

@@ -58,7 +58,7 @@ class DeskPage(DeskTest):
         page.press("Enter", "Enter", "\r")
         state.wait(current="2")
         self.wait_for_level(51)
-        page.wait("document.title === '2 two <b>'")
+        page.wait("document.title === '2 two <b>s'")
         self.assertNoFaults()
 
     def test_evening(self):
@@ -92,7 +92,7 @@ class DeskPage(DeskTest):
         _, page, state = self.shown_page()
         page.click("document.querySelectorAll('#cues button')[2]")
         state.wait(current="2")
-        page.wait("document.querySelector('[aria-current]')?.innerText.includes('two <b>')")
+        page.wait("document.querySelector('[aria-current]')?.innerText.includes('two <b>s')")
         page.value("document.querySelectorAll('#cues button')[0].focus()")
         page.press("ArrowDown")
         page.press("Enter", "Enter", "\r")
@@ -211,7 +211,7 @@ class DeskPage(DeskTest):
             self.assertLess(time.monotonic() - pressed, 2)
         more[0].press(" ", "Space", " ")
         others[0].close()
-        wait_for(lambda: any(page.text("current") == "2 two <b>" for page in more), "its place")
+        wait_for(lambda: any(page.text("current") == "2 two <b>s" for page in more), "its place")
         self.assertEqual([], state.notices())
         self.assertNoFaults()
 

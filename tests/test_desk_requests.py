@@ -182,7 +182,7 @@ class Late(DeskTest):
         os.kill(desk.process.pid, signal.SIGSTOP)
         with socket.create_connection((host, int(port)), timeout=10) as connection:
             connection.sendall(head.encode())
-            time.sleep(1.2)
+            time.sleep(2)
             os.kill(desk.process.pid, signal.SIGCONT)
             self.assertIn(b" 409 ", connection.recv(4096))
         page.command("sub 1 FL")
