@@ -188,10 +188,10 @@ class Pictures(PictureTest):
 
     def test_names_are_text(self):
         """What a show is called by is never markup."""
-        file = self.file("show.asc", text('CUE 1 ! <b>&"', "CHAN 1@FL", "PATCH 1 1<1@FL"))
+        file = self.file("show.asc", text('CUE 1 ! a <b>&" sign', "CHAN 1@FL", "PATCH 1 1<1@FL"))
         kept = self.file("night.play", b"0 go\n0 tick\n25 tick\n")
         _, texts = self.drawn("night", file, kept, "--title", "</svg>")
-        self.assertIn('1 <b>&"', texts)
+        self.assertIn('1 a <b>&" sign', texts)
         self.assertIn("</svg>", texts)
 
     def test_part_of_a_night(self):
