@@ -28,6 +28,8 @@ def without_moments(printed):
 
 class LiveTest(ReceiverTest):
     SHOW = S1
+    PROGRAM = PROGRAM
+    env: dict[str, str] | None = None
 
     def words(self, *options, cid=CID, to=None, holds=False):
         """A night that ends with its input, unless it is to hold the light."""
@@ -37,7 +39,8 @@ class LiveTest(ReceiverTest):
     def begun(self, *options, stdin=subprocess.PIPE, preexec_fn=None, **kept):
         """A night that has begun."""
         night = subprocess.Popen(
-            [PROGRAM, *self.words(*options, **kept)],
+            [self.PROGRAM, *self.words(*options, **kept)],
+            env=self.env,
             stdin=stdin,
             stdout=subprocess.PIPE,
             stderr=subprocess.PIPE,

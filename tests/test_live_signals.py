@@ -2,7 +2,6 @@
 
 import os
 import signal
-import subprocess
 import time
 
 from program import PROGRAM, TOP
@@ -20,19 +19,14 @@ def take_terminal():
 
 
 class Signals(LiveTest):
-    def night(self, stdin=subprocess.PIPE, preexec_fn=None):
-        night = subprocess.Popen(
-            [TOP / "cueplayer", *self.words(holds=True)],
-            env=os.environ | {"CUEPLAYER": str(PROGRAM)},
-            stdin=stdin,
-            stdout=subprocess.PIPE,
-            stderr=subprocess.PIPE,
-            bufsize=0,
-            preexec_fn=preexec_fn,
-        )
-        self.addCleanup(night.wait)
-        self.addCleanup(night.kill)
-        return night
+    PROGRAM = TOP / "cueplayer"
+
+    def setUp(self):
+        super().setUp()
+        self.env = os.environ | {"CUEPLAYER": str(PROGRAM)}
+
+    def night(self, **options):
+        return self.begun(holds=True, **options)
 
     def lit(self):
         """The level of slot 1 in the packets of a second that begins now."""
