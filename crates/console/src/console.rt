@@ -6,7 +6,8 @@ ghost use Rattle.patch_core.specs.Frame.{is_base};
 ghost use Rattle.patch_core.specs.declared.fault.RigFault.TheVariants.{Universe};
 ghost use Rattle.playback_core.specs.Placed.{IsAt};
 ghost use Rattle.playback_core.specs.Played.{current_after};
-ghost use Rattle.desk_core.specs.Played.{Act, ended, moves, outcome, refusal, ticked};
+ghost use Rattle.master_core.specs.Settings as masters_stand;
+ghost use Rattle.desk_core.specs.Played.{Act, ended, moves, outcome, refusal, settings, ticked};
 ghost use Rattle.console.specs.ConsoleState.{ConsoleState};
 ghost use Rattle.console.specs.Offering.{Offers as OffersTo};
 ghost use Rattle.console.specs.Stands.{StandsFor};
@@ -16,6 +17,7 @@ use crate::offers::Offers;
 use crate::tick::offer_all;
 use desk_core::{Command, Desk, Refused, Ticked};
 use fade_core::Fader;
+use master_core::Masters;
 use patch_core::RigFault;
 use playback_core::Place;
 use sacn_source::{Identity, Link, Sender};
@@ -142,6 +144,15 @@ impl<F: Fader> Console<F> {
             (is_some (ended history)) }
     {
         self.desk.place()
+    }
+
+    /// The masters, as the commands so far set them.
+    pub fn masters(&self) -> &Masters
+        ensures { (production : Production) (history : List Act)
+            → StandsFor F.stands_for production self.now history
+            → masters_stand.StandsFor result.now (settings history) }
+    {
+        self.desk.masters()
     }
 
     /// The show that is played.

@@ -403,6 +403,15 @@ impl<F: Fader> Desk<F> {
         self.playback.place()
     }
 
+    /// The masters, as the commands so far set them.
+    pub fn masters(&self) -> &Masters
+        ensures { (show : Tables) (base : ℕ) (history : List Act)
+            → StandsFor F.stands_for show base self.now history
+            → masters_stand.StandsFor result.now (settings history) }
+    {
+        &self.masters
+    }
+
     /// The show that is played.
     pub fn show(&self) -> &Show
         ensures { result.now ≡ self.now.show }

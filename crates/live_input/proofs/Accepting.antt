@@ -16,7 +16,8 @@ use Rattle.live_input.specs.declared.progress.Stage.TheVariants.{On, Dark, Ended
 use Rattle.live_input.specs.Laws.{IsDim, accepted, since_end, taken}
 use Rattle.live_input.specs.Night.{Answer, Happening, answer_to, answers, asked, due, is_dark}
 use Rattle.live_input.specs.Night.{close, dim, is_on, is_through, now, order, stage, stage_by, tick}
-use Rattle.live_input.proofs.Cases.{Keeps, Next, answer_is_next, clock_below, is_end, through}
+use Rattle.live_input.proofs.Asked.{is_end}
+use Rattle.live_input.proofs.Cases.{Keeps, Next, answer_is_next, clock_below, through}
 use Rattle.live_input.proofs.Cases.{closes, darkens, dims, leaves, takes, ticks}
 use Rattle.live_input.proofs.Nights.{on_only}
 
@@ -136,16 +137,16 @@ close_by show h n typed below none s le a =
     })
 
 agrees_by : (show : Tables) → Keeps (λ given n. Agrees (accepted show given) given n)
-agrees_by show h n _ (takes line left is on room fit c spelled other) le below a =
+agrees_by show h n _ (takes line left is on fit c spelled other) le below a =
     rw spelled (order_by show h n line c on other le a)
 agrees_by show h n _ (darkens line left is on) le below a = dim_by show h n _ below on le a
 agrees_by show h n _ (dims on owed) le below a = dim_by show h n _ below on le a
-agrees_by show h n _ (leaves line left is on room) le below a =
+agrees_by show h n _ (leaves line left is on) le below a =
     close_by show h n _ below (on_none _ on) (rw (on_only _ on) refl) le a
 agrees_by show h n _ (closes dark) le below a =
     let s = (dark_only (stage (answers h)) dark).1 in
     close_by show h n _ below (rw s refl) (rw s refl) le a
-agrees_by show h n _ (ticks on light room late) le below a =
+agrees_by show h n _ (ticks on light late) le below a =
     let timely : IsTimely (accepted show (answers h)) (due (answers h)) n =
     (omega (arith, a.moment), a.past) in
     rw (tick_accepted show _ (due (answers h)) n (stage (answers h)) below timely a.since on late)
@@ -179,7 +180,7 @@ ends_dark show h = (agrees show h).dark
 tick_only : (show : Tables) (h : List Happening) (m n : ℕ) → Next h m (tick n) → m < 2 ^ 48
     → now h ≤ m → Agrees (accepted show (answers h)) (answers h) (now h)
     → refusal show (accepted show (answers h)) (act n desk.tick) ≡ None
-tick_only show h m _ (ticks on light room late) below le a =
+tick_only show h m _ (ticks on light late) below le a =
     tick_accepted show (accepted show (answers h)) (due (answers h)) m (stage (answers h)) below
     (omega (arith, a.moment), a.past) a.since on late
 

@@ -1,106 +1,84 @@
 -- The answers that there are, and what holds through a night.
 use Rattle.std.proofs.Common.{◌≡◌, ◌≤◌, ◌<◌, ◌^◌, ℕ, Bool, true, false, refl, arith, List, [], ◌∷◌}
 use Rattle.std.proofs.Common.{length, Option, Some, None}
-use Rattle.std.specs.Prelude.{◌&&◌, ◌||◌, nat_le, not, unwrap_or}
-use Rattle.std.proofs.lemmas.Bool.{and_parts, cond_both, leb-true, not-true}
+use Rattle.std.specs.Prelude.{◌&&◌, nat_le, unwrap_or}
+use Rattle.std.proofs.lemmas.Bool.{and_parts, cond_both, leb-true}
 use Rattle.ascii_text.specs.Text.{words_of}
 use Rattle.desk_core.specs.declared.command.Command.{Command}
-use Rattle.desk_core.specs.declared.command.Command.TheVariants.{End}
 use Rattle.console_text.specs.Spelling.{command_of}
 use Rattle.live_input.specs.Night.{Answer, Happening, answer_to, answers, asked, at_moment}
-use Rattle.live_input.specs.Night.{before_lines, due, ends_with_input, goes_first, has_room}
-use Rattle.live_input.specs.Night.{is_dark, is_full, is_leave, is_on, is_over, lines_left, now}
-use Rattle.live_input.specs.Night.{stage, to_command, to_line, to_lines, was_tick}
-use Rattle.live_input.specs.Night.{order, dim, close, tick, refusal, wait, over}
-
-abbrev pub is_end : Command → Bool
-is_end End = true
-is_end _ = false
+use Rattle.live_input.specs.Laws.{IsOn}
+use Rattle.live_input.specs.Night.{before_lines, due, ends_with_input, goes_first}
+use Rattle.live_input.specs.Night.{is_dark, is_on, is_over, lines_left, now}
+use Rattle.live_input.specs.Night.{stage, to_lines, to_request}
+use Rattle.live_input.specs.Night.{order, dim, close, tick, place, help, refusal, wait, over}
+use Rattle.live_input.specs.declared.reason.Reason.{Reason}
+use Rattle.live_input.specs.declared.request.Request.{Request}
+use Rattle.live_input.specs.declared.request.Request.TheVariants.{Nothing, Where, Help, Leave}
+use Rattle.live_input.specs.declared.request.Request.TheVariants.{Finish, Order}
+use Rattle.live_input.specs.Keys.{without_keys}
+use Rattle.live_input.proofs.Asked.{Meets, is_end, request_meets}
 
 -- each answer at a moment after these happenings, and when it comes
 pub data Next (h : List Happening) (n : ℕ) : Answer → Type 0 where
   nothing : is_over (answers h) ≡ true → Next h n over
   takes : (line : List ℕ) (later : List (List ℕ)) → lines_left (answers h) h ≡ line ∷ later
-      → is_on (stage (answers h)) ≡ true → has_room (answers h) ≡ true
-      → length (at_moment n line) ≤ 200
-      → (command : Command) → command_of (words_of line) ≡ Some command → is_end command ≡ false
-      → Next h n (order n line)
+      → is_on (stage (answers h)) ≡ true → length (at_moment n line) ≤ 200
+      → (command : Command) → command_of (words_of (without_keys line)) ≡ Some command
+      → is_end command ≡ false → Next h n (order n line)
   darkens : (line : List ℕ) (later : List (List ℕ)) → lines_left (answers h) h ≡ line ∷ later
       → is_on (stage (answers h)) ≡ true → Next h n (dim n (Some line))
   leaves : (line : List ℕ) (later : List (List ℕ)) → lines_left (answers h) h ≡ line ∷ later
-      → is_on (stage (answers h)) ≡ true → has_room (answers h) ≡ true
-      → Next h n (close n (Some line))
-  refuses : (line : List ℕ) (later : List (List ℕ)) → lines_left (answers h) h ≡ line ∷ later
-      → is_full (answers h) ≡ false → Next h n (refusal line)
-  dims : is_on (stage (answers h)) ≡ true
-      → (ends_with_input h || not (has_room (answers h))) ≡ true → Next h n (dim n None)
+      → is_on (stage (answers h)) ≡ true → Next h n (close n (Some line))
+  places : (line : List ℕ) (later : List (List ℕ)) → lines_left (answers h) h ≡ line ∷ later
+      → IsOn (answers h) → Next h n (place n line)
+  helps : (line : List ℕ) (later : List (List ℕ)) → lines_left (answers h) h ≡ line ∷ later
+      → IsOn (answers h) → Next h n (help line)
+  refuses : (why : Reason) (line : List ℕ) (later : List (List ℕ))
+      → lines_left (answers h) h ≡ line ∷ later → IsOn (answers h) → Next h n (refusal why line)
+  dims : is_on (stage (answers h)) ≡ true → ends_with_input h ≡ true → Next h n (dim n None)
   closes : is_dark (stage (answers h)) ≡ true → Next h n (close n None)
   ticks : is_over (answers h) ≡ false → is_dark (stage (answers h)) ≡ false
-      → (is_full (answers h) ≡ true → was_tick (answers h) ≡ false) → due (answers h) ≤ n
-      → Next h n (tick n)
-  waits : lines_left (answers h) h ≡ [] → is_full (answers h) ≡ false
-      → Next h n (wait (due (answers h)))
+      → due (answers h) ≤ n → Next h n (tick n)
+  waits : lines_left (answers h) h ≡ [] → IsOn (answers h) → Next h n (wait (due (answers h)))
 
--- the night goes on, is not to be closed now, and lines have room where they are taken
-record IsFree (h : List Happening) : Type 0 where
-  on : is_over (answers h) ≡ false
-  light : is_dark (stage (answers h)) ≡ false
-  room : is_full (answers h) ≡ false
+request_is : (h : List Happening) (n : ℕ) (line : List ℕ) (later : List (List ℕ))
+    → IsOn (answers h) → lines_left (answers h) h ≡ line ∷ later → (request : Request)
+    → Meets (is_on (stage (answers h))) n line request → Next h n (to_request n line request)
+request_is h n line later free left (Nothing why) m = refuses why line later left free
+request_is h n line later free left Where m = places line later left free
+request_is h n line later free left Help m = helps line later left free
+request_is h n line later free left Leave m = leaves line later left m
+request_is h n line later free left Finish m = darkens line later left m
+request_is h n line later free left (Order c) m = takes line later left m.0 m.1 c m.2 m.3
 
-has_room_on : (on room : Bool) → on ≡ true → (on && not room) ≡ false → room ≡ true
-has_room_on on room is full = grind (arith, is, full)
-
-command_is : (h : List Happening) (n : ℕ) (line : List ℕ) (later : List (List ℕ))
-    → lines_left (answers h) h ≡ line ∷ later → is_on (stage (answers h)) ≡ true
-    → IsFree h → length (at_moment n line) ≤ 200 → (spelled : Option Command)
-    → command_of (words_of line) ≡ spelled → Next h n (to_command n line spelled)
-command_is h n line later left on free fit None is = refuses line later left free.room
-command_is h n line later left on free fit (Some End) is = darkens line later left on
-command_is h n line later left on free fit (Some c) is =
-    takes line later left on (has_room_on _ _ on free.room) fit c is refl
-
-line_is : (h : List Happening) (n : ℕ) (line : List ℕ) (later : List (List ℕ)) → IsFree h
-    → lines_left (answers h) h ≡ line ∷ later → Next h n (to_line (answers h) n line)
-line_is h n line later free left =
-    cond_both (is_on (stage (answers h)) && nat_le (length (at_moment n line)) 200) _ _ (Next h n)
-    (λ fit. let parts = and_parts _ _ fit in cond_both (is_leave (words_of line)) _ _ (Next h n)
-    (λ leave. leaves line later left parts.0 (has_room_on _ _ parts.0 free.room))
-    (λ other. command_is h n line later left parts.0 free (leb-true _ 200 parts.1) _ refl))
-    (λ unfit. refuses line later left free.room)
-
-lines_are : (h : List Happening) (n : ℕ) → IsFree h → (left : List (List ℕ))
+lines_are : (h : List Happening) (n : ℕ) → IsOn (answers h) → (left : List (List ℕ))
     → lines_left (answers h) h ≡ left → Next h n (to_lines left (answers h) (ends_with_input h) n)
-lines_are h n free [] is =
+lines_are h n on [] is =
     cond_both (is_on (stage (answers h)) && ends_with_input h) _ _ (Next h n)
-    (λ owed. let parts = and_parts _ _ owed in dims parts.0 (rw parts.1 refl))
+    (λ owed. let parts = and_parts _ _ owed in dims parts.0 parts.1)
     (λ none. cond_both (nat_le (due (answers h)) n) _ _ (Next h n)
-    (λ late. ticks free.on free.light (λ full. let none = free.room in cc) (leb-true _ n late))
-    (λ early. waits is free.room))
-lines_are h n free (line ∷ later) is = line_is h n line later free is
-
-full_dims : (ends room : Bool) → not room ≡ true → (ends || not room) ≡ true
-full_dims ends room none = grind (arith, none)
+    (λ late. ticks on.0 on.1 (leb-true _ n late)) (λ early. waits is on))
+lines_are h n on (line ∷ later) is = request_is h n line later on is _
+    (request_meets (is_on (stage (answers h))) n line)
 
 -- what comes before any line, or else the rest
 first_is : (h : List Happening) (n : ℕ) → is_over (answers h) ≡ false → (rest : Answer)
-    → (IsFree h → Next h n rest) → Next h n (unwrap_or (before_lines (answers h) n) rest)
+    → (IsOn (answers h) → Next h n rest)
+    → Next h n (unwrap_or (before_lines (answers h) n) rest)
 first_is h n on rest later =
     cond_both (is_dark (stage (answers h))) _ _ (λ b. Next h n (unwrap_or b rest))
     (λ dark. closes dark)
     (λ light. cond_both (goes_first (answers h) n) _ _ (λ b. Next h n (unwrap_or b rest))
-    (λ first. let parts = and_parts _ _ first in
-    ticks on light (λ full. not-true _ parts.1) (leb-true _ n parts.0))
-    (λ none. cond_both (is_full (answers h)) _ _ (λ b. Next h n (unwrap_or b rest))
-    (λ full. let parts = and_parts _ _ full in
-    dims parts.0 (full_dims (ends_with_input h) (has_room (answers h)) parts.1))
-    (λ room. later (record { on = on; light = light; room = room }))))
+    (λ first. ticks on light (leb-true _ n (and_parts _ _ first).0))
+    (λ none. later (on, light)))
 
 pub answer_is_next : (h : List Happening) (moment : ℕ)
     → Next h (now (asked moment ∷ h)) (answer_to h moment)
 answer_is_next h moment =
     let n = now (asked moment ∷ h) in
     cond_both (is_over (answers h)) _ _ (Next h n) (λ e. nothing e)
-    (λ on. first_is h n on _ (λ free. lines_are h n free (lines_left (answers h) h) refl))
+    (λ on. first_is h n on _ (λ is. lines_are h n is (lines_left (answers h) h) refl))
 
 pub clock_below : (h : List Happening) → now h < 2 ^ 48
 clock_below [] = omega arith

@@ -8,6 +8,7 @@ use Rattle.live_input.specs.declared.progress.Stage.TheVariants.{On, Dark, Ended
 use Rattle.live_input.specs.Laws.{IsEnding, was_left, words_given}
 use Rattle.live_input.specs.Night.{Happening, answers, close, dim, is_dark, is_on, is_through}
 use Rattle.live_input.specs.Night.{stage, stage_by, tick}
+use Rattle.live_input.specs.Keys.{without_keys}
 use Rattle.live_input.proofs.Cases.{Keeps, closes, darkens, dims, leaves, takes, through, ticks}
 
 -- before `end` nobody left
@@ -66,15 +67,15 @@ one_order On left line given on e = (tt, e.1)
 one_order s left line given on e = cc
 
 ending_by : Keeps (λ given n. Ends (stage given) (was_left given) (words_given given))
-ending_by h n _ (takes line later is on _ _ _ _ _) le below e =
-    one_order (stage (answers h)) _ line _ on e
+ending_by h n _ (takes line later is on _ _ _ _) le below e =
+    one_order (stage (answers h)) _ (without_keys line) _ on e
 ending_by h n _ (darkens line later is on) le below e =
     one_dim n (Some line) (stage (answers h)) _ _ on e
 ending_by h n _ (dims on owed) le below e = one_dim n None (stage (answers h)) _ _ on e
-ending_by h n _ (leaves line later is on room) le below e =
+ending_by h n _ (leaves line later is on) le below e =
     one_leave n line (stage (answers h)) _ on
 ending_by h n _ (closes dark) le below e = one_close n (stage (answers h)) _ _ dark e
-ending_by h n _ (ticks on light room late) le below e =
+ending_by h n _ (ticks on light late) le below e =
     one_tick n (stage (answers h)) _ _ light on e
 ending_by h n _ _ le below e = e
 

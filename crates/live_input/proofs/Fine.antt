@@ -8,7 +8,6 @@ use Rattle.std.proofs.lemmas.Bool.{cond_both, not-true}
 use Rattle.std.proofs.lemmas.Grind.{elements, moves}
 use Rattle.std.proofs.lemmas.List.Sums.{AllPass-from_list_all}
 use Rattle.std.proofs.lemmas.Fmt.{length-decimal-le}
-use Rattle.std.proofs.lemmas.List.{length-reverse}
 use Rattle.std.proofs.lemmas.List.Elements.{All-append, All-cons, All-drop, All-head, All-nil}
 use Rattle.std.proofs.lemmas.List.Elements.{All-push, All-tail, All-take, All-weaker}
 use Rattle.ascii_text.specs.Text.{lines_of, words_of}
@@ -21,7 +20,8 @@ use Rattle.live_input.specs.Night.{bytes_come, lines_given, lines_left}
 use Rattle.live_input.specs.Typed.{Typed, no_bytes, says_nothing, typed_of, with_byte}
 use Rattle.live_input.proofs.Cases.{Keeps, Next, answer_is_next, clock_below, through}
 use Rattle.live_input.proofs.Cases.{closes, darkens, dims, leaves, takes, ticks}
-use Rattle.live_input.proofs.Nights.{few_lines}
+use Rattle.live_input.specs.Keys.{without_keys}
+use Rattle.live_input.proofs.KeyLemmas.{keys_short, keys_whole}
 use Rattle.live_input.proofs.Spelled.{call_is, no_digit, reading_is}
 
 -- ---- what lines spell
@@ -37,13 +37,13 @@ spells n line below (Some command) e some =
 
 spelled_by : (h : List Happening) (n : ℕ) (answer : Answer) → Next h n answer → n < 2 ^ 48
     → IsSpelled answer
-spelled_by h n _ (takes line later is on room fit c spelled other) below =
-    (spells n line below _ refl (rw spelled refl)).0
+spelled_by h n _ (takes line later is on fit c spelled other) below =
+    (spells n (without_keys line) below _ refl (rw spelled refl)).0
 spelled_by h n _ (darkens line later is on) below = reading_is n (codes "master 0") below
 spelled_by h n _ (dims on owed) below = reading_is n (codes "master 0") below
-spelled_by h n _ (leaves line later is on room) below = reading_is n (codes "end") below
+spelled_by h n _ (leaves line later is on) below = reading_is n (codes "end") below
 spelled_by h n _ (closes dark) below = reading_is n (codes "end") below
-spelled_by h n _ (ticks on light room late) below = reading_is n (codes "tick") below
+spelled_by h n _ (ticks on light late) below = reading_is n (codes "tick") below
 spelled_by h n _ _ below = tt
 
 pub spelled : (h : List Happening) (moment : ℕ) → IsSpelled (answer_to h moment)
@@ -100,19 +100,20 @@ short_good n word below good short whole = one_good n word (rw (reading_is n wor
     (All-weaker _ NotLf (λ b. not-true (b == 10)) word (AllPass-from_list_all _ word whole))
 
 good_by : Keeps (λ given n. All IsGood (lines_given given))
-good_by h n _ (takes line later is on room fit c spelled other) le below g =
-    let good = (spells n line below _ refl (rw spelled refl)).1 in
+good_by h n _ (takes line later is on fit c spelled other) le below g =
+    let good = (spells n (without_keys line) below _ refl (rw spelled refl)).1 in
     let whole = All-head (All NotLf) line later (rw is at (left_no_lf h)) in
-    All-cons IsGood _ _ (one_good n line good fit whole) g
+    All-cons IsGood _ _ (one_good n (without_keys line) good (keys_short n line fit)
+    (keys_whole NotLf line whole)) g
 good_by h n _ (darkens line later is on) le below g =
     All-cons IsGood _ _ (short_good n (codes "master 0") below refl (omega arith) refl) g
 good_by h n _ (dims on owed) le below g =
     All-cons IsGood _ _ (short_good n (codes "master 0") below refl (omega arith) refl) g
-good_by h n _ (leaves line later is on room) le below g =
+good_by h n _ (leaves line later is on) le below g =
     All-cons IsGood _ _ (short_good n (codes "end") below refl (omega arith) refl) g
 good_by h n _ (closes dark) le below g =
     All-cons IsGood _ _ (short_good n (codes "end") below refl (omega arith) refl) g
-good_by h n _ (ticks on light room late) le below g =
+good_by h n _ (ticks on light late) le below g =
     All-cons IsGood _ _ (short_good n (codes "tick") below refl (omega arith) refl) g
 good_by h n _ _ le below g = g
 
@@ -152,5 +153,4 @@ lines_fine h =
       none_malformed = All-weaker IsGood (λ (l : List ℕ). is_malformed (reading_of l) ≡ false)
           (λ l g. g.good) lines good;
       none_long = All-weaker IsGood (λ (l : List ℕ). length l ≤ 200) (λ l g. g.short) lines good;
-      few = omega (arith, length-reverse (lines_given (answers h)), few_lines h);
     })

@@ -1,11 +1,12 @@
 mod Rows
 pub mod Accepting
 pub mod Answering
+pub mod Asked
 pub mod Cases
+pub mod KeyLemmas
 pub mod Ending
 pub mod Nights
 pub mod Fine
-pub mod Replies
 pub mod Spelled
 pub mod TypedLemmas
 pub mod Turns

@@ -1,25 +1,23 @@
 -- What holds through a night.
 use Rattle.std.proofs.Common.{◌≤◌, ℕ, List, [], ◌∷◌, arith, ◌≡◌, suc, ◌+◌, true, false}
 use Rattle.std.proofs.Common.{length, Option, Some, None, ◌↔◌, refl, ◌++◌, drop, append_assoc}
-use Rattle.std.proofs.Common.{append-nil, Bool}
-use Rattle.std.specs.Prelude.{◌&&◌, ◌||◌, not, nat_lt}
+use Rattle.std.proofs.Common.{append-nil}
 use Rattle.std.specs.List.{filter_map}
-use Rattle.std.proofs.lemmas.Bool.{ltb-true}
 use Rattle.std.proofs.lemmas.Bool.Decides.{nat_tests}
 use Rattle.std.proofs.Math.Seq.{drop-append_seam}
 use Rattle.live_input.specs.Laws.{AlwaysRise, LinesFollowTicks, Rise, TicksGoFirst, moment_of}
 use Rattle.live_input.specs.Laws.{tick_of}
 use Rattle.live_input.specs.Night.{Answer, Happening, answers, due, now, close, dim, stage}
 use Rattle.live_input.specs.Night.{stage_by}
-use Rattle.live_input.specs.Night.{ends_with_input, has_room, is_dark, is_on, is_through}
-use Rattle.live_input.specs.Night.{lines_given, tick}
+use Rattle.live_input.specs.Night.{ends_with_input, is_on, is_through}
+use Rattle.live_input.specs.Night.{tick}
 use Rattle.live_input.specs.Night.{answer_to, asked, bytes_come, came, closed, is_over}
 use Rattle.live_input.specs.declared.progress.Stage.{Stage}
 use Rattle.live_input.specs.declared.progress.Stage.TheVariants.{On, Dark, Ended}
 use Rattle.live_input.specs.Night.{goes_first, lines_answered, lines_left, over, wait, was_tick}
 use Rattle.live_input.specs.Typed.{typed_of}
 use Rattle.live_input.proofs.Cases.{Keeps, Next, closes, takes, through, ticks, answer_is_next}
-use Rattle.live_input.proofs.Cases.{nothing, refuses, waits, darkens, dims, leaves}
+use Rattle.live_input.proofs.Cases.{nothing, places, helps, refuses, waits, darkens, dims, leaves}
 use Rattle.live_input.proofs.TypedLemmas.{Adds, grows}
 
 -- ---- the moments of lines and of ticks
@@ -33,12 +31,12 @@ without gap n [] rise = tt
 without gap n (newest ∷ older) rise = rise.1
 
 moment_by : Keeps (λ given n. Rise 0 (n ∷ filter_map moment_of given))
-moment_by h n _ (takes _ _ _ _ _ _ _ _ _) le below rise = (omega arith, later 0 _ n _ le rise)
+moment_by h n _ (takes _ _ _ _ _ _ _ _) le below rise = (omega arith, later 0 _ n _ le rise)
 moment_by h n _ (darkens _ _ _ _) le below rise = (omega arith, later 0 _ n _ le rise)
-moment_by h n _ (leaves _ _ _ _ _) le below rise = (omega arith, later 0 _ n _ le rise)
+moment_by h n _ (leaves _ _ _ _) le below rise = (omega arith, later 0 _ n _ le rise)
 moment_by h n _ (dims _ _) le below rise = (omega arith, later 0 _ n _ le rise)
 moment_by h n _ (closes _) le below rise = (omega arith, later 0 _ n _ le rise)
-moment_by h n _ (ticks _ _ _ _) le below rise = (omega arith, later 0 _ n _ le rise)
+moment_by h n _ (ticks _ _ _) le below rise = (omega arith, later 0 _ n _ le rise)
 moment_by h n _ _ le below rise = later 0 (now h) n (filter_map moment_of (answers h)) le rise
 
 pub moments_rise : AlwaysRise 0 moment_of
@@ -46,104 +44,59 @@ moments_rise h = without 0 (now h) (filter_map moment_of (answers h))
     (through (λ given n. Rise 0 (n ∷ filter_map moment_of given)) tt moment_by h)
 
 tick_by : Keeps (λ given n. Rise 23 (due given ∷ filter_map tick_of given))
-tick_by h n _ (ticks on light room late) le below rise = (omega arith, later 23 _ n _ late rise)
+tick_by h n _ (ticks on light late) le below rise = (omega arith, later 23 _ n _ late rise)
 tick_by h n _ _ le below rise = rise
 
 pub ticks_rise : AlwaysRise 23 tick_of
 ticks_rise h = without 23 (due (answers h)) (filter_map tick_of (answers h))
     (through (λ given n. Rise 23 (due given ∷ filter_map tick_of given)) tt tick_by h)
 
--- ---- how many lines there are, and the ticks of each stage
-
--- the lines that end a night took of the last ten
-abbrev AreFew : ℕ → Bool → Stage → Type 0
-AreFew count ticked On = (count ≤ 9999991) × (ticked ≡ false → count ≤ 9999990)
-AreFew count ticked (Dark k) = (count ≤ 9999992 + k) × (k ≤ 4)
-AreFew count ticked (Ended k) = (count ≤ 9999997 + k) × (k ≤ 3)
+-- ---- the ticks of each stage
 
 pub on_only : (s : Stage) → is_on s ≡ true → s ≡ On
 on_only On on = refl
 on_only s on = cc
 
-one_dim : (count n : ℕ) (typed : Option (List ℕ)) (ticked : Bool) (s : Stage) → is_on s ≡ true
-    → AreFew count ticked s → AreFew (suc count) false (stage_by (dim n typed) s)
-one_dim count n typed ticked On on few = omega (arith, few.0)
-one_dim count n typed ticked s on few = cc
+-- there are at most three behind `end`
+abbrev AtMostThree : Stage → Type 0
+AtMostThree (Ended count) = count ≤ 3
+AtMostThree _ = Unit {0}
 
-one_leave : (count n : ℕ) (typed : Option (List ℕ)) (ticked : Bool) (s : Stage) → is_on s ≡ true
-    → AreFew count ticked s → AreFew (suc count) false (stage_by (close n typed) s)
-one_leave count n typed ticked On on few = omega (arith, few.0)
-one_leave count n typed ticked s on few = cc
+one_tick : (n : ℕ) (s : Stage) → is_through s ≡ false → AtMostThree s
+    → AtMostThree (stage_by (tick n) s)
+one_tick n On on few = tt
+one_tick n (Dark k) on few = tt
+one_tick n (Ended k) on few = grind (arith, nat_tests, on)
 
-one_close : (count n : ℕ) (typed : Option (List ℕ)) (ticked : Bool) (s : Stage)
-    → is_dark s ≡ true → AreFew count ticked s
-    → AreFew (suc count) false (stage_by (close n typed) s)
-one_close count n typed ticked (Dark k) dark few = omega (arith, few)
-one_close count n typed ticked s dark few = cc
+one_end : (n : ℕ) (typed : Option (List ℕ)) (s : Stage) → AtMostThree s
+    → AtMostThree (stage_by (close n typed) s)
+one_end n typed On few = omega arith
+one_end n typed (Dark k) few = omega arith
+one_end n typed (Ended k) few = few
 
-pub by_test : {A : Type 0} (b : Bool) → (b ≡ true → A) → (b ≡ false → A) → A
-by_test true then other = then refl
-by_test false then other = other refl
+one_dim : (n : ℕ) (typed : Option (List ℕ)) (s : Stage) → AtMostThree s
+    → AtMostThree (stage_by (dim n typed) s)
+one_dim n typed On few = tt
+one_dim n typed (Dark k) few = tt
+one_dim n typed (Ended k) few = few
 
--- where no line more has room, the answer before was no tick
-at_most_one : (count : ℕ) (ticked : Bool) → (not (nat_lt count 9999990) ≡ true → ticked ≡ false)
-    → (ticked ≡ false → count ≤ 9999990) → count ≤ 9999990
-at_most_one count ticked room few = by_test (nat_lt count 9999990)
-    (λ below. omega (arith, ltb-true _ _ below)) (λ full. few (room (rw full refl)))
-
-one_tick : (count n : ℕ) (ticked : Bool) (s : Stage) → is_through s ≡ false → is_dark s ≡ false
-    → ((is_on s && not (nat_lt count 9999990)) ≡ true → ticked ≡ false) → AreFew count ticked s
-    → AreFew (suc count) true (stage_by (tick n) s)
-one_tick count n ticked On on light room few =
-    let one = at_most_one count ticked room few.1 in (omega (arith, one), λ none. cc)
-one_tick count n ticked (Dark k) on light room few = grind (arith, nat_tests, light, few)
-one_tick count n ticked (Ended k) on light room few = grind (arith, nat_tests, on, few)
-
-none_ticked : (count : ℕ) (ticked : Bool) (s : Stage)
-    → (is_on s && not (nat_lt count 9999990)) ≡ false → AreFew count ticked s
-    → AreFew count false s
-none_ticked count ticked On room all = (all.0, λ none. grind (arith, nat_tests, room))
-none_ticked count ticked (Dark k) room all = all
-none_ticked count ticked (Ended k) room all = all
-
-counted_by : Keeps (λ given n. AreFew (length (lines_given given)) (was_tick given) (stage given))
-counted_by h n _ (takes line later is on room fit c spelled other) le below few =
-    let all = ltb-true _ _ room in
-    rw (on_only (stage (answers h)) on) (omega (arith, all), λ none. omega (arith, all))
+counted_by : Keeps (λ given n. AtMostThree (stage given))
 counted_by h n _ (darkens line later is on) le below few =
-    one_dim _ n (Some line) _ (stage (answers h)) on few
-counted_by h n _ (leaves line later is on room) le below few =
-    one_leave _ n (Some line) _ (stage (answers h)) on few
-counted_by h n _ (dims on owed) le below few = one_dim _ n None _ (stage (answers h)) on few
-counted_by h n _ (closes dark) le below few = one_close _ n None _ (stage (answers h)) dark few
-counted_by h n _ (ticks on light room late) le below few =
-    one_tick _ n _ (stage (answers h)) on light room few
-counted_by h n _ (nothing ends) le below few = few
-counted_by h n _ (refuses line later is room) le below few =
-    none_ticked _ _ (stage (answers h)) room few
-counted_by h n _ (waits is room) le below few = none_ticked _ _ (stage (answers h)) room few
+    one_dim n (Some line) (stage (answers h)) few
+counted_by h n _ (leaves line later is on) le below few =
+    one_end n (Some line) (stage (answers h)) few
+counted_by h n _ (dims on owed) le below few = one_dim n None (stage (answers h)) few
+counted_by h n _ (closes dark) le below few = one_end n None (stage (answers h)) few
+counted_by h n _ (ticks on light late) le below few = one_tick n (stage (answers h)) on few
+counted_by h n _ _ le below few = few
 
-counted : (h : List Happening)
-    → AreFew (length (lines_given (answers h))) (was_tick (answers h)) (stage (answers h))
-counted = through (λ given n. AreFew (length (lines_given given)) (was_tick given) (stage given))
-    (omega arith, λ none. omega arith) counted_by
-
-at_most : (count : ℕ) (ticked : Bool) (s : Stage) → AreFew count ticked s → count ≤ 10000000
-at_most count ticked On few = omega (arith, few.0)
-at_most count ticked (Dark k) few = omega (arith, few)
-at_most count ticked (Ended k) few = omega (arith, few)
-
--- there is room for all of them
-pub few_lines : (h : List Happening) → length (lines_given (answers h)) ≤ 10000000
-few_lines h = at_most _ _ _ (counted h)
-
-three : (count : ℕ) (ticked : Bool) (s : Stage) → AreFew count ticked s → is_through s ≡ true
-    → s ≡ Ended 3
-three count ticked (Ended k) few through = grind (arith, nat_tests, few, through)
-three count ticked s few through = cc
+three : (s : Stage) → AtMostThree s → is_through s ≡ true → s ≡ Ended 3
+three (Ended k) few through = grind (arith, nat_tests, few, through)
+three s few through = cc
 
 pub just_three : (h : List Happening) → is_over (answers h) ≡ true → stage (answers h) ≡ Ended 3
-just_three h through = three _ _ _ (counted h) through
+just_three h is =
+    three _ (through (λ given n. AtMostThree (stage given)) tt counted_by h) is
 
 -- ---- the order of the lines
 
@@ -164,10 +117,12 @@ one_answered answered all later line b is =
 begins_by : (h : List Happening) (n : ℕ) (answer : Answer) → Next h n answer
     → Adds (lines_answered (answers h)) (lines h)
     → Adds (lines_answered (answer ∷ answers h)) (lines h)
-begins_by h n _ (takes line later is _ _ _ _ _ _) b = one_answered _ (lines h) later line b is
+begins_by h n _ (takes line later is _ _ _ _ _) b = one_answered _ (lines h) later line b is
 begins_by h n _ (darkens line later is _) b = one_answered _ (lines h) later line b is
-begins_by h n _ (leaves line later is _ _) b = one_answered _ (lines h) later line b is
-begins_by h n _ (refuses line later is _) b = one_answered _ (lines h) later line b is
+begins_by h n _ (leaves line later is _) b = one_answered _ (lines h) later line b is
+begins_by h n _ (places line later is _) b = one_answered _ (lines h) later line b is
+begins_by h n _ (helps line later is _) b = one_answered _ (lines h) later line b is
+begins_by h n _ (refuses why line later is _) b = one_answered _ (lines h) later line b is
 begins_by h n _ _ b = b
 
 pub begins : (h : List Happening) → Adds (lines_answered (answers h)) (lines h)
@@ -182,7 +137,7 @@ none_left h is = rw append-nil at (left_is (lines_answered (answers h)) (lines h
 
 waits_only : (h : List Happening) (m n : ℕ) → Next h m (wait n)
     → lines h ≡ lines_answered (answers h)
-waits_only h m _ (waits is room) = none_left h is
+waits_only h m _ (waits is on) = none_left h is
 
 pub waits_last : (h : List Happening) (moment n : ℕ) → answer_to h moment ≡ wait n
     → lines h ≡ lines_answered (answers h)
@@ -193,23 +148,22 @@ late_first : (given : List Answer) (n : ℕ) → was_tick given ≡ false → du
 late_first given n none late = grind (arith, nat_tests, none, late)
 
 pub ticks_first : TicksGoFirst
-ticks_first h moment on light none late = rw (on, light, late_first (answers h) _ none late) refl
+ticks_first h moment on none late = rw (on.0, on.1, late_first (answers h) _ none late) refl
 
 behind_tick : (given : List Answer) (n : ℕ) → was_tick given ≡ true → goes_first given n ≡ false
 behind_tick given n ticked = grind (arith, nat_tests, ticked)
 
 pub lines_follow : LinesFollowTicks
 lines_follow h moment line later on ticked left =
-    rw (on.0, on.1, behind_tick (answers h) (now (asked moment ∷ h)) ticked, on.2, left) refl
+    rw (on.0, on.1, behind_tick (answers h) (now (asked moment ∷ h)) ticked, left) refl
 
 -- ---- the end
 
-dim_only : (h : List Happening) (m n : ℕ) → Next h m (dim n None)
-    → (ends_with_input h || not (has_room (answers h))) ≡ true
+dim_only : (h : List Happening) (m n : ℕ) → Next h m (dim n None) → ends_with_input h ≡ true
 dim_only h m _ (dims on owed) = owed
 
 pub ends_asked : (h : List Happening) (moment n : ℕ) → answer_to h moment ≡ dim n None
-    → (ends_with_input h || not (has_room (answers h))) ≡ true
+    → ends_with_input h ≡ true
 ends_asked h moment n is = dim_only h _ n (rw is at (answer_is_next h moment))
 
 over_only : (h : List Happening) (n : ℕ) → Next h n over → is_over (answers h) ≡ true

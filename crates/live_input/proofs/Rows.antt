@@ -2,7 +2,13 @@
 use Rattle.std.specs.Prelude.{◌≡◌, ◌++◌, true, false, Some, None, refl, codes, [], ◌∷◌}
 use Rattle.std.specs.Fmt.{digits}
 use Rattle.live_input.specs.Night.{answers, due_after, lines_given, shown, came, closed, asked}
-use Rattle.live_input.specs.Night.{order, dim, close, tick, refusal, wait, over}
+use Rattle.live_input.specs.Night.{order, dim, close, tick, place, help, refusal, wait, over}
+use Rattle.live_input.specs.Night.{ignored_keys}
+use Rattle.live_input.specs.declared.reason.Reason.TheVariants.{Long, Ending, Keys, Moment, Go, Alone}
+use Rattle.live_input.specs.declared.reason.Reason.TheVariants.{Goto, Numbered, Master, Unknown}
+use Rattle.live_input.specs.Keys.{without_keys}
+use Rattle.live_input.specs.Reasons.{reason_of}
+use Rattle.ascii_text.specs.Text.{words_of}
 
 -- ticks on the grid, one that is late, and those after it
 grid : (due_after 0 ≡ 25) × (due_after 25 ≡ 50) × (due_after 27 ≡ 50) × (due_after 28 ≡ 51)
@@ -32,7 +38,8 @@ turns = refl
 
 -- no command ends nothing
 refused : answers (asked 1 ∷ asked 1 ∷ asked 1 ∷ asked 1 ∷ came (codes "tick\njump 3\ngo\n") ∷ [])
-    ≡ order 1 (codes "go") ∷ refusal (codes "jump 3") ∷ refusal (codes "tick") ∷ tick 1 ∷ []
+    ≡ order 1 (codes "go") ∷ refusal Unknown (codes "jump 3") ∷ refusal Unknown (codes "tick")
+    ∷ tick 1 ∷ []
 unfolding digits
 refused = refl
 
@@ -55,7 +62,8 @@ holding = refl
 -- an `end` that was typed, a command behind it, and the end of the input
 ended_already : answers (asked 50 ∷ asked 25 ∷ asked 2 ∷ asked 1 ∷ closed true ∷ asked 1
     ∷ came (codes "END\ngo\n") ∷ asked 0 ∷ [])
-    ≡ tick 50 ∷ tick 25 ∷ wait 25 ∷ refusal (codes "go") ∷ dim 1 (Some (codes "END")) ∷ tick 0 ∷ []
+    ≡ tick 50 ∷ tick 25 ∷ wait 25 ∷ refusal Ending (codes "go") ∷ dim 1 (Some (codes "END"))
+    ∷ tick 0 ∷ []
 unfolding digits
 ended_already = refl
 
@@ -66,9 +74,53 @@ left : answers (asked 75 ∷ asked 50 ∷ asked 25 ∷ asked 1 ∷ came (codes "
 unfolding digits
 left = refl
 
-texts : (lines_given (tick 250 ∷ order 249 (codes "go") ∷ refusal (codes "x") ∷ close 1 None
-    ∷ dim 0 (Some (codes "end")) ∷ [])
+texts : (lines_given (tick 250 ∷ order 249 (codes "go") ∷ refusal Unknown (codes "x")
+    ∷ place 2 (codes "where") ∷ help (codes "?") ∷ close 1 None ∷ dim 0 (Some (codes "end")) ∷ [])
     ≡ codes "250 tick" ∷ codes "249 go" ∷ codes "1 end" ∷ codes "0 master 0" ∷ [])
     × (shown (codes "go\t" ++ 0 ∷ 255 ∷ 126 ∷ []) ≡ codes "go???~")
 unfolding digits
 texts = (refl, refl)
+
+-- what is asked is answered behind an `end` too, and is no line for the console
+questions : answers (asked 4 ∷ asked 3 ∷ asked 2 ∷ asked 1
+    ∷ came (codes "Where ! is it\nleave\n?\nWHERE\n") ∷ asked 0 ∷ [])
+    ≡ place 4 (codes "WHERE") ∷ help (codes "?") ∷ close 2 (Some (codes "leave"))
+    ∷ place 1 (codes "Where ! is it") ∷ tick 0 ∷ []
+unfolding digits
+questions = refl
+
+-- why lines are refused
+reasons : (reason_of (words_of (codes "go 4")) ≡ Go) × (reason_of (words_of (codes "back 2")) ≡ Alone)
+    × (reason_of (words_of (codes "END now")) ≡ Alone)
+    × (reason_of (words_of (codes "help me")) ≡ Alone)
+    × (reason_of (words_of (codes "25 go")) ≡ Moment) × (reason_of (words_of (codes "4")) ≡ Moment)
+    × (reason_of (words_of (codes "goto")) ≡ Goto) × (reason_of (words_of (codes "goto 0")) ≡ Goto)
+    × (reason_of (words_of (codes "sub 3")) ≡ Numbered)
+    × (reason_of (words_of (codes "group 1 FX")) ≡ Numbered)
+    × (reason_of (words_of (codes "master 101")) ≡ Master)
+    × (reason_of (words_of (codes "jump 3")) ≡ Unknown)
+    × (reason_of (words_of (codes "tick")) ≡ Unknown) × (reason_of (words_of []) ≡ Keys)
+reasons =
+    (refl, refl, refl, refl, refl, refl, refl, refl, refl, refl, refl, refl, refl, refl)
+
+-- an arrow, as the modes of a terminal send it, with a shift, and with Alt; F1, also on the Linux
+-- console; Delete; Alt and a letter; half a sequence
+keys : (without_keys (27 ∷ codes "[Ago") ≡ codes "go") × (without_keys (27 ∷ codes "OAgo") ≡ codes "go")
+    × (without_keys (codes "g" ++ 27 ∷ codes "[1;2Do") ≡ codes "go")
+    × (without_keys (27 ∷ 27 ∷ codes "[Cgo") ≡ codes "go")
+    × (without_keys (27 ∷ codes "OPgo") ≡ codes "go")
+    × (without_keys (27 ∷ codes "[[Ago") ≡ codes "go")
+    × (without_keys (codes "go" ++ 27 ∷ codes "[3~") ≡ codes "go")
+    × (without_keys (27 ∷ codes "xgo") ≡ codes "go")
+    × (without_keys (codes "go" ++ 27 ∷ codes "[1;") ≡ codes "go")
+    × (without_keys (codes "go" ++ 27 ∷ []) ≡ codes "go") × (without_keys (codes "[A") ≡ codes "[A")
+keys = (refl, refl, refl, refl, refl, refl, refl, refl, refl, refl, refl)
+
+-- a GO behind an arrow, and an arrow alone
+arrows : (answers (asked 1 ∷ asked 1 ∷ came (27 ∷ codes "[Ago\n" ++ 27 ∷ codes "[B\n") ∷ asked 0 ∷ [])
+    ≡ refusal Keys (27 ∷ codes "[B") ∷ order 1 (27 ∷ codes "[Ago") ∷ tick 0 ∷ [])
+    × (lines_given (order 1 (27 ∷ codes "[Ago") ∷ []) ≡ codes "1 go" ∷ [])
+    × (ignored_keys (order 1 (27 ∷ codes "[Ago") ∷ []) ≡ true)
+    × (ignored_keys (order 1 (codes "go") ∷ refusal Keys (27 ∷ codes "[B") ∷ []) ≡ false)
+unfolding digits
+arrows = (refl, refl, refl, refl)

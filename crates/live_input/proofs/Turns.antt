@@ -1,31 +1,66 @@
 -- Between a tick's due moment and the tick there is at most one line.
-use Rattle.std.proofs.Common.{◌≡◌, ◌⊎◌, inl, inr, ◌≤◌, ℕ, false, List, [], ◌∷◌, ◌++◌, arith}
-use Rattle.std.proofs.Common.{refl}
-use Rattle.live_input.specs.Laws.{IsTick, NothingIsAsked, TicksAreNext}
-use Rattle.live_input.specs.Night.{Answer, Happening, answer_to, answers, asked, came, close}
-use Rattle.live_input.specs.Night.{closed, dim, due, is_dark, is_over, now, over}
-use Rattle.live_input.specs.Night.{stage, tick, was_tick}
-use Rattle.live_input.proofs.Cases.{Next, answer_is_next, nothing}
-use Rattle.live_input.proofs.Nights.{by_test, ticks_first}
+use Rattle.std.proofs.Common.{◌≡◌, ◌⊎◌, inl, inr, ◌≤◌, ℕ, true, false, List, [], ◌∷◌, ◌++◌, arith}
+use Rattle.std.proofs.Common.{refl, Option, Some, None}
+use Rattle.live_input.specs.Laws.{IsOn, IsTick, NothingIsAsked, TicksAreNext}
+use Rattle.live_input.specs.Night.{Answer, Happening, answer_to, answers, asked, came, closed}
+use Rattle.live_input.specs.Night.{due, is_dark, is_on, is_over, is_through, now, stage, stage_by}
+use Rattle.live_input.specs.Night.{was_tick, order, dim, close, place, help, refusal, wait}
+use Rattle.live_input.specs.declared.progress.Stage.{Stage}
+use Rattle.live_input.specs.declared.progress.Stage.TheVariants.{Dark}
+use Rattle.live_input.proofs.Cases.{Next, answer_is_next, nothing, ticks, takes, darkens, leaves}
+use Rattle.live_input.proofs.Cases.{places, helps, refuses, dims, closes, waits}
+use Rattle.live_input.proofs.Nights.{on_only, ticks_first}
 
--- the answer is no tick, the tick is due as before, and the night goes on and is not to be closed
-record Stays (given : List Answer) (answer : Answer) : Type 0 where
-  none : was_tick (answer ∷ given) ≡ false
-  same : due (answer ∷ given) ≡ due given
-  on : is_over (answer ∷ given) ≡ false
-  light : is_dark (stage (answer ∷ given)) ≡ false
+-- the night is on at this stage, and not to be closed now
+abbrev IsOpen : Stage → Type 0
+IsOpen s = (is_through s ≡ false) × (is_dark s ≡ false)
 
--- no answer but a tick changes when the next one is due
-tick_or_line : (given : List Answer) (answer : Answer) → is_over given ≡ false
-    → is_dark (stage given) ≡ false → (answer ≡ over → ⊥) → IsTick answer ⊎ Stays given answer
-tick_or_line given (tick n) on light other = inl tt
-tick_or_line given over on light other = absurd (other refl)
-tick_or_line given (dim n typed) on light other =
-    inr (record { none = refl; same = refl; on = grind (arith, on); light = grind (arith, light) })
-tick_or_line given (close n typed) on light other =
-    inr (record { none = refl; same = refl; on = grind (arith, on); light = grind (arith, light) })
-tick_or_line given _ on light other =
-    inr (record { none = refl; same = refl; on = on; light = light })
+-- the answer is no tick, the tick is due as before, and nothing else goes before it
+record Stays (h : List Happening) (answer : Answer) : Type 0 where
+  none : was_tick (answer ∷ answers h) ≡ false
+  same : due (answer ∷ answers h) ≡ due (answers h)
+  open_still : IsOn (answer ∷ answers h)
+
+on_open : (s : Stage) → is_on s ≡ true → IsOpen s
+on_open s on = rw (on_only s on) (refl, refl)
+
+dim_open : (n : ℕ) (typed : Option (List ℕ)) (s : Stage) → is_on s ≡ true
+    → IsOpen (stage_by (dim n typed) s)
+dim_open n typed s on = rw (on_only s on) (refl, refl)
+
+leave_open : (n : ℕ) (typed : Option (List ℕ)) (s : Stage) → is_on s ≡ true
+    → IsOpen (stage_by (close n typed) s)
+leave_open n typed s on = rw (on_only s on) (refl, refl)
+
+close_open : (n : ℕ) (typed : Option (List ℕ)) (s : Stage) → is_dark s ≡ true
+    → IsOpen (stage_by (close n typed) s)
+close_open n typed (Dark count) dark = (refl, refl)
+close_open n typed s dark = cc
+
+stays : (h : List Happening) (answer : Answer) → was_tick (answer ∷ answers h) ≡ false
+    → due (answer ∷ answers h) ≡ due (answers h) → IsOn (answer ∷ answers h)
+    → IsTick answer ⊎ Stays h answer
+stays h answer none same still =
+    inr (record { none = none; same = same; open_still = still })
+
+tick_or_line : (h : List Happening) (n : ℕ) (answer : Answer) → Next h n answer
+    → is_over (answers h) ≡ false → IsTick answer ⊎ Stays h answer
+tick_or_line h n _ (nothing over) on = cc
+tick_or_line h n _ (ticks _ _ _) on = inl tt
+tick_or_line h n _ (takes line later _ is _ _ _ _) on =
+    stays h (order n line) refl refl (on_open (stage (answers h)) is)
+tick_or_line h n _ (darkens line later _ is) on =
+    stays h (dim n (Some line)) refl refl (dim_open n (Some line) (stage (answers h)) is)
+tick_or_line h n _ (leaves line later _ is) on =
+    stays h (close n (Some line)) refl refl (leave_open n (Some line) (stage (answers h)) is)
+tick_or_line h n _ (places line later _ is) on = stays h (place n line) refl refl is
+tick_or_line h n _ (helps line later _ is) on = stays h (help line) refl refl is
+tick_or_line h n _ (refuses why line later _ is) on = stays h (refusal why line) refl refl is
+tick_or_line h n _ (dims is _) on =
+    stays h (dim n None) refl refl (dim_open n None (stage (answers h)) is)
+tick_or_line h n _ (closes dark) on =
+    stays h (close n None) refl refl (close_open n None (stage (answers h)) dark)
+tick_or_line h n _ (waits _ is) on = stays h (wait (due (answers h))) refl refl is
 
 -- what was answered is as it was, and the clock does not fall
 record Lasts (h later : List Happening) : Type 0 where
@@ -43,36 +78,18 @@ lasts h (asked _ ∷ meanwhile) none = elim none [ ]
 -- the next answer is a tick, where this one is none
 then_tick : (h later : List Happening) (moment next : ℕ) → Lasts (asked moment ∷ h) later
     → due (answers h) ≤ now (asked moment ∷ h)
-    → IsTick (answer_to h moment) ⊎ Stays (answers h) (answer_to h moment)
+    → IsTick (answer_to h moment) ⊎ Stays h (answer_to h moment)
     → IsTick (answer_to h moment) ⊎ IsTick (answer_to later next)
 then_tick h later moment next lasts late (inl first) = inl first
 then_tick h later moment next lasts late (inr stays) =
     let still : was_tick (answers later) ≡ false = rw lasts.same stays.none in
-    let on : is_over (answers later) ≡ false = rw lasts.same stays.on in
-    let light : is_dark (stage (answers later)) ≡ false = rw lasts.same stays.light in
     let due_then : due (answers later) ≤ now (asked next ∷ later)
     = rw (lasts.same, stays.same) (omega (arith, late, lasts.above)) in
-    inr (rw (ticks_first later next on light still due_then) tt)
-
--- while a night goes on, something comes of it
-not_over : (h : List Happening) (n : ℕ) (answer : Answer) → Next h n answer
-    → is_over (answers h) ≡ false → answer ≡ over → ⊥
-not_over h n _ (nothing ends) on is = cc
-not_over h n _ _ on is = cc
-
-stays_or_ticks : (h : List Happening) (moment : ℕ) → is_over (answers h) ≡ false
-    → IsTick (answer_to h moment) ⊎ Stays (answers h) (answer_to h moment)
-stays_or_ticks h moment on = by_test (is_dark (stage (answers h)))
-    (λ dark. rw (on, dark) (inr (record {
-      none = refl;
-      same = refl;
-      on = grind (arith, dark);
-      light = grind (arith, dark);
-    })))
-    (λ light. tick_or_line (answers h) (answer_to h moment) on light
-    (not_over h _ (answer_to h moment) (answer_is_next h moment) on))
+    let on : IsOn (answers later) = rw lasts.same stays.open_still in
+    inr (rw (ticks_first later next on still due_then) tt)
 
 pub ticks_next : TicksAreNext
 ticks_next h meanwhile moment next none on late =
     then_tick h (meanwhile ++ asked moment ∷ h) moment next
-    (lasts (asked moment ∷ h) meanwhile none) late (stays_or_ticks h moment on)
+    (lasts (asked moment ∷ h) meanwhile none) late
+    (tick_or_line h _ _ (answer_is_next h moment) on)

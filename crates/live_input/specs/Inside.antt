@@ -8,5 +8,6 @@ live_view live = record {
   typed = typed_kept live.typed;
   ends = live.ends;
   now = live.now;
+  keys = live.keys;
   progress = live.progress;
 }

@@ -7,10 +7,11 @@ pub record TypedKept : Type 0 where
   pub unread : List ℕ
   pub line : List ℕ
 
--- what was typed; whether the night ends with its input, which ended; the clock; and what the
--- answers so far leave
+-- what was typed; whether the night ends with its input, which ended; the clock; whether keys were
+-- left out of the line that was answered last; and what the answers so far leave
 pub record Kept : Type 0 where
   pub typed : TypedKept
   pub ends : Bool
   pub now : ℕ
+  pub keys : Bool
   pub progress : Progress

@@ -1,6 +1,6 @@
 -- Laws over all nights: whatever bytes came, and whatever the clock said.
-use Rattle.std.specs.Prelude.{◌≡◌, ◌↔◌, ◌⊎◌, ◌≤◌, ◌+◌, ◌++◌, ◌||◌, ℕ, true, false, not, List, []}
-use Rattle.std.specs.Prelude.{◌∷◌, Option, Some}
+use Rattle.std.specs.Prelude.{◌≡◌, ◌↔◌, ◌⊎◌, ◌≤◌, ◌+◌, ◌++◌, ℕ, true, false, List, [], ◌∷◌}
+use Rattle.std.specs.Prelude.{Option, Some}
 use Rattle.std.specs.Prelude.{None, All, length, codes, flat_map, reverse}
 use Rattle.std.specs.Prelude.{Bool, is_none, option_map, replicate, if◌then◌else◌}
 use Rattle.std.specs.List.{filter_map, list_any}
@@ -15,12 +15,13 @@ use Rattle.console_text.specs.declared.call.Call.TheVariants.{Order, Tick}
 use Rattle.console_text.specs.declared.reading.Reading.TheVariants.{At}
 use Rattle.console_text.specs.Spelling.{command_of, is_malformed, reading_of}
 use Rattle.live_input.specs.Night.{Answer, Happening, answer_to, answers, at_moment, bytes_come}
-use Rattle.live_input.specs.Night.{ends_with_input, has_room, lines_answered, lines_given, stage}
-use Rattle.live_input.specs.Night.{asked, due, is_dark, is_full, is_over, lines_left, now, to_line}
+use Rattle.live_input.specs.Night.{ends_with_input, lines_answered, lines_given, stage}
+use Rattle.live_input.specs.Night.{asked, due, is_dark, is_over, lines_left, now, to_line}
 use Rattle.live_input.specs.Night.{was_tick}
 use Rattle.live_input.specs.Night.{order, dim, close, tick, wait, over}
 use Rattle.live_input.specs.declared.progress.Stage.{Stage}
 use Rattle.live_input.specs.declared.progress.Stage.TheVariants.{On, Dark, Ended}
+use Rattle.live_input.specs.Keys.{without_keys}
 use Rattle.live_input.specs.Typed.{typed_of}
 
 -- ---- lines
@@ -29,12 +30,10 @@ use Rattle.live_input.specs.Typed.{typed_of}
 abbrev pub text_of : List (List ℕ) → List ℕ
 text_of lines = flat_map (λ line. line ++ 10 ∷ []) (reverse lines)
 
--- `play` takes these lines: none is malformed or has more than 200 bytes, and there are at most
--- 10,000,000
+-- `play` takes each of these lines: none is malformed or has more than 200 bytes
 pub record AreFine (lines : List (List ℕ)) : Type 0 where
   pub none_malformed : All (λ line. is_malformed (reading_of line) ≡ false) lines
   pub none_long : All (λ line. length line ≤ 200) lines
-  pub few : length lines ≤ 10000000
 
 abbrev pub LinesAreFine : Type 0
 LinesAreFine = (h : List Happening) → AreFine (lines_of (text_of (lines_given (answers h))))
@@ -47,7 +46,8 @@ Spells None moment line = ⊥
 -- a line that is given spells the very command that was typed, `master 0`, `end` or a tick, at its
 -- moment
 abbrev pub IsSpelled : Answer → Type 0
-IsSpelled (order moment line) = Spells (command_of (words_of line)) moment line
+IsSpelled (order moment line) =
+    Spells (command_of (words_of (without_keys line))) moment (without_keys line)
 IsSpelled (dim moment typed) =
     reading_of (at_moment moment (codes "master 0")) ≡ At moment (Order (Master 0))
 IsSpelled (close moment typed) = reading_of (at_moment moment (codes "end")) ≡ At moment (Order End)
@@ -102,17 +102,14 @@ WaitsComeLast =
     (h : List Happening) (moment n : ℕ) → answer_to h moment ≡ wait n
     → (typed_of (bytes_come h)).lines ≡ lines_answered (answers h)
 
--- the night is not over, does not end at this moment, and lines have room
+-- the night is not over, and is not to be closed now
 abbrev pub IsOn : List Answer → Type 0
-IsOn given =
-    (is_over given ≡ false) × (is_dark (stage given) ≡ false) × (is_full given ≡ false)
+IsOn given = (is_over given ≡ false) × (is_dark (stage given) ≡ false)
 
--- a tick that is due goes before whatever lines wait, and before a night ends by itself, where the
--- answer before was none
+-- a tick that is due goes before whatever lines wait, where the answer before was none
 abbrev pub TicksGoFirst : Type 0
 TicksGoFirst =
-    (h : List Happening) (moment : ℕ) → is_over (answers h) ≡ false
-    → is_dark (stage (answers h)) ≡ false → was_tick (answers h) ≡ false
+    (h : List Happening) (moment : ℕ) → IsOn (answers h) → was_tick (answers h) ≡ false
     → due (answers h) ≤ now (asked moment ∷ h)
     → answer_to h moment ≡ tick (now (asked moment ∷ h))
 
@@ -133,8 +130,8 @@ NothingIsAsked [] = Unit {0}
 NothingIsAsked (asked moment ∷ older) = ⊥
 NothingIsAsked (_ ∷ older) = NothingIsAsked older
 
--- at any time of a night: where a tick is due when it is asked what is next, that is the answer, or
--- the answer to what is asked then. So between the moment at which a tick is due and the tick there
+-- where a tick is due when it is asked what is next, that is the answer, or the answer to what is
+-- asked then, until the night is over: between the moment at which a tick is due and the tick there
 -- is at most one line, and no other tick
 abbrev pub TicksAreNext : Type 0
 TicksAreNext =
@@ -142,12 +139,12 @@ TicksAreNext =
     → is_over (answers h) ≡ false → due (answers h) ≤ now (asked moment ∷ h)
     → IsTick (answer_to h moment) ⊎ IsTick (answer_to (meanwhile ++ asked moment ∷ h) next)
 
--- a night begins to end where nobody typed it only if it ends with its input and that ended, or if
--- all room for lines was used: whatever else ends, the light holds
+-- a night begins to end where nobody typed it only if it ends with its input and that ended:
+-- whatever else ends, the light holds
 abbrev pub EndsAreAsked : Type 0
 EndsAreAsked =
     (h : List Happening) (moment n : ℕ) → answer_to h moment ≡ dim n None
-    → (ends_with_input h || not (has_room (answers h))) ≡ true
+    → ends_with_input h ≡ true
 
 -- nothing comes any more exactly where there were three ticks after `end`, and there are never more
 abbrev pub NightsEnd : Type 0
@@ -159,7 +156,7 @@ NightsEnd =
 
 -- what was given, without moments, the newest first
 abbrev pub with_words : Answer → List (List ℕ) → List (List ℕ)
-with_words (order moment line) given = line ∷ given
+with_words (order moment line) given = without_keys line ∷ given
 with_words (dim moment typed) given = codes "master 0" ∷ given
 with_words (close moment typed) given = codes "end" ∷ given
 with_words (tick moment) given = codes "tick" ∷ given
@@ -205,7 +202,7 @@ EndsAreWhole =
 abbrev pub act_of : Answer → Option Act
 act_of (order moment line) =
     option_map (λ command. record { moment = moment; call = desk.order command })
-    (command_of (words_of line))
+    (command_of (words_of (without_keys line)))
 act_of (dim moment typed) = Some (record { moment = moment; call = desk.order (Master 0) })
 act_of (close moment typed) = Some (record { moment = moment; call = desk.order End })
 act_of (tick moment) = Some (record { moment = moment; call = desk.tick })

@@ -1,3 +1,5 @@
+pub mod Keys
+pub mod Reasons
 pub mod Typed
 pub mod Night
 pub mod Kept
@@ -6,4 +8,3 @@ pub mod TypedView
 pub mod Told
 pub mod Inside
 pub mod Laws
-pub mod Shown

@@ -1,15 +1,23 @@
 -- What a live input answers, by what happened to it. Happenings and answers have the newest first.
-use Rattle.std.specs.Prelude.{ℕ, ◌+◌, ◌*◌, ◌/◌, max, min, nat_le, nat_lt, Bool, true, false}
+use Rattle.std.specs.Prelude.{ℕ, ◌+◌, ◌*◌, ◌/◌, max, min, nat_le, Bool, true, false}
 use Rattle.std.specs.Prelude.{◌&&◌, ◌||◌, not, if◌then◌else◌, List, [], ◌∷◌, ◌++◌, length, drop}
 use Rattle.std.specs.Prelude.{Option, Some, None, codes, decimal, map, take}
 use Rattle.std.specs.Prelude.{unwrap_or}
+use Rattle.std.specs.Option.{option_map_or}
 use Rattle.ascii_text.specs.Forms.{same_word}
 use Rattle.ascii_text.specs.Text.{words_of}
 use Rattle.desk_core.specs.declared.command.Command.{Command}
-use Rattle.desk_core.specs.declared.command.Command.TheVariants.{End}
 use Rattle.console_text.specs.Spelling.{command_of}
+use Rattle.desk_core.specs.declared.command.Command.TheVariants.{End}
 use Rattle.live_input.specs.declared.progress.Stage.{Stage}
 use Rattle.live_input.specs.declared.progress.Stage.TheVariants.{On, Dark, Ended}
+use Rattle.live_input.specs.declared.reason.Reason.{Reason}
+use Rattle.live_input.specs.declared.reason.Reason.TheVariants.{Long, Ending}
+use Rattle.live_input.specs.declared.request.Request.{Request}
+use Rattle.live_input.specs.declared.request.Request.TheVariants.{Nothing, Where, Help, Leave}
+use Rattle.live_input.specs.declared.request.Request.TheVariants.{Finish, Order}
+use Rattle.live_input.specs.Keys.{has_keys, without_keys}
+use Rattle.live_input.specs.Reasons.{reason_of}
 use Rattle.live_input.specs.Typed.{typed_of}
 
 -- what happens to it: bytes came; the input ended, and whether the night is to end with it; it was
@@ -20,14 +28,17 @@ pub data Happening : Type 0 where
   asked : ℕ → Happening
 
 -- what it answers: the line of a command, at a moment; `master 0`, with which a night begins to
--- end, and `end`, each with the typed line that it answers, where one was typed; a tick; a line
--- that is refused; that nothing is due before a moment; that nothing comes any more
+-- end, and `end`, each with the typed line that it answers, where one was typed; a tick; `where` and
+-- `help`, to which the device answers; a line that is refused, and why; that nothing is due before
+-- a moment; that nothing comes any more
 pub data Answer : Type 0 where
   order : ℕ → List ℕ → Answer
   dim : ℕ → Option (List ℕ) → Answer
   close : ℕ → Option (List ℕ) → Answer
   tick : ℕ → Answer
-  refusal : List ℕ → Answer
+  place : ℕ → List ℕ → Answer
+  help : List ℕ → Answer
+  refusal : Reason → List ℕ → Answer
   wait : ℕ → Answer
   over : Answer
 
@@ -39,7 +50,7 @@ at_moment moment words = decimal moment ++ codes " " ++ words
 
 -- the lines that were given, without their LF
 abbrev pub with_given : Answer → List (List ℕ) → List (List ℕ)
-with_given (order moment line) lines = at_moment moment line ∷ lines
+with_given (order moment line) lines = at_moment moment (without_keys line) ∷ lines
 with_given (dim moment typed) lines = at_moment moment (codes "master 0") ∷ lines
 with_given (close moment typed) lines = at_moment moment (codes "end") ∷ lines
 with_given (tick moment) lines = at_moment moment (codes "tick") ∷ lines
@@ -49,13 +60,23 @@ abbrev pub lines_given : List Answer → List (List ℕ)
 lines_given [] = []
 lines_given (answer ∷ older) = with_given answer (lines_given older)
 
+-- the typed line that it answers
+abbrev pub line_of : Answer → Option (List ℕ)
+line_of (order moment line) = Some line
+line_of (dim moment typed) = typed
+line_of (close moment typed) = typed
+line_of (place moment line) = Some line
+line_of (help line) = Some line
+line_of (refusal why line) = Some line
+line_of _ = None
+
+abbrev pub with_line : List (List ℕ) → Option (List ℕ) → List (List ℕ)
+with_line lines None = lines
+with_line lines (Some line) = lines ++ line ∷ []
+
 -- the typed lines that were answered, the oldest first
 abbrev pub with_answered : List (List ℕ) → Answer → List (List ℕ)
-with_answered lines (order moment line) = lines ++ line ∷ []
-with_answered lines (dim moment (Some line)) = lines ++ line ∷ []
-with_answered lines (close moment (Some line)) = lines ++ line ∷ []
-with_answered lines (refusal line) = lines ++ line ∷ []
-with_answered lines _ = lines
+with_answered lines answer = with_line lines (line_of answer)
 
 abbrev pub lines_answered : List Answer → List (List ℕ)
 lines_answered [] = []
@@ -111,38 +132,52 @@ abbrev pub due : List Answer → ℕ
 due [] = 0
 due (answer ∷ older) = due_by answer (due older)
 
--- `play` takes 10,000,000 lines: the last ten are kept for a tick that is due, `master 0`, four
--- ticks, `end` and three ticks
-abbrev pub has_room : List Answer → Bool
-has_room given = nat_lt (length (lines_given given)) 9999990
-
 -- ---- the next answer, after those given
 
--- `leave`, which ends the night and leaves the light to another console
-abbrev pub is_leave : List (List ℕ) → Bool
-is_leave (word ∷ []) = same_word word (codes "leave")
-is_leave _ = false
+-- this word alone
+abbrev pub is_only : List ℕ → List (List ℕ) → Bool
+is_only text (word ∷ []) = same_word word text
+is_only text _ = false
+
+abbrev pub asks_help : List (List ℕ) → Bool
+asks_help words = is_only (codes "help") words || is_only (codes "?") words
+
+-- a command
+abbrev pub command_asked : List (List ℕ) → Option Command → Request
+command_asked words None = Nothing (reason_of words)
+command_asked words (Some End) = Finish
+command_asked words (Some command) = Order command
+
+-- `leave`, which ends the night and leaves the light to another console, or a command
+abbrev pub order_asked : List (List ℕ) → Request
+order_asked words =
+    if is_only (codes "leave") words then Leave else command_asked words (command_of words)
+
+-- what words ask for: `where` and `help` at any time, all else before an `end`
+abbrev pub words_asked : Bool → List (List ℕ) → Request
+words_asked on words =
+    if is_only (codes "where") words then Where
+    else (if asks_help words then Help
+    else (if on then order_asked words else Nothing Ending))
+
+-- what a line asks for: nothing where it has more than 200 bytes with its moment
+abbrev pub request_of : Bool → ℕ → List ℕ → Request
+request_of on moment line =
+    if nat_le (length (at_moment moment line)) 200
+    then words_asked on (words_of (without_keys line)) else Nothing Long
 
 -- `end` brings the light down first; any other command is given as it is
-abbrev pub to_command : ℕ → List ℕ → Option Command → Answer
-to_command moment line None = refusal line
-to_command moment line (Some End) = dim moment (Some line)
-to_command moment line (Some command) = order moment line
+abbrev pub to_request : ℕ → List ℕ → Request → Answer
+to_request moment line (Nothing why) = refusal why line
+to_request moment line Where = place moment line
+to_request moment line Help = help line
+to_request moment line Leave = close moment (Some line)
+to_request moment line Finish = dim moment (Some line)
+to_request moment line (Order command) = order moment line
 
-abbrev pub by_words : ℕ → List ℕ → Answer
-by_words moment line = if is_leave (words_of line) then close moment (Some line)
-    else to_command moment line (command_of (words_of line))
-
--- what is no command is refused, and so is what has more than 200 bytes with its moment, and all
--- that is typed behind an `end`
 abbrev pub to_line : List Answer → ℕ → List ℕ → Answer
 to_line given moment line =
-    if is_on (stage given) && nat_le (length (at_moment moment line)) 200
-    then by_words moment line else refusal line
-
--- there was no `end`, and there is room for one and its ticks alone
-abbrev pub is_full : List Answer → Bool
-is_full given = is_on (stage given) && not (has_room given)
+    to_request moment line (request_of (is_on (stage given)) moment line)
 
 abbrev pub ticked_by : Answer → Bool → Bool
 ticked_by (tick moment) before = true
@@ -154,6 +189,16 @@ abbrev pub was_tick : List Answer → Bool
 was_tick [] = false
 was_tick (answer ∷ older) = ticked_by answer (was_tick older)
 
+-- a key that sends a sequence was pressed for the line that it answers
+abbrev pub keys_by : Answer → Bool → Bool
+keys_by over before = before
+keys_by answer before = option_map_or has_keys (line_of answer) false
+
+-- such keys were left out of the line that was answered last
+abbrev pub ignored_keys : List Answer → Bool
+ignored_keys [] = false
+ignored_keys (answer ∷ older) = keys_by answer (ignored_keys older)
+
 -- a tick is due, and the answer before was no tick. Behind a tick one line has its turn: where the
 -- work of a tick takes as long as from tick to tick, an `end` is still answered
 abbrev pub goes_first : List Answer → ℕ → Bool
@@ -163,8 +208,7 @@ goes_first given moment = nat_le (due given) moment && not (was_tick given)
 abbrev pub before_lines : List Answer → ℕ → Option Answer
 before_lines given moment =
     if is_dark (stage given) then Some (close moment None)
-    else (if goes_first given moment then Some (tick moment)
-    else (if is_full given then Some (dim moment None) else None))
+    else (if goes_first given moment then Some (tick moment) else None)
 
 -- where each typed line was answered: the night ends with its input, which ended without an `end`
 abbrev pub by_itself : List Answer → Bool → ℕ → Answer

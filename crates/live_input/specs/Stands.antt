@@ -2,7 +2,7 @@
 use Rattle.std.specs.Prelude.{◌≡◌, ◌∷◌, ◌++◌, [], ℕ, List, length, drop, fold, Option, Some, None}
 use Rattle.live_input.specs.Kept.{Kept, TypedKept}
 use Rattle.live_input.specs.Night.{Happening, answers, bytes_come, ends_with_input}
-use Rattle.live_input.specs.Night.{lines_answered, now}
+use Rattle.live_input.specs.Night.{ignored_keys, lines_answered, now}
 use Rattle.live_input.specs.Told.{Leaves}
 use Rattle.live_input.specs.Typed.{typed_of, with_byte}
 
@@ -32,4 +32,5 @@ pub record StandsFor (kept : Kept) (happenings : List Happening) : Type 0 where
       (lines_answered (answers happenings))
   pub ends_is : kept.ends ≡ ends_with_input happenings
   pub now_is : kept.now ≡ now happenings
+  pub keys_is : kept.keys ≡ ignored_keys (answers happenings)
   pub leaves : Leaves kept.progress (answers happenings)

@@ -1,21 +1,30 @@
 -- What is given of an answer, and what is kept of the answers so far.
-use Rattle.std.specs.Prelude.{◌≡◌, ◌-◌, List, [], ◌∷◌, ◌++◌, ℕ, codes, length, Option, Some, None}
+use Rattle.std.specs.Prelude.{◌≡◌, ◌<◌, ◌^◌, List, [], ◌∷◌, ◌++◌, ℕ, codes, Option, Some, None}
+use Rattle.console_text.specs.declared.reading.Reading.TheVariants.{At}
+use Rattle.console_text.specs.Spelling.{reading_of}
 use Rattle.live_input.specs.declared.given.Given.{Given}
-use Rattle.live_input.specs.declared.given.Given.TheVariants.{Line, Refused, Until, Over}
+use Rattle.live_input.specs.declared.given.GivenLine.{GivenLine}
+use Rattle.live_input.specs.declared.given.Given.TheVariants.{Line, Where, Help, Refused, Until, Over}
 use Rattle.live_input.specs.declared.progress.Progress.{Progress}
-use Rattle.live_input.specs.Night.{Answer, order, dim, close, tick, refusal, wait, over}
-use Rattle.live_input.specs.declared.progress.Request.{Request}
-use Rattle.live_input.specs.declared.progress.Request.TheVariants.{Nothing, Command, End, Leave}
-use Rattle.live_input.specs.Night.{at_moment, by_words, due, lines_given, shown, stage, was_tick}
+use Rattle.live_input.specs.Night.{Answer, order, dim, close, tick, place, help, refusal, wait, over}
+use Rattle.live_input.specs.Keys.{without_keys}
+use Rattle.live_input.specs.Night.{at_moment, due, shown, stage, was_tick}
 
--- a line with its LF, the text of a refused line, or a moment
+-- this line with its LF, and the moment and the call that it spells
+pub record IsGiven (given : GivenLine) (line : List ℕ) : Type 0 where
+  pub text_is : given.text.items ≡ line ++ 10 ∷ []
+  pub spells : reading_of line ≡ At given.moment given.call
+  pub below : given.moment < 2 ^ 48
+
+-- a line and its call, the text of a refused line and why, or a moment
 abbrev pub Tells : Given → Answer → Type 0
-Tells (Line line) (order moment words) = line.items ≡ at_moment moment words ++ 10 ∷ []
-Tells (Line line) (dim moment typed) =
-    line.items ≡ at_moment moment (codes "master 0") ++ 10 ∷ []
-Tells (Line line) (close moment typed) = line.items ≡ at_moment moment (codes "end") ++ 10 ∷ []
-Tells (Line line) (tick moment) = line.items ≡ at_moment moment (codes "tick") ++ 10 ∷ []
-Tells (Refused text) (refusal line) = text.items ≡ shown line
+Tells (Line given) (order moment line) = IsGiven given (at_moment moment (without_keys line))
+Tells (Line given) (dim moment typed) = IsGiven given (at_moment moment (codes "master 0"))
+Tells (Line given) (close moment typed) = IsGiven given (at_moment moment (codes "end"))
+Tells (Line given) (tick moment) = IsGiven given (at_moment moment (codes "tick"))
+Tells (Where moment) (place asked line) = moment ≡ asked
+Tells Help (help line) = Unit {0}
+Tells (Refused text why) (refusal reason line) = (text.items ≡ shown line) × (why ≡ reason)
 Tells (Until moment) (wait due) = moment ≡ due
 Tells Over over = Unit {0}
 Tells _ _ = ⊥
@@ -23,7 +32,6 @@ Tells _ _ = ⊥
 -- what the answers so far leave
 pub record Leaves (progress : Progress) (answers : List Answer) : Type 0 where
   pub due_is : progress.due ≡ due answers
-  pub room_is : progress.room ≡ 9999990 - length (lines_given answers)
   pub stage_is : progress.stage ≡ stage answers
   pub ticked_is : progress.ticked ≡ was_tick answers
 
@@ -36,10 +44,3 @@ TellsFirst _ _ = ⊥
 abbrev pub LeavesFirst : Progress → Option Answer → List Answer → Type 0
 LeavesFirst progress (Some answer) given = Leaves progress (answer ∷ given)
 LeavesFirst progress None given = Leaves progress given
-
--- what the words of a line ask for, against its answer
-abbrev pub IsRequest : List ℕ → ℕ → Request → Type 0
-IsRequest line moment Nothing = by_words moment line ≡ refusal line
-IsRequest line moment Command = by_words moment line ≡ order moment line
-IsRequest line moment End = by_words moment line ≡ dim moment (Some line)
-IsRequest line moment Leave = by_words moment line ≡ close moment (Some line)

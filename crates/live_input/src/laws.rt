@@ -8,9 +8,7 @@ ghost use Rattle.live_input.specs.Laws.{LinesFollowTicks, MomentsNeverFall, Nigh
 ghost use Rattle.live_input.specs.Laws.{TicksAreApart, TicksAreNext, TicksGoFirst, WaitsComeLast};
 ghost use Rattle.live_input.specs.Laws.{EndsAreAccepted, TicksAreAccepted};
 
-/// `play` takes all lines that are given: none is malformed or too long, and there are never more
-/// than 10,000,000.
-#[tactic(auto, using(crate::proofs::Fine::lines_fine))]
+/// `play` takes each line that is given: none is malformed, and none has more than 200 bytes.
 pub fn lines_are_fine()
     ensures { LinesAreFine }
 {}
@@ -45,14 +43,15 @@ pub fn waits_come_last()
     ensures { WaitsComeLast }
 {}
 
-/// A tick that is due goes before whatever lines wait, where the answer before was no tick.
+/// A tick that is due goes before whatever lines wait, where the answer before was no tick and the
+/// night is not to be closed.
 #[tactic(auto, using(crate::proofs::Nights::ticks_first))]
 pub fn ticks_go_first()
     ensures { TicksGoFirst }
 {}
 
 /// Between the moment at which a tick is due and the tick there is at most one line, and no other
-/// tick, at any time of a night.
+/// tick, in every stage of a night.
 #[tactic(auto, using(crate::proofs::Turns::ticks_next))]
 pub fn ticks_are_next()
     ensures { TicksAreNext }
@@ -64,8 +63,8 @@ pub fn lines_follow_ticks()
     ensures { LinesFollowTicks }
 {}
 
-/// A night that was to end with its input, which ended, begins to end by itself; so does one with
-/// no room for a line more. Any other night goes on.
+/// A night begins to end by itself only where it was to end with its input, which ended. Any other
+/// night goes on.
 pub fn ends_are_asked()
     ensures { EndsAreAsked }
 {}

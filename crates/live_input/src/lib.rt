@@ -1,9 +1,8 @@
-//! The input of a live night: it hands `play` the commands that an operator types, each at its
+//! The input of a live night: it gives the commands that an operator types, each as a call at its
 //! moment, and makes the ticks by itself.
 //!
 //! [`LiveInput`] decides, and touches nothing: a device tells it which bytes came, asks it at each
-//! moment of the clock what is next, and carries that out. [`is_shown`] picks the replies of `play`
-//! that an operator sees. [`laws`] has what holds of every night.
+//! moment of the clock what is next, and carries that out. [`laws`] has what holds of every night.
 //!
 //! ```
 //! let mut live = LiveInput::new();
@@ -13,12 +12,14 @@
 #![tactic(auto)]
 
 mod given;
+mod keys;
 pub mod laws;
 mod live;
 mod progress;
-mod reply;
+mod reason;
+mod request;
 mod typed;
 
-pub use given::{Given, InputLine, RefusedText};
+pub use given::{Given, GivenLine, InputLine, RefusedText};
 pub use live::LiveInput;
-pub use reply::is_shown;
+pub use reason::Reason;

@@ -1,10 +1,12 @@
 ghost use Rattle.std.specs.Prelude.{◌≡◌, ◌≤◌, ℕ, List, [], ◌∷◌, length};
-ghost use Rattle.live_input.specs.Night.{Happening, came, closed, asked, answer_to};
+ghost use Rattle.live_input.specs.Night.{Happening, came, closed, asked, answer_to, answers};
+ghost use Rattle.live_input.specs.Night.{ignored_keys};
 ghost use Rattle.live_input.specs.Stands.{StandsFor};
 ghost use Rattle.live_input.specs.Told.{Tells};
 ghost use Rattle.live_input.specs.declared.given.Given.TheVariants.{Until};
 
 use crate::given::Given;
+use crate::keys::has_keys;
 use crate::progress::Progress;
 use crate::typed::TypedLines;
 use desk_core::MOMENTS;
@@ -15,8 +17,8 @@ const LATEST: u64 = MOMENTS - 1;
 
 /// The input of a live night: it is told which bytes came, and asked what is next.
 ///
-/// A line that is typed is a command of `play` without its moment; it is given with the moment at
-/// which it is asked for. Moments are in milliseconds from the start of the night; they never
+/// A line that is typed is a command without its moment; it is given with the moment at which it is
+/// asked for. Moments are in milliseconds from the start of the night; they never
 /// fall, whatever the clock says.
 ///
 /// Nothing takes memory.
@@ -28,6 +30,8 @@ pub struct LiveInput {
     ends: bool,
     // The latest moment that the clock told.
     now: u64,
+    // Whether keys were left out of the line that was answered last.
+    keys: bool,
     // What the answers so far leave to come.
     progress: Progress,
 }
@@ -66,6 +70,7 @@ impl LiveInput {
             typed: TypedLines::new(),
             ends: false,
             now: 0,
+            keys: false,
             progress: Progress::new(),
         }
     }
@@ -108,12 +113,26 @@ impl LiveInput {
         if self.progress.is_over() {
             return Given::Over;
         }
+        self.keys = false;
         if let Some(given) = self.progress.before_lines(self.now) {
             return given;
         }
         match self.typed.next_line() {
-            Some(line) => self.progress.answer(self.now, line.as_slice()),
+            Some(line) => {
+                let line = line.as_slice();
+                self.keys = has_keys(line);
+                self.progress.answer(self.now, line)
+            }
             None => self.progress.by_itself(self.now, self.ends),
         }
+    }
+
+    /// Whether keys were left out of the line that the last answer answers: those, as arrows, that
+    /// send a sequence and no text.
+    pub fn ignored_keys(&self) -> bool
+        ensures { (happenings : List Happening) → StandsFor self.entry.now happenings
+            → result ≡ ignored_keys (answers happenings) }
+    {
+        self.keys
     }
 }

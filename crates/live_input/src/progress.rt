@@ -1,26 +1,20 @@
 ghost use Rattle.std.specs.Prelude.{◌≡◌, ◌≢◌, ◌<◌, ◌^◌, ℕ, List, [], ◌∷◌, IfNone, Option, None};
-ghost use Rattle.std.specs.Prelude.{Some, true, false};
+ghost use Rattle.std.specs.Prelude.{◌≤◌, Some, true, false, length};
 ghost use Rattle.live_input.specs.Night.{Answer, before_lines, by_itself, close, due_after, tick};
-ghost use Rattle.live_input.specs.Night.{dim, is_dark, is_leave, is_on, is_through};
+ghost use Rattle.live_input.specs.Night.{dim, is_dark, is_on, is_through};
 ghost use Rattle.live_input.specs.Night.{after_tick, has_ended};
-ghost use Rattle.live_input.specs.Night.{refusal, to_line};
-ghost use Rattle.live_input.specs.Told.{IsRequest, Leaves, LeavesFirst, Tells, TellsFirst};
-ghost use Rattle.ascii_text.specs.Text.{words_of};
+ghost use Rattle.live_input.specs.Night.{to_line};
+ghost use Rattle.live_input.specs.Told.{Leaves, LeavesFirst, Tells, TellsFirst};
 ghost use Rattle.live_input.specs.declared.given.Given.TheVariants.{Until};
 
-use crate::given::{Given, fits, input_line, shown};
-use ascii_text::{Words, same_word};
-use console_text::command_in;
+use crate::given::{Given, given_line, shown};
+use crate::keys::without_keys;
+use crate::request::{Request, request_of};
+use console_text::Call;
 use desk_core::{Command, ENDING_TICKS, SHORTEST_GAP};
 
 // Ticks come on a grid, 40 a second.
 const GRID: u64 = 25;
-
-// `play` takes 10,000,000 lines, and the last ten are a tick that is due, `master 0`, its four
-// ticks, `end` and its three. At 40 ticks a second that is after 69 hours: a night that is still on
-// then is ended in order, so that receivers let go of its levels at once, and those of a second
-// console count.
-const LINES: u32 = 9_999_990;
 
 // Ticks with the light down before `end`. A receiver that ignores the levels of a termination, as
 // E1.31 has it, holds the last look: so that is a dark one.
@@ -37,22 +31,11 @@ pub enum Stage {
     Ended(u8),
 }
 
-// What the words of a line ask for.
-#[derive(Clone, Copy, Debug)]
-enum Request {
-    Nothing,
-    Command,
-    End,
-    Leave,
-}
-
 // What the answers so far leave.
 #[derive(Debug, Drop)]
 pub struct Progress {
     // When the next tick is due.
     pub due: u64,
-    // How many lines more there may be, besides those that end the night.
-    pub room: u32,
     pub stage: Stage,
     // Whether the last answer was a tick.
     pub ticked: bool,
@@ -64,7 +47,6 @@ impl Progress {
     {
         Progress {
             due: 0,
-            room: LINES,
             stage: Stage::On,
             ticked: false,
         }
@@ -91,35 +73,32 @@ impl Progress {
         if matches!(self.stage, Stage::Dark(ticks) if ticks >= DARK_TICKS) {
             return Some(self.close(now));
         }
-        if now >= self.due && !self.ticked {
-            return Some(self.tick(now));
+        if now < self.due || self.ticked {
+            return None;
         }
-        if self.stage == Stage::On && self.room == 0 {
-            return Some(self.dim(now));
-        }
-        None
+        Some(self.tick(now))
     }
 
     // The answer to a line that was typed.
     pub fn answer(&mut self, now: u64, line: &[u8]) -> Given
         requires below { now < 2 ^ 48 }
+        requires looked_at { length line.now ≤ 201 }
         ensures tells { (given : List Answer) → Leaves self.old given
             → Tells result (to_line given now line.now) }
         ensures leaves { (given : List Answer) → Leaves self.old given
             → Leaves self.new (to_line given now line.now ∷ given) }
         ensures at_once { (until : ℕ) → result ≢ Until until }
     {
-        if self.stage != Stage::On || !fits(now, line) {
-            return self.refuse(line);
-        }
-        match read_request(line) {
-            Request::Nothing => self.refuse(line),
+        let text = without_keys(line);
+        let text = text.as_slice();
+        match request_of(self.is_on(), now, line, text) {
+            Request::Nothing(why) => self.give(Given::Refused(shown(line), why)),
+            Request::Where => self.give(Given::Where(now)),
+            Request::Help => self.give(Given::Help),
             Request::Leave => self.close(now),
-            Request::End => self.dim(now),
-            Request::Command => {
-                self.ticked = false;
-                self.room = self.room.saturating_sub(1);
-                Given::Line(input_line(now, line))
+            Request::Finish => self.dim(now),
+            Request::Order(command) => {
+                self.give(Given::Line(given_line(now, Call::Order(command), text)))
             }
         }
     }
@@ -144,14 +123,19 @@ impl Progress {
         self.tick(now)
     }
 
-    fn refuse(&mut self, line: &[u8]) -> Given
-        ensures tells { Tells result (refusal line.now) }
-        ensures leaves { (given : List Answer) → Leaves self.old given
-            → Leaves self.new (refusal line.now ∷ given) }
-        ensures at_once { (until : ℕ) → result ≢ Until until }
+    fn is_on(&self) -> bool
+        ensures { result ≡ is_on self.now.stage }
+    {
+        self.stage == Stage::On
+    }
+
+    // Gives what is no tick, and leaves the stage as it is.
+    fn give(&mut self, given: Given) -> Given
+        ensures same { result ≡ given }
+        ensures ticked { self.new ≡ record self.old { ticked = false } }
     {
         self.ticked = false;
-        Given::Refused(shown(line))
+        given
     }
 
     // The light goes down.
@@ -164,9 +148,8 @@ impl Progress {
         ensures at_once { (until : ℕ) → result ≢ Until until }
     {
         self.stage = Stage::Dark(0);
-        self.room = self.room.saturating_sub(1);
         self.ticked = false;
-        Given::Line(input_line(now, b"master 0"))
+        Given::Line(given_line(now, Call::Order(Command::Master(0)), b"master 0"))
     }
 
     // The streams end.
@@ -179,9 +162,8 @@ impl Progress {
         ensures at_once { (until : ℕ) → result ≢ Until until }
     {
         self.stage = Stage::Ended(0);
-        self.room = self.room.saturating_sub(1);
         self.ticked = false;
-        Given::Line(input_line(now, b"end"))
+        Given::Line(given_line(now, Call::Order(Command::End), b"end"))
     }
 
     fn tick(&mut self, now: u64) -> Given
@@ -194,9 +176,8 @@ impl Progress {
     {
         self.due = due_after(now);
         self.stage = self.stage.after_tick();
-        self.room = self.room.saturating_sub(1);
         self.ticked = true;
-        Given::Line(input_line(now, b"tick"))
+        Given::Line(given_line(now, Call::Tick, b"tick"))
     }
 }
 
@@ -212,29 +193,6 @@ impl Stage {
             Stage::Dark(ticks) => Stage::Dark(ticks + 1),
             Stage::Ended(ticks) => Stage::Ended(ticks + 1),
         }
-    }
-}
-
-fn read_request(line: &[u8]) -> Request
-    ensures { (moment : ℕ) → IsRequest line.now moment result }
-{
-    if is_leave(line) {
-        return Request::Leave;
-    }
-    match command_in(&mut Words::new(line)) {
-        None => Request::Nothing,
-        Some(Command::End) => Request::End,
-        Some(_) => Request::Command,
-    }
-}
-
-fn is_leave(line: &[u8]) -> bool
-    ensures { result ≡ is_leave (words_of line.now) }
-{
-    let mut words = Words::new(line);
-    match words.next() {
-        Some(word) => words.next().is_none() && same_word(word, b"leave"),
-        None => false,
     }
 }
 

@@ -1,10 +1,11 @@
 ghost use Rattle.std.specs.Prelude.{◌≡◌, ℕ, ◌-◌, ◌≤◌, List, [], ◌∷◌};
 ghost use Rattle.std.specs.Prelude.{IsTrue, length, slice_index};
-ghost use Rattle.show_core.specs.Numbers.{is_channel, AreLevels};
+ghost use Rattle.show_core.specs.Numbers.{is_channel, is_group, is_sub, AreLevels};
 ghost use Rattle.master_core.specs.declared.fault.NoMaster.TheVariants.{NoSub, NoGroup};
 ghost use Rattle.master_core.specs.Merged.{merged_after};
 ghost use Rattle.master_core.specs.Settings.{Setting, sub_setting, group_setting, grand_setting};
-ghost use Rattle.master_core.specs.Settings.{Bytes, grand_after, StandsFor, Sets};
+ghost use Rattle.master_core.specs.Settings.{Bytes, grand_after, group_after, sub_after};
+ghost use Rattle.master_core.specs.Settings.{Sets, StandsFor};
 ghost use Rattle.master_core.specs.Inside.{masters_view, IsMasters};
 
 use crate::fault::NoMaster;
@@ -91,6 +92,24 @@ impl Masters {
             → result ≡ grand_after settings }
     {
         self.grand
+    }
+
+    /// The master of submaster `n`, 1 to 100.
+    pub fn sub(&self, n: u16) -> u8
+        requires { IsTrue (is_sub n) }
+        ensures { (settings : List Setting) → StandsFor self.now settings
+            → result ≡ sub_after settings n }
+    {
+        self.subs[usize::from(n)]
+    }
+
+    /// The master of group `n`, 1 to 500.
+    pub fn group(&self, n: u16) -> u8
+        requires { IsTrue (is_group n) }
+        ensures { (settings : List Setting) → StandsFor self.now settings
+            → result ≡ group_after settings n }
+    {
+        self.groups[usize::from(n)]
     }
 
     /// The level of a channel: the highest of the playback level, of its byte times the master in

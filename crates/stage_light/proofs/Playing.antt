@@ -52,7 +52,8 @@ dry_runs_plays p cut before after dry =
 
 module _ (p : Production) where
   abbrev SomeLines : Emitted → Emitted → Type 0
-  SomeLines before after = (lines : List (List ℕ)) × HasPlayed p lines before after
+  SomeLines before after =
+      (lines : List (List ℕ)) × HasPlayed p lines before.offered after.offered
 
   of_run : (lines : List (List ℕ)) (before after : Emitted) (lost : ℕ)
       → Ran p lines before after lost → SomeLines before after

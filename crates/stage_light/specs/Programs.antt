@@ -1,6 +1,6 @@
--- What the programs promise, joined: what `play` did, also in a live night, is a play; and from a
--- play to what `listen` prints.
-use Rattle.std.specs.Prelude.{◌≡◌, ℕ, ◌-◌, ◌++◌, List, [], ◌∷◌, reverse, Result, Ok, Err}
+-- What the programs promise, joined: what `play` and `live` did is a play; and from a play to what
+-- `listen` prints.
+use Rattle.std.specs.Prelude.{◌≡◌, ℕ, ◌-◌, ◌++◌, List, ◌∷◌, reverse, Result}
 use Rattle.devices.specs.Send.{Send}
 use Rattle.devices.specs.Tape.{Tape, with_more}
 use Rattle.desk_core.specs.Meaning.{latest_frame}
@@ -8,13 +8,13 @@ use Rattle.receiver_text.specs.Replies.{slots_line}
 use Rattle.show_core.specs.Tables.{Tables}
 use Rattle.console.specs.Streams.{Production}
 use Rattle.cueplayer_faults.specs.declared.fault.RunFault.{RunFault}
-use Rattle.cueplayer_faults.specs.declared.fault.RunFault.TheVariants as run
 use Rattle.cueplayer_play.specs.Lines.{Cut}
 use Rattle.cueplayer_play.specs.Play.{Plays}
 use Rattle.cueplayer_play.specs.Run.{Emitted, Ran, history_of}
 use Rattle.cueplayer_play.specs.Stage.{RunsDry}
 use Rattle.cueplayer_runs.specs.Listening.{listen_text, replies, Listened}
-use Rattle.live_input.specs.Laws.{accepted, text_of}
+use Rattle.cueplayer_live.specs.Night.{Lived, Seen}
+use Rattle.live_input.specs.Laws.{accepted}
 use Rattle.live_input.specs.Night.{Happening, answers, lines_given}
 use Rattle.stage_light.specs.Plays.{Play, IsPlay, sends_for, frame_for}
 use Rattle.stage_light.specs.Traffic.{Traffic, datagrams_in, receipts, slots_at, IsFresh}
@@ -23,59 +23,46 @@ use Rattle.stage_light.specs.Laws.{HearsOne}
 -- ---- what `play` did is a play
 
 -- these lines, and what the link was offered from before to after, are a play
-pub record HasPlayed (p : Production) (lines : List (List ℕ)) (before after : Emitted)
+pub record HasPlayed (p : Production) (lines : List (List ℕ)) (before after : List Send)
     : Type 0 where
   pub offered : List Send
-  pub after_is : after.offered ≡ before.offered ++ offered
+  pub after_is : after ≡ before ++ offered
   pub is_play : IsPlay (record { production = p; lines = lines; offered = offered })
 
 -- where all lines were carried out
 abbrev pub RunsArePlays : Type 0
 RunsArePlays =
     (p : Production) (lines : List (List ℕ)) (before after : Emitted) (lost : ℕ)
-    → Ran p lines before after lost → HasPlayed p lines before after
+    → Ran p lines before after lost → HasPlayed p lines before.offered after.offered
 
 -- and where the output failed at the last of them: what the link was offered at it counts too
 abbrev pub DryRunsArePlays : Type 0
 DryRunsArePlays =
     (p : Production) (cut : Cut) (before after : Emitted) → RunsDry p cut before after
-    → HasPlayed p (cut.rest ∷ cut.lines) before after
+    → HasPlayed p (cut.rest ∷ cut.lines) before.offered after.offered
 
 -- whatever a `play` that took its input answers, where its devices tell
 abbrev pub PlaysArePlays : Type 0 → Type 0
 PlaysArePlays ended =
     (p : Production) (result : Result (Unit {0}) RunFault) (fed feeds : Tape ℕ)
     (before after : Emitted) → Plays p result ended fed feeds before after
-    → (lines : List (List ℕ)) × HasPlayed p lines before after
+    → (lines : List (List ℕ)) × HasPlayed p lines before.offered after.offered
 
 -- ---- a live night is a play
 
--- the lines of a night that a `play` did not carry out, by its answer: none, or those behind the
--- line at which its output failed. It never refuses one
-abbrev pub AreLeft : Result (Unit {0}) RunFault → List (List ℕ) → Type 0
-AreLeft (Ok done) later = later ≡ []
-AreLeft (Err (run.Lost n)) later = later ≡ []
-AreLeft (Err run.Device) later = Unit {0}
-AreLeft (Err fault) later = ⊥
+-- what happened to its input since, and that the lines which were given under it are a play
+pub record IsNight (p : Production) (before after : Seen) : Type 0 where
+  pub happened : List Happening
+  pub happened_is : after.booth.happened ≡ happened ++ before.booth.happened
+  pub has_played : HasPlayed p (lines_given (answers happened)) before.offered after.offered
 
--- the first lines that a live input gave were played, and the later ones left out
-pub record IsNight (p : Production) (happenings : List Happening)
-    (result : Result (Unit {0}) RunFault) (before after : Emitted) : Type 0 where
-  pub lines : List (List ℕ)
-  pub later : List (List ℕ)
-  pub lines_are : lines_given (answers happenings) ≡ later ++ lines
-  pub are_left : AreLeft result later
-  pub has_played : HasPlayed p lines before after
-
--- A LIVE NIGHT IS A PLAY. Whatever bytes came and whatever the clock said: a `play` whose input was
--- what a live input has given carried out all of it, or as much as its output took. So the laws of
--- plays hold of each live night
-abbrev pub NightsArePlays : Type 0 → Type 0
-NightsArePlays ended =
-    (p : Production) (happenings : List Happening) (result : Result (Unit {0}) RunFault)
-    (fed feeds : Tape ℕ) (before after : Emitted) → Plays p result ended fed feeds before after
-    → feeds ≡ with_more fed (text_of (lines_given (answers happenings)))
-    → IsNight p happenings result before after
+-- A LIVE NIGHT IS A PLAY. Whatever bytes came, whatever the clock said and however it ended: the
+-- link was offered what is due at the lines that the live input gave. So the laws of plays hold of
+-- each live night
+abbrev pub NightsArePlays : Type 0
+NightsArePlays =
+    (p : Production) (result : Result (Unit {0}) RunFault) (before after : Seen)
+    → Lived p result before after → IsNight p before after
 
 -- A NIGHT IS WHAT WAS TYPED. The history under which a show is meant then is what a desk accepts
 -- of the answers: the commands that were typed, the ticks, and the end of the night, each at its
@@ -85,15 +72,19 @@ NightsAreTyped =
     (show : Tables) (happenings : List Happening)
     → history_of show (lines_given (answers happenings)) ≡ accepted show (answers happenings)
 
--- FROM WHAT WAS TYPED TO THE LIGHT. So the headline of a live night: where all that a live input
--- has given was played, a receiver that hears this play alone, and to which it is fresh, shows what
--- the show means at the latest tick, under the commands that were typed before that tick
+-- FROM WHAT WAS TYPED TO THE LIGHT. So the headline of a live night, however it ended: where this
+-- happened to its input, and these sends were offered, a receiver that hears them alone, and to
+-- which they are fresh, shows what the show means at the latest tick, under the commands that were
+-- typed before that tick
 abbrev pub NightHeadline : Type 0
 NightHeadline =
-    (p : Production) (happenings : List Happening) (offered : List Send)
-    → (let given = answers happenings in
+    (p : Production) (result : Result (Unit {0}) RunFault) (before after : Seen)
+    → Lived p result before after → (happened : List Happening) (offered : List Send)
+    → after.booth.happened ≡ happened ++ before.booth.happened
+    → after.offered ≡ before.offered ++ offered
+    → (let given = answers happened in
     let play : Play = record { production = p; lines = lines_given given; offered = offered } in
-    IsPlay play → (universe t : ℕ) (traffic : Traffic ℕ) → HearsOne play universe t traffic
+    (universe t : ℕ) (traffic : Traffic ℕ) → HearsOne play universe t traffic
     → IsFresh t (sends_for play universe) (receipts traffic)
     → slots_at universe traffic t
     ≡ latest_frame p.show (accepted p.show given) (universe - p.base))

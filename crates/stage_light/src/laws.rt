@@ -38,13 +38,12 @@ pub fn plays_are_plays<R: Feed>(_input: &R)
     ensures { PlaysArePlays (R.ended _input.now) }
 {}
 
-/// And so is a live night: whatever was typed and whatever the clock said, a `play` whose input was
-/// what a live input gave carries out all of it, or as much as its output takes, and refuses no
-/// line (`plays`). Its history is that of the commands that were typed, of the ticks, and of the
-/// end of the night (`typed`); so the promise holds of a live night, under the commands that were
-/// typed (`headline`).
-pub fn nights_are_plays<R: Feed>(_input: &R)
-    ensures plays { NightsArePlays (R.ended _input.now) }
+/// And so is a live night, where its booth and its link tell: whatever was typed, whatever the clock
+/// said and however it ended, the lines that its input gave are a play (`plays`). Its history is
+/// that of the commands that were typed, of the ticks, and of the end of the night (`typed`); so
+/// the promise holds of a live night, under the commands that were typed (`headline`).
+pub fn nights_are_plays()
+    ensures plays { NightsArePlays }
     ensures typed { NightsAreTyped }
     ensures headline { NightHeadline }
 {}

@@ -2,10 +2,10 @@ use Rattle.stage_light.proofs.Nights.{night_headline, nights_plays, nights_typed
 use Rattle.stage_light.proofs.laws.nights_are_plays.Goals as goal
 
 pub returns-clause-plays : goal.returns-clause-plays
-returns-clause-plays g c = nights_plays _
+returns-clause-plays c = nights_plays
 
 pub returns-clause-typed : goal.returns-clause-typed
-returns-clause-typed g c = nights_typed
+returns-clause-typed c = nights_typed
 
 pub returns-clause-headline : goal.returns-clause-headline
-returns-clause-headline g c = night_headline
+returns-clause-headline c = night_headline

@@ -25,7 +25,7 @@ returns-in-Some-next_line-clause-tells c = rw (← c.self.view_is) (λ h s.
     let is = line_answered c.args.moment (typed_kept c.next_line.new.self) s c.is_over.ensures
     c.if-is_over.false c.min.ensures c.max-self-inside.ensures _ first
     c.in-Some-next_line.ensures.takes in
-    rw (c.as_slice.ensures.value, is.0) at (c.answer.ensures.tells _ leaves))
+    rw (c.as_slice-line.ensures.value, is.0) at (c.answer.ensures.tells _ leaves))
 
 pub returns-in-Some-next_line-clause-stands : goal.returns-in-Some-next_line-clause-stands
 returns-in-Some-next_line-clause-stands c = rw (← c.self.view_is) (λ h s.
@@ -34,7 +34,8 @@ returns-in-Some-next_line-clause-stands c = rw (← c.self.view_is) (λ h s.
     let is = line_answered c.args.moment (typed_kept c.next_line.new.self) s c.is_over.ensures
     c.if-is_over.false c.min.ensures c.max-self-inside.ensures _ first
     c.in-Some-next_line.ensures.takes in
-    is.1 _ (rw c.as_slice.ensures.value at (c.answer.ensures.leaves _ leaves)))
+    rw (c.has_keys-self-inside.ensures, c.as_slice-line.ensures.value)
+    (is.1 _ (rw c.as_slice-line.ensures.value at (c.answer.ensures.leaves _ leaves))))
 
 pub returns-in-None-clause-tells : goal.returns-in-None-clause-tells
 returns-in-None-clause-tells c = rw (← c.self.view_is) (λ h s.

@@ -2,5 +2,6 @@ use Rattle.std.proofs.Common.{arith, length-append}
 use Rattle.std.proofs.lemmas.Fmt.{length-decimal-le}
 use Rattle.live_input.proofs.progress.Progress.close.Goals as goal
 
-pub input_line-requires : goal.input_line-requires
-input_line-requires c = simp length-append (omega (arith, length-decimal-le 15 c.args.now))
+pub given_line-requires-clause-short : goal.given_line-requires-clause-short
+given_line-requires-clause-short c =
+    simp length-append (omega (arith, length-decimal-le 15 c.args.now))

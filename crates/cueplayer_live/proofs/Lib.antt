@@ -1,0 +1,4 @@
+mod Texts
+mod Moves
+mod Carrying
+mod Living

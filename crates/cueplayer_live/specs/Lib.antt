@@ -1,0 +1,4 @@
+pub mod Booth
+pub mod Shown
+pub mod Night
+pub mod Stands

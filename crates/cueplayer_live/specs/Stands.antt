@@ -1,0 +1,74 @@
+-- Where a night on its way stands.
+-- Of use inside the crate: what its public calls answer is said without these.
+use Rattle.std.specs.Prelude.{◌≡◌, ◌++◌, ◌∷◌, [], ℕ, Bool, true, false, List, Option, None}
+use Rattle.devices.specs.Send.{Send, failures_of}
+use Rattle.fade_core.specs.Level.{Start}
+use Rattle.desk_core.specs.Played.{Act}
+use Rattle.desk_core.specs.declared.command.Command.TheVariants.{Go, Back, Goto, GotoIn}
+use Rattle.sacn_source.specs.declared.offered.Offered.{Offered}
+use Rattle.console.specs.Offering.{AreOffered}
+use Rattle.console.specs.Stands as console
+use Rattle.console.specs.Streams.{Production}
+use Rattle.console_text.specs.declared.call.Call.{Call}
+use Rattle.console_text.specs.declared.call.Call.TheVariants.{Order}
+use Rattle.console_text.specs.Spelling.{reading_of}
+use Rattle.cueplayer_play.specs.declared.performance.Answer.{Answer}
+use Rattle.cueplayer_play.specs.declared.performance.Answer.TheVariants.{Refused}
+use Rattle.cueplayer_play.specs.Run.{due_after, history_of}
+use Rattle.live_input.specs.Night.{Happening, answers, lines_given}
+use Rattle.live_input.specs.Stands as live
+use Rattle.cueplayer_live.specs.declared.night.Night.{Night}
+use Rattle.cueplayer_live.specs.Booth.{BoothState}
+use Rattle.cueplayer_live.specs.Night.{Lives, Seen}
+use Rattle.cueplayer_live.specs.Shown.{Takes, shown_of}
+
+abbrev pub is_accepted : Answer → Bool
+is_accepted (Refused why) = false
+is_accepted _ = true
+
+-- the cue to which an accepted call moved, from the one that is current behind it
+abbrev pub own_move : Call → Option ℕ → Option ℕ
+own_move (Order Go) current = current
+own_move (Order Back) current = current
+own_move (Order (Goto n)) current = current
+own_move (Order (GotoIn n time)) current = current
+own_move call current = None
+
+-- a text was shown, unless a call failed meanwhile, and nothing else was done
+pub record Shows (before after : BoothState) (text : List ℕ) : Type 0 where
+  pub takes : Takes before.shown after.shown text
+  pub rest : after ≡ record before { shown = after.shown }
+
+-- a line was carried out after a history: the link was offered what is due at it, and it was
+-- recorded and shown
+pub record CarriesOut (p : Production) (history : List Act) (line : List ℕ) (before after : Seen)
+    (lost : ℕ) : Type 0 where
+  pub sends : List Send
+  pub offers : List (ℕ × Offered)
+  pub are_offered : AreOffered p.source (due_after p history (reading_of line)) sends offers
+  pub happened_is : after.booth.happened ≡ before.booth.happened
+  pub offered_is : after.offered ≡ before.offered ++ sends
+  pub kept : Takes before.booth.kept after.booth.kept (line ++ 10 ∷ [])
+  pub shown : Takes before.booth.shown after.booth.shown (shown_of p history (reading_of line)
+      offers)
+  pub lost_is : lost ≡ failures_of sends
+
+-- a night on its way stands for what happened to its input: its console has carried out the lines
+-- that the input gave
+pub record StandsFor {F : Type 0} (fader_stands_for : F → List Start → Type 0)
+    (p : Production) (night : Night F) (happened : List Happening) : Type 0 where
+  pub console_stands : console.StandsFor fader_stands_for p night.console
+      (history_of p.show (lines_given (answers happened)))
+  pub input_stands : live.StandsFor night.input happened
+
+-- a night has gone on: it stands for what happened since, behind what happened before; and where
+-- its devices tell, it has lived through all of that
+pub record GoesOn {F : Type 0} (fader_stands_for : F → List Start → Type 0)
+    (tell : Type 0) (old new : Night F) (before after : Seen) : Type 0 where
+  pub since : List Happening
+  pub stands : (p : Production) (happened : List Happening)
+      → StandsFor fader_stands_for p old happened
+      → StandsFor fader_stands_for p new (since ++ happened)
+  pub lived : tell → (p : Production) (happened : List Happening) (start : Seen)
+      → StandsFor fader_stands_for p old happened → Lives p happened start before old.lost
+      → Lives p (since ++ happened) start after new.lost

@@ -1,0 +1,73 @@
+ghost use Rattle.std.specs.Prelude.{◌≡◌, IfOk, OnOk, OnErr};
+ghost use Rattle.devices.specs.Tape.{with_more, with_failure};
+ghost use Rattle.live_input.specs.Night.{asked};
+ghost use Rattle.cueplayer_live.specs.Booth.{BoothState, IsWithin, happens, hears};
+
+use devices::LinkFault;
+
+/// What a wait brought.
+#[derive(Clone, Copy, Debug, PartialEq, Eq)]
+pub enum Heard {
+    /// So many bytes, at the front of the block.
+    Bytes(usize),
+    /// The end of the input, and whether the night ends with it.
+    End(bool),
+    /// Nothing.
+    Nothing,
+}
+
+/// Where a live night is run from: the clock, what is typed, the record, and what the operator
+/// sees.
+///
+/// A booth *tells* where contracts can see what it did, under the rules of an
+/// [`Output`](devices::Output). Nothing that it keeps or shows ends a night: a call that fails is
+/// one that the booth tells of in its own way.
+pub trait Booth {
+    /// Contracts can see what the booth did.
+    ghost tells: { Self → Type 0 };
+
+    /// What happened to the night's input, and what was kept and shown.
+    ghost state: { Self → BoothState };
+
+    /// The moment of the clock, in milliseconds from the start of the night.
+    fn moment(&mut self) -> Result<u64, LinkFault>
+        ensures told { tells self.new → tells self.old }
+        ensures ok { IfOk result (λ moment. tells self.new
+            → state self.new ≡ happens (asked moment) (state self.old)) }
+        ensures err { OnErr result (tells self.new → state self.new ≡ state self.old) };
+
+    /// Waits for what is typed, at most from `moment` to `due`, and writes it to the front of the
+    /// block.
+    fn wait(
+        &mut self,
+        moment: u64,
+        due: u64,
+        block: &mut [u8; 4096],
+    ) -> Result<Heard, LinkFault>
+        ensures told { tells self.new → tells self.old }
+        ensures within { IfOk result IsWithin }
+        ensures ok { IfOk result (λ heard. tells self.new
+            → state self.new ≡ hears heard block.new (state self.old)) }
+        ensures err { OnErr result (tells self.new → state self.new ≡ state self.old) };
+
+    /// Records a line, with its LF.
+    fn keep(&mut self, line: &[u8]) -> Result<(), LinkFault>
+        ensures told { tells self.new → tells self.old }
+        ensures ok { OnOk result (tells self.new → state self.new
+            ≡ record (state self.old) { kept = with_more (state self.old).kept line.now }) }
+        ensures err { OnErr result (tells self.new → state self.new
+            ≡ record (state self.old) { kept = with_failure (state self.old).kept }) };
+
+    /// Shows a line, with its LF.
+    fn show(&mut self, line: &[u8]) -> Result<(), LinkFault>
+        ensures told { tells self.new → tells self.old }
+        ensures ok { OnOk result (tells self.new → state self.new
+            ≡ record (state self.old) { shown = with_more (state self.old).shown line.now }) }
+        ensures err { OnErr result (tells self.new → state self.new
+            ≡ record (state self.old) { shown = with_failure (state self.old).shown }) };
+
+    /// Tells that a typed line was refused: its first 200 bytes, as they are shown.
+    fn refuse(&mut self, text: &[u8])
+        ensures told { tells self.new → tells self.old }
+        ensures same { tells self.new → state self.new ≡ state self.old };
+}

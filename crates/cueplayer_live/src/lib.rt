@@ -1,0 +1,16 @@
+//! `live`: a night by the clock. What is typed is carried out by a console at the moment at which
+//! it comes, ticks are made by themselves, and the operator sees answers and moves.
+//!
+//! [`live`] opens a console for a show and runs the night from a [`Booth`]: its clock, what is
+//! typed, the record and the screen. Over a booth and a link that tell, its contract says exactly
+//! which packets were offered, what was recorded and what was shown, for whatever bytes came and
+//! whatever the clock said.
+#![tactic(auto)]
+
+mod booth;
+mod carry;
+mod night;
+mod run;
+
+pub use booth::{Booth, Heard};
+pub use run::live;

@@ -1,0 +1,52 @@
+-- The text of a line without its keys.
+use Rattle.std.proofs.Common.{◌≡◌, ◌≤◌, ◌+◌, ℕ, suc, true, false, arith, List, [], ◌∷◌, ◌++◌, length}
+use Rattle.std.proofs.Common.{append_assoc, length-append}
+use Rattle.std.specs.Prelude.{All, decimal}
+use Rattle.std.proofs.lemmas.Bool.{cond_both}
+use Rattle.std.proofs.lemmas.List.Elements.{All-cons, All-head, All-nil, All-tail}
+use Rattle.live_input.specs.declared.keys.Part.{Part}
+use Rattle.live_input.specs.declared.keys.Part.TheVariants.{Text}
+use Rattle.live_input.specs.Keys.{is_text, part_after, text_from, without_keys}
+use Rattle.live_input.specs.Night.{at_moment}
+
+-- it is no longer than the line
+text_short : (part : Part) (line : List ℕ) → length (text_from part line) ≤ length line
+text_short part [] = omega arith
+text_short part (b ∷ line) =
+    let rest = text_short (part_after part b) line in
+    cond_both (is_text part b) _ _ (λ (text : List ℕ). length text ≤ suc (length line))
+    (λ e. omega (arith, rest)) (λ e. omega (arith, rest))
+
+spaced : (n : ℕ) (words : List ℕ)
+    → length (at_moment n words) ≡ length (decimal n) + suc (length words)
+spaced n words = simp length-append (omega arith)
+
+pub keys_short : (n : ℕ) (line : List ℕ) → length (at_moment n line) ≤ 200
+    → length (at_moment n (without_keys line)) ≤ 200
+keys_short n line fit =
+    let short : length (without_keys line) ≤ length line = text_short Text line in
+    omega (arith, spaced n line, spaced n (without_keys line), short, fit)
+
+-- what holds of all bytes of a line holds of those of its text
+text_whole : (P : ℕ → Type 0) (part : Part) (line : List ℕ) → All P line
+    → All P (text_from part line)
+text_whole P part [] h = All-nil P
+text_whole P part (b ∷ line) h =
+    let rest = text_whole P (part_after part b) line (All-tail P b line h) in
+    cond_both (is_text part b) _ _ (All P)
+    (λ e. All-cons P b _ (All-head P b line h) rest) (λ e. rest)
+
+pub keys_whole : (P : ℕ → Type 0) (line : List ℕ) → All P line → All P (without_keys line)
+keys_whole P = text_whole P Text
+
+-- ---- a byte more
+
+pub next_text : (whole text rest : List ℕ) (part : Part) (b : ℕ) → is_text part b ≡ true
+    → whole ≡ text ++ text_from part (b ∷ rest)
+    → whole ≡ (text ++ b ∷ []) ++ text_from (part_after part b) rest
+next_text whole text rest part b is so_far = rw append_assoc (rw is at so_far)
+
+pub next_key : (whole text rest : List ℕ) (part : Part) (b : ℕ) → is_text part b ≡ false
+    → whole ≡ text ++ text_from part (b ∷ rest)
+    → whole ≡ text ++ text_from (part_after part b) rest
+next_key whole text rest part b is so_far = rw is at so_far

@@ -1,0 +1,12 @@
+use Rattle.std.proofs.Common.{ap, ◌∙◌, Some}
+use Rattle.console_text.specs.Spelling as spelling
+use Rattle.live_input.proofs.Spelled.{reading_is}
+use Rattle.live_input.proofs.given.given_line.Goals as goal
+
+pub returns : goal.returns
+returns c = record {
+  text_is = c.input_line.ensures;
+  spells = reading_is c.args.moment c.args.words.now c.requires.below
+      ∙ ap (spelling.at_moment (Some c.args.moment)) c.requires.spells;
+  below = c.requires.below;
+}
