@@ -4,7 +4,8 @@
 //! [`read_call`] reads a whole line with its moment; [`command_in`] and [`call_in`] read the words
 //! behind one. [`done_line`], [`refused_line`] and [`ticked_line`] write an answer behind a number,
 //! which is the call's moment, or a script line's own number; [`reason_line`] writes why something
-//! else was not done, and [`cue_line`] which cue is current from a moment on.
+//! else was not done, [`cue_line`] which cue is current from a moment on, and [`where_line`] where a
+//! night is.
 //!
 //! ```
 //! let reading = read_call(b"25 goto 1.5");
@@ -20,8 +21,10 @@ mod answer;
 mod call;
 mod move_line;
 mod reading;
+mod where_line;
 
 pub use answer::{AnswerLine, done_line, reason_line, refused_line, ticked_line};
 pub use call::{Call, call_in, command_in};
-pub use move_line::{CueLine, cue_line};
+pub use move_line::{CueLine, CueNumber, cue_line, cue_number};
 pub use reading::{Reading, read_call};
+pub use where_line::{WhereLine, where_line};

@@ -2,18 +2,29 @@
 use Rattle.std.specs.Prelude.{ℕ, ◌≤◌, List, ◌∷◌, take}
 use Rattle.devices.specs.Tape.{Tape}
 use Rattle.live_input.specs.Night.{Happening, came, closed}
+use Rattle.live_input.specs.declared.reason.Reason.{Reason}
 use Rattle.cueplayer_live.specs.declared.booth.Heard.{Heard}
 use Rattle.cueplayer_live.specs.declared.booth.Heard.TheVariants.{Bytes, End, Nothing}
 
--- what happened to the input of its night, the newest first; the lines that it recorded; and what
--- it showed
+-- what is told beside answers: that a typed line was refused, by its text and why; that keys were
+-- left out of one
+pub data Told : Type 0 where
+  refused : List ℕ → Reason → Told
+  keys : Told
+
+-- what happened to the input of its night, the newest first; the lines that it recorded; what it
+-- showed; and what it told, the newest first
 pub record BoothState : Type 0 where
   pub happened : List Happening
   pub kept : Tape ℕ
   pub shown : Tape ℕ
+  pub told : List Told
 
 abbrev pub happens : Happening → BoothState → BoothState
 happens happening state = record state { happened = happening ∷ state.happened }
+
+abbrev pub is_told : Told → BoothState → BoothState
+is_told told state = record state { told = told ∷ state.told }
 
 -- what was heard: so many bytes at the front of the block, or the end of the input
 abbrev pub hears : Heard → List ℕ → BoothState → BoothState

@@ -1,14 +1,19 @@
 -- A live night: what is offered, recorded and shown of what happened to its input.
-use Rattle.std.specs.Prelude.{◌≡◌, ◌≤◌, ◌++◌, ℕ, min, true, List, Result, Ok, Err}
+use Rattle.std.specs.Prelude.{◌≡◌, ◌≤◌, ◌++◌, ℕ, min, true, false, if◌then◌else◌, List, [], ◌∷◌}
+use Rattle.std.specs.Prelude.{Result, Ok, Err}
+use Rattle.std.specs.Option.{option_map_or}
 use Rattle.devices.specs.Send.{Send, failures_of}
 use Rattle.console.specs.Streams.{Production}
 use Rattle.cueplayer_faults.specs.declared.fault.RunFault.{RunFault}
 use Rattle.cueplayer_faults.specs.declared.fault.RunFault.TheVariants as run
-use Rattle.cueplayer_play.specs.Run.{Carried, IsRun, lines_in, sends_of}
+use Rattle.console_text.specs.Spelling.{reading_of}
+use Rattle.cueplayer_play.specs.Run.{Carried, IsRun, history_of, lines_in, sends_of}
+use Rattle.live_input.specs.Keys.{has_keys}
 use Rattle.live_input.specs.Laws.{text_of}
-use Rattle.live_input.specs.Night.{Happening, answers, is_over, lines_given}
-use Rattle.cueplayer_live.specs.Booth.{BoothState}
-use Rattle.cueplayer_live.specs.Shown.{Takes, shown_in}
+use Rattle.live_input.specs.Night.{Answer, Happening, answers, is_over, line_of, lines_given, shown}
+use Rattle.live_input.specs.Night.{help, over, place, refusal, wait}
+use Rattle.cueplayer_live.specs.Booth.{BoothState, Told, keys, refused}
+use Rattle.cueplayer_live.specs.Shown.{Takes, help_text, shown_of, shown_place}
 
 -- what a booth did, and what a link was offered
 pub record Seen : Type 0 where
@@ -18,10 +23,33 @@ pub record Seen : Type 0 where
 abbrev pub seen : BoothState → List Send → Seen
 seen booth offered = record { booth = booth; offered = offered }
 
+-- what is shown at the answers, where these lines were carried out, in their order: of each line
+-- what is shown of it after the lines before; of `where` and `help` what they ask for
+abbrev pub shown_in : Production → List Answer → List Carried → List ℕ
+shown_in p [] run = []
+shown_in p (place moment line ∷ older) run =
+    shown_in p older run ++ shown_place p.show (history_of p.show (lines_in run)) moment
+shown_in p (help line ∷ older) run = shown_in p older run ++ help_text
+shown_in p (refusal why line ∷ older) run = shown_in p older run
+shown_in p (wait due ∷ older) run = shown_in p older run
+shown_in p (over ∷ older) run = shown_in p older run
+shown_in p (answer ∷ older) [] = shown_in p older []
+shown_in p (answer ∷ older) (newest ∷ run) = shown_in p older run
+    ++ shown_of p (history_of p.show (lines_in run)) (reading_of newest.line) newest.offers
+
+-- what is told at an answer: that its line is refused and why, or that keys were left out of it
+abbrev pub told_of : Answer → List Told
+told_of (refusal why line) = refused (shown line) why ∷ []
+told_of answer = if option_map_or has_keys (line_of answer) false then keys ∷ [] else []
+
+abbrev pub told_in : List Answer → List Told
+told_in [] = []
+told_in (answer ∷ older) = told_of answer ++ told_in older
+
 -- the lines that a live input gives under these happenings were carried out: at each the link was
 -- offered what is due at it after the lines before, whatever sends failed; the lines were recorded,
--- and the answers and moves shown, as far as no call of the booth failed; and so many packets were
--- lost, or more than can be counted
+-- and answers, moves and what was asked for shown, as far as no call of the booth failed; what is
+-- to be told was told; and so many packets were lost, or more than can be counted
 pub record Lives (p : Production) (happened : List Happening) (before after : Seen) (lost : ℕ)
     : Type 0 where
   pub run : List Carried
@@ -30,7 +58,8 @@ pub record Lives (p : Production) (happened : List Happening) (before after : Se
   pub happened_is : after.booth.happened ≡ happened ++ before.booth.happened
   pub offered_is : after.offered ≡ before.offered ++ sends_of run
   pub kept : Takes before.booth.kept after.booth.kept (text_of (lines_given (answers happened)))
-  pub shown : Takes before.booth.shown after.booth.shown (shown_in p run)
+  pub shown : Takes before.booth.shown after.booth.shown (shown_in p (answers happened) run)
+  pub told_is : after.booth.told ≡ told_in (answers happened) ++ before.booth.told
   pub lost_is : lost ≡ min (failures_of (sends_of run)) 18446744073709551615
 
 -- a night that is over: three ticks after `end`

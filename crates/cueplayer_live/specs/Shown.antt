@@ -1,12 +1,14 @@
 -- What a live night shows. Histories, moves and lines have the newest first.
 use Rattle.std.specs.Prelude.{◌≡◌, ◌≤◌, ℕ, ◌-◌, nat_lt, Bool, true, List, [], ◌∷◌, ◌++◌}
-use Rattle.std.specs.Prelude.{if◌then◌else◌, flat_map, length, reverse, take}
+use Rattle.std.specs.Prelude.{codes, if◌then◌else◌, flat_map, length, reverse, take}
 use Rattle.devices.specs.Tape.{Tape}
-use Rattle.playback_core.specs.Played.{Move}
-use Rattle.desk_core.specs.Played.{Act, ended, moves, refusal}
+use Rattle.show_core.specs.Tables.{Tables}
+use Rattle.playback_core.specs.Played.{Move, current_after, go_target}
+use Rattle.desk_core.specs.Played.{Act, ended, moves, refusal, settings}
 use Rattle.sacn_source.specs.declared.offered.Offered.{Offered}
 use Rattle.console.specs.Streams.{Production}
 use Rattle.console_text.specs.CueLine.{cue_line}
+use Rattle.console_text.specs.WhereLine.{where_line}
 use Rattle.console_text.specs.declared.reading.Reading.{Reading}
 use Rattle.console_text.specs.declared.reading.Reading.TheVariants.{At}
 use Rattle.console_text.specs.Spelling.{act_of, reading_of}
@@ -40,11 +42,21 @@ shown_of p history (At moment call) offers =
     (moves p.show (taken p.show (At moment call) history)))
 shown_of p history _ offers = []
 
--- and of the lines of a run, in their order
-abbrev pub shown_in : Production → List Carried → List ℕ
-shown_in p [] = []
-shown_in p (newest ∷ older) = shown_in p older
-    ++ shown_of p (history_of p.show (lines_in older)) (reading_of newest.line) newest.offers
+-- what is shown of `where` after a history: the current cue and the one that GO would come to, and
+-- what all masters are at
+abbrev pub shown_place : Tables → List Act → ℕ → List ℕ
+shown_place show history moment =
+    let current = current_after (moves show history) in
+    where_line moment current (go_target show.cues current) (settings history)
+
+-- what is shown of `help`
+abbrev pub help_text : List ℕ
+help_text = codes "go, back              the next cue, the one before\n"
+    ++ codes "goto 4.5              this cue; goto 4.5 in 3: in three seconds, goto 4.5 in 0: at once\n"
+    ++ codes "sub 3 50, group 1 FL  a submaster, a group: 0 to 100 percent, FL, or H00 to HFF\n"
+    ++ codes "master 80             the grand master\n"
+    ++ codes "where                 the current cue, the next one, and what masters are at\n"
+    ++ codes "end                   ends the night, dark; leave: receivers keep the light or drop it\n"
 
 -- a text was taken whole, unless a call failed meanwhile
 pub record Takes (before after : Tape ℕ) (text : List ℕ) : Type 0 where

@@ -16,6 +16,8 @@ use Rattle.cueplayer_play.specs.declared.performance.Answer.{Answer}
 use Rattle.cueplayer_play.specs.declared.performance.Answer.TheVariants.{Refused}
 use Rattle.cueplayer_play.specs.Run.{due_after, history_of}
 use Rattle.live_input.specs.Night.{Happening, answers, lines_given}
+use Rattle.live_input.specs.Kept.{Kept}
+use Rattle.live_input.specs.Laws.{NothingIsAsked}
 use Rattle.live_input.specs.Stands as live
 use Rattle.cueplayer_live.specs.declared.night.Night.{Night}
 use Rattle.cueplayer_live.specs.Booth.{BoothState}
@@ -51,6 +53,7 @@ pub record CarriesOut (p : Production) (history : List Act) (line : List ℕ) (b
   pub kept : Takes before.booth.kept after.booth.kept (line ++ 10 ∷ [])
   pub shown : Takes before.booth.shown after.booth.shown (shown_of p history (reading_of line)
       offers)
+  pub told_is : after.booth.told ≡ before.booth.told
   pub lost_is : lost ≡ failures_of sends
 
 -- a night on its way stands for what happened to its input: its console has carried out the lines
@@ -72,3 +75,11 @@ pub record GoesOn {F : Type 0} (fader_stands_for : F → List Start → Type 0)
   pub lived : tell → (p : Production) (happened : List Happening) (start : Seen)
       → StandsFor fader_stands_for p old happened → Lives p happened start before old.lost
       → Lives p (since ++ happened) start after new.lost
+
+-- an input waited: it stands for what happened since, and nothing else was done
+pub record Waits (tells : Type 0) (old new : Kept) (before after : BoothState) : Type 0 where
+  pub since : List Happening
+  pub none_asked : NothingIsAsked since
+  pub stands : (happened : List Happening) → live.StandsFor old happened
+      → live.StandsFor new (since ++ happened)
+  pub did : tells → after ≡ record before { happened = since ++ before.happened }

@@ -1,9 +1,11 @@
 ghost use Rattle.std.specs.Prelude.{◌≡◌, IfOk, OnOk, OnErr};
 ghost use Rattle.devices.specs.Tape.{with_more, with_failure};
 ghost use Rattle.live_input.specs.Night.{asked};
-ghost use Rattle.cueplayer_live.specs.Booth.{BoothState, IsWithin, happens, hears};
+ghost use Rattle.cueplayer_live.specs.Booth.{BoothState, IsWithin, happens, hears, is_told, keys};
+ghost use Rattle.cueplayer_live.specs.Booth.{refused};
 
 use devices::LinkFault;
+use live_input::Reason;
 
 /// What a wait brought.
 #[derive(Clone, Copy, Debug, PartialEq, Eq)]
@@ -66,8 +68,14 @@ pub trait Booth {
         ensures err { OnErr result (tells self.new → state self.new
             ≡ record (state self.old) { shown = with_failure (state self.old).shown }) };
 
-    /// Tells that a typed line was refused: its first 200 bytes, as they are shown.
-    fn refuse(&mut self, text: &[u8])
+    /// Tells that a typed line was refused, and why: its first 200 bytes, as they are shown.
+    fn refuse(&mut self, text: &[u8], why: Reason)
         ensures told { tells self.new → tells self.old }
-        ensures same { tells self.new → state self.new ≡ state self.old };
+        ensures refused { tells self.new
+            → state self.new ≡ is_told (refused text.now why) (state self.old) };
+
+    /// Tells that keys were left out of a typed line.
+    fn ignore_keys(&mut self)
+        ensures told { tells self.new → tells self.old }
+        ensures ignored { tells self.new → state self.new ≡ is_told keys (state self.old) };
 }

@@ -10,6 +10,7 @@
 mod booth;
 mod carry;
 mod night;
+mod place;
 mod run;
 
 pub use booth::{Booth, Heard};

@@ -1,13 +1,15 @@
-ghost use Rattle.std.specs.Prelude.{◌≡◌, List, IfOk, OnOk, true};
+ghost use Rattle.std.specs.Prelude.{◌≡◌, List, [], IfOk, OnOk, true, if◌then◌else◌};
 ghost use Rattle.desk_core.specs.Played.{Act};
 ghost use Rattle.console.specs.Stands as console_stands;
 ghost use Rattle.console.specs.Streams.{Production};
 ghost use Rattle.live_input.specs.Night.{Happening, answers, is_over};
 ghost use Rattle.cueplayer_live.specs.Night.{seen};
-ghost use Rattle.cueplayer_live.specs.Stands.{GoesOn, StandsFor};
+ghost use Rattle.cueplayer_live.specs.Booth.{is_told, keys};
+ghost use Rattle.cueplayer_live.specs.Stands.{GoesOn, StandsFor, Waits};
 
 use crate::booth::{Booth, Heard};
 use crate::carry::carry_out;
+use crate::place::{help_text, show_place};
 use console::Console;
 use devices::{Link, LinkFault};
 use fade_core::Fader;
@@ -45,19 +47,51 @@ impl<F: Fader> Night<F> {
             Given::Line(given) => {
                 let lost = carry_out(&mut self.console, &given, booth, link);
                 self.lost = self.lost.saturating_add(lost as u64);
+                self.tell_keys(booth);
             }
-            Given::Refused(text) => booth.refuse(text.as_slice()),
-            Given::Until(due) => {
-                let mut block = [0; 4096];
-                match booth.wait(moment, due, &mut block)? {
-                    Heard::Bytes(count) => self.input.take_bytes(&block[..count]),
-                    Heard::End(ends) => self.input.close(ends),
-                    Heard::Nothing => {}
-                }
+            Given::Where(moment) => {
+                show_place(&self.console, moment, booth);
+                self.tell_keys(booth);
             }
+            Given::Help => {
+                let _ = booth.show(help_text().as_bytes());
+                self.tell_keys(booth);
+            }
+            Given::Refused(text, why) => booth.refuse(text.as_slice(), why),
+            Given::Until(due) => self.wait(moment, due, booth)?,
             Given::Over => return Ok(true),
         }
         Ok(false)
+    }
+
+    // Tells where keys were left out of the line that was answered.
+    fn tell_keys<B: Booth>(&self, booth: &mut B)
+        ensures told_booth { B.tells booth.new → B.tells booth.old }
+        ensures tells { B.tells booth.new → B.state booth.new
+            ≡ (if self.now.input.keys then is_told keys (B.state booth.old)
+            else B.state booth.old) }
+    {
+        if self.input.ignored_keys() {
+            booth.ignore_keys();
+        }
+    }
+
+    // Waits for what is typed, until something is due.
+    fn wait<B: Booth>(&mut self, moment: u64, due: u64, booth: &mut B) -> Result<(), LinkFault>
+        requires { self.old.input.typed.unread ≡ [] }
+        ensures told_booth { B.tells booth.new → B.tells booth.old }
+        ensures console { self.new.console ≡ self.old.console }
+        ensures lost { self.new.lost ≡ self.old.lost }
+        ensures stands { Waits (B.tells booth.new) self.old.input self.new.input
+            (B.state booth.old) (B.state booth.new) }
+    {
+        let mut block = [0; 4096];
+        match booth.wait(moment, due, &mut block)? {
+            Heard::Bytes(count) => self.input.take_bytes(&block[..count]),
+            Heard::End(ends) => self.input.close(ends),
+            Heard::Nothing => {}
+        }
+        Ok(())
     }
 
     // Goes on until the night is over.
