@@ -21,10 +21,10 @@ mod answer;
 mod call;
 mod move_line;
 mod reading;
-mod where_line;
+mod whereabouts;
 
 pub use answer::{AnswerLine, done_line, reason_line, refused_line, ticked_line};
 pub use call::{Call, call_in, command_in};
 pub use move_line::{CueLine, CueNumber, cue_line, cue_number};
 pub use reading::{Reading, read_call};
-pub use where_line::{WhereLine, where_line};
+pub use whereabouts::{WhereLine, where_line};
