@@ -1,15 +1,17 @@
 -- Input lines and answers, evaluated.
-use Rattle.std.specs.Prelude.{◌≡◌, refl, codes, [], ◌∷◌}
+use Rattle.std.specs.Prelude.{◌≡◌, refl, codes, [], ◌∷◌, Some, None}
 use Rattle.std.specs.Fmt.{digits}
 use Rattle.desk_core.specs.declared.answer.Refused.TheVariants.{AtStart}
 use Rattle.desk_core.specs.declared.answer.Ticked.TheVariants.{Live, Ending}
 use Rattle.desk_core.specs.declared.command.Command.TheVariants.{Go, Goto, GotoIn, Sub, Group}
 use Rattle.desk_core.specs.declared.command.Command.TheVariants.{Master}
+use Rattle.master_core.specs.Settings.{grand_setting, group_setting, sub_setting}
 use Rattle.sacn_source.specs.declared.offered.Offered.TheVariants.{Sent, Lost, Quiet}
 use Rattle.console_text.specs.declared.call.Call.TheVariants.{Order, Tick}
 use Rattle.console_text.specs.declared.reading.Reading.TheVariants.{Blank, Malformed, At}
 use Rattle.console_text.specs.Spelling.{reading_of}
 use Rattle.console_text.specs.CueLine.{cue_line}
+use Rattle.console_text.specs.WhereLine.{groups_text, subs_text, where_line}
 use Rattle.console_text.specs.Texts.{done_text, numbered, refused_text, ticked_text}
 
 calls : (reading_of (codes "0 go") ≡ At 0 (Order Go))
@@ -50,3 +52,12 @@ moves : (cue_line 0 1000 ≡ codes "0 cue 1\n") × (cue_line 25 1500 ≡ codes "
     × (cue_line 7 999905 ≡ codes "7 cue 999.905\n") × (cue_line 7 1 ≡ codes "7 cue 0.001\n")
 unfolding digits
 moves = (refl, refl, refl, refl, refl)
+
+wheres : (where_line 0 None (Some 1000) [] ≡ codes "0 where next 1 master 255\n")
+    × (where_line 1500 (Some 4000) (Some 4500) (group_setting 1 255 ∷ sub_setting 3 128 ∷
+    sub_setting 2 0 ∷ sub_setting 100 1 ∷ grand_setting 7 ∷ [])
+    ≡ codes "1500 where cue 4 next 4.5 master 7 sub 3:128 sub 100:1 group 1:255\n")
+    × (where_line 9 (Some 13250) None (grand_setting 0 ∷ grand_setting 7 ∷ [])
+    ≡ codes "9 where cue 13.25 master 0\n")
+unfolding digits subs_text groups_text
+wheres = (refl, refl, refl)

@@ -17,11 +17,11 @@ master_text word n byte =
     if byte == 0 then []
     else codes " " ++ word ++ codes " " ++ decimal n ++ codes ":" ++ decimal byte
 
-abbrev pub subs_text : List Setting → List ℕ
+unfoldable pub subs_text : List Setting → List ℕ
 subs_text settings =
     flat_map (λ n. master_text (codes "sub") n (sub_after settings n)) (range_with_len 1 100)
 
-abbrev pub groups_text : List Setting → List ℕ
+unfoldable pub groups_text : List Setting → List ℕ
 groups_text settings =
     flat_map (λ n. master_text (codes "group") n (group_after settings n)) (range_with_len 1 500)
 

@@ -7,6 +7,7 @@ use Rattle.console.specs.Streams.{Production}
 use Rattle.cueplayer_faults.specs.declared.fault.RunFault.{RunFault}
 use Rattle.cueplayer_faults.specs.declared.fault.RunFault.TheVariants as run
 use Rattle.console_text.specs.Spelling.{reading_of}
+use Rattle.cueplayer_play.specs.Play.{Begins}
 use Rattle.cueplayer_play.specs.Run.{Carried, IsRun, history_of, lines_in, sends_of}
 use Rattle.live_input.specs.Keys.{has_keys}
 use Rattle.live_input.specs.Laws.{text_of}
@@ -76,3 +77,8 @@ Lived p (Err (run.Lost n)) before after = (1 ≤ n) × IsLived p before after n
 Lived p (Err run.Device) before after =
     (happened : List Happening) × (lost : ℕ) × Lives p happened before after lost
 Lived p (Err _) before after = ⊥
+
+-- whether a night begins, or why not, as a play does; no line ends it
+abbrev pub BeginsNight : {X : Type 0} → Result X RunFault → List ℕ → ℕ → Type 0
+BeginsNight (Err (run.Line n)) show base = ⊥
+BeginsNight result show base = Begins result show base

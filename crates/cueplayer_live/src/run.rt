@@ -2,8 +2,8 @@ ghost use Rattle.std.specs.Prelude.{◌≡◌, ◌<◌, length, true, false, Err
 ghost use Rattle.show_reader.specs.ItsShow.{OfItsShow};
 ghost use Rattle.show_reader.specs.Reading.{longest_text};
 ghost use Rattle.show_reader.specs.declared.fault.ShowFault.TheVariants as show_fault;
-ghost use Rattle.cueplayer_play.specs.Play.{Begins, has_begun};
-ghost use Rattle.cueplayer_live.specs.Night.{Lived, seen};
+ghost use Rattle.cueplayer_play.specs.Play.{has_begun};
+ghost use Rattle.cueplayer_live.specs.Night.{BeginsNight, Lived, seen};
 
 use crate::booth::Booth;
 use crate::night::Night;
@@ -21,8 +21,9 @@ use std::alloc::Global;
 /// the ticks, each at its moment, until three ticks after `end`. A night may last until its moments
 /// reach 2^48 milliseconds.
 ///
-/// Each line is recorded before it is carried out. Answers, and moves to cues, are shown behind
-/// what is offered. No send, and nothing that is recorded or shown, ends the night.
+/// Each line is recorded before it is carried out. Answers, moves to cues, and what `where` and
+/// `help` ask for are shown behind what is offered; why a line is refused is told. No send, and
+/// nothing that is recorded, shown or told, ends the night.
 ///
 /// Only the show and the console take memory.
 ///
@@ -39,7 +40,7 @@ pub fn live<F: Fader, B: Booth, L: Link>(
     booth: &mut B,
     link: &mut L,
 ) -> Result<(), RunFault>
-    ensures begins { Begins result show.now base }
+    ensures begins { BeginsNight result show.now base }
     ensures too_long { longest_text < length show.now → result ≡ Err
         (RunFault.Show show_fault.TooLong) }
     ensures lived { has_begun result ≡ true → B.tells booth.new → L.tells link.new

@@ -1,0 +1,17 @@
+use Rattle.std.proofs.Common.{◌×◌}
+use Rattle.cueplayer_live.specs.Night.{seen}
+use Rattle.cueplayer_live.specs.Stands.{GoesOn}
+use Rattle.cueplayer_live.proofs.night.Night.run.Given as goal
+
+-- the night has gone on so far
+abbrev pub invariant-loop-_turn : goal.invariant-loop-_turn
+invariant-loop-_turn g l =
+    let B = g.B.Booth in
+    let L = g.L.Link in
+    record {
+      told_booth : B.tells l.booth → B.tells l.fn.booth;
+      told_link : L.tells l.link → L.tells l.fn.link;
+      goes : GoesOn g.F.Fader.stands_for (B.tells l.booth × L.tells l.link) l.fn.self l.self
+          (seen (B.state l.fn.booth) (L.offered l.fn.link))
+          (seen (B.state l.booth) (L.offered l.link));
+    }
