@@ -162,6 +162,8 @@ module _ (p : Production) (history : List Act) (moment : ℕ) (call : Call) (ans
         kept = rw (ap (λ (s : BoothState). s.kept) all.rest) keeps.takes;
         shown = rw (reading, ← did.answer_is, ← ap (λ (s : BoothState). s.shown) keeps.rest)
             all.takes;
+        told_is = ap (λ (s : BoothState). s.told) all.rest
+            ∙ ap (λ (s : BoothState). s.told) keeps.rest;
         lost_is = rw (append_cancel_left before did.sends answered.sends
             (sym did.after_is ∙ answered.after_is)) answered.lost_is;
       }

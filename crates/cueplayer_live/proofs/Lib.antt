@@ -1,4 +1,4 @@
-mod Texts
-mod Moves
-mod Carrying
-mod Living
+pub mod Texts
+pub mod Moves
+pub mod Carrying
+pub mod Living

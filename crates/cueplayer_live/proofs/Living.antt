@@ -6,22 +6,30 @@ use Rattle.std.proofs.lemmas.Grind.{flat_map-append}
 use Rattle.std.proofs.lemmas.List.{reverse-append}
 use Rattle.std.proofs.lemmas.List.Sums.{sum_by-append}
 use Rattle.devices.specs.Send.{Send, failures_of}
+use Rattle.fade_core.specs.Level.{Start}
+use Rattle.show_core.specs.Tables.{Tables}
+use Rattle.desk_core.specs.Played.{Act}
 use Rattle.console.specs.Offering.{AreOffered}
 use Rattle.console.specs.Streams.{Production}
 use Rattle.console_text.specs.Spelling.{reading_of}
 use Rattle.cueplayer_play.specs.Run.{Carried, due_after, history_of, lines_in, sends_of}
 use Rattle.live_input.specs.declared.given.Given.{Given}
 use Rattle.live_input.specs.declared.given.GivenLine.{GivenLine}
-use Rattle.live_input.specs.declared.given.Given.TheVariants.{Line}
+use Rattle.live_input.specs.declared.given.Given.TheVariants.{Help, Line, Over, Refused, Until}
+use Rattle.live_input.specs.declared.given.Given.TheVariants.{Where}
+use Rattle.live_input.specs.declared.reason.Reason.{Reason}
 use Rattle.live_input.specs.Laws.{NothingIsAsked, text_of}
 use Rattle.live_input.specs.Keys.{without_keys}
 use Rattle.live_input.specs.Night.{Answer, Happening, answer_to, answers, asked, at_moment, came}
 use Rattle.live_input.specs.Night.{close, closed, dim, help, ignored_keys, keys_by, lines_given}
-use Rattle.live_input.specs.Night.{order, over, place, refusal, tick, wait, with_given}
+use Rattle.live_input.specs.Night.{order, over, place, refusal, shown, tick, wait, with_given}
+use Rattle.live_input.specs.Stands as live
 use Rattle.live_input.specs.Told.{IsGiven, Tells}
-use Rattle.cueplayer_live.specs.Booth.{BoothState, Told, keys}
-use Rattle.cueplayer_live.specs.Night.{Lives, Seen, shown_in, told_in, told_of}
-use Rattle.cueplayer_live.specs.Shown.{Takes, shown_of}
+use Rattle.cueplayer_live.specs.declared.night.Night.{Night}
+use Rattle.cueplayer_live.specs.Booth.{BoothState, Told, happens, keys, refused}
+use Rattle.cueplayer_live.specs.Night.{Lives, Seen, seen, shown_in, told_in, told_of}
+use Rattle.cueplayer_live.specs.Shown.{Takes, help_text, shown_of, shown_place}
+use Rattle.cueplayer_live.specs.Stands.{CarriesOut, GoesOn, Shows, StandsFor, Waits, told_keys}
 use Rattle.cueplayer_live.proofs.Texts.{takes_more, takes_none}
 
 -- ---- answers that give a line
@@ -71,6 +79,105 @@ gives given (refusal why line) t = absurd t
 gives given (wait due) t = absurd t
 gives given over t = absurd t
 
+-- ---- answers that give none
+
+-- what such an answer says: what is shown at it after a history, and what is told, where keys were
+-- left out of its line or not
+pub record Says (answer : Answer) (text : Tables → List Act → List ℕ) (told : Bool → List Told)
+    : Type 0 where
+  pub no_line : (older : List (List ℕ)) → with_given answer older ≡ older
+  pub shown_is : (p : Production) (older : List Answer) (run : List Carried)
+      → shown_in p (answer ∷ older) run
+      ≡ shown_in p older run ++ text p.show (history_of p.show (lines_in run))
+  pub told_is : (older : List Answer) → told_of answer ≡ told (ignored_keys (answer ∷ older))
+
+abbrev pub told_if : Bool → List Told
+told_if ignored = if ignored then keys ∷ [] else []
+
+pub places : (when : ℕ) (answer : Answer) → Tells (Where when) answer
+    → Says answer (λ show history. shown_place show history when) told_if
+places when (place moment line) t = record {
+  no_line = λ _. refl;
+  shown_is = λ p older run. ap (λ m. shown_in p older run
+      ++ shown_place p.show (history_of p.show (lines_in run)) m) (sym t);
+  told_is = λ _. refl;
+}
+places when (order moment line) t = absurd t
+places when (dim moment typed) t = absurd t
+places when (close moment typed) t = absurd t
+places when (tick moment) t = absurd t
+places when (help line) t = absurd t
+places when (refusal why line) t = absurd t
+places when (wait due) t = absurd t
+places when over t = absurd t
+
+pub helps : (answer : Answer) → Tells Help answer → Says answer (λ _ _. help_text) told_if
+helps (help line) t = record {
+  no_line = λ _. refl;
+  shown_is = λ _ _ _. refl;
+  told_is = λ _. refl;
+}
+helps (order moment line) t = absurd t
+helps (dim moment typed) t = absurd t
+helps (close moment typed) t = absurd t
+helps (tick moment) t = absurd t
+helps (place moment line) t = absurd t
+helps (refusal why line) t = absurd t
+helps (wait due) t = absurd t
+helps over t = absurd t
+
+pub refuses : (text : _) (reason : Reason) (answer : Answer) → Tells (Refused text reason) answer
+    → Says answer (λ _ _. []) (λ _. refused text.items reason ∷ [])
+refuses text reason (refusal why line) t = record {
+  no_line = λ _. refl;
+  shown_is = λ p older run. sym (append-nil (shown_in p older run));
+  told_is = λ _. ap (λ w. refused (shown line) w ∷ []) (sym t.1)
+      ∙ ap (λ bytes. refused bytes reason ∷ []) (sym t.0);
+}
+refuses text reason (order moment line) t = absurd t
+refuses text reason (dim moment typed) t = absurd t
+refuses text reason (close moment typed) t = absurd t
+refuses text reason (tick moment) t = absurd t
+refuses text reason (place moment line) t = absurd t
+refuses text reason (help line) t = absurd t
+refuses text reason (wait due) t = absurd t
+refuses text reason over t = absurd t
+
+pub waits : (until : ℕ) (answer : Answer) → Tells (Until until) answer
+    → Says answer (λ _ _. []) (λ _. [])
+waits until (wait due) t = record {
+  no_line = λ _. refl;
+  shown_is = λ p older run. sym (append-nil (shown_in p older run));
+  told_is = λ _. refl;
+}
+waits until (order moment line) t = absurd t
+waits until (dim moment typed) t = absurd t
+waits until (close moment typed) t = absurd t
+waits until (tick moment) t = absurd t
+waits until (place moment line) t = absurd t
+waits until (help line) t = absurd t
+waits until (refusal why line) t = absurd t
+waits until over t = absurd t
+
+pub overs : (answer : Answer) → Tells Over answer
+    → (answer ≡ over) × Says answer (λ _ _. []) (λ _. [])
+overs over t = (
+  refl,
+  record {
+    no_line = λ _. refl;
+    shown_is = λ p older run. sym (append-nil (shown_in p older run));
+    told_is = λ _. refl;
+  },
+)
+overs (order moment line) t = absurd t
+overs (dim moment typed) t = absurd t
+overs (close moment typed) t = absurd t
+overs (tick moment) t = absurd t
+overs (place moment line) t = absurd t
+overs (help line) t = absurd t
+overs (refusal why line) t = absurd t
+overs (wait due) t = absurd t
+
 -- ---- one step
 
 -- what was done since a moment was asked: what was told, offered, recorded and shown
@@ -82,8 +189,52 @@ pub record Steps (moment : ℕ) (told : List Told) (sends : List Send) (line tex
   pub shown : Takes before.booth.shown after.booth.shown text
   pub told_is : after.booth.told ≡ told ++ before.booth.told
 
+-- keys are told behind it, where they were left out
+pub with_keys : (moment : ℕ) (ignored : Bool) (before middle after : BoothState)
+    {offered offers sends : List Send} {line text : List ℕ}
+    → Steps moment [] sends line text (seen before offered) (seen middle offers)
+    → after ≡ told_keys ignored middle
+    → Steps moment (told_if ignored) sends line text (seen before offered) (seen after offers)
+with_keys moment true before middle after did is = rw is (record {
+  happened_is = did.happened_is;
+  offered_is = did.offered_is;
+  kept = did.kept;
+  shown = did.shown;
+  told_is = ap (λ told. keys ∷ told) did.told_is;
+})
+with_keys moment false before middle after did is = rw is did
+
+-- a text was shown, since a moment was asked
+pub shows_since : (moment : ℕ) (before asks after : BoothState) (offered : List Send)
+    {text : List ℕ} → asks ≡ happens (asked moment) before → Shows asks after text
+    → Steps moment [] [] [] text (seen before offered) (seen after offered)
+shows_since moment before asks after offered is shows =
+    let rest : after ≡ record (happens (asked moment) before) { shown = after.shown } =
+    shows.rest ∙ ap (λ (b : BoothState). record b { shown = after.shown }) is in
+    record {
+      happened_is = ap (λ (b : BoothState). b.happened) rest;
+      offered_is = sym (append-nil offered);
+      kept = rw (ap (λ (b : BoothState). b.kept) rest) (takes_none before.kept);
+      shown = rw is at shows.takes;
+      told_is = ap (λ (b : BoothState). b.told) rest;
+    }
+
+-- a line was carried out, since a moment was asked
+pub carried_since : (p : Production) (history : List Act) (moment : ℕ) (before asks after : BoothState)
+    (offered offers : List Send) {line : List ℕ} {lost : ℕ} → asks ≡ happens (asked moment) before
+    → (did : CarriesOut p history line (seen asks offered) (seen after offers) lost)
+    → Steps moment [] did.sends (line ++ 10 ∷ [])
+    (shown_of p history (reading_of line) did.offers) (seen before offered) (seen after offers)
+carried_since p history moment before asks after offered offers is did = record {
+  happened_is = did.happened_is ∙ ap (λ (b : BoothState). b.happened) is;
+  offered_is = did.offered_is;
+  kept = rw is at did.kept;
+  shown = rw is at did.shown;
+  told_is = did.told_is ∙ ap (λ (b : BoothState). b.told) is;
+}
+
 one_text : (line : List ℕ) (older : List (List ℕ))
-    → text_of (line ∷ older) ≡ text_of older ++ line ++ 10 ∷ []
+    → text_of (line ∷ older) ≡ text_of older ++ (line ++ 10 ∷ [])
 one_text line older =
     ap (flat_map (λ (l : List ℕ). l ++ 10 ∷ [])) (reverse-append (line ∷ []) older)
     ∙ flat_map-append (λ (l : List ℕ). l ++ 10 ∷ []) (reverse older) (line ∷ [])
@@ -102,50 +253,50 @@ module _ (p : Production) (happened : List Happening) (moment : ℕ) (start befo
   answer = answer_to happened moment
 
   -- an answer that gives no line
-  pub lives_on : (text : List ℕ)
-      → ((older : List (List ℕ)) → with_given answer older ≡ older)
-      → ((older : List Answer) (run : List Carried)
-      → shown_in p (answer ∷ older) run ≡ shown_in p older run ++ text)
-      → Steps moment (told_of answer) [] [] text before after
+  pub lives_on : {text : Tables → List Act → List ℕ} {told : Bool → List Told}
+      → Says answer text told
+      → Steps moment (told_of answer) [] []
+      (text p.show (history_of p.show (lines_given given))) before after
       → Lives p (asked moment ∷ happened) start after lost
-  lives_on text no_line shown_is did = record {
+  lives_on says did = record {
     run = lives.run;
-    lines_are = lives.lines_are ∙ sym (no_line (lines_given given));
+    lines_are = lives.lines_are ∙ sym (says.no_line (lines_given given));
     is_run = lives.is_run;
     happened_is = did.happened_is ∙ ap (λ hs. asked moment ∷ hs) lives.happened_is;
     offered_is = did.offered_is ∙ append-nil before.offered ∙ lives.offered_is;
-    kept = rw (no_line (lines_given given), ← append-nil (text_of (lines_given given)))
+    kept = rw (says.no_line (lines_given given), ← append-nil (text_of (lines_given given)))
         (takes_more _ _ _ _ _ lives.kept did.kept);
-    shown = rw (shown_is given lives.run) (takes_more _ _ _ _ _ lives.shown did.shown);
+    shown = rw (says.shown_is p given lives.run)
+        (takes_more _ _ _ _ _ lives.shown (rw (sym lives.lines_are) at did.shown));
     told_is = did.told_is ∙ ap (λ told. told_of answer ++ told) lives.told_is
         ∙ sym (append_assoc (told_of answer) (told_in given) start.booth.told);
     lost_is = lives.lost_is;
   }
 
   -- an answer that gives one
-  pub lives_more : (given_line : GivenLine) (gives : Gives answer given_line) (count after_lost : ℕ)
+  pub lives_more : (given_line : GivenLine) (giving : Gives answer given_line) (count after_lost : ℕ)
       (offers : List _) (sends : List Send)
       → AreOffered p.source
-      (due_after p (history_of p.show (lines_given given)) (reading_of gives.line)) sends offers
-      → Steps moment (told_of answer) sends (gives.line ++ 10 ∷ [])
-      (shown_of p (history_of p.show (lines_given given)) (reading_of gives.line) offers)
+      (due_after p (history_of p.show (lines_given given)) (reading_of giving.line)) sends offers
+      → Steps moment (told_of answer) sends (giving.line ++ 10 ∷ [])
+      (shown_of p (history_of p.show (lines_given given)) (reading_of giving.line) offers)
       before after
       → count ≡ failures_of sends → after_lost ≡ min (lost + count) 18446744073709551615
       → Lives p (asked moment ∷ happened) start after after_lost
-  lives_more given_line gives count after_lost offers sends are_offered did counted sum =
-      let newest : Carried = record { line = gives.line; sends = sends; offers = offers } in
+  lives_more given_line giving count after_lost offers sends are_offered did counted sum =
+      let newest : Carried = record { line = giving.line; sends = sends; offers = offers } in
       let older : lines_given given ≡ lines_in lives.run = sym lives.lines_are in
       record {
         run = newest ∷ lives.run;
-        lines_are = ap (λ lines. gives.line ∷ lines) lives.lines_are
-            ∙ sym (gives.lines_are (lines_given given));
+        lines_are = ap (λ lines. giving.line ∷ lines) lives.lines_are
+            ∙ sym (giving.lines_are (lines_given given));
         is_run = (rw older at are_offered, lives.is_run);
         happened_is = did.happened_is ∙ ap (λ hs. asked moment ∷ hs) lives.happened_is;
         offered_is = did.offered_is ∙ ap (λ sent. sent ++ sends) lives.offered_is
             ∙ append_assoc start.offered (sends_of lives.run) sends;
-        kept = rw (gives.lines_are (lines_given given), one_text gives.line (lines_given given))
+        kept = rw (giving.lines_are (lines_given given), one_text giving.line (lines_given given))
             (takes_more _ _ _ _ _ lives.kept did.kept);
-        shown = rw (gives.shown_is p given newest lives.run)
+        shown = rw (giving.shown_is p given newest lives.run)
             (takes_more _ _ _ _ _ lives.shown (rw older at did.shown));
         told_is = did.told_is ∙ ap (λ told. told_of answer ++ told) lives.told_is
             ∙ sym (append_assoc (told_of answer) (told_in given) start.booth.told);
@@ -181,3 +332,73 @@ lives_waiting p since happened start before after none lives booth_is offered_is
       told_is = rw same (ap (λ (b : BoothState). b.told) booth_is ∙ lives.told_is);
       lost_is = lives.lost_is;
     }
+
+-- ---- nights that go on
+
+module _ {F : Type 0} (fader_stands_for : F → List Start → Type 0) where
+  -- what was done twice was done
+  pub goes_more : (first next : Type 0) (old mid new : Night F) (before middle after : Seen)
+      → GoesOn fader_stands_for first old mid before middle
+      → GoesOn fader_stands_for next mid new middle after → (next → first)
+      → GoesOn fader_stands_for next old new before after
+  goes_more first next old mid new before middle after one two tell = record {
+    since = two.since ++ one.since;
+    stands = λ p happened stands. rw (append_assoc two.since one.since happened)
+        (two.stands p _ (one.stands p happened stands));
+    lived = λ tells p happened start stands lives.
+        rw (append_assoc two.since one.since happened)
+        (two.lived tells p _ start (one.stands p happened stands)
+        (one.lived (tell tells) p happened start stands lives));
+  }
+
+  pub goes_none : (tells : Type 0) (night : Night F) (before after : Seen)
+      → (tells → after ≡ before) → GoesOn fader_stands_for tells night night before after
+  goes_none tells night before after same = record {
+    since = [];
+    stands = λ p happened stands. stands;
+    lived = λ told p happened start stands lives. rw (same told) lives;
+  }
+
+  -- an answer that gives no line
+  pub goes_quietly : (tells : Type 0) (old new : Night F) (moment : ℕ) (before after : Seen)
+      {text : Tables → List Act → List ℕ} {told : Bool → List Told}
+      → new.console ≡ old.console → new.lost ≡ old.lost
+      → ((happened : List Happening) → live.StandsFor old.input happened
+      → live.StandsFor new.input (asked moment ∷ happened))
+      → ((happened : List Happening) → live.StandsFor old.input happened
+      → Says (answer_to happened moment) text told)
+      → (tells → (p : Production) (happened : List Happening)
+      → StandsFor fader_stands_for p old happened
+      → Steps moment (told (ignored_keys (answers (asked moment ∷ happened)))) [] []
+      (text p.show (history_of p.show (lines_given (answers happened)))) before after)
+      → GoesOn fader_stands_for tells old new before after
+  goes_quietly tells old new moment before after console_is lost_is input says did = record {
+    since = asked moment ∷ [];
+    stands = λ p happened stands. record {
+      console_stands = rw (console_is,
+          (says happened stands.input_stands).no_line (lines_given (answers happened)))
+          stands.console_stands;
+      input_stands = input happened stands.input_stands;
+    };
+    lived = λ told p happened start stands lives.
+        let said = says happened stands.input_stands in
+        rw lost_is (lives_on p happened moment start before after lives said
+        (rw (said.told_is (answers happened)) (did told p happened stands)));
+  }
+
+  -- nothing was asked
+  pub goes_waiting : (tells told : Type 0) (old new : Night F) (before after : Seen)
+      → new.console ≡ old.console → new.lost ≡ old.lost
+      → Waits told old.input new.input before.booth after.booth → (tells → told)
+      → after.offered ≡ before.offered → GoesOn fader_stands_for tells old new before after
+  goes_waiting tells told old new before after console_is lost_is waits tell offered_is = record {
+    since = waits.since;
+    stands = λ p happened stands. record {
+      console_stands = rw (console_is, same_answers waits.since happened waits.none_asked)
+          stands.console_stands;
+      input_stands = waits.stands happened stands.input_stands;
+    };
+    lived = λ tells p happened start stands lives. rw lost_is
+        (lives_waiting p waits.since happened start before after waits.none_asked lives
+        (waits.did (tell tells)) offered_is);
+  }

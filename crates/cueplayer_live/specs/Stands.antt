@@ -20,7 +20,7 @@ use Rattle.live_input.specs.Kept.{Kept}
 use Rattle.live_input.specs.Laws.{NothingIsAsked}
 use Rattle.live_input.specs.Stands as live
 use Rattle.cueplayer_live.specs.declared.night.Night.{Night}
-use Rattle.cueplayer_live.specs.Booth.{BoothState}
+use Rattle.cueplayer_live.specs.Booth.{BoothState, is_told, keys}
 use Rattle.cueplayer_live.specs.Night.{Lives, Seen}
 use Rattle.cueplayer_live.specs.Shown.{Takes, shown_of}
 
@@ -75,6 +75,11 @@ pub record GoesOn {F : Type 0} (fader_stands_for : F → List Start → Type 0)
   pub lived : tell → (p : Production) (happened : List Happening) (start : Seen)
       → StandsFor fader_stands_for p old happened → Lives p happened start before old.lost
       → Lives p (since ++ happened) start after new.lost
+
+-- that keys were left out is told where they were
+abbrev pub told_keys : Bool → BoothState → BoothState
+told_keys true state = is_told keys state
+told_keys false state = state
 
 -- an input waited: it stands for what happened since, and nothing else was done
 pub record Waits (tells : Type 0) (old new : Kept) (before after : BoothState) : Type 0 where

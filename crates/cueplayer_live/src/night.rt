@@ -1,11 +1,10 @@
-ghost use Rattle.std.specs.Prelude.{◌≡◌, List, [], IfOk, OnOk, true, if◌then◌else◌};
+ghost use Rattle.std.specs.Prelude.{◌≡◌, List, [], IfOk, OnOk, true};
 ghost use Rattle.desk_core.specs.Played.{Act};
-ghost use Rattle.console.specs.Stands as console_stands;
 ghost use Rattle.console.specs.Streams.{Production};
-ghost use Rattle.live_input.specs.Night.{Happening, answers, is_over};
+ghost use Rattle.live_input.specs.Night.{Happening, answers, ignored_keys, is_over};
+ghost use Rattle.live_input.specs.Stands as live;
 ghost use Rattle.cueplayer_live.specs.Night.{seen};
-ghost use Rattle.cueplayer_live.specs.Booth.{is_told, keys};
-ghost use Rattle.cueplayer_live.specs.Stands.{GoesOn, StandsFor, Waits};
+ghost use Rattle.cueplayer_live.specs.Stands.{GoesOn, StandsFor, Waits, told_keys};
 
 use crate::booth::{Booth, Heard};
 use crate::carry::carry_out;
@@ -67,9 +66,9 @@ impl<F: Fader> Night<F> {
     // Tells where keys were left out of the line that was answered.
     fn tell_keys<B: Booth>(&self, booth: &mut B)
         ensures told_booth { B.tells booth.new → B.tells booth.old }
-        ensures tells { B.tells booth.new → B.state booth.new
-            ≡ (if self.now.input.keys then is_told keys (B.state booth.old)
-            else B.state booth.old) }
+        ensures tells { (happened : List Happening) → live.StandsFor self.now.input happened
+            → B.tells booth.new → B.state booth.new
+            ≡ told_keys (ignored_keys (answers happened)) (B.state booth.old) }
     {
         if self.input.ignored_keys() {
             booth.ignore_keys();

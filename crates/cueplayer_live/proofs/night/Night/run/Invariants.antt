@@ -1,11 +1,10 @@
-use Rattle.std.proofs.Common.{◌×◌}
 use Rattle.cueplayer_live.specs.Night.{seen}
 use Rattle.cueplayer_live.specs.Stands.{GoesOn}
 use Rattle.cueplayer_live.proofs.night.Night.run.Given as goal
 
 -- the night has gone on so far
-abbrev pub invariant-loop-_turn : goal.invariant-loop-_turn
-invariant-loop-_turn g l =
+abbrev pub invariant-loop-turn : goal.invariant-loop-turn
+invariant-loop-turn g l =
     let B = g.B.Booth in
     let L = g.L.Link in
     record {
