@@ -1,17 +1,16 @@
 -- A line that is carried out.
 use Rattle.std.proofs.Common.{◌≡◌, ℕ, Bool, true, false, refl, ap, sym, ◌∙◌, List, [], ◌∷◌, ◌++◌}
-use Rattle.std.proofs.Common.{Option, Some, None, arith, append-nil, subst}
+use Rattle.std.proofs.Common.{Option, Some, None, arith, subst}
 use Rattle.std.specs.Prelude.{is_none, is_some, if◌then◌else◌}
 use Rattle.std.specs.Option.{option_or}
 use Rattle.std.proofs.lemmas.List.{append_cancel_left}
 use Rattle.show_core.specs.Tables.{Tables}
-use Rattle.playback_core.specs.Played.{Move, current_after, moves_by, with_due}
+use Rattle.playback_core.specs.Played.{Move, current_after, moves_by}
 use Rattle.desk_core.specs.declared.command.Command.{Command}
 use Rattle.desk_core.specs.declared.command.Command.TheVariants.{Go, Back, Goto, GotoIn, Sub}
 use Rattle.desk_core.specs.declared.command.Command.TheVariants.{Group, Master, End}
 use Rattle.desk_core.specs.declared.answer.Refused.{Refused}
-use Rattle.desk_core.specs.declared.answer.Refused.TheVariants.{AtEnd, AtStart, NoCue, NoSub}
-use Rattle.desk_core.specs.declared.answer.Refused.TheVariants.{NoGroup}
+use Rattle.desk_core.specs.declared.answer.Refused.TheVariants.{AtEnd, AtStart, NoCue}
 use Rattle.desk_core.specs.Played as played
 use Rattle.desk_core.specs.Played.{Act, ended, is_over, is_soon, lacking, lacks, last_moment}
 use Rattle.desk_core.specs.Played.{last_tick, moved_to, moves, own_time, refusal, target, untimely}
@@ -73,8 +72,8 @@ module _ (show : Tables) (history : List Act) (moment : ℕ) where
       let none : ended history ≡ None = not_over (ended history) command
       (timely (last_moment history) moment _ _ parts.0) in
       subst (λ (ticks : Option ℕ). lacking show
-          (current_after (moves_by show (is_some ticks) moment (moves show history)))
-          (played.order command) ≡ None) (sym none) parts.1
+      (current_after (moves_by show (is_some ticks) moment (moves show history)))
+      (played.order command) ≡ None) (sym none) parts.1
 
   pub own_is : (call : Call) → refusal show history (act_of moment call) ≡ None
       → moves show (act_of moment call ∷ history)

@@ -1,5 +1,5 @@
 -- A night that goes on, answer by answer.
-use Rattle.std.proofs.Common.{◌≡◌, ◌≤◌, ℕ, Bool, true, false, refl, ap, sym, ◌∙◌, List, [], ◌∷◌}
+use Rattle.std.proofs.Common.{◌≡◌, ℕ, Bool, true, false, refl, ap, sym, ◌∙◌, List, [], ◌∷◌}
 use Rattle.std.proofs.Common.{◌++◌, append_assoc, append-nil, arith, ◌+◌}
 use Rattle.std.specs.Prelude.{if◌then◌else◌, cond, flat_map, min, reverse}
 use Rattle.std.proofs.lemmas.Grind.{flat_map-append}
@@ -13,7 +13,6 @@ use Rattle.console.specs.Offering.{AreOffered}
 use Rattle.console.specs.Streams.{Production}
 use Rattle.console_text.specs.Spelling.{reading_of}
 use Rattle.cueplayer_play.specs.Run.{Carried, due_after, history_of, lines_in, sends_of}
-use Rattle.live_input.specs.declared.given.Given.{Given}
 use Rattle.live_input.specs.declared.given.GivenLine.{GivenLine}
 use Rattle.live_input.specs.declared.given.Given.TheVariants.{Help, Line, Over, Refused, Until}
 use Rattle.live_input.specs.declared.given.Given.TheVariants.{Where}
@@ -21,13 +20,13 @@ use Rattle.live_input.specs.declared.reason.Reason.{Reason}
 use Rattle.live_input.specs.Laws.{NothingIsAsked, text_of}
 use Rattle.live_input.specs.Keys.{without_keys}
 use Rattle.live_input.specs.Night.{Answer, Happening, answer_to, answers, asked, at_moment, came}
-use Rattle.live_input.specs.Night.{close, closed, dim, help, ignored_keys, keys_by, lines_given}
+use Rattle.live_input.specs.Night.{close, closed, dim, help, ignored_keys, is_over, lines_given}
 use Rattle.live_input.specs.Night.{order, over, place, refusal, shown, tick, wait, with_given}
 use Rattle.live_input.specs.Stands as live
 use Rattle.live_input.specs.Told.{IsGiven, Tells}
 use Rattle.cueplayer_live.specs.declared.night.Night.{Night}
 use Rattle.cueplayer_live.specs.Booth.{BoothState, Told, happens, keys, refused}
-use Rattle.cueplayer_live.specs.Night.{Lives, Seen, seen, shown_in, told_in, told_of}
+use Rattle.cueplayer_live.specs.Night.{IsLived, Lives, Seen, seen, shown_in, told_in, told_of}
 use Rattle.cueplayer_live.specs.Shown.{Takes, help_text, shown_of, shown_place}
 use Rattle.cueplayer_live.specs.Stands.{CarriesOut, GoesOn, Shows, StandsFor, Waits, told_keys}
 use Rattle.cueplayer_live.proofs.Texts.{takes_more, takes_none}
@@ -375,8 +374,10 @@ module _ {F : Type 0} (fader_stands_for : F → List Start → Type 0) where
   goes_quietly tells old new moment before after console_is lost_is input says did = record {
     since = asked moment ∷ [];
     stands = λ p happened stands. record {
-      console_stands = rw (console_is,
-          (says happened stands.input_stands).no_line (lines_given (answers happened)))
+      console_stands = rw (
+        console_is,
+        (says happened stands.input_stands).no_line (lines_given (answers happened)),
+      )
           stands.console_stands;
       input_stands = input happened stands.input_stands;
     };
@@ -401,4 +402,35 @@ module _ {F : Type 0} (fader_stands_for : F → List Start → Type 0) where
     lived = λ tells p happened start stands lives. rw lost_is
         (lives_waiting p waits.since happened start before after waits.none_asked lives
         (waits.did (tell tells)) offered_is);
+  }
+
+-- ---- whole nights
+
+lives_none : (p : Production) (before : Seen) → Lives p [] before before 0
+lives_none p before = record {
+  run = [];
+  lines_are = refl;
+  is_run = tt;
+  happened_is = refl;
+  offered_is = sym (append-nil before.offered);
+  kept = takes_none before.booth.kept;
+  shown = takes_none before.booth.shown;
+  told_is = refl;
+  lost_is = refl;
+}
+
+module _ {F : Type 0} (fader_stands_for : F → List Start → Type 0) (tells : Type 0)
+    (old new : Night F) (before after : Seen)
+    (goes : GoesOn fader_stands_for tells old new before after) (p : Production)
+    (stands : StandsFor fader_stands_for p old []) (none : old.lost ≡ 0) where
+  pub lived : tells → Lives p (goes.since ++ []) before after new.lost
+  lived told = goes.lived told p [] before stands (rw none (lives_none p before))
+
+  pub lived_whole : tells → ((happened : List Happening)
+      → StandsFor fader_stands_for p new happened → is_over (answers happened) ≡ true)
+      → IsLived p before after new.lost
+  lived_whole told is_done = record {
+    happened = goes.since ++ [];
+    lives = lived told;
+    over = is_done (goes.since ++ []) (goes.stands p [] stands);
   }

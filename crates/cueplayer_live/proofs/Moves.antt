@@ -1,12 +1,11 @@
 -- The lines of moves.
-use Rattle.std.proofs.Common.{◌≡◌, ℕ, refl, ap, ◌∙◌, arith, List, [], ◌∷◌, ◌++◌, length}
-use Rattle.std.proofs.Common.{length-append, append-nil, Option, Some, None, sym}
+use Rattle.std.proofs.Common.{◌≡◌, ap, ◌∙◌, arith, List, [], ◌∷◌, ◌++◌, length}
+use Rattle.std.proofs.Common.{length-append, append-nil}
 use Rattle.std.specs.Prelude.{◌-◌, flat_map, reverse, take}
 use Rattle.std.proofs.Math.Seq.{take-append_seam}
 use Rattle.std.proofs.lemmas.Grind.{flat_map-append}
 use Rattle.std.proofs.lemmas.List.{reverse-append}
 use Rattle.playback_core.specs.Played.{Move}
-use Rattle.desk_core.specs.Played.{moved_to}
 use Rattle.console_text.specs.CueLine.{cue_line}
 use Rattle.cueplayer_live.specs.Shown.{cue_lines, made}
 

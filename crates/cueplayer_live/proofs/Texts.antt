@@ -1,5 +1,5 @@
 -- What a booth takes.
-use Rattle.std.proofs.Common.{◌≡◌, ◌≤◌, ℕ, refl, ap, sym, ◌∙◌, arith, List, [], ◌++◌, append-nil}
+use Rattle.std.proofs.Common.{◌≡◌, ℕ, refl, ap, sym, ◌∙◌, arith, List, [], ◌++◌, append-nil}
 use Rattle.std.proofs.Common.{append_assoc, Ok, Err, Result}
 use Rattle.std.specs.Prelude.{OnErr, OnOk}
 use Rattle.devices.specs.Tape.{Tape, with_failure, with_more}

@@ -1,5 +1,5 @@
 -- What a live night shows. Histories, moves and lines have the newest first.
-use Rattle.std.specs.Prelude.{◌≡◌, ◌≤◌, ℕ, ◌-◌, nat_lt, Bool, true, List, [], ◌∷◌, ◌++◌}
+use Rattle.std.specs.Prelude.{◌≡◌, ◌≤◌, ℕ, ◌-◌, nat_lt, Bool, true, List, [], ◌++◌}
 use Rattle.std.specs.Prelude.{codes, if◌then◌else◌, flat_map, length, reverse, take}
 use Rattle.devices.specs.Tape.{Tape}
 use Rattle.show_core.specs.Tables.{Tables}
@@ -11,11 +11,11 @@ use Rattle.console_text.specs.CueLine.{cue_line}
 use Rattle.console_text.specs.WhereLine.{where_line}
 use Rattle.console_text.specs.declared.reading.Reading.{Reading}
 use Rattle.console_text.specs.declared.reading.Reading.TheVariants.{At}
-use Rattle.console_text.specs.Spelling.{act_of, reading_of}
+use Rattle.console_text.specs.Spelling.{act_of}
 use Rattle.cueplayer_play.specs.declared.performance.Answer.{Answer}
 use Rattle.cueplayer_play.specs.declared.performance.Answer.TheVariants.{Ticked}
 use Rattle.cueplayer_play.specs.Perform.{answer_to, lost_of, text_of_answer}
-use Rattle.cueplayer_play.specs.Run.{Carried, history_of, lines_in, taken}
+use Rattle.cueplayer_play.specs.Run.{taken}
 
 -- the answer to a command is shown, and each refusal; that to a tick where it lost a packet
 abbrev pub is_shown : Answer → Bool

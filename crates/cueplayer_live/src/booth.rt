@@ -40,12 +40,7 @@ pub trait Booth {
 
     /// Waits for what is typed, at most from `moment` to `due`, and writes it to the front of the
     /// block.
-    fn wait(
-        &mut self,
-        moment: u64,
-        due: u64,
-        block: &mut [u8; 4096],
-    ) -> Result<Heard, LinkFault>
+    fn wait(&mut self, moment: u64, due: u64, block: &mut [u8; 4096]) -> Result<Heard, LinkFault>
         ensures told { tells self.new → tells self.old }
         ensures within { IfOk result IsWithin }
         ensures ok { IfOk result (λ heard. tells self.new

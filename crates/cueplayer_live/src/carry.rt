@@ -91,21 +91,14 @@ fn own_move(call: Call, current: Option<u32>) -> Option<u32>
     ensures { result ≡ own_move call current }
 {
     match call {
-        Call::Order(
-            Command::Go | Command::Back | Command::Goto(_) | Command::GotoIn { .. },
-        ) => current,
+        Call::Order(Command::Go | Command::Back | Command::Goto(_) | Command::GotoIn { .. }) =>
+            current,
         _ => None,
     }
 }
 
 // Shows the moves that an accepted call made: those that were due by its moment, and its own.
-fn show_moves<B: Booth>(
-    place: Place,
-    show: &Show,
-    moment: u64,
-    own: Option<u32>,
-    booth: &mut B,
-)
+fn show_moves<B: Booth>(place: Place, show: &Show, moment: u64, own: Option<u32>, booth: &mut B)
     requires { moment < 2 ^ 48 }
     ensures told { B.tells booth.new → B.tells booth.old }
     ensures shows { (moves : List Move) (stopped : Bool) (time : Option ℕ)

@@ -1,4 +1,4 @@
-use Rattle.std.proofs.Common.{◌≡◌, ◌∙◌, refl, sym}
+use Rattle.std.proofs.Common.{◌∙◌, sym}
 use Rattle.std.specs.Prelude.{is_some}
 use Rattle.desk_core.specs.Played.{ended, moves, own_time}
 use Rattle.console_text.specs.Spelling.{act_of}
@@ -30,12 +30,18 @@ returns-clause-carried_out g c = λ line given p history stands tells told_link.
           let shows = w.show_moves.ensures.shows (moves p.show history) (is_some (ended history))
           (own_time (act_of moment call).call)
           (rw show_is (c.place-place.ensures p history stands)) told in
-          build (w.show_moves.ensures.told told) (rw (newer_is p history moment call answer did _
-          (c.perform-performed.ensures.current p history stands)
-          (sym c.is_accepted.ensures ∙ w.if-is_accepted.true), w.booth-is)
+          build (w.show_moves.ensures.told told) (rw (
+            newer_is p history moment call answer did _
+                (c.perform-performed.ensures.current p history stands)
+                (sym c.is_accepted.ensures ∙ w.if-is_accepted.true),
+            w.booth-is,
+          )
           (rw (show_is, w.own_move-own.ensures) at shows))
       | else-is_accepted w ↦
           let told = rw w.booth-is at tells in
-          build told (rw (none_newer p history moment call answer did
-          (sym c.is_accepted.ensures ∙ w.if-is_accepted.false), w.booth-is) (shows_none _))
+          build told (rw (
+            none_newer p history moment call answer did
+                (sym c.is_accepted.ensures ∙ w.if-is_accepted.false),
+            w.booth-is,
+          ) (shows_none _))
     ]

@@ -1,7 +1,7 @@
-use Rattle.std.proofs.Common.{◌≡◌, ◌∙◌, ◌∷◌, ◌++◌, None, sym}
+use Rattle.std.proofs.Common.{◌∙◌, ◌∷◌, ◌++◌, None, sym}
 use Rattle.playback_core.specs.Played.{Move}
 use Rattle.cueplayer_live.proofs.Moves.{one_line}
-use Rattle.cueplayer_live.proofs.Texts.{shown_by, shows_more, shows_none}
+use Rattle.cueplayer_live.proofs.Texts.{shown_by, shows_more}
 use Rattle.cueplayer_live.proofs.carry.show_follow_ons.Goals as goal
 
 pub loop-cue-preserved : goal.loop-cue-preserved

@@ -1,7 +1,5 @@
-use Rattle.std.proofs.Common.{◌≡◌, ◌∙◌, ◌∷◌, ◌++◌, None, Some, ap, sym}
+use Rattle.std.proofs.Common.{◌∙◌, ◌∷◌}
 use Rattle.playback_core.specs.Played.{Move}
-use Rattle.desk_core.specs.Played.{moved_to}
-use Rattle.cueplayer_live.specs.Shown.{cue_lines, made}
 use Rattle.cueplayer_live.proofs.Moves.{made_is, one_line}
 use Rattle.cueplayer_live.proofs.Texts.{shown_by, shows_more}
 use Rattle.cueplayer_live.proofs.carry.show_moves.Goals as goal
@@ -12,8 +10,13 @@ returns-in-Some-clause-shows g c = λ moves stopped time is tells.
     let newer = first.0 in
     let move : Move = record { cue = c.in-Some.cue; moment = c.args.moment; time = time } in
     let text = c.as_bytes.ensures.value ∙ c.as_str.ensures.value ∙ c.cue_line.ensures in
-    rw (c.in-Some.is, first.1 moves stopped is, made_is (move ∷ newer) moves,
-    one_line move newer, ← text) (shows_more _ _ _ _ _
+    rw (
+      c.in-Some.is,
+      first.1 moves stopped is,
+      made_is (move ∷ newer) moves,
+      one_line move newer,
+      ← text,
+    ) (shows_more _ _ _ _ _
     (first.2 (c.show.ensures.told tells))
     (shown_by c.show.result _ _ _ _ c.show.ensures.ok c.show.ensures.err tells))
 

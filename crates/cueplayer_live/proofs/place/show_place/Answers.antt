@@ -1,4 +1,4 @@
-use Rattle.std.proofs.Common.{◌≡◌, ◌∙◌, ap, sym}
+use Rattle.std.proofs.Common.{◌≡◌, ◌∙◌, ap}
 use Rattle.show_core.specs.Tables.{Tables}
 use Rattle.show_core.specs.Readers.{cue_above}
 use Rattle.playback_core.specs.Played.{go_target}

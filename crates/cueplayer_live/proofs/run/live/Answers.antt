@@ -1,14 +1,51 @@
-use Rattle.std.proofs.Common.{◌≡◌}
+use Rattle.std.proofs.Common.{refl, arith, [], ◌++◌}
+use Rattle.cueplayer_play.proofs.Beginning.{of_each}
+use Rattle.cueplayer_live.proofs.Living.{lived, lived_whole}
 use Rattle.cueplayer_live.proofs.run.live.Goals as goal
 
 pub run-requires : goal.run-requires
-run-requires g c = ?
+run-requires g c =
+    let stands = c.in_ok-console.ensures.opened.stands in
+    record {
+      real = (
+        _,
+        [],
+        record {
+          console_stands = stands.1 stands.0.0 stands.0.1;
+          input_stands = c.new.ensures.stands;
+        },
+      );
+    }
 
 pub returns-in-Ok-clause-lived : goal.returns-in-Ok-clause-lived
-returns-in-Ok-clause-lived g c = ?
+returns-in-Ok-clause-lived g c = λ begun booth link.
+    of_each c.args.show.now _ _ c.in_ok-console.ensures.opened.stands
+    (λ s stands. rw c.if-night-eq0.true at (lived_whole g.F.Fader.stands_for _ _ _ _ _
+    c.run.ensures.goes _ (record {
+      console_stands = stands;
+      input_stands = c.new.ensures.stands;
+    }) refl (booth, link) (λ happened. c.in-Ok.ensures.over _ happened)))
 
 pub returns-in-Ok-2-clause-lived : goal.returns-in-Ok-2-clause-lived
-returns-in-Ok-2-clause-lived g c = ?
+returns-in-Ok-2-clause-lived g c = λ begun booth link.
+    of_each c.args.show.now _ _ c.in_ok-console.ensures.opened.stands
+    (λ s stands. (
+      omega (arith, c.if-night-eq0.false),
+      lived_whole g.F.Fader.stands_for _ _ _ _ _
+          c.run.ensures.goes _ (record {
+            console_stands = stands;
+            input_stands = c.new.ensures.stands;
+          }) refl (booth, link) (λ happened. c.in-Ok-2.ensures.over _ happened),
+    ))
 
 pub returns-clause-lived : goal.returns-clause-lived
-returns-clause-lived g c = ?
+returns-clause-lived g c = λ begun booth link.
+    of_each c.args.show.now _ _ c.in_ok-console.ensures.opened.stands
+    (λ s stands. (
+      c.run.ensures.goes.since ++ [],
+      c.run.new.self.lost,
+      lived g.F.Fader.stands_for _ _ _ _ _ c.run.ensures.goes _ (record {
+        console_stands = stands;
+        input_stands = c.new.ensures.stands;
+      }) refl (booth, link),
+    ))

@@ -1,18 +1,13 @@
-use Rattle.std.proofs.Common.{◌≡◌, ◌∙◌, refl, ap, sym, List, [], ◌∷◌, true}
-use Rattle.console.specs.Streams.{Production}
-use Rattle.desk_core.specs.Played.{Act}
+use Rattle.std.proofs.Common.{◌∙◌, refl, ap, sym, List, [], ◌∷◌}
 use Rattle.live_input.specs.Night.{Happening, answer_to, answers, asked, ignored_keys, lines_given}
 use Rattle.live_input.specs.Night.{stage, stage_by}
 use Rattle.live_input.specs.Stands as live
-use Rattle.live_input.specs.Told.{Leaves}
 use Rattle.live_input.proofs.Nights.{over_is}
-use Rattle.cueplayer_play.specs.Run.{history_of}
 use Rattle.cueplayer_live.specs.Booth.{refused}
 use Rattle.cueplayer_live.specs.Night.{seen}
-use Rattle.cueplayer_live.specs.Stands.{StandsFor}
 use Rattle.cueplayer_live.proofs.Living.{Gives, carried_since, gives, goes_more, goes_none}
 use Rattle.cueplayer_live.proofs.Living.{goes_quietly, goes_waiting, helps, lives_more, overs}
-use Rattle.cueplayer_live.proofs.Living.{places, refuses, shows_since, told_if, waits, with_keys}
+use Rattle.cueplayer_live.proofs.Living.{places, refuses, shows_since, waits, with_keys}
 use Rattle.cueplayer_live.proofs.Texts.{shown_by, shows_none}
 use Rattle.cueplayer_live.proofs.night.Night.go_on.Goals as goal
 
@@ -32,7 +27,7 @@ pub returns-in-Line-clause-goes : goal.returns-in-Line-clause-goes
 returns-in-Line-clause-goes g c =
     let moment = c.in_ok-moment.moment in
     let giving : (happened : List Happening) → live.StandsFor c.args.self.now.input happened
-        → Gives (answer_to happened moment) c.in-Line.given =
+    → Gives (answer_to happened moment) c.in-Line.given =
     λ happened stands. gives c.in-Line.given (answer_to happened moment)
     (c.in-Line.ensures.tells happened stands) in
     record {

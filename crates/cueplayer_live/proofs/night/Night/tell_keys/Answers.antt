@@ -1,4 +1,4 @@
-use Rattle.std.proofs.Common.{◌≡◌, ◌∙◌, refl, sym}
+use Rattle.std.proofs.Common.{◌∙◌, refl, sym}
 use Rattle.cueplayer_live.proofs.night.Night.tell_keys.Goals as goal
 
 pub returns-then-ignored_keys-clause-tells : goal.returns-then-ignored_keys-clause-tells

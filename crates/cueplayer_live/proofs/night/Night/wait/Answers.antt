@@ -1,4 +1,4 @@
-use Rattle.std.proofs.Common.{◌≡◌, [], ◌∷◌, take}
+use Rattle.std.proofs.Common.{[], ◌∷◌, take}
 use Rattle.live_input.specs.Night.{came, closed}
 use Rattle.cueplayer_live.proofs.night.Night.wait.Goals as goal
 

@@ -1,0 +1,68 @@
+use Rattle.std.proofs.Common.{refl, ◌++◌}
+use Rattle.cueplayer_live.proofs.Living.{goes_more, goes_none}
+use Rattle.cueplayer_live.proofs.night.Night.run.Goals as goal
+
+pub loop-turn-init : goal.loop-turn-init
+loop-turn-init g c = record {
+  told_booth = λ tells. tells;
+  told_link = λ tells. tells;
+  goes = goes_none g.F.Fader.stands_for _ _ _ _ (λ tells. refl);
+}
+
+pub go_on-requires : goal.go_on-requires
+go_on-requires g c =
+    let real = c.requires.real in
+    let goes = c.loop-turn.invariant.goes in
+    record { real = (real.0, goes.since ++ real.1, goes.stands real.0 real.1 real.2) }
+
+pub loop-turn-preserved : goal.loop-turn-preserved
+loop-turn-preserved g c =
+    let so_far = c.loop-turn.invariant in
+    let next = c.go_on.ensures in
+    record {
+      told_booth = λ tells. so_far.told_booth (next.told_booth tells);
+      told_link = λ tells. so_far.told_link (next.told_link tells);
+      goes = goes_more g.F.Fader.stands_for _ _ _ _ _ _ _ _ so_far.goes next.goes
+          (λ tells. (next.told_booth tells.0, next.told_link tells.1));
+    }
+
+pub returns-in_err-go_on-clause-goes : goal.returns-in_err-go_on-clause-goes
+returns-in_err-go_on-clause-goes g c =
+    let next = c.go_on.ensures in
+    goes_more g.F.Fader.stands_for _ _ _ _ _ _ _ _ c.loop-turn.invariant.goes next.goes
+    (λ tells. (next.told_booth tells.0, next.told_link tells.1))
+
+pub returns-in_err-go_on-clause-told_booth : goal.returns-in_err-go_on-clause-told_booth
+returns-in_err-go_on-clause-told_booth g c =
+    λ tells. c.loop-turn.invariant.told_booth (c.go_on.ensures.told_booth tells)
+
+pub returns-in_err-go_on-clause-told_link : goal.returns-in_err-go_on-clause-told_link
+returns-in_err-go_on-clause-told_link g c =
+    λ tells. c.loop-turn.invariant.told_link (c.go_on.ensures.told_link tells)
+
+pub returns-then-branch-clause-goes : goal.returns-then-branch-clause-goes
+returns-then-branch-clause-goes g c =
+    let next = c.go_on.ensures in
+    goes_more g.F.Fader.stands_for _ _ _ _ _ _ _ _ c.loop-turn.invariant.goes next.goes
+    (λ tells. (next.told_booth tells.0, next.told_link tells.1))
+
+pub returns-then-branch-clause-told_booth : goal.returns-then-branch-clause-told_booth
+returns-then-branch-clause-told_booth g c =
+    λ tells. c.loop-turn.invariant.told_booth (c.go_on.ensures.told_booth tells)
+
+pub returns-then-branch-clause-told_link : goal.returns-then-branch-clause-told_link
+returns-then-branch-clause-told_link g c =
+    λ tells. c.loop-turn.invariant.told_link (c.go_on.ensures.told_link tells)
+
+pub returns-then-branch-clause-over : goal.returns-then-branch-clause-over
+returns-then-branch-clause-over g c =
+    λ p happened stands. c.in_ok-go_on.ensures.over c.if-branch.true p happened stands
+
+pub returns-clause-goes : goal.returns-clause-goes
+returns-clause-goes g c = c.loop-turn.invariant.goes
+
+pub returns-clause-told_booth : goal.returns-clause-told_booth
+returns-clause-told_booth g c = c.loop-turn.invariant.told_booth
+
+pub returns-clause-told_link : goal.returns-clause-told_link
+returns-clause-told_link g c = c.loop-turn.invariant.told_link
