@@ -47,10 +47,10 @@ impl Screen {
         })
     }
 
-    /// Shows a reply on standard output.
+    /// Shows a reply on standard output, as soon as what waits is handed on. A tick can have
+    /// thousands of them.
     pub fn show(&mut self, line: &[u8]) {
-        self.replies.put(line);
-        self.tell_failure();
+        self.replies.take(line);
     }
 
     /// Tells a line on standard error.
