@@ -1,5 +1,6 @@
 """`live`: a night by the clock. What is typed, what it prints, its record, and its datagrams."""
 
+import collections
 import os
 import re
 import signal
@@ -64,11 +65,11 @@ class LiveTest(ReceiverTest):
             night.stdin.flush()
             time.sleep(pause)
 
-    def told(self, night, line, *replies, pause=0.2):
-        """Types a line, and waits for what is shown of it, `ok` at least, and then for some ticks."""
+    def told(self, night, line, reply="ok", *others, pause=0.2):
+        """Types a line, and waits for its reply, what is shown behind it, and then for some ticks."""
         night.stdin.write(line)
-        for reply in replies or ("ok",):
-            self.assertEqual([reply], without_moments(night.stdout.readline()))
+        for shown in (reply, *others):
+            self.assertEqual([shown], without_moments(night.stdout.readline()))
         time.sleep(pause)
 
     def ended(self, night):
@@ -226,13 +227,17 @@ class Live(LiveTest):
         move makes 2,000 others."""
         cues = "".join(f"CUE {n}\nFOLLOWON 0\nCHAN 1@{n % 100}\n" for n in range(1, 2001))
         self.show.write_bytes(b"PATCH 1 1<1@FL\n" + cues.encode())
-        record = self.folder / "night.play"
-        night = self.begun("--record", record)
-        self.told(night, b"goto 1\n", pause=0.3)
+        record, printed = self.folder / "night.play", self.folder / "replies"
+        with open(printed, "wb") as replies:
+            night = self.begun("--record", record, stdout=replies)
         night.stdin.write(b"goto 1\n" * 580)
-        replies = [night.stdout.readline() for _ in range(580)]
+        while record.read_bytes().count(b"goto") < 580:
+            self.assertIsNone(night.poll())
+            time.sleep(0.1)
         self.ended(night)
-        self.assertEqual(["ok"] * 580, without_moments(b"".join(replies)))
+        shown = collections.Counter(without_moments(printed.read_bytes()))
+        moves = {f"cue {n}": 580 for n in range(1, 2001)}
+        self.assertEqual({"ok": 582} | moves, shown)
         lines = [line.split() for line in record.read_text().splitlines()]
         due, late = 0, 0
         for moment, *words in lines:
