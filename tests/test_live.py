@@ -5,6 +5,7 @@ import os
 import re
 import signal
 import subprocess
+import threading
 import time
 from pathlib import Path
 
@@ -15,6 +16,7 @@ from worked import S1
 
 OTHER = CID[:-1] + "2"
 MOMENT = re.compile(rb"^\d+ ", re.MULTILINE)
+NEVER = 30
 
 
 def ignore_hang_up():
@@ -55,7 +57,10 @@ class LiveTest(ReceiverTest):
         """A night that has begun; what it told at its start was read, where standard error is a pipe."""
         night = self.started(*options, **kept)
         if night.stderr:
+            watch = threading.Timer(NEVER, night.kill)
+            watch.start()
             start = b"".join(night.stderr.readline() for _ in range(4))
+            watch.cancel()
             self.assertIsNotNone(START.fullmatch(start), start)
         return night
 
