@@ -105,12 +105,7 @@ impl Booth for LiveBooth<'_> {
         Ok(moment)
     }
 
-    fn wait(
-        &mut self,
-        moment: u64,
-        due: u64,
-        block: &mut [u8; 4096],
-    ) -> Result<Heard, LinkFault> {
+    fn wait(&mut self, moment: u64, due: u64, block: &mut [u8; 4096]) -> Result<Heard, LinkFault> {
         let milliseconds = due.saturating_sub(moment);
         match self.input.wait(self.rt, milliseconds, block)? {
             Came::Bytes(count) => Ok(Heard::Bytes(count.min(4096))),
