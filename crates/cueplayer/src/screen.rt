@@ -53,8 +53,9 @@ impl Screen {
         self.replies.take(line);
     }
 
-    /// Tells a line on standard error.
+    /// Tells a line on standard error, behind the replies that were shown before it.
     pub fn tell(&mut self, line: &[u8]) {
+        self.replies.hand_on();
         self.messages.tell(line);
     }
 
