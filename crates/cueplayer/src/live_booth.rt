@@ -77,12 +77,11 @@ impl<'a> LiveBooth<'a> {
         }
     }
 
-    // The input ended at this moment: does the night end with it?
-    fn end_input(&mut self, moment: u64) -> Heard {
+    // The input ended at this moment.
+    fn end_input(&mut self, moment: u64) {
         if !self.ends_with_input {
             self.input_ended = Some(moment);
         }
-        Heard::End(self.ends_with_input)
     }
 }
 
@@ -113,7 +112,10 @@ impl Booth for LiveBooth<'_> {
                 self.screen.tell(TYPED_END);
                 Ok(Heard::Nothing)
             }
-            Came::End | Came::TypedEnd => Ok(self.end_input(moment)),
+            Came::End | Came::TypedEnd => {
+                self.end_input(moment);
+                Ok(Heard::End(self.ends_with_input))
+            }
             Came::Nothing => Ok(Heard::Nothing),
         }
     }
