@@ -32,10 +32,14 @@ FAULT = re.compile(
 # What `listen` tells before it waits.
 WAITING = (b"listening at ", b"this machine hears ")
 
+# What `live` tells at its start.
+START = re.compile(rb"show: \d+ cues?, .*\nsends: .*\nrecord: .*\nend ends the night, .*\n")
+
 
 def told(err):
-    """Standard error without remarks, and without what `listen` tells before it waits."""
-    lines = [line for line in err.splitlines(keepends=True) if not line.startswith(WAITING)]
+    """Standard error without remarks, and without what `listen` and `live` tell before they begin."""
+    lines = START.sub(b"", err).splitlines(keepends=True)
+    lines = [line for line in lines if not line.startswith(WAITING)]
     if len(lines) > 1 and FAULT.fullmatch(lines[-2]):
         lines.pop()
     return b"".join(lines)

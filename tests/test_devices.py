@@ -127,7 +127,8 @@ class Floods(FolderTest):
         record = self.folder / "night.play"
         words = [PROGRAM, "live", self.show, "--to", "127.0.0.1:9", "--cid", CID, "--record", record]
         words.append("--end-with-input")
-        night = subprocess.Popen(words, stdin=subprocess.PIPE, stdout=subprocess.PIPE)
+        pipes = {"stdin": subprocess.PIPE, "stdout": subprocess.PIPE, "stderr": subprocess.DEVNULL}
+        night = subprocess.Popen(words, **pipes)
         self.addCleanup(night.kill)
         while not record.exists() or record.read_bytes().count(b"tick") < 4:
             time.sleep(0.01)

@@ -7,9 +7,10 @@ import sys
 
 from expected import runs
 from preload import PreloadTest
-from program import CID, DEVICE_FAULT, PROGRAM, Outcome, counts, packet, run, text, told
+from program import CID, DEVICE_FAULT, PROGRAM, START, Outcome, counts, packet, run, text, told
 from test_listen import DATAGRAMS, THREE, Listener
 from test_live import without_moments
+from test_refused_lines import NUMBERED, UNKNOWN
 from wire import OPTIONS, SEQUENCE, TERMINATED, ReceiverTest, own_network
 from worked import HEADER, LOOK_ONE, S1, keep_alive, plays, rehearsals
 
@@ -258,10 +259,10 @@ class Live(FailingCalls):
         for length in range(len(typed)):
             with self.subTest(typed[:length]):
                 status, out, err, came = self.lived(stdin=typed[:length])
-                refused = [b"line refused: " + typed[:length] + b"\n"] if 0 < length < 7 else []
-                if length == 7:
-                    refused = [b"line refused: sub 1 F\n"]
-                self.assertEqual((0, b"".join(refused)), (status, err))
+                line = typed[:length].decode()
+                reason = NUMBERED if line.startswith("sub") else UNKNOWN
+                refused = [f"line refused: {line}: {reason}"] if 0 < length < 8 else []
+                self.assertEqual((0, refused), (status, err.decode().splitlines()))
                 self.assertEqual(["ok"] * (3 if length == 8 else 2), out)
                 self.assertEqual(3, len([each for each in came if each[OPTIONS] == TERMINATED]))
 
@@ -300,14 +301,11 @@ class Network(FailingCalls):
         """A night that begins without its network goes on once it is there."""
         words = [PROGRAM, "live", self.show, "--to", "127.0.0.1", "--cid", CID, "--end-with-input"]
         done = subprocess.run(
-            [*own_network(self), sys.executable, "-c", WITHOUT_NETWORK, *words],
-            capture_output=True,
-            text=True,
-            timeout=60,
+            [*own_network(self), sys.executable, "-c", WITHOUT_NETWORK, *words], capture_output=True, timeout=60
         )
-        *printed, levels = done.stdout.splitlines()
+        *printed, levels = START.sub(b"", done.stdout).decode().splitlines()
         lost = [line for line in printed if re.fullmatch(r"\d+ live 1:x\d+", line)]
-        self.assertEqual(("", printed[: len(lost)]), (done.stderr, lost))
+        self.assertEqual((b"", printed[: len(lost)]), (done.stderr, lost))
         rest = [re.sub(r"^\d+ ", "", line) for line in printed[len(lost) :]]
         remark = "127.0.0.1:5568: no route leads to that network"
         self.assertEqual(["ok", "ok", "ok", f"lost {len(lost)}", remark, "status 5"], rest)

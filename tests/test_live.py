@@ -1,19 +1,22 @@
 """`live`: a night by the clock. What is typed, what it prints, its record, and its datagrams."""
 
+import collections
 import os
 import re
 import signal
 import subprocess
+import threading
 import time
 from pathlib import Path
 
-from program import CID, PROGRAM, Outcome, packet, run, text, told
+from program import CID, PROGRAM, START, Outcome, packet, run, text, told
 from wire import OPTIONS, SEQUENCE, SLOT_1, TERMINATED, ReceiverTest
 from wire import address_of, received, receiving, terminal
 from worked import S1
 
 OTHER = CID[:-1] + "2"
 MOMENT = re.compile(rb"^\d+ ", re.MULTILINE)
+NEVER = 30
 
 
 def ignore_hang_up():
@@ -36,18 +39,29 @@ class LiveTest(ReceiverTest):
         ends = [] if holds else ["--end-with-input"]
         return ["live", self.show, "--to", to or self.to, "--cid", cid, *ends, *options]
 
-    def begun(self, *options, stdin=subprocess.PIPE, preexec_fn=None, **kept):
-        """A night that has begun."""
+    def started(self, *options, preexec_fn=None, cid=CID, to=None, holds=False, **pipes):
+        """A program that is to play a night; its input and its outputs are pipes, unless others are given."""
+        pipes = dict.fromkeys(("stdin", "stdout", "stderr"), subprocess.PIPE) | pipes
         night = subprocess.Popen(
-            [self.PROGRAM, *self.words(*options, **kept)],
+            [self.PROGRAM, *self.words(*options, cid=cid, to=to, holds=holds)],
             env=self.env,
-            stdin=stdin,
-            stdout=subprocess.PIPE,
-            stderr=subprocess.PIPE,
             bufsize=0,
             preexec_fn=preexec_fn,
+            **pipes,
         )
+        self.addCleanup(lambda: [each.close() for each in (night.stdin, night.stdout, night.stderr) if each])
         self.addCleanup(night.kill)
+        return night
+
+    def begun(self, *options, **kept):
+        """A night that has begun; what it told at its start was read, where standard error is a pipe."""
+        night = self.started(*options, **kept)
+        if night.stderr:
+            watch = threading.Timer(NEVER, night.kill)
+            watch.start()
+            start = b"".join(night.stderr.readline() for _ in range(4))
+            watch.cancel()
+            self.assertIsNotNone(START.fullmatch(start), start)
         return night
 
     def typed(self, night, *parts, pause=0.1):
@@ -56,10 +70,11 @@ class LiveTest(ReceiverTest):
             night.stdin.flush()
             time.sleep(pause)
 
-    def told(self, night, line, reply="ok", pause=0.2):
-        """Types a line, and waits for its reply and then for some ticks."""
+    def told(self, night, line, reply="ok", *others, pause=0.2):
+        """Types a line, and waits for its reply, what is shown behind it, and then for some ticks."""
         night.stdin.write(line)
-        self.assertEqual([reply], without_moments(night.stdout.readline()))
+        for shown in (reply, *others):
+            self.assertEqual([shown], without_moments(night.stdout.readline()))
         time.sleep(pause)
 
     def ended(self, night):
@@ -96,7 +111,11 @@ class Live(LiveTest):
 
     def test_closed_input(self):
         """With --end-with-input the end of the input is that of the night; a last line needs no LF."""
-        for typed, replies in ((b"", []), (b"go", ["ok"]), (b"go\nback\nend", ["ok", "refused AtStart"])):
+        for typed, replies in (
+            (b"", []),
+            (b"go", ["ok", "cue 1"]),
+            (b"go\nback\nend", ["ok", "cue 1", "refused AtStart"]),
+        ):
             with self.subTest(typed):
                 outcome = run(*self.words(), stdin=typed)
                 self.assertEqual((0, b""), (outcome.status, outcome.err))
@@ -137,7 +156,8 @@ class Live(LiveTest):
         record = self.folder / "night.play"
         outcome = run(*self.words("--record", record), stdin=b"end\ngo\nmaster FL\nend\nleave\n")
         self.assertEqual(["ok", "ok"], without_moments(outcome.out))
-        refused = b"".join(b"line refused: %s\n" % line for line in (b"go", b"master FL", b"end", b"leave"))
+        lines = (b"go", b"master FL", b"end", b"leave")
+        refused = b"".join(b"line refused: %s: the night is ending\n" % line for line in lines)
         self.assertEqual((0, refused), (outcome.status, outcome.err))
         given = [line.split(" ", 1)[1] for line in record.read_text().splitlines()]
         self.assertEqual(["tick", "master 0", *["tick"] * 4, "end", *["tick"] * 3], given)
@@ -163,8 +183,9 @@ class Live(LiveTest):
         lines = [b"jump", b"go now", b"tick", b"5 go", b"sub 1", b"goto 0", b"g\0o", b"caf\xc3\xa9", b"x" * 500]
         outcome = run(*self.words(), stdin=b"\n".join(lines) + b"\n  ! nothing\n\nGO ! now\n")
         told = [b"jump", b"go now", b"tick", b"5 go", b"sub 1", b"goto 0", b"g?o", b"caf??", b"x" * 200]
-        self.assertEqual(b"".join(b"line refused: " + line + b"\n" for line in told), outcome.err)
-        self.assertEqual((0, ["ok"] * 3), (outcome.status, without_moments(outcome.out)))
+        found = [line.split(b": ")[:2] for line in outcome.err.splitlines()]
+        self.assertEqual([[b"line refused", line] for line in told], found)
+        self.assertEqual((0, ["ok", "cue 1", "ok", "ok"]), (outcome.status, without_moments(outcome.out)))
 
     def test_bytes_one_by_one(self):
         night = self.begun()
@@ -179,7 +200,7 @@ class Live(LiveTest):
         """A fade of two seconds is seen in the levels, with every step upwards."""
         self.show.write_bytes(text("CUE 1", "UP 2", "CHAN 1@FL", "PATCH 1 1<1@FL"))
         night = self.begun()
-        self.told(night, b"go\n", pause=1.0)
+        self.told(night, b"go\n", "ok", "cue 1", pause=1.0)
         half = self.came(wait=0)
         time.sleep(1.3)
         self.ended(night)
@@ -211,13 +232,17 @@ class Live(LiveTest):
         move makes 2,000 others."""
         cues = "".join(f"CUE {n}\nFOLLOWON 0\nCHAN 1@{n % 100}\n" for n in range(1, 2001))
         self.show.write_bytes(b"PATCH 1 1<1@FL\n" + cues.encode())
-        record = self.folder / "night.play"
-        night = self.begun("--record", record)
-        self.told(night, b"goto 1\n", pause=0.3)
+        record, printed = self.folder / "night.play", self.folder / "replies"
+        with open(printed, "wb") as replies:
+            night = self.begun("--record", record, stdout=replies)
         night.stdin.write(b"goto 1\n" * 580)
-        replies = [night.stdout.readline() for _ in range(580)]
+        while record.read_bytes().count(b"goto") < 580:
+            self.assertIsNone(night.poll())
+            time.sleep(0.1)
         self.ended(night)
-        self.assertEqual(["ok"] * 580, without_moments(b"".join(replies)))
+        shown = collections.Counter(without_moments(printed.read_bytes()))
+        moves = {f"cue {n}": 580 for n in range(1, 2001)}
+        self.assertEqual({"ok": 582} | moves, shown)
         lines = [line.split() for line in record.read_text().splitlines()]
         due, late = 0, 0
         for moment, *words in lines:
@@ -235,7 +260,8 @@ class Live(LiveTest):
         night = self.begun("--record", record, "--priority", "150", "--base", "7")
         self.typed(night, b"go\n", b"nonsense\nsub 1 30\n", b"  MASTER H80 ! down\n", b"back\n")
         outcome = self.ended(night)
-        self.assertEqual((0, b"line refused: nonsense\n"), (outcome.status, outcome.err))
+        refused = b"line refused: nonsense: no such command; help lists the commands\n"
+        self.assertEqual((0, refused), (outcome.status, outcome.err))
         came = self.came()
         words = ["play", *self.words(holds=True)[1:], "--priority", "150", "--base", "7"]
         replay = run(*words, stdin=record.read_bytes())
@@ -243,7 +269,9 @@ class Live(LiveTest):
         self.assertEqual(came, self.came())
         self.assertEqual(packet(7, {}, 0, priority=150), came[0])
         replies = [line for line in replay.out.splitlines() if b" live" not in line and b" ending" not in line]
-        self.assertEqual(outcome.out.splitlines(), replies)
+        shown = outcome.out.splitlines()
+        self.assertEqual([line for line in shown if b" cue " not in line], replies)
+        self.assertEqual(["cue 1"], without_moments(b"\n".join(line for line in shown if b" cue " in line)))
 
     def test_record_of_another_night(self):
         """A record that is not empty is refused: no night is written over another."""
@@ -259,7 +287,7 @@ class Live(LiveTest):
     def test_record_on_a_full_disk(self):
         """It is told once, and the night goes on."""
         outcome = run(*self.words("--record", "/dev/full"), stdin=b"go\nend\n")
-        self.assertEqual((0, ["ok"] * 3), (outcome.status, without_moments(outcome.out)))
+        self.assertEqual((0, ["ok", "cue 1", "ok", "ok"]), (outcome.status, without_moments(outcome.out)))
         self.assertEqual(b"record: device fault\n", outcome.err)
         self.assertTerminated(self.came())
 
@@ -445,5 +473,5 @@ class Lock(LiveTest):
             timeout=30,
             env={**os.environ, "XDG_RUNTIME_DIR": str(file)},
         )
-        told = b"cid: no lock can be made, so a second console of this CID would begin\n"
-        self.assertEqual((0, told), (done.returncode, done.stderr))
+        without_lock = b"cid: no lock can be made, so a second console of this CID would begin\n"
+        self.assertEqual((0, without_lock), (done.returncode, told(done.stderr)))

@@ -8,7 +8,6 @@ from program import PROGRAM, TOP
 from test_live import LiveTest, without_moments
 from wire import SLOT_1, terminal
 
-TOLD = b"cueplayer: end ends the night; control-C and a closed window leave the light on\n"
 CONTROL_C = b"\x03"
 
 
@@ -53,12 +52,11 @@ class Signals(LiveTest):
         self.assertEqual(-signal.SIGTERM, night.wait(timeout=30))
 
     def test_control_c_at_a_terminal(self):
-        """It is told at the start; control-C drops what was typed and leaves the light on."""
+        """Control-C drops what was typed and leaves the light on."""
         ours, its = terminal(self)
         self.addCleanup(os.close, ours)
         night = self.night(stdin=its, preexec_fn=take_terminal)
         os.close(its)
-        self.assertEqual(TOLD, night.stderr.readline())
         os.write(ours, b"sub 1 FL\n")
         self.assertEqual(["ok"], without_moments(night.stdout.readline()))
         os.write(ours, b"sub 1 0" + CONTROL_C)
@@ -71,7 +69,6 @@ class Signals(LiveTest):
         ours, its = terminal(self)
         night = self.night(stdin=its, preexec_fn=take_terminal)
         os.close(its)
-        night.stderr.readline()
         os.write(ours, b"sub 1 FL\n")
         self.assertEqual(["ok"], without_moments(night.stdout.readline()))
         os.close(ours)

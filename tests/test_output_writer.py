@@ -14,7 +14,7 @@ from test_live import without_moments
 from test_record_writer import NEVER, WriterTest
 
 BEFORE = b"what stood there\n"
-WRONG = b"line refused: jump\n"
+WRONG = b"line refused: jump: no such command; help lists the commands\n"
 
 
 class OutputWriter(WriterTest):
@@ -26,11 +26,11 @@ class OutputWriter(WriterTest):
     def begun_in_files(self, *options, mode="wb", **kept):
         """A night whose standard output and standard error are files."""
         with open(self.out, mode) as out, open(self.err, mode) as err:
-            return self.night(*options, stdout=out, stderr=err, **kept)
+            return self.begun(*options, stdout=out, stderr=err, **kept)
 
     def begun_in_one_file(self, *options, mode="wb"):
         with open(self.out, mode) as both:
-            return self.night(*options, stdout=both, stderr=both)
+            return self.begun(*options, stdout=both, stderr=both)
 
     def refused_there(self, night, file):
         """A line that is refused is told in this file soon."""
@@ -57,7 +57,7 @@ class OutputWriter(WriterTest):
                     printed = self.out.read_bytes()
                     self.assertEqual(before, printed[: len(before)])
                     self.assertEqual(["ok"] * 4, without_moments(printed[len(before) :]))
-                    self.assertEqual(before + WRONG, self.err.read_bytes())
+                    self.assertEqual(before + WRONG, told(self.err.read_bytes()))
                     for each in writers:
                         self.ends(each)
 
@@ -72,19 +72,19 @@ class OutputWriter(WriterTest):
         self.light(night, b"sub 1 50\n", 64)
         time.sleep(3)
         self.light(night, b"sub 1 0\n", 0)
-        self.assertEqual(b"", self.err.read_bytes())
+        self.assertEqual(b"", told(self.err.read_bytes()))
         for each in writers:
             os.kill(each, signal.SIGCONT)
         self.assertEnds(night)
         self.assertTicks(self.record)
         wanted = ["ok", *["refused AtStart"] * 600, *["ok"] * 4]
         self.assertEqual(wanted, without_moments(self.out.read_bytes()))
-        self.assertEqual(WRONG * 600, self.err.read_bytes())
+        self.assertEqual(WRONG * 600, told(self.err.read_bytes()))
 
     def test_more_than_there_is_room(self):
         """What a disk that stalls for long leaves no room for is dropped, and counted in its place."""
         with open(self.out, "wb") as out:
-            night = self.night("--record", self.record, stdout=out)
+            night = self.begun("--record", self.record, stdout=out)
         self.light(night, b"sub 1 FL\n", 128)
         writer = self.writer(night, self.out)
         os.kill(writer, signal.SIGSTOP)
@@ -114,7 +114,7 @@ class OutputWriter(WriterTest):
                 self.light(night, b"sub 1 0\n", 0)
                 os.kill(writer, signal.SIGCONT)
                 self.assertEnds(night)
-                printed = self.out.read_bytes()
+                printed = told(self.out.read_bytes())
                 self.assertEqual(before, printed[: len(before)])
                 printed = re.sub(rb"(?m)^\d+ ", b"", printed[len(before) :])
                 self.assertEqual(b"ok\n" + (WRONG + b"refused AtStart\n") * 300 + b"ok\n" * 3, printed)
@@ -122,7 +122,7 @@ class OutputWriter(WriterTest):
     def test_one_of_them(self):
         """Where one of them is no file, only the other has a writer."""
         with open(self.out, "wb") as out:
-            night = self.night(stdout=out)
+            night = self.begun(stdout=out)
         self.light(night, b"sub 1 FL\n", 128)
         self.assertEqual([self.writer(night, self.out)], self.writers(night))
         night.stdin.write(b"jump\n")
@@ -135,7 +135,7 @@ class OutputWriter(WriterTest):
     def test_none_of_them(self):
         """Pipes and the null device have no writer."""
         for stdout in (subprocess.PIPE, subprocess.DEVNULL):
-            night = self.night(stdout=stdout)
+            night = self.begun(stdout=stdout)
             self.light(night, b"sub 1 FL\n", 128)
             self.assertEqual([], self.writers(night))
             self.light(night, b"sub 1 0\n", 0)
@@ -160,12 +160,12 @@ class OutputWriter(WriterTest):
                     os.kill(each, signal.SIGCONT)
                     self.ends(each)
                 self.assertEqual(["ok"] * 2, without_moments(self.out.read_bytes()))
-                self.assertEqual(WRONG, self.err.read_bytes())
+                self.assertEqual(WRONG, told(self.err.read_bytes()))
 
     def test_writer_that_is_killed(self):
         """It is told, and the night goes on to its end."""
         with open(self.out, "wb") as out:
-            night = self.night(stdout=out)
+            night = self.begun(stdout=out)
         self.light(night, b"sub 1 FL\n", 128)
         os.kill(self.writer(night, self.out), signal.SIGKILL)
         self.light(night, b"sub 1 50\n", 64)
@@ -182,7 +182,7 @@ class OutputWriter(WriterTest):
         with open(self.out, "wb") as out:
             out.write(b"x" * 4095)
             out.flush()
-            night = self.night(stdout=out, preexec_fn=limit)
+            night = self.begun(stdout=out, preexec_fn=limit)
         self.light(night, b"sub 1 FL\n", 128)
         self.light(night, b"sub 1 50\n", 64)
         self.light(night, b"sub 1 0\n", 0)
@@ -193,7 +193,7 @@ class OutputWriter(WriterTest):
     def test_stalled_to_the_end(self):
         """The program ends within two seconds, and says how much its writer has still."""
         with open(self.out, "wb") as out:
-            night = self.night(stdout=out)
+            night = self.begun(stdout=out)
         self.light(night, b"sub 1 FL\n", 128)
         writer = self.writer(night, self.out)
         os.kill(writer, signal.SIGSTOP)
@@ -235,5 +235,5 @@ class OutputWriter(WriterTest):
             f"cueplayer: no pipe to {name}: a disk that stalls holds up the light\n".encode()
             for name in ("the record", "standard output", "standard error")
         ]
-        self.assertEqual(b"".join(lines), self.err.read_bytes())
+        self.assertEqual(b"".join(lines), told(self.err.read_bytes()))
         self.assertEqual(["ok"] * 3, without_moments(self.out.read_bytes()))

@@ -9,7 +9,7 @@ import subprocess
 import time
 from pathlib import Path
 
-from program import PROGRAM, TOP, run
+from program import PROGRAM, TOP, run, told
 from test_outputs import OutputsTest
 
 NEVER = 30
@@ -69,7 +69,7 @@ class RecordWriter(WriterTest):
         """When the program has ended, the record has all of it."""
         for option in (("--record", self.record), (f"--record={self.record}",)):
             with self.subTest(option):
-                night = self.night(*option)
+                night = self.begun(*option)
                 self.light(night, b"sub 1 FL\n", 128)
                 self.light(night, b"sub 1 0\n", 0)
                 self.assertEnds(night)
@@ -84,7 +84,7 @@ class RecordWriter(WriterTest):
 
     def test_disk_that_stalls(self):
         """The light goes on, without a late tick; it is told once, and again when all is written."""
-        night = self.night("--record", self.record, stdout=subprocess.DEVNULL)
+        night = self.begun("--record", self.record, stdout=subprocess.DEVNULL)
         self.light(night, b"sub 1 FL\n", 128)
         writer = self.writer(night)
         os.kill(writer, signal.SIGSTOP)
@@ -104,7 +104,7 @@ class RecordWriter(WriterTest):
 
     def test_killed_beside_its_writer(self):
         """What was carried out is recorded, though the disk stalled and the program was killed."""
-        night = self.night("--record", self.record)
+        night = self.begun("--record", self.record)
         self.light(night, b"sub 1 FL\n", 128)
         writer = self.writer(night)
         os.kill(writer, signal.SIGSTOP)
@@ -118,7 +118,7 @@ class RecordWriter(WriterTest):
 
     def test_writer_that_is_killed(self):
         """It is told, and the night goes on to its end."""
-        night = self.night("--record", self.record)
+        night = self.begun("--record", self.record)
         self.light(night, b"sub 1 FL\n", 128)
         os.kill(self.writer(night), signal.SIGKILL)
         self.light(night, b"sub 1 50\n", 64)
@@ -129,18 +129,18 @@ class RecordWriter(WriterTest):
 
     def test_stalled_to_the_end(self):
         """The program ends, and says how much its writer has still."""
-        night = self.night("--record", self.record)
+        night = self.begun("--record", self.record)
         self.light(night, b"sub 1 FL\n", 128)
         writer = self.writer(night)
         os.kill(writer, signal.SIGSTOP)
         self.light(night, b"sub 1 0\n", 0)
         before = self.record.stat().st_size
         self.assertEnds(night)
-        told = night.stderr.readline()
-        told = re.fullmatch(rb"record: (\d+) bytes are still with its writer\n", told)
+        line = night.stderr.readline()
+        left = re.fullmatch(rb"record: (\d+) bytes are still with its writer\n", line)
         os.kill(writer, signal.SIGCONT)
         self.ends(writer)
-        self.assertEqual(before + int(told[1]), self.record.stat().st_size)
+        self.assertEqual(before + int(left[1]), self.record.stat().st_size)
         self.assertEqual(b"end", commands(self.record)[-1])
 
     def test_refused(self):
@@ -152,10 +152,10 @@ class RecordWriter(WriterTest):
             self.assertEqual(2, done.returncode)
             self.assertFalse(self.record.exists())
         self.record.write_bytes(b"0 tick\n")
-        night = self.night("--record", self.record)
+        night = self.started("--record", self.record)
         self.assertEqual(5, night.wait(timeout=NEVER))
-        told = b"device fault\nthe record's file is not empty: no night is written over another\n"
-        self.assertEqual(told, night.stderr.read())
+        refused = b"device fault\nthe record's file is not empty: no night is written over another\n"
+        self.assertEqual(refused, night.stderr.read())
         self.assertEqual(b"0 tick\n", self.record.read_bytes())
 
     def test_without_a_pipe(self):
@@ -165,9 +165,9 @@ class RecordWriter(WriterTest):
         for name in ("sh", "readlink", "sha256sum", "cat", "dd", "rm", "mkfifo"):
             (tools / name).symlink_to(shutil.which(name))
         self.env = self.env | {"PATH": str(tools)}
-        night = self.night("--record", self.record)
+        night = self.started("--record", self.record)
         self.light(night, b"sub 1 FL\n", 128)
         self.assertEnds(night)
-        told = b"cueplayer: no pipe to the record: a disk that stalls holds up the light\n"
-        self.assertEqual(told, night.stderr.read())
+        without_pipe = b"cueplayer: no pipe to the record: a disk that stalls holds up the light\n"
+        self.assertEqual(without_pipe, told(night.stderr.read()))
         self.assertEqual([b"sub 1 FL", b"master 0", b"end"], commands(self.record))

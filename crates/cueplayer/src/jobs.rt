@@ -3,13 +3,15 @@ ghost use Rattle.cueplayer_words.specs.Job.{IsInRange};
 
 use crate::device_failure::{of_record, of_socket};
 use crate::failure::Failure;
-use crate::live_feed::LiveFeed;
+use crate::live_booth::LiveBooth;
 use crate::reading::{file_text, script_text, show_text};
 use crate::remark::of_device;
-use crate::shown_output::ShownOutput;
+use crate::screen::Screen;
+use crate::start_lines::tell_start;
 use cueplayer_cues::{cues, cues_json};
 use cueplayer_explain::explain;
 use cueplayer_faults::RunFault;
+use cueplayer_live::live;
 use cueplayer_play::play;
 use cueplayer_rehearse::rehearse_text;
 use cueplayer_runs::{check, listen, look, slots};
@@ -193,8 +195,6 @@ fn ask_for<F: AsFd>(file: &F, name: &str) -> Result<(), Failure> {
 struct Standard {
     input: TypedInput,
     messages: Messages,
-    // Standard error is open.
-    is_told: bool,
 }
 
 impl Standard {
@@ -203,53 +203,44 @@ impl Standard {
         let is_told = ask_for(&rt.stderr(), "standard error").is_ok();
         let input = TypedInput::open(rt)?;
         let messages = Messages::new(rt, is_told)?;
-        Ok(Standard {
-            input,
-            messages,
-            is_told,
-        })
+        Ok(Standard { input, messages })
     }
 }
 
 // What a live night plays from and to.
 #[derive(Drop)]
-struct LiveDevices<'a> {
+struct LiveDevices {
     lock: Option<CidLock>,
-    feed: LiveFeed<'a>,
+    input: TypedInput,
     link: SendingSocket,
-    out: ShownOutput,
+    record: Record,
+    screen: Screen,
 }
 
-impl<'a> LiveDevices<'a> {
+impl LiveDevices {
     fn open(
-        rt: &'a HostRuntime,
+        rt: &HostRuntime,
         night: &Night,
         record_file: Option<&str>,
-        ends_with_input: bool,
         standard: Standard,
     ) -> Result<Self, Failure> {
-        let Standard {
-            input,
-            messages,
-            is_told,
-        } = standard;
-        let mut out = ShownOutput::new(rt, messages)?;
+        let Standard { input, messages } = standard;
+        let mut screen = Screen::new(rt, messages)?;
         let lock = CidLock::take(rt, night.cid)?;
         if lock.is_none() {
-            out.tell(NO_LOCK);
+            screen.tell(NO_LOCK);
         }
         let record = Record::open(rt, record_file).map_err(|fault| of_record(record_file, fault))?;
         let link = SendingSocket::open(rt, night.to)?;
         if let Err(kind) = link.never_wait() {
             return Err(of_socket(kind));
         }
-        let kept = (record, Messages::new(rt, is_told)?);
-        let feed = LiveFeed::new(rt, input, ends_with_input, kept)?;
         Ok(LiveDevices {
             lock,
-            feed,
+            input,
             link,
-            out,
+            record,
+            screen,
         })
     }
 }
@@ -267,21 +258,18 @@ fn play_live(
     let text = text.as_slice();
     let LiveDevices {
         lock: _lock,
-        mut feed,
+        input,
         mut link,
-        mut out,
-    } = LiveDevices::open(rt, night, record_file, ends_with_input, standard)?;
-    let answer = play::<StepFader, _, _, _>(
-        rt.alloc(),
-        text,
-        source,
-        night.base,
-        &mut feed,
-        &mut link,
-        &mut out,
-    );
-    let told = feed.finish();
-    out.finish(rt, told);
+        record,
+        mut screen,
+    } = LiveDevices::open(rt, night, record_file, standard)?;
+    if let Err(fault) = tell_start(rt, night, text, &link, record_file, &mut screen) {
+        return ended(Err(fault), text, None);
+    }
+    let mut booth = LiveBooth::new(rt, input, ends_with_input, record, screen)?;
+    let base = night.base;
+    let answer = live::<StepFader, _, _>(rt.alloc(), text, source, base, &mut booth, &mut link);
+    booth.finish();
     played(answer, text, &link, None)
 }
 

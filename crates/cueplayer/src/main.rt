@@ -4,10 +4,11 @@
 mod device_failure;
 mod failure;
 mod jobs;
-mod live_feed;
+mod live_booth;
 mod reading;
 mod remark;
-mod shown_output;
+mod screen;
+mod start_lines;
 mod words;
 
 use clap::Error;

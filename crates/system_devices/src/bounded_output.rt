@@ -118,18 +118,30 @@ impl<W: Write + AsRawFd + Drop> BoundedOutput<W> {
         })
     }
 
-    /// Takes a line, or drops it.
+    /// Takes a line and hands it on, or drops it.
     pub fn put(&mut self, line: &[u8]) {
+        self.take(line);
         self.hand_on();
+    }
+
+    /// Takes a line for the next time that lines are handed on, or drops it. So many lines cost no
+    /// more calls of the system than their bytes do.
+    pub fn take(&mut self, line: &[u8]) {
+        if !self.has_room(line) {
+            self.hand_on();
+        }
         if self.failure.is_some() {
             return;
         }
-        if self.dropped > 0 || line.len() > ROOM - self.waiting.len().min(ROOM) {
+        if self.dropped > 0 || !self.has_room(line) {
             self.dropped = self.dropped.saturating_add(1);
             return;
         }
         let _ = self.waiting.extend_from_slice(line);
-        self.hand_on();
+    }
+
+    fn has_room(&self, line: &[u8]) -> bool {
+        line.len() <= ROOM - self.waiting.len().min(ROOM)
     }
 
     /// Hands on what waits, as far as it is taken at once.

@@ -103,6 +103,11 @@ impl SendingSocket {
             .map_err(|error| error.kind())
     }
 
+    /// Whether each universe is sent to the multicast group of its number.
+    pub fn is_multicast(&self) -> bool {
+        self.host == MULTICAST
+    }
+
     /// Where the last send that failed went to, and the system's reason.
     pub fn failure(&self) -> Option<(AddressText, ErrorKind)> {
         let (address, kind) = self.failure?;
@@ -110,7 +115,7 @@ impl SendingSocket {
     }
 
     fn address(&self, universe: u16) -> SocketAddr {
-        let host = if self.host == MULTICAST {
+        let host = if self.is_multicast() {
             let [high, low] = universe.to_be_bytes();
             [239, 255, high, low]
         } else {

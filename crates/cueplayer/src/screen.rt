@@ -1,8 +1,4 @@
-ghost use Rattle.std.specs.Prelude.{[]};
-
 use arrayvec::ArrayString;
-use devices::{LinkFault, Output};
-use live_input::is_shown;
 use std::fmt::Write;
 use std::fs::Metadata;
 use std::io::Stdout;
@@ -25,44 +21,59 @@ struct FileLengths {
     is_one_file: bool,
 }
 
-/// The replies of a night that are shown, on standard output. They hold nobody up, and a reader
-/// that has gone is told of once.
+/// What the operator of a night sees: replies on standard output, and messages on standard error.
+/// They hold nobody up, and a reader of replies that has gone is told of once.
 #[derive(Drop)]
-pub struct ShownOutput {
+pub struct Screen {
     replies: BoundedOutput<Stdout>,
     messages: Messages,
     is_failure_told: bool,
     // Those before the night.
     before: FileLengths,
-    // Bytes that others told on standard error.
-    told: u64,
 }
 
-impl ShownOutput {
+impl Screen {
     /// # Errors
     ///
     /// As those of [`BoundedOutput::new`].
     pub fn new(rt: &HostRuntime, messages: Messages) -> Result<Self, DeviceFault> {
         let replies = BoundedOutput::new(rt, rt.stdout(), NAMES)?;
         let before = lengths(replies.written_file(rt), messages.written_file(rt));
-        Ok(ShownOutput {
+        Ok(Screen {
             replies,
             messages,
             is_failure_told: false,
             before,
-            told: 0,
         })
     }
 
-    /// Tells a line on standard error.
+    /// Shows a reply on standard output, as soon as what waits is handed on. A tick can have
+    /// thousands of them.
+    pub fn show(&mut self, line: &[u8]) {
+        self.replies.take(line);
+    }
+
+    /// Tells a line on standard error, behind the replies that were shown before it.
     pub fn tell(&mut self, line: &[u8]) {
+        self.replies.hand_on();
         self.messages.tell(line);
     }
 
+    /// Where messages are told.
+    pub fn messages(&mut self) -> &mut Messages {
+        &mut self.messages
+    }
+
+    /// Hands on what waits, as far as it is taken at once.
+    pub fn hand_on(&mut self) {
+        self.replies.hand_on();
+        self.tell_failure();
+        self.messages.hand_on();
+    }
+
     /// Hands on what waits, at the end of the night, and waits for the processes that write the
-    /// files of standard output and standard error. Others told `told` bytes there.
-    pub fn finish(&mut self, rt: &HostRuntime, told: u64) {
-        self.told = told;
+    /// files of standard output and standard error.
+    pub fn finish(&mut self, rt: &HostRuntime) {
         self.replies.finish();
         self.tell_failure();
         self.messages.finish();
@@ -83,7 +94,7 @@ impl ShownOutput {
     }
 }
 
-impl PipedOutput for ShownOutput {
+impl PipedOutput for Screen {
     fn unwritten_bytes(&self, rt: &HostRuntime) -> u64 {
         let now = lengths(
             self.replies.written_file(rt),
@@ -93,31 +104,13 @@ impl PipedOutput for ShownOutput {
             .before
             .output
             .saturating_add(self.replies.piped_bytes());
-        let told = self.told.saturating_add(self.messages.piped_bytes());
+        let told = self.messages.piped_bytes();
         if now.is_one_file {
             return replies.saturating_add(told).saturating_sub(now.output);
         }
         let told = self.before.error.saturating_add(told);
         let told = told.saturating_sub(now.error);
         told.saturating_add(replies.saturating_sub(now.output))
-    }
-}
-
-impl Output for ShownOutput {
-    ghost tells = { λ _. ⊥ };
-
-    ghost tape = { λ _. record { items = []; failures = 0 } };
-
-    // Each tick has a reply, so what waits is offered again at each.
-    fn write(&mut self, bytes: &[u8]) -> Result<(), LinkFault> {
-        if is_shown(bytes) {
-            self.replies.put(bytes);
-        } else {
-            self.replies.hand_on();
-        }
-        self.tell_failure();
-        self.messages.hand_on();
-        Ok(())
     }
 }
 
