@@ -1,0 +1,62 @@
+"""What `live` shows of a night: of each line that it carried out, and of `where` (FORMATS.md, "The lines of
+live"). The record has the lines; where among them `where` was asked, the record does not say."""
+
+from .cue_list import spelled
+from .desk import Desk, command
+from .follow_on import next_cue
+from .words import moment, words_of
+
+TICK = b"tick"
+
+
+class Night:
+    """A night by the lines of its record, which are carried out in turn."""
+
+    def __init__(self, show, base=1):
+        self.show = show
+        self.desk = Desk(show, base)
+
+    def carry_out(self, line):
+        """The lines that are shown of a line: the answer to a command, or the refusal of a tick, and behind
+        it each move that came by it, the oldest first, with its own moment."""
+        first, *words = words_of(line)
+        at, before = moment(first), len(self.desk.moves)
+        answer = self.answer(at, words)
+        moves = self.desk.moves[before:]
+        shown = [] if answer is None else [f"{at} {answer}"]
+        return shown + [f"{moved} cue {spelled(cue)}" for cue, moved in moves]
+
+    def answer(self, at, words):
+        """What is shown of a call itself; nothing of a tick that was made and lost no packet."""
+        if [word.lower() for word in words] == [TICK]:
+            answer = self.desk.tick(at)
+            return f"refused {answer}" if isinstance(answer, str) else None
+        refusal = self.desk.order(at, command(words))
+        return f"refused {refusal}" if refusal else "ok"
+
+    def where(self, at):
+        """The line that `where` shows: the current cue and the next, and which masters are up."""
+        desk = self.desk
+        current, after = desk.cue, next_cue(self.show, desk.cue)
+        said = [f"{at} where"]
+        said += [] if current is None else [f"cue {spelled(current)}"]
+        said += [] if after is None else [f"next {spelled(after)}"]
+        said += [f"master {desk.grand}"]
+        for kind in ("sub", "group"):
+            said += [f"{kind} {n}:{byte}" for n, byte in sorted(desk.masters[kind].items()) if byte]
+        return " ".join(said)
+
+
+def shown(show, record, asked=(), base=1):
+    """All that a night shows beside `help`, by the lines of its record.
+
+    `asked` has of each `where`, in order, how many of the other lines stand above its own, and its moment.
+    """
+    night, lines, others, asked = Night(show, base), [], 0, list(asked)
+    for line in (*record, None):
+        while asked and asked[0][0] <= others:
+            lines.append(night.where(asked.pop(0)[1]))
+        came = night.carry_out(line) if line else []
+        lines += came
+        others += len(came)
+    return lines

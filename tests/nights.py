@@ -1,0 +1,85 @@
+"""Nights of `live` that are typed by chance, many at once, and what each left."""
+
+import re
+import subprocess
+import tempfile
+import time
+import uuid
+from concurrent.futures import ThreadPoolExecutor
+from pathlib import Path
+from typing import NamedTuple
+
+from expected import live, show as shows
+from expected.words import lines_of
+from program import PROGRAM
+
+AT_ONCE = 16
+PATIENCE = 60
+# Where nothing listens.
+NOWHERE = "127.0.0.1:9"
+WHERE = re.compile(r"(\d+) where .*")
+ANSWER = re.compile(r"\d+ (ok|refused \w+|where .*)")
+
+
+class Typed(NamedTuple):
+    """A night that is to be: its show, and what is typed, each part behind a pause in seconds."""
+
+    show: bytes
+    parts: tuple
+
+
+class Left(NamedTuple):
+    """What a night left: its status, the lines that it showed, those of its record, and standard error."""
+
+    status: int
+    shown: list
+    record: list
+    err: bytes
+
+
+def play_night(typed):
+    """Plays a night under a CID of its own, and ends it with its input."""
+    with tempfile.TemporaryDirectory() as name:
+        show, record = Path(name, "show.asc"), Path(name, "night.play")
+        show.write_bytes(typed.show)
+        words = ["live", show, "--to", NOWHERE, "--cid", str(uuid.uuid4()), "--record", record]
+        with subprocess.Popen(
+            [PROGRAM, *words, "--end-with-input"],
+            stdin=subprocess.PIPE,
+            stdout=subprocess.PIPE,
+            stderr=subprocess.PIPE,
+            bufsize=0,
+        ) as night:
+            for pause, part in typed.parts:
+                time.sleep(pause)
+                night.stdin.write(part)
+            out, err = night.communicate(timeout=PATIENCE)
+        return Left(night.returncode, out.decode().splitlines(), lines_of(record.read_bytes()), err)
+
+
+def play_nights(nights):
+    """Plays nights side by side: each with what it left, in their order."""
+    with ThreadPoolExecutor(AT_ONCE) as pool:
+        yield from zip(nights, pool.map(play_night, nights))
+
+
+def asked(lines):
+    """How many other lines stand above each line of `where`, and its moment."""
+    places, others = [], 0
+    for line in lines:
+        said = WHERE.fullmatch(line)
+        if said:
+            places.append((others, int(said[1])))
+        others += not said
+    return places
+
+
+def expected(typed, left):
+    """What a night must have shown, by its record. Where `where` was asked is taken from what it showed."""
+    return live.shown(shows.read(typed.show), left.record, asked(left.shown))
+
+
+def answers(lines):
+    """Of the lines that a night shows the answers, as `ok`, `refused` or `where`, each with its moment."""
+    found = (line.split()[:2] for line in lines if ANSWER.fullmatch(line))
+    return [(word, int(at)) for at, word in found]
