@@ -29,7 +29,7 @@ class Typed(NamedTuple):
 
 
 class Left(NamedTuple):
-    """What a night left: its status, the lines that it showed, those of its record, and standard error."""
+    """What a night left: its status, the lines that it showed and recorded, and standard error."""
 
     status: int
     shown: list
@@ -38,23 +38,27 @@ class Left(NamedTuple):
 
 
 def play_night(typed):
-    """Plays a night under a CID of its own, and ends it with its input."""
+    """Plays a night under a CID of its own, which ends with its input."""
     with tempfile.TemporaryDirectory() as name:
-        show, record = Path(name, "show.asc"), Path(name, "night.play")
+        files = ("show.asc", "night.play", "out", "err")
+        show, record, out, err = (Path(name, file) for file in files)
         show.write_bytes(typed.show)
         words = ["live", show, "--to", NOWHERE, "--cid", str(uuid.uuid4()), "--record", record]
-        with subprocess.Popen(
-            [PROGRAM, *words, "--end-with-input"],
-            stdin=subprocess.PIPE,
-            stdout=subprocess.PIPE,
-            stderr=subprocess.PIPE,
-            bufsize=0,
-        ) as night:
+        words.append("--end-with-input")
+        # A file takes all that is shown, however late it is read.
+        with open(out, "wb") as shown, open(err, "wb") as told:
+            streams = {"stdin": subprocess.PIPE, "stdout": shown, "stderr": told}
+            night = subprocess.Popen([PROGRAM, *words], bufsize=0, **streams)
+        try:
             for pause, part in typed.parts:
                 time.sleep(pause)
                 night.stdin.write(part)
-            out, err = night.communicate(timeout=PATIENCE)
-        return Left(night.returncode, out.decode().splitlines(), lines_of(record.read_bytes()), err)
+            night.stdin.close()
+            status = night.wait(PATIENCE)
+        finally:
+            night.kill()
+        shown = out.read_bytes().decode().splitlines()
+        return Left(status, shown, lines_of(record.read_bytes()), err.read_bytes())
 
 
 def play_nights(nights):
@@ -64,7 +68,7 @@ def play_nights(nights):
 
 
 def asked(lines):
-    """How many other lines stand above each line of `where`, and its moment."""
+    """Of each line of `where` how many other lines stand above it, and its moment."""
     places, others = [], 0
     for line in lines:
         said = WHERE.fullmatch(line)
@@ -75,11 +79,11 @@ def asked(lines):
 
 
 def expected(typed, left):
-    """What a night must have shown, by its record. Where `where` was asked is taken from what it showed."""
+    """What a night must have shown, by its record. What it showed says where `where` was asked."""
     return live.shown(shows.read(typed.show), left.record, asked(left.shown))
 
 
 def answers(lines):
-    """Of the lines that a night shows the answers, as `ok`, `refused` or `where`, each with its moment."""
+    """The answers among these lines, as `ok`, `refused` or `where`, each with its moment."""
     found = (line.split()[:2] for line in lines if ANSWER.fullmatch(line))
     return [(word, int(at)) for at, word in found]

@@ -55,7 +55,8 @@ class Reader(unittest.TestCase):
     def test_refused_command(self):
         """It makes no move, also none that is due: the tick behind it does."""
         record = ["0 go", "10000 go", "11000 tick"]
-        self.assertShows(self.FOLLOWED, record, "0 ok", "0 cue 1", "10000 refused AtEnd", "10000 cue 2")
+        expected = ("0 ok", "0 cue 1", "10000 refused AtEnd", "10000 cue 2")
+        self.assertShows(self.FOLLOWED, record, *expected)
 
     def test_move_in_between(self):
         """A goto to the current cue is a move, from which the follow-on counts."""
@@ -64,7 +65,7 @@ class Reader(unittest.TestCase):
         self.assertShows(self.FOLLOWED, record, *expected)
 
     def test_move_before_the_command(self):
-        """What is due at the moment of a command is made before it, and stands above its own move."""
+        """What is due at the moment of a command is made first, and stands above its own move."""
         record = ["0 go", "10000 goto 1", "10000 master 50"]
         expected = ("0 ok", "0 cue 1", "10000 ok", "10000 cue 2", "10000 cue 1", "10000 ok")
         self.assertShows(self.FOLLOWED, record, *expected)
@@ -117,7 +118,7 @@ class CueLines(unittest.TestCase):
 
 
 class CueLinesAsTheyCome(LiveTest):
-    SHOW = text("CUE 1", "FOLLOWON .5", "CHAN 1@FL", "CUE 4.5", "CHAN 2@FL", "PATCH 1 1<1@FL 2<2@FL")
+    SHOW = text("CUE 1", "FOLLOWON .5", "CHAN 1@FL", "CUE 4.5", "CHAN 2@FL", "PATCH 1 1<1@FL")
 
     def test_follow_on(self):
         """Its line comes at the tick that makes the move, with the moment at which it was due."""
@@ -128,6 +129,6 @@ class CueLinesAsTheyCome(LiveTest):
         self.assertEqual(b"%d cue 4.5\n" % (at + 500), night.stdout.readline())
         night.stdin.write(b"goto 4.5\n")
         again = int(night.stdout.readline().removesuffix(b" ok\n"))
-        self.assertGreater(again, at + 500)
+        self.assertGreaterEqual(again, at + 500)
         self.assertEqual(b"%d cue 4.5\n" % again, night.stdout.readline())
         self.assertEqual(0, self.ended(night).status)

@@ -1,4 +1,4 @@
-"""`live`: `where` tells all that the commands before it have set; neither it nor `help` is recorded."""
+"""`live`: `where` tells all that the commands before it have set, and `help` lists the commands."""
 
 import random
 import re
@@ -37,12 +37,13 @@ def a_command(r, masters):
     """A command by chance, mostly for a master; none that ends the night."""
     words = inputs.command(r)
     level = r.choice([*inputs.LEVELS, "0", "0"])
-    chosen = [*r.choice(masters).split(), level] if words == ["end"] or r.random() < 0.6 else words
-    return inputs.spelled(r, chosen, odd=0)
+    if words == ["end"] or r.random() < 0.6:
+        words = [*r.choice(masters).split(), level]
+    return inputs.spelled(r, words, odd=0)
 
 
 def asking_night(r):
-    """A night of a thousand commands, with `where` behind most of them; and what is typed, in order."""
+    """A night of a thousand commands with `where` behind most of them, and the order of the two."""
     masters = some_masters(r)
     parts, kinds = [], []
     for _ in range(COMMANDS):
@@ -59,7 +60,7 @@ def asking_night(r):
 
 
 class Where(LiveTest):
-    SHOW = text("CUE 1", "FOLLOWON .2", "CUE 4.5", "SUB 3", "CHAN 1@FL", "GROUP 1", "GROUP 12", "PATCH 1 1<1@FL")
+    SHOW = text("CUE 1", "FOLLOWON .2", "CUE 4.5", "SUB 3", "GROUP 1", "GROUP 12", "PATCH 1 1<1@FL")
 
     def asked(self, night, word=b"where\n"):
         """What `where` tells, without its moment."""
@@ -68,7 +69,7 @@ class Where(LiveTest):
         return line
 
     def test_thousand_commands(self):
-        """It tells the state by the commands that were answered before it, as the second reader has it."""
+        """It tells the state by the commands that were answered before it."""
         r = random.Random(SEED)
         nights, kinds = zip(*(asking_night(r) for _ in range(NIGHTS)))
         for (typed, left), typed_kinds in zip(play_nights(nights), kinds):
@@ -89,7 +90,8 @@ class Where(LiveTest):
         self.told(night, b"sub 3 50\n", pause=0)
         self.told(night, b"group 12 FL\n", pause=0)
         self.told(night, b"group 1 1\n", pause=0)
-        self.assertEqual("where next 1 master 255 sub 3:128 group 1:3 group 12:255", self.asked(night))
+        up = "master 255 sub 3:128 group 1:3 group 12:255"
+        self.assertEqual(f"where next 1 {up}", self.asked(night))
         self.told(night, b"go\n", pause=0)
         self.assertEqual(["cue 1"], without_moments(night.stdout.readline()))
         self.assertEqual(["cue 4.5"], without_moments(night.stdout.readline()))
@@ -108,20 +110,27 @@ class Where(LiveTest):
         self.ended(night)
 
     def test_all_masters(self):
-        """The longest line there is comes whole, however often it is asked for."""
-        masters = [f"sub {n}" for n in range(1, SUBMASTERS + 1)] + [f"group {n}" for n in range(1, GROUPS + 1)]
+        """The longest line there is comes whole, into a file and through a pipe."""
+        masters = [f"sub {n}" for n in range(1, SUBMASTERS + 1)]
+        masters += [f"group {n}" for n in range(1, GROUPS + 1)]
         show = text("CUE 9999.999", *map(str.upper, masters), "CUE 9998.999")
-        typed = text("goto 9998.999", *(f"{master} FL" for master in masters), *["where"] * 20)
-        left = play_night(Typed(show, ((0.1, typed),)))
+        up = "".join(f" {each}:255" for each in masters)
+        line = f"where cue 9998.999 next 9999.999 master 255{up}"
+        typed = text("goto 9998.999", *(f"{master} FL" for master in masters), *["where"] * 8)
+        left = play_night(Typed(show, ((0, typed),)))
         self.assertEqual(0, left.status, left.err)
-        line = " ".join(["where cue 9998.999 next 9999.999 master 255", *(f"{each}:255" for each in masters)])
-        told = [each.partition(" ")[2] for each in left.shown if " where " in each]
-        self.assertEqual([line] * 20, told)
+        self.show.write_bytes(show)
+        night = self.begun()
+        out, _ = night.communicate(typed, timeout=30)
+        for lines in (left.shown, out.decode().splitlines()):
+            told = [each.partition(" ")[2] for each in lines if " where " in each]
+            self.assertEqual([line] * 8, told)
 
     def test_behind_the_end(self):
         """It is answered while the light goes down, too."""
         left = play_night(Typed(self.SHOW, ((0, b"sub 3 FL\nend\nwhere\n"),)))
-        self.assertEqual(["ok", "ok", "where next 1 master 0 sub 3:255", "ok"], without_moments(text(*left.shown)))
+        expected = ["ok", "ok", "where next 1 master 0 sub 3:255", "ok"]
+        self.assertEqual(expected, without_moments(text(*left.shown)))
 
     def test_is_alone(self):
         """With another word it is no request, and refused."""
@@ -140,7 +149,7 @@ class Help(LiveTest):
             self.assertEqual((0, HELP_LINES + 2), (left.status, len(left.shown)), left.err)
             self.assertEqual(["ok", "ok"], without_moments(text(*left.shown[HELP_LINES:])))
             given = [line.split(b" ", 1)[1] for line in left.record]
-            self.assertEqual([b"tick"] * (len(given) - 2), [line for line in given if line == b"tick"])
+            self.assertEqual([b"master 0", b"end"], [line for line in given if line != b"tick"])
             texts.append(left.shown[:HELP_LINES])
         self.assertEqual([texts[0]] * 3, texts)
         self.assertLess(max(map(len, texts[0])), SCREEN)

@@ -1,5 +1,4 @@
-"""What `live` shows of a night: of each line that it carried out, and of `where` (FORMATS.md, "The lines of
-live"). The record has the lines; where among them `where` was asked, the record does not say."""
+"""What `live` shows of a night, by the lines of its record (FORMATS.md, "The lines of live")."""
 
 from .cue_list import spelled
 from .desk import Desk, command
@@ -17,8 +16,8 @@ class Night:
         self.desk = Desk(show, base)
 
     def carry_out(self, line):
-        """The lines that are shown of a line: the answer to a command, or the refusal of a tick, and behind
-        it each move that came by it, the oldest first, with its own moment."""
+        """What is shown of a line: its answer, and behind it each move that came by it, the oldest
+        first, with the moment of the move."""
         first, *words = words_of(line)
         at, before = moment(first), len(self.desk.moves)
         answer = self.answer(at, words)
@@ -48,9 +47,10 @@ class Night:
 
 
 def shown(show, record, asked=(), base=1):
-    """All that a night shows beside `help`, by the lines of its record.
+    """All that a night shows, beside `help` and lost packets.
 
-    `asked` has of each `where`, in order, how many of the other lines stand above its own, and its moment.
+    The record does not say when `where` was asked. So `asked` has of each, in order, how many other
+    lines stand above its own, and its moment.
     """
     night, lines, others, asked = Night(show, base), [], 0, list(asked)
     for line in (*record, None):
