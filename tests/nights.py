@@ -15,6 +15,15 @@ from program import PROGRAM
 
 AT_ONCE = 16
 PATIENCE = 60
+# What `help` shows.
+HELP = """\
+go, back              the next cue, the one before
+goto 4.5              this cue; goto 4.5 in 3: in three seconds, goto 4.5 in 0: at once
+sub 3 50, group 1 FL  a submaster, a group: 0 to 100 percent, FL, or H00 to HFF
+master 80             the grand master
+where                 the current cue, the next one, and what masters are at
+end                   ends the night, dark; leave: receivers keep the light or drop it
+""".splitlines()
 # Where nothing listens.
 NOWHERE = "127.0.0.1:9"
 WHERE = re.compile(r"(\d+) where .*")
@@ -37,13 +46,13 @@ class Left(NamedTuple):
     err: bytes
 
 
-def play_night(typed):
-    """Plays a night under a CID of its own, which ends with its input."""
+def play_night(typed, cid=None, to=NOWHERE):
+    """Plays a night, which ends with its input; under a CID of its own, unless one is given."""
     with tempfile.TemporaryDirectory() as name:
         files = ("show.asc", "night.play", "out", "err")
         show, record, out, err = (Path(name, file) for file in files)
         show.write_bytes(typed.show)
-        words = ["live", show, "--to", NOWHERE, "--cid", str(uuid.uuid4()), "--record", record]
+        words = ["live", show, "--to", to, "--cid", cid or str(uuid.uuid4()), "--record", record]
         words.append("--end-with-input")
         # A file takes all that is shown, however late it is read.
         with open(out, "wb") as shown, open(err, "wb") as told:
@@ -78,9 +87,20 @@ def asked(lines):
     return places
 
 
-def expected(typed, left):
+def expected(show, record, shown):
     """What a night must have shown, by its record. What it showed says where `where` was asked."""
-    return live.shown(shows.read(typed.show), left.record, asked(left.shown))
+    return live.shown(shows.read(show), record, asked(shown))
+
+
+def without_help(lines):
+    """These lines without those of `help`, and how often that was asked."""
+    others, times, place = [], 0, 0
+    while place < len(lines):
+        is_help = lines[place : place + len(HELP)] == HELP
+        others += [] if is_help else [lines[place]]
+        times += is_help
+        place += len(HELP) if is_help else 1
+    return others, times
 
 
 def answers(lines):

@@ -99,7 +99,7 @@ class CueLines(unittest.TestCase):
         for typed, left in play_nights([typed_night(r) for _ in range(NIGHTS)]):
             with self.subTest(typed):
                 self.assertEqual(0, left.status, left.err)
-                self.assertEqual(expected(typed, left), left.shown)
+                self.assertEqual(expected(typed.show, left.record, left.shown), left.shown)
             moves += sum(MOVED.fullmatch(line) is not None for line in left.shown)
             orders += sum(ORDER.search(line) is not None for line in left.record)
         print(f"    {moves} moves, by {orders} commands at most, in {NIGHTS} nights")

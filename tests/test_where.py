@@ -74,7 +74,7 @@ class Where(LiveTest):
         nights, kinds = zip(*(asking_night(r) for _ in range(NIGHTS)))
         for (typed, left), typed_kinds in zip(play_nights(nights), kinds):
             self.assertEqual(0, left.status, left.err)
-            self.assertEqual(expected(typed, left), left.shown)
+            self.assertEqual(expected(typed.show, left.record, left.shown), left.shown)
             came = answers(left.shown)
             # Behind the last one the light goes down, and the streams end.
             in_order = ["where" if word == "where" else "answer" for word, _ in came]
