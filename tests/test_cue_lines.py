@@ -2,11 +2,12 @@
 
 import random
 import re
+import time
 import unittest
 
 import inputs
 from expected import live, show as shows
-from nights import Typed, answers, expected, play_night, play_nights
+from nights import Typed, expected, play_nights
 from program import text
 from test_live import LiveTest
 from worked import S1
@@ -105,17 +106,6 @@ class CueLines(unittest.TestCase):
         print(f"    {moves} moves, by {orders} commands at most, in {NIGHTS} nights")
         self.assertGreater(moves - orders, NIGHTS)
 
-    def test_chain(self):
-        """Cues that follow one another at once: each has its line, and no tick waits for them."""
-        show = "".join(f"CUE {n}\nFOLLOWON 0\n" for n in range(1, CHAIN + 1)).encode()
-        left = play_night(Typed(show, ((0.1, b"go\n"), (LATE / 1000, b""))))
-        self.assertEqual(0, left.status, left.err)
-        (_, at), *_ = answers(left.shown)
-        cues = [f"{at} cue {n}" for n in range(1, CHAIN + 1)]
-        self.assertEqual([f"{at} ok", *cues], left.shown[: CHAIN + 1])
-        ticks = [int(line.split()[0]) for line in left.record if line.endswith(b" tick")]
-        self.assertLess(max(b - a for a, b in zip(ticks, ticks[1:])), LATE)
-
 
 class CueLinesAsTheyCome(LiveTest):
     SHOW = text("CUE 1", "FOLLOWON .5", "CHAN 1@FL", "CUE 4.5", "CHAN 2@FL", "PATCH 1 1<1@FL")
@@ -132,3 +122,19 @@ class CueLinesAsTheyCome(LiveTest):
         self.assertGreaterEqual(again, at + 500)
         self.assertEqual(b"%d cue 4.5\n" % again, night.stdout.readline())
         self.assertEqual(0, self.ended(night).status)
+
+    def test_chain(self):
+        """Cues that follow one another at once: each has its line, soon, and no tick waits for them."""
+        cues = range(1, CHAIN + 1)
+        self.show.write_bytes(text(*(f"CUE {n}\nFOLLOWON 0" for n in cues)))
+        record = self.folder / "night.play"
+        night = self.begun("--record", record)
+        typed = time.monotonic()
+        night.stdin.write(b"go\n")
+        at = int(night.stdout.readline().removesuffix(b" ok\n"))
+        with open(night.stdout.fileno(), "rb", closefd=False) as shown:
+            self.assertEqual([b"%d cue %d\n" % (at, n) for n in cues], [shown.readline() for _ in cues])
+        self.assertLess(1000 * (time.monotonic() - typed), LATE)
+        self.assertEqual(0, self.ended(night).status)
+        ticks = [int(line.split()[0]) for line in record.read_bytes().splitlines() if b" tick" in line]
+        self.assertLess(max(b - a for a, b in zip(ticks, ticks[1:])), LATE)

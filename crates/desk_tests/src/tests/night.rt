@@ -1,6 +1,7 @@
+use super::shows::{Part, add, show_of};
 use desk_core::{Command, Desk, ENDING_TICKS, Refused};
 use fade_core::{Fader, PlainFader, StepFader};
-use show_core::{BuildFault, Rate, Show};
+use show_core::{BuildFault, Show};
 use std::alloc::Global;
 use std::io::Print;
 use std::process::Abort;
@@ -17,36 +18,31 @@ const TICK: u64 = 25;
 // Ticks behind each command: a fade takes two thirds of them.
 const TICKS: u64 = 60;
 
-const FADE: Rate = Rate {
-    time: 1000,
-    delay: 0,
-};
+// Of cue 1 and cue 3 one channel moves, and of cue 2, which cue 3 follows, more than are drawn one
+// by one.
+const PARTS: &[Part] = &[
+    Part::Cue(1000),
+    Part::Up(1000, 1000),
+    Part::Full(1000, 1),
+    Part::Cue(2000),
+    Part::Up(2000, 1000),
+    Part::Follow(2000, 500),
+    Part::Cue(3000),
+    Part::Up(3000, 1000),
+    Part::Full(3000, 2),
+    Part::Sub(1, 3, 255),
+    Part::Group(1, 4, 255),
+];
 
-// Of cue 1 one channel moves and of cue 2, which cue 3 follows, more than are drawn one by one.
 fn night_show(alloc: Global) -> Result<Show, BuildFault> {
-    let mut show = Show::new(alloc);
+    let mut show = show_of(alloc, PARTS)?;
+    for channel in 1..=MANY {
+        add(&mut show, &Part::Full(2000, channel))?;
+    }
     for dimmer in 1..=DIMMERS {
-        show.set_patch(dimmer, dimmer, 255)?;
+        add(&mut show, &Part::Patch(dimmer, dimmer, 255))?;
     }
-    for (cue, channels, byte) in [(1000, 1, 255), (2000, MANY, 128), (3000, 2, 64)] {
-        light(&mut show, cue, channels, byte)?;
-    }
-    show.set_follow(2000, 500);
-    show.open_sub(1)?;
-    show.sub_level(1, 3, 255)?;
-    show.open_group(1)?;
-    show.group_level(1, 4, 255)?;
     Ok(show)
-}
-
-fn light(show: &mut Show, cue: u32, channels: u16, byte: u8) -> Result<(), BuildFault> {
-    show.open_cue(cue)?;
-    show.set_up(cue, FADE);
-    show.set_down(cue, FADE);
-    for channel in 1..=channels {
-        show.cue_level(cue, channel, byte)?;
-    }
-    Ok(())
 }
 
 // Every command, and refused ones.
@@ -134,11 +130,10 @@ fn play_between_lines<F: Fader, R: Print + Abort>(rt: &R, alloc: Global) -> Resu
     let (is_answered, seen) = play(&mut desk);
     println!(rt; "over")?;
     assert!(rt; is_answered);
-    // Behind `end`, which is the last command but one, there are ticks for the end of the streams.
-    let live = TICKS * (COMMANDS.len() as u64 - 2);
-    assert!(rt; seen.ticks == live + u64::from(ENDING_TICKS));
+    // Fourteen commands come before `end`; behind it there are ticks for the end of the streams.
+    assert!(rt; seen.ticks == 14 * TICKS + u64::from(ENDING_TICKS));
     // Some ticks are of a fade, and others of none.
-    assert!(rt; seen.changes > 200 && seen.changes < live / 2);
+    assert!(rt; seen.changes > 200 && seen.changes < 7 * TICKS);
     Ok(())
 }
 

@@ -1,4 +1,4 @@
-ghost use Rattle.std.specs.Prelude.{[]};
+ghost use Rattle.cueplayer_live.specs.Booth.{IsWithin};
 
 use cueplayer_live::{Booth, Heard};
 use devices::LinkFault;
@@ -22,7 +22,9 @@ impl Coming<'_> {
     }
 
     // Of what is typed, as much as the block takes.
-    fn heard(&self, block: &mut [u8; 4096]) -> Heard {
+    fn heard(&self, block: &mut [u8; 4096]) -> Heard
+        ensures { IsWithin result }
+    {
         match self {
             Coming::Typed(_, bytes) => {
                 let count = bytes.len().min(block.len());
@@ -88,7 +90,7 @@ impl<'a> MemoryBooth<'a> {
 }
 
 impl Booth for MemoryBooth<'_> {
-    ghost use Rattle.std.specs.Prelude.{⊥};
+    ghost use Rattle.std.specs.Prelude.{⊥, []};
 
     ghost tells = { λ _. ⊥ };
 

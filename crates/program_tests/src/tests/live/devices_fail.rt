@@ -112,5 +112,10 @@ fn all_packets_are_lost(rt: HostRuntime) {
 }
 
 fn holds(text: &[u8], part: &[u8]) -> bool {
-    (0..text.len()).any(|from| text[from..].starts_with(part))
+    for from in 0..text.len() {
+        if text[from..].starts_with(part) {
+            return true;
+        }
+    }
+    false
 }
