@@ -15,15 +15,6 @@ from program import PROGRAM
 
 AT_ONCE = 16
 PATIENCE = 60
-# What `help` shows.
-HELP = """\
-go, back              the next cue, the one before
-goto 4.5              this cue; goto 4.5 in 3: in three seconds, goto 4.5 in 0: at once
-sub 3 50, group 1 FL  a submaster, a group: 0 to 100 percent, FL, or H00 to HFF
-master 80             the grand master
-where                 the current cue, the next one, and what masters are at
-end                   ends the night, dark; leave: receivers keep the light or drop it
-""".splitlines()
 # Where nothing listens.
 NOWHERE = "127.0.0.1:9"
 WHERE = re.compile(r"(\d+) where .*")
@@ -96,10 +87,10 @@ def without_help(lines):
     """These lines without those of `help`, and how often that was asked."""
     others, times, place = [], 0, 0
     while place < len(lines):
-        is_help = lines[place : place + len(HELP)] == HELP
+        is_help = lines[place : place + len(live.HELP)] == live.HELP
         others += [] if is_help else [lines[place]]
         times += is_help
-        place += len(HELP) if is_help else 1
+        place += len(live.HELP) if is_help else 1
     return others, times
 
 

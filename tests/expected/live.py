@@ -6,6 +6,15 @@ from .follow_on import next_cue
 from .words import moment, words_of
 
 TICK = b"tick"
+# What `help` shows.
+HELP = """\
+go, back              the next cue, the one before
+goto 4.5              this cue; goto 4.5 in 3: in three seconds, goto 4.5 in 0: at once
+sub 3 50, group 1 FL  a submaster, a group: 0 to 100 percent, FL, or H00 to HFF
+master 80             the grand master
+where                 the current cue, the next one, and what masters are at
+end                   ends the night, dark; leave: receivers keep the light or drop it
+""".splitlines()
 
 
 class Night:
