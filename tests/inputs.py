@@ -13,6 +13,10 @@ ODD = [
     "HG", "5.", ".", "..1", "1.0001", "1.234", "999999999", "1234567890", "0000000001", "FLL", "3:0", "1:2:3",
     "1e3", "65536", "65535", "\x00", "\xff", "\xb2", "\xa0", "\x0b", "0x1", "1_0", "1 1", "5999.999",
 ]  # fmt: skip
+FOLLOWS = "0 0 .01 .02 .03 .05 .05 .1 .1 .2 .2 .4 1".split()
+# What arrows, Home, F1, F5, F12 and keys of the Linux console send, ESC with a letter, and what has no end.
+KEYS = [b"\x1b[A", b"\x1b[D", b"\x1b[1~", b"\x1bOP", b"\x1b[15~", b"\x1b[24~", b"\x1b[1;5C", b"\x1b[[A", b"\x1bx"]
+KEYS += [b"\x1b", b"\x1b[", b"\x1bO", b"\x1b[[", b"\x1b\x1b[A"]
 STEPS = [0, 0, 1, 22, 23, 24, 25, 25, 25, 25, 100, 199, 200, 775, 799, 800, 801, 2500, 5000, 60000]
 STARTS = [0] * 20 + [5] * 5 + [1000000] * 5 + [(1 << 48) - 3000, (1 << 48) - 1, 1 << 48]
 BEHIND = [1, 1, 1, 2, 3, 18, 19, 20, 21, 127, 128, 217, 235, 236, 237, 255, 0]
@@ -95,6 +99,15 @@ def show(r, odd):
             lines.append(["PATCH", "1", *triples(r)])
     lines += [["ENDDATA"]] if r.random() < 0.3 else []
     return text_of(r, [spelled(r, line, odd) for line in lines])
+
+
+def chained_show(r):
+    """A show whose cues mostly follow one another, and soon."""
+    lines = []
+    cues = CUES + ["4", "5", "6.6", "7", "8"]
+    for n in r.sample(cues, r.randrange(4, len(cues))):
+        lines += [["CUE", n], ["FOLLOWON", r.choice(FOLLOWS)]]
+    return "".join(spelled(r, line, odd=0) + "\n" for line in lines).encode("latin-1") + show(r, odd=0)
 
 
 def command(r):

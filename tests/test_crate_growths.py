@@ -59,6 +59,7 @@ TESTED = {
     "program_tests::explain": Tested(("explain", "push_shown"), ("faults", "notes")),
     "program_tests::cues": Tested(("cues", "cues_json"), ("faults", "lists")),
     "program_tests::play": Tested(("play", "Console::open"), ("rows::each_growth_refused",)),
+    "program_tests::live": Tested(("live",), ("rows::each_growth_refused",)),
     "program_tests::rehearsal": Tested(
         ("rehearse_text",), ("devices_fail::each_device_fails", "rows::rehearse_basic")
     ),
@@ -75,8 +76,11 @@ OPENED = {
     "desk_tests::desk": ("opened", ("goto_mid_fade", "goto_in_mid_fade", "submaster_and_grand")),
     "stream_tests::receiver": ("every_law", ("four_sources", "source_loss", "stranger_termination")),
 }
-# Which takes long.
-LEFT_OUT = {"program_tests::play": ("devices_fail::each_send_fails",)}
+# Which take long.
+LEFT_OUT = {
+    "program_tests::live": ("long::more_lines_than_play_takes",),
+    "program_tests::play": ("devices_fail::each_send_fails",),
+}
 # How a test fails: by a failed assertion, or by an error that it answers.
 ABORTED, ANSWERED = -signal.SIGABRT, 101
 WANT_OF_MEMORY = re.compile(r"error: (AllocError|AllocFailed|Memory)\b")
@@ -85,6 +89,16 @@ WANT_OF_MEMORY = re.compile(r"error: (AllocError|AllocFailed|Memory)\b")
 def program_of(place):
     crate = place.partition("::")[0]
     return TOP / f"crates/{crate}/out/{crate}_tests"
+
+
+def built_programs(test, places):
+    """Those of the modules whose test program is there; where none is, the test is skipped."""
+    built = [place for place in places if program_of(place).is_file()]
+    if "GATE" in os.environ:
+        test.assertEqual(list(places), built)
+    elif not built:
+        test.skipTest("no test program of a crate was built")
+    return built
 
 
 def module_of(place):
@@ -141,15 +155,6 @@ class CrateGrowths(Growths):
         self.assertEqual(growths, self.growths()[0])
         return growths
 
-    def programs(self, places):
-        """Those of the modules whose test program is there."""
-        built = [place for place in places if program_of(place).is_file()]
-        if "GATE" in os.environ:
-            self.assertEqual(list(places), built)
-        elif not built:
-            self.skipTest("no test program of a crate was built")
-        return built
-
     def test_calls(self):
         """The list has each public call that can answer want of memory, and docs/PROVED.md names
         one of its tests beside it."""
@@ -168,7 +173,7 @@ class CrateGrowths(Growths):
 
     def test_growths(self):
         """Where a growth is refused the call answers that, and the test passes."""
-        for place in self.programs(sorted(TESTED)):
+        for place in built_programs(self, sorted(TESTED)):
             for test in TESTED[place].tests:
                 with self.subTest(place=place, test=test):
                     self.assertIn(test, tests_of(place))
@@ -176,7 +181,7 @@ class CrateGrowths(Growths):
 
     def test_no_growth_once_open(self):
         """Nor one that would be given: the growths are counted, and none is refused."""
-        for place in self.programs(sorted(OPENED)):
+        for place in built_programs(self, sorted(OPENED)):
             opened, tests = OPENED[place]
             counted = {}
             for test in (opened, *tests):
@@ -187,7 +192,7 @@ class CrateGrowths(Growths):
 
     def test_other_tests(self):
         """Nothing falls, and nothing hangs."""
-        for place in self.programs(tested_places()):
+        for place in built_programs(self, tested_places()):
             named = TESTED[place].tests if place in TESTED else ()
             for test in sorted(set(tests_of(place)) - {*named, *LEFT_OUT.get(place, ())}):
                 with self.subTest(place=place, test=test):

@@ -2,21 +2,16 @@
 
 import os
 import random
-import re
-import subprocess
 import sys
-import tempfile
-import time
 import unittest
-from pathlib import Path
 from unittest import mock
 
 import changes
 import inputs
-from expected import desk, receiver, runs, stream
-from expected.words import words_of
+import nights
+from expected import desk, receiver, runs, stream, typed
 from hostile import Runner, first_failure
-from program import CID, PROGRAM
+from program import CID, told as without_remark
 from wire import address_of, received, receiving
 from worked import S1
 
@@ -62,44 +57,54 @@ class HostileLive(unittest.TestCase):
     """A night by the clock, in which whatever is typed."""
 
     def typed(self, r):
-        """Lines by chance; none of them ends the night."""
+        """Lines by chance, with keys among them; none of them ends the night, or is too long for it."""
         while True:
-            line = inputs.spelled(r, inputs.command(r)).encode("latin-1")
-            for line in changes.changed(r, line, changes.OF_TEXTS, 3).split(b"\n"):
-                if len(line) < 150 and b"end" not in [word.lower() for word in words_of(line)]:
-                    yield line
+            words = r.choice([inputs.command(r)] * 9 + [["where"], ["help"], ["?"]])
+            line = changes.changed(r, inputs.spelled(r, words).encode("latin-1"), changes.OF_TEXTS, 3)
+            if r.random() < 0.2:
+                place = r.randrange(len(line) + 1)
+                line = line[:place] + r.choice(inputs.KEYS) + line[place:]
+            for each in line.split(b"\n"):
+                asked = typed.asked(each, 0)
+                if len(each) < 150 and getattr(asked, "what", "") not in (typed.END, typed.LEAVE):
+                    yield each
+
+    def left(self, r, lines):
+        """What a night left in which these lines are typed in pieces, and the packets that came."""
+        text = b"".join(line + b"\n" for line in lines)
+        parts = []
+        while text:
+            part = r.randrange(1, 400)
+            parts.append((0.02, text[:part]))
+            text = text[part:]
+        with receiving() as socket:
+            left = nights.play_night(nights.Typed(S1, tuple(parts)), CID, address_of(socket))
+            return left, tuple(received(socket))
 
     def test_cases(self):
-        """What is no command is told; the record is the night, and its replies and packets are those that
-        the pages say of it."""
+        """The record is the night: what is shown and sent is what the pages say of it. It has the lines
+        that are commands, in order, and why others are none is told."""
         r = random.Random(SEED)
-        with tempfile.TemporaryDirectory() as folder, receiving() as socket:
-            show, record = Path(folder, "show.asc"), Path(folder, "night.play")
-            show.write_bytes(S1)
-            to = address_of(socket)
-            words = [PROGRAM, "live", show, "--to", to, "--cid", CID, "--record", record]
-            words.append("--end-with-input")
-            night = subprocess.Popen(
-                words, stdin=subprocess.PIPE, stdout=subprocess.PIPE, stderr=subprocess.PIPE, bufsize=0
-            )
-            self.addCleanup(night.kill)
-            lines = [line for line, _ in zip(self.typed(r), range(400))]
-            typed = b"\n".join(lines) + b"\n"
-            while typed:
-                part = r.randrange(1, 400)
-                night.stdin.write(typed[:part])
-                typed = typed[part:]
-                time.sleep(0.02)
-            out, err = night.communicate(timeout=60)
-            came = tuple(received(socket))
-            played = runs.play(S1, record.read_bytes())
-        self.assertEqual((0, 0), (night.returncode, played.status))
-        shown = [line for line in played.out.splitlines() if not re.match(rb"\d+ (live|ending) ", line)]
-        self.assertEqual(shown, out.splitlines())
-        self.assertEqual(played.packets, came)
-        told = [line for line in lines if words_of(line) and not desk.command(words_of(line))]
-        told = [b"line refused: " + re.sub(rb"[^ -~]", b"?", line) for line in told]
-        self.assertEqual(told, err.splitlines())
-        accepted = [line for line in lines if desk.command(words_of(line))]
-        # The end of the night has two replies.
-        self.assertEqual(len(accepted) + 2, len(out.splitlines()))
+        lines = [line for line, _ in zip(self.typed(r), range(400))]
+        left, came = self.left(r, lines)
+        self.assertEqual(0, left.status)
+        found = [each for each in (typed.asked(line, 0) for line in lines) if each]
+        orders = [each.text for each in found if isinstance(each, typed.Asked) and each.what == typed.ORDER]
+        given = [line.split(b" ", 1)[1] for line in left.record]
+        self.assertEqual([*orders, b"master 0", b"end"], [line for line in given if line != b"tick"])
+        shown, helps = nights.without_help(left.shown)
+        self.assertEqual(nights.expected(S1, left.record, shown), shown)
+        questions = [each.what for each in found if isinstance(each, typed.Asked)]
+        self.assertEqual(questions.count(typed.HELP), helps)
+        self.assertEqual(questions.count(typed.WHERE), len(nights.asked(shown)))
+        self.assertEqual(runs.play(S1, b"\n".join(left.record)).packets, came)
+        self.assertEqual(list(self.told(lines)), without_remark(left.err).decode().splitlines())
+
+    def told(self, lines):
+        """What is told of lines, none of which is too long."""
+        for line in lines:
+            asked = typed.asked(line, 0)
+            if isinstance(asked, str):
+                yield f"line refused: {typed.shown(line)}: {asked}"
+            elif asked and asked.has_keys:
+                yield "keys ignored"

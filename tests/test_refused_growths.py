@@ -110,14 +110,27 @@ class RefusedGrowths(Growths):
             self.assertEachRefused(words, b"", has_remark=True)
 
 
+# Of cue 50 two channels move, which a tick draws alone; of cue 51, which follows, too many for that.
+MOVING_SHOW = SHOW + text(
+    *("CUE 50", "UP 1", "FOLLOWON 2", "CHAN 1@FL 40@FL", "CUE 51", "UP 1"),
+    "CHAN " + " ".join(f"{channel}@H80" for channel in range(1, 801)),
+)
+
+
+def every_line():
+    """Lines of `play` for that show: every command, refused ones, and the end, with ticks that draw all,
+    some and none of the levels. The last line is malformed."""
+    lines = ["0 tick", "50 goto 50", *(f"{moment} tick" for moment in range(50, 3500, 50))]
+    for n in range(35, 235):
+        lines += [f"{100 * n} {COMMANDS[n % len(COMMANDS)]}"]
+        lines += [f"{100 * n + later} tick" for later in (0, 0, 25, 50)]
+    return [*lines, "23500 end", *(f"{23500 + 25 * n} tick" for n in range(4)), "x"]
+
+
 class NoGrowths(Growths):
     """What is asked for before the first line or datagram is all that is asked for."""
 
-    # Of cue 50 two channels move, which a tick draws alone; of cue 51, which follows, too many for that.
-    SHOW = SHOW + text(
-        *("CUE 50", "UP 1", "FOLLOWON 2", "CHAN 1@FL 40@FL", "CUE 51", "UP 1"),
-        "CHAN " + " ".join(f"{channel}@H80" for channel in range(1, 801)),
-    )
+    SHOW = MOVING_SHOW
 
     def assertNoneAfterTheFirst(self):
         growths, before = self.growths()
@@ -125,17 +138,11 @@ class NoGrowths(Growths):
         self.assertEqual(before, growths)
 
     def test_play(self):
-        """Every command, refused ones, and the end; ticks that draw all, some and none of the levels.
-
-        It asks for as much as a play that ends before its first line: so at its first tick for none."""
+        """It asks for as much as a play that ends before its first line: so at its first tick for none."""
         words = ["play", self.show, "--to", "127.0.0.1:9", "--cid", CID]
         run(*words, stdin=b"", env=self.environment(0))
         opened, _ = self.growths()
-        lines = ["0 tick", "50 goto 50", *(f"{moment} tick" for moment in range(50, 3500, 50))]
-        for n in range(35, 235):
-            lines += [f"{100 * n} {COMMANDS[n % len(COMMANDS)]}"]
-            lines += [f"{100 * n + later} tick" for later in (0, 0, 25, 50)]
-        lines += ["23500 end", *(f"{23500 + 25 * n} tick" for n in range(4)), "x"]
+        lines = every_line()
         outcome = run(*words, stdin=text(*lines), env=self.environment(0))
         self.assertEqual((4, text(f"line {len(lines)} refused")), (outcome.status, outcome.err))
         self.assertIn(b" s", outcome.out.replace(b"1:", b" "))

@@ -55,6 +55,8 @@ class Desk:
         self.ticked = None
         self.endings = None
         self.cue, self.moved, self.fading = None, 0, {}
+        # Each move so far, as (cue, moment).
+        self.moves = []
         self.masters = {"sub": {}, "group": {}}
         self.grand = FULL
         self.patched = {}
@@ -74,6 +76,7 @@ class Desk:
             times = looked.rises() if target > start else looked.falls()
             fading[channel] = (start, target, times if length is None else (length, 0))
         self.cue, self.moved, self.fading = cue, moment, fading
+        self.moves.append((cue, moment))
 
     def playback(self, channel, moment):
         if channel not in self.fading:

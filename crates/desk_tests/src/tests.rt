@@ -1,6 +1,7 @@
 mod desk;
 mod fade;
 mod masters;
+mod night;
 mod patch;
 mod playback;
 mod shows;

@@ -1,6 +1,7 @@
 mod cues;
 mod explain;
 mod faults;
+mod live;
 mod play;
 mod rehearsal;
 mod runs;

@@ -165,6 +165,8 @@ fn refusals(rt: HostRuntime) {
             Step::Refused(1, b"go 1", Reason::Go),
             Step::Typed(1, b"sub 65536 50\n"),
             Step::Refused(1, b"sub 65536 50", Reason::Numbered),
+            Step::Typed(1, b"master 101\n"),
+            Step::Refused(1, b"master 101", Reason::Master),
             Step::Typed(1, b"goto 0\n"),
             Step::Refused(1, b"goto 0", Reason::Goto),
             Step::Typed(1, b"g\0o\n"),
@@ -297,10 +299,17 @@ fn keys_are_left_out(rt: HostRuntime) {
     take_steps(
         &rt,
         &mut input,
-        &[Step::Line(5, BACK, b"5 back\n"), Step::Refused(6, b"?[3~", Reason::Keys)],
+        &[
+            Step::Line(5, BACK, b"5 back\n"),
+            Step::Refused(6, b"?[3~", Reason::Keys),
+        ],
     );
     assert!(rt; input.ignored_keys());
-    take_steps(&rt, &mut input, &[Step::Typed(7, b"go\n"), Step::Line(8, GO, b"8 go\n")]);
+    take_steps(
+        &rt,
+        &mut input,
+        &[Step::Typed(7, b"go\n"), Step::Line(8, GO, b"8 go\n")],
+    );
     assert!(rt; !input.ignored_keys());
 }
 
@@ -309,8 +318,16 @@ fn long_lines(rt: HostRuntime) {
     let mut line = [b'x'; 210];
     line[209] = b'\n';
     let mut input = LiveInput::new();
-    take_steps(&rt, &mut input, &[Step::Line(0, TICK, b"0 tick\n"), Step::Typed(1, &line)]);
-    take_steps(&rt, &mut input, &[Step::Refused(1, &[b'x'; 200], Reason::Long)]);
+    take_steps(
+        &rt,
+        &mut input,
+        &[Step::Line(0, TICK, b"0 tick\n"), Step::Typed(1, &line)],
+    );
+    take_steps(
+        &rt,
+        &mut input,
+        &[Step::Refused(1, &[b'x'; 200], Reason::Long)],
+    );
 }
 
 #[test]

@@ -2,6 +2,7 @@ use show_core::{BuildFault, Rate, Show};
 use std::alloc::Global;
 
 // A part of a show.
+#[derive(Clone, Copy)]
 pub enum Part {
     Cue(u32),
     // The number of a cue that is there, and its channel at full, or the time of its rises, of its
@@ -72,7 +73,8 @@ fn set_follow(show: &mut Show, n: u32, time: u16) -> Result<(), BuildFault> {
     Ok(())
 }
 
-fn add(show: &mut Show, part: &Part) -> Result<(), BuildFault> {
+// Adds a part, or answers a fault where it cannot be there.
+pub fn add(show: &mut Show, part: &Part) -> Result<(), BuildFault> {
     match part {
         Part::Cue(n) => show.open_cue(*n),
         Part::Full(n, channel) => set_full(show, *n, *channel),
