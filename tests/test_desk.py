@@ -9,21 +9,15 @@ import socket
 import subprocess
 import sys
 import time
-import unittest
 import uuid
-from unittest import mock
 
 from desks import SHOW, DeskTest, Page
-from program import CID, FolderTest, packet, text
+from program import CID, packet, text
 from test_osc import GREATEST_DOUBLE, message
 from tooling import PATIENCE, TOOLS, Started, run_tool, wait_for
 from wire import OPTIONS, TERMINATED, address_of, own_network, receiving
 
-from cueplayer_tools.cue_list import read_show
-from cueplayer_tools.desk_night import Night, State
-from cueplayer_tools.position import Position
 from cueplayer_tools.teller import Teller
-from cueplayer_tools.words import Refused
 
 
 class Playback(DeskTest):
@@ -114,15 +108,32 @@ class Playback(DeskTest):
         page.command("go")
         page.wait(current="1")
 
-
     def test_follow_on(self):
-        """A cue that follows by itself is current without a press."""
-        lines = ("CUE 1", "FOLLOWON 0.5", "CUE 2", "CHAN 1@FL", "PATCH 1 1<1@FL")
+        """A cue that follows by itself is current when its time is over, and not before."""
+        lines = ("CUE 1", "FOLLOWON 1.5", "CUE 2", "UP 3", "CHAN 1@FL", "PATCH 1 1<1@FL")
         self.show.write_bytes(text(*lines))
         _, page = self.opened()
         page.command("go")
-        page.wait(current="2", next=None)
+        page.wait(current="1", next="2")
+        began = time.monotonic()
+        time.sleep(1)
+        self.assertEqual("1", page.state["current"])
+        fade = page.wait(current="2", next=None)["fade"]
+        # Told by `live` at the next tick, some 25 ms later on a machine that is not busy.
+        self.assertGreater(time.monotonic() - began, 1.3)
+        self.assertEqual(3000, fade["whole"])
         self.wait_for_level(255)
+
+    def test_lines_of_another(self):
+        """What somebody else hands to the same `live` is shown, as if it had been pressed here."""
+        desk, page = self.opened()
+        page.command("sub 1 10")
+        page.wait(masters={"sub 1": 26})
+        with open(f"/proc/{desk.live}/fd/0", "wb", buffering=0) as other:
+            other.write(b"sub 1 0\ngroup 3 50\nmaster H40\ngoto 1.5\n")
+        page.wait(current="1.5", next="2", masters={"group 3": 128}, grand=64, lit_grand=64)
+        page.command("go")
+        page.wait(current="2", notices=[], late=False)
 
 
 class Ends(DeskTest):
@@ -134,7 +145,7 @@ class Ends(DeskTest):
         ends = [bool(each[OPTIONS] & TERMINATED) for each in self.came()]
         self.assertEqual([False, True, True, True], ends[-4:])
         self.assertEqual(409, page.command("go"))
-        self.assertEqual("desk: live has ended with status 0", desk.err.next())
+        desk.err.find("desk: live has ended with status 0$")
         again = Page(self, page.origin + page.path)
         again.wait(status=0)
         desk.process.send_signal(signal.SIGINT)
@@ -152,7 +163,7 @@ class Ends(DeskTest):
         """At the first the night goes on; the second ends it, and tells receivers."""
         desk, page = self.opened()
         desk.process.send_signal(signal.SIGINT)
-        self.assertIn("the night goes on", desk.err.next())
+        desk.err.find("desk: the night goes on")
         page.command("go")
         page.wait(current="1")
         desk.process.send_signal(signal.SIGHUP)
@@ -235,9 +246,10 @@ class Ends(DeskTest):
         lines = [line.split()[1:] for line in record.read_text().splitlines()]
         commands = [line for line in lines if line != ["tick"]]
         self.assertEqual([["back"], ["go"], ["master", "0"], ["end"]], commands)
-        told = [line.split()[1:] for line in replies.read_text().splitlines()]
+        told = [line.partition(" ")[2] for line in replies.read_text().splitlines()]
         # The end of a night has two replies.
-        self.assertEqual([["refused", "AtStart"], ["ok"], ["ok"], ["ok"]], told)
+        moved = ["where next 1 master 255", "refused AtStart", "ok", "cue 1"]
+        self.assertEqual([*moved, "ok", "ok"], told)
         again = run_tool("desk", self.show, "--to", self.to, "--replies", replies)
         self.assertEqual(2, again.returncode)
 
@@ -386,47 +398,6 @@ class Outputs(DeskTest):
             self.assertGreaterEqual(counted, 39)
 
 
-class Notices(unittest.TestCase):
-    def test_flood(self):
-        """What is refused of Open Sound Control drives out nothing but its like."""
-        state = State(Position(read_show("-", SHOW)))
-        state.tell("fault", "kept")
-        for number in range(100):
-            state.tell("osc", f"OSC: {number}")
-        self.assertEqual(["kept", "OSC: 99"], [notice.text for notice in state.notices])
-        state.accept(0, "go")
-        self.assertEqual(["kept"], [notice.text for notice in state.notices])
-
-
-class Replies(FolderTest):
-    def test_replies_dropped(self):
-        """Where answers are missing no later one is taken for them: for a second nothing is handed
-        on, and the page is told that it may be wrong."""
-        script = "#!/bin/sh\nread line; echo 100 ok; read line; read line\n"
-        script += "echo 2 replies dropped; echo 300 ok; read line; echo 900 ok\n"
-        stub = self.file("stub", script.encode())
-        stub.chmod(0o755)
-        told = []
-        show = read_show("-", SHOW)
-        with mock.patch.dict(os.environ, CUEPLAYER=str(stub)):
-            night = Night(show, [], told.append, told.append)
-        night.give("go")
-        wait_for(lambda: night.state.position.current == 1000, "the first cue")
-        night.give("go")
-        night.give("sub 1 FL")
-        wait_for(lambda: "300 ok" in told, "the late answer")
-        texts = [notice.text for notice in night.state.notices]
-        lost = "2 replies of live were lost: another cue may be on than is shown here"
-        self.assertEqual([lost], texts)
-        with self.assertRaises(Refused):
-            night.give("goto 2")
-        self.assertEqual((1000, {}), (night.state.position.current, night.state.masters))
-        time.sleep(1.1)
-        night.give("goto 2")
-        wait_for(lambda: night.state.position.current == 2000, "the cue after")
-        self.assertEqual(0, night.end(PATIENCE))
-
-
 class Cid(DeskTest):
     def console(self, home):
         """The CID of a desk that is not given one, and what it tells before."""
@@ -434,7 +405,9 @@ class Cid(DeskTest):
         desk = Started(self, "desk", self.show, "--to", self.to, environment=environment)
         told = []
         while (found := re.match(r"desk: console (\S+), live", line := desk.err.next())) is None:
-            told.append(line)
+            # What `live` says as it begins may come first.
+            if not line.startswith("desk: live: "):
+                told.append(line)
         desk.process.terminate()
         self.assertEqual(0, desk.process.wait(PATIENCE))
         return found[1], told

@@ -56,6 +56,10 @@ class Show:
     def cue_numbers(self) -> list[int]:
         return sorted(self.cues)
 
+    def following(self, cue: int | None) -> int | None:
+        """The cue that `go` comes to from this one, or from none."""
+        return min((number for number in self.cues if number > (cue or 0)), default=None)
+
     def universes(self, base: int) -> list[int]:
         """The numbers on the wire of the universes with a patched dimmer."""
         return sorted({slot_of(dimmer, base)[0] for dimmer in self.patch})
