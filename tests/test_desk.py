@@ -3,6 +3,7 @@
 import contextlib
 import json
 import os
+import random
 import re
 import signal
 import socket
@@ -10,6 +11,7 @@ import subprocess
 import sys
 import time
 import uuid
+from unittest import mock
 
 from desks import SHOW, DeskTest, Page
 from program import CID, packet, text
@@ -17,6 +19,9 @@ from test_osc import GREATEST_DOUBLE, message
 from tooling import PATIENCE, TOOLS, Started, run_tool, wait_for
 from wire import OPTIONS, TERMINATED, address_of, own_network, receiving
 
+from cueplayer_tools import desk_night
+from cueplayer_tools.cue_list import read_show
+from cueplayer_tools.live_lines import read_live_line
 from cueplayer_tools.teller import Teller
 
 
@@ -396,6 +401,94 @@ class Outputs(DeskTest):
             counted = sum(int(found[1]) for found in dropped if found)
             self.assertLessEqual(len(kept) + counted, 50)
             self.assertGreaterEqual(counted, 39)
+
+
+class Replies(DeskTest):
+    """The state that a desk keeps, held against what `where` answers."""
+
+    def night(self, keep=lambda line: None):
+        words = [str(self.show), "--to", self.to, "--cid", self.cid]
+        night = desk_night.Night(read_show(words[0]), words, lambda line: None, keep)
+        self.addCleanup(night.end, PATIENCE)
+        wait_for(lambda: night.state.is_placed, "the state")
+        return night
+
+    def typing(self, night):
+        """What somebody else types into the same `live`."""
+        return open(f"/proc/{night.process.pid}/fd/0", "wb", buffering=0)
+
+    def state(self, night):
+        state = night.state
+        lit = {words: level for words, level in state.masters.items() if level}
+        return state.current, state.following, state.grand, lit
+
+    def place(self, line):
+        place = read_live_line(line)
+        return place.cue, place.following, place.grand, place.masters
+
+    def line(self, chance):
+        level = f"H{chance.choice((0, 1, 128, 255)):02X}"
+        cue = chance.choice(("1", "1.5", "2", "7"))
+        masters = (f"sub {chance.choice((1, 9))} {level}", f"group 3 {level}", f"master {level}")
+        return chance.choice(("go", "go", "back", f"goto {cue}", f"goto {cue} in 0.1", *masters))
+
+    def test_by_chance(self):
+        """Of whatever is pressed at the desk it has, at every `where`, just what that answers."""
+        self.show.write_bytes(SHOW.replace(b"UP 2 1\n", b"UP 2 1\nFOLLOWON 0.03\n"))
+        answers, chance = [], random.Random(40)
+
+        def keep(line):
+            if " where " in line:
+                answers.append((self.state(night), self.place(line)))
+
+        night = self.night(lambda line: None)
+        night.keep = keep
+        with self.typing(night) as other:
+            for _ in range(400):
+                night.give(self.line(chance))
+                if chance.randrange(3) == 0:
+                    time.sleep(chance.choice((0.002, 0.02, 0.05)))
+                other.write(b"where\n")
+            wait_for(lambda: len(answers) == 400, "the answers")
+        for shown, told in answers:
+            self.assertEqual(told, shown)
+        self.assertLessEqual({1000, 1500, 2000}, {told[0] for _, told in answers})
+        self.assertEqual(0, len(night.input.waiting))
+
+    def test_others_by_chance(self):
+        """Whoever else types meanwhile, it has soon what `where` answers."""
+        answers, chance = [], random.Random(41)
+        night = self.night(lambda line: " where " in line and answers.append(line))
+        with self.typing(night) as other:
+            for turn in range(30):
+                for _ in range(chance.randrange(12)):
+                    if chance.randrange(2):
+                        night.give(self.line(chance))
+                    else:
+                        other.write(f"{self.line(chance)}\n".encode())
+                wait_for(lambda: not night.input.waiting and not night.is_to_ask, "all answers")
+                time.sleep(0.05)
+                shown, before = self.state(night), len(answers)
+                other.write(b"where\n")
+                wait_for(lambda: len(answers) > before, "where")
+                self.assertEqual(self.place(answers[-1]), shown, turn)
+
+    def test_replies_dropped(self):
+        """A desk that stood still until answers were dropped shows the right state again."""
+        with mock.patch.object(desk_night, "PIPE_ROOM", 4096):
+            night = self.night()
+        with night.changed, self.typing(night) as other:
+            for number in range(20_000):
+                other.write(f"sub 1 H{number % 256:02X}\n".encode())
+            other.write(b"goto 1.5 in 0\ngroup 3 50\nmaster H40\n")
+            self.wait_for_level(64)
+        expected = (1500, 2000, 64, {"sub 1": 19_999 % 256, "group 3": 128})
+        wait_for(lambda: self.state(night) == expected, expected)
+        lost = r"^\d{4,} replies of live were lost; the state is read again$"
+        self.assertRegex(night.state.notices[0].text, lost)
+        night.give("go")
+        wait_for(lambda: night.state.current == 2000, "the cue after")
+        self.assertEqual(0, night.end(PATIENCE))
 
 
 class Cid(DeskTest):
