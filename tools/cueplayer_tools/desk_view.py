@@ -22,7 +22,7 @@ def show_view(show: Show, title: str, base: int, osc: str | None) -> dict[str, A
             "down": show.cues[number].fall.whole,
             "follow": show.cues[number].follow,
         }
-        for number in show.cue_numbers()
+        for number in show.order
     ]
     faders = _records("sub", show.subs) + _records("group", show.groups)
     universes = show.universes(base)

@@ -167,7 +167,7 @@ def _cue_of(show: Show, current: int | None, words: tuple[str, ...]) -> int | No
         case "go":
             return show.following(current)
         case "back":
-            return max((cue for cue in show.cues if cue < (current or 0)), default=None)
+            return show.preceding(current)
         case "goto":
             return thousandths_of(words[1])
     return None
