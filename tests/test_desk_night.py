@@ -112,7 +112,7 @@ class Places(StubTest):
         self.assertEqual([], self.notices())
 
     def test_follow_on(self):
-        """A cue that follows by itself is current once that is told, with the moment of its move."""
+        """A cue that follows by itself is current once that is told."""
         self.begun(FOLLOWED)
         self.give("go")
         self.say("100 ok", "100 cue 1")
@@ -210,7 +210,8 @@ class MissingReplies(StubTest):
         with mock.patch.object(desk_input, "LATE", -1.0):
             self.night.watch()
         self.go_on()
-        self.assertEqual([self.LOST, "go: taken back, live did not read it in a second"], self.notices())
+        taken = "go: taken back, live did not read it in a second"
+        self.assertEqual([self.LOST, taken], self.notices())
         self.expect("")
         self.night.watch()
         self.expect("where")
@@ -222,7 +223,7 @@ class MissingReplies(StubTest):
         self.begun()
         self.say("2 replies dropped")
         self.expect("where")
-        self.night.end(0.1)
+        self.night.end(1.0)
         self.expect("end")
 
 
@@ -270,7 +271,8 @@ class OtherLines(StubTest):
         self.begun()
         self.say("100 cue 1.50", "100 cue 1")
         self.assertShows(1000, 1500, 0)
-        self.assertIn("at: 100 cue 1.50", self.notices()[0])
+        told = "desk: ValueError('no cue number as live spells it') at: 100 cue 1.50"
+        self.assertEqual([told], self.notices())
 
     def test_where_taken_back(self):
         """A `where` that was not read is no press: it is asked again, and nobody is told."""

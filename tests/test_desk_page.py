@@ -117,7 +117,8 @@ class DeskPage(DeskTest):
         """A page shows what somebody else hands to the same `live`; in which time is not known."""
         self.show.write_bytes(text("FOO") + SHOW)
         desk, page, _ = self.shown_page()
-        page.wait("document.getElementById('skipped').innerText === '1 line skipped: see cueplayer explain'")
+        skipped = "1 line skipped: see cueplayer explain"
+        page.wait(f"document.getElementById('skipped').innerText === '{skipped}'")
         with open(f"/proc/{desk.live}/fd/0", "wb", buffering=0) as other:
             other.write(b"goto 1.5 in 20\nsub 1 50\n")
         page.wait("document.getElementById('current').textContent === '1.5 half past'")

@@ -140,7 +140,7 @@ class Moves(PictureTest):
     """Which cues a record came to: it has no `cue` lines."""
 
     def moves(self, *lines, then, last=0):
-        """The moves of accepted commands in a show of three cues, of which the first has these lines."""
+        """The moves of accepted commands in a show of three cues; the first has these lines."""
         found = night.Night([last])
         found.asked = [night.Asked(moment, tuple(words.split()), None) for moment, words in then]
         show = cue_list.read_show("-", text("CUE 1", *lines, "CUE 2", "CUE 3"))
@@ -182,7 +182,8 @@ class Moves(PictureTest):
             live.stdin.flush()
             time.sleep(0.4)
         printed = live.communicate("goto 1\ngoto 1\nend\n", timeout=30)[0]
-        told = [(int(found[1]), found[2]) for found in re.finditer(r"(?m)^(\d+) cue (\S+)$", printed)]
+        lines = re.finditer(r"(?m)^(\d+) cue (\S+)$", printed)
+        told = [(int(line[1]), line[2]) for line in lines]
         found = night.night_of(file, record.read_record(kept.read_text()), [1], 1)
         moves = night.moves_of(cue_list.read_show(file), found)
         self.assertEqual(told, [(move.moment, cue_word(move.cue)) for move in moves])

@@ -1,4 +1,4 @@
-"""The state of a night as a desk shows it: what `live` has said, and nothing that was worked out."""
+"""The state of a night as a desk shows it: what `live` has said of it."""
 
 from collections import deque
 from dataclasses import dataclass, field

@@ -3,7 +3,7 @@
 import re
 from dataclasses import dataclass, field
 
-from cueplayer_tools.words import cue_word, printable, thousandths_of
+from cueplayer_tools.words import cue_word, thousandths_of
 
 _CUE = r"(\d{1,4}(?:\.\d{1,3})?)"
 _ANSWER = re.compile(r"(\d{1,15}) (?:ok|refused (\w+))", re.ASCII)
@@ -80,13 +80,13 @@ def read_live_line(line: str) -> LiveLine:
         return LostPackets(int(found[1]), tuple(map(int, _LOST.findall(found[2]))))
     if found := _DROPPED.fullmatch(line):
         return DroppedReplies(int(found[1]))
-    raise ValueError(f"no line of live: {printable(line)}")
+    raise ValueError("no line of live")
 
 
 def _cue(word: str) -> int:
     cue = thousandths_of(word)
     if cue_word(cue) != word:
-        raise ValueError(f"no cue number as live spells it: {word}")
+        raise ValueError("no cue number as live spells it")
     return cue
 
 
@@ -104,7 +104,7 @@ def _place(
 
 def _level(word: str) -> int:
     if int(word) > FULL:
-        raise ValueError(f"no level byte: {word}")
+        raise ValueError("no level byte")
     return int(word)
 
 
@@ -114,5 +114,5 @@ def _masters(kind: str, text: str) -> dict[str, int]:
     numbers = [int(number) for number, _ in pairs]
     levels = [_level(level) for _, level in pairs]
     if numbers != sorted(set(numbers)) or 0 in levels:
-        raise ValueError(f"no masters as live tells them: {printable(text)}")
+        raise ValueError("no masters as live tells them")
     return {f"{kind} {number}": level for number, level in zip(numbers, levels)}
