@@ -139,7 +139,7 @@ class DeskTest(ReceiverTest):
         desk = Started(self, "desk", *words)
         line = desk.out.next()
         self.assertRegex(line or "", r"^desk: http://127\.0\.0\.1:\d+/[\w-]{32}/$")
-        told = re.match(rf"desk: console {self.cid}, live is process (\d+)", desk.err.next())
+        told = desk.err.find(rf"desk: console {self.cid}, live is process (\d+)")
         desk.live = int(told[1])
         self.addCleanup(self.kill, desk.live, self.cid)
         return desk, line.removeprefix("desk: ")
@@ -148,7 +148,7 @@ class DeskTest(ReceiverTest):
         """A desk and an open page of it."""
         desk, address = self.begun(*options, **kept)
         page = Page(self, address)
-        page.wait(ending=False)
+        page.wait(placed=True)
         return desk, page
 
     def shown(self):

@@ -40,6 +40,16 @@ class Pipe(unittest.TestCase):
         self.input.give("go")
         self.assertEqual(b"go\n", self.read(100))
 
+    def test_where(self):
+        """The answer to the last `where` leaves what was handed on behind it."""
+        for line in ("go", "where", "back", "where", "sub 1 H10"):
+            self.input.give(line)
+        self.assertEqual(("go", True), (self.input.oldest(), self.input.is_asked()))
+        self.input.forget_asked()
+        self.assertEqual(("sub 1 H10", False), (self.input.oldest(), self.input.is_asked()))
+        self.assertEqual("sub 1 H10", self.input.answered())
+        self.assertIsNone(self.input.oldest())
+
     def test_by_chance(self):
         """Whenever is read and taken back: what is read are the lines that were not taken back."""
         chance = random.Random(38)

@@ -7,8 +7,8 @@ import time
 import unittest
 
 from browser import CHROMIUM, MISSING, Browser
-from desks import DeskTest, Page
-from program import TOP, run
+from desks import SHOW, DeskTest, Page
+from program import TOP, run, text
 from tooling import wait_for
 
 
@@ -112,6 +112,35 @@ class DeskPage(DeskTest):
         page.press("Enter", "Enter", "\r", shift=True)
         self.assertEqual(0, state.wait(current="1.5")["fade"]["whole"])
         self.assertNoFaults()
+
+    def test_lines_of_another(self):
+        """A page shows what somebody else hands to the same `live`; in which time is not known."""
+        self.show.write_bytes(text("FOO") + SHOW)
+        desk, page, _ = self.shown_page()
+        skipped = "1 line skipped: see cueplayer explain"
+        page.wait(f"document.getElementById('skipped').innerText === '{skipped}'")
+        with open(f"/proc/{desk.live}/fd/0", "wb", buffering=0) as other:
+            other.write(b"goto 1.5 in 20\nsub 1 50\n")
+        page.wait("document.getElementById('current').textContent === '1.5 half past'")
+        page.wait("document.getElementById('next').textContent === '2 two <b>s'")
+        page.wait("document.getElementById('fade-text').textContent === 'not known'")
+        page.wait("document.getElementById('sub-1').value === '128'")
+        page.press("Backspace")
+        page.wait("document.getElementById('current').textContent === '1 one'")
+        page.wait("document.getElementById('fade-text').textContent === ''")
+        self.assertEqual("", page.text("alarms"))
+        self.assertNoFaults()
+
+    def test_follow_on(self):
+        """The cue that follows by itself is marked when it goes."""
+        lines = ("CUE 1 ! one", "FOLLOWON 3", "CUE 2 ! two", "UP 4", "CHAN 1@FL", "PATCH 1 1<1@FL")
+        self.show.write_bytes(text(*lines))
+        _, page, _ = self.shown_page()
+        page.press(" ", "Space", " ")
+        page.wait("document.getElementById('current').textContent === '1 one'")
+        page.wait("document.querySelector('[aria-current]').innerText.includes('two')")
+        self.assertEqual(("2 two", "none"), (page.text("current"), page.text("next")))
+        page.wait("document.getElementById('fade-text').textContent.endsWith(' s left')")
 
     def test_faders_and_blackout(self):
         _, page, state = self.shown_page()

@@ -424,7 +424,8 @@ class Tool(ProgramTest):
         )
         self.addCleanup(osc.kill)
         words = [PROGRAM, "live", show.name, "--to", address_of(receiver), "--cid", CID]
-        night = subprocess.Popen(words, stdin=osc.stdout, stdout=subprocess.PIPE, text=True)
+        pipes = {"stdin": osc.stdout, "stdout": subprocess.PIPE, "stderr": subprocess.DEVNULL}
+        night = subprocess.Popen(words, text=True, **pipes)
         self.addCleanup(night.kill)
         osc.stdout.close()
         port = int(osc.stderr.readline().rpartition(":")[2])

@@ -5,6 +5,7 @@ import shlex
 import subprocess
 import time
 import unittest
+import uuid
 import xml.etree.ElementTree as xml
 
 from program import CID, PROGRAM, TOP, FolderTest, run, text
@@ -15,7 +16,7 @@ from worked import S1, plays
 from cueplayer_tools import cue_list, night, record, rehearsal
 from cueplayer_tools.axis import clock
 from cueplayer_tools.curves import ranges
-from cueplayer_tools.words import Refused
+from cueplayer_tools.words import Refused, cue_word
 
 EXAMPLES = TOP / "examples"
 EVENING = (
@@ -23,6 +24,7 @@ EVENING = (
     *(word for channel in (1, 7, 10, 23, 31) for word in ("--channel", channel)),
     "--title", "A short evening",
 )
+PIPES = {"stdin": subprocess.PIPE, "stdout": subprocess.PIPE, "stderr": subprocess.DEVNULL}
 BACKUP = (
     "rehearsal", EXAMPLES / "one-dimmer.asc", EXAMPLES / "backup-console.script",
     "--title", "A backup console takes over",
@@ -87,8 +89,7 @@ class Levels(PictureTest):
             content = text("CUE 1", "UP 1", "CHAN 1@FL", "PATCH 1 1<1@FL")
             file, kept = self.file("show.asc", content), self.folder / "night.play"
             words = ["live", file, "--to", to, "--cid", CID, "--record", kept, "--end-with-input"]
-            pipes = {"stdin": subprocess.PIPE, "stdout": subprocess.PIPE}
-            live = subprocess.Popen([PROGRAM, *words], **pipes)
+            live = subprocess.Popen([PROGRAM, *words], **PIPES)
             self.addCleanup(live.kill)
             for line in (b"back\n", b"go\n", b"master 70\n"):
                 live.stdin.write(line)
@@ -133,6 +134,60 @@ class Levels(PictureTest):
         given = record.read_record("10 go\n500 tick\n900 back\n")
         moments = [line.moment for line in night.filled(given, 100) if line.is_tick]
         self.assertEqual([10, 110, 210, 310, 410, 500, 600, 700, 800, 900], moments)
+
+
+class Moves(PictureTest):
+    """Which cues a record came to: it has no `cue` lines."""
+
+    def moves(self, *lines, then, last=0):
+        """The moves of accepted commands in a show of three cues; the first has these lines."""
+        found = night.Night([last])
+        found.asked = [night.Asked(moment, tuple(words.split()), None) for moment, words in then]
+        show = cue_list.read_show("-", text("CUE 1", *lines, "CUE 2", "CUE 3"))
+        return [(move.moment, move.cue // 1000) for move in night.moves_of(show, found)]
+
+    def test_moves(self):
+        made = ((0, "go"), (1, "go"), (2, "back"), (3, "goto 3"), (4, "sub 1 5"))
+        self.assertEqual([(0, 1), (1, 2), (2, 1), (3, 3)], self.moves(then=made))
+        self.assertEqual([(7, 1), (7, 1)], self.moves(then=((7, "goto 1 in 4"), (7, "goto 1"))))
+
+    def test_refused(self):
+        found = night.Night([0], asked=[night.Asked(0, ("goto", "2"), "NoCue")])
+        self.assertEqual([], night.moves_of(cue_list.Show(), found))
+
+    def test_follow_on(self):
+        """A cue that follows by itself does so at its moment, unless another move comes first."""
+        go = (0, "go")
+        for then, last, expected in (
+            ([go], 9999, [(0, 1)]),
+            ([go], 10000, [(0, 1), (10000, 2)]),
+            ([go, (5000, "goto 1"), (14999, "sub 1 5")], 0, [(0, 1), (5000, 1)]),
+            ([go, (5000, "goto 1")], 15000, [(0, 1), (5000, 1), (15000, 2)]),
+            ([go, (10000, "go")], 0, [(0, 1), (10000, 2), (10000, 3)]),
+            ([go, (10000, "back")], 0, [(0, 1), (10000, 2), (10000, 1)]),
+            ([go, (5000, "end")], 99999, [(0, 1)]),
+        ):
+            self.assertEqual(expected, self.moves("FOLLOWON 10", then=then, last=last), then)
+
+    def test_as_live_tells_them(self):
+        """The moves of a live night's record are those that `live` told meanwhile."""
+        follows = ("FOLLOWON .3", "CUE 2.5", "FOLLOWON 0", "CUE 3", "FOLLOWON .2", "CUE 4")
+        file = self.file("show.asc", text("CUE 1", *follows, "PATCH 1 1<1@FL"))
+        kept = self.folder / "night.play"
+        words = ["live", file, "--to", "127.0.0.1:9", "--cid", str(uuid.uuid4()), "--record", kept]
+        live = subprocess.Popen([PROGRAM, *words], text=True, **PIPES)
+        self.addCleanup(live.kill)
+        for line in ("go", "goto 1", "goto 2.5 in 8", "back", "go", "goto 9", "goto 4", "back"):
+            live.stdin.write(f"{line}\n")
+            live.stdin.flush()
+            time.sleep(0.4)
+        printed = live.communicate("goto 1\ngoto 1\nend\n", timeout=30)[0]
+        lines = re.finditer(r"(?m)^(\d+) cue (\S+)$", printed)
+        told = [(int(line[1]), line[2]) for line in lines]
+        found = night.night_of(file, record.read_record(kept.read_text()), [1], 1)
+        moves = night.moves_of(cue_list.read_show(file), found)
+        self.assertEqual(told, [(move.moment, cue_word(move.cue)) for move in moves])
+        self.assertGreater(len(told), 15)
 
 
 class Pictures(PictureTest):

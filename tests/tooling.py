@@ -2,6 +2,7 @@
 
 import os
 import queue
+import re
 import subprocess
 import sys
 import threading
@@ -34,6 +35,15 @@ class Lines:
     def next(self, patience=PATIENCE):
         """The next line, or None at the end."""
         return self.came.get(timeout=patience)
+
+    def find(self, pattern):
+        """What is found in the next line that begins so; lines before it are passed over."""
+        passed = []
+        while (line := self.next()) is not None:
+            if found := re.match(pattern, line):
+                return found
+            passed.append(line)
+        raise AssertionError(f"{pattern} in {passed}")
 
     def rest(self):
         """All lines up to the end."""

@@ -1,7 +1,9 @@
 """The cue list of a show, as the program understands it: what `cueplayer cues --json` prints."""
 
 import json
+from bisect import bisect_left, bisect_right
 from dataclasses import dataclass, field
+from functools import cached_property
 from typing import Any
 
 from cueplayer_tools.program import run
@@ -53,8 +55,20 @@ class Show:
     groups: dict[int, Record] = field(default_factory=dict)
     patch: dict[int, int] = field(default_factory=dict)
 
-    def cue_numbers(self) -> list[int]:
+    @cached_property
+    def order(self) -> list[int]:
+        """The cue numbers, ascending."""
         return sorted(self.cues)
+
+    def following(self, cue: int | None) -> int | None:
+        """The cue that `go` comes to from this one, or from none."""
+        at = bisect_right(self.order, cue or 0)
+        return self.order[at] if at < len(self.order) else None
+
+    def preceding(self, cue: int | None) -> int | None:
+        """The cue that `back` comes to."""
+        at = bisect_left(self.order, cue or 0)
+        return self.order[at - 1] if at > 0 else None
 
     def universes(self, base: int) -> list[int]:
         """The numbers on the wire of the universes with a patched dimmer."""

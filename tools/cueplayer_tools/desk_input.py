@@ -13,6 +13,8 @@ from collections import deque
 
 from cueplayer_tools.words import Refused
 
+# Asks for the whole state of the night.
+WHERE = "where"
 # An answer takes some milliseconds.
 LATE = 1.0
 _MOST_IN_PIPE = 65_536
@@ -41,9 +43,22 @@ class LiveInput:
             raise Refused("live takes no line now: nothing was sent") from fault
         self.waiting.append((time.monotonic(), line))
 
+    def oldest(self) -> str | None:
+        """The line that the next answer is to: the oldest that waits."""
+        return self.waiting[0][1] if self.waiting else None
+
     def answered(self) -> str | None:
-        """The line that an answer is to: the oldest that waits."""
+        """The line that an answer is to. It waits no more."""
         return self.waiting.popleft()[1] if self.waiting else None
+
+    def is_asked(self) -> bool:
+        """Whether a `where` waits for its answer."""
+        return any(line == WHERE for _, line in self.waiting)
+
+    def forget_asked(self) -> None:
+        """The last `where` was answered: what was handed on before it waits no more."""
+        while self.is_asked():
+            self.waiting.popleft()
 
     def has_end(self) -> bool:
         """Whether an `end` waits for its answer. Nothing is handed on behind it."""

@@ -2,8 +2,10 @@
 
 Nothing is taken for done before the program has said so. Each line that is handed on gets one
 answer, and answers come in the order of the lines, so the oldest line that waits is the one that
-is answered. A line that the program does not read within a second is taken back. What the program
-prints is always read at once, so that it never waits for a reader.
+is answered. The current cue is the one of the latest `cue` line. Where an answer is missing, or is
+to a line of somebody else, `where` is asked, and its answer is the whole state anew. A line that
+the program does not read within a second is taken back. What the program prints is always read at
+once, so that it never waits for a reader.
 
 The program holds the desk's ends of its pipes open too: should the desk be killed, the program's
 input does not end and its output is not refused, and the light stays as it is.
@@ -11,90 +13,40 @@ input does not end and its output is not refused, and the light stays as it is.
 
 import fcntl
 import os
+import re
 import subprocess
 import threading
 import time
-from collections import deque
 from collections.abc import Callable
-from dataclasses import dataclass, field
 
 from cueplayer_tools.cue_list import Show
-from cueplayer_tools.desk_input import LiveInput
-from cueplayer_tools.position import MOVES, Position
+from cueplayer_tools.desk_input import WHERE, LiveInput
+from cueplayer_tools.desk_state import State
+from cueplayer_tools.live_lines import (
+    Answer,
+    DroppedReplies,
+    LostPackets,
+    Move,
+    Place,
+    read_live_line,
+)
 from cueplayer_tools.program import program
-from cueplayer_tools.words import Refused, command_line, level_byte, printable
+from cueplayer_tools.words import Refused, command_line, printable
 
-FULL = 255
-NOTICES_KEPT = 20
-# Seconds within which each answer has come that is still to come.
+# Seconds for which nothing is handed on where answers are missing, unless the state comes before.
 UNSURE = 1.0
 # Seconds for what `live` said last, behind its end: the writer of its record, which may wait for a
 # disk, has standard error open too.
 LAST_WORDS = 2.0
 # The most that Linux grants to everybody.
 PIPE_ROOM = 1 << 20
-
-
-@dataclass(frozen=True)
-class Notice:
-    """Something that must not be missed, with a number of its own."""
-
-    number: int
-    kind: str
-    text: str
-
-
-@dataclass
-class Lost:
-    """How many packets could not be sent, and where the latest was."""
-
-    count: int = 0
-    moment: int = 0
-    universe: int = 0
-
-
-@dataclass
-class State:
-    """What `live` has said so far. Moments are its own, in milliseconds since the start."""
-
-    position: Position
-    grand: int = FULL
-    # The grand master before it was brought to 0.
-    lit_grand: int = FULL
-    masters: dict[str, int] = field(default_factory=dict)
-    lost: Lost = field(default_factory=Lost)
-    notices: deque[Notice] = field(default_factory=lambda: deque(maxlen=NOTICES_KEPT))
-    told: int = 0
-    # Whether a line has waited for its answer for too long.
-    is_late: bool = False
-    is_ending: bool = False
-    status: int | None = None
-
-    def tell(self, kind: str, text: str) -> None:
-        if kind == "osc":
-            # One of a flood must not drive out what else was told.
-            self._forget("osc")
-        self.told += 1
-        self.notices.append(Notice(self.told, kind, text))
-
-    def accept(self, moment: int, line: str) -> None:
-        """Takes a command that the program has accepted."""
-        kind, *words = line.split()
-        self.position.take(moment, [kind, *words])
-        if kind in ("sub", "group"):
-            self.masters[f"{kind} {words[0]}"] = level_byte(words[1])
-        elif kind == "master":
-            self.grand = level_byte(words[0])
-            self.lit_grand = self.grand or self.lit_grand
-        elif kind == "end":
-            self.is_ending = True
-        elif kind in MOVES:
-            # What was refused before a move is behind us; other notices stay.
-            self._forget("refused", "osc")
-
-    def _forget(self, *kinds: str) -> None:
-        kept = [notice for notice in self.notices if notice.kind not in kinds]
-        self.notices = deque(kept, NOTICES_KEPT)
+# What `live` says on standard error as it begins, in this order: no faults.
+START_LINES = (
+    re.compile(r"show: \d+ cues?, .*?(?:; (?P<skipped>\d+ lines? skipped.*))?", re.ASCII),
+    re.compile(r"sends: .*"),
+    re.compile(r"record: .*"),
+    re.compile(r"end ends the night.*"),
+)
 
 
 class Clock:
@@ -134,12 +86,17 @@ class Night:
     ) -> None:
         """Starts `live` with these words. `tell` gets what it says on standard error, and `keep`
         each line that it prints; neither may wait."""
-        self.show = show
         self.tell = tell
         self.keep = keep
-        self.state = State(Position(show))
+        self.state = State(show)
         self.clock = Clock()
         self.version = 0
+        self.start_lines = list(START_LINES)
+        # Whether `where` is still to be asked.
+        self.is_to_ask = True
+        # Whether answers are missing, so that nobody knows to which line the next one is; and until
+        # when nothing is handed on for that.
+        self.is_astray = False
         self.unsure_until = 0.0
         self.changed = threading.Condition()
         self.input = LiveInput()
@@ -156,7 +113,8 @@ class Night:
         )
         for theirs in (self.input.theirs, their_output, their_faults):
             os.close(theirs)
-        self.readers = [self._reader(output, self._hear), self._reader(faults, self._hear_fault)]
+        self._ask_place()
+        self.readers = [self._reader(output, self._hear), self._reader(faults, self._hear_message)]
         threading.Thread(target=self._wait, daemon=True).start()
 
     def _reader(self, stream: int, hear: Callable[[str], None]) -> threading.Thread:
@@ -188,41 +146,108 @@ class Night:
         self.changed.notify_all()
 
     def _hear(self, line: str) -> None:
-        """A line of standard output: the answer to a line, or a tick that lost a packet."""
+        """Takes a line of standard output."""
         self.keep(line)
-        moment, *words = line.split()
-        if words == ["replies", "dropped"]:
-            self._lose_track(moment)
-            return
-        self.clock.hear(int(moment))
-        if words[0] in ("ok", "refused"):
-            if time.monotonic() < self.unsure_until:
-                return
-            # Where no line waits it is of what the program does to end the night.
-            asked = self.input.answered() or "end"
-            if words[0] == "ok":
-                self.state.accept(int(moment), asked)
-            else:
-                self.state.tell("refused", f"{asked}: refused, {printable(words[-1])}")
-            return
-        for word in words[1:]:
-            universe, _, item = word.partition(":")
-            if item.startswith("x") and universe.isdecimal():
-                lost = self.state.lost
-                lost.count, lost.moment, lost.universe = lost.count + 1, int(moment), int(universe)
+        told = read_live_line(line)
+        if isinstance(told, Answer | Place | LostPackets):
+            self.clock.hear(told.moment)
+        match told:
+            case Answer():
+                self._take_answer(told)
+            case Move():
+                self.state.move(told)
+                if self._is_in_doubt():
+                    self.state.forget_fade()
+            case Place():
+                self._take_place(told)
+            case LostPackets():
+                self.state.lose(told)
+            case DroppedReplies():
+                self._lose_track(told.count)
 
-    def _lose_track(self, count: str) -> None:
-        """Answers are missing, and nobody knows which. Those that are still to come are here within
-        a second, and are taken for none of a later line."""
-        self.input.waiting.clear()
+    def _take_answer(self, answer: Answer) -> None:
+        asked = self.input.oldest()
+        if self.is_astray or asked in (None, WHERE):
+            self._take_strange_answer(answer)
+            return
+        self.input.answered()
+        if answer.refusal is None:
+            self.state.accept(answer.moment, asked)
+        else:
+            self.state.tell("refused", f"{asked}: refused, {answer.refusal}")
+
+    def _take_strange_answer(self, answer: Answer) -> None:
+        """Takes an answer to a line that is not known: `where` tells what that line did. The end of
+        a night has a second answer."""
+        if self.state.is_ending:
+            return
+        if answer.refusal is not None:
+            text = f"a line was refused, {answer.refusal}; which one is not known"
+            self.state.tell("refused", text)
+        if not self._is_in_doubt():
+            self._doubt()
+
+    def _take_place(self, place: Place) -> None:
+        self.state.place(place)
+        if self.is_to_ask:
+            return
+        if self.is_astray:
+            self.input.forget_asked()
+        elif self.input.oldest() == WHERE:
+            self.input.answered()
+        else:
+            # Somebody else asked.
+            return
+        self.is_astray = False
+        self.unsure_until = 0.0
+
+    def _lose_track(self, count: int) -> None:
+        """Answers are missing, and nobody knows which, until a `where` is answered that is asked
+        from here on: those that are still to come stand before it."""
+        self.is_astray = True
         self.unsure_until = time.monotonic() + UNSURE
-        text = f"{count} replies of live were lost: another cue may be on than is shown here"
+        text = f"{count} replies of live were lost; the state is read again"
         self.state.tell("fault", text)
+        self._doubt()
 
-    def _hear_fault(self, line: str) -> None:
+    def _is_in_doubt(self) -> bool:
+        """Whether the state may lack what a `where` is to tell."""
+        return self.is_to_ask or self.input.is_asked()
+
+    def _doubt(self) -> None:
+        self.is_to_ask = True
+        self.state.forget_fade()
+        self._ask_place()
+
+    def _ask_place(self) -> None:
+        """Asks for the whole state, where that is to be done and `live` takes lines."""
+        if self._is_over() or not self.is_to_ask:
+            return
+        try:
+            self.input.give(WHERE)
+        except Refused:
+            # It is asked again, once `live` reads on.
+            return
+        self.is_to_ask = False
+
+    def _is_over(self) -> bool:
+        """Whether `live` takes nothing more: behind an `end` it refuses all lines, and answers
+        none."""
+        return self.state.status is not None or self.state.is_ending or self.input.has_end()
+
+    def _hear_message(self, line: str) -> None:
+        """Takes a line of standard error. What is said as the night begins is no fault, and how to
+        end it by typing is not for a desk."""
         text = printable(line, 300)
-        self.tell(f"live: {text}")
-        self.state.tell("fault", text)
+        begins = self.start_lines[0].fullmatch(line) if self.start_lines else None
+        if begins is None:
+            self.tell(f"live: {text}")
+            self.state.tell("fault", text)
+            return
+        del self.start_lines[0]
+        self.state.skipped = begins.groupdict().get("skipped") or self.state.skipped
+        if self.start_lines:
+            self.tell(f"live: {text}")
 
     def _wait(self) -> None:
         status = self.process.wait()
@@ -239,9 +264,8 @@ class Night:
             if self.state.status is not None:
                 raise Refused("the night has ended")
             if time.monotonic() < self.unsure_until:
-                raise Refused("replies of live were lost: press again in a second")
-            # Behind an `end` the program takes no line, and answers none.
-            if self.state.is_ending or self.input.has_end():
+                raise Refused("replies of live were lost, and the state is read: press again")
+            if self._is_over():
                 raise Refused("the night is ending")
             self.input.give(line)
 
@@ -252,26 +276,31 @@ class Night:
             self._change()
 
     def watch(self) -> None:
-        """Makes the moves of cues that follow by themselves, where one is due, and sees whether
-        `live` still answers."""
+        """Sees whether `live` still answers. What it does not read is taken back."""
         with self.changed:
             if self.state.status is not None:
                 return
-            has_moved = self.state.position.advance(self.clock.now())
             taken = self.input.take_back()
             for line in taken:
-                self.state.tell("late", f"{line}: taken back, live did not read it in a second")
+                if line == WHERE:
+                    self.is_to_ask = True
+                else:
+                    text = f"{line}: taken back, live did not read it in a second"
+                    self.state.tell("late", text)
+            self._ask_place()
             is_late = self.input.is_late() or self.input.stands_still()
-            if has_moved or taken or is_late != self.state.is_late:
+            if taken or is_late != self.state.is_late:
                 self.state.is_late = is_late
                 self._change()
 
     def end(self, patience: float) -> int:
         """Ends the night, and waits for `live` to tell its receivers; its status."""
-        try:
-            self.give("end")
-        except Refused:
-            pass
+        with self.changed:
+            try:
+                if not self._is_over():
+                    self.input.give("end")
+            except Refused:
+                pass
         for last_word in (self.process.terminate, self.process.kill):
             try:
                 self.process.wait(patience)

@@ -22,7 +22,7 @@ def show_view(show: Show, title: str, base: int, osc: str | None) -> dict[str, A
             "down": show.cues[number].fall.whole,
             "follow": show.cues[number].follow,
         }
-        for number in show.cue_numbers()
+        for number in show.order
     ]
     faders = _records("sub", show.subs) + _records("group", show.groups)
     universes = show.universes(base)
@@ -35,21 +35,21 @@ def _spelled(cue: int | None) -> str | None:
 
 def state_view(night: Night) -> dict[str, Any]:
     """What changes. Called with the night's lock held."""
-    state, position = night.state, night.state.position
-    fade = None
-    if position.moves:
-        latest = position.moves[-1]
-        whole = night.show.cues[latest.cue].fade if latest.time is None else latest.time
-        fade = {"whole": whole, "elapsed": max(night.clock.now() - latest.moment, 0)}
+    state, fade = night.state, None
+    if state.fade is not None:
+        elapsed = max(night.clock.now() - state.fade.moment, 0)
+        fade = {"whole": state.fade.whole, "elapsed": elapsed}
     return {
-        "current": _spelled(position.current),
-        "next": _spelled(position.following()),
+        "placed": state.is_placed,
+        "current": _spelled(state.current),
+        "next": _spelled(state.following),
         "fade": fade,
         "grand": state.grand,
         "lit_grand": state.lit_grand,
         "masters": dict(state.masters),
         "waiting": len(night.input.waiting),
         "lost": dict(vars(state.lost)),
+        "skipped": state.skipped,
         "notices": [vars(notice) for notice in state.notices],
         "late": state.is_late,
         "ending": state.is_ending,

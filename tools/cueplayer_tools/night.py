@@ -8,10 +8,10 @@ from bisect import bisect_left
 from dataclasses import dataclass, field
 
 from cueplayer_tools.cue_list import Show
-from cueplayer_tools.position import MOVES, Move, Position
+from cueplayer_tools.live_lines import Move
 from cueplayer_tools.record import Given
 from cueplayer_tools.rehearsal import MOST_RECEIVERS, Event, rehearse
-from cueplayer_tools.words import Refused, level_byte
+from cueplayer_tools.words import MOVES, Refused, level_byte, thousandths_of
 
 # Any identity does: what is shown of a night does not hang on its name.
 CONSOLE = "00000000-0000-4000-8000-000000000001"
@@ -143,13 +143,44 @@ def _listen(
 
 
 def moves_of(show: Show, night: Night) -> list[Move]:
-    """The moves of a night: which cues it came to, and when."""
-    position = Position(show)
+    """The moves of a night: which cues it came to, and when.
+
+    A record has no `cue` lines, and a rehearsal prints none. So the moves are worked out here from
+    the commands that the program accepted, by the order of the cues and their FOLLOWONs."""
+    moves: list[Move] = []
     for each in night.asked:
-        if each.refused is None:
-            position.take(each.moment, each.words)
-    position.advance(night.last)
-    return position.moves
+        if each.refused is not None:
+            continue
+        _follow(show, moves, each.moment)
+        if each.words[0] == "end":
+            return moves
+        cue = _cue_of(show, moves[-1].cue if moves else None, each.words)
+        if cue is not None:
+            moves.append(Move(each.moment, cue))
+    _follow(show, moves, night.last)
+    return moves
+
+
+def _cue_of(show: Show, current: int | None, words: tuple[str, ...]) -> int | None:
+    """The cue that an accepted command came to; None where it is no move."""
+    match words[0]:
+        case "go":
+            return show.following(current)
+        case "back":
+            return show.preceding(current)
+        case "goto":
+            return thousandths_of(words[1])
+    return None
+
+
+def _follow(show: Show, moves: list[Move], moment: int) -> None:
+    """Makes the moves that cues make by themselves up to a moment, each at its own."""
+    while moves:
+        latest = moves[-1]
+        follow, cue = show.cues[latest.cue].follow, show.following(latest.cue)
+        if follow is None or cue is None or latest.moment + follow > moment:
+            return
+        moves.append(Move(latest.moment + follow, cue))
 
 
 def masters_of(asked: list[Asked]) -> dict[str, list[tuple[int, int]]]:

@@ -7,6 +7,8 @@ HIGHEST_NUMBER = 65_535
 MOST_MINUTES = 99
 MOST_SECONDS = 5999
 LONGEST_NAMED = 80
+# The commands that move to a cue.
+MOVES = ("go", "back", "goto")
 _CUE = re.compile(r"(?P<whole>\d{1,9})?(?:\.(?P<parts>\d{1,3}))?", re.ASCII)
 _NUMBER = re.compile(r"\d{1,9}", re.ASCII)
 _SECONDS = re.compile(r"(?P<whole>\d{1,9})?(?:\.(?P<parts>\d{1,2}))?", re.ASCII)

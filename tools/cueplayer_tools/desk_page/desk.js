@@ -170,8 +170,9 @@ function focusable(buttons, chosen) {
 
 function showCues(state, before) {
   const named = (number) => {
-    const cue = page.cues.get(number);
-    return cue ? `${cue.number} ${cue.name}` : "none";
+    if (!state.placed) return "not known yet";
+    if (number === null) return "none";
+    return `${number} ${page.cues.get(number)?.name ?? ""}`;
   };
   setText("current", named(state.current));
   setText("next", named(state.next));
@@ -364,7 +365,9 @@ function showFade() {
   const elapsed = fade ? fade.elapsed + performance.now() - page.stateAt : 0;
   const isRunning = Boolean(fade) && elapsed < fade.whole;
   byId("fade").value = !fade ? 0 : isRunning ? elapsed / fade.whole : 1;
-  setText("fade-text", isRunning ? `${seconds(fade.whole - elapsed)} left` : "");
+  const isUnknown = !fade && Boolean(page.state?.current);
+  const left = isRunning ? `${seconds(fade.whole - elapsed)} left` : "";
+  setText("fade-text", isUnknown ? "not known" : left);
 }
 
 function showState(state) {
@@ -378,6 +381,7 @@ function showState(state) {
   const lost = byId("lost");
   setText("lost", `${state.lost.count} packets lost`);
   lost.classList.toggle("is-some", state.lost.count > 0);
+  setText("skipped", state.skipped);
   showFade();
   showAlarms();
 }

@@ -1,0 +1,127 @@
+"""The state of a night as a desk shows it: what `live` has said of it."""
+
+from collections import deque
+from dataclasses import dataclass, field
+
+from cueplayer_tools.cue_list import Show
+from cueplayer_tools.live_lines import FULL, LostPackets, Move, Place
+from cueplayer_tools.words import MOVES, level_byte, milliseconds_of, thousandths_of
+
+NOTICES_KEPT = 20
+
+
+@dataclass(frozen=True)
+class Notice:
+    """Something that must not be missed, with a number of its own."""
+
+    number: int
+    kind: str
+    text: str
+
+
+@dataclass
+class Lost:
+    """How many packets could not be sent, and where the latest was."""
+
+    count: int = 0
+    moment: int = 0
+    universe: int = 0
+
+
+@dataclass(frozen=True)
+class Fade:
+    """The latest move: its moment, and when its last channel arrives, from there."""
+
+    moment: int
+    whole: int
+
+
+@dataclass
+class State:
+    """What `live` has said so far. Moments are its own, in milliseconds since the start."""
+
+    show: Show
+    # Whether it has said which cue is current.
+    is_placed: bool = False
+    current: int | None = None
+    following: int | None = None
+    # None where there was no move, or where its times are not known.
+    fade: Fade | None = None
+    # The accepted `goto N in TIME` whose move is still to be told: the move, and TIME.
+    timed: tuple[Move, int] | None = None
+    grand: int = FULL
+    # The grand master before it was brought to 0.
+    lit_grand: int = FULL
+    masters: dict[str, int] = field(default_factory=dict)
+    lost: Lost = field(default_factory=Lost)
+    # How many lines of the show have no effect, in words.
+    skipped: str = ""
+    notices: deque[Notice] = field(default_factory=lambda: deque(maxlen=NOTICES_KEPT))
+    told: int = 0
+    # Whether a line has waited for its answer for too long.
+    is_late: bool = False
+    is_ending: bool = False
+    status: int | None = None
+
+    def tell(self, kind: str, text: str) -> None:
+        if kind == "osc":
+            # One of a flood must not drive out what else was told.
+            self._forget("osc")
+        self.told += 1
+        self.notices.append(Notice(self.told, kind, text))
+
+    def accept(self, moment: int, line: str) -> None:
+        """Takes a command that the program has accepted. A move is told by a line of its own."""
+        kind, *words = line.split()
+        self.timed = None
+        if kind in ("sub", "group"):
+            self.masters[f"{kind} {words[0]}"] = level_byte(words[1])
+        elif kind == "master":
+            self._set_grand(level_byte(words[0]))
+        elif kind == "end":
+            self.is_ending = True
+        elif kind in MOVES:
+            # What was refused before a move is behind us; other notices stay.
+            self._forget("refused", "osc")
+            if len(words) == 3:
+                move = Move(moment, thousandths_of(words[0]))
+                self.timed = move, milliseconds_of(words[2])
+
+    def move(self, move: Move) -> None:
+        """Takes a move, in its own times or its cue's."""
+        self.is_placed = True
+        self.current, self.following = move.cue, self.show.following(move.cue)
+        if self.timed is not None and self.timed[0] == move:
+            whole = self.timed[1]
+        elif move.cue in self.show.cues:
+            whole = self.show.cues[move.cue].fade
+        else:
+            self.forget_fade()
+            return
+        self.fade = Fade(move.moment, whole)
+
+    def forget_fade(self) -> None:
+        """Which move was the latest, or in which time it is made, is not known any more."""
+        self.fade = self.timed = None
+
+    def place(self, place: Place) -> None:
+        """Takes the whole state anew."""
+        if place.cue != self.current:
+            self.forget_fade()
+        self.is_placed = True
+        self.current, self.following = place.cue, place.following
+        self._set_grand(place.grand)
+        self.masters = dict(place.masters)
+
+    def lose(self, tick: LostPackets) -> None:
+        """Counts the packets that could not be sent at a tick."""
+        for universe in tick.universes:
+            self.lost = Lost(self.lost.count + 1, tick.moment, universe)
+
+    def _set_grand(self, level: int) -> None:
+        self.grand = level
+        self.lit_grand = level or self.lit_grand
+
+    def _forget(self, *kinds: str) -> None:
+        kept = [notice for notice in self.notices if notice.kind not in kinds]
+        self.notices = deque(kept, NOTICES_KEPT)
