@@ -1,4 +1,4 @@
-"""`./cueplayer live`: control-C and a closed window leave the light on."""
+"""`./cueplayer live`: control-C, control-Z and a closed window leave the light on."""
 
 import os
 import signal
@@ -33,11 +33,18 @@ class Signals(LiveTest):
         time.sleep(1)
         return {each[SLOT_1] for each in self.came()}
 
-    def test_interrupt_and_hang_up(self):
+    def test_signals_of_a_terminal(self):
         """The light stays, the next command is taken, and an `end` ends the night."""
         night = self.night()
         self.told(night, b"sub 1 FL\n")
-        for each in (signal.SIGINT, signal.SIGHUP):
+        for each in (
+            signal.SIGINT,
+            signal.SIGQUIT,
+            signal.SIGTSTP,
+            signal.SIGTTIN,
+            signal.SIGTTOU,
+            signal.SIGHUP,
+        ):
             night.send_signal(each)
         self.assertEqual({128}, self.lit())
         self.told(night, b"sub 1 50\n")

@@ -53,7 +53,7 @@ pub nights_plays : NightsArePlays
 nights_plays p (Ok done) before after is = lives_plays p is.happened before after 0 is.lives
 nights_plays p (Err (run.Lost n)) before after is =
     lives_plays p is.1.happened before after n is.1.lives
-nights_plays p (Err run.Device) before after is = lives_plays p is.0 before after is.1.0 is.1.1
+nights_plays p (Err run.Device) before after is = lives_plays p is.0 before after is.1 is.2
 nights_plays p (Err _) before after is = absurd is
 
 -- ---- what was typed
