@@ -2,7 +2,7 @@
 //!
 //! [`play`] reads lines with moments from a feed, offers packets to a link and writes an answer for
 //! each line. Over devices that tell, its contract says exactly which packets were offered and what
-//! was written; `live` is `play` over an input that makes its own ticks.
+//! was written. [`perform`] carries out one call; a live night stands on it too.
 //!
 //! ```
 //! let mut feed = MemoryFeed::new(b"0 go\n0 tick\n", 4096, 0, 0);
