@@ -1,5 +1,5 @@
 -- What a live night has played, and under which history.
-use Rattle.std.proofs.Common.{◌≡◌, ℕ, refl, ap, sym, subst, ◌∙◌, List, [], ◌∷◌, ◌++◌, Ok, Err}
+use Rattle.std.proofs.Common.{◌≡◌, ℕ, refl, ap, sym, ◌∙◌, List, [], ◌∷◌, Ok, Err}
 use Rattle.std.proofs.Common.{Option, Some, None}
 use Rattle.std.specs.Prelude.{◌-◌, codes, is_none, option_map, if◌then◌else◌}
 use Rattle.std.proofs.lemmas.List.{append_cancel_left, append_cancel_right}
@@ -17,7 +17,6 @@ use Rattle.desk_core.specs.declared.command.Command.{Command}
 use Rattle.desk_core.specs.declared.command.Command.TheVariants.{End, Master}
 use Rattle.desk_core.specs.Meaning.{latest_frame}
 use Rattle.desk_core.specs.Played.{Act, order, refusal}
-use Rattle.devices.specs.Send.{Send}
 use Rattle.show_core.specs.Tables.{Tables}
 use Rattle.live_input.specs.Keys.{without_keys}
 use Rattle.live_input.specs.Laws as live
