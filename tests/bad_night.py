@@ -148,13 +148,17 @@ class Desk:
         return connection.getresponse()
 
     def _read(self) -> None:
+        kind = b""
         for line in self.events:
-            if line.startswith(b"id: "):
-                self.ahead.append(int(line[4:]) - milliseconds())
-            elif line.startswith(b'data: {"title"'):
-                self.osc = int(json.loads(line[6:])["osc"].split(":")[1])
-            elif line.startswith(b'data: {"current"'):
-                self.state = json.loads(line[6:])
+            name, _, value = line.strip().partition(b": ")
+            if name == b"id":
+                self.ahead.append(int(value) - milliseconds())
+            elif name == b"event":
+                kind = value
+            elif name == b"data" and kind == b"show":
+                self.osc = int(json.loads(value)["osc"].split(":")[1])
+            elif name == b"data" and kind == b"state":
+                self.state = json.loads(value)
 
     def press(self, line: str) -> int | None:
         """Presses as the page does; the status, or None where there was none in a second."""
