@@ -96,7 +96,7 @@ impl<'a> MemoryBooth<'a> {
 }
 
 impl Booth for MemoryBooth<'_> {
-    ghost use Rattle.std.specs.Prelude.{⊥, []};
+    ghost use Rattle.std.specs.Prelude.{[]};
 
     ghost tells = { λ _. ⊥ };
 
