@@ -6,6 +6,9 @@ use devices::memory::Faults;
 use live_input::Reason;
 use std::alloc::Global;
 
+// Milliseconds from one tick to the next.
+const TICK: u64 = 25;
+
 // What comes to the input of a night, at its moment.
 #[derive(Clone, Copy)]
 pub enum Coming<'a> {
@@ -45,10 +48,12 @@ pub struct BoothFaults {
     pub show: Faults,
 }
 
-// A booth over memory. Its clock stands still but while it waits.
+// A booth over memory. Its clock stands still but while it waits, and at the first looks at it.
 #[derive(Drop)]
 pub struct MemoryBooth<'a> {
     now: u64,
+    // Behind so many looks a tick's time is over.
+    pub late_looks: u64,
     coming: &'a [Coming<'a>],
     next: usize,
     pub faults: BoothFaults,
@@ -68,6 +73,7 @@ impl<'a> MemoryBooth<'a> {
     pub fn new(alloc: Global, coming: &'a [Coming<'a>], faults: BoothFaults) -> Self {
         MemoryBooth {
             now: 0,
+            late_looks: 0,
             coming,
             next: 0,
             faults,
@@ -90,7 +96,7 @@ impl<'a> MemoryBooth<'a> {
 }
 
 impl Booth for MemoryBooth<'_> {
-    ghost use Rattle.std.specs.Prelude.{⊥, []};
+    ghost use Rattle.std.specs.Prelude.{[]};
 
     ghost tells = { λ _. ⊥ };
 
@@ -103,7 +109,12 @@ impl Booth for MemoryBooth<'_> {
 
     fn moment(&mut self) -> Result<u64, LinkFault> {
         self.faults.moment.count()?;
-        Ok(self.now)
+        let moment = self.now;
+        if self.late_looks > 0 {
+            self.late_looks -= 1;
+            self.now = self.now.wrapping_add(TICK);
+        }
+        Ok(moment)
     }
 
     fn wait(&mut self, _moment: u64, due: u64, block: &mut [u8; 4096]) -> Result<Heard, LinkFault> {
