@@ -4,12 +4,11 @@ import os
 import signal
 import time
 import unittest
-from pathlib import Path
 from unittest import mock
 
 from desks import SHOW
 from program import FolderTest, text
-from tooling import Lines, wait_for
+from tooling import Lines, stand_still, wait_for
 
 from cueplayer_tools import desk_input
 from cueplayer_tools.cue_list import read_show
@@ -73,16 +72,6 @@ class StubTest(FolderTest):
     def give(self, line):
         self.night.give(line)
         self.expect(line)
-
-    def stop(self):
-        """Has the program read nothing, until it goes on."""
-        pid = self.night.process.pid
-        os.kill(pid, signal.SIGSTOP)
-        stat = Path(f"/proc/{pid}/stat")
-        wait_for(lambda: stat.read_text().rpartition(") ")[2].startswith("T"), "it stands still")
-
-    def go_on(self):
-        os.kill(self.night.process.pid, signal.SIGCONT)
 
     def assertShows(self, current, following, fade=None, **state):
         """The cues in thousandths, the whole of the fade, and other values of the state."""
@@ -204,12 +193,12 @@ class MissingReplies(StubTest):
     def test_unread(self):
         """What the program had not read as replies were lost is taken back like all else."""
         self.begun()
-        self.stop()
+        stand_still(self.night.process.pid)
         self.night.give("go")
         self.say("2 replies dropped")
         with mock.patch.object(desk_input, "LATE", -1.0):
             self.night.watch()
-        self.go_on()
+        os.kill(self.night.process.pid, signal.SIGCONT)
         taken = "go: taken back, live did not read it in a second"
         self.assertEqual([self.LOST, taken], self.notices())
         self.expect("")
