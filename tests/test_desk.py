@@ -409,6 +409,7 @@ class Replies(DeskTest):
     def night(self, keep=lambda line: None):
         words = [str(self.show), "--to", self.to, "--cid", self.cid]
         night = desk_night.Night(read_show(words[0]), words, lambda line: None, keep)
+        night.read()
         self.addCleanup(night.end, PATIENCE)
         wait_for(lambda: night.state.is_placed, "the state")
         return night
@@ -441,7 +442,7 @@ class Replies(DeskTest):
             if " where " in line:
                 answers.append((self.state(night), self.place(line)))
 
-        night = self.night(lambda line: None)
+        night = self.night()
         night.keep = keep
         with self.typing(night) as other:
             for _ in range(400):
@@ -498,9 +499,7 @@ class Cid(DeskTest):
         desk = Started(self, "desk", self.show, "--to", self.to, environment=environment)
         told = []
         while (found := re.match(r"desk: console (\S+), live", line := desk.err.next())) is None:
-            # What `live` says as it begins may come first.
-            if not line.startswith("desk: live: "):
-                told.append(line)
+            told.append(line)
         desk.process.terminate()
         self.assertEqual(0, desk.process.wait(PATIENCE))
         return found[1], told

@@ -40,6 +40,7 @@ class StubTest(FolderTest):
         read = read_show("-", show)
         with mock.patch.dict(os.environ, CUEPLAYER=str(stub), FOLDER=str(self.folder)):
             self.night = Night(read, [], self.told.append, lambda line: None)
+        self.night.read()
         self.addCleanup(self.night.process.wait)
         self.addCleanup(self.night.process.kill)
         self.printed, self.messages = (
