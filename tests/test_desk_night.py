@@ -129,6 +129,7 @@ class Places(StubTest):
         self.begun(FOLLOWED)
         for line, said, fades in (
             ("goto 2 in 8", ("700 ok", "500 cue 2", "600 cue 3", "700 cue 2"), (3000, 0, 8000)),
+            ("goto 2", ("700 ok", "700 cue 2"), (3000,)),
             ("goto 2", ("800 ok", "800 cue 2"), (3000,)),
             ("goto 1 in 5", ("900 ok", "900 cue 1"), (5000,)),
             ("sub 1 HFF", ("1500 ok", "1400 cue 2"), (3000,)),
@@ -245,14 +246,21 @@ class OtherLines(StubTest):
         self.say("100 where next 1 master 255", "110 ok")
         self.assertShows(None, 1000, masters={"sub 1": 255})
         self.assertFalse(self.night.input.waiting)
+        self.give("goto 1.5")
+        self.say("200 ok", "200 cue 1.5", "210 where cue 1.5 next 2 master 255 sub 1:255")
+        self.assertShows(1500, 2000, 3000, masters={"sub 1": 255})
+        self.say("220 where cue 1 next 1.5 master 255")
+        self.assertShows(1000, 1500, None, masters={})
 
     def test_end(self):
         """The end of a night has two answers, and nothing is asked behind it."""
         self.begun()
+        self.give("goto 1.5")
+        self.say("50 ok", "50 cue 1.5")
         self.give("end")
         self.say("100 ok", "200 ok")
         self.night.watch()
-        self.assertShows(None, 1000, is_ending=True)
+        self.assertShows(1500, 2000, 3000, is_ending=True)
         self.assertFalse(self.night.input.waiting)
         self.assertEqual([], self.notices())
 
