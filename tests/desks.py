@@ -139,7 +139,7 @@ class DeskTest(ReceiverTest):
         desk = Started(self, "desk", *words)
         line = desk.out.next()
         self.assertRegex(line or "", r"^desk: http://127\.0\.0\.1:\d+/[\w-]{32}/$")
-        told = desk.err.find(rf"desk: console {self.cid}, live is process (\d+)")
+        told = re.match(rf"desk: console {self.cid}, live is process (\d+)", desk.err.next())
         desk.live = int(told[1])
         self.addCleanup(self.kill, desk.live, self.cid)
         return desk, line.removeprefix("desk: ")

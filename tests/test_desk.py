@@ -406,9 +406,11 @@ class Outputs(DeskTest):
 class Replies(DeskTest):
     """The state that a desk keeps, held against what `where` answers."""
 
-    def night(self, keep=lambda line: None):
+    def night(self):
         words = [str(self.show), "--to", self.to, "--cid", self.cid]
-        night = desk_night.Night(read_show(words[0]), words, lambda line: None, keep)
+        show, ignore = read_show(words[0]), lambda line: None
+        night = desk_night.Night(show, words, ignore, ignore)
+        night.read()
         self.addCleanup(night.end, PATIENCE)
         wait_for(lambda: night.state.is_placed, "the state")
         return night
@@ -426,6 +428,20 @@ class Replies(DeskTest):
         place = read_live_line(line)
         return place.cue, place.following, place.grand, place.masters
 
+    def kept(self, night):
+        """The answers of `live` from here on: those to commands, and those to `where`, each behind
+        what the desk had before it came."""
+        answers, places = [], []
+
+        def keep(line):
+            if " where " in line:
+                places.append((self.state(night), self.place(line)))
+            elif re.search(" (ok|refused .*)$", line):
+                answers.append(line)
+
+        night.keep = keep
+        return answers, places
+
     def line(self, chance):
         level = f"H{chance.choice((0, 1, 128, 255)):02X}"
         cue = chance.choice(("1", "1.5", "2", "7"))
@@ -435,43 +451,44 @@ class Replies(DeskTest):
     def test_by_chance(self):
         """Of whatever is pressed at the desk it has, at every `where`, just what that answers."""
         self.show.write_bytes(SHOW.replace(b"UP 2 1\n", b"UP 2 1\nFOLLOWON 0.03\n"))
-        answers, chance = [], random.Random(40)
-
-        def keep(line):
-            if " where " in line:
-                answers.append((self.state(night), self.place(line)))
-
-        night = self.night(lambda line: None)
-        night.keep = keep
+        night, chance = self.night(), random.Random(40)
+        _, places = self.kept(night)
         with self.typing(night) as other:
             for _ in range(400):
                 night.give(self.line(chance))
                 if chance.randrange(3) == 0:
                     time.sleep(chance.choice((0.002, 0.02, 0.05)))
                 other.write(b"where\n")
-            wait_for(lambda: len(answers) == 400, "the answers")
-        for shown, told in answers:
+            wait_for(lambda: len(places) == 400, "the answers")
+        for shown, told in places:
             self.assertEqual(told, shown)
-        self.assertLessEqual({1000, 1500, 2000}, {told[0] for _, told in answers})
-        self.assertEqual(0, len(night.input.waiting))
+        self.assertLessEqual({1000, 1500, 2000}, {told[0] for _, told in places})
+        self.assertFalse(night.input.waiting)
 
     def test_others_by_chance(self):
-        """Whoever else types meanwhile, it has soon what `where` answers."""
-        answers, chance = [], random.Random(41)
-        night = self.night(lambda line: " where " in line and answers.append(line))
+        """Whoever else types meanwhile, it has what `where` answers once all lines are answered."""
+        night, chance, lines = self.night(), random.Random(41), 0
+        answers, places = self.kept(night)
+
+        def is_settled():
+            with night.changed:
+                is_known = not night.input.waiting and not night.is_to_ask
+                return is_known and len(answers) == lines
+
         with self.typing(night) as other:
-            for turn in range(30):
+            for turn in range(50):
                 for _ in range(chance.randrange(12)):
+                    lines += 1
                     if chance.randrange(2):
                         night.give(self.line(chance))
                     else:
                         other.write(f"{self.line(chance)}\n".encode())
-                wait_for(lambda: not night.input.waiting and not night.is_to_ask, "all answers")
-                time.sleep(0.05)
-                shown, before = self.state(night), len(answers)
+                wait_for(is_settled, "all answers")
+                before = len(places)
                 other.write(b"where\n")
-                wait_for(lambda: len(answers) > before, "where")
-                self.assertEqual(self.place(answers[-1]), shown, turn)
+                wait_for(lambda: len(places) > before, "where")
+                shown, told = places[-1]
+                self.assertEqual(told, shown, turn)
 
     def test_replies_dropped(self):
         """A desk that stood still until answers were dropped shows the right state again."""
@@ -498,9 +515,7 @@ class Cid(DeskTest):
         desk = Started(self, "desk", self.show, "--to", self.to, environment=environment)
         told = []
         while (found := re.match(r"desk: console (\S+), live", line := desk.err.next())) is None:
-            # What `live` says as it begins may come first.
-            if not line.startswith("desk: live: "):
-                told.append(line)
+            told.append(line)
         desk.process.terminate()
         self.assertEqual(0, desk.process.wait(PATIENCE))
         return found[1], told

@@ -4,12 +4,11 @@ import os
 import signal
 import time
 import unittest
-from pathlib import Path
 from unittest import mock
 
 from desks import SHOW
 from program import FolderTest, text
-from tooling import Lines, wait_for
+from tooling import Lines, stand_still, wait_for
 
 from cueplayer_tools import desk_input
 from cueplayer_tools.cue_list import read_show
@@ -41,6 +40,7 @@ class StubTest(FolderTest):
         read = read_show("-", show)
         with mock.patch.dict(os.environ, CUEPLAYER=str(stub), FOLDER=str(self.folder)):
             self.night = Night(read, [], self.told.append, lambda line: None)
+        self.night.read()
         self.addCleanup(self.night.process.wait)
         self.addCleanup(self.night.process.kill)
         self.printed, self.messages = (
@@ -73,16 +73,6 @@ class StubTest(FolderTest):
     def give(self, line):
         self.night.give(line)
         self.expect(line)
-
-    def stop(self):
-        """Has the program read nothing, until it goes on."""
-        pid = self.night.process.pid
-        os.kill(pid, signal.SIGSTOP)
-        stat = Path(f"/proc/{pid}/stat")
-        wait_for(lambda: stat.read_text().rpartition(") ")[2].startswith("T"), "it stands still")
-
-    def go_on(self):
-        os.kill(self.night.process.pid, signal.SIGCONT)
 
     def assertShows(self, current, following, fade=None, **state):
         """The cues in thousandths, the whole of the fade, and other values of the state."""
@@ -139,6 +129,7 @@ class Places(StubTest):
         self.begun(FOLLOWED)
         for line, said, fades in (
             ("goto 2 in 8", ("700 ok", "500 cue 2", "600 cue 3", "700 cue 2"), (3000, 0, 8000)),
+            ("goto 2", ("700 ok", "700 cue 2"), (3000,)),
             ("goto 2", ("800 ok", "800 cue 2"), (3000,)),
             ("goto 1 in 5", ("900 ok", "900 cue 1"), (5000,)),
             ("sub 1 HFF", ("1500 ok", "1400 cue 2"), (3000,)),
@@ -204,12 +195,12 @@ class MissingReplies(StubTest):
     def test_unread(self):
         """What the program had not read as replies were lost is taken back like all else."""
         self.begun()
-        self.stop()
+        stand_still(self.night.process.pid)
         self.night.give("go")
         self.say("2 replies dropped")
         with mock.patch.object(desk_input, "LATE", -1.0):
             self.night.watch()
-        self.go_on()
+        os.kill(self.night.process.pid, signal.SIGCONT)
         taken = "go: taken back, live did not read it in a second"
         self.assertEqual([self.LOST, taken], self.notices())
         self.expect("")
@@ -255,14 +246,21 @@ class OtherLines(StubTest):
         self.say("100 where next 1 master 255", "110 ok")
         self.assertShows(None, 1000, masters={"sub 1": 255})
         self.assertFalse(self.night.input.waiting)
+        self.give("goto 1.5")
+        self.say("200 ok", "200 cue 1.5", "210 where cue 1.5 next 2 master 255 sub 1:255")
+        self.assertShows(1500, 2000, 3000, masters={"sub 1": 255})
+        self.say("220 where cue 1 next 1.5 master 255")
+        self.assertShows(1000, 1500, None, masters={})
 
     def test_end(self):
         """The end of a night has two answers, and nothing is asked behind it."""
         self.begun()
+        self.give("goto 1.5")
+        self.say("50 ok", "50 cue 1.5")
         self.give("end")
         self.say("100 ok", "200 ok")
         self.night.watch()
-        self.assertShows(None, 1000, is_ending=True)
+        self.assertShows(1500, 2000, 3000, is_ending=True)
         self.assertFalse(self.night.input.waiting)
         self.assertEqual([], self.notices())
 

@@ -9,7 +9,7 @@ import unittest
 from browser import CHROMIUM, MISSING, Browser
 from desks import SHOW, DeskTest, Page
 from program import TOP, run, text
-from tooling import wait_for
+from tooling import stand_still, wait_for
 
 
 @unittest.skipUnless(CHROMIUM, MISSING)
@@ -196,7 +196,7 @@ class DeskPage(DeskTest):
     def test_press_without_an_answer(self):
         """It is told after a second, and never carried out."""
         desk, page, state = self.shown_page()
-        os.kill(desk.process.pid, signal.SIGSTOP)
+        stand_still(desk.process.pid)
         page.press(" ", "Space", " ")
         told = "go: nothing was sent: no answer within a second; press again"
         # A machine that is so busy that the press comes to the page late finds the page dead.

@@ -9,7 +9,7 @@ import socket
 import time
 
 from desks import DeskTest, Page
-from tooling import wait_for
+from tooling import stand_still, wait_for
 
 from cueplayer_tools.desk_requests import LONGEST_HEAD, Unreadable, request_in
 
@@ -179,7 +179,7 @@ class Late(DeskTest):
             f"POST {page.path}command HTTP/1.1\r\nHost: {page.host}\r\nOrigin: {page.origin}\r\n"
             f"Desk-Time: {page.desk_time()}\r\nContent-Length: 2\r\n\r\ngo"
         )
-        os.kill(desk.process.pid, signal.SIGSTOP)
+        stand_still(desk.process.pid)
         with socket.create_connection((host, int(port)), timeout=10) as connection:
             connection.sendall(head.encode())
             time.sleep(2)
@@ -192,7 +192,7 @@ class Late(DeskTest):
         """A press that `live` does not read in a second is taken back, and those behind it are
         refused until `live` reads again."""
         desk, page = self.opened()
-        os.kill(desk.live, signal.SIGSTOP)
+        stand_still(desk.live)
         self.assertEqual([204, 204], [page.command("go"), page.command("sub 1 FL")])
         page.wait(late=True, waiting=0, current=None)
         why = "taken back, live did not read it in a second"

@@ -3,10 +3,12 @@
 import os
 import queue
 import re
+import signal
 import subprocess
 import sys
 import threading
 import time
+from pathlib import Path
 
 from program import PROGRAM, TOP
 
@@ -77,6 +79,14 @@ def run_tool(tool, *words, **options):
         timeout=2 * PATIENCE,
         **options,
     )
+
+
+def stand_still(pid):
+    """Stops a process, and waits until each of its threads stands still."""
+    os.kill(pid, signal.SIGSTOP)
+    threads = Path(f"/proc/{pid}/task")
+    states = lambda: {each.read_text().rpartition(") ")[2][0] for each in threads.glob("*/stat")}
+    wait_for(lambda: states() == {"T"}, f"process {pid} stands still")
 
 
 def wait_for(condition, what):

@@ -145,12 +145,13 @@ def run_desk(words: argparse.Namespace, tell: Teller, tell_address: Teller) -> i
     replies = Teller(kept, "", MOST_REPLIES, lambda text: tell(f"replies: {text}"))
     night = Night(show, _live_words(words), tell, replies)
     try:
+        tell(f"console {words.cid}, live is process {night.process.pid}")
+        night.read()
         levels.read(night.wake)
         server.show(night, levels, view)
         if receiver is not None:
             port = OscPort(receiver, lambda text: night.refuse(f"OSC: {text}", "osc"))
             threading.Thread(target=_take_osc, args=(night, port), daemon=True).start()
-        tell(f"console {words.cid}, live is process {night.process.pid}")
         _watch(night, server, presses)
     finally:
         # Whatever happened, no `live` is left behind that nobody can play.

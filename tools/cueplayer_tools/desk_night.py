@@ -84,8 +84,8 @@ class Night:
         tell: Callable[[str], None],
         keep: Callable[[str], None],
     ) -> None:
-        """Starts `live` with these words. `tell` gets what it says on standard error, and `keep`
-        each line that it prints; neither may wait."""
+        """Starts `live` with these words. Once it is read, `tell` gets what it says on standard
+        error, and `keep` each line that it prints; neither may wait."""
         self.tell = tell
         self.keep = keep
         self.state = State(show)
@@ -100,21 +100,26 @@ class Night:
         self.unsure_until = 0.0
         self.changed = threading.Condition()
         self.input = LiveInput()
-        output, their_output = _roomy_pipe()
-        faults, their_faults = _roomy_pipe()
+        self.output, their_output = _roomy_pipe()
+        self.messages, their_messages = _roomy_pipe()
+        self.readers: list[threading.Thread] = []
         # In a session of its own: control-C at the desk's terminal must not end the light.
         self.process = subprocess.Popen(
             [program(), "live", *words],
             stdin=self.input.theirs,
             stdout=their_output,
-            stderr=their_faults,
-            pass_fds=(self.input.ours, output, faults),
+            stderr=their_messages,
+            pass_fds=(self.input.ours, self.output, self.messages),
             start_new_session=True,
         )
-        for theirs in (self.input.theirs, their_output, their_faults):
+        for theirs in (self.input.theirs, their_output, their_messages):
             os.close(theirs)
         self._ask_place()
-        self.readers = [self._reader(output, self._hear), self._reader(faults, self._hear_message)]
+
+    def read(self) -> None:
+        """Reads what `live` says, from here on."""
+        streams = ((self.output, self._hear), (self.messages, self._hear_message))
+        self.readers = [self._reader(stream, hear) for stream, hear in streams]
         threading.Thread(target=self._wait, daemon=True).start()
 
     def _reader(self, stream: int, hear: Callable[[str], None]) -> threading.Thread:

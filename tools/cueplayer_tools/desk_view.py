@@ -40,9 +40,9 @@ def state_view(night: Night) -> dict[str, Any]:
         elapsed = max(night.clock.now() - state.fade.moment, 0)
         fade = {"whole": state.fade.whole, "elapsed": elapsed}
     return {
-        "placed": state.is_placed,
         "current": _spelled(state.current),
         "next": _spelled(state.following),
+        "placed": state.is_placed,
         "fade": fade,
         "grand": state.grand,
         "lit_grand": state.lit_grand,
