@@ -78,7 +78,10 @@ OPENED = {
 }
 # Which take long.
 LEFT_OUT = {
-    "program_tests::live": ("long::more_lines_than_play_takes",),
+    "program_tests::live": (
+        *("devices_fail::each_look_at_the_clock_fails", "devices_fail::each_wait_fails"),
+        "long::more_lines_than_play_takes",
+    ),
     "program_tests::play": ("devices_fail::each_send_fails",),
 }
 # How a test fails: by a failed assertion, or by an error that it answers.
