@@ -10,6 +10,7 @@ use Rattle.fade_core.specs.Level.{Start}
 use Rattle.show_core.specs.Tables.{Tables}
 use Rattle.desk_core.specs.Played.{Act}
 use Rattle.console.specs.Offering.{AreOffered}
+use Rattle.console.specs.Stands as console
 use Rattle.console.specs.Streams.{Production}
 use Rattle.console_text.specs.Spelling.{reading_of}
 use Rattle.cueplayer_play.specs.Run.{Carried, due_after, history_of, lines_in, sends_of}
@@ -25,7 +26,7 @@ use Rattle.live_input.specs.Night.{order, over, place, refusal, shown, tick, wai
 use Rattle.live_input.specs.Stands as live
 use Rattle.live_input.specs.Told.{IsGiven, Tells}
 use Rattle.cueplayer_live.specs.declared.night.Night.{Night}
-use Rattle.cueplayer_live.specs.Booth.{BoothState, Told, happens, keys, refused}
+use Rattle.cueplayer_live.specs.Booth.{BoothState, Told, happens, is_told, keys, refused}
 use Rattle.cueplayer_live.specs.Night.{IsLived, Lives, Seen, seen, shown_in, told_in, told_of}
 use Rattle.cueplayer_live.specs.Shown.{Takes, help_text, shown_of, shown_place}
 use Rattle.cueplayer_live.specs.Stands.{CarriesOut, GoesOn, Shows, StandsFor, Waits, told_keys}
@@ -72,11 +73,7 @@ gives given (tick moment) t = record {
   shown_is = λ _ _ _ _. refl;
   told_is = λ _. refl;
 }
-gives given (place moment line) t = absurd t
-gives given (help line) t = absurd t
-gives given (refusal why line) t = absurd t
-gives given (wait due) t = absurd t
-gives given over t = absurd t
+gives given _ t = absurd t
 
 -- ---- answers that give none
 
@@ -101,14 +98,7 @@ places when (place moment line) t = record {
       ++ shown_place p.show (history_of p.show (lines_in run)) m) (sym t);
   told_is = λ _. refl;
 }
-places when (order moment line) t = absurd t
-places when (dim moment typed) t = absurd t
-places when (close moment typed) t = absurd t
-places when (tick moment) t = absurd t
-places when (help line) t = absurd t
-places when (refusal why line) t = absurd t
-places when (wait due) t = absurd t
-places when over t = absurd t
+places when _ t = absurd t
 
 pub helps : (answer : Answer) → Tells Help answer → Says answer (λ _ _. help_text) told_if
 helps (help line) t = record {
@@ -116,14 +106,7 @@ helps (help line) t = record {
   shown_is = λ _ _ _. refl;
   told_is = λ _. refl;
 }
-helps (order moment line) t = absurd t
-helps (dim moment typed) t = absurd t
-helps (close moment typed) t = absurd t
-helps (tick moment) t = absurd t
-helps (place moment line) t = absurd t
-helps (refusal why line) t = absurd t
-helps (wait due) t = absurd t
-helps over t = absurd t
+helps _ t = absurd t
 
 pub refuses : (text : _) (reason : Reason) (answer : Answer) → Tells (Refused text reason) answer
     → Says answer (λ _ _. []) (λ _. refused text.items reason ∷ [])
@@ -133,14 +116,7 @@ refuses text reason (refusal why line) t = record {
   told_is = λ _. ap (λ w. refused (shown line) w ∷ []) (sym t.1)
       ∙ ap (λ bytes. refused bytes reason ∷ []) (sym t.0);
 }
-refuses text reason (order moment line) t = absurd t
-refuses text reason (dim moment typed) t = absurd t
-refuses text reason (close moment typed) t = absurd t
-refuses text reason (tick moment) t = absurd t
-refuses text reason (place moment line) t = absurd t
-refuses text reason (help line) t = absurd t
-refuses text reason (wait due) t = absurd t
-refuses text reason over t = absurd t
+refuses text reason _ t = absurd t
 
 pub waits : (until : ℕ) (answer : Answer) → Tells (Until until) answer
     → Says answer (λ _ _. []) (λ _. [])
@@ -149,14 +125,7 @@ waits until (wait due) t = record {
   shown_is = λ p older run. sym (append-nil (shown_in p older run));
   told_is = λ _. refl;
 }
-waits until (order moment line) t = absurd t
-waits until (dim moment typed) t = absurd t
-waits until (close moment typed) t = absurd t
-waits until (tick moment) t = absurd t
-waits until (place moment line) t = absurd t
-waits until (help line) t = absurd t
-waits until (refusal why line) t = absurd t
-waits until over t = absurd t
+waits until _ t = absurd t
 
 pub overs : (answer : Answer) → Tells Over answer
     → (answer ≡ over) × Says answer (λ _ _. []) (λ _. [])
@@ -168,14 +137,7 @@ overs over t = (
     told_is = λ _. refl;
   },
 )
-overs (order moment line) t = absurd t
-overs (dim moment typed) t = absurd t
-overs (close moment typed) t = absurd t
-overs (tick moment) t = absurd t
-overs (place moment line) t = absurd t
-overs (help line) t = absurd t
-overs (refusal why line) t = absurd t
-overs (wait due) t = absurd t
+overs _ t = absurd t
 
 -- ---- one step
 
@@ -188,19 +150,27 @@ pub record Steps (moment : ℕ) (told : List Told) (sends : List Send) (line tex
   pub shown : Takes before.booth.shown after.booth.shown text
   pub told_is : after.booth.told ≡ told ++ before.booth.told
 
--- keys are told behind it, where they were left out
+-- something is told behind it
+pub then_tells : (moment : ℕ) (told : Told) (before middle after : BoothState)
+    {offered offers sends : List Send} {line text : List ℕ}
+    → Steps moment [] sends line text (seen before offered) (seen middle offers)
+    → after ≡ is_told told middle
+    → Steps moment (told ∷ []) sends line text (seen before offered) (seen after offers)
+then_tells moment told before middle after did is = rw is (record {
+  happened_is = did.happened_is;
+  offered_is = did.offered_is;
+  kept = did.kept;
+  shown = did.shown;
+  told_is = ap (λ others. told ∷ others) did.told_is;
+})
+
+-- and keys, where they were left out
 pub with_keys : (moment : ℕ) (ignored : Bool) (before middle after : BoothState)
     {offered offers sends : List Send} {line text : List ℕ}
     → Steps moment [] sends line text (seen before offered) (seen middle offers)
     → after ≡ told_keys ignored middle
     → Steps moment (told_if ignored) sends line text (seen before offered) (seen after offers)
-with_keys moment true before middle after did is = rw is (record {
-  happened_is = did.happened_is;
-  offered_is = did.offered_is;
-  kept = did.kept;
-  shown = did.shown;
-  told_is = ap (λ told. keys ∷ told) did.told_is;
-})
+with_keys moment true before middle after did is = then_tells moment keys before middle after did is
 with_keys moment false before middle after did is = rw is did
 
 -- a text was shown, since a moment was asked
@@ -422,15 +392,19 @@ lives_none p before = record {
 module _ {F : Type 0} (fader_stands_for : F → List Start → Type 0) (tells : Type 0)
     (old new : Night F) (before after : Seen)
     (goes : GoesOn fader_stands_for tells old new before after) (p : Production)
-    (stands : StandsFor fader_stands_for p old []) (none : old.lost ≡ 0) where
-  pub lived : tells → Lives p (goes.since ++ []) before after new.lost
-  lived told = goes.lived told p [] before stands (rw none (lives_none p before))
+    (console_stands : console.StandsFor fader_stands_for p old.console [])
+    (input_stands : live.StandsFor old.input []) (none : old.lost ≡ 0) (told : tells) where
+  stands : StandsFor fader_stands_for p old []
+  stands = record { console_stands = console_stands; input_stands = input_stands }
 
-  pub lived_whole : tells → ((happened : List Happening)
+  pub lived : Lives p (goes.since ++ []) before after new.lost
+  lived = goes.lived told p [] before stands (rw none (lives_none p before))
+
+  pub lived_whole : ((happened : List Happening)
       → StandsFor fader_stands_for p new happened → is_over (answers happened) ≡ true)
       → IsLived p before after new.lost
-  lived_whole told is_done = record {
+  lived_whole is_done = record {
     happened = goes.since ++ [];
-    lives = lived told;
+    lives = lived;
     over = is_done (goes.since ++ []) (goes.stands p [] stands);
   }

@@ -32,14 +32,22 @@ pub trait Booth {
     ghost state: { Self → BoothState };
 
     /// The moment of the clock, in milliseconds from the start of the night.
+    ///
+    /// # Errors
+    ///
+    /// Where the clock cannot be read. Then the night ends.
     fn moment(&mut self) -> Result<u64, LinkFault>
         ensures told { tells self.new → tells self.old }
         ensures ok { IfOk result (λ moment. tells self.new
             → state self.new ≡ happens (asked moment) (state self.old)) }
         ensures err { OnErr result (tells self.new → state self.new ≡ state self.old) };
 
-    /// Waits for what is typed, at most from `moment` to `due`, and writes it to the front of the
-    /// block.
+    /// Waits for what is typed, at most from `moment` to `due`, both in milliseconds from the start
+    /// of the night, and writes it to the front of the block.
+    ///
+    /// # Errors
+    ///
+    /// Where nothing can be waited for. Then the night ends.
     fn wait(&mut self, moment: u64, due: u64, block: &mut [u8; 4096]) -> Result<Heard, LinkFault>
         ensures told { tells self.new → tells self.old }
         ensures within { IfOk result IsWithin }
@@ -48,6 +56,10 @@ pub trait Booth {
         ensures err { OnErr result (tells self.new → state self.new ≡ state self.old) };
 
     /// Records a line, with its LF.
+    ///
+    /// # Errors
+    ///
+    /// Where the line is not in the record. The night goes on.
     fn keep(&mut self, line: &[u8]) -> Result<(), LinkFault>
         ensures told { tells self.new → tells self.old }
         ensures ok { OnOk result (tells self.new → state self.new
@@ -56,6 +68,10 @@ pub trait Booth {
             ≡ record (state self.old) { kept = with_failure (state self.old).kept }) };
 
     /// Shows a line, with its LF.
+    ///
+    /// # Errors
+    ///
+    /// Where the line is not shown. The night goes on.
     fn show(&mut self, line: &[u8]) -> Result<(), LinkFault>
         ensures told { tells self.new → tells self.old }
         ensures ok { OnOk result (tells self.new → state self.new

@@ -21,21 +21,16 @@ pub returns-in-Ok-clause-lived : goal.returns-in-Ok-clause-lived
 returns-in-Ok-clause-lived g c = λ begun booth link.
     of_each c.args.show.now _ _ c.in_ok-console.ensures.opened.stands
     (λ s stands. rw c.if-night-eq0.true at (lived_whole g.F.Fader.stands_for _ _ _ _ _
-    c.run.ensures.goes _ (record {
-      console_stands = stands;
-      input_stands = c.new.ensures.stands;
-    }) refl (booth, link) (λ happened. c.in-Ok.ensures.over _ happened)))
+    c.run.ensures.goes _ stands c.new.ensures.stands refl (booth, link)
+    (λ happened. c.in-Ok.ensures.over _ happened)))
 
 pub returns-in-Ok-2-clause-lived : goal.returns-in-Ok-2-clause-lived
 returns-in-Ok-2-clause-lived g c = λ begun booth link.
     of_each c.args.show.now _ _ c.in_ok-console.ensures.opened.stands
     (λ s stands. (
       omega (arith, c.if-night-eq0.false),
-      lived_whole g.F.Fader.stands_for _ _ _ _ _
-          c.run.ensures.goes _ (record {
-            console_stands = stands;
-            input_stands = c.new.ensures.stands;
-          }) refl (booth, link) (λ happened. c.in-Ok-2.ensures.over _ happened),
+      lived_whole g.F.Fader.stands_for _ _ _ _ _ c.run.ensures.goes _ stands
+          c.new.ensures.stands refl (booth, link) (λ happened. c.in-Ok-2.ensures.over _ happened),
     ))
 
 pub returns-clause-lived : goal.returns-clause-lived
@@ -44,8 +39,6 @@ returns-clause-lived g c = λ begun booth link.
     (λ s stands. (
       c.run.ensures.goes.since ++ [],
       c.run.new.self.lost,
-      lived g.F.Fader.stands_for _ _ _ _ _ c.run.ensures.goes _ (record {
-        console_stands = stands;
-        input_stands = c.new.ensures.stands;
-      }) refl (booth, link),
+      lived g.F.Fader.stands_for _ _ _ _ _ c.run.ensures.goes _ stands c.new.ensures.stands refl
+          (booth, link),
     ))

@@ -7,7 +7,7 @@ use Rattle.cueplayer_live.specs.Booth.{refused}
 use Rattle.cueplayer_live.specs.Night.{seen}
 use Rattle.cueplayer_live.proofs.Living.{Gives, carried_since, gives, goes_more, goes_none}
 use Rattle.cueplayer_live.proofs.Living.{goes_quietly, goes_waiting, helps, lives_more, overs}
-use Rattle.cueplayer_live.proofs.Living.{places, refuses, shows_since, waits, with_keys}
+use Rattle.cueplayer_live.proofs.Living.{places, refuses, shows_since, then_tells, waits, with_keys}
 use Rattle.cueplayer_live.proofs.Texts.{shown_by, shows_none}
 use Rattle.cueplayer_live.proofs.night.Night.go_on.Goals as goal
 
@@ -92,15 +92,10 @@ returns-in-Refused-clause-goes g c =
     (λ happened stands. refuses c.in-Refused.text c.in-Refused.why (answer_to happened moment)
     (c.in-Refused.ensures.tells happened stands))
     (λ tells p happened stands.
-    let is = c.in_ok-moment.ensures.ok (c.refuse.ensures.told tells.0) in
-    let none = shows_since moment _ _ _ (g.L.Link.offered c.args.link.now) is (shows_none _) in
-    rw (c.refuse.ensures.refused tells.0, c.as_slice.ensures.value) (record {
-      happened_is = none.happened_is;
-      offered_is = none.offered_is;
-      kept = none.kept;
-      shown = none.shown;
-      told_is = ap (λ told. refused c.in-Refused.text.items c.in-Refused.why ∷ told) none.told_is;
-    }))
+    then_tells moment (refused c.in-Refused.text.items c.in-Refused.why) _ _ _
+    (shows_since moment _ _ _ (g.L.Link.offered c.args.link.now)
+    (c.in_ok-moment.ensures.ok (c.refuse.ensures.told tells.0)) (shows_none _))
+    (rw c.as_slice.ensures.value at (c.refuse.ensures.refused tells.0)))
 
 pub returns-in-Over-clause-goes : goal.returns-in-Over-clause-goes
 returns-in-Over-clause-goes g c =

@@ -32,27 +32,11 @@ returns-in_err-go_on-clause-goes g c =
     goes_more g.F.Fader.stands_for _ _ _ _ _ _ _ _ c.loop-turn.invariant.goes next.goes
     (λ tells. (next.told_booth tells.0, next.told_link tells.1))
 
-pub returns-in_err-go_on-clause-told_booth : goal.returns-in_err-go_on-clause-told_booth
-returns-in_err-go_on-clause-told_booth g c =
-    λ tells. c.loop-turn.invariant.told_booth (c.go_on.ensures.told_booth tells)
-
-pub returns-in_err-go_on-clause-told_link : goal.returns-in_err-go_on-clause-told_link
-returns-in_err-go_on-clause-told_link g c =
-    λ tells. c.loop-turn.invariant.told_link (c.go_on.ensures.told_link tells)
-
 pub returns-then-branch-clause-goes : goal.returns-then-branch-clause-goes
 returns-then-branch-clause-goes g c =
     let next = c.go_on.ensures in
     goes_more g.F.Fader.stands_for _ _ _ _ _ _ _ _ c.loop-turn.invariant.goes next.goes
     (λ tells. (next.told_booth tells.0, next.told_link tells.1))
-
-pub returns-then-branch-clause-told_booth : goal.returns-then-branch-clause-told_booth
-returns-then-branch-clause-told_booth g c =
-    λ tells. c.loop-turn.invariant.told_booth (c.go_on.ensures.told_booth tells)
-
-pub returns-then-branch-clause-told_link : goal.returns-then-branch-clause-told_link
-returns-then-branch-clause-told_link g c =
-    λ tells. c.loop-turn.invariant.told_link (c.go_on.ensures.told_link tells)
 
 pub returns-then-branch-clause-over : goal.returns-then-branch-clause-over
 returns-then-branch-clause-over g c =
@@ -60,9 +44,3 @@ returns-then-branch-clause-over g c =
 
 pub returns-clause-goes : goal.returns-clause-goes
 returns-clause-goes g c = c.loop-turn.invariant.goes
-
-pub returns-clause-told_booth : goal.returns-clause-told_booth
-returns-clause-told_booth g c = c.loop-turn.invariant.told_booth
-
-pub returns-clause-told_link : goal.returns-clause-told_link
-returns-clause-told_link g c = c.loop-turn.invariant.told_link
