@@ -542,3 +542,6 @@ fn carry_out<F: Fader>(
     }
     Ok(())
 }
+
+#[cfg(test)]
+mod capacities;
