@@ -93,6 +93,7 @@ impl Booth for LiveBooth<'_> {
       kept = record { items = []; failures = 0 };
       shown = record { items = []; failures = 0 };
       told = [];
+      faults = 0;
     } };
 
     // The night asks for the moment at each turn, so what waits is offered again at each.

@@ -1,7 +1,8 @@
 -- A night that goes on, answer by answer.
 use Rattle.std.proofs.Common.{◌≡◌, ℕ, Bool, true, false, refl, ap, sym, ◌∙◌, List, [], ◌∷◌}
-use Rattle.std.proofs.Common.{◌++◌, append_assoc, append-nil, arith, ◌+◌}
-use Rattle.std.specs.Prelude.{if◌then◌else◌, cond, flat_map, min, reverse}
+use Rattle.std.proofs.Common.{◌++◌, append_assoc, append-nil, arith, ◌+◌, ◌≤◌, length}
+use Rattle.std.proofs.Common.{length-append, Err, Ok, Result}
+use Rattle.std.specs.Prelude.{OnErr, if◌then◌else◌, cond, flat_map, min, reverse}
 use Rattle.std.proofs.lemmas.Grind.{flat_map-append}
 use Rattle.std.proofs.lemmas.List.{reverse-append}
 use Rattle.std.proofs.lemmas.List.Sums.{sum_by-append}
@@ -26,10 +27,11 @@ use Rattle.live_input.specs.Night.{order, over, place, refusal, shown, tick, wai
 use Rattle.live_input.specs.Stands as live
 use Rattle.live_input.specs.Told.{IsGiven, Tells}
 use Rattle.cueplayer_live.specs.declared.night.Night.{Night}
-use Rattle.cueplayer_live.specs.Booth.{BoothState, Told, happens, is_told, keys, refused}
+use Rattle.cueplayer_live.specs.Booth.{BoothState, Told, fails, happens, is_told, keys, refused}
 use Rattle.cueplayer_live.specs.Night.{IsLived, Lives, Seen, seen, shown_in, told_in, told_of}
 use Rattle.cueplayer_live.specs.Shown.{Takes, help_text, shown_of, shown_place}
-use Rattle.cueplayer_live.specs.Stands.{CarriesOut, GoesOn, Shows, StandsFor, Waits, told_keys}
+use Rattle.cueplayer_live.specs.Stands.{BreaksOff, CarriesOut, GoesOn, Shows, StandsFor}
+use Rattle.cueplayer_live.specs.Stands.{Waits, told_keys}
 use Rattle.cueplayer_live.proofs.Texts.{takes_more, takes_none}
 
 -- ---- answers that give a line
@@ -149,6 +151,7 @@ pub record Steps (moment : ℕ) (told : List Told) (sends : List Send) (line tex
   pub kept : Takes before.booth.kept after.booth.kept line
   pub shown : Takes before.booth.shown after.booth.shown text
   pub told_is : after.booth.told ≡ told ++ before.booth.told
+  pub faults_are : after.booth.faults ≡ before.booth.faults
 
 -- something is told behind it
 pub then_tells : (moment : ℕ) (told : Told) (before middle after : BoothState)
@@ -162,6 +165,7 @@ then_tells moment told before middle after did is = rw is (record {
   kept = did.kept;
   shown = did.shown;
   told_is = ap (λ others. told ∷ others) did.told_is;
+  faults_are = did.faults_are;
 })
 
 -- and keys, where they were left out
@@ -186,6 +190,7 @@ shows_since moment before asks after offered is shows =
       kept = rw (ap (λ (b : BoothState). b.kept) rest) (takes_none before.kept);
       shown = rw is at shows.takes;
       told_is = ap (λ (b : BoothState). b.told) rest;
+      faults_are = ap (λ (b : BoothState). b.faults) rest;
     }
 
 -- a line was carried out, since a moment was asked
@@ -200,6 +205,7 @@ carried_since p history moment before asks after offered offers is did = record 
   kept = rw is at did.kept;
   shown = rw is at did.shown;
   told_is = did.told_is ∙ ap (λ (b : BoothState). b.told) is;
+  faults_are = did.faults_are ∙ ap (λ (b : BoothState). b.faults) is;
 }
 
 one_text : (line : List ℕ) (older : List (List ℕ))
@@ -239,6 +245,7 @@ module _ (p : Production) (happened : List Happening) (moment : ℕ) (start befo
         (takes_more _ _ _ _ _ lives.shown (rw (sym lives.lines_are) at did.shown));
     told_is = did.told_is ∙ ap (λ told. told_of answer ++ told) lives.told_is
         ∙ sym (append_assoc (told_of answer) (told_in given) start.booth.told);
+    faults_are = did.faults_are ∙ lives.faults_are;
     lost_is = lives.lost_is;
   }
 
@@ -269,6 +276,7 @@ module _ (p : Production) (happened : List Happening) (moment : ℕ) (start befo
             (takes_more _ _ _ _ _ lives.shown (rw older at did.shown));
         told_is = did.told_is ∙ ap (λ told. told_of answer ++ told) lives.told_is
             ∙ sym (append_assoc (told_of answer) (told_in given) start.booth.told);
+        faults_are = did.faults_are ∙ lives.faults_are;
         lost_is = let l = lives.lost_is in let m = more_failures (sends_of lives.run) sends in
             omega (arith, sum, counted, l, m);
       }
@@ -299,25 +307,44 @@ lives_waiting p since happened start before after none lives booth_is offered_is
       kept = rw (same, ap (λ (b : BoothState). b.kept) booth_is) lives.kept;
       shown = rw (same, ap (λ (b : BoothState). b.shown) booth_is) lives.shown;
       told_is = rw same (ap (λ (b : BoothState). b.told) booth_is ∙ lives.told_is);
+      faults_are = ap (λ (b : BoothState). b.faults) booth_is ∙ lives.faults_are;
       lost_is = lives.lost_is;
     }
 
 -- ---- nights that go on
 
+pub on_err : {A E X : Type 0} (r : Result A E) → X → OnErr r X
+on_err (Ok a) x = tt
+on_err (Err e) x = x
+
 module _ {F : Type 0} (fader_stands_for : F → List Start → Type 0) where
   -- what was done twice was done
   pub goes_more : (first next : Type 0) (old mid new : Night F) (before middle after : Seen)
+      (one : GoesOn fader_stands_for first old mid before middle)
+      (two : GoesOn fader_stands_for next mid new middle after) → (next → first)
+      → (goes : GoesOn fader_stands_for next old new before after)
+      × (length goes.since ≡ length two.since + length one.since)
+  goes_more first next old mid new before middle after one two tell = (
+    record {
+      since = two.since ++ one.since;
+      stands = λ p happened stands. rw (append_assoc two.since one.since happened)
+          (two.stands p _ (one.stands p happened stands));
+      lived = λ tells p happened start stands lives.
+          rw (append_assoc two.since one.since happened)
+          (two.lived tells p _ start (one.stands p happened stands)
+          (one.lived (tell tells) p happened start stands lives));
+    },
+    length-append two.since one.since,
+  )
+
+  pub breaks_more : (first next : Type 0) (old mid new : Night F) (before middle after : Seen)
       → GoesOn fader_stands_for first old mid before middle
-      → GoesOn fader_stands_for next mid new middle after → (next → first)
-      → GoesOn fader_stands_for next old new before after
-  goes_more first next old mid new before middle after one two tell = record {
-    since = two.since ++ one.since;
-    stands = λ p happened stands. rw (append_assoc two.since one.since happened)
-        (two.stands p _ (one.stands p happened stands));
-    lived = λ tells p happened start stands lives.
-        rw (append_assoc two.since one.since happened)
-        (two.lived tells p _ start (one.stands p happened stands)
-        (one.lived (tell tells) p happened start stands lives));
+      → BreaksOff fader_stands_for next mid new middle after → (next → first)
+      → BreaksOff fader_stands_for next old new before after
+  breaks_more first next old mid new before middle after one two tell = record {
+    middle = two.middle;
+    goes = (goes_more first next old mid new before middle _ one two.goes tell).0;
+    fails_at = two.fails_at;
   }
 
   pub goes_none : (tells : Type 0) (night : Night F) (before after : Seen)
@@ -326,6 +353,15 @@ module _ {F : Type 0} (fader_stands_for : F → List Start → Type 0) where
     since = [];
     stands = λ p happened stands. stands;
     lived = λ told p happened start stands lives. rw (same told) lives;
+  }
+
+  pub breaks_none : (tells : Type 0) (night : Night F) (before after : BoothState)
+      (offered : List Send) → (tells → after ≡ fails before)
+      → BreaksOff fader_stands_for tells night night (seen before offered) (seen after offered)
+  breaks_none tells night before after offered failed = record {
+    middle = before;
+    goes = goes_none tells night _ _ (λ told. refl);
+    fails_at = failed;
   }
 
   -- an answer that gives no line
@@ -340,22 +376,24 @@ module _ {F : Type 0} (fader_stands_for : F → List Start → Type 0) where
       → StandsFor fader_stands_for p old happened
       → Steps moment (told (ignored_keys (answers (asked moment ∷ happened)))) [] []
       (text p.show (history_of p.show (lines_given (answers happened)))) before after)
-      → GoesOn fader_stands_for tells old new before after
-  goes_quietly tells old new moment before after console_is lost_is input says did = record {
-    since = asked moment ∷ [];
-    stands = λ p happened stands. record {
-      console_stands = rw (
-        console_is,
-        (says happened stands.input_stands).no_line (lines_given (answers happened)),
-      )
-          stands.console_stands;
-      input_stands = input happened stands.input_stands;
-    };
-    lived = λ told p happened start stands lives.
-        let said = says happened stands.input_stands in
-        rw lost_is (lives_on p happened moment start before after lives said
-        (rw (said.told_is (answers happened)) (did told p happened stands)));
-  }
+      → (goes : GoesOn fader_stands_for tells old new before after) × (1 ≤ length goes.since)
+  goes_quietly tells old new moment before after console_is lost_is input says did = (
+    record {
+      since = asked moment ∷ [];
+      stands = λ p happened stands.
+          let said = says happened stands.input_stands in
+          record {
+            console_stands = rw (console_is, said.no_line (lines_given (answers happened)))
+                stands.console_stands;
+            input_stands = input happened stands.input_stands;
+          };
+      lived = λ told p happened start stands lives.
+          let said = says happened stands.input_stands in
+          rw lost_is (lives_on p happened moment start before after lives said
+          (rw (said.told_is (answers happened)) (did told p happened stands)));
+    },
+    omega arith,
+  )
 
   -- nothing was asked
   pub goes_waiting : (tells told : Type 0) (old new : Night F) (before after : Seen)
@@ -386,6 +424,7 @@ lives_none p before = record {
   kept = takes_none before.booth.kept;
   shown = takes_none before.booth.shown;
   told_is = refl;
+  faults_are = refl;
   lost_is = refl;
 }
 

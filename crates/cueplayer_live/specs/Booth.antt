@@ -1,5 +1,5 @@
 -- What a booth does, as contracts see it where it tells.
-use Rattle.std.specs.Prelude.{ℕ, ◌≤◌, List, ◌∷◌, take}
+use Rattle.std.specs.Prelude.{ℕ, ◌+◌, ◌≤◌, List, ◌∷◌, take}
 use Rattle.devices.specs.Tape.{Tape}
 use Rattle.live_input.specs.Night.{Happening, came, closed}
 use Rattle.live_input.specs.declared.reason.Reason.{Reason}
@@ -13,18 +13,23 @@ pub data Told : Type 0 where
   keys : Told
 
 -- what happened to the input of its night, the newest first; the lines that it recorded; what it
--- showed; and what it told, the newest first
+-- showed; what it told, the newest first; and how many looks at the clock and waits failed
 pub record BoothState : Type 0 where
   pub happened : List Happening
   pub kept : Tape ℕ
   pub shown : Tape ℕ
   pub told : List Told
+  pub faults : ℕ
 
 abbrev pub happens : Happening → BoothState → BoothState
 happens happening state = record state { happened = happening ∷ state.happened }
 
 abbrev pub is_told : Told → BoothState → BoothState
 is_told told state = record state { told = told ∷ state.told }
+
+-- the clock or a wait failed
+abbrev pub fails : BoothState → BoothState
+fails state = record state { faults = state.faults + 1 }
 
 -- what was heard: so many bytes at the front of the block, or the end of the input
 abbrev pub hears : Heard → List ℕ → BoothState → BoothState

@@ -1,6 +1,6 @@
 -- A live night: what is offered, recorded and shown of what happened to its input.
 use Rattle.std.specs.Prelude.{◌≡◌, ◌≤◌, ◌++◌, ℕ, min, true, false, if◌then◌else◌, List, [], ◌∷◌}
-use Rattle.std.specs.Prelude.{Result, Ok, Err}
+use Rattle.std.specs.Prelude.{◌⊎◌, length, Result, Ok, Err}
 use Rattle.std.specs.Option.{option_map_or}
 use Rattle.devices.specs.Send.{Send, failures_of}
 use Rattle.console.specs.Streams.{Production}
@@ -13,7 +13,7 @@ use Rattle.live_input.specs.Keys.{has_keys}
 use Rattle.live_input.specs.Laws.{text_of}
 use Rattle.live_input.specs.Night.{Answer, Happening, answers, is_over, line_of, lines_given, shown}
 use Rattle.live_input.specs.Night.{help, over, place, refusal, wait}
-use Rattle.cueplayer_live.specs.Booth.{BoothState, Told, keys, refused}
+use Rattle.cueplayer_live.specs.Booth.{BoothState, Told, fails, keys, refused}
 use Rattle.cueplayer_live.specs.Shown.{Takes, help_text, shown_of, shown_place}
 
 -- what a booth did, and what a link was offered
@@ -50,7 +50,8 @@ told_in (answer ∷ older) = told_of answer ++ told_in older
 -- the lines that a live input gives under these happenings were carried out: at each the link was
 -- offered what is due at it after the lines before, whatever sends failed; the lines were recorded,
 -- and answers, moves and what was asked for shown, as far as no call of the booth failed; what is
--- to be told was told; and so many packets were lost, or more than can be counted
+-- to be told was told; neither the clock nor a wait failed; and so many packets were lost, or more
+-- than can be counted
 pub record Lives (p : Production) (happened : List Happening) (before after : Seen) (lost : ℕ)
     : Type 0 where
   pub run : List Carried
@@ -61,6 +62,7 @@ pub record Lives (p : Production) (happened : List Happening) (before after : Se
   pub kept : Takes before.booth.kept after.booth.kept (text_of (lines_given (answers happened)))
   pub shown : Takes before.booth.shown after.booth.shown (shown_in p (answers happened) run)
   pub told_is : after.booth.told ≡ told_in (answers happened) ++ before.booth.told
+  pub faults_are : after.booth.faults ≡ before.booth.faults
   pub lost_is : lost ≡ min (failures_of (sends_of run)) 18446744073709551615
 
 -- a night that is over: three ticks after `end`
@@ -69,13 +71,21 @@ pub record IsLived (p : Production) (before after : Seen) (lost : ℕ) : Type 0 
   pub lives : Lives p happened before after lost
   pub over : is_over (answers happened) ≡ true
 
--- a night by its answer: it is over, and no packet was lost, or so many were; or the clock or what
--- is typed failed, and what was given before was carried out
+-- what ended a night that was lived so far: the clock or a wait failed; or it was asked what is next
+-- for 2^64 - 1 times, which at one a nanosecond are 584 years
+abbrev pub Breaks : List Happening → BoothState → BoothState → Type 0
+Breaks happened middle after =
+    (after ≡ fails middle) ⊎ ((after ≡ middle) × (18446744073709551615 ≤ length happened))
+
+-- a night by its answer: it is over, and no packet was lost, or so many were; or it broke off, and
+-- what was given before was carried out
 abbrev pub Lived : {X : Type 0} → Production → Result X RunFault → Seen → Seen → Type 0
 Lived p (Ok x) before after = IsLived p before after 0
 Lived p (Err (run.Lost n)) before after = (1 ≤ n) × IsLived p before after n
 Lived p (Err run.Device) before after =
-    (happened : List Happening) × (lost : ℕ) × Lives p happened before after lost
+    (happened : List Happening) × (lost : ℕ) × (middle : BoothState)
+    × Lives p happened before (seen middle after.offered) lost
+    × Breaks happened middle after.booth
 Lived p (Err _) before after = ⊥
 
 -- whether a night begins, or why not, as a play does; no line ends it

@@ -1,6 +1,7 @@
 -- Where a night on its way stands.
 -- Of use inside the crate: what its public calls answer is said without these.
-use Rattle.std.specs.Prelude.{◌≡◌, ◌++◌, ◌∷◌, [], ℕ, Bool, true, false, List, Option, None}
+use Rattle.std.specs.Prelude.{◌≡◌, ◌≤◌, ◌++◌, ◌∷◌, [], ℕ, Bool, true, false, List, length}
+use Rattle.std.specs.Prelude.{Option, None}
 use Rattle.devices.specs.Send.{Send, failures_of}
 use Rattle.fade_core.specs.Level.{Start}
 use Rattle.desk_core.specs.Played.{Act}
@@ -20,8 +21,8 @@ use Rattle.live_input.specs.Kept.{Kept}
 use Rattle.live_input.specs.Laws.{NothingIsAsked}
 use Rattle.live_input.specs.Stands as live
 use Rattle.cueplayer_live.specs.declared.night.Night.{Night}
-use Rattle.cueplayer_live.specs.Booth.{BoothState, is_told, keys}
-use Rattle.cueplayer_live.specs.Night.{Lives, Seen}
+use Rattle.cueplayer_live.specs.Booth.{BoothState, fails, is_told, keys}
+use Rattle.cueplayer_live.specs.Night.{Lives, Seen, seen}
 use Rattle.cueplayer_live.specs.Shown.{Takes, shown_of}
 
 abbrev pub is_accepted : Answer → Bool
@@ -54,6 +55,7 @@ pub record CarriesOut (p : Production) (history : List Act) (line : List ℕ) (b
   pub shown : Takes before.booth.shown after.booth.shown (shown_of p history (reading_of line)
       offers)
   pub told_is : after.booth.told ≡ before.booth.told
+  pub faults_are : after.booth.faults ≡ before.booth.faults
   pub lost_is : lost ≡ failures_of sends
 
 -- a night on its way stands for what happened to its input: its console has carried out the lines
@@ -75,6 +77,19 @@ pub record GoesOn {F : Type 0} (fader_stands_for : F → List Start → Type 0)
   pub lived : tell → (p : Production) (happened : List Happening) (start : Seen)
       → StandsFor fader_stands_for p old happened → Lives p happened start before old.lost
       → Lives p (since ++ happened) start after new.lost
+
+-- it has gone on, and then the clock or a wait failed
+pub record BreaksOff {F : Type 0} (fader_stands_for : F → List Start → Type 0)
+    (tell : Type 0) (old new : Night F) (before after : Seen) : Type 0 where
+  pub middle : BoothState
+  pub goes : GoesOn fader_stands_for tell old new before (seen middle after.offered)
+  pub fails_at : tell → after.booth ≡ fails middle
+
+-- it has gone on, and was asked what is next for as often as it can be
+pub record WearsOut {F : Type 0} (fader_stands_for : F → List Start → Type 0)
+    (tell : Type 0) (old new : Night F) (before after : Seen) : Type 0 where
+  pub goes : GoesOn fader_stands_for tell old new before after
+  pub turned : 18446744073709551615 ≤ length goes.since
 
 -- that keys were left out is told where they were
 abbrev pub told_keys : Bool → BoothState → BoothState

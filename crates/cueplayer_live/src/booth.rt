@@ -1,8 +1,8 @@
 ghost use Rattle.std.specs.Prelude.{◌≡◌, IfOk, OnOk, OnErr};
 ghost use Rattle.devices.specs.Tape.{with_more, with_failure};
 ghost use Rattle.live_input.specs.Night.{asked};
-ghost use Rattle.cueplayer_live.specs.Booth.{BoothState, IsWithin, happens, hears, is_told, keys};
-ghost use Rattle.cueplayer_live.specs.Booth.{refused};
+ghost use Rattle.cueplayer_live.specs.Booth.{BoothState, IsWithin, fails, happens, hears};
+ghost use Rattle.cueplayer_live.specs.Booth.{is_told, keys, refused};
 
 use devices::LinkFault;
 use live_input::Reason;
@@ -40,7 +40,7 @@ pub trait Booth {
         ensures told { tells self.new → tells self.old }
         ensures ok { IfOk result (λ moment. tells self.new
             → state self.new ≡ happens (asked moment) (state self.old)) }
-        ensures err { OnErr result (tells self.new → state self.new ≡ state self.old) };
+        ensures err { OnErr result (tells self.new → state self.new ≡ fails (state self.old)) };
 
     /// Waits for what is typed, at most from `moment` to `due`, both in milliseconds from the start
     /// of the night, and writes it to the front of the block.
@@ -53,7 +53,7 @@ pub trait Booth {
         ensures within { IfOk result IsWithin }
         ensures ok { IfOk result (λ heard. tells self.new
             → state self.new ≡ hears heard block.new (state self.old)) }
-        ensures err { OnErr result (tells self.new → state self.new ≡ state self.old) };
+        ensures err { OnErr result (tells self.new → state self.new ≡ fails (state self.old)) };
 
     /// Records a line, with its LF.
     ///

@@ -1,10 +1,12 @@
-ghost use Rattle.std.specs.Prelude.{◌≡◌, List, [], IfOk, OnOk, true};
+ghost use Rattle.std.specs.Prelude.{◌≡◌, ◌≤◌, ◌⊎◌, List, [], length, IfOk, OnErr, OnOk, true};
 ghost use Rattle.desk_core.specs.Played.{Act};
 ghost use Rattle.console.specs.Streams.{Production};
 ghost use Rattle.live_input.specs.Night.{Happening, answers, ignored_keys, is_over};
 ghost use Rattle.live_input.specs.Stands as live;
 ghost use Rattle.cueplayer_live.specs.Night.{seen};
-ghost use Rattle.cueplayer_live.specs.Stands.{GoesOn, StandsFor, Waits, told_keys};
+ghost use Rattle.cueplayer_live.specs.Booth.{fails};
+ghost use Rattle.cueplayer_live.specs.Stands.{BreaksOff, GoesOn, StandsFor, Waits, WearsOut};
+ghost use Rattle.cueplayer_live.specs.Stands.{told_keys};
 
 use crate::booth::{Booth, Heard};
 use crate::carry::carry_out;
@@ -34,9 +36,14 @@ impl<F: Fader> Night<F> {
             × StandsFor F.stands_for p self.old happened }
         ensures told_booth { B.tells booth.new → B.tells booth.old }
         ensures told_link { L.tells link.new → L.tells link.old }
-        ensures goes { GoesOn F.stands_for (B.tells booth.new × L.tells link.new)
-            self.old self.new (seen (B.state booth.old) (L.offered link.old))
-            (seen (B.state booth.new) (L.offered link.new)) }
+        ensures goes { OnOk result ((goes : GoesOn F.stands_for
+            (B.tells booth.new × L.tells link.new) self.old self.new
+            (seen (B.state booth.old) (L.offered link.old))
+            (seen (B.state booth.new) (L.offered link.new))) × (1 ≤ length goes.since)) }
+        ensures broke { OnErr result (BreaksOff F.stands_for
+            (B.tells booth.new × L.tells link.new) self.old self.new
+            (seen (B.state booth.old) (L.offered link.old))
+            (seen (B.state booth.new) (L.offered link.new))) }
         ensures over { IfOk result (λ over. over ≡ true → (p : Production)
             (happened : List Happening) → StandsFor F.stands_for p self.new happened
             → is_over (answers happened) ≡ true) }
@@ -81,8 +88,11 @@ impl<F: Fader> Night<F> {
         ensures told_booth { B.tells booth.new → B.tells booth.old }
         ensures console { self.new.console ≡ self.old.console }
         ensures lost { self.new.lost ≡ self.old.lost }
-        ensures stands { Waits (B.tells booth.new) self.old.input self.new.input
-            (B.state booth.old) (B.state booth.new) }
+        ensures stands { OnOk result (Waits (B.tells booth.new) self.old.input self.new.input
+            (B.state booth.old) (B.state booth.new)) }
+        ensures unchanged { OnErr result (self.new ≡ self.old) }
+        ensures broke { OnErr result (B.tells booth.new
+            → B.state booth.new ≡ fails (B.state booth.old)) }
     {
         let mut block = [0; 4096];
         match booth.wait(moment, due, &mut block)? {
@@ -99,9 +109,16 @@ impl<F: Fader> Night<F> {
             × StandsFor F.stands_for p self.old happened }
         ensures told_booth { B.tells booth.new → B.tells booth.old }
         ensures told_link { L.tells link.new → L.tells link.old }
-        ensures goes { GoesOn F.stands_for (B.tells booth.new × L.tells link.new)
+        ensures goes { OnOk result (GoesOn F.stands_for (B.tells booth.new × L.tells link.new)
             self.old self.new (seen (B.state booth.old) (L.offered link.old))
-            (seen (B.state booth.new) (L.offered link.new)) }
+            (seen (B.state booth.new) (L.offered link.new))) }
+        ensures broke { OnErr result (BreaksOff F.stands_for
+            (B.tells booth.new × L.tells link.new) self.old self.new
+            (seen (B.state booth.old) (L.offered link.old))
+            (seen (B.state booth.new) (L.offered link.new))
+            ⊎ WearsOut F.stands_for (B.tells booth.new × L.tells link.new) self.old self.new
+            (seen (B.state booth.old) (L.offered link.old))
+            (seen (B.state booth.new) (L.offered link.new))) }
         ensures over { OnOk result ((p : Production) (happened : List Happening)
             → StandsFor F.stands_for p self.new happened → is_over (answers happened) ≡ true) }
     {

@@ -52,7 +52,16 @@ pub nights_plays : NightsArePlays
 nights_plays p (Ok done) before after is = lives_plays p is.happened before after 0 is.lives
 nights_plays p (Err (run.Lost n)) before after is =
     lives_plays p is.1.happened before after n is.1.lives
-nights_plays p (Err run.Device) before after is = lives_plays p is.0 before after is.1 is.2
+nights_plays p (Err run.Device) before after is =
+    let night = lives_plays p is.0 before (seen is.2 after.offered) is.1 is.3 in
+    record {
+      happened = night.happened;
+      happened_is = elim is.4 [
+        | inl broke ↦ ap (λ (b : BoothState). b.happened) broke ∙ night.happened_is
+        | inr worn ↦ ap (λ (b : BoothState). b.happened) worn.0 ∙ night.happened_is
+      ];
+      has_played = night.has_played;
+    }
 nights_plays p (Err _) before after is = absurd is
 
 -- ---- what was typed

@@ -1,4 +1,4 @@
-use Rattle.std.proofs.Common.{refl, arith, [], ◌++◌}
+use Rattle.std.proofs.Common.{inl, inr, length-append, refl, arith, [], ◌++◌}
 use Rattle.cueplayer_play.proofs.Beginning.{of_each}
 use Rattle.cueplayer_live.proofs.Living.{lived, lived_whole}
 use Rattle.cueplayer_live.proofs.run.live.Goals as goal
@@ -21,7 +21,7 @@ pub returns-in-Ok-clause-lived : goal.returns-in-Ok-clause-lived
 returns-in-Ok-clause-lived g c = λ begun booth link.
     of_each c.args.show.now _ _ c.in_ok-console.ensures.opened.stands
     (λ s stands. rw c.if-night-eq0.true at (lived_whole g.F.Fader.stands_for _ _ _ _ _
-    c.run.ensures.goes _ stands c.new.ensures.stands refl (booth, link)
+    c.in-Ok.ensures.goes _ stands c.new.ensures.stands refl (booth, link)
     (λ happened. c.in-Ok.ensures.over _ happened)))
 
 pub returns-in-Ok-2-clause-lived : goal.returns-in-Ok-2-clause-lived
@@ -29,16 +29,28 @@ returns-in-Ok-2-clause-lived g c = λ begun booth link.
     of_each c.args.show.now _ _ c.in_ok-console.ensures.opened.stands
     (λ s stands. (
       omega (arith, c.if-night-eq0.false),
-      lived_whole g.F.Fader.stands_for _ _ _ _ _ c.run.ensures.goes _ stands
+      lived_whole g.F.Fader.stands_for _ _ _ _ _ c.in-Ok-2.ensures.goes _ stands
           c.new.ensures.stands refl (booth, link) (λ happened. c.in-Ok-2.ensures.over _ happened),
     ))
 
 pub returns-clause-lived : goal.returns-clause-lived
 returns-clause-lived g c = λ begun booth link.
     of_each c.args.show.now _ _ c.in_ok-console.ensures.opened.stands
-    (λ s stands. (
-      c.run.ensures.goes.since ++ [],
-      c.run.new.self.lost,
-      lived g.F.Fader.stands_for _ _ _ _ _ c.run.ensures.goes _ stands c.new.ensures.stands refl
-          (booth, link),
-    ))
+    (λ s stands. elim c.in-Err.ensures.broke [
+      | inl broke ↦ (
+          broke.goes.since ++ [],
+          c.run.new.self.lost,
+          broke.middle,
+          lived g.F.Fader.stands_for _ _ _ _ _ broke.goes _ stands c.new.ensures.stands refl
+              (booth, link),
+          inl (broke.fails_at (booth, link)),
+        )
+      | inr worn ↦ (
+          worn.goes.since ++ [],
+          c.run.new.self.lost,
+          g.B.Booth.state c.run.new.booth,
+          lived g.F.Fader.stands_for _ _ _ _ _ worn.goes _ stands c.new.ensures.stands refl
+              (booth, link),
+          inr (refl, omega (arith, worn.turned, length-append worn.goes.since [])),
+        )
+    ])

@@ -1,20 +1,21 @@
-use Rattle.std.proofs.Common.{◌∙◌, refl, ap, sym, List, [], ◌∷◌}
+use Rattle.std.proofs.Common.{arith, ◌≤◌, ◌∙◌, refl, ap, sym, List, [], ◌∷◌}
 use Rattle.live_input.specs.Night.{Happening, answer_to, answers, asked, ignored_keys, lines_given}
 use Rattle.live_input.specs.Night.{stage, stage_by}
 use Rattle.live_input.specs.Stands as live
 use Rattle.live_input.proofs.Nights.{over_is}
 use Rattle.cueplayer_live.specs.Booth.{refused}
 use Rattle.cueplayer_live.specs.Night.{seen}
-use Rattle.cueplayer_live.proofs.Living.{Gives, carried_since, gives, goes_more, goes_none}
-use Rattle.cueplayer_live.proofs.Living.{goes_quietly, goes_waiting, helps, lives_more, overs}
-use Rattle.cueplayer_live.proofs.Living.{places, refuses, shows_since, then_tells, waits, with_keys}
+use Rattle.cueplayer_live.proofs.Living.{Gives, breaks_more, breaks_none, carried_since, gives}
+use Rattle.cueplayer_live.proofs.Living.{goes_more, goes_quietly, goes_waiting, helps, lives_more, on_err}
+use Rattle.cueplayer_live.proofs.Living.{overs, places, refuses, shows_since, then_tells, waits}
+use Rattle.cueplayer_live.proofs.Living.{with_keys}
 use Rattle.cueplayer_live.proofs.Texts.{shown_by, shows_none}
 use Rattle.cueplayer_live.proofs.night.Night.go_on.Goals as goal
 
-pub returns-in_err-moment-clause-goes : goal.returns-in_err-moment-clause-goes
-returns-in_err-moment-clause-goes g c = goes_none g.F.Fader.stands_for _ _ _ _
-    (λ tells. ap (λ state. seen state (g.L.Link.offered c.args.link.now))
-    (c.in_err-moment.ensures.err tells.0))
+pub returns-in_err-moment-clause-broke : goal.returns-in_err-moment-clause-broke
+returns-in_err-moment-clause-broke g c = on_err _ (breaks_none g.F.Fader.stands_for
+    (g.B.Booth.tells c.moment.new.self × g.L.Link.tells c.args.link.now) _ _ _ _
+    (λ tells. c.in_err-moment.ensures.err tells.0))
 
 pub carry_out-lost-requires-clause-spelled : goal.carry_out-lost-requires-clause-spelled
 carry_out-lost-requires-clause-spelled g c =
@@ -30,31 +31,34 @@ returns-in-Line-clause-goes g c =
     → Gives (answer_to happened moment) c.in-Line.given =
     λ happened stands. gives c.in-Line.given (answer_to happened moment)
     (c.in-Line.ensures.tells happened stands) in
-    record {
-      since = asked moment ∷ [];
-      stands = λ p happened stands.
-          let given = giving happened stands.input_stands in
-          record {
-            console_stands = rw (given.lines_are (lines_given (answers happened)))
-                (c.carry_out-lost.ensures.stands given.line given.is_given p _
-                stands.console_stands);
-            input_stands = c.next.ensures.stands happened stands.input_stands;
-          };
-      lived = λ tells p happened start stands lives.
-          let given = giving happened stands.input_stands in
-          let carried = c.tell_keys.ensures.told_booth tells.0 in
-          let did = c.carry_out-lost.ensures.carried_out given.line given.is_given p _
-          stands.console_stands carried tells.1 in
-          let told = c.tell_keys.ensures.tells (asked moment ∷ happened)
-          (c.next.ensures.stands happened stands.input_stands) tells.0 in
-          lives_more p happened moment start _ _ lives c.in-Line.given given
-          c.carry_out-lost.result c.saturating_add-self.result did.offers did.sends
-          did.are_offered
-          (rw (given.told_is (answers happened)) (with_keys moment _ _ _ _
-          (carried_since p _ moment _ _ _ _ _
-          (c.in_ok-moment.ensures.ok (c.carry_out-lost.ensures.told_booth carried)) did) told))
-          did.lost_is c.saturating_add-self.ensures;
-    }
+    (
+      record {
+        since = asked moment ∷ [];
+        stands = λ p happened stands.
+            let given = giving happened stands.input_stands in
+            record {
+              console_stands = rw (given.lines_are (lines_given (answers happened)))
+                  (c.carry_out-lost.ensures.stands given.line given.is_given p _
+                  stands.console_stands);
+              input_stands = c.next.ensures.stands happened stands.input_stands;
+            };
+        lived = λ tells p happened start stands lives.
+            let given = giving happened stands.input_stands in
+            let carried = c.tell_keys.ensures.told_booth tells.0 in
+            let did = c.carry_out-lost.ensures.carried_out given.line given.is_given p _
+            stands.console_stands carried tells.1 in
+            let told = c.tell_keys.ensures.tells (asked moment ∷ happened)
+            (c.next.ensures.stands happened stands.input_stands) tells.0 in
+            lives_more p happened moment start _ _ lives c.in-Line.given given
+            c.carry_out-lost.result c.saturating_add-self.result did.offers did.sends
+            did.are_offered
+            (rw (given.told_is (answers happened)) (with_keys moment _ _ _ _
+            (carried_since p _ moment _ _ _ _ _
+            (c.in_ok-moment.ensures.ok (c.carry_out-lost.ensures.told_booth carried)) did) told))
+            did.lost_is c.saturating_add-self.ensures;
+      },
+      omega arith,
+    )
 
 pub returns-in-Where-clause-goes : goal.returns-in-Where-clause-goes
 returns-in-Where-clause-goes g c =
@@ -124,26 +128,30 @@ returns-in_ok-wait-in-Until-clause-goes g c =
     let waited = c.in_ok-wait-in-Until.ensures in
     let night = record c.args.self.now { input = c.next.new.self } in
     let middle = seen (g.B.Booth.state c.moment.new.self) (g.L.Link.offered c.args.link.now) in
-    goes_more g.F.Fader.stands_for _ _ _ night _ _ middle _
-    (goes_quietly g.F.Fader.stands_for _ _ night moment _ middle refl refl c.next.ensures.stands
+    let quiet = goes_quietly g.F.Fader.stands_for (g.B.Booth.tells c.moment.new.self) _ night moment
+    _ middle refl refl c.next.ensures.stands
     (λ happened stands. waits c.in-Until.due (answer_to happened moment)
     (c.in-Until.ensures.tells happened stands))
     (λ tells p happened stands. shows_since moment _ _ _ _ (c.in_ok-moment.ensures.ok tells)
-    (shows_none _)))
+    (shows_none _)) in
+    let all = goes_more g.F.Fader.stands_for _ _ _ night _ _ middle _ quiet.0
     (goes_waiting g.F.Fader.stands_for _ _ night _ middle _ waited.console waited.lost
-    waited.stands (λ tells. tells.0) refl) (λ tells. waited.told_booth tells.0)
+    waited.stands (λ tells. tells.0) refl) (λ tells. waited.told_booth tells.0) in
+    (all.0, omega (arith, all.1, quiet.1))
 
-pub returns-in_err-wait-in-Until-clause-goes : goal.returns-in_err-wait-in-Until-clause-goes
-returns-in_err-wait-in-Until-clause-goes g c =
+pub returns-in_err-wait-in-Until-clause-broke : goal.returns-in_err-wait-in-Until-clause-broke
+returns-in_err-wait-in-Until-clause-broke g c =
     let moment = c.in_ok-moment.moment in
     let waited = c.in_err-wait-in-Until.ensures in
     let night = record c.args.self.now { input = c.next.new.self } in
-    let middle = seen (g.B.Booth.state c.moment.new.self) (g.L.Link.offered c.args.link.now) in
-    goes_more g.F.Fader.stands_for _ _ _ night _ _ middle _
-    (goes_quietly g.F.Fader.stands_for _ _ night moment _ middle refl refl c.next.ensures.stands
+    let quiet = goes_quietly g.F.Fader.stands_for (g.B.Booth.tells c.moment.new.self) _ night moment
+    _ (seen (g.B.Booth.state c.moment.new.self) (g.L.Link.offered c.args.link.now)) refl refl
+    c.next.ensures.stands
     (λ happened stands. waits c.in-Until.due (answer_to happened moment)
     (c.in-Until.ensures.tells happened stands))
     (λ tells p happened stands. shows_since moment _ _ _ _ (c.in_ok-moment.ensures.ok tells)
-    (shows_none _)))
-    (goes_waiting g.F.Fader.stands_for _ _ night _ middle _ waited.console waited.lost
-    waited.stands (λ tells. tells.0) refl) (λ tells. waited.told_booth tells.0)
+    (shows_none _)) in
+    rw waited.unchanged (on_err _ (breaks_more g.F.Fader.stands_for _ _ _ night night _ _ _ quiet.0
+    (breaks_none g.F.Fader.stands_for
+    (g.B.Booth.tells c.wait.new.booth × g.L.Link.tells c.args.link.now) night _ _ _
+    (λ tells. waited.broke tells.0)) (λ tells. waited.told_booth tells.0)))

@@ -1,8 +1,9 @@
+use Rattle.std.proofs.Common.{◌≤◌, length}
 use Rattle.cueplayer_live.specs.Night.{seen}
 use Rattle.cueplayer_live.specs.Stands.{GoesOn}
 use Rattle.cueplayer_live.proofs.night.Night.run.Given as goal
 
--- the night has gone on so far
+-- the night has gone on so far, an answer a turn
 abbrev pub invariant-loop-turn : goal.invariant-loop-turn
 invariant-loop-turn g l =
     let B = g.B.Booth in
@@ -13,4 +14,5 @@ invariant-loop-turn g l =
       goes : GoesOn g.F.Fader.stands_for (B.tells l.booth × L.tells l.link) l.fn.self l.self
           (seen (B.state l.fn.booth) (L.offered l.fn.link))
           (seen (B.state l.booth) (L.offered l.link));
+      turned : l._turn ≤ length goes.since;
     }
