@@ -93,6 +93,7 @@ impl Booth for LiveBooth<'_> {
       kept = record { items = []; failures = 0 };
       shown = record { items = []; failures = 0 };
       told = [];
+      waited = [];
       faults = 0;
     } };
 

@@ -163,6 +163,8 @@ module _ (p : Production) (history : List Act) (moment : ℕ) (call : Call) (ans
             all.takes;
         told_is = ap (λ (s : BoothState). s.told) all.rest
             ∙ ap (λ (s : BoothState). s.told) keeps.rest;
+        waited_is = ap (λ (s : BoothState). s.waited) all.rest
+            ∙ ap (λ (s : BoothState). s.waited) keeps.rest;
         faults_are = ap (λ (s : BoothState). s.faults) all.rest
             ∙ ap (λ (s : BoothState). s.faults) keeps.rest;
         lost_is = rw (append_cancel_left before did.sends answered.sends

@@ -28,7 +28,9 @@ use Rattle.live_input.specs.Stands as live
 use Rattle.live_input.specs.Told.{IsGiven, Tells}
 use Rattle.cueplayer_live.specs.declared.night.Night.{Night}
 use Rattle.cueplayer_live.specs.Booth.{BoothState, Told, fails, happens, is_told, keys, refused}
+use Rattle.cueplayer_live.specs.Booth.{waits_until}
 use Rattle.cueplayer_live.specs.Night.{IsLived, Lives, Seen, seen, shown_in, told_in, told_of}
+use Rattle.cueplayer_live.specs.Night.{waited_in, waits_of}
 use Rattle.cueplayer_live.specs.Shown.{Takes, help_text, shown_of, shown_place}
 use Rattle.cueplayer_live.specs.Stands.{BreaksOff, CarriesOut, GoesOn, Shows, StandsFor}
 use Rattle.cueplayer_live.specs.Stands.{Waits, told_keys}
@@ -45,6 +47,7 @@ pub record Gives (answer : Answer) (given : GivenLine) : Type 0 where
       ++ shown_of p (history_of p.show (lines_in run)) (reading_of newest.line) newest.offers
   pub told_is : (older : List Answer)
       → told_of answer ≡ (if ignored_keys (answer ∷ older) then keys ∷ [] else [])
+  pub waits_none : waits_of answer ≡ []
 
 pub gives : (given : GivenLine) (answer : Answer) → Tells (Line given) answer → Gives answer given
 gives given (order moment line) t = record {
@@ -53,6 +56,7 @@ gives given (order moment line) t = record {
   lines_are = λ _. refl;
   shown_is = λ _ _ _ _. refl;
   told_is = λ _. refl;
+  waits_none = refl;
 }
 gives given (dim moment typed) t = record {
   line = at_moment moment _;
@@ -60,6 +64,7 @@ gives given (dim moment typed) t = record {
   lines_are = λ _. refl;
   shown_is = λ _ _ _ _. refl;
   told_is = λ _. refl;
+  waits_none = refl;
 }
 gives given (close moment typed) t = record {
   line = at_moment moment _;
@@ -67,6 +72,7 @@ gives given (close moment typed) t = record {
   lines_are = λ _. refl;
   shown_is = λ _ _ _ _. refl;
   told_is = λ _. refl;
+  waits_none = refl;
 }
 gives given (tick moment) t = record {
   line = at_moment moment _;
@@ -74,6 +80,7 @@ gives given (tick moment) t = record {
   lines_are = λ _. refl;
   shown_is = λ _ _ _ _. refl;
   told_is = λ _. refl;
+  waits_none = refl;
 }
 gives given _ t = absurd t
 
@@ -82,61 +89,67 @@ gives given _ t = absurd t
 -- what such an answer says: what is shown at it after a history, and what is told, where keys were
 -- left out of its line or not
 pub record Says (answer : Answer) (text : Tables → List Act → List ℕ) (told : Bool → List Told)
-    : Type 0 where
+    (waited : List ℕ) : Type 0 where
   pub no_line : (older : List (List ℕ)) → with_given answer older ≡ older
   pub shown_is : (p : Production) (older : List Answer) (run : List Carried)
       → shown_in p (answer ∷ older) run
       ≡ shown_in p older run ++ text p.show (history_of p.show (lines_in run))
   pub told_is : (older : List Answer) → told_of answer ≡ told (ignored_keys (answer ∷ older))
+  pub waits_are : waits_of answer ≡ waited
 
 abbrev pub told_if : Bool → List Told
 told_if ignored = if ignored then keys ∷ [] else []
 
 pub places : (when : ℕ) (answer : Answer) → Tells (Where when) answer
-    → Says answer (λ show history. shown_place show history when) told_if
+    → Says answer (λ show history. shown_place show history when) told_if []
 places when (place moment line) t = record {
   no_line = λ _. refl;
   shown_is = λ p older run. ap (λ m. shown_in p older run
       ++ shown_place p.show (history_of p.show (lines_in run)) m) (sym t);
   told_is = λ _. refl;
+  waits_are = refl;
 }
 places when _ t = absurd t
 
-pub helps : (answer : Answer) → Tells Help answer → Says answer (λ _ _. help_text) told_if
+pub helps : (answer : Answer) → Tells Help answer → Says answer (λ _ _. help_text) told_if []
 helps (help line) t = record {
   no_line = λ _. refl;
   shown_is = λ _ _ _. refl;
   told_is = λ _. refl;
+  waits_are = refl;
 }
 helps _ t = absurd t
 
 pub refuses : (text : _) (reason : Reason) (answer : Answer) → Tells (Refused text reason) answer
-    → Says answer (λ _ _. []) (λ _. refused text.items reason ∷ [])
+    → Says answer (λ _ _. []) (λ _. refused text.items reason ∷ []) []
 refuses text reason (refusal why line) t = record {
   no_line = λ _. refl;
   shown_is = λ p older run. sym (append-nil (shown_in p older run));
   told_is = λ _. ap (λ w. refused (shown line) w ∷ []) (sym t.1)
       ∙ ap (λ bytes. refused bytes reason ∷ []) (sym t.0);
+  waits_are = refl;
 }
 refuses text reason _ t = absurd t
 
 pub waits : (until : ℕ) (answer : Answer) → Tells (Until until) answer
-    → Says answer (λ _ _. []) (λ _. [])
+    → Says answer (λ _ _. []) (λ _. []) (until ∷ [])
 waits until (wait due) t = record {
   no_line = λ _. refl;
   shown_is = λ p older run. sym (append-nil (shown_in p older run));
   told_is = λ _. refl;
+  waits_are = ap (λ n. n ∷ []) (sym t);
 }
 waits until _ t = absurd t
 
 pub overs : (answer : Answer) → Tells Over answer
-    → (answer ≡ over) × Says answer (λ _ _. []) (λ _. [])
+    → (answer ≡ over) × Says answer (λ _ _. []) (λ _. []) []
 overs over t = (
   refl,
   record {
     no_line = λ _. refl;
     shown_is = λ p older run. sym (append-nil (shown_in p older run));
     told_is = λ _. refl;
+    waits_are = refl;
   },
 )
 overs _ t = absurd t
@@ -144,43 +157,60 @@ overs _ t = absurd t
 -- ---- one step
 
 -- what was done since a moment was asked: what was told, offered, recorded and shown
-pub record Steps (moment : ℕ) (told : List Told) (sends : List Send) (line text : List ℕ)
-    (before after : Seen) : Type 0 where
+pub record Steps (moment : ℕ) (told : List Told) (waited : List ℕ) (sends : List Send)
+    (line text : List ℕ) (before after : Seen) : Type 0 where
   pub happened_is : after.booth.happened ≡ asked moment ∷ before.booth.happened
   pub offered_is : after.offered ≡ before.offered ++ sends
   pub kept : Takes before.booth.kept after.booth.kept line
   pub shown : Takes before.booth.shown after.booth.shown text
   pub told_is : after.booth.told ≡ told ++ before.booth.told
+  pub waited_is : after.booth.waited ≡ waited ++ before.booth.waited
   pub faults_are : after.booth.faults ≡ before.booth.faults
 
 -- something is told behind it
 pub then_tells : (moment : ℕ) (told : Told) (before middle after : BoothState)
     {offered offers sends : List Send} {line text : List ℕ}
-    → Steps moment [] sends line text (seen before offered) (seen middle offers)
+    → Steps moment [] [] sends line text (seen before offered) (seen middle offers)
     → after ≡ is_told told middle
-    → Steps moment (told ∷ []) sends line text (seen before offered) (seen after offers)
+    → Steps moment (told ∷ []) [] sends line text (seen before offered) (seen after offers)
 then_tells moment told before middle after did is = rw is (record {
   happened_is = did.happened_is;
   offered_is = did.offered_is;
   kept = did.kept;
   shown = did.shown;
   told_is = ap (λ others. told ∷ others) did.told_is;
+  waited_is = did.waited_is;
   faults_are = did.faults_are;
 })
 
--- and keys, where they were left out
+-- it is waited behind it
+pub then_waits : (moment due : ℕ) (before middle : BoothState) (offered offers : List Send)
+    → Steps moment [] [] [] [] [] (seen before offered) (seen middle offers)
+    → Steps moment [] (due ∷ []) [] [] [] (seen before offered)
+    (seen (waits_until due middle) offers)
+then_waits moment due before middle offered offers did = record {
+  happened_is = did.happened_is;
+  offered_is = did.offered_is;
+  kept = did.kept;
+  shown = did.shown;
+  told_is = did.told_is;
+  waited_is = ap (λ others. due ∷ others) did.waited_is;
+  faults_are = did.faults_are;
+}
+
+-- and keys are told, where they were left out
 pub with_keys : (moment : ℕ) (ignored : Bool) (before middle after : BoothState)
     {offered offers sends : List Send} {line text : List ℕ}
-    → Steps moment [] sends line text (seen before offered) (seen middle offers)
+    → Steps moment [] [] sends line text (seen before offered) (seen middle offers)
     → after ≡ told_keys ignored middle
-    → Steps moment (told_if ignored) sends line text (seen before offered) (seen after offers)
+    → Steps moment (told_if ignored) [] sends line text (seen before offered) (seen after offers)
 with_keys moment true before middle after did is = then_tells moment keys before middle after did is
 with_keys moment false before middle after did is = rw is did
 
 -- a text was shown, since a moment was asked
 pub shows_since : (moment : ℕ) (before asks after : BoothState) (offered : List Send)
     {text : List ℕ} → asks ≡ happens (asked moment) before → Shows asks after text
-    → Steps moment [] [] [] text (seen before offered) (seen after offered)
+    → Steps moment [] [] [] [] text (seen before offered) (seen after offered)
 shows_since moment before asks after offered is shows =
     let rest : after ≡ record (happens (asked moment) before) { shown = after.shown } =
     shows.rest ∙ ap (λ (b : BoothState). record b { shown = after.shown }) is in
@@ -190,6 +220,7 @@ shows_since moment before asks after offered is shows =
       kept = rw (ap (λ (b : BoothState). b.kept) rest) (takes_none before.kept);
       shown = rw is at shows.takes;
       told_is = ap (λ (b : BoothState). b.told) rest;
+      waited_is = ap (λ (b : BoothState). b.waited) rest;
       faults_are = ap (λ (b : BoothState). b.faults) rest;
     }
 
@@ -197,7 +228,7 @@ shows_since moment before asks after offered is shows =
 pub carried_since : (p : Production) (history : List Act) (moment : ℕ) (before asks after : BoothState)
     (offered offers : List Send) {line : List ℕ} {lost : ℕ} → asks ≡ happens (asked moment) before
     → (did : CarriesOut p history line (seen asks offered) (seen after offers) lost)
-    → Steps moment [] did.sends (line ++ 10 ∷ [])
+    → Steps moment [] [] did.sends (line ++ 10 ∷ [])
     (shown_of p history (reading_of line) did.offers) (seen before offered) (seen after offers)
 carried_since p history moment before asks after offered offers is did = record {
   happened_is = did.happened_is ∙ ap (λ (b : BoothState). b.happened) is;
@@ -205,6 +236,7 @@ carried_since p history moment before asks after offered offers is did = record 
   kept = rw is at did.kept;
   shown = rw is at did.shown;
   told_is = did.told_is ∙ ap (λ (b : BoothState). b.told) is;
+  waited_is = did.waited_is ∙ ap (λ (b : BoothState). b.waited) is;
   faults_are = did.faults_are ∙ ap (λ (b : BoothState). b.faults) is;
 }
 
@@ -228,12 +260,12 @@ module _ (p : Production) (happened : List Happening) (moment : ℕ) (start befo
   answer = answer_to happened moment
 
   -- an answer that gives no line
-  pub lives_on : {text : Tables → List Act → List ℕ} {told : Bool → List Told}
-      → Says answer text told
-      → Steps moment (told_of answer) [] []
+  pub lives_on : {text : Tables → List Act → List ℕ} {told : Bool → List Told} {waited : List ℕ}
+      → Says answer text told waited
+      → Steps moment (told_of answer) waited [] []
       (text p.show (history_of p.show (lines_given given))) before after
       → Lives p (asked moment ∷ happened) start after lost
-  lives_on says did = record {
+  lives_on {text = text} {told = told} {waited = waited} says did = record {
     run = lives.run;
     lines_are = lives.lines_are ∙ sym (says.no_line (lines_given given));
     is_run = lives.is_run;
@@ -245,6 +277,8 @@ module _ (p : Production) (happened : List Happening) (moment : ℕ) (start befo
         (takes_more _ _ _ _ _ lives.shown (rw (sym lives.lines_are) at did.shown));
     told_is = did.told_is ∙ ap (λ told. told_of answer ++ told) lives.told_is
         ∙ sym (append_assoc (told_of answer) (told_in given) start.booth.told);
+    waited_is = rw says.waits_are (did.waited_is ∙ ap (λ others. waited ++ others) lives.waited_is
+        ∙ sym (append_assoc waited (waited_in given) start.booth.waited));
     faults_are = did.faults_are ∙ lives.faults_are;
     lost_is = lives.lost_is;
   }
@@ -254,7 +288,7 @@ module _ (p : Production) (happened : List Happening) (moment : ℕ) (start befo
       (offers : List _) (sends : List Send)
       → AreOffered p.source
       (due_after p (history_of p.show (lines_given given)) (reading_of giving.line)) sends offers
-      → Steps moment (told_of answer) sends (giving.line ++ 10 ∷ [])
+      → Steps moment (told_of answer) [] sends (giving.line ++ 10 ∷ [])
       (shown_of p (history_of p.show (lines_given given)) (reading_of giving.line) offers)
       before after
       → count ≡ failures_of sends → after_lost ≡ min (lost + count) 18446744073709551615
@@ -276,6 +310,7 @@ module _ (p : Production) (happened : List Happening) (moment : ℕ) (start befo
             (takes_more _ _ _ _ _ lives.shown (rw older at did.shown));
         told_is = did.told_is ∙ ap (λ told. told_of answer ++ told) lives.told_is
             ∙ sym (append_assoc (told_of answer) (told_in given) start.booth.told);
+        waited_is = rw giving.waits_none (did.waited_is ∙ lives.waited_is);
         faults_are = did.faults_are ∙ lives.faults_are;
         lost_is = let l = lives.lost_is in let m = more_failures (sends_of lives.run) sends in
             omega (arith, sum, counted, l, m);
@@ -307,6 +342,7 @@ lives_waiting p since happened start before after none lives booth_is offered_is
       kept = rw (same, ap (λ (b : BoothState). b.kept) booth_is) lives.kept;
       shown = rw (same, ap (λ (b : BoothState). b.shown) booth_is) lives.shown;
       told_is = rw same (ap (λ (b : BoothState). b.told) booth_is ∙ lives.told_is);
+      waited_is = rw same (ap (λ (b : BoothState). b.waited) booth_is ∙ lives.waited_is);
       faults_are = ap (λ (b : BoothState). b.faults) booth_is ∙ lives.faults_are;
       lost_is = lives.lost_is;
     }
@@ -366,15 +402,15 @@ module _ {F : Type 0} (fader_stands_for : F → List Start → Type 0) where
 
   -- an answer that gives no line
   pub goes_quietly : (tells : Type 0) (old new : Night F) (moment : ℕ) (before after : Seen)
-      {text : Tables → List Act → List ℕ} {told : Bool → List Told}
+      {text : Tables → List Act → List ℕ} {told : Bool → List Told} {waited : List ℕ}
       → new.console ≡ old.console → new.lost ≡ old.lost
       → ((happened : List Happening) → live.StandsFor old.input happened
       → live.StandsFor new.input (asked moment ∷ happened))
       → ((happened : List Happening) → live.StandsFor old.input happened
-      → Says (answer_to happened moment) text told)
+      → Says (answer_to happened moment) text told waited)
       → (tells → (p : Production) (happened : List Happening)
       → StandsFor fader_stands_for p old happened
-      → Steps moment (told (ignored_keys (answers (asked moment ∷ happened)))) [] []
+      → Steps moment (told (ignored_keys (answers (asked moment ∷ happened)))) waited [] []
       (text p.show (history_of p.show (lines_given (answers happened)))) before after)
       → (goes : GoesOn fader_stands_for tells old new before after) × (1 ≤ length goes.since)
   goes_quietly tells old new moment before after console_is lost_is input says did = (
@@ -424,6 +460,7 @@ lives_none p before = record {
   kept = takes_none before.booth.kept;
   shown = takes_none before.booth.shown;
   told_is = refl;
+  waited_is = refl;
   faults_are = refl;
   lost_is = refl;
 }

@@ -13,12 +13,14 @@ pub data Told : Type 0 where
   keys : Told
 
 -- what happened to the input of its night, the newest first; the lines that it recorded; what it
--- showed; what it told, the newest first; and how many looks at the clock and waits failed
+-- showed; what it told, the newest first; until which moments it waited for what is typed, the
+-- newest first; and how many looks at the clock and waits failed
 pub record BoothState : Type 0 where
   pub happened : List Happening
   pub kept : Tape ℕ
   pub shown : Tape ℕ
   pub told : List Told
+  pub waited : List ℕ
   pub faults : ℕ
 
 abbrev pub happens : Happening → BoothState → BoothState
@@ -26,6 +28,9 @@ happens happening state = record state { happened = happening ∷ state.happened
 
 abbrev pub is_told : Told → BoothState → BoothState
 is_told told state = record state { told = told ∷ state.told }
+
+abbrev pub waits_until : ℕ → BoothState → BoothState
+waits_until due state = record state { waited = due ∷ state.waited }
 
 -- the clock or a wait failed
 abbrev pub fails : BoothState → BoothState

@@ -47,10 +47,19 @@ abbrev pub told_in : List Answer → List Told
 told_in [] = []
 told_in (answer ∷ older) = told_of answer ++ told_in older
 
+-- until when it is waited for what is typed: where nothing is due
+abbrev pub waits_of : Answer → List ℕ
+waits_of (wait due) = due ∷ []
+waits_of _ = []
+
+abbrev pub waited_in : List Answer → List ℕ
+waited_in [] = []
+waited_in (answer ∷ older) = waits_of answer ++ waited_in older
+
 -- the lines that a live input gives under these happenings were carried out: at each the link was
 -- offered what is due at it after the lines before, whatever sends failed; the lines were recorded,
 -- and answers, moves and what was asked for shown, as far as no call of the booth failed; what is
--- to be told was told; neither the clock nor a wait failed; and so many packets were lost, or more
+-- to be told was told, and it was waited wherever nothing was due; neither the clock nor a wait failed; and so many packets were lost, or more
 -- than can be counted
 pub record Lives (p : Production) (happened : List Happening) (before after : Seen) (lost : ℕ)
     : Type 0 where
@@ -62,6 +71,7 @@ pub record Lives (p : Production) (happened : List Happening) (before after : Se
   pub kept : Takes before.booth.kept after.booth.kept (text_of (lines_given (answers happened)))
   pub shown : Takes before.booth.shown after.booth.shown (shown_in p (answers happened) run)
   pub told_is : after.booth.told ≡ told_in (answers happened) ++ before.booth.told
+  pub waited_is : after.booth.waited ≡ waited_in (answers happened) ++ before.booth.waited
   pub faults_are : after.booth.faults ≡ before.booth.faults
   pub lost_is : lost ≡ min (failures_of (sends_of run)) 18446744073709551615
 

@@ -55,6 +55,7 @@ pub record CarriesOut (p : Production) (history : List Act) (line : List ℕ) (b
   pub shown : Takes before.booth.shown after.booth.shown (shown_of p history (reading_of line)
       offers)
   pub told_is : after.booth.told ≡ before.booth.told
+  pub waited_is : after.booth.waited ≡ before.booth.waited
   pub faults_are : after.booth.faults ≡ before.booth.faults
   pub lost_is : lost ≡ failures_of sends
 

@@ -2,7 +2,7 @@ ghost use Rattle.std.specs.Prelude.{◌≡◌, IfOk, OnOk, OnErr};
 ghost use Rattle.devices.specs.Tape.{with_more, with_failure};
 ghost use Rattle.live_input.specs.Night.{asked};
 ghost use Rattle.cueplayer_live.specs.Booth.{BoothState, IsWithin, fails, happens, hears};
-ghost use Rattle.cueplayer_live.specs.Booth.{is_told, keys, refused};
+ghost use Rattle.cueplayer_live.specs.Booth.{is_told, keys, refused, waits_until};
 
 use devices::LinkFault;
 use live_input::Reason;
@@ -52,8 +52,9 @@ pub trait Booth {
         ensures told { tells self.new → tells self.old }
         ensures within { IfOk result IsWithin }
         ensures ok { IfOk result (λ heard. tells self.new
-            → state self.new ≡ hears heard block.new (state self.old)) }
-        ensures err { OnErr result (tells self.new → state self.new ≡ fails (state self.old)) };
+            → state self.new ≡ hears heard block.new (waits_until due (state self.old))) }
+        ensures err { OnErr result (tells self.new → state self.new
+            ≡ fails (waits_until due (state self.old))) };
 
     /// Records a line, with its LF.
     ///

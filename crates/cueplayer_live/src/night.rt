@@ -4,7 +4,7 @@ ghost use Rattle.console.specs.Streams.{Production};
 ghost use Rattle.live_input.specs.Night.{Happening, answers, ignored_keys, is_over};
 ghost use Rattle.live_input.specs.Stands as live;
 ghost use Rattle.cueplayer_live.specs.Night.{seen};
-ghost use Rattle.cueplayer_live.specs.Booth.{fails};
+ghost use Rattle.cueplayer_live.specs.Booth.{fails, waits_until};
 ghost use Rattle.cueplayer_live.specs.Stands.{BreaksOff, GoesOn, StandsFor, Waits, WearsOut};
 ghost use Rattle.cueplayer_live.specs.Stands.{told_keys};
 
@@ -89,10 +89,10 @@ impl<F: Fader> Night<F> {
         ensures console { self.new.console ≡ self.old.console }
         ensures lost { self.new.lost ≡ self.old.lost }
         ensures stands { OnOk result (Waits (B.tells booth.new) self.old.input self.new.input
-            (B.state booth.old) (B.state booth.new)) }
+            (waits_until due (B.state booth.old)) (B.state booth.new)) }
         ensures unchanged { OnErr result (self.new ≡ self.old) }
         ensures broke { OnErr result (B.tells booth.new
-            → B.state booth.new ≡ fails (B.state booth.old)) }
+            → B.state booth.new ≡ fails (waits_until due (B.state booth.old))) }
     {
         let mut block = [0; 4096];
         match booth.wait(moment, due, &mut block)? {

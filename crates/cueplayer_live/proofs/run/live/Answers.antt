@@ -38,19 +38,19 @@ returns-clause-lived g c = λ begun booth link.
     of_each c.args.show.now _ _ c.in_ok-console.ensures.opened.stands
     (λ s stands. elim c.in-Err.ensures.broke [
       | inl broke ↦ (
-          broke.goes.since ++ [],
-          c.run.new.self.lost,
-          broke.middle,
-          lived g.F.Fader.stands_for _ _ _ _ _ broke.goes _ stands c.new.ensures.stands refl
-              (booth, link),
-          inl (broke.fails_at (booth, link)),
-        )
+        broke.goes.since ++ [],
+        c.run.new.self.lost,
+        broke.middle,
+        lived g.F.Fader.stands_for _ _ _ _ _ broke.goes _ stands c.new.ensures.stands refl
+            (booth, link),
+        inl (broke.fails_at (booth, link)),
+      )
       | inr worn ↦ (
-          worn.goes.since ++ [],
-          c.run.new.self.lost,
-          g.B.Booth.state c.run.new.booth,
-          lived g.F.Fader.stands_for _ _ _ _ _ worn.goes _ stands c.new.ensures.stands refl
-              (booth, link),
-          inr (refl, omega (arith, worn.turned, length-append worn.goes.since [])),
-        )
+        worn.goes.since ++ [],
+        c.run.new.self.lost,
+        g.B.Booth.state c.run.new.booth,
+        lived g.F.Fader.stands_for _ _ _ _ _ worn.goes _ stands c.new.ensures.stands refl
+            (booth, link),
+        inr (refl, omega (arith, worn.turned, length-append worn.goes.since [])),
+      )
     ])

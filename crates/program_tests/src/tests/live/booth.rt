@@ -105,6 +105,7 @@ impl Booth for MemoryBooth<'_> {
       kept = record { items = []; failures = 0 };
       shown = record { items = []; failures = 0 };
       told = [];
+      waited = [];
       faults = 0;
     } };
 

@@ -1,14 +1,14 @@
-use Rattle.std.proofs.Common.{arith, ◌≤◌, ◌∙◌, refl, ap, sym, List, [], ◌∷◌}
+use Rattle.std.proofs.Common.{arith, ◌∙◌, refl, ap, sym, List, [], ◌∷◌}
 use Rattle.live_input.specs.Night.{Happening, answer_to, answers, asked, ignored_keys, lines_given}
 use Rattle.live_input.specs.Night.{stage, stage_by}
 use Rattle.live_input.specs.Stands as live
 use Rattle.live_input.proofs.Nights.{over_is}
-use Rattle.cueplayer_live.specs.Booth.{refused}
+use Rattle.cueplayer_live.specs.Booth.{refused, waits_until}
 use Rattle.cueplayer_live.specs.Night.{seen}
 use Rattle.cueplayer_live.proofs.Living.{Gives, breaks_more, breaks_none, carried_since, gives}
 use Rattle.cueplayer_live.proofs.Living.{goes_more, goes_quietly, goes_waiting, helps, lives_more, on_err}
-use Rattle.cueplayer_live.proofs.Living.{overs, places, refuses, shows_since, then_tells, waits}
-use Rattle.cueplayer_live.proofs.Living.{with_keys}
+use Rattle.cueplayer_live.proofs.Living.{overs, places, refuses, shows_since, then_tells, then_waits}
+use Rattle.cueplayer_live.proofs.Living.{waits, with_keys}
 use Rattle.cueplayer_live.proofs.Texts.{shown_by, shows_none}
 use Rattle.cueplayer_live.proofs.night.Night.go_on.Goals as goal
 
@@ -30,8 +30,7 @@ returns-in-Line-clause-goes g c =
     let giving : (happened : List Happening) → live.StandsFor c.args.self.now.input happened
     → Gives (answer_to happened moment) c.in-Line.given =
     λ happened stands. gives c.in-Line.given (answer_to happened moment)
-    (c.in-Line.ensures.tells happened stands) in
-    (
+    (c.in-Line.ensures.tells happened stands) in (
       record {
         since = asked moment ∷ [];
         stands = λ p happened stands.
@@ -127,13 +126,14 @@ returns-in_ok-wait-in-Until-clause-goes g c =
     let moment = c.in_ok-moment.moment in
     let waited = c.in_ok-wait-in-Until.ensures in
     let night = record c.args.self.now { input = c.next.new.self } in
-    let middle = seen (g.B.Booth.state c.moment.new.self) (g.L.Link.offered c.args.link.now) in
+    let middle = seen (waits_until c.in-Until.due (g.B.Booth.state c.moment.new.self))
+    (g.L.Link.offered c.args.link.now) in
     let quiet = goes_quietly g.F.Fader.stands_for (g.B.Booth.tells c.moment.new.self) _ night moment
     _ middle refl refl c.next.ensures.stands
     (λ happened stands. waits c.in-Until.due (answer_to happened moment)
     (c.in-Until.ensures.tells happened stands))
-    (λ tells p happened stands. shows_since moment _ _ _ _ (c.in_ok-moment.ensures.ok tells)
-    (shows_none _)) in
+    (λ tells p happened stands. then_waits moment c.in-Until.due _ _ _ _
+    (shows_since moment _ _ _ _ (c.in_ok-moment.ensures.ok tells) (shows_none _))) in
     let all = goes_more g.F.Fader.stands_for _ _ _ night _ _ middle _ quiet.0
     (goes_waiting g.F.Fader.stands_for _ _ night _ middle _ waited.console waited.lost
     waited.stands (λ tells. tells.0) refl) (λ tells. waited.told_booth tells.0) in
@@ -145,12 +145,13 @@ returns-in_err-wait-in-Until-clause-broke g c =
     let waited = c.in_err-wait-in-Until.ensures in
     let night = record c.args.self.now { input = c.next.new.self } in
     let quiet = goes_quietly g.F.Fader.stands_for (g.B.Booth.tells c.moment.new.self) _ night moment
-    _ (seen (g.B.Booth.state c.moment.new.self) (g.L.Link.offered c.args.link.now)) refl refl
+    _ (seen (waits_until c.in-Until.due (g.B.Booth.state c.moment.new.self))
+    (g.L.Link.offered c.args.link.now)) refl refl
     c.next.ensures.stands
     (λ happened stands. waits c.in-Until.due (answer_to happened moment)
     (c.in-Until.ensures.tells happened stands))
-    (λ tells p happened stands. shows_since moment _ _ _ _ (c.in_ok-moment.ensures.ok tells)
-    (shows_none _)) in
+    (λ tells p happened stands. then_waits moment c.in-Until.due _ _ _ _
+    (shows_since moment _ _ _ _ (c.in_ok-moment.ensures.ok tells) (shows_none _))) in
     rw waited.unchanged (on_err _ (breaks_more g.F.Fader.stands_for _ _ _ night night _ _ _ quiet.0
     (breaks_none g.F.Fader.stands_for
     (g.B.Booth.tells c.wait.new.booth × g.L.Link.tells c.args.link.now) night _ _ _

@@ -1,4 +1,4 @@
-use Rattle.std.proofs.Common.{◌≡◌, ◌≤◌, ◌⊎◌, inl, inr, arith, refl, ◌++◌}
+use Rattle.std.proofs.Common.{inl, inr, arith, refl, ◌++◌}
 use Rattle.cueplayer_live.proofs.Living.{breaks_more, goes_more, goes_none, on_err}
 use Rattle.cueplayer_live.proofs.night.Night.run.Goals as goal
 
