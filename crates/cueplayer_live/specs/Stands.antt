@@ -1,17 +1,13 @@
 -- Where a night on its way stands.
 -- Of use inside the crate: what its public calls answer is said without these.
 use Rattle.std.specs.Prelude.{◌≡◌, ◌≤◌, ◌++◌, ◌∷◌, [], ℕ, Bool, true, false, List, length}
-use Rattle.std.specs.Prelude.{Option, None}
 use Rattle.devices.specs.Send.{Send, failures_of}
 use Rattle.fade_core.specs.Level.{Start}
 use Rattle.desk_core.specs.Played.{Act}
-use Rattle.desk_core.specs.declared.command.Command.TheVariants.{Go, Back, Goto, GotoIn}
 use Rattle.sacn_source.specs.declared.offered.Offered.{Offered}
 use Rattle.console.specs.Offering.{AreOffered}
 use Rattle.console.specs.Stands as console
 use Rattle.console.specs.Streams.{Production}
-use Rattle.console_text.specs.declared.call.Call.{Call}
-use Rattle.console_text.specs.declared.call.Call.TheVariants.{Order}
 use Rattle.console_text.specs.Spelling.{reading_of}
 use Rattle.cueplayer_play.specs.declared.performance.Answer.{Answer}
 use Rattle.cueplayer_play.specs.declared.performance.Answer.TheVariants.{Refused}
@@ -28,14 +24,6 @@ use Rattle.cueplayer_live.specs.Shown.{Takes, shown_of}
 abbrev pub is_accepted : Answer → Bool
 is_accepted (Refused why) = false
 is_accepted _ = true
-
--- the cue to which an accepted call moved, from the one that is current behind it
-abbrev pub own_move : Call → Option ℕ → Option ℕ
-own_move (Order Go) current = current
-own_move (Order Back) current = current
-own_move (Order (Goto n)) current = current
-own_move (Order (GotoIn n time)) current = current
-own_move call current = None
 
 -- a text was shown, unless a call failed meanwhile, and nothing else was done
 pub record Shows (before after : BoothState) (text : List ℕ) : Type 0 where

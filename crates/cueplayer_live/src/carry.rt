@@ -10,7 +10,8 @@ ghost use Rattle.live_input.specs.Told.{IsGiven};
 ghost use Rattle.cueplayer_live.specs.Night.{seen};
 ghost use Rattle.cueplayer_live.specs.Shown as shown;
 ghost use Rattle.cueplayer_live.specs.Shown.{cue_lines, made, shown_answer};
-ghost use Rattle.cueplayer_live.specs.Stands.{CarriesOut, Shows, is_accepted, own_move};
+ghost use Rattle.cueplayer_play.specs.Perform.{own_move};
+ghost use Rattle.cueplayer_live.specs.Stands.{CarriesOut, Shows, is_accepted};
 
 use crate::booth::Booth;
 use console::Console;

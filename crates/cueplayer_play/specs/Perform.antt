@@ -3,6 +3,7 @@ use Rattle.std.specs.Prelude.{◌≡◌, ℕ, List, ◌++◌, Option, Some, None
 use Rattle.devices.specs.Send.{Send}
 use Rattle.desk_core.specs.declared.answer.Refused.{Refused}
 use Rattle.desk_core.specs.Played.{Act, ended, refusal, ticked}
+use Rattle.desk_core.specs.declared.command.Command.TheVariants.{Go, Back, Goto, GotoIn}
 use Rattle.sacn_source.specs.declared.offered.Offered.{Offered}
 use Rattle.console.specs.Offering.{AreOffered}
 use Rattle.console.specs.Streams.{Production}
@@ -43,3 +44,11 @@ abbrev pub text_of_answer : ℕ → Answer → List ℕ
 text_of_answer moment Done = numbered moment done_text
 text_of_answer moment (Refuse refused) = numbered moment (refused_text refused)
 text_of_answer moment (Ticked ticked offers) = numbered moment (ticked_text ticked offers)
+
+-- the cue to which an accepted call moved, from the one that is current behind it
+abbrev pub own_move : Call → Option ℕ → Option ℕ
+own_move (call.Order Go) current = current
+own_move (call.Order Back) current = current
+own_move (call.Order (Goto n)) current = current
+own_move (call.Order (GotoIn n time)) current = current
+own_move _ current = None
