@@ -1,6 +1,6 @@
 -- What a live night has played, and under which history.
 use Rattle.std.proofs.Common.{◌≡◌, ℕ, refl, ap, sym, ◌∙◌, List, [], ◌∷◌, Ok, Err}
-use Rattle.std.proofs.Common.{Option, Some, None}
+use Rattle.std.proofs.Common.{Option, Some, None, inl, inr}
 use Rattle.std.specs.Prelude.{◌-◌, codes, is_none, option_map, if◌then◌else◌}
 use Rattle.std.proofs.lemmas.List.{append_cancel_left, append_cancel_right}
 use Rattle.ascii_text.specs.Text.{words_of}
@@ -10,7 +10,8 @@ use Rattle.console_text.specs.declared.call.Call.TheVariants.{Order, Tick}
 use Rattle.console_text.specs.declared.reading.Reading.TheVariants.{At}
 use Rattle.console_text.specs.Spelling.{act_of, command_of, reading_of}
 use Rattle.cueplayer_faults.specs.declared.fault.RunFault.TheVariants as run
-use Rattle.cueplayer_live.specs.Night.{Lives, Seen}
+use Rattle.cueplayer_live.specs.Booth.{BoothState}
+use Rattle.cueplayer_live.specs.Night.{Lives, Seen, seen}
 use Rattle.cueplayer_play.specs.Run.{history_of, sends_of, taken, taken_by}
 use Rattle.desk_core.specs.declared.answer.Refused.{Refused}
 use Rattle.desk_core.specs.declared.command.Command.{Command}
