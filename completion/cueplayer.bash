@@ -1,15 +1,24 @@
 # Completion for bash of the words of cueplayer: jobs, options, files.
 # shellcheck shell=bash
 
-# The options of a job. Each but --end-with-input and --json takes a value.
+# The options of a job. Each but --any-route, --end-with-input, --json, --resume and --spare takes a
+# value.
 _cueplayer_options() {
+    local source="--to --cid --priority --base --interface --any-route --name --ttl"
     case $1 in
         cues) echo --json ;;
         look) echo --cid ;;
         slots) echo --base ;;
-        play) echo --to --cid --priority --base ;;
-        live) echo --to --cid --priority --base --record --end-with-input ;;
+        play) echo "$source" ;;
+        live) echo "$source" --record --resume --spare --start --follow --patience \
+            --end-with-input ;;
     esac
+}
+
+# The names of this machine's network cards.
+_cueplayer_cards() {
+    local card
+    for card in /sys/class/net/*; do echo "${card##*/}"; done
 }
 
 # How many words of a job, from its first on, name files.
@@ -53,7 +62,7 @@ _cueplayer_parse() {
             words_only=1
         elif [[ $word == -?* && -z $words_only ]]; then
             case $word in
-                -h | --help | --end-with-input | --json) ;;
+                -h | --help | --any-route | --end-with-input | --json | --resume | --spare) ;;
                 *) option=$word ;;
             esac
             used+="$word "
@@ -73,10 +82,12 @@ _cueplayer() {
     _cueplayer_join
     local current=${words[-1]}
     _cueplayer_parse "${words[@]:0:${#words[@]}-1}"
-    if [[ $option == --record ]]; then
+    if [[ $option == --record || $option == --follow ]]; then
         is_file=1
     elif [[ $option == --to ]]; then
-        choices=239.255.0.0
+        choices=${current%"${current##*=}"}239.255.0.0
+    elif [[ $option == --interface ]]; then
+        choices=$(_cueplayer_cards)
     elif [[ -n $option ]]; then
         :
     elif [[ -z $job ]]; then
@@ -86,7 +97,7 @@ _cueplayer() {
         ((place)) || choices=${jobs% help}
     elif [[ $current == -* && -z $words_only ]]; then
         for name in $(_cueplayer_options "$job") --help; do
-            [[ $used == *" $name "* ]] || choices+=" $name"
+            [[ $used == *" $name "* && $name != --to ]] || choices+=" $name"
         done
     elif ((place < $(_cueplayer_files "$job"))); then
         is_file=1

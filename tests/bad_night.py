@@ -33,7 +33,7 @@ from pathlib import Path
 sys.dont_write_bytecode = True
 sys.path.insert(0, str(Path(__file__).resolve().parent))
 
-from program import packet  # noqa: E402  (tests/ is on the path from here on)
+from program import behind_head, packet  # noqa: E402  (tests/ is on the path from here on)
 from tooling import TOOLS  # noqa: E402
 from wire import OPTIONS, SEQUENCE, TERMINATED  # noqa: E402
 
@@ -319,7 +319,7 @@ def late_presses(
 
 def faults_of(desk: Desk, receiver: Receiver, presses: Presses, slept: int) -> list[str]:
     """What was wrong in a night that has ended; prints what was seen."""
-    lines = [line.split() for line in desk.record.read_text().splitlines()]
+    lines = [line.split() for line in behind_head(desk.record.read_bytes())]
     ticks = [int(moment) for moment, *words in lines if words == ["tick"]]
     worst = max(after - before for before, after in zip(ticks, ticks[1:])) - TICK
     # What is in time for the desk waits for `live`, at most as long as a tick may.

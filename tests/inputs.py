@@ -218,3 +218,25 @@ def datagram(r, cid=CIDS[-1], sequence=None):
     if r.random() < 0.1:
         sent += bytes(r.choice([1, 2, 861, 862, 863, 9000]))
     return sent
+
+
+def target_word(r, universes, addresses):
+    """A word of `--to`: mostly of universes of the show, to one of these addresses; now and then none."""
+    host, port = r.choice(addresses)
+    universe = r.choice(universes)
+    other = r.choice([*universes, universe + 1])
+    named = r.choice(["", "", f"{universe}=", f"{universe}=", f"0{universe}=", f"{universe}-{other}="])
+    word = f"{named}{host}:{padded_port(r, port)}"
+    return r.choice(["", "1=", "x", f"0={host}", f"{word}x", f"={word}", f"{word}="]) if r.random() < 0.02 else word
+
+
+def padded_port(r, port):
+    """A port, at times with zeros in front."""
+    return f"{port:0{r.choice([1, 1, 1, 9])}}"
+
+
+def target_words(r, universes, addresses):
+    """The targets of a run, mostly such as it takes."""
+    words = [target_word(r, universes, addresses) for _ in range(r.choice([1, 1, 2, 2, 3, 5]))]
+    host, port = r.choice(addresses)
+    return [f"{host}:{port}", *words] if r.random() < 0.6 else words

@@ -11,7 +11,7 @@ from typing import NamedTuple
 
 from expected import live, show as shows
 from expected.words import lines_of
-from program import PROGRAM
+from program import HEAD, PROGRAM
 
 AT_ONCE = 16
 PATIENCE = 60
@@ -58,7 +58,8 @@ def play_night(typed, cid=None, to=NOWHERE):
         finally:
             night.kill()
         shown = out.read_bytes().decode().splitlines()
-        return Left(status, shown, lines_of(record.read_bytes()), err.read_bytes())
+        lines = [line for line in lines_of(record.read_bytes()) if not line.startswith(HEAD)]
+        return Left(status, shown, lines, err.read_bytes())
 
 
 def play_nights(nights):

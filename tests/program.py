@@ -32,8 +32,11 @@ FAULT = re.compile(
 # What `listen` tells before it waits.
 WAITING = (b"listening at ", b"this machine hears ")
 
-# What `live` tells at its start.
-START = re.compile(rb"show: \d+ cues?, .*\nsends: .*\nrecord: .*\nend ends the night, .*\n")
+# What `live` tells at its start: to what it sends, and by which card, in one line or more.
+START = re.compile(
+    rb"show: \d+ cues?, .*\nsends: .*\n(?:(?:target: |from |other cards: |no route to ).*\n)*"
+    rb"record: .*\nend ends the night, .*\n"
+)
 
 
 def told(err):
@@ -71,6 +74,16 @@ def counts(lines, cues=0, subs=0, groups=0, dimmers=0, skipped=0):
     ).encode()
 
 
+# Each line of the head of a record begins so.
+HEAD = (b"! cueplayer record ", b"! cid ")
+
+
+def behind_head(record):
+    """The lines of a record, behind its head."""
+    lines = record.split(b"\n")
+    return [line.decode("latin-1") for line in lines if line and not line.startswith(HEAD)]
+
+
 def slots_in(line):
     """The slots that a slots line shows, by their numbers."""
     return {int(slot): int(level) for slot, level in re.findall(r"(\d+):(\d+)", line)}
@@ -81,7 +94,7 @@ def slots_line(slots):
     return "slots" + "".join(f" {slot}:{level}" for slot, level in sorted(slots.items()))
 
 
-def packet(universe, slots, sequence=0, options=0, priority=100, cid=CID):
+def packet(universe, slots, sequence=0, options=0, priority=100, cid=CID, name="cueplayer"):
     """An E1.31 data packet of the program, field by field: `slots` has the slots that are not 0."""
     levels = bytearray(512)
     for slot, level in slots.items():
@@ -92,7 +105,7 @@ def packet(universe, slots, sequence=0, options=0, priority=100, cid=CID):
         bytes.fromhex("726e 00000004"),  # root layer: flags and length, vector
         bytes.fromhex(cid.replace("-", "")),
         bytes.fromhex("7258 00000002"),  # framing layer: flags and length, vector
-        b"cueplayer".ljust(64, b"\0"),  # source name
+        name.encode().ljust(64, b"\0"),  # source name
         bytes([priority, 0, 0, sequence, options]),  # 0, 0: the synchronization address
         universe.to_bytes(2, "big"),
         bytes.fromhex("720b 02 a1 0000 0001 0201"),  # DMP layer, up to the property value count

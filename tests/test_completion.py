@@ -1,5 +1,6 @@
 """The completion for bash, called as Readline calls it, against what the program's help names."""
 
+import os
 import re
 import subprocess
 import tempfile
@@ -10,6 +11,7 @@ from jobs import jobs
 from program import TOP
 
 COMPLETION = TOP / "completion/cueplayer.bash"
+NIGHT = TOP / "completion/cueplayer-night.bash"
 
 # Sources the completion and calls its function for the words given, the last being the current one.
 CALL = """
@@ -17,14 +19,16 @@ set -u
 source "$1"
 shift
 COMP_WORDS=("$@") COMP_CWORD=$(($# - 1))
-function=$(complete -p cueplayer)
+function=$(complete -p "$1")
 function=${function#*-F }
 "${function%% *}"
 ((${#COMPREPLY[@]} == 0)) || printf '%s\\n' "${COMPREPLY[@]}"
 """
 
 
-class Completion(unittest.TestCase):
+class CompletionTest(unittest.TestCase):
+    SCRIPT = COMPLETION
+
     def setUp(self):
         folder = tempfile.TemporaryDirectory()
         self.addCleanup(folder.cleanup)
@@ -35,7 +39,7 @@ class Completion(unittest.TestCase):
     def complete(self, *words):
         """What may stand for the last word, sorted."""
         done = subprocess.run(
-            ["bash", "--norc", "-c", CALL, "bash", COMPLETION, "cueplayer", *words],
+            ["bash", "--norc", "-c", CALL, "bash", self.SCRIPT, self.SCRIPT.stem, *words],
             cwd=self.folder,
             capture_output=True,
             text=True,
@@ -47,6 +51,8 @@ class Completion(unittest.TestCase):
     def assertCompletes(self, words, *expected):
         self.assertEqual(sorted(expected), self.complete(*words), words)
 
+
+class Completion(CompletionTest):
     def test_jobs(self):
         """Those of the program's help, and the word help."""
         self.assertCompletes([""], *jobs(), "help")
@@ -56,13 +62,13 @@ class Completion(unittest.TestCase):
         self.assertCompletes(["nonsense"])
 
     def test_options(self):
-        """Of each job those of its help, none twice; before a job, the two that stand alone."""
+        """Of each job those of its help, none but --to twice; before a job, the two that stand alone."""
         self.assertCompletes(["-"], "--help", "--version")
         for name, job in jobs().items():
             with self.subTest(name):
                 self.assertCompletes([name, "--"], "--help", *job.options)
                 for option in job.options:
-                    others = set(job.options) - {option}
+                    others = set(job.options) - {option} | set(job.options) & {"--to"}
                     self.assertCompletes([name, option, "x", "-"], "--help", *others)
                     if job.options[option]:
                         self.assertCompletes([name, option, "=", "x", "-"], "--help", *others)
@@ -88,12 +94,17 @@ class Completion(unittest.TestCase):
                     files = ["night.asc"] if value == "FILE" else []
                     self.assertCompletes([name, option, "nig"], *files)
                     self.assertCompletes([name, option, "=", "nig"], *files)
-                    groups = ["239.255.0.0"] if value == "ADDR" else []
+                    groups = ["239.255.0.0"] if value == "TARGET" else []
                     self.assertCompletes([name, option, "2"], *groups)
+                    if value == "CARD":
+                        self.assertCompletes([name, option, ""], *os.listdir("/sys/class/net"))
 
     def test_words_that_readline_parts(self):
         """An address with a port is one word, and so is a UUID behind `urn:uuid:`."""
         self.assertCompletes(["live", "--to", "127.0.0.1", ":", "5568", "nig"], "night.asc")
+        self.assertCompletes(["live", "--to", "3", "=", "127.0.0.1", "nig"], "night.asc")
+        self.assertCompletes(["live", "--to", "3", "=", "2"], "239.255.0.0")
+        self.assertCompletes(["live", "--to", "=", "1-8", "=", "2"], "239.255.0.0")
         self.assertCompletes(["live", "--cid", "urn", ":", "uuid", ":", "x", "nig"], "night.asc")
         self.assertCompletes(["live", "--record", "=", ""], "night.asc", "nine shows.asc")
         self.assertCompletes(["live", "--record", "="], "night.asc", "nine shows.asc")
@@ -109,3 +120,35 @@ class Completion(unittest.TestCase):
         self.assertEqual(options | {"--help", "--version"}, set(re.findall(r"(?<![\w-])--[a-z][a-z-]*", text)))
         cases = {name for line in re.findall(r"(?m)^ +([a-z |]+)\) echo", text) for name in line.split(" | ")}
         self.assertLessEqual(cases, set(jobs()))
+
+
+class Night(CompletionTest):
+    SCRIPT = NIGHT
+
+    def test_folder(self):
+        (self.folder / "nights").mkdir()
+        self.assertCompletes(["ni"], "nights")
+        self.assertCompletes(["-"], "--help")
+
+    def test_commands(self):
+        """Those of its help."""
+        done = subprocess.run([TOP / "cueplayer-night", "--help"], capture_output=True, text=True)
+        commands = self.complete("nights", "")
+        for command in commands:
+            self.assertRegex(done.stdout, rf"\b{command}\b")
+        self.assertCompletes(["nights", "st"], "start", "status", "stop")
+        self.assertCompletes(["nights", "go", ""])
+
+    def test_start(self):
+        """The show, and the options of `live` that the folder does not give."""
+        options = {*jobs()["live"].options, "--background"}
+        options -= {"--record", "--resume", "--spare", "--follow", "--patience"}
+        self.assertCompletes(["nights", "start", "ni"], "night.asc", "nine shows.asc")
+        self.assertCompletes(["nights", "start", "x", ""])
+        self.assertCompletes(["nights", "start", "x", "--"], *options)
+        self.assertCompletes(["nights", "make", "x", "--"], *(options - {"--background"}))
+        self.assertCompletes(["nights", "start", "x", "--to", ""], "239.255.0.0")
+        self.assertCompletes(["nights", "start", "x", "--cid", "n"])
+        self.assertCompletes(["nights", "start", "x", "--to", "y", "--"], *options)
+        self.assertCompletes(["nights", "start", "x", "--name", "y", "--"], *(options - {"--name"}))
+        self.assertCompletes(["nights", "start", "x", "--interface", ""], *os.listdir("/sys/class/net"))

@@ -14,7 +14,7 @@ import uuid
 from unittest import mock
 
 from desks import SHOW, DeskTest, Page
-from program import CID, packet, text
+from program import CID, behind_head, packet, text
 from test_osc import GREATEST_DOUBLE, message
 from tooling import PATIENCE, TOOLS, Started, run_tool, wait_for
 from wire import OPTIONS, TERMINATED, address_of, own_network, receiving
@@ -248,7 +248,7 @@ class Ends(DeskTest):
         page.wait(current="1")
         desk.process.terminate()
         desk.process.wait(PATIENCE)
-        lines = [line.split()[1:] for line in record.read_text().splitlines()]
+        lines = [line.split()[1:] for line in behind_head(record.read_bytes())]
         commands = [line for line in lines if line != ["tick"]]
         self.assertEqual([["back"], ["go"], ["master", "0"], ["end"]], commands)
         told = [line.partition(" ")[2] for line in replies.read_text().splitlines()]
@@ -334,7 +334,7 @@ class Beside(DeskTest):
                                 (("--grid",), "Address already in use")):
             _, page = self.opened(*options)
             wait_for(lambda: page.newest.get("levels"), "levels")
-            self.assertEqual({"reason": reason, "slots": {}, "others": []}, page.newest["levels"])
+            self.assertEqual({"reasons": {"1": reason}, "slots": {}, "others": []}, page.newest["levels"])
             page.command("sub 1 FL")
             self.wait_for_level(255)
 

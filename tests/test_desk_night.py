@@ -12,6 +12,7 @@ from tooling import Lines, stand_still, wait_for
 
 from cueplayer_tools import desk_input
 from cueplayer_tools.cue_list import read_show
+from cueplayer_tools.desk_heard import START_LINES
 from cueplayer_tools.desk_night import Night
 from cueplayer_tools.desk_state import State
 from cueplayer_tools.live_lines import Answer, DroppedReplies, LostPackets, Move, Place
@@ -290,14 +291,16 @@ class OtherLines(StubTest):
         self.assertEqual([], self.notices())
 
 
-class Messages(StubTest):
-    SKIPPED = "show: 3 cues, 1 submaster, 1 group, 1 dimmer; 3 lines skipped: see cueplayer explain"
-    SENDS = "sends: universe 1 to 127.0.0.1:5568, priority 100, CID x, name cueplayer"
-
+class MessageTest(StubTest):
     def hear(self, *lines):
         before = self.night.version
         self.messages.write("".join(line + "\n" for line in lines))
         wait_for(lambda: self.night.version >= before + len(lines), lines)
+
+
+class Messages(MessageTest):
+    SKIPPED = "show: 3 cues, 1 submaster, 1 group, 1 dimmer; 3 lines skipped: see cueplayer explain"
+    SENDS = "sends: universe 1 to 127.0.0.1:5568, priority 100, CID x, name cueplayer"
 
     def test_start(self):
         """What the program says as it begins is for the terminal; the page has what is skipped."""
@@ -325,6 +328,105 @@ class Messages(StubTest):
         self.assertEqual((faults, ""), (self.notices(), self.night.state.skipped))
         self.hear(self.SKIPPED, self.SENDS, "record: none; --record FILE keeps one", faults[2])
         self.assertEqual([*faults, faults[2]], self.notices())
+
+
+class Links(MessageTest):
+    """What is said of the network: what is wrong stands until it is over."""
+
+    START = ("show: 1 cue, 0 submasters, 0 groups, 1 dimmer", "sends: universe 1 to 2 targets, ..")
+    RECORD = "record: none; --record FILE keeps one"
+
+    def assertTroubles(self, *lines):
+        self.assertEqual(list(lines), list(self.night.state.troubles.values()))
+
+    def test_start(self):
+        """By which cards it sends; which others there are is told on the page, and no more than that."""
+        self.begun()
+        others = "other cards: lit (10.101.2.10); --interface lit sends by it"
+        ways = ["from 10.101.1.10 (eth0), the default route", "from 127.0.0.1 (lo)"]
+        targets = ["target: 239.255.0.0:5568 (multicast)", "target: universe 3 to 127.0.0.1:5568"]
+        self.hear(*self.START, *targets, *ways, others, self.RECORD)
+        self.assertEqual((ways, [others]), (self.night.state.ways, self.notices()))
+        lines = [*self.START, *targets, *ways, others, self.RECORD]
+        self.assertEqual([f"live: {line}" for line in lines], self.told)
+        # Behind the start such a line is none of it.
+        self.hear("end ends the night", ways[0])
+        self.assertEqual((ways, [others, ways[0]]), (self.night.state.ways, self.notices()))
+
+    def test_over(self):
+        """Each kind, and the line by which it is over; none is a notice."""
+        self.begun()
+        for trouble, over in (
+            ("no link lit: nodes get nothing; check the cable", "link lit"),
+            ("lit is down: nodes get nothing; ip link set lit up", "link lit"),
+            ("lit has lost 10.101.2.10: nodes get nothing", "lit has 10.101.2.10"),
+            (
+                "the route to 10.0.0.7 leads by office: nodes get nothing; check ip route get 10.0.0.7",
+                "the route to 10.0.0.7 leads by lit",
+            ),
+            (
+                "no route to 10.0.0.7: nodes get nothing until there is one",
+                "the route to 10.0.0.7 leads by lit",
+            ),
+            (
+                "no answer from 10.0.0.7: nothing has that address; check the node and --to",
+                "10.0.0.7 answers",
+            ),
+        ):
+            with self.subTest(trouble):
+                self.hear(f"0:12:05 {trouble}")
+                self.assertTroubles(f"0:12:05 {trouble}")
+                self.hear("0:12:06 link office", "0:12:06 10.0.0.8 answers", f"123:59:59 {over}")
+                self.assertTroubles()
+        self.assertEqual([], self.notices())
+
+    def test_several(self):
+        """Each stands by itself. What a `where` tells again is no new one, and another of the same
+        card takes the place of the one before."""
+        self.begun()
+        self.hear("0:00:01 no link lit: a", "0:00:02 no link off: a", "0:00:03 lit has lost 10.0.0.1: b")
+        told = ["0:00:01 no link lit: a", "0:00:02 no link off: a", "0:00:03 lit has lost 10.0.0.1: b"]
+        self.assertTroubles(*told)
+        self.hear("0:00:09 no link lit: a", "0:00:09 no link off: a")
+        self.assertTroubles(*told)
+        self.hear("0:00:10 lit is down: c")
+        self.assertTroubles(*told[1:], "0:00:10 lit is down: c")
+        self.hear("0:00:11 link lit", "0:00:11 link off")
+        self.assertTroubles(told[2])
+
+    def test_first_route(self):
+        """A night that begins without a network: once it has one, what is still wrong is asked."""
+        self.begun()
+        hosts = ("239.255.0.0", "10.0.0.7")
+        without = [f"no route to {host}: nodes get nothing until there is one" for host in hosts]
+        self.hear(*self.START, *without, self.RECORD, "end ends the night")
+        self.assertTroubles(*without)
+        self.hear("0:00:07 from 10.101.1.10 (eth0), the default route")
+        self.assertTroubles()
+        self.expect("where")
+        self.hear(f"0:00:07 {without[1]}")
+        self.say("7010 where next 1 master 255")
+        self.assertTroubles(f"0:00:07 {without[1]}")
+        self.assertEqual([], self.notices())
+
+    def test_another_live(self):
+        """One that begins in the place of another says anew what is wrong."""
+        self.begun()
+        self.hear(*self.START, "from 10.0.0.1 (lit)", self.RECORD, "end ends the night")
+        self.hear("0:00:01 no link lit: a")
+        with self.night.changed:
+            self.night.start_lines = list(START_LINES)
+        self.hear(*self.START, "from 10.0.0.2 (off)", self.RECORD, "end ends the night")
+        self.assertEqual(["from 10.0.0.2 (off)"], self.night.state.ways)
+        self.assertTroubles()
+
+    def test_no_such_line(self):
+        """What only looks like one is a fault like any other."""
+        self.begun()
+        faults = ["link lit", "0:00:01 link", "0:00:01 lit is up", "0:0:01 link lit", "1 link lit"]
+        self.hear("0:00:01 no link lit: a", *faults)
+        self.assertTroubles("0:00:01 no link lit: a")
+        self.assertEqual(faults, self.notices())
 
 
 class LiveLines(unittest.TestCase):

@@ -5,11 +5,18 @@ import os
 import signal
 import time
 import unittest
+from unittest import mock
 
 from browser import CHROMIUM, MISSING, Browser
 from desks import SHOW, DeskTest, Page
-from program import TOP, run, text
+from program import PROGRAM, TOP, run, text
 from tooling import stand_still, wait_for
+
+# The program, whose `live` also says what is written to a FIFO.
+STUB = """#!/bin/sh
+if [ "$1" = live ]; then cat "{told}" >&2 & fi
+exec "{program}" "$@"
+"""
 
 
 @unittest.skipUnless(CHROMIUM, MISSING)
@@ -129,6 +136,31 @@ class DeskPage(DeskTest):
         page.wait("document.getElementById('current').textContent === '1 one'")
         page.wait("document.getElementById('fade-text').textContent === ''")
         self.assertEqual("", page.text("alarms"))
+        self.assertNoFaults()
+
+    def test_network(self):
+        """The page says by which card the night is sent; what keeps packets from nodes stands there until
+        it is over, also behind a move, and cannot be dismissed."""
+        told = self.folder / "told"
+        os.mkfifo(told)
+        stub = self.file("stub", STUB.format(told=told, program=PROGRAM).encode())
+        stub.chmod(0o755)
+        # Held open to its end, so that what is written there comes in its order.
+        with mock.patch.dict(os.environ, CUEPLAYER=str(stub)), open(told, "r+b", buffering=0) as network:
+            _, page, state = self.shown_page()
+            page.wait("document.getElementById('ways').textContent === 'from 127.0.0.1 (lo)'")
+            lines = (b"0:12:05 no link lit: nodes get nothing; check the cable", b"0:12:05 no link off: x")
+            network.write(b"\n".join(lines) + b"\n")
+            page.wait("document.querySelectorAll('#alarms .alarm').length === 2")
+            page.press(" ", "Space", " ")
+            state.wait(current="1")
+            page.wait("document.getElementById('current').textContent === '1 one'")
+            self.assertEqual("\n".join(line.decode() for line in lines), page.text("alarms"))
+            self.assertEqual(0, page.value("document.querySelectorAll('#alarms button').length"))
+            network.write(b"0:12:11 link lit\n")
+            page.wait("document.querySelectorAll('#alarms .alarm').length === 1")
+            network.write(b"0:12:11 link off\n")
+            page.wait("document.getElementById('alarms').innerText === ''")
         self.assertNoFaults()
 
     def test_follow_on(self):

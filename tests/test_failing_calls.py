@@ -276,7 +276,7 @@ lost = [night.stdout.readline() for _ in range(4)]
 receiver = socket.socket(socket.AF_INET, socket.SOCK_DGRAM)
 receiver.bind(("0.0.0.0", 5568))
 subprocess.run("ip link set lo up", shell=True, check=True)
-time.sleep(0.2)
+time.sleep(1)
 night.stdin.write(b"sub 1 FL\\n")
 night.stdin.flush()
 time.sleep(0.2)
@@ -306,7 +306,8 @@ class Network(FailingCalls):
         *printed, levels = START.sub(b"", done.stdout).decode().splitlines()
         lost = [line for line in printed if re.fullmatch(r"\d+ live 1:x\d+", line)]
         self.assertEqual((b"", printed[: len(lost)]), (done.stderr, lost))
-        rest = [re.sub(r"^\d+ ", "", line) for line in printed[len(lost) :]]
+        rest = [re.sub(r"^(\d+|\d+:\d\d:\d\d) ", "", line) for line in printed[len(lost) :]]
         remark = "127.0.0.1:5568: no route leads to that network"
-        self.assertEqual(["ok", "ok", "ok", f"lost {len(lost)}", remark, "status 5"], rest)
+        told = ["from 127.0.0.1 (lo)", f"lost {len(lost)}", remark, "status 5"]
+        self.assertEqual(["ok", "ok", "ok", *told], rest)
         self.assertEqual("128 [64, 64, 64]", levels)

@@ -14,8 +14,9 @@ from program import PROGRAM, TOP
 from tooling import run_tool
 
 OTHER = MADE + "# a later one\n"
-TOOLS = ("desk", "osc", "picture")
-STARTERS = ("bin/cueplayer", *(f"bin/cueplayer-{tool}" for tool in TOOLS))
+TOOLS = ("conform", "convert", "desk", "osc", "picture", "sheet", "storm")
+SCRIPTS = ("cueplayer", "cueplayer-night")
+STARTERS = tuple(f"bin/{name}" for name in (*SCRIPTS, *(f"cueplayer-{tool}" for tool in TOOLS)))
 LIST = "lib/cueplayer/installed"
 # Written anew: where it was installed from, what was installed, and what starts it.
 MADE_ANEW = ("lib/cueplayer/dist/COMMIT", LIST, *STARTERS)
@@ -23,9 +24,10 @@ MADE_ANEW = ("lib/cueplayer/dist/COMMIT", LIST, *STARTERS)
 
 def sources(top):
     """The file of the tree that each installed one is a copy of, by its path below the prefix."""
-    found = {f"lib/cueplayer/{name}": name for name in ("cueplayer", "dist/cueplayer", "dist/PROVENANCE")}
+    found = {f"lib/cueplayer/{name}": name for name in (*SCRIPTS, "dist/cueplayer", "dist/PROVENANCE")}
     found |= {f"lib/cueplayer/tools/{tool}": f"tools/{tool}" for tool in TOOLS}
-    found["share/bash-completion/completions/cueplayer"] = "completion/cueplayer.bash"
+    for name in SCRIPTS:
+        found[f"share/bash-completion/completions/{name}"] = f"completion/{name}.bash"
     found |= {f"share/doc/cueplayer/{name}": name for name in ("README.md", "CHANGELOG.md", "LICENSE")}
     for page in (top / "man").iterdir():
         found[f"share/man/man{page.suffix[1:]}/{page.name}"] = f"man/{page.name}"
@@ -57,7 +59,7 @@ def files(folder):
 class Install(CopiedLayout):
     def setUp(self):
         super().setUp()
-        for name in ("install", "README.md", "CHANGELOG.md", "LICENSE"):
+        for name in ("cueplayer-night", "install", "README.md", "CHANGELOG.md", "LICENSE"):
             shutil.copy(TOP / name, self.top / name)
         without = shutil.ignore_patterns("__pycache__")
         for folder in ("man", "completion", "docs", "examples", "tools"):

@@ -14,7 +14,7 @@ import subprocess
 import threading
 import time
 
-from program import PROGRAM, text
+from program import PROGRAM, behind_head, text
 from test_live import LiveTest
 from wire import OPTIONS, SEQUENCE
 
@@ -185,10 +185,10 @@ class LongNight(LiveTest):
         """The digest of what `play` of the record sends, four lines at a time."""
         words = [PROGRAM, "play", *self.words(holds=True)[1:]]
         play = subprocess.Popen(words, stdin=subprocess.PIPE, stdout=subprocess.PIPE)
-        heard, lines = hashlib.sha256(), self.kept.read_bytes().splitlines(keepends=True)
+        heard, lines = hashlib.sha256(), behind_head(self.kept.read_bytes())
         for first in range(0, len(lines), 4):
             part = lines[first : first + 4]
-            play.stdin.write(b"".join(part))
+            play.stdin.write(text(*part))
             play.stdin.flush()
             for _ in part:
                 play.stdout.readline()
@@ -203,7 +203,7 @@ class LongNight(LiveTest):
         self.play()
         self.end()
         latest = machine.latest()
-        lines = [line.split() for line in self.kept.read_text().splitlines()]
+        lines = [line.split() for line in behind_head(self.kept.read_bytes())]
         self.assertEqual([], [words for words in lines if words[0] == "!"], "the record lacks lines")
         ticks = [int(moment) for moment, *words in lines if words == ["tick"]]
         gaps = [b - a for a, b in zip(ticks, ticks[1:])]

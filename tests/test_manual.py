@@ -12,7 +12,9 @@ from program import TOP
 from tooling import run_tool
 
 PAGES = {path.name: path for path in sorted((TOP / "man").iterdir())}
-TOOLS = ("desk", "osc", "picture")
+TOOLS = ("conform", "convert", "desk", "osc", "picture", "sheet", "storm")
+# Tools of several kinds, each with a help of its own.
+KINDS = {"conform": ("receiver", "source", "page"), "picture": ("night", "rehearsal", "storm")}
 FORMATS = (TOP / "docs/FORMATS.md").read_text()
 PROFILE = (TOP / "docs/PROFILE.md").read_text()
 
@@ -127,14 +129,24 @@ class Manual(unittest.TestCase):
 
     def test_tools(self):
         """Each tool has a page, with exactly the options of its help."""
-        self.assertEqual({"cueplayer.1", "cueplayer-show.5", *(f"cueplayer-{tool}.1" for tool in TOOLS)}, set(PAGES))
+        others = {"cueplayer.1", "cueplayer-night.1", "cueplayer-show.5"}
+        self.assertEqual({*others, *(f"cueplayer-{tool}.1" for tool in TOOLS)}, set(PAGES))
         for tool in TOOLS:
             with self.subTest(tool):
-                kinds = ("night", "rehearsal") if tool == "picture" else ("",)
+                kinds = KINDS.get(tool, ("",))
                 helps = [run_tool(tool, *kind.split(), "--help").stdout for kind in kinds]
-                known = set(re.findall(r"(?<![\w-])--[a-z]+", "\n".join(helps)))
+                known = set(re.findall(r"(?<![\w-])--[a-z-]+", "\n".join(helps)))
                 options = sections(f"cueplayer-{tool}.1")["OPTIONS"]
-                self.assertEqual(known, set(re.findall(r"(?<![\w-])--[a-z]+", shown(options))))
+                self.assertEqual(known, set(re.findall(r"(?<![\w-])--[a-z-]+", shown(options))))
+
+    def test_night(self):
+        """Each command of the script's help has its part."""
+        done = subprocess.run([TOP / "cueplayer-night", "--help"], capture_output=True, text=True)
+        below = done.stdout.partition("begins the\n")[2].partition("\nStatus 0")[0]
+        listed = re.findall(r"(?m)^  ([a-z]\S.*?)(?:  |$)", below)
+        names = set(re.findall(r"\b[a-z]{2,}\b", " ".join(listed))) - {"in"}
+        found = " ".join(tags(sections("cueplayer-night.1")["COMMANDS"]))
+        self.assertEqual(names | {"stop"}, set(re.findall(r"\b[a-z]{2,}\b", found)))
 
     def test_exit_statuses(self):
         statuses = [status for status, *_ in rows(FORMATS, "Exit statuses")]

@@ -15,10 +15,18 @@ NUMBER = b"a number is 1 to 9 digits; a cue's is 0.001 to 9999.999, as 2.5"
 LIMIT = b"a show has 2000 cues, channels to 4096, dimmers to 8192, 500 groups, 100 submasters"
 UUID = b"a CID is a UUID, 32 hex digits, as uuidgen prints one"
 ADDRESS = b"an address is four numbers, as 10.0.0.7, with or without a port, as 10.0.0.7:5568"
+TARGET = (
+    b"a target is an address, as 10.0.0.7 or 10.0.0.7:5568, with or without its universes,"
+    b" as 3=10.0.0.7 or 1-8=10.0.0.7"
+)
 CUE = b"a cue is a number from 0.001 to 9999.999, as 2.5"
 PRIORITY = b"a priority is a number from 0 to 200"
 UNIVERSE = b"a universe is a number from 1 to 63999"
 COUNT = b"a count is a number from 1 to 1000000"
+RECORDED = b"a night goes on in its record: --record FILE names it"
+PATIENCE = b"a patience is a number of milliseconds from 1 to 60000"
+FOLLOWED = b"a night waits for the main that it follows: --follow FILE names its record"
+ALONE = b"a night that follows begins where its main is: leave out --resume and --start"
 INPUT_LINE = (
     b"MOMENT and go, back, goto CUE, goto CUE in TIME, sub N LEVEL, group N LEVEL, master LEVEL, end or tick"
 )
@@ -77,17 +85,32 @@ class Messages(unittest.TestCase):
             (("look", "a", "x", *cid), b"CUE `x`", CUE),
             (("look", "a", "1", "--cid", "c0ffee"), b"--cid `c0ffee`", UUID),
             (("look", "a", "1", "--cid=c0ffee"), b"--cid `c0ffee`", UUID),
-            (("play", "a", "--to", "10.0.0", *cid), b"--to `10.0.0`", ADDRESS),
+            (("play", "a", "--to", "10.0.0", *cid), b"--to `10.0.0`", TARGET),
+            (("live", "a", *to, "--to", "0=10.0.0.7", *cid), b"--to `0=10.0.0.7`", TARGET),
             (("play", "a", *to, *cid, "--priority", "201"), b"--priority `201`", PRIORITY),
             (("live", "a", *to, *cid, "--base", "0"), b"--base `0`", UNIVERSE),
             (("listen", "::1", "1", "1"), b"ADDR `::1`", ADDRESS),
             (("listen", "127.0.0.1", "64000", "1"), b"UNIVERSE `64000`", UNIVERSE),
             (("listen", "127.0.0.1", "1", "1000001"), b"COUNT `1000001`", COUNT),
+            (("live", "a", *to, *cid, "--start", "0"), b"--start `0`", CUE),
+            (("live", "a", *to, *cid, "--resume"), b"--resume", RECORDED),
+            (("live", "a", *to, *cid, "--follow", "b", "--patience", "0"), b"--patience `0`", PATIENCE),
+            (("live", "a", *to, *cid, "--patience", "100"), b"--patience `100`", FOLLOWED),
+            (("live", "a", *to, *cid, "--follow", "b", "--start", "1"), b"--follow `b`", ALONE),
+            (
+                ("live", "a", *to, *cid, "--record", "c", "--resume", "--follow", "b"),
+                b"--follow `b`",
+                ALONE,
+            ),
             (("look", "a", "1", "--cid", "\u00fc"), b"--cid `??`", UUID),
             # More than one of them lacks its form.
             (("look", "a", "x", "--cid", "c0ffee"), b"CUE `x`", CUE),
             (("look", "a", "--cid", "c0ffee", "x"), b"CUE `x`", CUE),
-            (("play", "a", "--base", "0", "--cid", "c0ffee", "--to", "10"), b"--to `10`", ADDRESS),
+            (("play", "a", "--base", "0", "--cid", "c0ffee", "--to", "10"), b"--to `10`", TARGET),
+            (("live", "a", "--resume", "--start", "x", "--base", "0", *to, *cid), b"--base `0`", UNIVERSE),
+            (("live", "a", "--start", "x", "--resume", *to, *cid), b"--resume", RECORDED),
+            (("live", "a", "--patience", "0", "--start", "x", "--follow", "b", *to, *cid), b"--start `x`", CUE),
+            (("live", "a", "--patience", "0", *to, *cid), b"--patience `0`", FOLLOWED),
         ):
             self.assertEqual((2, [b"words refused", argument + b": " + form]), run(*words), words)
         self.assertEqual((2, [b"words refused", b"the words are text in UTF-8"]), run("check", b"\xff"))
@@ -120,7 +143,7 @@ class Messages(unittest.TestCase):
             show.write_bytes(SHOW)
             kept.write_bytes(b"0 tick\n")
             words = ("live", show, "--to", "127.0.0.1:9", "--cid", CID, "--record", kept)
-            told = [b"device fault", b"the record's file is not empty: no night is written over another"]
+            told = [b"device fault", b"the record's file is not empty: --resume goes on with it"]
             self.assertEqual((5, told), run(*words))
 
     @unittest.skipUnless(Path("/dev/full").exists(), "no full disk")

@@ -8,7 +8,7 @@ import termios
 import threading
 import time
 
-from program import PROGRAM, run
+from program import PROGRAM, behind_head, run
 from test_live import LiveTest, without_moments
 from wire import OPTIONS, SEQUENCE, SLOT_1, TERMINATED, terminal
 
@@ -182,7 +182,7 @@ class Outputs(OutputsTest):
         self.assertEqual(0, writer.wait(timeout=30))
         self.assertEqual(b"", night.stderr.read())
         self.assertTicks(copy)
-        self.assertEqual(b"0 tick\n", copy.read_bytes()[:7])
+        self.assertEqual("tick", behind_head(copy.read_bytes())[0].split()[1])
 
     def test_record_that_is_late(self):
         """A FIFO whose reader stalls: it is told once, and again when all is read; then it is whole, and

@@ -12,9 +12,9 @@ from pathlib import Path
 
 from program import CID, SHIPPED, TOP
 
-TOOLS = ("desk", "osc", "picture")
+TOOLS = ("conform", "convert", "desk", "osc", "picture", "sheet", "storm")
 # What the package is made of besides dist/.
-PARTS = ("cueplayer", "install", "VERSION", "README.md", "CHANGELOG.md", "LICENSE", "HANDLES", "crates.txt")
+PARTS = ("cueplayer", "cueplayer-night", "install", "VERSION", "README.md", "CHANGELOG.md", "LICENSE", "HANDLES", "crates.txt")
 FOLDERS = ("dist", "dev", "tools", "man", "completion", "docs", "examples")
 LINTIAN = shutil.which("lintian")
 ROOT = os.geteuid() == 0
@@ -151,13 +151,14 @@ class Made(Package):
         root = self.folder / "root"
         self.assertRuns("dpkg-deb", "--extract", package, root)
         found = files(root)
-        names = ["cueplayer", *(f"cueplayer-{tool}" for tool in TOOLS)]
+        names = ["cueplayer", *(f"cueplayer-{tool}" for tool in ("night", *TOOLS))]
         wanted = {f"usr/bin/{name}" for name in names} | {f"usr/share/man/man1/{name}.1.gz" for name in names}
         wanted |= {f"usr/share/doc/cueplayer/{name}" for name in ("README.md", "copyright", "changelog.gz")}
-        wanted |= {f"usr/share/doc/cueplayer/examples/{path.name}" for path in (TOP / "examples").iterdir()}
+        wanted |= {f"usr/share/doc/cueplayer/examples/{name}" for name in files(TOP / "examples")}
         wanted |= {f"usr/share/doc/cueplayer/docs/{path.name}" for path in (TOP / "docs").iterdir()}
-        wanted |= {"usr/share/bash-completion/completions/cueplayer", "usr/share/man/man5/cueplayer-show.5.gz"}
-        wanted |= {"usr/lib/systemd/system/sacn-join@.service"}
+        wanted |= {f"usr/share/bash-completion/completions/cueplayer{part}" for part in ("", "-night")}
+        wanted |= {f"usr/lib/systemd/system/{unit}@.service" for unit in ("sacn-join", "cueplayer-night")}
+        wanted |= {"usr/share/man/man5/cueplayer-show.5.gz"}
         self.assertEqual(set(), wanted - found)
         self.assertEqual(SHIPPED.read_bytes(), (root / "usr/lib/cueplayer/dist/cueplayer").read_bytes())
         for name in found:

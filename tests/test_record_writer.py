@@ -154,7 +154,7 @@ class RecordWriter(WriterTest):
         self.record.write_bytes(b"0 tick\n")
         night = self.started("--record", self.record)
         self.assertEqual(5, night.wait(timeout=NEVER))
-        refused = b"device fault\nthe record's file is not empty: no night is written over another\n"
+        refused = b"device fault\nthe record's file is not empty: --resume goes on with it\n"
         self.assertEqual(refused, night.stderr.read())
         self.assertEqual(b"0 tick\n", self.record.read_bytes())
 

@@ -53,8 +53,9 @@ class RefusedGrowths(Growths):
                 outcome = self.run_without(growth, words, stdin)
                 self.assertIn(outcome, (MEMORY, whole))
                 refused += outcome == MEMORY
-        # A block that is made smaller may stay where it is; and a remark that cannot be made is left out.
-        self.assertTrue(has_remark or refused >= growths - 1)
+        # A block that is made smaller may stay where it is; without memory for the name of a record that
+        # was made for nothing, that stays; and a remark that cannot be made is left out.
+        self.assertTrue(has_remark or refused >= growths - 2)
         self.assertGreater(refused, 0)
         # And where the growth after the last would be refused, none is.
         self.assertEqual(whole, self.run_without(growths + 1, words, stdin))

@@ -2,7 +2,7 @@
 
 import subprocess
 
-from program import told
+from program import behind_head, told
 from test_live import LiveTest, without_moments
 
 LONG = "a line has at most 200 bytes with its moment"
@@ -77,5 +77,5 @@ class RefusedLines(LiveTest):
         """It has neither refused lines nor keys."""
         record = self.folder / "night.play"
         self.typed("\x1b[Ago", "go 4", "jump", options=("--record", record))
-        commands = [line.split(" ", 1)[1] for line in record.read_text().splitlines()]
+        commands = [line.split(" ", 1)[1] for line in behind_head(record.read_bytes())]
         self.assertEqual(["go", "master 0", "end"], [line for line in commands if line != "tick"])

@@ -9,6 +9,7 @@ from wire import own_network
 from worked import S1
 
 SENDS = f"priority 100, CID {CID}, name cueplayer"
+HERE = "from 127.0.0.1 (lo)"
 ENDS = "end ends the night, leave leaves the light to others"
 NO_RECORD = "record: none; --record FILE keeps one"
 
@@ -21,9 +22,10 @@ class StartLines(LiveTest):
         return done.stderr.decode().splitlines()
 
     def test_start(self):
-        """Four lines, and nothing more."""
+        """Five lines, and nothing more."""
         show = "show: 2 cues, 1 submaster, 0 groups, 2 dimmers"
-        self.assertEqual([show, f"sends: universe 1 to {self.to}, {SENDS}", NO_RECORD, ENDS], self.lines())
+        sends = f"sends: universe 1 to {self.to}, {SENDS}"
+        self.assertEqual([show, sends, HERE, NO_RECORD, ENDS], self.lines())
 
     def test_counts(self):
         """As `check` counts them; of each it says whether there is one or more."""
@@ -71,6 +73,32 @@ class StartLines(LiveTest):
                 told = self.lines("--priority", priority, cid=cid)[1]
                 self.assertEqual(f"sends: universe 1 to {self.to}, priority {priority}, CID {CID}, name cueplayer", told)
 
+    def test_name(self):
+        """As it is in each packet, in UTF-8."""
+        for name in ("the backup", "M\u00e4in, 2", "n" * 63):
+            told = self.lines("--name", name)[1]
+            self.assertEqual(f"sends: universe 1 to {self.to}, priority 100, CID {CID}, name {name}", told)
+
+    def test_targets(self):
+        """Several targets, or one for some universes alone, have a line each, in their order."""
+        self.show.write_bytes(text("PATCH 1 1<1@FL 1<513@FL 1<1025@FL"))
+        more = ("--to", "3=127.0.0.1:6000", "--to", "1-2=127.0.0.2", "--to", "2=127.0.0.1")
+        told = self.lines(*more)
+        self.assertEqual(f"sends: universes 1 2 3 to 4 targets, {SENDS}", told[1])
+        self.assertEqual(
+            [
+                f"target: {self.to}",
+                "target: universe 3 to 127.0.0.1:6000",
+                "target: universes 1-2 to 127.0.0.2:5568",
+                "target: universe 2 to 127.0.0.1:5568",
+                HERE,
+            ],
+            told[2:-2],
+        )
+        told = self.lines(to="1-3=127.0.0.1")
+        self.assertEqual((f"sends: universes 1 2 3 to 1 target, {SENDS}", "target: universes 1-3 to 127.0.0.1:5568"),
+                         tuple(told[1:3]))
+
     def test_multicast(self):
         """Each universe to its own group, and all to one address: only the first is told as multicast."""
         network = own_network(self)
@@ -91,13 +119,13 @@ class StartLines(LiveTest):
         ):
             with self.subTest(name):
                 record = self.folder / name
-                self.assertEqual(f"record: {self.folder / shown}"[:208], self.lines("--record", record)[2])
+                self.assertEqual(f"record: {self.folder / shown}"[:208], self.lines("--record", record)[-2])
 
     def test_ends(self):
         """That control-C does nothing is told where it is so."""
-        self.assertEqual(ENDS, self.lines()[3])
+        self.assertEqual(ENDS, self.lines()[-1])
         self.env = os.environ | {"CUEPLAYER_INTERRUPTS": "ignored"}
-        self.assertEqual(f"{ENDS}; control-C does nothing", self.lines()[3])
+        self.assertEqual(f"{ENDS}; control-C does nothing", self.lines()[-1])
 
     def test_refused(self):
         """Where no night begins there is none of these lines."""
@@ -121,6 +149,6 @@ class ByTheScript(LiveTest):
         """`./cueplayer live` has control-C ignored, and it is told, be there a terminal or not."""
         self.env = os.environ | {"CUEPLAYER": str(PROGRAM)}
         night = self.started()
-        start = [night.stderr.readline().decode().rstrip("\n") for _ in range(4)]
-        self.assertEqual(f"{ENDS}; control-C does nothing", start[3])
+        start = [night.stderr.readline().decode().rstrip("\n") for _ in range(5)]
+        self.assertEqual(f"{ENDS}; control-C does nothing", start[-1])
         self.assertEqual(0, self.ended(night).status)

@@ -34,7 +34,7 @@ def printed_text(lines):
 def wire(universe, sent, console):
     """A packet's bytes."""
     cid = console.cid.hex()
-    return packet(universe, sent.slots, sent.k % 256, sent.options, console.priority, cid)
+    return packet(universe, sent.slots, sent.k % 256, sent.options, console.priority, cid, console.name)
 
 
 def check(text):

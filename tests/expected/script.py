@@ -14,6 +14,7 @@ class Console(NamedTuple):
     base: int
     priority: int
     cid: bytes
+    name: str = "cueplayer"
 
 
 class Event(NamedTuple):

@@ -1,24 +1,30 @@
-"""`tools/desk`: runs `live`, and serves one page on this machine to play it from."""
+"""`tools/desk`: runs `live`, or takes hold of a night that is played, and serves one page on this
+machine to play it from."""
 
 import argparse
 import os
 import select
 import signal
+import socket
 import sys
 import threading
 import time
 import uuid
 from pathlib import Path
 
-from cueplayer_tools.addresses import LOOPBACK, bound_socket, port_number, sending_address
+from cueplayer_tools.addresses import LOOPBACK, bound_socket, port_number
 from cueplayer_tools.cid_lock import holder
 from cueplayer_tools.console_cid import console_cid
 from cueplayer_tools.cue_list import read_show
-from cueplayer_tools.desk_levels import LevelReader
+from cueplayer_tools.desk_folder import FolderNight
+from cueplayer_tools.desk_heard import HeardNight
+from cueplayer_tools.desk_levels import LevelReader, Way
 from cueplayer_tools.desk_night import Night
 from cueplayer_tools.desk_server import DeskServer
 from cueplayer_tools.desk_view import show_view
+from cueplayer_tools.night_folder import NightFolder
 from cueplayer_tools.osc_port import OscPort
+from cueplayer_tools.targets import target
 from cueplayer_tools.teller import Teller, leave_all
 from cueplayer_tools.words import Refused
 
@@ -28,20 +34,29 @@ END_PATIENCE = 10.0
 WATCH_EVERY = 0.05
 # Of what `live` prints: hours of it, where its disk stands still.
 MOST_REPLIES = 100_000
+# Words of `live`, which a desk on another's night does not take.
+NIGHT_WORDS = ("show", "to", "interface", "any_route", "ttl", "name", "cid", "priority", "base")
+NIGHT_WORDS += ("record", "replies")
 
 
 def _parser() -> argparse.ArgumentParser:
     parser = argparse.ArgumentParser(prog="desk", description=__doc__)
-    parser.add_argument("show", metavar="SHOW")
-    parser.add_argument("--to", metavar="ADDR", required=True, help="as of `live`")
+    parser.add_argument("show", metavar="SHOW", nargs="?")
+    _add_way(parser)
+    parser.add_argument(
+        "--night",
+        metavar="NIGHT",
+        help="take hold of the night that `cueplayer-night NIGHT` keeps going, by its own words",
+    )
     parser.add_argument(
         "--cid",
         metavar="UUID",
         type=uuid.UUID,
         help="this console's own; left out, the one that is kept in ~/.config/cueplayer/cid",
     )
+    parser.add_argument("--name", metavar="TEXT", help="as of `live`")
     parser.add_argument("--priority", metavar="P", help="as of `live`")
-    parser.add_argument("--base", metavar="U", type=int, default=1, help="as of `live`")
+    parser.add_argument("--base", metavar="U", type=int, help="as of `live`")
     parser.add_argument("--record", metavar="FILE", help="as of `live`")
     parser.add_argument(
         "--replies",
@@ -49,6 +64,27 @@ def _parser() -> argparse.ArgumentParser:
         type=argparse.FileType("x"),
         help="a new file, which gets what `live` prints",
     )
+    _add_page(parser)
+    return parser
+
+
+def _add_way(parser: argparse.ArgumentParser) -> None:
+    """The options that say where the packets go, and by which card."""
+    parser.add_argument(
+        "--to",
+        metavar="TARGET",
+        action="append",
+        help="as of `live`, once or more: an address, or 3=ADDR or 1-8=ADDR for these universes",
+    )
+    parser.add_argument(
+        "--interface", metavar="CARD", help="as of `live`; the levels are received by it too"
+    )
+    parser.add_argument("--any-route", action="store_const", const=True, help="as of `live`")
+    parser.add_argument("--ttl", metavar="HOPS", help="as of `live`")
+
+
+def _add_page(parser: argparse.ArgumentParser) -> None:
+    """The options of the page, also where the night is another's."""
     parser.add_argument(
         "--port",
         metavar="N",
@@ -67,20 +103,44 @@ def _parser() -> argparse.ArgumentParser:
         action="store_true",
         help="receive the levels at --to too, an address of this machine's own",
     )
-    return parser
+
+
+def _read_words(words: list[str]) -> argparse.Namespace:
+    """The words of a desk that runs `live`, or of one that takes hold of a night."""
+    parser = _parser()
+    chosen = parser.parse_args(words)
+    if chosen.night is not None:
+        named = [name for name in NIGHT_WORDS if getattr(chosen, name) is not None]
+        given = [name.replace("_", "-") for name in named]
+        if given:
+            parser.error(f"--night has the words of its night: leave out {', '.join(given)}")
+    elif chosen.show is None or chosen.to is None:
+        parser.error("a night of its own wants SHOW and --to; --night NIGHT takes hold of another")
+    return chosen
 
 
 def _live_words(words: argparse.Namespace) -> list[str]:
-    live = [words.show, "--to", words.to, "--cid", str(words.cid), "--base", str(words.base)]
-    for name in ("priority", "record"):
+    live = [words.show, "--cid", str(words.cid), "--base", str(words.base)]
+    for word in words.to:
+        live += ["--to", word]
+    if words.any_route:
+        live.append("--any-route")
+    for name in ("interface", "ttl", "name", "priority", "record"):
         value = getattr(words, name)
         if value is not None:
             live += [f"--{name}", value]
     return live
 
 
-def _take_osc(night: Night, port: OscPort) -> None:
+def _replies(words: argparse.Namespace, tell: Teller) -> Teller:
+    """What keeps the lines that `live` prints."""
+    kept = words.replies or open(os.devnull, "w", encoding="ascii")
+    return Teller(kept, "", MOST_REPLIES, lambda text: tell(f"replies: {text}"))
+
+
+def _take_osc(night: HeardNight, receiver: socket.socket) -> None:
     """Takes Open Sound Control as `tools/osc` does."""
+    port = OscPort(receiver, lambda text: night.refuse(f"OSC: {text}", "osc"))
     poll = select.poll()
     poll.register(port, select.POLLIN)
     while True:
@@ -90,12 +150,13 @@ def _take_osc(night: Night, port: OscPort) -> None:
 
 
 class _Presses:
-    """Control-C: the first is asked about, the second ends the night."""
+    """Control-C: the first is asked about, the second ends the night. Where the night is another's
+    the first leaves it."""
 
-    def __init__(self, tell: Teller) -> None:
+    def __init__(self, tell: Teller, is_own: bool) -> None:
         self.tell = tell
         self.latest = -SECOND_PRESS
-        self.is_asked_for = True
+        self.is_asked_for = is_own
         self.is_over = False
 
     def press(self, *_: object) -> None:
@@ -109,52 +170,74 @@ class _Presses:
         self.is_over = True
 
 
-def _watch(night: Night, server: DeskServer, presses: _Presses) -> None:
+def _watch(night: HeardNight, server: DeskServer, presses: _Presses) -> None:
     """Until the desk is left: watches the night, and tells when `live` ends. Where nobody has
     opened the page, there is nobody to be told by it."""
+    is_told = False
     while not presses.is_over:
         night.watch()
-        if night.state.status is not None and presses.is_asked_for:
-            presses.is_asked_for = False
+        if night.state.status is not None and not is_told:
+            is_told, presses.is_asked_for = True, False
             presses.is_over = not server.was_opened
             presses.tell(f"live has ended with status {night.state.status}")
         time.sleep(WATCH_EVERY)
 
 
-def run_desk(words: argparse.Namespace, tell: Teller, tell_address: Teller) -> int:
-    """The desk of one night; the status of `live`."""
-    show = read_show(words.show)
-    to = sending_address(words.to)
-    words.cid = words.cid or console_cid(tell)
-    other = holder(words.cid)
+def _refuse_second(cid: uuid.UUID) -> None:
+    """No night of the desk's own begins beside another `live` of its CID."""
+    other = holder(cid)
     if other is not None:
         raise Refused(f"process {other} plays live under this CID already: `kill {other}` ends it")
-    server = DeskServer(words.port)
-    receiver = None if words.osc is None else bound_socket((LOOPBACK, words.osc))
-    osc = None if receiver is None else "{}:{}".format(*receiver.getsockname())
-    presses = _Presses(tell)
+
+
+def _complete(words: argparse.Namespace, tell: Teller) -> NightFolder | None:
+    """Gives the words what is left out; the folder of a night that others keep."""
+    folder = None if words.night is None else NightFolder(words.night)
+    if folder is not None:
+        vars(words).update(vars(folder.words()))
+    words.base = 1 if words.base is None else words.base
+    words.cid = words.cid or console_cid(tell)
+    return folder
+
+
+def _heed_signals(presses: _Presses) -> None:
     signal.signal(signal.SIGINT, presses.press)
     signal.signal(signal.SIGTERM, presses.leave)
     # A terminal that is closed by mistake does not put out the light.
     signal.signal(signal.SIGHUP, signal.SIG_IGN)
+
+
+def run_desk(words: argparse.Namespace, tell: Teller, tell_address: Teller) -> int:
+    """The desk of one night; the status of `live`, or 0 where the night is another's."""
+    folder = _complete(words, tell)
+    show = read_show(words.show)
+    way = Way([target(word) for word in words.to], words.interface, words.grid)
+    if folder is None:
+        _refuse_second(words.cid)
+    server = DeskServer(words.port)
+    receiver = None if words.osc is None else bound_socket((LOOPBACK, words.osc))
+    osc = None if receiver is None else "{}:{}".format(*receiver.getsockname())
+    presses = _Presses(tell, is_own=folder is None)
+    _heed_signals(presses)
     # Listens before the night begins, so that its first packets are heard.
-    levels = LevelReader(to, words.cid, show.universes(words.base), words.grid)
+    levels = LevelReader(way, words.cid, show.universes(words.base))
     view = show_view(show, Path(words.show).name, words.base, osc)
-    tell_address(f"desk: {server.address}")
-    kept = words.replies or open(os.devnull, "w", encoding="ascii")
-    replies = Teller(kept, "", MOST_REPLIES, lambda text: tell(f"replies: {text}"))
-    night = Night(show, _live_words(words), tell, replies)
+    replies = _replies(words, tell)
+    if folder is None:
+        night: HeardNight = Night(show, _live_words(words), tell, replies)
+    else:
+        night = FolderNight(show, folder, tell)
     try:
-        tell(f"console {words.cid}, live is process {night.process.pid}")
+        tell_address(f"desk: {server.address}")
+        tell(f"console {words.cid}, live is process {night.live()}")
         night.read()
         levels.read(night.wake)
         server.show(night, levels, view)
         if receiver is not None:
-            port = OscPort(receiver, lambda text: night.refuse(f"OSC: {text}", "osc"))
-            threading.Thread(target=_take_osc, args=(night, port), daemon=True).start()
+            threading.Thread(target=_take_osc, args=(night, receiver), daemon=True).start()
         _watch(night, server, presses)
     finally:
-        # Whatever happened, no `live` is left behind that nobody can play.
+        # Whatever happened, no `live` of its own is left behind that nobody can play.
         status = night.end(END_PATIENCE)
         # The night is over: one press more would only hide its status.
         signal.signal(signal.SIGINT, signal.SIG_IGN)
@@ -164,7 +247,7 @@ def run_desk(words: argparse.Namespace, tell: Teller, tell_address: Teller) -> i
 
 def main(words: list[str]) -> int:
     """Runs the tool with these words, and answers its exit status."""
-    chosen = _parser().parse_args(words)
+    chosen = _read_words(words)
     tell, tell_address = Teller(sys.stderr, "desk: "), Teller(sys.stdout)
     status = 1
     try:

@@ -11,6 +11,7 @@ import termios
 import time
 from collections import deque
 
+from cueplayer_tools.night_folder import NightFolder
 from cueplayer_tools.words import Refused
 
 # Asks for the whole state of the night.
@@ -20,28 +21,12 @@ LATE = 1.0
 _MOST_IN_PIPE = 65_536
 
 
-class LiveInput:
-    """Standard input of `live`, by which lines are handed on. Each gets one answer, in order."""
+class Waiting:
+    """The lines that were handed on and have no answer yet. Each gets one, in order."""
 
     def __init__(self) -> None:
-        self.theirs, self.ours = os.pipe()
-        os.set_blocking(self.ours, False)
-        # Opened anew, since not to block is a property of all who share an opened pipe.
-        again = f"/proc/self/fd/{self.theirs}"
-        self.back = os.open(again, os.O_RDONLY | os.O_NONBLOCK)
-        # The lines without an answer, each behind the time at which it was handed on.
+        # Each behind the time at which it was handed on.
         self.waiting: deque[tuple[float, str]] = deque()
-        self.is_probed = False
-
-    def give(self, line: str) -> None:
-        """Hands on a line, or refuses it: it is never handed on later."""
-        if self.stands_still():
-            raise Refused("live does not answer: nothing was sent")
-        try:
-            os.write(self.ours, line.encode() + b"\n")
-        except (BlockingIOError, BrokenPipeError) as fault:
-            raise Refused("live takes no line now: nothing was sent") from fault
-        self.waiting.append((time.monotonic(), line))
 
     def oldest(self) -> str | None:
         """The line that the next answer is to: the oldest that waits."""
@@ -67,6 +52,32 @@ class LiveInput:
     def is_late(self) -> bool:
         """Whether a line has waited for its answer for too long."""
         return bool(self.waiting) and time.monotonic() - self.waiting[0][0] > LATE
+
+    def _wait(self, line: str) -> None:
+        self.waiting.append((time.monotonic(), line))
+
+
+class LiveInput(Waiting):
+    """Standard input of a `live` of one's own, by which lines are handed on."""
+
+    def __init__(self) -> None:
+        super().__init__()
+        self.theirs, self.ours = os.pipe()
+        os.set_blocking(self.ours, False)
+        # Opened anew, since not to block is a property of all who share an opened pipe.
+        again = f"/proc/self/fd/{self.theirs}"
+        self.back = os.open(again, os.O_RDONLY | os.O_NONBLOCK)
+        self.is_probed = False
+
+    def give(self, line: str) -> None:
+        """Hands on a line, or refuses it: it is never handed on later."""
+        if self.stands_still():
+            raise Refused("live does not answer: nothing was sent")
+        try:
+            os.write(self.ours, line.encode() + b"\n")
+        except (BlockingIOError, BrokenPipeError) as fault:
+            raise Refused("live takes no line now: nothing was sent") from fault
+        self._wait(line)
 
     def stands_still(self) -> bool:
         """Whether `live` was seen to read nothing, and has not read since."""
@@ -107,3 +118,29 @@ class LiveInput:
         os.write(self.ours, unread + b"\n")
         self.is_probed = True
         return taken[::-1]
+
+
+class FolderInput(Waiting):
+    """The FIFO of a night, by which lines are handed on beside those of others. What is not read
+    there whoever keeps the night takes back."""
+
+    def __init__(self, folder: NightFolder) -> None:
+        super().__init__()
+        self.folder = folder
+
+    def give(self, line: str) -> None:
+        """Hands on a line, or refuses it: it is never handed on later."""
+        self.folder.give(line)
+        self._wait(line)
+
+    def is_late(self) -> bool:
+        """Whether a line has waited for too long, or no `live` is there."""
+        return super().is_late() or self.folder.is_away()
+
+    def stands_still(self) -> bool:
+        """Whether `live` reads nothing."""
+        return self.folder.stands_still()
+
+    def take_back(self) -> list[str]:
+        """Nothing: a line of another would be taken too."""
+        return []

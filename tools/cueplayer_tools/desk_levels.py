@@ -10,13 +10,13 @@ import socket
 import threading
 import time
 import uuid
-from collections.abc import Callable
+from collections.abc import Callable, Sequence
 from dataclasses import dataclass, field
 
 from cueplayer_tools.addresses import Address, bound_socket
+from cueplayer_tools.targets import Target, group_of, membership, targets_of
 from cueplayer_tools.words import printable
 
-MULTICAST = "239.255.0.0"
 IDENTIFIER = b"ASC-E1.17\0\0\0"
 SLOTS = 512
 _CID = slice(22, 38)
@@ -47,59 +47,74 @@ class Source:
 
 @dataclass
 class Levels:
-    """The levels last received of each universe, and other sources that are heard there."""
+    """The levels last received of each universe, why those of others are not received, and other
+    sources that are heard there."""
 
-    reason: str = ""
+    reasons: dict[int, str] = field(default_factory=dict)
     slots: dict[int, bytes] = field(default_factory=dict)
     others: list[str] = field(default_factory=list)
     version: int = 0
 
 
-def group_of(universe: int) -> str:
-    """The multicast group of a universe (E1.31, multicast addressing)."""
-    return f"239.255.{universe >> 8}.{universe & 255}"
-
-
-def _joined(universe: int, port: int) -> socket.socket:
+def _joined(universe: int, port: int, card: str | None) -> socket.socket:
     group = group_of(universe)
     receiver = socket.socket(socket.AF_INET, socket.SOCK_DGRAM)
     try:
         receiver.setsockopt(socket.SOL_SOCKET, socket.SO_REUSEADDR, 1)
         receiver.bind((group, port))
-        membership = socket.inet_aton(group) + socket.inet_aton("0.0.0.0")
-        receiver.setsockopt(socket.IPPROTO_IP, socket.IP_ADD_MEMBERSHIP, membership)
+        joined = membership(group, card)
+        receiver.setsockopt(socket.IPPROTO_IP, socket.IP_ADD_MEMBERSHIP, joined)
     except OSError:
         receiver.close()
         raise
     return receiver
 
 
+@dataclass(frozen=True)
+class Way:
+    """Where a night sends, and by which card; and whether levels are received at addresses of this
+    machine's own too."""
+
+    targets: Sequence[Target]
+    card: str | None = None
+    is_here: bool = False
+
+
 class LevelReader:
     """Reads the levels of a night's universes, where they come to this machine."""
 
-    def __init__(self, to: Address, cid: uuid.UUID, universes: list[int], here: bool) -> None:
+    def __init__(self, way: Way, cid: uuid.UUID, universes: list[int]) -> None:
         self.cid = cid.bytes
         self.universes = frozenset(universes)
         self.levels = Levels()
         self.sources: dict[bytes, Source] = {}
         self.looked_at = 0.0
         self.selector = selectors.DefaultSelector()
-        receivers: list[socket.socket] = []
+        # The addresses of this machine's own that are listened at.
+        self.here: set[Address] = set()
+        for universe in universes:
+            targets = targets_of(universe, way.targets)
+            reasons = [self._listen(universe, target, way) for target in targets]
+            if reasons and all(reasons):
+                self.levels.reasons[universe] = reasons[0]
+
+    def _listen(self, universe: int, target: Target, way: Way) -> str:
+        """Listens where a target's packets may come to this machine; why they do not, else
+        nothing."""
+        if not target.is_groups() and not way.is_here:
+            return "they are sent to one receiver alone"
+        if target.address in self.here:
+            return ""
         try:
-            if to[0] == MULTICAST:
-                for universe in universes:
-                    receivers.append(_joined(universe, to[1]))
-            elif here:
-                receivers.append(bound_socket(to))
+            if target.is_groups():
+                receiver = _joined(universe, target.address[1], way.card)
             else:
-                self.levels.reason = "they are sent to one receiver alone"
+                receiver = bound_socket(target.address)
+                self.here.add(target.address)
         except OSError as fault:
-            for receiver in receivers:
-                receiver.close()
-            receivers = []
-            self.levels.reason = fault.strerror or str(fault)
-        for receiver in receivers:
-            self.selector.register(receiver, selectors.EVENT_READ)
+            return fault.strerror or str(fault)
+        self.selector.register(receiver, selectors.EVENT_READ)
+        return ""
 
     def read(self, changed: Callable[[], None]) -> None:
         """Reads from here on, and tells of each change."""

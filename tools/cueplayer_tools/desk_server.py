@@ -23,7 +23,7 @@ from typing import Any
 
 from cueplayer_tools.addresses import LOOPBACK
 from cueplayer_tools.desk_levels import LevelReader
-from cueplayer_tools.desk_night import Night
+from cueplayer_tools.desk_heard import HeardNight
 from cueplayer_tools.desk_requests import Entrance, Request
 from cueplayer_tools.desk_view import state_view
 from cueplayer_tools.words import Refused, printable
@@ -107,7 +107,7 @@ class DeskServer:
         self.files = {at: ((PAGE / name).read_bytes(), kind) for at, (name, kind) in FILES.items()}
         self.hosts = {f"{name}:{self.port}" for name in (LOOPBACK, "localhost")}
 
-    def show(self, night: Night, levels: LevelReader, view: dict[str, Any]) -> None:
+    def show(self, night: HeardNight, levels: LevelReader, view: dict[str, Any]) -> None:
         """Serves a night from here on."""
         self.night, self.levels, self.view = night, levels, view
         entrance = Entrance(self.listener, self._take, _refuse)
@@ -239,7 +239,7 @@ class _OpenPage:
         levels = self.server.levels.levels
         slots = dict(levels.slots)
         changed = {at: slots[at].hex() for at in slots if slots[at] != shown.get(at)}
-        told = {"reason": levels.reason, "slots": changed, "others": levels.others}
+        told = {"reasons": levels.reasons, "slots": changed, "others": levels.others}
         self._event("levels", told)
         return slots
 

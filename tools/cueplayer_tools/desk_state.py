@@ -5,6 +5,7 @@ from dataclasses import dataclass, field
 
 from cueplayer_tools.cue_list import Show
 from cueplayer_tools.live_lines import FULL, LostPackets, Move, Place
+from cueplayer_tools.live_links import Mended, Trouble
 from cueplayer_tools.words import MOVES, level_byte, milliseconds_of, thousandths_of
 
 NOTICES_KEPT = 20
@@ -56,6 +57,10 @@ class State:
     lost: Lost = field(default_factory=Lost)
     # How many lines of the show have no effect, in words.
     skipped: str = ""
+    # By which addresses and cards it sends.
+    ways: list[str] = field(default_factory=list)
+    # What keeps packets from nodes, each with the line that says so.
+    troubles: dict[Trouble, str] = field(default_factory=dict)
     notices: deque[Notice] = field(default_factory=lambda: deque(maxlen=NOTICES_KEPT))
     told: int = 0
     # Whether a line has waited for its answer for too long.
@@ -69,6 +74,20 @@ class State:
             self._forget("osc")
         self.told += 1
         self.notices.append(Notice(self.told, kind, text))
+
+    def trouble(self, trouble: Trouble, line: str) -> None:
+        """Takes that nodes get nothing; the line that said so first stands."""
+        if trouble not in self.troubles:
+            self.mend(Mended(trouble.kind, trouble.about))
+            self.troubles[trouble] = line
+
+    def mend(self, mended: Mended) -> None:
+        """Takes that this is over."""
+        self.troubles = {
+            each: line
+            for each, line in self.troubles.items()
+            if each.kind != mended.kind or mended.about not in (None, each.about)
+        }
 
     def accept(self, moment: int, line: str) -> None:
         """Takes a command that the program has accepted. A move is told by a line of its own."""

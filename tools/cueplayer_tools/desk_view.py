@@ -3,7 +3,7 @@
 from typing import Any
 
 from cueplayer_tools.cue_list import Record, Show
-from cueplayer_tools.desk_night import Night
+from cueplayer_tools.desk_heard import HeardNight
 from cueplayer_tools.words import cue_word
 
 
@@ -33,7 +33,7 @@ def _spelled(cue: int | None) -> str | None:
     return None if cue is None else cue_word(cue)
 
 
-def state_view(night: Night) -> dict[str, Any]:
+def state_view(night: HeardNight) -> dict[str, Any]:
     """What changes. Called with the night's lock held."""
     state, fade = night.state, None
     if state.fade is not None:
@@ -50,6 +50,8 @@ def state_view(night: Night) -> dict[str, Any]:
         "waiting": len(night.input.waiting),
         "lost": dict(vars(state.lost)),
         "skipped": state.skipped,
+        "ways": list(state.ways),
+        "troubles": list(state.troubles.values()),
         "notices": [vars(notice) for notice in state.notices],
         "late": state.is_late,
         "ending": state.is_ending,

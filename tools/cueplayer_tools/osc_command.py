@@ -1,4 +1,4 @@
-"""`tools/osc`: Open Sound Control datagrams in, lines for `live` out."""
+"""`tools/osc`: Open Sound Control datagrams in, lines for `live` out, or into a night's FIFO."""
 
 import argparse
 import fcntl
@@ -11,6 +11,7 @@ import termios
 import time
 
 from cueplayer_tools.addresses import bound_socket, listening_address
+from cueplayer_tools.night_folder import NightFolder
 from cueplayer_tools.osc_port import LATE, OscPort
 from cueplayer_tools.teller import Teller, leave_all
 from cueplayer_tools.words import Refused
@@ -52,16 +53,19 @@ class Output:
         return struct.unpack("@i", fcntl.ioctl(self.file, termios.FIONREAD, bytes(4)))[0]
 
 
-def serve(port: OscPort, output: Output) -> None:
-    """Writes the lines of each datagram that comes, until nobody reads them any more."""
+def serve(port: OscPort, output: Output | NightFolder) -> None:
+    """Hands on the lines of each datagram that comes, until nobody reads them any more. The FIFO
+    of a night may be read again."""
     poll = select.poll()
     poll.register(port, select.POLLIN)
-    # Asked for nothing, a pipe still tells that its reader has gone.
-    poll.register(output.file, 0)
+    reader = output.file if isinstance(output, Output) else None
+    if reader is not None:
+        # Asked for nothing, a pipe still tells that its reader has gone.
+        poll.register(reader, 0)
     while True:
         patience = port.patience()
         ready = dict(poll.poll(None if patience is None else 1 + int(patience * 1000)))
-        if output.file in ready:
+        if reader in ready:
             return
         port.take(output.give)
 
@@ -76,8 +80,18 @@ def main(words: list[str]) -> int:
         default=USUAL,
         help=f"where datagrams come; a port alone is of this machine alone ({USUAL})",
     )
-    address = parser.parse_args(words).listen
+    parser.add_argument(
+        "--night",
+        metavar="NIGHT",
+        help="hand lines to the night that `cueplayer-night NIGHT` keeps going, and print none",
+    )
+    chosen = parser.parse_args(words)
+    address = chosen.listen
     tell = Teller(sys.stderr, "osc: ")
+    night = None if chosen.night is None else NightFolder(chosen.night)
+    if night is not None and not night.is_played():
+        tell(night.refusal())
+        return leave_all(1, tell)
     try:
         receiver = bound_socket(address)
     except OSError as fault:
@@ -86,7 +100,7 @@ def main(words: list[str]) -> int:
     tell("listening at {}:{}".format(*receiver.getsockname()))
     with receiver:
         try:
-            serve(OscPort(receiver, tell), Output(sys.stdout.fileno()))
+            serve(OscPort(receiver, tell), night or Output(sys.stdout.fileno()))
         except (BrokenPipeError, KeyboardInterrupt):
             pass
     return leave_all(0, tell)

@@ -1,8 +1,9 @@
-"""`tools/picture`: a night or a rehearsal as scalable vector graphics, on standard output."""
+"""`tools/picture`: a night, a rehearsal or a storm as scalable vector graphics, printed."""
 
 import argparse
 import re
 import sys
+from dataclasses import replace
 from pathlib import Path
 
 from cueplayer_tools.cue_list import read_show
@@ -10,8 +11,14 @@ from cueplayer_tools.curves import all_of, chosen
 from cueplayer_tools.night import LEAST_APART, Slot, filled, night_of, thinned
 from cueplayer_tools.picture_night import NightPicture, draw_night
 from cueplayer_tools.picture_rehearsal import draw_rehearsal, moments_between
+from cueplayer_tools.picture_storm import Panel, brightest, draw_storms, draw_sweep
 from cueplayer_tools.record import lost_in, read_record, words_of
 from cueplayer_tools.rehearsal import rehearse, with_questions, with_replies
+from cueplayer_tools.storm_command import (
+    add_storm, consoles_of, losses, network_of, planned, sweep_of,
+)  # fmt: skip
+from cueplayer_tools.storm_report import network_words
+from cueplayer_tools.storm_sweep import blown
 from cueplayer_tools.words import Refused
 
 QUESTIONS = 480
@@ -73,9 +80,26 @@ def rehearsal_picture(words: argparse.Namespace) -> str:
     return draw_rehearsal(words.title or Path(words.script).name, rehearsal)
 
 
+def storm_picture(words: argparse.Namespace) -> str:
+    """The picture of a night in a bad network, or of what each rate of loss does to it."""
+    plan = planned(words)
+    network = network_of(words, plan)
+    title = words.title or Path(words.night).name
+    if words.sweep is not None:
+        rates, _ = sweep_of(words, plan)
+        nights = f", {words.nights} nights each" if words.nights > 1 else ""
+        return draw_sweep(title, rates, network_words(network, "packets lost") + nights)
+    rates = words.losses or [network.loss]
+    storms = [blown(plan, consoles_of(words), replace(network, loss=loss)) for loss in rates]
+    known = set(plan.sent)
+    if unknown := [universe for universe, _ in words.slot if universe not in known]:
+        raise Refused(f"universe {unknown[0]} is not sent")
+    return draw_storms(title, [Panel(storm, words.slot or brightest(storm)) for storm in storms])
+
+
 def _parser() -> argparse.ArgumentParser:
     parser = argparse.ArgumentParser(prog="picture", description=__doc__)
-    kinds = parser.add_subparsers(required=True, metavar="night|rehearsal")
+    kinds = parser.add_subparsers(required=True, metavar="night|rehearsal|storm")
     night = kinds.add_parser("night", help="a record of `live`, or lines of `play`")
     night.add_argument("show", metavar="SHOW")
     night.add_argument("record", metavar="RECORD")
@@ -103,6 +127,13 @@ def _parser() -> argparse.ArgumentParser:
     )
     rehearsal.add_argument("--title", metavar="TEXT")
     rehearsal.set_defaults(draw=rehearsal_picture)
+    storm = kinds.add_parser("storm", help="a night in a bad network")
+    add_storm(storm)
+    storm.add_argument("--losses", metavar="PERCENT,..", type=losses,
+        help="the night at each of these rates of loss, one below the other")  # fmt: skip
+    storm.add_argument("--slot", metavar="U:S", type=slot_word, action="append", default=[])
+    storm.add_argument("--title", metavar="TEXT")
+    storm.set_defaults(draw=storm_picture)
     return parser
 
 

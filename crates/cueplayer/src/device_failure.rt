@@ -1,4 +1,5 @@
-use crate::failure::Failure;
+use crate::failure::{Failure, JobFault};
+use crate::refusal::Refusal;
 use arrayvec::ArrayString;
 use cueplayer_faults::RunFault;
 use std::fmt::Write;
@@ -36,14 +37,21 @@ impl From<LockFault> for Failure {
 }
 
 /// Why a record in the file of this name cannot be kept.
-pub fn of_record(name: Option<&str>, fault: RecordFault) -> Failure {
-    match fault {
-        RecordFault::File(kind) => Failure::of_device(name.unwrap_or("the record"), kind),
+pub fn of_record(name: &str, fault: RecordFault) -> JobFault {
+    let failure = match fault {
+        RecordFault::NoFile => return JobFault::Record(Refusal::no_record()),
+        RecordFault::InUse(process) => return JobFault::Record(Refusal::in_use(process)),
+        RecordFault::File(kind) => Failure::of_device(name, kind),
         RecordFault::NotEmpty => {
-            Failure::device("the record's file is not empty: no night is written over another")
+            Failure::device("the record's file is not empty: --resume goes on with it")
+        }
+        RecordFault::NoLocks => {
+            Failure::device("no lock can be made on the record: a spare could not tell who plays")
         }
         RecordFault::Way(fault) => Failure::from(fault),
-    }
+        RecordFault::Memory => Failure::from(RunFault::Memory),
+    };
+    JobFault::Run(failure)
 }
 
 /// The socket failed, for the system's reason.

@@ -1,6 +1,7 @@
 ghost use Rattle.std.specs.Prelude.{◌≡◌};
 ghost use Rattle.cueplayer_faults.specs.declared.fault.RunFault.TheVariants as run;
 
+use crate::refusal::Refusal;
 use crate::remark::{Remark, of_device, of_line, of_setup, of_show, plain};
 use cueplayer_faults::RunFault;
 use std::io::ErrorKind;
@@ -81,5 +82,21 @@ impl From<RunFault> for Failure {
             fault,
             remark: Remark::new(),
         }
+    }
+}
+
+/// Why a job did not end well, or did not begin.
+#[derive(Debug, Drop)]
+pub enum JobFault {
+    Run(Failure),
+    /// A night did not begin, since its record was refused.
+    Record(Refusal),
+    /// A night did not begin, since its words do not suit the show or the machine.
+    Words(Remark),
+}
+
+impl From<Failure> for JobFault {
+    fn from(failure: Failure) -> JobFault {
+        JobFault::Run(failure)
     }
 }

@@ -1,17 +1,17 @@
-ghost use Rattle.std.specs.Prelude.{◌≡◌, ◌≤◌, codes};
+ghost use Rattle.std.specs.Prelude.{◌≡◌, ◌≤◌, IfOk};
 ghost use Rattle.cueplayer_words.specs.Job.{IsInRange};
+ghost use Rattle.cueplayer.specs.Source.{source_name};
 
-use crate::device_failure::{of_record, of_socket};
-use crate::failure::Failure;
-use crate::live_booth::LiveBooth;
+use crate::cards::{check_targets, open_network};
+use crate::device_failure::of_socket;
+use crate::failure::{Failure, JobFault};
+use crate::live_job::{LiveWords, MainWords, play_live};
 use crate::reading::{file_text, script_text, show_text};
-use crate::remark::of_device;
-use crate::screen::Screen;
-use crate::start_lines::tell_start;
+use crate::remark::{of_device, plain};
+use crate::source_name::source_name;
 use cueplayer_cues::{cues, cues_json};
 use cueplayer_explain::explain;
 use cueplayer_faults::RunFault;
-use cueplayer_live::live;
 use cueplayer_play::play;
 use cueplayer_rehearse::rehearse_text;
 use cueplayer_runs::{check, listen, look, slots};
@@ -20,49 +20,79 @@ use devices::Output;
 use fade_core::StepFader;
 use sacn_packet::SourceName;
 use sacn_source::Identity;
+use std::cell::RefCell;
 use std::io::{BufWriter, ErrorKind};
 use std::os::fd::AsFd;
 use system_devices::{
-    CidLock, Messages, ReceivingSocket, Record, SendingSocket, SystemInput, SystemOutput,
-    TypedInput, WatchedOutput,
+    CardSender, CidLock, Network, ReceivingSocket, SystemInput, SystemOutput, WatchedOutput,
 };
+use targets::TargetLink;
 
-// Told where a night has no lock of its CID.
-const NO_LOCK: &[u8] = b"cid: no lock can be made, so a second console of this CID would begin\n";
+/// Told where a night has no lock of its CID.
+pub const NO_LOCK: &[u8] =
+    b"cid: no lock can be made, so a second console of this CID would begin\n";
 
 // Bytes that a rehearsal gathers before it writes them.
 const PRINTED: usize = 65_536;
 
 /// Runs what the words ask for.
-pub fn run(rt: &HostRuntime, job: Job) -> Result<(), Failure>
+pub fn run(rt: &HostRuntime, job: Job) -> Result<(), JobFault>
     requires { IsInRange job }
 {
     match job {
-        Job::Check { show } => check_show(rt, show.as_str()),
-        Job::Look { show, cue, cid } => look_at(rt, show.as_str(), cue, cid),
-        Job::Explain { show } => explain_show(rt, show.as_str()),
-        Job::Cues { show, is_json } => show_cues(rt, show.as_str(), is_json),
-        Job::Slots { show, cue, base } => show_slots(rt, show.as_str(), cue, base),
-        Job::Play(night) => play_lines(rt, &night, identity(&night)),
+        Job::Check { show } => ends(check_show(rt, show.as_str())),
+        Job::Look { show, cue, cid } => ends(look_at(rt, show.as_str(), cue, cid)),
+        Job::Explain { show } => ends(explain_show(rt, show.as_str())),
+        Job::Cues { show, is_json } => ends(show_cues(rt, show.as_str(), is_json)),
+        Job::Slots { show, cue, base } => ends(show_slots(rt, show.as_str(), cue, base)),
+        Job::Play(night) => play_lines(rt, &night, identity(&night)?),
         Job::Live {
             night,
             record_file,
+            resumes,
+            is_spare,
+            start,
+            main_file,
+            patience,
             ends_with_input,
         } => {
-            let record_file = record_file.as_ref().map(Name::as_str);
-            play_live(rt, &night, identity(&night), record_file, ends_with_input)
+            let words = LiveWords {
+                night: &night,
+                record_file: record_file.as_ref().map(Name::as_str),
+                resumes,
+                is_spare,
+                start,
+                main: main_words(&main_file, patience),
+                ends_with_input,
+            };
+            play_live(rt, words, identity(&night)?)
         }
-        Job::Rehearse { show, script } => rehearse(rt, show.as_str(), script.as_str()),
+        Job::Rehearse { show, script } => ends(rehearse(rt, show.as_str(), script.as_str())),
         Job::Listen {
             at,
             universe,
             count,
-        } => listen_at(rt, at, universe, count),
+        } => ends(listen_at(rt, at, universe, count)),
     }
 }
 
-// How a run over a show ended, and what is told of it.
-fn ended(
+fn main_words(file: &Option<Name>, patience: u32) -> Option<MainWords<'_>> {
+    let file = file.as_ref()?;
+    Some(MainWords {
+        file: file.as_str(),
+        patience,
+    })
+}
+
+fn ends(answer: Result<(), Failure>) -> Result<(), JobFault> {
+    match answer {
+        Ok(()) => Ok(()),
+        Err(failure) => Err(JobFault::Run(failure)),
+    }
+}
+
+/// How a run over a show ended, and what is told of it.
+pub fn ended(
     answer: Result<(), RunFault>,
     show: &[u8],
     output: Option<ErrorKind>,
@@ -151,15 +181,17 @@ fn listen_at(rt: &HostRuntime, at: ([u8; 4], u16), universe: u16, count: u32) ->
 }
 
 // Plays the lines of standard input.
-fn play_lines(rt: &HostRuntime, night: &Night, source: Identity) -> Result<(), Failure> {
+fn play_lines(rt: &HostRuntime, night: &Night, source: Identity) -> Result<(), JobFault> {
     ask_for_standard(rt)?;
     let text = file_text(rt, night.show.as_str())?;
-    let lock = CidLock::take(rt, night.cid)?;
+    let text = text.as_slice();
+    check_targets(rt, night, text)?;
+    let lock = CidLock::take(rt, night.cid).map_err(Failure::from)?;
     if lock.is_none() {
         tell(rt, NO_LOCK);
     }
-    let text = text.as_slice();
-    let mut link = SendingSocket::open(rt, night.to)?;
+    let network = RefCell::new(open_network(rt, night, false)?);
+    let mut link = TargetLink::new(CardSender::new(&network), night.targets.copy());
     let mut input = SystemInput::new(rt.stdin());
     let mut out = SystemOutput::new(rt.stdout());
     let answer = play::<StepFader, _, _, _>(
@@ -171,7 +203,7 @@ fn play_lines(rt: &HostRuntime, night: &Night, source: Identity) -> Result<(), F
         &mut link,
         &mut out,
     );
-    played(answer, text, &link, out.failure())
+    Ok(played(answer, text, &network, out.failure())?)
 }
 
 // Standard input, output and error have to be open. They are asked for before anything is opened,
@@ -182,105 +214,26 @@ fn ask_for_standard(rt: &HostRuntime) -> Result<(), Failure> {
     ask_for(&rt.stderr(), "standard error")
 }
 
-// Whether what has this name is open.
-fn ask_for<F: AsFd>(file: &F, name: &str) -> Result<(), Failure> {
+/// Whether what has this name is open.
+pub fn ask_for<F: AsFd>(file: &F, name: &str) -> Result<(), Failure> {
     match file.as_fd().try_clone_to_owned() {
         Ok(_) => Ok(()),
         Err(error) => Err(Failure::of_device(name, error.kind())),
     }
 }
 
-// The descriptors that a live night was started with.
-#[derive(Drop)]
-struct Standard {
-    input: TypedInput,
-    messages: Messages,
-}
-
-impl Standard {
-    fn open(rt: &HostRuntime) -> Result<Self, Failure> {
-        ask_for(&rt.stdout(), "standard output")?;
-        let is_told = ask_for(&rt.stderr(), "standard error").is_ok();
-        let input = TypedInput::open(rt)?;
-        let messages = Messages::new(rt, is_told)?;
-        Ok(Standard { input, messages })
-    }
-}
-
-// What a live night plays from and to.
-#[derive(Drop)]
-struct LiveDevices {
-    lock: Option<CidLock>,
-    input: TypedInput,
-    link: SendingSocket,
-    record: Record,
-    screen: Screen,
-}
-
-impl LiveDevices {
-    fn open(
-        rt: &HostRuntime,
-        night: &Night,
-        record_file: Option<&str>,
-        standard: Standard,
-    ) -> Result<Self, Failure> {
-        let Standard { input, messages } = standard;
-        let mut screen = Screen::new(rt, messages)?;
-        let lock = CidLock::take(rt, night.cid)?;
-        if lock.is_none() {
-            screen.tell(NO_LOCK);
-        }
-        let record = Record::open(rt, record_file).map_err(|fault| of_record(record_file, fault))?;
-        let link = SendingSocket::open(rt, night.to)?;
-        if let Err(kind) = link.never_wait() {
-            return Err(of_socket(kind));
-        }
-        Ok(LiveDevices {
-            lock,
-            input,
-            link,
-            record,
-            screen,
-        })
-    }
-}
-
-// Plays by the clock what is typed.
-fn play_live(
-    rt: &HostRuntime,
-    night: &Night,
-    source: Identity,
-    record_file: Option<&str>,
-    ends_with_input: bool,
-) -> Result<(), Failure> {
-    let standard = Standard::open(rt)?;
-    let text = file_text(rt, night.show.as_str())?;
-    let text = text.as_slice();
-    let LiveDevices {
-        lock: _lock,
-        input,
-        mut link,
-        record,
-        mut screen,
-    } = LiveDevices::open(rt, night, record_file, standard)?;
-    if let Err(fault) = tell_start(rt, night, text, &link, record_file, &mut screen) {
-        return ended(Err(fault), text, None);
-    }
-    let mut booth = LiveBooth::new(rt, input, ends_with_input, record, screen)?;
-    let base = night.base;
-    let answer = live::<StepFader, _, _>(rt.alloc(), text, source, base, &mut booth, &mut link);
-    booth.finish();
-    played(answer, text, &link, None)
-}
-
-// How a night ended. Of packets that were lost the last is told.
-fn played(
+/// How a night ended. Of packets that were lost the last is told.
+pub fn played(
     answer: Result<(), RunFault>,
     show: &[u8],
-    link: &SendingSocket,
+    network: &RefCell<Network>,
     output: Option<ErrorKind>,
 ) -> Result<(), Failure> {
-    match (answer, link.failure()) {
+    let failure = match network.try_borrow() {
+        Ok(network) => network.failure(),
+        Err(_) => None,
+    };
+    match (answer, failure) {
         (Err(fault @ RunFault::Lost(_)), Some((address, kind))) => Err(Failure {
             fault,
             remark: of_device(address.as_str(), kind),
@@ -309,15 +262,17 @@ fn rehearse(rt: &HostRuntime, show: &str, script: &str) -> Result<(), Failure> {
     }
 }
 
-// Who sends: the source name is the program's.
-fn identity(night: &Night) -> Identity
+// Who sends.
+fn identity(night: &Night) -> Result<Identity, JobFault>
     requires { night.now.priority ≤ 200 }
-    ensures { result ≡ record {
+    ensures { IfOk result (λ source. source ≡ record {
       cid = night.now.cid;
-      name = codes "cueplayer";
+      name = source_name night.now.name;
       priority = night.now.priority;
-    } }
+    }) }
 {
-    let name = SourceName::new("cueplayer").unwrap();
-    Identity::new(night.cid, name, night.priority).unwrap()
+    let Some(name) = SourceName::new(source_name(night)) else {
+        return Err(JobFault::Words(plain("--name has at most 63 bytes, none of them zero")));
+    };
+    Ok(Identity::new(night.cid, name, night.priority).unwrap())
 }

@@ -1,31 +1,47 @@
 //! The program: it reads its words, runs what they ask for, and reports how that ended.
 #![tactic(auto)]
 
+mod cards;
 mod device_failure;
 mod failure;
+mod follow_job;
 mod jobs;
+mod link_watch;
 mod live_booth;
+mod live_job;
+mod main_record;
+mod network_lines;
+mod opening;
+mod own_record;
 mod reading;
+mod refusal;
 mod remark;
 mod screen;
+mod source_name;
+mod spare_job;
 mod start_lines;
+mod typed_lines;
 mod words;
 
 use clap::Error;
 use cueplayer_faults::{RunFault, exit_status};
 use cueplayer_words::{WordsFault, read_words};
 use devices::Output;
-use failure::Failure;
+use failure::{Failure, JobFault};
 use jobs::run;
+use refusal::Refusal;
 use remark::{Remark, of_misfit, plain};
 use std::env;
 use std::io::ErrorKind;
 use std::process::ExitCode;
-use system_devices::SystemOutput;
+use system_devices::{SystemOutput, remove_unused_record};
 use words::UserWords;
 
 // The exit status of words that are refused.
 const REFUSED: u8 = 2;
+
+// The exit status of a record that is refused.
+const RECORD_REFUSED: u8 = 4;
 
 // Tells on standard error how the run ended: the line of its fault, and then what is told of it.
 fn report(rt: &HostRuntime, answer: &Result<(), Failure>) -> u8 {
@@ -38,6 +54,12 @@ fn report(rt: &HostRuntime, answer: &Result<(), Failure>) -> u8 {
             status
         }
     }
+}
+
+fn refuse(rt: &HostRuntime, refusal: &Refusal) -> u8 {
+    let _ = SystemOutput::new(rt.stderr()).write(refusal.line.as_str().as_bytes());
+    tell(rt, &refusal.remark);
+    RECORD_REFUSED
 }
 
 // Tells a remark on a line of its own.
@@ -79,11 +101,25 @@ fn status(rt: &HostRuntime) -> u8 {
     let Ok(words) = words.collect::<Vec<String>>(rt.alloc()) else {
         return report(rt, &Err(Failure::from(RunFault::Memory)));
     };
-    match read_words(rt.alloc(), words.as_slice()) {
-        Ok(job) => report(rt, &run(rt, job)),
-        Err(WordsFault::Refused(error)) => show_error(rt, &error),
-        Err(WordsFault::Unfit(misfit)) => unfit(rt, &of_misfit(&misfit)),
-        Err(WordsFault::Memory) => report(rt, &Err(Failure::from(RunFault::Memory))),
+    let fault = match read_words(rt.alloc(), words.as_slice()) {
+        Ok(job) => return status_of(rt, run(rt, job)),
+        Err(fault) => fault,
+    };
+    remove_unused_record(rt, None);
+    match fault {
+        WordsFault::Refused(error) => show_error(rt, &error),
+        WordsFault::Unfit(misfit) => unfit(rt, &of_misfit(&misfit)),
+        WordsFault::Memory => report(rt, &Err(Failure::from(RunFault::Memory))),
+    }
+}
+
+// Tells how a job ended, and answers the exit status.
+fn status_of(rt: &HostRuntime, answer: Result<(), JobFault>) -> u8 {
+    match answer {
+        Ok(()) => report(rt, &Ok(())),
+        Err(JobFault::Run(failure)) => report(rt, &Err(failure)),
+        Err(JobFault::Record(refusal)) => refuse(rt, &refusal),
+        Err(JobFault::Words(remark)) => unfit(rt, &remark),
     }
 }
 

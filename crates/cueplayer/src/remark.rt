@@ -1,6 +1,6 @@
 use arrayvec::{ArrayString, ArrayVec};
 use ascii_text::Lines;
-use cueplayer_words::Misfit;
+use cueplayer_words::{Form, Misfit};
 use show_reader::ShowFault;
 use std::fmt::Write;
 use std::io::ErrorKind;
@@ -20,6 +20,27 @@ pub fn plain(text: &str) -> Remark {
     let mut remark = Remark::new();
     push_shown(&mut remark, text.as_bytes());
     remark
+}
+
+/// A remark that is these parts, one behind the other.
+pub fn joined(parts: &[&[u8]]) -> Remark {
+    let mut remark = Remark::new();
+    for part in parts {
+        push_shown(&mut remark, part);
+    }
+    remark
+}
+
+/// The first characters of a file's name, each that is no printable ASCII as `?`.
+pub fn of_name(name: &str) -> ArrayString<256> {
+    let mut shown = ArrayString::new();
+    for character in name.chars().take(SHOWN) {
+        let _ = shown.try_push(match character {
+            ' '..='~' => character,
+            _ => '?',
+        });
+    }
+    shown
 }
 
 /// Where a device failed, by its name, and the system's reason.
@@ -42,9 +63,14 @@ pub fn of_misfit(misfit: &Misfit<'_>) -> Remark {
     let _ = write!(form, "{}", misfit.form);
     let mut remark = plain(dashes);
     push_shown(&mut remark, misfit.argument.as_bytes());
-    push_shown(&mut remark, b" `");
-    push_shown(&mut remark, misfit.text.as_bytes());
-    push_shown(&mut remark, b"`: ");
+    // A flag has no text of its own.
+    let is_flag = matches!(misfit.form, Form::Recorded | Form::Resumed | Form::ByCard);
+    if !is_flag {
+        push_shown(&mut remark, b" `");
+        push_shown(&mut remark, misfit.text.as_bytes());
+        push_shown(&mut remark, b"`");
+    }
+    push_shown(&mut remark, b": ");
     push_shown(&mut remark, form.as_bytes());
     remark
 }
@@ -72,9 +98,9 @@ pub fn of_line(number: u32, text: &[u8], rule: &str) -> Remark {
     remark
 }
 
-// At most so many bytes of a part, each that is no printable ASCII as `?`; as many as there is room
-// for.
-fn push_shown(remark: &mut Remark, part: &[u8]) {
+/// Adds at most so many bytes of a part, each that is no printable ASCII as `?`; as many as there is
+/// room for.
+pub fn push_shown(remark: &mut Remark, part: &[u8]) {
     for byte in part.iter().take(SHOWN) {
         let shown = match *byte {
             b'\t' | b'\r' => b' ',

@@ -1,5 +1,9 @@
+use crate::network_lines::{NetworkLine, push_targets, tell_network};
+use crate::remark::of_name;
 use crate::screen::Screen;
+use crate::source_name::source_name;
 use arrayvec::ArrayString;
+use console_text::cue_number;
 use cueplayer_faults::RunFault;
 use cueplayer_words::Night;
 use patch_core::has_numbers;
@@ -7,19 +11,51 @@ use show_core::{Counts, Show};
 use show_reader::{Loaded, read_show};
 use std::env::{self, VarError};
 use std::fmt::Write;
-use system_devices::SendingSocket;
+use system_devices::Network;
 use uuid::Uuid;
 
 // There is room for 16 universes, and for the part of a file's name that is shown.
-type Line = ArrayString<320>;
+type Line = NetworkLine;
 
-// Of a file's name so many characters are shown.
-const SHOWN: usize = 200;
+const TAKE: &[u8] =
+    b"the main leads; take ends the following, and then go, back and end count here\n";
+
+/// Where a night is recorded.
+#[derive(Clone, Copy)]
+pub struct Recorded<'a> {
+    /// The name of the file.
+    pub file: &'a str,
+    /// A night may go on in it.
+    pub resumes: bool,
+    /// One goes on, from this place.
+    pub place: Option<Place>,
+    /// Its last line was cut.
+    pub is_cut: bool,
+}
+
+/// Where a night goes on: at a moment, and with a cue.
+#[derive(Clone, Copy)]
+pub struct Place {
+    pub moment: u64,
+    pub cue: Option<u32>,
+}
 
 // Set where control-C and a closed window are ignored.
 const INTERRUPTS: &str = "CUEPLAYER_INTERRUPTS";
 
-/// Tells what a night plays, where it is sent, where it is recorded and what ends it: a line each.
+/// The main that a night follows.
+#[derive(Clone, Copy)]
+pub struct Followed<'a> {
+    /// The name of its record.
+    pub file: &'a str,
+    pub cid: [u8; 16],
+    pub priority: u8,
+    /// Where its night is.
+    pub place: Place,
+}
+
+/// Tells what a night plays, where it is sent, where it is recorded, whom it follows and what ends
+/// it: a line each.
 ///
 /// # Errors
 ///
@@ -28,8 +64,9 @@ pub fn tell_start(
     rt: &HostRuntime,
     night: &Night,
     show: &[u8],
-    link: &SendingSocket,
-    record_file: Option<&str>,
+    network: &Network,
+    recorded: Option<Recorded<'_>>,
+    followed: Option<Followed<'_>>,
     screen: &mut Screen,
 ) -> Result<(), RunFault> {
     let loaded = read_show(rt.alloc(), show)?;
@@ -38,9 +75,16 @@ pub fn tell_start(
     }
     let is_interruptible = is_interruptible(rt)?;
     screen.tell(show_line(&loaded).as_str().as_bytes());
-    screen.tell(sends_line(night, &loaded.show, link).as_str().as_bytes());
-    screen.tell(record_line(record_file).as_str().as_bytes());
-    screen.tell(ends_line(is_interruptible));
+    screen.tell(sends_line(night, &loaded.show).as_str().as_bytes());
+    tell_network(rt, night, network, screen);
+    screen.tell(record_line(recorded).as_str().as_bytes());
+    match followed {
+        Some(main) => {
+            screen.tell(follows_line(main).as_str().as_bytes());
+            screen.tell(TAKE);
+        }
+        None => screen.tell(ends_line(is_interruptible)),
+    }
     Ok(())
 }
 
@@ -75,21 +119,19 @@ fn push_count(line: &mut Line, count: u32, name: &str) {
     let _ = write!(line, "{count} {name}{ending}");
 }
 
-fn sends_line(night: &Night, show: &Show, link: &SendingSocket) -> Line {
+fn sends_line(night: &Night, show: &Show) -> Line {
     let mut line = Line::new();
     let _ = line.try_push_str("sends: ");
     push_universes(&mut line, night.base, show.universes().as_slice());
-    let ([a, b, c, d], port) = night.to;
-    let _ = write!(line, " to {a}.{b}.{c}.{d}:{port}");
-    if link.is_multicast() {
-        let _ = line.try_push_str(" (multicast)");
-    }
+    push_targets(&mut line, &night.targets);
     let priority = night.priority;
     let mut cid = Uuid::encode_buffer();
     let cid = Uuid::from_bytes(night.cid)
         .hyphenated()
         .encode_lower(&mut cid);
-    let _ = writeln!(line, ", priority {priority}, CID {cid}, name cueplayer");
+    let _ = write!(line, ", priority {priority}, CID {cid}, name ");
+    let _ = line.try_push_str(source_name(night));
+    let _ = line.try_push_str("\n");
     line
 }
 
@@ -105,30 +147,58 @@ fn push_universes(line: &mut Line, base: u16, ordinals: &[u16]) {
     }
 }
 
-fn record_line(file: Option<&str>) -> Line {
+fn record_line(recorded: Option<Recorded<'_>>) -> Line {
     let mut line = Line::new();
-    match file {
-        None => {
-            let _ = line.try_push_str("record: none; --record FILE keeps one");
+    let Some(recorded) = recorded else {
+        let _ = line.try_push_str("record: none; --record FILE keeps one\n");
+        return line;
+    };
+    let _ = line.try_push_str("record: ");
+    let _ = line.try_push_str(of_name(recorded.file).as_str());
+    match recorded.place {
+        Some(place) => push_place(&mut line, ", goes on at ", place),
+        None if recorded.resumes => {
+            let _ = line.try_push_str(" is new");
         }
-        Some(name) => {
-            let _ = line.try_push_str("record: ");
-            push_shown(&mut line, name);
-        }
+        None => {}
+    }
+    if recorded.is_cut {
+        let _ = line.try_push_str("; its last line was cut, and is dropped");
     }
     let _ = line.try_push_str("\n");
     line
 }
 
-// The first characters of a name, each that is no printable ASCII as `?`.
-fn push_shown(line: &mut Line, name: &str) {
-    for character in name.chars().take(SHOWN) {
-        let shown = match character {
-            ' '..='~' => character,
-            _ => '?',
-        };
-        let _ = line.try_push(shown);
-    }
+fn follows_line(main: Followed<'_>) -> Line {
+    let mut line = Line::new();
+    let _ = line.try_push_str("follows: ");
+    let _ = line.try_push_str(of_name(main.file).as_str());
+    let mut cid = Uuid::encode_buffer();
+    let cid = Uuid::from_bytes(main.cid)
+        .hyphenated()
+        .encode_lower(&mut cid);
+    let _ = write!(line, ", of CID {cid}, priority {}", main.priority);
+    push_place(&mut line, ", at ", main.place);
+    let _ = line.try_push_str("\n");
+    line
+}
+
+/// A moment of a night, as 1:02:03.
+pub fn clock_text(moment: u64) -> ArrayString<40> {
+    let seconds = moment / 1000;
+    let (hours, minutes, seconds) = (seconds / 3600, seconds / 60 % 60, seconds % 60);
+    let mut text = ArrayString::new();
+    let _ = write!(text, "{hours}:{minutes:02}:{seconds:02}");
+    text
+}
+
+fn push_place(line: &mut Line, words: &str, place: Place) {
+    let moment = clock_text(place.moment);
+    let _ = write!(line, "{words}{} of the night, ", moment.as_str());
+    let _ = match place.cue {
+        Some(cue) => write!(line, "cue {}", cue_number(cue).as_str()),
+        None => write!(line, "before its first cue"),
+    };
 }
 
 fn ends_line(is_interruptible: bool) -> &'static [u8] {

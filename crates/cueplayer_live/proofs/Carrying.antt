@@ -88,6 +88,8 @@ module _ (p : Production) (history : List Act) (moment : ℕ) (call : Call) (ans
         sends = did.sends;
         offers = did.offers;
         are_offered = rw reading did.are_offered;
+        begun_is = ap (λ (s : BoothState). s.begun) all.rest
+            ∙ ap (λ (s : BoothState). s.begun) keeps.rest;
         happened_is = ap (λ (s : BoothState). s.happened) all.rest
             ∙ ap (λ (s : BoothState). s.happened) keeps.rest;
         offered_is = did.after_is;

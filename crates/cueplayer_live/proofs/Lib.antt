@@ -2,3 +2,5 @@ pub mod Texts
 pub mod Moves
 pub mod Carrying
 pub mod Living
+pub mod TakingUp
+pub mod Leading

@@ -11,10 +11,10 @@ use Rattle.fade_core.specs.Level.{Start}
 use Rattle.show_core.specs.Tables.{Tables}
 use Rattle.desk_core.specs.Played.{Act}
 use Rattle.console.specs.Offering.{AreOffered}
-use Rattle.console.specs.Stands as console
 use Rattle.console.specs.Streams.{Production}
 use Rattle.console_text.specs.Spelling.{reading_of}
-use Rattle.cueplayer_play.specs.Run.{Carried, due_after, history_of, lines_in, sends_of}
+use Rattle.cueplayer_play.specs.Run.{Carried, due_after, history_from, history_of, lines_in}
+use Rattle.cueplayer_play.specs.Run.{sends_of, taken}
 use Rattle.live_input.specs.declared.given.GivenLine.{GivenLine}
 use Rattle.live_input.specs.declared.given.Given.TheVariants.{Help, Line, Over, Refused, Until}
 use Rattle.live_input.specs.declared.given.Given.TheVariants.{Where}
@@ -23,13 +23,15 @@ use Rattle.live_input.specs.Laws.{NothingIsAsked, text_of}
 use Rattle.live_input.specs.Keys.{without_keys}
 use Rattle.live_input.specs.Night.{Answer, Happening, answer_to, answers, asked, at_moment, came}
 use Rattle.live_input.specs.Night.{close, closed, dim, help, ignored_keys, is_over, lines_given}
-use Rattle.live_input.specs.Night.{order, over, place, refusal, shown, tick, wait, with_given}
+use Rattle.live_input.specs.Night.{now, order, over, place, refusal, shown, tick, wait, with_given}
 use Rattle.live_input.specs.Stands as live
 use Rattle.live_input.specs.Told.{IsGiven, Tells}
 use Rattle.cueplayer_live.specs.declared.night.Night.{Night}
-use Rattle.cueplayer_live.specs.Booth.{BoothState, Told, fails, happens, is_told, keys, refused}
+use Rattle.cueplayer_live.specs.Booth.{BoothState, Told, begins, fails, happens, is_told, keys, refused}
 use Rattle.cueplayer_live.specs.Booth.{waits_until}
-use Rattle.cueplayer_live.specs.Night.{IsLived, Lives, Seen, seen, shown_in, told_in, told_of}
+use Rattle.cueplayer_live.specs.Night.{IsLived, Lives, Seen, answers_since, begins_at}
+use Rattle.cueplayer_live.specs.Night.{history_at, seen}
+use Rattle.cueplayer_live.specs.Night.{shown_in, told_in, told_of}
 use Rattle.cueplayer_live.specs.Night.{waited_in, waits_of}
 use Rattle.cueplayer_live.specs.Shown.{Takes, help_text, shown_of, shown_place}
 use Rattle.cueplayer_live.specs.Stands.{BreaksOff, CarriesOut, GoesOn, Shows, StandsFor}
@@ -42,9 +44,11 @@ pub record Gives (answer : Answer) (given : GivenLine) : Type 0 where
   pub line : List ℕ
   pub is_given : IsGiven given line
   pub lines_are : (older : List (List ℕ)) → with_given answer older ≡ line ∷ older
-  pub shown_is : (p : Production) (older : List Answer) (newest : Carried) (run : List Carried)
-      → shown_in p (answer ∷ older) (newest ∷ run) ≡ shown_in p older run
-      ++ shown_of p (history_of p.show (lines_in run)) (reading_of newest.line) newest.offers
+  pub shown_is : (p : Production) (start : List Act) (older : List Answer) (newest : Carried)
+      (run : List Carried) → shown_in p start (answer ∷ older) (newest ∷ run)
+      ≡ shown_in p start older run
+      ++ shown_of p (history_from p.show start (lines_in run)) (reading_of newest.line)
+      newest.offers
   pub told_is : (older : List Answer)
       → told_of answer ≡ (if ignored_keys (answer ∷ older) then keys ∷ [] else [])
   pub waits_none : waits_of answer ≡ []
@@ -54,7 +58,7 @@ gives given (order moment line) t = record {
   line = at_moment moment (without_keys line);
   is_given = t;
   lines_are = λ _. refl;
-  shown_is = λ _ _ _ _. refl;
+  shown_is = λ _ _ _ _ _. refl;
   told_is = λ _. refl;
   waits_none = refl;
 }
@@ -62,7 +66,7 @@ gives given (dim moment typed) t = record {
   line = at_moment moment _;
   is_given = t;
   lines_are = λ _. refl;
-  shown_is = λ _ _ _ _. refl;
+  shown_is = λ _ _ _ _ _. refl;
   told_is = λ _. refl;
   waits_none = refl;
 }
@@ -70,7 +74,7 @@ gives given (close moment typed) t = record {
   line = at_moment moment _;
   is_given = t;
   lines_are = λ _. refl;
-  shown_is = λ _ _ _ _. refl;
+  shown_is = λ _ _ _ _ _. refl;
   told_is = λ _. refl;
   waits_none = refl;
 }
@@ -78,7 +82,7 @@ gives given (tick moment) t = record {
   line = at_moment moment _;
   is_given = t;
   lines_are = λ _. refl;
-  shown_is = λ _ _ _ _. refl;
+  shown_is = λ _ _ _ _ _. refl;
   told_is = λ _. refl;
   waits_none = refl;
 }
@@ -91,9 +95,9 @@ gives given _ t = absurd t
 pub record Says (answer : Answer) (text : Tables → List Act → List ℕ) (told : Bool → List Told)
     (waited : List ℕ) : Type 0 where
   pub no_line : (older : List (List ℕ)) → with_given answer older ≡ older
-  pub shown_is : (p : Production) (older : List Answer) (run : List Carried)
-      → shown_in p (answer ∷ older) run
-      ≡ shown_in p older run ++ text p.show (history_of p.show (lines_in run))
+  pub shown_is : (p : Production) (start : List Act) (older : List Answer) (run : List Carried)
+      → shown_in p start (answer ∷ older) run
+      ≡ shown_in p start older run ++ text p.show (history_from p.show start (lines_in run))
   pub told_is : (older : List Answer) → told_of answer ≡ told (ignored_keys (answer ∷ older))
   pub waits_are : waits_of answer ≡ waited
 
@@ -104,8 +108,8 @@ pub places : (when : ℕ) (answer : Answer) → Tells (Where when) answer
     → Says answer (λ show history. shown_place show history when) told_if []
 places when (place moment line) t = record {
   no_line = λ _. refl;
-  shown_is = λ p older run. ap (λ m. shown_in p older run
-      ++ shown_place p.show (history_of p.show (lines_in run)) m) (sym t);
+  shown_is = λ p start older run. ap (λ m. shown_in p start older run
+      ++ shown_place p.show (history_from p.show start (lines_in run)) m) (sym t);
   told_is = λ _. refl;
   waits_are = refl;
 }
@@ -114,7 +118,7 @@ places when _ t = absurd t
 pub helps : (answer : Answer) → Tells Help answer → Says answer (λ _ _. help_text) told_if []
 helps (help line) t = record {
   no_line = λ _. refl;
-  shown_is = λ _ _ _. refl;
+  shown_is = λ _ _ _ _. refl;
   told_is = λ _. refl;
   waits_are = refl;
 }
@@ -124,7 +128,7 @@ pub refuses : (text : _) (reason : Reason) (answer : Answer) → Tells (Refused 
     → Says answer (λ _ _. []) (λ _. refused text.items reason ∷ []) []
 refuses text reason (refusal why line) t = record {
   no_line = λ _. refl;
-  shown_is = λ p older run. sym (append-nil (shown_in p older run));
+  shown_is = λ p start older run. sym (append-nil (shown_in p start older run));
   told_is = λ _. ap (λ w. refused (shown line) w ∷ []) (sym t.1)
       ∙ ap (λ bytes. refused bytes reason ∷ []) (sym t.0);
   waits_are = refl;
@@ -135,7 +139,7 @@ pub waits : (until : ℕ) (answer : Answer) → Tells (Until until) answer
     → Says answer (λ _ _. []) (λ _. []) (until ∷ [])
 waits until (wait due) t = record {
   no_line = λ _. refl;
-  shown_is = λ p older run. sym (append-nil (shown_in p older run));
+  shown_is = λ p start older run. sym (append-nil (shown_in p start older run));
   told_is = λ _. refl;
   waits_are = ap (λ n. n ∷ []) (sym t);
 }
@@ -147,7 +151,7 @@ overs over t = (
   refl,
   record {
     no_line = λ _. refl;
-    shown_is = λ p older run. sym (append-nil (shown_in p older run));
+    shown_is = λ p start older run. sym (append-nil (shown_in p start older run));
     told_is = λ _. refl;
     waits_are = refl;
   },
@@ -159,6 +163,7 @@ overs _ t = absurd t
 -- what was done since a moment was asked: what was told, offered, recorded and shown
 pub record Steps (moment : ℕ) (told : List Told) (waited : List ℕ) (sends : List Send)
     (line text : List ℕ) (before after : Seen) : Type 0 where
+  pub begun_is : after.booth.begun ≡ before.booth.begun
   pub happened_is : after.booth.happened ≡ asked moment ∷ before.booth.happened
   pub offered_is : after.offered ≡ before.offered ++ sends
   pub kept : Takes before.booth.kept after.booth.kept line
@@ -174,6 +179,7 @@ pub then_tells : (moment : ℕ) (told : Told) (before middle after : BoothState)
     → after ≡ is_told told middle
     → Steps moment (told ∷ []) [] sends line text (seen before offered) (seen after offers)
 then_tells moment told before middle after did is = rw is (record {
+  begun_is = did.begun_is;
   happened_is = did.happened_is;
   offered_is = did.offered_is;
   kept = did.kept;
@@ -189,6 +195,7 @@ pub then_waits : (moment due : ℕ) (before middle : BoothState) (offered offers
     → Steps moment [] (due ∷ []) [] [] [] (seen before offered)
     (seen (waits_until due middle) offers)
 then_waits moment due before middle offered offers did = record {
+  begun_is = did.begun_is;
   happened_is = did.happened_is;
   offered_is = did.offered_is;
   kept = did.kept;
@@ -215,6 +222,7 @@ shows_since moment before asks after offered is shows =
     let rest : after ≡ record (happens (asked moment) before) { shown = after.shown } =
     shows.rest ∙ ap (λ (b : BoothState). record b { shown = after.shown }) is in
     record {
+      begun_is = ap (λ (b : BoothState). b.begun) rest;
       happened_is = ap (λ (b : BoothState). b.happened) rest;
       offered_is = sym (append-nil offered);
       kept = rw (ap (λ (b : BoothState). b.kept) rest) (takes_none before.kept);
@@ -231,6 +239,7 @@ pub carried_since : (p : Production) (history : List Act) (moment : ℕ) (before
     → Steps moment [] [] did.sends (line ++ 10 ∷ [])
     (shown_of p history (reading_of line) did.offers) (seen before offered) (seen after offers)
 carried_since p history moment before asks after offered offers is did = record {
+  begun_is = did.begun_is ∙ ap (λ (b : BoothState). b.begun) is;
   happened_is = did.happened_is ∙ ap (λ (b : BoothState). b.happened) is;
   offered_is = did.offered_is;
   kept = rw is at did.kept;
@@ -251,30 +260,79 @@ more_failures : (older newer : List Send)
     → failures_of (older ++ newer) ≡ failures_of older + failures_of newer
 more_failures = sum_by-append (λ (send : Send). cond send.failed 1 0)
 
-module _ (p : Production) (happened : List Happening) (moment : ℕ) (start before after : Seen)
-    {lost : ℕ} (lives : Lives p happened start before lost) where
+-- ---- what was answered since
+
+pub joined : (first happened : List Happening)
+    → answers (happened ++ first) ≡ answers_since first happened ++ answers first
+joined first [] = refl
+joined first (asked moment ∷ happened) =
+    ap (λ given. answer_to (happened ++ first) moment ∷ given) (joined first happened)
+joined first (came bytes ∷ happened) = joined first happened
+joined first (closed ends ∷ happened) = joined first happened
+
+with_more_lines : (answer : Answer) (given older : List (List ℕ))
+    → with_given answer (given ++ older) ≡ with_given answer given ++ older
+with_more_lines (order moment line) given older = refl
+with_more_lines (dim moment typed) given older = refl
+with_more_lines (close moment typed) given older = refl
+with_more_lines (tick moment) given older = refl
+with_more_lines (place moment line) given older = refl
+with_more_lines (help line) given older = refl
+with_more_lines (refusal why line) given older = refl
+with_more_lines (wait due) given older = refl
+with_more_lines over given older = refl
+
+lines_joined : (given older : List Answer)
+    → lines_given (given ++ older) ≡ lines_given given ++ lines_given older
+lines_joined [] older = refl
+lines_joined (answer ∷ given) older = ap (with_given answer) (lines_joined given older)
+    ∙ with_more_lines answer (lines_given given) (lines_given older)
+
+pub history_joined : (show : Tables) (lines older : List (List ℕ))
+    → history_of show (lines ++ older) ≡ history_from show (history_of show older) lines
+history_joined show [] older = refl
+history_joined show (line ∷ lines) older =
+    ap (taken show (reading_of line)) (history_joined show lines older)
+
+-- the history behind the lines since a night began
+pub history_since : (show : Tables) (first happened : List Happening)
+    → history_of show (lines_given (answers (happened ++ first)))
+    ≡ history_from show (history_at show first) (lines_given (answers_since first happened))
+history_since show first happened =
+    ap (λ given. history_of show (lines_given given)) (joined first happened)
+    ∙ ap (history_of show) (lines_joined (answers_since first happened) (answers first))
+    ∙ history_joined show (lines_given (answers_since first happened)) (lines_given (answers first))
+
+module _ (p : Production) (first happened : List Happening) (moment : ℕ)
+    (start before after : Seen) {lost : ℕ} (lives : Lives p first happened start before lost) where
   abbrev given : List Answer
-  given = answers happened
+  given = answers_since first happened
 
   abbrev answer : Answer
-  answer = answer_to happened moment
+  answer = answer_to (happened ++ first) moment
+
+  history_is : history_of p.show (lines_given (answers (happened ++ first)))
+      ≡ history_from p.show (history_at p.show first) (lines_in lives.run)
+  history_is = history_since p.show first happened
+      ∙ ap (history_from p.show (history_at p.show first)) (sym lives.lines_are)
 
   -- an answer that gives no line
   pub lives_on : {text : Tables → List Act → List ℕ} {told : Bool → List Told} {waited : List ℕ}
       → Says answer text told waited
       → Steps moment (told_of answer) waited [] []
-      (text p.show (history_of p.show (lines_given given))) before after
-      → Lives p (asked moment ∷ happened) start after lost
+      (text p.show (history_of p.show (lines_given (answers (happened ++ first))))) before after
+      → Lives p first (asked moment ∷ happened) start after lost
   lives_on {text = text} {told = told} {waited = waited} says did = record {
     run = lives.run;
     lines_are = lives.lines_are ∙ sym (says.no_line (lines_given given));
     is_run = lives.is_run;
+    begun_is = did.begun_is ∙ lives.begun_is;
     happened_is = did.happened_is ∙ ap (λ hs. asked moment ∷ hs) lives.happened_is;
     offered_is = did.offered_is ∙ append-nil before.offered ∙ lives.offered_is;
-    kept = rw (says.no_line (lines_given given), ← append-nil (text_of (lines_given given)))
+    kept = rw (← append-nil (text_of (lines_in lives.run)))
         (takes_more _ _ _ _ _ lives.kept did.kept);
-    shown = rw (says.shown_is p given lives.run)
-        (takes_more _ _ _ _ _ lives.shown (rw (sym lives.lines_are) at did.shown));
+    shown = rw (says.shown_is p (history_at p.show first) given lives.run)
+        (takes_more _ _ _ _ _ lives.shown (rw history_is at did.shown));
     told_is = did.told_is ∙ ap (λ told. told_of answer ++ told) lives.told_is
         ∙ sym (append_assoc (told_of answer) (told_in given) start.booth.told);
     waited_is = rw says.waits_are (did.waited_is ∙ ap (λ others. waited ++ others) lives.waited_is
@@ -287,27 +345,29 @@ module _ (p : Production) (happened : List Happening) (moment : ℕ) (start befo
   pub lives_more : (given_line : GivenLine) (giving : Gives answer given_line) (count after_lost : ℕ)
       (offers : List _) (sends : List Send)
       → AreOffered p.source
-      (due_after p (history_of p.show (lines_given given)) (reading_of giving.line)) sends offers
+      (due_after p (history_of p.show (lines_given (answers (happened ++ first))))
+      (reading_of giving.line)) sends offers
       → Steps moment (told_of answer) [] sends (giving.line ++ 10 ∷ [])
-      (shown_of p (history_of p.show (lines_given given)) (reading_of giving.line) offers)
+      (shown_of p (history_of p.show (lines_given (answers (happened ++ first))))
+      (reading_of giving.line) offers)
       before after
       → count ≡ failures_of sends → after_lost ≡ min (lost + count) 18446744073709551615
-      → Lives p (asked moment ∷ happened) start after after_lost
+      → Lives p first (asked moment ∷ happened) start after after_lost
   lives_more given_line giving count after_lost offers sends are_offered did counted sum =
       let newest : Carried = record { line = giving.line; sends = sends; offers = offers } in
-      let older : lines_given given ≡ lines_in lives.run = sym lives.lines_are in
       record {
         run = newest ∷ lives.run;
         lines_are = ap (λ lines. giving.line ∷ lines) lives.lines_are
             ∙ sym (giving.lines_are (lines_given given));
-        is_run = (rw older at are_offered, lives.is_run);
+        is_run = (rw history_is at are_offered, lives.is_run);
+        begun_is = did.begun_is ∙ lives.begun_is;
         happened_is = did.happened_is ∙ ap (λ hs. asked moment ∷ hs) lives.happened_is;
         offered_is = did.offered_is ∙ ap (λ sent. sent ++ sends) lives.offered_is
             ∙ append_assoc start.offered (sends_of lives.run) sends;
-        kept = rw (giving.lines_are (lines_given given), one_text giving.line (lines_given given))
+        kept = rw (one_text giving.line (lines_in lives.run))
             (takes_more _ _ _ _ _ lives.kept did.kept);
-        shown = rw (giving.shown_is p given newest lives.run)
-            (takes_more _ _ _ _ _ lives.shown (rw older at did.shown));
+        shown = rw (giving.shown_is p (history_at p.show first) given newest lives.run)
+            (takes_more _ _ _ _ _ lives.shown (rw history_is at did.shown));
         told_is = did.told_is ∙ ap (λ told. told_of answer ++ told) lives.told_is
             ∙ sym (append_assoc (told_of answer) (told_in given) start.booth.told);
         waited_is = rw giving.waits_none (did.waited_is ∙ lives.waited_is);
@@ -325,21 +385,30 @@ same_answers (came bytes ∷ since) happened none = same_answers since happened 
 same_answers (closed ends ∷ since) happened none = same_answers since happened none
 same_answers (asked moment ∷ since) happened none = absurd none
 
-pub lives_waiting : (p : Production) (since happened : List Happening) (start before after : Seen)
-    {lost : ℕ} → NothingIsAsked since → Lives p happened start before lost
+same_since : (first since happened : List Happening) → NothingIsAsked since
+    → answers_since first (since ++ happened) ≡ answers_since first happened
+same_since first [] happened none = refl
+same_since first (came bytes ∷ since) happened none = same_since first since happened none
+same_since first (closed ends ∷ since) happened none = same_since first since happened none
+same_since first (asked moment ∷ since) happened none = absurd none
+
+pub lives_waiting : (p : Production) (first since happened : List Happening)
+    (start before after : Seen) {lost : ℕ} → NothingIsAsked since
+    → Lives p first happened start before lost
     → after.booth ≡ record before.booth { happened = since ++ before.booth.happened }
-    → after.offered ≡ before.offered → Lives p (since ++ happened) start after lost
-lives_waiting p since happened start before after none lives booth_is offered_is =
-    let same = same_answers since happened none in
+    → after.offered ≡ before.offered → Lives p first (since ++ happened) start after lost
+lives_waiting p first since happened start before after none lives booth_is offered_is =
+    let same = same_since first since happened none in
     record {
       run = lives.run;
       lines_are = rw same lives.lines_are;
       is_run = lives.is_run;
+      begun_is = ap (λ (b : BoothState). b.begun) booth_is ∙ lives.begun_is;
       happened_is = ap (λ (b : BoothState). b.happened) booth_is
           ∙ ap (λ hs. since ++ hs) lives.happened_is
           ∙ sym (append_assoc since happened start.booth.happened);
       offered_is = offered_is ∙ lives.offered_is;
-      kept = rw (same, ap (λ (b : BoothState). b.kept) booth_is) lives.kept;
+      kept = rw (ap (λ (b : BoothState). b.kept) booth_is) lives.kept;
       shown = rw (same, ap (λ (b : BoothState). b.shown) booth_is) lives.shown;
       told_is = rw same (ap (λ (b : BoothState). b.told) booth_is ∙ lives.told_is);
       waited_is = rw same (ap (λ (b : BoothState). b.waited) booth_is ∙ lives.waited_is);
@@ -365,10 +434,11 @@ module _ {F : Type 0} (fader_stands_for : F → List Start → Type 0) where
       since = two.since ++ one.since;
       stands = λ p happened stands. rw (append_assoc two.since one.since happened)
           (two.stands p _ (one.stands p happened stands));
-      lived = λ tells p happened start stands lives.
+      lived = λ tells p first happened start stands lives.
           rw (append_assoc two.since one.since happened)
-          (two.lived tells p _ start (one.stands p happened stands)
-          (one.lived (tell tells) p happened start stands lives));
+          (two.lived tells p first _ start
+          (rw (append_assoc one.since happened first) (one.stands p (happened ++ first) stands))
+          (one.lived (tell tells) p first happened start stands lives));
     },
     length-append two.since one.since,
   )
@@ -388,7 +458,7 @@ module _ {F : Type 0} (fader_stands_for : F → List Start → Type 0) where
   goes_none tells night before after same = record {
     since = [];
     stands = λ p happened stands. stands;
-    lived = λ told p happened start stands lives. rw (same told) lives;
+    lived = λ told p first happened start stands lives. rw (same told) lives;
   }
 
   pub breaks_none : (tells : Type 0) (night : Night F) (before after : BoothState)
@@ -423,10 +493,10 @@ module _ {F : Type 0} (fader_stands_for : F → List Start → Type 0) where
                 stands.console_stands;
             input_stands = input happened stands.input_stands;
           };
-      lived = λ told p happened start stands lives.
-          let said = says happened stands.input_stands in
-          rw lost_is (lives_on p happened moment start before after lives said
-          (rw (said.told_is (answers happened)) (did told p happened stands)));
+      lived = λ told p first happened start stands lives.
+          let said = says (happened ++ first) stands.input_stands in
+          rw lost_is (lives_on p first happened moment start before after lives said
+          (rw (said.told_is (answers (happened ++ first))) (did told p (happened ++ first) stands)));
     },
     omega arith,
   )
@@ -443,18 +513,20 @@ module _ {F : Type 0} (fader_stands_for : F → List Start → Type 0) where
           stands.console_stands;
       input_stands = waits.stands happened stands.input_stands;
     };
-    lived = λ tells p happened start stands lives. rw lost_is
-        (lives_waiting p waits.since happened start before after waits.none_asked lives
+    lived = λ tells p first happened start stands lives. rw lost_is
+        (lives_waiting p first waits.since happened start before after waits.none_asked lives
         (waits.did (tell tells)) offered_is);
   }
 
 -- ---- whole nights
 
-lives_none : (p : Production) (before : Seen) → Lives p [] before before 0
-lives_none p before = record {
+lives_none : (p : Production) (first : List Happening) (before : Seen)
+    → Lives p first [] before before 0
+lives_none p first before = record {
   run = [];
   lines_are = refl;
   is_run = tt;
+  begun_is = refl;
   happened_is = refl;
   offered_is = sym (append-nil before.offered);
   kept = takes_none before.booth.kept;
@@ -468,19 +540,25 @@ lives_none p before = record {
 module _ {F : Type 0} (fader_stands_for : F → List Start → Type 0) (tells : Type 0)
     (old new : Night F) (before after : Seen)
     (goes : GoesOn fader_stands_for tells old new before after) (p : Production)
-    (console_stands : console.StandsFor fader_stands_for p old.console [])
-    (input_stands : live.StandsFor old.input []) (none : old.lost ≡ 0) (told : tells) where
-  stands : StandsFor fader_stands_for p old []
-  stands = record { console_stands = console_stands; input_stands = input_stands }
-
-  pub lived : Lives p (goes.since ++ []) before after new.lost
-  lived = goes.lived told p [] before stands (rw none (lives_none p before))
+    (first : List Happening) (stands : StandsFor fader_stands_for p old first)
+    (none : old.lost ≡ 0) (told : tells) where
+  pub lived : Lives p first (goes.since ++ []) before after new.lost
+  lived = goes.lived told p first [] before stands (rw none (lives_none p first before))
 
   pub lived_whole : ((happened : List Happening)
       → StandsFor fader_stands_for p new happened → is_over (answers happened) ≡ true)
-      → IsLived p before after new.lost
+      → IsLived p first before after new.lost
   lived_whole is_done = record {
     happened = goes.since ++ [];
     lives = lived;
-    over = is_done (goes.since ++ []) (goes.stands p [] stands);
+    over = is_done ((goes.since ++ []) ++ first)
+        (rw (append-nil goes.since) (goes.stands p first stands));
   }
+
+-- where its clock was set
+pub began_at : (first : List Happening) (moment passed least : ℕ) {old new : BoothState}
+    → moment ≡ now first → least ≡ min passed 10000 → new ≡ begins (moment + least) old
+    → begins (begins_at first passed) old ≡ new
+began_at first moment passed least {old = old} is counts set =
+    ap (λ at. begins at old) (sym (ap (λ m. m + least) is
+    ∙ ap (λ l. now first + l) counts)) ∙ sym set

@@ -12,16 +12,21 @@ pub data Told : Type 0 where
   refused : List ℕ → Reason → Told
   keys : Told
 
--- what happened to the input of its night, the newest first; the lines that it recorded; what it
--- showed; what it told, the newest first; until which moments it waited for what is typed, the
--- newest first; and how many looks at the clock and waits failed
+-- the moments at which its clock was set, the newest first; what happened to the input of its night,
+-- the newest first; the lines that it recorded; what it showed; what it told, the newest first;
+-- until which moments it waited for what is typed, the newest first; and how many looks at the clock
+-- and waits failed
 pub record BoothState : Type 0 where
+  pub begun : List ℕ
   pub happened : List Happening
   pub kept : Tape ℕ
   pub shown : Tape ℕ
   pub told : List Told
   pub waited : List ℕ
   pub faults : ℕ
+
+abbrev pub begins : ℕ → BoothState → BoothState
+begins moment state = record state { begun = moment ∷ state.begun }
 
 abbrev pub happens : Happening → BoothState → BoothState
 happens happening state = record state { happened = happening ∷ state.happened }

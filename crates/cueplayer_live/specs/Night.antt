@@ -1,19 +1,21 @@
 -- A live night: what is offered, recorded and shown of what happened to its input.
-use Rattle.std.specs.Prelude.{◌≡◌, ◌≤◌, ◌++◌, ℕ, min, true, false, if◌then◌else◌, List, [], ◌∷◌}
+use Rattle.std.specs.Prelude.{◌≡◌, ◌≤◌, ◌+◌, ◌++◌, ℕ, min, true, false, if◌then◌else◌, List, [], ◌∷◌}
 use Rattle.std.specs.Prelude.{◌⊎◌, length, Result, Ok, Err}
 use Rattle.std.specs.Option.{option_map_or}
 use Rattle.devices.specs.Send.{Send, failures_of}
+use Rattle.show_core.specs.Tables.{Tables}
+use Rattle.desk_core.specs.Played.{Act}
 use Rattle.console.specs.Streams.{Production}
 use Rattle.cueplayer_faults.specs.declared.fault.RunFault.{RunFault}
 use Rattle.cueplayer_faults.specs.declared.fault.RunFault.TheVariants as run
 use Rattle.console_text.specs.Spelling.{reading_of}
-use Rattle.cueplayer_play.specs.Play.{Begins}
-use Rattle.cueplayer_play.specs.Run.{Carried, IsRun, history_of, lines_in, sends_of}
+use Rattle.cueplayer_play.specs.Run.{Carried, IsRunFrom, history_from, history_of, lines_in}
+use Rattle.cueplayer_play.specs.Run.{sends_of}
 use Rattle.live_input.specs.Keys.{has_keys}
 use Rattle.live_input.specs.Laws.{text_of}
-use Rattle.live_input.specs.Night.{Answer, Happening, answers, is_over, line_of, lines_given, shown}
-use Rattle.live_input.specs.Night.{help, over, place, refusal, wait}
-use Rattle.cueplayer_live.specs.Booth.{BoothState, Told, fails, keys, refused}
+use Rattle.live_input.specs.Night.{Answer, Happening, answer_to, answers, asked, is_over, line_of}
+use Rattle.live_input.specs.Night.{help, lines_given, now, over, place, refusal, shown, wait}
+use Rattle.cueplayer_live.specs.Booth.{BoothState, Told, begins, fails, keys, refused}
 use Rattle.cueplayer_live.specs.Shown.{Takes, help_text, shown_of, shown_place}
 
 -- what a booth did, and what a link was offered
@@ -24,19 +26,34 @@ pub record Seen : Type 0 where
 abbrev pub seen : BoothState → List Send → Seen
 seen booth offered = record { booth = booth; offered = offered }
 
--- what is shown at the answers, where these lines were carried out, in their order: of each line
--- what is shown of it after the lines before; of `where` and `help` what they ask for
-abbrev pub shown_in : Production → List Answer → List Carried → List ℕ
-shown_in p [] run = []
-shown_in p (place moment line ∷ older) run =
-    shown_in p older run ++ shown_place p.show (history_of p.show (lines_in run)) moment
-shown_in p (help line ∷ older) run = shown_in p older run ++ help_text
-shown_in p (refusal why line ∷ older) run = shown_in p older run
-shown_in p (wait due ∷ older) run = shown_in p older run
-shown_in p (over ∷ older) run = shown_in p older run
-shown_in p (answer ∷ older) [] = shown_in p older []
-shown_in p (answer ∷ older) (newest ∷ run) = shown_in p older run
-    ++ shown_of p (history_of p.show (lines_in run)) (reading_of newest.line) newest.offers
+-- ---- since a night began; what had happened to its input by then comes first
+
+-- the answers, the newest first
+abbrev pub answers_since : List Happening → List Happening → List Answer
+answers_since first [] = []
+answers_since first (asked moment ∷ older) =
+    answer_to (older ++ first) moment ∷ answers_since first older
+answers_since first (_ ∷ older) = answers_since first older
+
+-- the history that its console stood for then
+abbrev pub history_at : Tables → List Happening → List Act
+history_at show first = history_of show (lines_given (answers first))
+
+-- ---- what is shown, told and waited for
+
+-- what is shown at the answers, where these lines were carried out after a history, in their order:
+-- of each line what is shown of it after the lines before; of `where` and `help` what they ask for
+abbrev pub shown_in : Production → List Act → List Answer → List Carried → List ℕ
+shown_in p start [] run = []
+shown_in p start (place moment line ∷ older) run = shown_in p start older run
+    ++ shown_place p.show (history_from p.show start (lines_in run)) moment
+shown_in p start (help line ∷ older) run = shown_in p start older run ++ help_text
+shown_in p start (refusal why line ∷ older) run = shown_in p start older run
+shown_in p start (wait due ∷ older) run = shown_in p start older run
+shown_in p start (over ∷ older) run = shown_in p start older run
+shown_in p start (answer ∷ older) [] = shown_in p start older []
+shown_in p start (answer ∷ older) (newest ∷ run) = shown_in p start older run
+    ++ shown_of p (history_from p.show start (lines_in run)) (reading_of newest.line) newest.offers
 
 -- what is told at an answer: that its line is refused and why, or that keys were left out of it
 abbrev pub told_of : Answer → List Told
@@ -56,30 +73,37 @@ abbrev pub waited_in : List Answer → List ℕ
 waited_in [] = []
 waited_in (answer ∷ older) = waits_of answer ++ waited_in older
 
--- the lines that a live input gives under these happenings were carried out: at each the link was
--- offered what is due at it after the lines before, whatever sends failed; the lines were recorded,
--- and answers, moves and what was asked for shown, as far as no call of the booth failed; what is
--- to be told was told, and it was waited wherever nothing was due; neither the clock nor a wait failed; and so many packets were lost, or more
--- than can be counted
-pub record Lives (p : Production) (happened : List Happening) (before after : Seen) (lost : ℕ)
-    : Type 0 where
+-- ---- nights
+
+-- the lines that a live input gives under these happenings were carried out, after what had
+-- happened first: at each the link was offered what is due at it after the lines before, whatever
+-- sends failed; the lines were recorded, and answers, moves and what was asked for shown, as far as
+-- no call of the booth failed; what is to be told was told, and it was waited wherever nothing was
+-- due; the clock was not set again, and neither the clock nor a wait failed; and so many packets
+-- were lost, or more than can be counted
+pub record Lives (p : Production) (first happened : List Happening) (before after : Seen)
+    (lost : ℕ) : Type 0 where
   pub run : List Carried
-  pub lines_are : lines_in run ≡ lines_given (answers happened)
-  pub is_run : IsRun p run
+  pub lines_are : lines_in run ≡ lines_given (answers_since first happened)
+  pub is_run : IsRunFrom p (history_at p.show first) run
+  pub begun_is : after.booth.begun ≡ before.booth.begun
   pub happened_is : after.booth.happened ≡ happened ++ before.booth.happened
   pub offered_is : after.offered ≡ before.offered ++ sends_of run
-  pub kept : Takes before.booth.kept after.booth.kept (text_of (lines_given (answers happened)))
-  pub shown : Takes before.booth.shown after.booth.shown (shown_in p (answers happened) run)
-  pub told_is : after.booth.told ≡ told_in (answers happened) ++ before.booth.told
-  pub waited_is : after.booth.waited ≡ waited_in (answers happened) ++ before.booth.waited
+  pub kept : Takes before.booth.kept after.booth.kept (text_of (lines_in run))
+  pub shown : Takes before.booth.shown after.booth.shown
+      (shown_in p (history_at p.show first) (answers_since first happened) run)
+  pub told_is : after.booth.told ≡ told_in (answers_since first happened) ++ before.booth.told
+  pub waited_is : after.booth.waited
+      ≡ waited_in (answers_since first happened) ++ before.booth.waited
   pub faults_are : after.booth.faults ≡ before.booth.faults
   pub lost_is : lost ≡ min (failures_of (sends_of run)) 18446744073709551615
 
 -- a night that is over: three ticks after `end`
-pub record IsLived (p : Production) (before after : Seen) (lost : ℕ) : Type 0 where
+pub record IsLived (p : Production) (first : List Happening) (before after : Seen) (lost : ℕ)
+    : Type 0 where
   pub happened : List Happening
-  pub lives : Lives p happened before after lost
-  pub over : is_over (answers happened) ≡ true
+  pub lives : Lives p first happened before after lost
+  pub over : is_over (answers (happened ++ first)) ≡ true
 
 -- what ended a night that was lived so far: the clock or a wait failed; or it was asked what is next
 -- for 2^64 - 1 times, which at one a nanosecond are 584 years
@@ -87,18 +111,32 @@ abbrev pub Breaks : List Happening → BoothState → BoothState → Type 0
 Breaks happened middle after =
     (after ≡ fails middle) ⊎ ((after ≡ middle) × (18446744073709551615 ≤ length happened))
 
--- a night by its answer: it is over, and no packet was lost, or so many were; or it broke off, and
--- what was given before was carried out
-abbrev pub Lived : {X : Type 0} → Production → Result X RunFault → Seen → Seen → Type 0
-Lived p (Ok x) before after = IsLived p before after 0
-Lived p (Err (run.Lost n)) before after = (1 ≤ n) × IsLived p before after n
-Lived p (Err run.Device) before after =
+-- a night from where its clock was set, by its answer: it is over, and no packet was lost, or so
+-- many were; or it broke off, and what was given before was carried out
+abbrev pub LivedOn : {X : Type 0} → Production → List Happening → Result X RunFault → Seen → Seen
+    → Type 0
+LivedOn p first (Ok x) before after = IsLived p first before after 0
+LivedOn p first (Err (run.Lost n)) before after = (1 ≤ n) × IsLived p first before after n
+LivedOn p first (Err run.Device) before after =
     (happened : List Happening) × (lost : ℕ) × (middle : BoothState)
-    × Lives p happened before (seen middle after.offered) lost
+    × Lives p first happened before (seen middle after.offered) lost
     × Breaks happened middle after.booth
-Lived p (Err _) before after = ⊥
+LivedOn p first (Err _) before after = ⊥
 
--- whether a night begins, or why not, as a play does; no line ends it
-abbrev pub BeginsNight : {X : Type 0} → Result X RunFault → List ℕ → ℕ → Type 0
-BeginsNight (Err (run.Line n)) show base = ⊥
-BeginsNight result show base = Begins result show base
+-- the moment at which the clock of a night goes on: that of the last look at it, and what has
+-- passed since, at most ten seconds
+abbrev pub begins_at : List Happening → ℕ → ℕ
+begins_at first passed = now first + min passed 10000
+
+-- a night that begins when so much has passed
+abbrev pub Lived : {X : Type 0} → Production → List Happening → ℕ → Result X RunFault → Seen → Seen
+    → Type 0
+Lived p first passed result before after =
+    LivedOn p first result (seen (begins (begins_at first passed) before.booth) before.offered) after
+
+-- how a night ends
+abbrev pub IsEnd : {X : Type 0} → Result X RunFault → Type 0
+IsEnd (Ok x) = Unit {0}
+IsEnd (Err (run.Lost n)) = 1 ≤ n
+IsEnd (Err run.Device) = Unit {0}
+IsEnd (Err _) = ⊥

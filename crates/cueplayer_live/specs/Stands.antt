@@ -37,6 +37,7 @@ pub record CarriesOut (p : Production) (history : List Act) (line : List ℕ) (b
   pub sends : List Send
   pub offers : List (ℕ × Offered)
   pub are_offered : AreOffered p.source (due_after p history (reading_of line)) sends offers
+  pub begun_is : after.booth.begun ≡ before.booth.begun
   pub happened_is : after.booth.happened ≡ before.booth.happened
   pub offered_is : after.offered ≡ before.offered ++ sends
   pub kept : Takes before.booth.kept after.booth.kept (line ++ 10 ∷ [])
@@ -63,9 +64,10 @@ pub record GoesOn {F : Type 0} (fader_stands_for : F → List Start → Type 0)
   pub stands : (p : Production) (happened : List Happening)
       → StandsFor fader_stands_for p old happened
       → StandsFor fader_stands_for p new (since ++ happened)
-  pub lived : tell → (p : Production) (happened : List Happening) (start : Seen)
-      → StandsFor fader_stands_for p old happened → Lives p happened start before old.lost
-      → Lives p (since ++ happened) start after new.lost
+  pub lived : tell → (p : Production) (first happened : List Happening) (start : Seen)
+      → StandsFor fader_stands_for p old (happened ++ first)
+      → Lives p first happened start before old.lost
+      → Lives p first (since ++ happened) start after new.lost
 
 -- it has gone on, and then the clock or a wait failed
 pub record BreaksOff {F : Type 0} (fader_stands_for : F → List Start → Type 0)

@@ -2,7 +2,7 @@ ghost use Rattle.std.specs.Prelude.{◌≡◌, IfOk, OnOk, OnErr};
 ghost use Rattle.devices.specs.Tape.{with_more, with_failure};
 ghost use Rattle.live_input.specs.Night.{asked};
 ghost use Rattle.cueplayer_live.specs.Booth.{BoothState, IsWithin, fails, happens, hears};
-ghost use Rattle.cueplayer_live.specs.Booth.{is_told, keys, refused, waits_until};
+ghost use Rattle.cueplayer_live.specs.Booth.{begins, is_told, keys, refused, waits_until};
 
 use devices::LinkFault;
 use live_input::Reason;
@@ -30,6 +30,11 @@ pub trait Booth {
 
     /// What happened to the night's input, and what was kept and shown.
     ghost state: { Self → BoothState };
+
+    /// Sets the clock: it is this moment now, in milliseconds from the start of the night.
+    fn begin(&mut self, moment: u64)
+        ensures told { tells self.new → tells self.old }
+        ensures begins { tells self.new → state self.new ≡ begins moment (state self.old) };
 
     /// The moment of the clock, in milliseconds from the start of the night.
     ///

@@ -1,14 +1,16 @@
 //! `live`: a night by the clock. What is typed is carried out by a console at the moment at which
 //! it comes, ticks are made by themselves, and the operator sees answers and moves.
 //!
-//! [`live`] opens a console for a show and runs the night from a [`Booth`]: its clock, what is
-//! typed, the record and the screen. Over a booth and a link that tell, its contract says exactly
-//! which packets were offered, what was recorded and what was shown, for whatever bytes came and
-//! whatever the clock said.
+//! A [`Night`] is opened for a show. It begins with nothing, with a cue at full, or behind the
+//! record of a night that broke off, or follows a [`MainConsole`]; then it is run from a [`Booth`]: its clock, what is typed, the
+//! record and the screen. Over a booth and a link that tell, its contract says exactly which packets
+//! were offered, what was recorded and what was shown, for whatever bytes came and whatever the
+//! clock said.
 //!
 //! ```
 //! // A booth at which `go`, `where` and `end` are typed, at 1,510 ms.
-//! let answer = live::<StepFader, _, _>(rt.alloc(), show, identity, 1, &mut booth, &mut link);
+//! let mut night: Night<StepFader> = Night::open(rt.alloc(), show, identity, 1)?;
+//! let answer = night.live(0, &mut booth, &mut link);
 //! // It recorded "0 tick\n25 tick\n.." and showed this:
 //! // 1510 ok
 //! // 1510 cue 1
@@ -18,11 +20,18 @@
 //! ```
 #![tactic(auto)]
 
+mod beginning;
 mod booth;
 mod carry;
+mod follow;
+mod main_console;
 mod night;
 mod place;
 mod run;
+mod silent;
 
 pub use booth::{Booth, Heard};
-pub use run::live;
+pub use follow::Pause;
+pub use main_console::{Led, MainConsole};
+pub use night::Night;
+pub use silent::Silent;

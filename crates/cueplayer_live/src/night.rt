@@ -16,22 +16,21 @@ use devices::{Link, LinkFault};
 use fade_core::Fader;
 use live_input::{Given, LiveInput};
 
-// A live night on its way.
+/// A live night: it is opened for a show, may begin with a cue or go on behind a record, and is
+/// then run from a [`Booth`].
 #[derive(Drop)]
 pub struct Night<F: Fader> {
+    /// The console that carries out its lines.
     pub console: Console<F>,
+    /// The input that gives them.
     pub input: LiveInput,
-    // How many packets were lost.
+    /// How many packets were lost.
     pub lost: u64,
 }
 
 impl<F: Fader> Night<F> {
     // Does what is next, and answers whether the night is over.
-    pub fn go_on<B: Booth, L: Link>(
-        &mut self,
-        booth: &mut B,
-        link: &mut L,
-    ) -> Result<bool, LinkFault>
+    fn go_on<B: Booth, L: Link>(&mut self, booth: &mut B, link: &mut L) -> Result<bool, LinkFault>
         requires real { (p : Production) × (happened : List Happening)
             × StandsFor F.stands_for p self.old happened }
         ensures told_booth { B.tells booth.new → B.tells booth.old }
@@ -104,7 +103,11 @@ impl<F: Fader> Night<F> {
     }
 
     // Goes on until the night is over.
-    pub fn run<B: Booth, L: Link>(&mut self, booth: &mut B, link: &mut L) -> Result<(), LinkFault>
+    pub(crate) fn run<B: Booth, L: Link>(
+        &mut self,
+        booth: &mut B,
+        link: &mut L,
+    ) -> Result<(), LinkFault>
         requires real { (p : Production) × (happened : List Happening)
             × StandsFor F.stands_for p self.old happened }
         ensures told_booth { B.tells booth.new → B.tells booth.old }

@@ -1,72 +1,55 @@
-ghost use Rattle.std.specs.Prelude.{◌≡◌, ◌<◌, length, true, false, Err};
-ghost use Rattle.show_reader.specs.ItsShow.{OfItsShow};
-ghost use Rattle.show_reader.specs.Reading.{longest_text};
-ghost use Rattle.show_reader.specs.declared.fault.ShowFault.TheVariants as show_fault;
-ghost use Rattle.cueplayer_play.specs.Play.{has_begun};
-ghost use Rattle.cueplayer_live.specs.Night.{BeginsNight, Lived, seen};
+ghost use Rattle.std.specs.Prelude.{◌≡◌, List};
+ghost use Rattle.console.specs.Streams.{Production};
+ghost use Rattle.live_input.specs.Night.{Happening};
+ghost use Rattle.cueplayer_live.specs.Night.{IsEnd, Lived, seen};
+ghost use Rattle.cueplayer_live.specs.Stands.{StandsFor};
 
 use crate::booth::Booth;
 use crate::night::Night;
-use console::Console;
 use cueplayer_faults::RunFault;
-use cueplayer_play::open;
 use devices::{Link, LinkFault};
 use fade_core::Fader;
-use live_input::LiveInput;
-use sacn_source::Identity;
-use std::alloc::Global;
 
-/// Runs a live night with a show: reads the show, opens a console for it, with `base` as the
-/// universe number of ordinal 0 and `identity` as who sends, and then carries out what is typed and
-/// the ticks, each at its moment, until three ticks after `end`. A night may last until its moments
-/// reach 2^48 milliseconds.
-///
-/// Each line is recorded before it is carried out. Answers, moves to cues, and what `where` and
-/// `help` ask for are shown behind what is offered; why a line is refused is told. No send, and
-/// nothing that is recorded, shown or told, ends the night.
-///
-/// Only the show and the console take memory.
-///
-/// # Errors
-///
-/// `Show`, `Base` or `Memory` before anything was heard, offered or shown. Then `Device` where the
-/// clock or the wait for what is typed failed; and `Lost`, with their number, where the night is
-/// over and packets were lost.
-pub fn live<F: Fader, B: Booth, L: Link>(
-    alloc: Global,
-    show: &[u8],
-    identity: Identity,
-    base: u16,
-    booth: &mut B,
-    link: &mut L,
-) -> Result<(), RunFault>
-    ensures begins { BeginsNight result show.now base }
-    ensures too_long { longest_text < length show.now → result ≡ Err
-        (RunFault.Show show_fault.TooLong) }
-    ensures lived { has_begun result ≡ true → B.tells booth.new → L.tells link.new
-        → OfItsShow show.now (λ s. Lived
-        (record { show = s; base = base; source = identity }) result
-        (seen (B.state booth.old) (L.offered link.old))
-        (seen (B.state booth.new) (L.offered link.new))) }
+// Of the time between a record and the night that goes on behind it, in milliseconds, so much
+// counts.
+const LONGEST_GAP: u64 = 10_000;
 
-    // Else nothing was heard, offered or shown.
-    ensures unheard { has_begun result ≡ false → B.tells booth.new
-        → B.state booth.new ≡ B.state booth.old }
-    ensures unoffered { has_begun result ≡ false → L.tells link.new
-        → L.offered link.new ≡ L.offered link.old }
-
-    ensures told_booth { B.tells booth.new → B.tells booth.old }
-    ensures told_link { L.tells link.new → L.tells link.old }
-{
-    let console: Console<F> = open(alloc, show, identity, base)?;
-    let mut night = Night {
-        console,
-        input: LiveInput::new(),
-        lost: 0,
-    };
-    match night.run(booth, link) {
-        Ok(()) if night.lost == 0 => Ok(()),
-        Ok(()) => Err(RunFault::Lost(night.lost)),
-        Err(LinkFault) => Err(RunFault::Device),
+impl<F: Fader> Night<F> {
+    /// Runs the night: sets the clock to the moment of the last line and what has passed since, in
+    /// milliseconds, at most ten seconds of it; and then carries out what is typed and the ticks,
+    /// each at its moment, until three ticks after `end`. A night may last until its moments reach
+    /// 2^48 milliseconds.
+    ///
+    /// Each line is recorded before it is carried out. Answers, moves to cues, and what `where` and
+    /// `help` ask for are shown behind what is offered; why a line is refused is told. No send, and
+    /// nothing that is recorded, shown or told, ends the night.
+    ///
+    /// # Errors
+    ///
+    /// `Device` where the clock or the wait for what is typed failed; and `Lost`, with their number,
+    /// where the night is over and packets were lost.
+    pub fn live<B: Booth, L: Link>(
+        &mut self,
+        passed: u64,
+        booth: &mut B,
+        link: &mut L,
+    ) -> Result<(), RunFault>
+        requires real { (p : Production) × (happened : List Happening)
+            × StandsFor F.stands_for p self.old happened }
+        requires none_lost { self.old.lost ≡ 0 }
+        ensures ends { IsEnd result }
+        ensures lived { (p : Production) (first : List Happening)
+            → StandsFor F.stands_for p self.old first → B.tells booth.new → L.tells link.new
+            → Lived p first passed result (seen (B.state booth.old) (L.offered link.old))
+            (seen (B.state booth.new) (L.offered link.new)) }
+        ensures told_booth { B.tells booth.new → B.tells booth.old }
+        ensures told_link { L.tells link.new → L.tells link.old }
+    {
+        booth.begin(self.input.moment() + passed.min(LONGEST_GAP));
+        match self.run(booth, link) {
+            Ok(()) if self.lost == 0 => Ok(()),
+            Ok(()) => Err(RunFault::Lost(self.lost)),
+            Err(LinkFault) => Err(RunFault::Device),
+        }
     }
 }

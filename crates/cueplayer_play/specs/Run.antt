@@ -27,9 +27,15 @@ taken show (At moment call) history =
     taken_by (refusal show history (act_of moment call)) (act_of moment call) history
 taken show _ history = history
 
+-- the history after these lines, of a console that stood for this one before them
+abbrev pub history_from : Tables → List Act → List (List ℕ) → List Act
+history_from show start [] = start
+history_from show start (line ∷ older) =
+    taken show (reading_of line) (history_from show start older)
+
+-- and of a console that had done nothing yet
 abbrev pub history_of : Tables → List (List ℕ) → List Act
-history_of show [] = []
-history_of show (line ∷ older) = taken show (reading_of line) (history_of show older)
+history_of show lines = history_from show [] lines
 
 -- ---- what a line does after a history
 
@@ -105,13 +111,18 @@ pub record Carried : Type 0 where
 abbrev pub lines_in : List Carried → List (List ℕ)
 lines_in run = map (λ carried. carried.line) run
 
--- each line offers what is due at it after the lines before it
-abbrev pub IsRun : Production → List Carried → Type 0
-IsRun p [] = Unit {0}
-IsRun p (newest ∷ older) =
-    AreOffered p.source (due_after p (history_of p.show (lines_in older)) (reading_of newest.line))
+-- each line offers what is due at it after this history and the lines before it
+abbrev pub IsRunFrom : Production → List Act → List Carried → Type 0
+IsRunFrom p start [] = Unit {0}
+IsRunFrom p start (newest ∷ older) =
+    AreOffered p.source
+    (due_after p (history_from p.show start (lines_in older)) (reading_of newest.line))
     newest.sends newest.offers
-    × IsRun p older
+    × IsRunFrom p start older
+
+-- and of a console that had done nothing yet
+abbrev pub IsRun : Production → List Carried → Type 0
+IsRun p run = IsRunFrom p [] run
 
 -- the sends of a run, and its text, in their order
 abbrev pub sends_of : List Carried → List Send

@@ -1,4 +1,6 @@
 pub mod Texts
 pub mod Given
 pub mod WordsLemmas
+mod Refusals
 mod Rows
+pub mod Targets

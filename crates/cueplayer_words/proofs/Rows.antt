@@ -1,13 +1,20 @@
 -- Words that are written out, by evaluation.
-use Rattle.std.proofs.Common.{ℕ, List, [], ◌∷◌, true, false, Some, None, ◌≡◌, refl, codes}
+use Rattle.std.proofs.Common.{ℕ, List, [], ◌∷◌, Option, true, false, Some, None, ◌≡◌, refl, codes}
 use Rattle.clap.specs.Words.{Text, fault_of, takes}
 use Rattle.clap.specs.declared.error.kind.ErrorKind.TheVariants.{MissingRequiredArgument}
 use Rattle.clap.proofs.OnLiterals.{clap_on_literals}
 use Rattle.uuid.proofs.OnLiterals.{uuid_on_literals}
 use Rattle.cueplayer_words.specs.Program.{program}
 use Rattle.cueplayer_words.specs.Address.{address_of}
-use Rattle.cueplayer_words.specs.Job.{job_of, number_between}
+use Rattle.cueplayer_words.specs.Job.{job_of}
+use Rattle.cueplayer_words.specs.Number.{number_between}
+use Rattle.cueplayer_words.specs.Misfit.{misfit_of}
+use Rattle.cueplayer_words.specs.Target.{target_of}
 use Rattle.cueplayer_words.specs.Asked.{Passes}
+use Rattle.targets.specs.declared.target.Target.{Target}
+use Rattle.targets.specs.declared.target.Universes.{Universes}
+use Rattle.cueplayer_words.specs.declared.misfit.Form.TheVariants.{Recorded, Patience, Followed}
+use Rattle.cueplayer_words.specs.declared.misfit.Form.TheVariants.{Alone, ByCard, Resumed, Target as TargetForm}
 use Rattle.cueplayer_words.specs.declared.job.Night.{Night}
 use Rattle.cueplayer_words.specs.declared.job.Job.TheVariants.{Check, Explain, Cues, Look, Slots}
 use Rattle.cueplayer_words.specs.declared.job.Job.TheVariants.{Play, Live, Rehearse, Listen}
@@ -130,14 +137,25 @@ play_words = sending_words (codes "play")
 abbrev cid : List ℕ
 cid = 192 ∷ 255 ∷ 238 ∷ 0 ∷ 0 ∷ 0 ∷ 64 ∷ 0 ∷ 128 ∷ 0 ∷ 0 ∷ 0 ∷ 0 ∷ 0 ∷ 225 ∷ 49 ∷ []
 
+-- a target at a host and a port
+abbrev target : Option Universes → List ℕ → ℕ → Target
+target universes host port = record {
+  universes = universes;
+  address = record { host = host; port = port };
+}
+
 -- a night of `a.asc`, sent by this CID
 abbrev night : List ℕ × ℕ → ℕ → ℕ → Night
 night to priority base = record {
   show = codes "a.asc";
-  to = to;
+  targets = target None to.0 to.1 ∷ [];
   cid = cid;
   priority = priority;
   base = base;
+  interface = None;
+  any_route = false;
+  name = None;
+  ttl = 1;
 }
 
 play_passes : Passes (play_words (codes "127.0.0.1") [])
@@ -155,6 +173,32 @@ play_options : job_of (play_words (codes "10.0.0.9:5000")
 unfolding clap_on_literals uuid_on_literals
 play_options = refl
 
+-- three targets, a card, any route to it, a name and a TTL
+play_by_card : job_of (play_words (codes "239.255.0.0") (codes "--to" ∷ codes "3=10.0.0.7" ∷ codes "--to"
+    ∷ codes "1-8=10.0.0.5:5569" ∷ codes "--interface" ∷ codes "eth0" ∷ codes "--any-route"
+    ∷ codes "--name" ∷ codes "main" ∷ codes "--ttl" ∷ codes "255" ∷ []))
+    ≡ Some (Play (record (night (239 ∷ 255 ∷ 0 ∷ 0 ∷ [], 5568) 100 1) {
+      targets = target None (239 ∷ 255 ∷ 0 ∷ 0 ∷ []) 5568
+          ∷ target (Some record { first = 3; last = 3 }) (10 ∷ 0 ∷ 0 ∷ 7 ∷ []) 5568
+          ∷ target (Some record { first = 1; last = 8 }) (10 ∷ 0 ∷ 0 ∷ 5 ∷ []) 5569 ∷ [];
+      interface = Some (codes "eth0");
+      any_route = true;
+      name = Some (codes "main");
+      ttl = 255;
+    }))
+unfolding clap_on_literals uuid_on_literals
+play_by_card = refl
+
+second_target_told : misfit_of (play_words (codes "10.0.0.7") (codes "--to" ∷ codes "8-1=10.0.0.7" ∷ []))
+    ≡ Some (codes "to", TargetForm, codes "8-1=10.0.0.7")
+unfolding clap_on_literals uuid_on_literals
+second_target_told = refl
+
+lone_any_route_told : misfit_of (play_words (codes "10.0.0.7") (codes "--any-route" ∷ []))
+    ≡ Some (codes "any-route", ByCard, codes "true")
+unfolding clap_on_literals uuid_on_literals
+lone_any_route_told = refl
+
 play_unfit_job : job_of (play_words (codes "127.0.0.1") (codes "--priority" ∷ codes "201" ∷ []))
     ≡ None
 unfolding clap_on_literals uuid_on_literals
@@ -165,21 +209,83 @@ unfolding clap_on_literals
 live_passes = refl
 
 live_job : job_of (sending_words (codes "live") (codes "127.0.0.1") [])
-    ≡ Some (Live (night (127 ∷ 0 ∷ 0 ∷ 1 ∷ [], 5568) 100 1) None false)
+    ≡ Some (Live (night (127 ∷ 0 ∷ 0 ∷ 1 ∷ [], 5568) 100 1) None false false None None 1000 false)
 unfolding clap_on_literals uuid_on_literals
 live_job = refl
 
 live_recorded : job_of (sending_words (codes "live") (codes "127.0.0.1:9")
     (codes "--record" ∷ codes "b.play" ∷ codes "--priority" ∷ codes "150" ∷ []))
-    ≡ Some (Live (night (127 ∷ 0 ∷ 0 ∷ 1 ∷ [], 9) 150 1) (Some (codes "b.play")) false)
+    ≡ Some (Live (night (127 ∷ 0 ∷ 0 ∷ 1 ∷ [], 9) 150 1) (Some (codes "b.play")) false false None None
+    1000 false)
 unfolding clap_on_literals uuid_on_literals
 live_recorded = refl
 
 live_ends : job_of (sending_words (codes "live") (codes "127.0.0.1:9")
     (codes "--end-with-input" ∷ codes "--record" ∷ codes "b.play" ∷ []))
-    ≡ Some (Live (night (127 ∷ 0 ∷ 0 ∷ 1 ∷ [], 9) 100 1) (Some (codes "b.play")) true)
+    ≡ Some (Live (night (127 ∷ 0 ∷ 0 ∷ 1 ∷ [], 9) 100 1) (Some (codes "b.play")) false false None None
+    1000 true)
 unfolding clap_on_literals uuid_on_literals
 live_ends = refl
+
+live_resumes : job_of (sending_words (codes "live") (codes "127.0.0.1:9")
+    (codes "--record" ∷ codes "b.play" ∷ codes "--resume" ∷ codes "--start" ∷ codes "2.5" ∷ []))
+    ≡ Some (Live (night (127 ∷ 0 ∷ 0 ∷ 1 ∷ [], 9) 100 1) (Some (codes "b.play")) true false (Some 2500)
+    None 1000 false)
+unfolding clap_on_literals uuid_on_literals
+live_resumes = refl
+
+live_lone_resume : job_of (sending_words (codes "live") (codes "127.0.0.1:9")
+    (codes "--resume" ∷ [])) ≡ None
+unfolding clap_on_literals uuid_on_literals
+live_lone_resume = refl
+
+lone_resume_told : misfit_of (sending_words (codes "live") (codes "127.0.0.1:9")
+    (codes "--resume" ∷ codes "--start" ∷ codes "0" ∷ []))
+    ≡ Some (codes "resume", Recorded, codes "true")
+unfolding clap_on_literals uuid_on_literals
+lone_resume_told = refl
+
+live_spare : job_of (sending_words (codes "live") (codes "127.0.0.1:9")
+    (codes "--record" ∷ codes "b.play" ∷ codes "--resume" ∷ codes "--spare" ∷ []))
+    ≡ Some (Live (night (127 ∷ 0 ∷ 0 ∷ 1 ∷ [], 9) 100 1) (Some (codes "b.play")) true true None
+    None 1000 false)
+unfolding clap_on_literals uuid_on_literals
+live_spare = refl
+
+lone_spare_told : misfit_of (sending_words (codes "live") (codes "127.0.0.1:9")
+    (codes "--record" ∷ codes "b.play" ∷ codes "--spare" ∷ []))
+    ≡ Some (codes "spare", Resumed, codes "true")
+unfolding clap_on_literals uuid_on_literals
+lone_spare_told = refl
+
+live_follows : job_of (sending_words (codes "live") (codes "127.0.0.1:9")
+    (codes "--follow" ∷ codes "b.play" ∷ codes "--patience" ∷ codes "060000" ∷ []))
+    ≡ Some (Live (night (127 ∷ 0 ∷ 0 ∷ 1 ∷ [], 9) 100 1) None false false None (Some (codes "b.play"))
+    60000 false)
+unfolding clap_on_literals uuid_on_literals
+live_follows = refl
+
+live_follows_anew : job_of (sending_words (codes "live") (codes "127.0.0.1:9")
+    (codes "--start" ∷ codes "1" ∷ codes "--follow" ∷ codes "b.play" ∷ [])) ≡ None
+unfolding clap_on_literals uuid_on_literals
+live_follows_anew = refl
+
+following_anew_told : misfit_of (sending_words (codes "live") (codes "127.0.0.1:9")
+    (codes "--start" ∷ codes "1" ∷ codes "--follow" ∷ codes "b.play" ∷ codes "--patience"
+    ∷ codes "0" ∷ [])) ≡ Some (codes "follow", Alone, codes "b.play")
+unfolding clap_on_literals uuid_on_literals
+following_anew_told = refl
+
+lone_patience_told : misfit_of (sending_words (codes "live") (codes "127.0.0.1:9")
+    (codes "--patience" ∷ codes "100" ∷ [])) ≡ Some (codes "patience", Followed, codes "100")
+unfolding clap_on_literals uuid_on_literals
+lone_patience_told = refl
+
+no_patience_told : misfit_of (sending_words (codes "live") (codes "127.0.0.1:9")
+    (codes "--follow" ∷ codes "b.play" ∷ codes "--patience" ∷ codes "60001" ∷ []))
+    ≡ Some (codes "patience", Patience, codes "60001")
+unfolding clap_on_literals uuid_on_literals
+no_patience_told = refl
 
 -- `rehearse a.asc b.script`
 abbrev rehearse_words : List Text
@@ -208,6 +314,23 @@ no_addresses : (address_of (codes "127.0.0.1:") ≡ None)
     × (address_of (codes "127.0.0.0000000001") ≡ None)
     × (address_of (codes "localhost") ≡ None)
 no_addresses = (refl, refl, refl, refl, refl, refl, refl, refl)
+
+-- the forms of a target
+targets : (target_of (codes "63999=10.0.0.7")
+    ≡ Some (target (Some record { first = 63999; last = 63999 }) (10 ∷ 0 ∷ 0 ∷ 7 ∷ []) 5568))
+    × (target_of (codes "7-7=10.0.0.7:1")
+    ≡ Some (target (Some record { first = 7; last = 7 }) (10 ∷ 0 ∷ 0 ∷ 7 ∷ []) 1))
+targets = (refl, refl)
+
+no_targets : (target_of (codes "0=10.0.0.7") ≡ None)
+    × (target_of (codes "64000=10.0.0.7") ≡ None)
+    × (target_of (codes "3-2=10.0.0.7") ≡ None)
+    × (target_of (codes "1-2-3=10.0.0.7") ≡ None)
+    × (target_of (codes "-2=10.0.0.7") ≡ None)
+    × (target_of (codes "=10.0.0.7") ≡ None)
+    × (target_of (codes "1=2=10.0.0.7") ≡ None)
+    × (target_of (codes "10.0.0.7=1") ≡ None)
+no_targets = (refl, refl, refl, refl, refl, refl, refl, refl)
 
 numbers : (number_between 1 63999 (codes "63999") ≡ Some 63999)
     × (number_between 1 63999 (codes "64000") ≡ None)

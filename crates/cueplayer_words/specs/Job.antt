@@ -1,13 +1,18 @@
 -- The job that words ask for.
 use Rattle.std.specs.Prelude.{ℕ, ◌≤◌, List, Option, Some, None, codes, option_map}
-use Rattle.std.specs.Prelude.{Bool, false, option_and_then, if◌then◌else◌, nat_le}
+use Rattle.std.specs.Prelude.{Bool, true, false, ◌||◌, ◌&&◌, not, is_some, option_and_then, []}
+use Rattle.std.specs.Prelude.{if◌then◌else◌, length, nat_eq, nat_le, nat_lt, unwrap_or}
+use Rattle.std.specs.List.{list_all}
 use Rattle.std.specs.Option.{option_map_or}
 use Rattle.std.specs.Str.{bytes_eq}
-use Rattle.clap.specs.Words.{Row, Text, first_of, subcommand_of}
+use Rattle.clap.specs.Words.{Row, Text, all_of, first_of, subcommand_of}
 use Rattle.uuid.specs.Text.{parsed}
-use Rattle.ascii_text.specs.Forms.{cue_number_of, whole_of}
+use Rattle.ascii_text.specs.Forms.{cue_number_of}
 use Rattle.cueplayer_words.specs.Address.{address_of}
+use Rattle.cueplayer_words.specs.Number.{number_between}
 use Rattle.cueplayer_words.specs.Program.{program}
+use Rattle.cueplayer_words.specs.Target.{targets_of}
+use Rattle.targets.specs.declared.target.Target.{Target}
 use Rattle.cueplayer_words.specs.declared.job.Night.{Night}
 use Rattle.cueplayer_words.specs.declared.job.Job.{Job}
 use Rattle.cueplayer_words.specs.declared.job.Job.TheVariants.{Check, Explain, Cues, Look, Slots}
@@ -24,11 +29,6 @@ value_or absent form id rows = option_map_or form (first_of id rows) (Some absen
 -- whether a flag was given: clap has `true` for one that was, and `false` for one that was not
 abbrev pub has_flag : Text → List Row → Bool
 has_flag id rows = option_map_or (λ text. bytes_eq text (codes "true")) (first_of id rows) false
-
--- a number from least to most
-abbrev pub number_between : ℕ → ℕ → Text → Option ℕ
-number_between least most text =
-    option_and_then (λ n. if nat_le least n then Some n else None) (whole_of most text)
 
 -- the job of `check SHOW`
 abbrev pub check_of : List Row → Option Job
@@ -64,34 +64,121 @@ slots_of rows = slots_with (first_of (codes "SHOW") rows)
     (value_by cue_number_of (codes "CUE") rows)
     (value_or 1 (number_between 1 63999) (codes "base") rows)
 
--- a night, where each of its values is there
-abbrev pub night_with : Option Text → Option (List ℕ × ℕ) → Option (List ℕ) → Option ℕ → Option ℕ
-    → Option Night
-night_with (Some show) (Some to) (Some cid) (Some priority) (Some base) = Some record {
-  show = show;
-  to = to;
-  cid = cid;
-  priority = priority;
-  base = base;
-}
-night_with _ _ _ _ _ = None
+-- all texts of an option, in the order in which they were given
+abbrev pub texts_of : Text → List Row → List Text
+texts_of id rows = unwrap_or (all_of id rows) []
 
--- the night of `SHOW --to ADDR --cid UUID [--priority P] [--base U]`: a priority is 0 to 200 and
--- 100 where it is absent (E1.31-2018, priority), the base a universe number, 1 where it is absent
+-- whether there is no card to send by
+abbrev pub has_no_card : List Row → Bool
+has_no_card rows = not (is_some (first_of (codes "interface") rows))
+
+-- whether a night goes by any route, which goes with a card
+abbrev pub any_route_of : List Row → Option Bool
+any_route_of rows = if has_flag (codes "any-route") rows
+    then (if has_no_card rows then None else Some true)
+    else Some false
+
+-- whether a byte is none of the control characters of ASCII
+abbrev pub is_shown : ℕ → Bool
+is_shown byte = nat_le 32 byte && not (nat_eq byte 127)
+
+-- whether a text names a source: 1 to 63 bytes (E1.31-2018, source name), without control
+-- characters, since it stands in lines of text
+abbrev pub is_source_name : Text → Bool
+is_source_name text =
+    nat_lt 0 (length text) && nat_le (length text) 63 && list_all is_shown text
+
+-- the name of who sends, which may be absent
+abbrev pub source_name_of : List Row → Option (Option Text)
+source_name_of rows = value_or None
+    (λ text. if is_source_name text then Some (Some text) else None) (codes "name") rows
+
+-- a night, where each of its values is there
+abbrev pub night_with : Option Text → Option (List Target) → Option (List ℕ) → Option ℕ → Option ℕ
+    → Option Text → Option Bool → Option (Option Text) → Option ℕ → Option Night
+night_with (Some show) (Some targets) (Some cid) (Some priority) (Some base) interface
+    (Some any_route) (Some name) (Some ttl) = Some record {
+      show = show;
+      targets = targets;
+      cid = cid;
+      priority = priority;
+      base = base;
+      interface = interface;
+      any_route = any_route;
+      name = name;
+      ttl = ttl;
+    }
+night_with _ _ _ _ _ _ _ _ _ = None
+
+-- the night of `SHOW --to TARGET.. --cid UUID [--priority P] [--base U] [--interface CARD]
+-- [--any-route] [--name TEXT] [--ttl HOPS]`: a priority is 0 to 200 and 100 where it is absent
+-- (E1.31-2018, priority), the base a universe number, and it and the TTL are 1 where absent
 abbrev pub night_of : List Row → Option Night
-night_of rows = night_with (first_of (codes "SHOW") rows) (value_by address_of (codes "to") rows)
+night_of rows = night_with (first_of (codes "SHOW") rows) (targets_of (texts_of (codes "to") rows))
     (value_by parsed (codes "cid") rows)
     (value_or 100 (number_between 0 200) (codes "priority") rows)
     (value_or 1 (number_between 1 63999) (codes "base") rows)
+    (first_of (codes "interface") rows) (any_route_of rows) (source_name_of rows)
+    (value_or 1 (number_between 1 255) (codes "ttl") rows)
 
 -- the job of `play`, which has the arguments of a night
 abbrev pub play_of : List Row → Option Job
 play_of rows = option_map Play (night_of rows)
 
--- the job of `live`, which has those of a night, and `[--record FILE] [--end-with-input]`
+-- whether there is no record to take up
+abbrev pub has_no_record : List Row → Bool
+has_no_record rows = not (is_some (first_of (codes "record") rows))
+
+-- whether a night is taken up from its record, which has to be there then
+abbrev pub resumes_of : List Row → Option Bool
+resumes_of rows = if has_flag (codes "resume") rows
+    then (if has_no_record rows then None else Some true)
+    else Some false
+
+-- whether a night is a spare, which goes with one that is taken up
+abbrev pub spare_of : List Row → Option Bool
+spare_of rows = if has_flag (codes "spare") rows
+    then (if has_flag (codes "resume") rows then Some true else None)
+    else Some false
+
+-- the cue that a night starts in, which may be absent
+abbrev pub start_of : List Row → Option (Option ℕ)
+start_of rows = value_or None (λ text. option_map Some (cue_number_of text)) (codes "start") rows
+
+-- whether a night begins in a way of its own: behind its record, or in a cue
+abbrev pub has_beginning : List Row → Bool
+has_beginning rows = has_flag (codes "resume") rows || is_some (first_of (codes "start") rows)
+
+-- whether a night follows a main, which has none of those ways then
+abbrev pub follows_of : List Row → Option Bool
+follows_of rows = if is_some (first_of (codes "follow") rows)
+    then (if has_beginning rows then None else Some true)
+    else Some false
+
+-- whether there is no main to follow
+abbrev pub has_no_main : List Row → Bool
+has_no_main rows = not (is_some (first_of (codes "follow") rows))
+
+-- how long a main may be silent, in milliseconds, which goes with a main; 1000 where it is absent
+abbrev pub patience_of : List Row → Option ℕ
+patience_of rows = option_map_or
+    (λ text. if has_no_main rows then None else number_between 1 60000 text)
+    (first_of (codes "patience") rows) (Some 1000)
+
+-- a live night, where each of its values is there
+abbrev pub live_with : Option Night → Option Text → Option Bool → Option Bool → Option (Option ℕ)
+    → Option Text → Option Bool → Option ℕ → Bool → Option Job
+live_with (Some night) record_file (Some resumes) (Some is_spare) (Some start) main_file
+    (Some follows) (Some patience) ends_with_input =
+    Some (Live night record_file resumes is_spare start main_file patience ends_with_input)
+live_with _ _ _ _ _ _ _ _ _ = None
+
+-- the job of `live`, which has those of a night, and `[--record FILE] [--resume] [--spare]
+-- [--start N] [--follow FILE] [--patience MS] [--end-with-input]`
 abbrev pub live_of : List Row → Option Job
-live_of rows = option_map (λ night. Live night (first_of (codes "record") rows)
-    (has_flag (codes "end-with-input") rows)) (night_of rows)
+live_of rows = live_with (night_of rows) (first_of (codes "record") rows) (resumes_of rows)
+    (spare_of rows) (start_of rows) (first_of (codes "follow") rows) (follows_of rows) (patience_of rows)
+    (has_flag (codes "end-with-input") rows)
 
 -- a rehearsal, where both of its values are there
 abbrev pub rehearse_with : Option Text → Option Text → Option Job
@@ -118,7 +205,8 @@ listen_of rows = listen_with (value_by address_of (codes "ADDR") rows)
 abbrev pub IsInRange : Job → Type 0
 IsInRange (Listen at universe count) = (1 ≤ universe) × (universe ≤ 63999)
 IsInRange (Play night) = night.priority ≤ 200
-IsInRange (Live night record_file ends_with_input) = night.priority ≤ 200
+IsInRange (Live night record_file resumes is_spare start main_file patience ends_with_input) =
+    night.priority ≤ 200
 IsInRange _ = Unit {0}
 
 -- the job of a line, by its name and the texts of its arguments

@@ -1,4 +1,6 @@
 pub mod Address
+pub mod Number
+pub mod Target
 pub mod Program
 pub mod Line
 pub mod Job

@@ -6,7 +6,7 @@ use Rattle.clap.specs.Words.{App, Rule, Text, app_of, new_app, new_rule, rule_of
 use Rattle.clap.specs.Words.{with_subcommand}
 use Rattle.clap.specs.declared.builder.arg.Arg.{Arg}
 use Rattle.clap.specs.declared.builder.Command.{Command}
-use Rattle.clap.specs.declared.builder.action.ArgAction.TheVariants.{SetTrue}
+use Rattle.clap.specs.declared.builder.action.ArgAction.TheVariants.{Append, SetTrue}
 use Rattle.clap.specs.declared.builder.Command.TheViews.{out-Command as fields_of}
 
 -- an argument follows this rule, for one line alone
@@ -24,6 +24,10 @@ required id = record (new_rule id) { required = true }
 -- an option that has to be there: two dashes and its name, and then its value
 abbrev pub required_option : Text → Rule
 required_option id = record (required id) { long = Some id; value_names = 1 }
+
+-- an option that has to be there, and may be there more than once
+abbrev pub repeated_option : Text → Rule
+repeated_option id = record (required_option id) { action = Some Append }
 
 -- an option that may be absent
 abbrev pub option : Text → Rule
@@ -49,15 +53,19 @@ cid = required_option (codes "cid")
 abbrev pub base : Rule
 base = option (codes "base")
 
--- `SHOW --to ADDR --cid UUID [--priority P] [--base U]`
+-- `SHOW --to TARGET.. --cid UUID [--priority P] [--base U] [--interface CARD] [--any-route]
+-- [--name TEXT] [--ttl HOPS]`
 abbrev pub night_arguments : List Rule
-night_arguments =
-    show ∷ required_option (codes "to") ∷ cid ∷ option (codes "priority") ∷ base ∷ []
+night_arguments = show ∷ repeated_option (codes "to") ∷ cid ∷ option (codes "priority") ∷ base
+    ∷ option (codes "interface") ∷ flag (codes "any-route") ∷ option (codes "name")
+    ∷ option (codes "ttl") ∷ []
 
--- those, and `[--record FILE] [--end-with-input]`
+-- those, and `[--record FILE] [--resume] [--spare] [--start N] [--follow FILE] [--patience MS]
+-- [--end-with-input]`
 abbrev pub live_arguments : List Rule
-live_arguments =
-    night_arguments ++ option (codes "record") ∷ flag (codes "end-with-input") ∷ []
+live_arguments = night_arguments ++ option (codes "record") ∷ flag (codes "resume")
+    ∷ flag (codes "spare") ∷ option (codes "start") ∷ option (codes "follow") ∷ option (codes "patience")
+    ∷ flag (codes "end-with-input") ∷ []
 
 -- `ADDR UNIVERSE COUNT`
 abbrev pub listen_arguments : List Rule
@@ -68,18 +76,32 @@ listen_arguments =
 abbrev pub line : Text → List Rule → App
 line name arguments = fold with_rule (new_app name) arguments
 
--- the lines of the program
-abbrev pub lines : List App
-lines = line (codes "check") (show ∷ [])
+-- the lines that read a show
+abbrev pub readers : List App
+readers = line (codes "check") (show ∷ [])
     ∷ line (codes "explain") (show ∷ [])
     ∷ line (codes "cues") (show ∷ flag (codes "json") ∷ [])
     ∷ line (codes "look") (show ∷ cue ∷ cid ∷ [])
     ∷ line (codes "slots") (show ∷ cue ∷ base ∷ [])
-    ∷ line (codes "play") night_arguments
-    ∷ line (codes "live") live_arguments
-    ∷ line (codes "rehearse") (show ∷ required (codes "SCRIPT") ∷ [])
+    ∷ []
+
+-- the lines that play to the network
+abbrev pub players : List App
+players = line (codes "play") night_arguments ∷ line (codes "live") live_arguments ∷ []
+
+-- the lines that try a night out
+abbrev pub trials : List App
+trials = line (codes "rehearse") (show ∷ required (codes "SCRIPT") ∷ [])
     ∷ line (codes "listen") listen_arguments
     ∷ []
+
+-- the lines of the program
+abbrev pub lines : List App
+lines = readers ++ players ++ trials
+
+-- a command with these lines behind its own
+abbrev pub with_all : App → List App → App
+with_all app more = fold (λ whole l. with_subcommand whole l.top) app more
 
 -- the program before it has lines: a line has to be named
 abbrev pub without_lines : App
@@ -89,7 +111,7 @@ without_lines = record (new_app (codes "cueplayer")) {
 
 -- the program with all its lines
 abbrev pub program : App
-program = fold (λ app line. with_subcommand app line.top) without_lines lines
+program = with_all without_lines lines
 
 -- the rules of the line of this name, in order
 abbrev pub rules_of : Text → List Rule

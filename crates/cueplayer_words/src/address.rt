@@ -55,7 +55,7 @@ fn port(text: &str) -> Option<u16>
 }
 
 // What stands before and behind the first `mark`.
-fn split_once(text: &str, mark: char) -> Option<(&str, &str)>
+pub(crate) fn split_once(text: &str, mark: char) -> Option<(&str, &str)>
     requires { mark < 128 }
     ensures { MatchOption result (list_any (λ b. b == mark) text.now ≡ false)
         (λ parts. (list_any (λ b. b == mark) text.now ≡ true)

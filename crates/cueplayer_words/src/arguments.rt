@@ -1,22 +1,28 @@
-ghost use Rattle.std.specs.Prelude.{◌≡◌, ◌≤◌, IfOk, IfSome, codes, is_some, option_map, true};
-ghost use Rattle.clap.specs.Words.{first_of, found_of, rows_of};
+ghost use Rattle.std.specs.Prelude.{◌≡◌, ◌≤◌, IfOk, codes, is_some, length, map, option_map, true};
+ghost use Rattle.std.specs.List.{list_all};
+ghost use Rattle.std.specs.Result.{result_map_both};
+ghost use Rattle.clap.specs.Words.{all_of, first_of, found_of, rows_of};
 ghost use Rattle.uuid.specs.Text.{parsed};
 ghost use Rattle.ascii_text.specs.Forms.{cue_number_of};
-ghost use Rattle.cueplayer_words.specs.Job.{has_flag, number_between, value_by, value_or};
+ghost use Rattle.cueplayer_words.specs.Number.{number_between};
+ghost use Rattle.cueplayer_words.specs.Target.{read_all, targets_of};
+ghost use Rattle.cueplayer_words.specs.Job.{any_route_of, follows_of, has_flag, is_shown};
+ghost use Rattle.cueplayer_words.specs.Job.{is_source_name};
+ghost use Rattle.cueplayer_words.specs.Job.{patience_of, resumes_of, source_name_of, spare_of};
+ghost use Rattle.cueplayer_words.specs.Job.{start_of, texts_of, value_by, value_or};
 ghost use Rattle.cueplayer_words.specs.Address.{address_of};
-ghost use Rattle.cueplayer_words.specs.Misfit.{Reads, form_of, misfit_at};
-ghost use Rattle.cueplayer_words.specs.declared.misfit.Form.TheVariants as form;
+ghost use Rattle.cueplayer_words.specs.Misfit.{Reads, misfit_at};
 
 use crate::address::address;
 use crate::job::Name;
 use crate::misfit::{Form, Misfit};
-use ascii_text::{cue_number, whole};
+use crate::number::{TOP_UNIVERSE, number_between};
+use crate::target::target;
+use ascii_text::cue_number;
 use clap::ArgMatches;
 use std::alloc::{AllocError, Global};
+use targets::{MOST_TARGETS, Targets};
 use uuid::Uuid;
-
-// The greatest number of a universe.
-const TOP_UNIVERSE: u32 = 63_999;
 
 /// The text of an argument that has to be there.
 pub(crate) fn text_at<'a>(matches: &ArgMatches<'a>, id: &str) -> &'a str
@@ -52,7 +58,14 @@ pub(crate) fn name_at(
 ) -> Result<Option<Name>, AllocError>
     ensures { IfOk result (λ name. name ≡ first_of id.now (rows_of (found_of matches.now))) }
 {
-    match given_at(matches, id) {
+    name_of(alloc, given_at(matches, id))
+}
+
+/// The name that a text is, where it is there.
+pub(crate) fn name_of(alloc: Global, text: Option<&str>) -> Result<Option<Name>, AllocError>
+    ensures { IfOk result (λ name. name ≡ option_map (λ text. text.now) text.entry) }
+{
+    match text {
         Some(text) => Ok(Some(Name::new(alloc, text)?)),
         None => Ok(None),
     }
@@ -75,6 +88,130 @@ pub(crate) fn cue_at<'a>(matches: &ArgMatches<'a>) -> Result<u32, Misfit<'a>>
     Ok(cue)
 }
 
+/// Whether a night is taken up, which wants for a record.
+pub(crate) fn resumes_at<'a>(matches: &ArgMatches<'a>) -> Result<bool, Misfit<'a>>
+    ensures { Reads (resumes_of (rows_of (found_of matches.now)))
+        (misfit_at (codes "resume") (rows_of (found_of matches.now))) result }
+{
+    let Some(text) = given_at(matches, "resume") else {
+        return Ok(false);
+    };
+    if text != "true" {
+        return Ok(false);
+    }
+    if given_at(matches, "record").is_none() {
+        return Err(Misfit {
+            argument: "resume",
+            form: Form::Recorded,
+            text,
+        });
+    }
+    Ok(true)
+}
+
+/// Whether a night is a spare, which wants for one that is taken up.
+pub(crate) fn spare_at<'a>(matches: &ArgMatches<'a>) -> Result<bool, Misfit<'a>>
+    ensures { Reads (spare_of (rows_of (found_of matches.now)))
+        (misfit_at (codes "spare") (rows_of (found_of matches.now))) result }
+{
+    let Some(text) = given_at(matches, "spare") else {
+        return Ok(false);
+    };
+    if text != "true" {
+        return Ok(false);
+    }
+    if !has_flag(matches, "resume") {
+        return Err(Misfit {
+            argument: "spare",
+            form: Form::Resumed,
+            text,
+        });
+    }
+    Ok(true)
+}
+
+/// Whether a night goes by any route, which wants for a card.
+pub(crate) fn any_route_at<'a>(matches: &ArgMatches<'a>) -> Result<bool, Misfit<'a>>
+    ensures { Reads (any_route_of (rows_of (found_of matches.now)))
+        (misfit_at (codes "any-route") (rows_of (found_of matches.now))) result }
+{
+    let Some(text) = given_at(matches, "any-route") else {
+        return Ok(false);
+    };
+    if text != "true" {
+        return Ok(false);
+    }
+    if given_at(matches, "interface").is_none() {
+        return Err(Misfit {
+            argument: "any-route",
+            form: Form::ByCard,
+            text,
+        });
+    }
+    Ok(true)
+}
+
+/// The cue that a night starts in, where one is named.
+pub(crate) fn start_at<'a>(matches: &ArgMatches<'a>) -> Result<Option<u32>, Misfit<'a>>
+    ensures { Reads (start_of (rows_of (found_of matches.now)))
+        (misfit_at (codes "start") (rows_of (found_of matches.now))) result }
+{
+    let Some(text) = given_at(matches, "start") else {
+        return Ok(None);
+    };
+    let Some(cue) = cue_number(text.as_bytes()) else {
+        return Err(Misfit {
+            argument: "start",
+            form: Form::Cue,
+            text,
+        });
+    };
+    Ok(Some(cue))
+}
+
+/// Whether a night follows a main, which goes without a record to take up and a cue to start in.
+pub(crate) fn follows_at<'a>(matches: &ArgMatches<'a>) -> Result<bool, Misfit<'a>>
+    ensures { Reads (follows_of (rows_of (found_of matches.now)))
+        (misfit_at (codes "follow") (rows_of (found_of matches.now))) result }
+{
+    let Some(text) = given_at(matches, "follow") else {
+        return Ok(false);
+    };
+    if has_flag(matches, "resume") || given_at(matches, "start").is_some() {
+        return Err(Misfit {
+            argument: "follow",
+            form: Form::Alone,
+            text,
+        });
+    }
+    Ok(true)
+}
+
+/// How long a main may be silent, in milliseconds; 1,000 where it is absent.
+pub(crate) fn patience_at<'a>(matches: &ArgMatches<'a>) -> Result<u32, Misfit<'a>>
+    ensures { Reads (patience_of (rows_of (found_of matches.now)))
+        (misfit_at (codes "patience") (rows_of (found_of matches.now))) result }
+{
+    let Some(text) = given_at(matches, "patience") else {
+        return Ok(1000);
+    };
+    if given_at(matches, "follow").is_none() {
+        return Err(Misfit {
+            argument: "patience",
+            form: Form::Followed,
+            text,
+        });
+    }
+    let Some(patience) = number_between(text, 1, 60_000) else {
+        return Err(Misfit {
+            argument: "patience",
+            form: Form::Patience,
+            text,
+        });
+    };
+    Ok(patience)
+}
+
 /// The CID of a line that has one.
 pub(crate) fn cid_at<'a>(matches: &ArgMatches<'a>) -> Result<[u8; 16], Misfit<'a>>
     requires { is_some (first_of (codes "cid") (rows_of (found_of matches.now))) ≡ true }
@@ -92,25 +229,70 @@ pub(crate) fn cid_at<'a>(matches: &ArgMatches<'a>) -> Result<[u8; 16], Misfit<'a
     Ok(cid)
 }
 
-/// The address of an argument that is one.
-pub(crate) fn address_at<'a>(
-    matches: &ArgMatches<'a>,
-    argument: &'static str,
-) -> Result<([u8; 4], u16), Misfit<'a>>
-    requires is_address { form_of argument.now ≡ Some form.Address }
-    requires given { is_some (first_of argument.now (rows_of (found_of matches.now))) ≡ true }
-    ensures { Reads (value_by address_of argument.now (rows_of (found_of matches.now)))
-        (misfit_at argument.now (rows_of (found_of matches.now))) result }
+/// The address of a line that listens.
+pub(crate) fn address_at<'a>(matches: &ArgMatches<'a>) -> Result<([u8; 4], u16), Misfit<'a>>
+    requires { is_some (first_of (codes "ADDR") (rows_of (found_of matches.now))) ≡ true }
+    ensures { Reads (value_by address_of (codes "ADDR") (rows_of (found_of matches.now)))
+        (misfit_at (codes "ADDR") (rows_of (found_of matches.now))) result }
 {
-    let text = text_at(matches, argument);
-    let Some(to) = address(text) else {
+    let text = text_at(matches, "ADDR");
+    let Some(at) = address(text) else {
         return Err(Misfit {
-            argument,
+            argument: "ADDR",
             form: Form::Address,
             text,
         });
     };
-    Ok(to)
+    Ok(at)
+}
+
+/// The targets of a line that plays.
+pub(crate) fn targets_at<'a>(matches: &ArgMatches<'a>) -> Result<Targets, Misfit<'a>>
+    ensures { Reads (targets_of (texts_of (codes "to") (rows_of (found_of matches.now))))
+        (misfit_at (codes "to") (rows_of (found_of matches.now))) result }
+{
+    let Some(texts) = texts_at(matches, "to") else {
+        return Ok(Targets::new());
+    };
+    if let Some(text) = texts.get(MOST_TARGETS) {
+        return Err(Misfit {
+            argument: "to",
+            form: Form::Few,
+            text,
+        });
+    }
+    match read_targets(texts) {
+        Ok(targets) => Ok(targets),
+        Err(text) => Err(Misfit {
+            argument: "to",
+            form: Form::Target,
+            text,
+        }),
+    }
+}
+
+// The targets that the texts spell, or the first text that spells none.
+fn read_targets<'a>(texts: &[&'a str]) -> Result<Targets, &'a str>
+    requires { length texts.now ≤ 64 }
+    ensures { result_map_both (λ targets. targets) (λ text. text.now) result
+        ≡ read_all (map (λ text. text.now) texts.now) }
+{
+    let mut targets = Targets::new();
+    for text in texts {
+        let Some(target) = target(text) else {
+            return Err(text);
+        };
+        targets.add(target);
+    }
+    Ok(targets)
+}
+
+// All texts of an option, in the order in which they were given.
+fn texts_at<'m, 'a: 'm>(matches: &'m ArgMatches<'a>, id: &str) -> Option<&'m [&'a str]>
+    ensures { option_map (λ texts. map (λ text. text.now) texts.now) result
+        ≡ all_of id.now (rows_of (found_of matches.now)) }
+{
+    matches.get_strs(id)
 }
 
 /// The universe of a line that listens.
@@ -189,12 +371,61 @@ pub(crate) fn base_at<'a>(matches: &ArgMatches<'a>) -> Result<u16, Misfit<'a>>
     Ok(base as u16)
 }
 
-fn number_between(text: &str, least: u32, most: u32) -> Option<u32>
-    ensures value { result ≡ number_between least most text.now }
-    ensures within { IfSome result (λ number. (least ≤ number) × (number ≤ most)) }
+/// The text that names the source, where it is there.
+pub(crate) fn source_name_at<'m, 'a>(
+    matches: &'m ArgMatches<'a>,
+) -> Result<Option<&'a str>, Misfit<'a>>
+    ensures { Reads (source_name_of (rows_of (found_of matches.now)))
+        (misfit_at (codes "name") (rows_of (found_of matches.now)))
+        (result_map_both (option_map (λ text. text.now)) (λ misfit. misfit) result) }
 {
-    let number = whole(text.as_bytes(), most)?;
-    if number < least { None } else { Some(number) }
+    let Some(text) = given_at(matches, "name") else {
+        return Ok(None);
+    };
+    if !is_source_name(text) {
+        return Err(Misfit {
+            argument: "name",
+            form: Form::SourceName,
+            text,
+        });
+    }
+    Ok(Some(text))
+}
+
+fn is_source_name(text: &str) -> bool
+    ensures { result ≡ is_source_name text.now }
+{
+    let bytes = text.as_bytes();
+    if bytes.is_empty() || bytes.len() > 63 {
+        return false;
+    }
+    has_no_controls(bytes)
+}
+
+// A name stands in lines of text, and a terminal shows it.
+fn has_no_controls(bytes: &[u8]) -> bool
+    ensures { result ≡ list_all is_shown bytes.now }
+{
+    bytes.iter().all(|byte| *byte >= 32 && *byte != 127)
+}
+
+/// The TTL of multicast; 1 where it is absent.
+pub(crate) fn ttl_at<'a>(matches: &ArgMatches<'a>) -> Result<u8, Misfit<'a>>
+    ensures { Reads (value_or 1 (number_between 1 255) (codes "ttl")
+        (rows_of (found_of matches.now)))
+        (misfit_at (codes "ttl") (rows_of (found_of matches.now))) result }
+{
+    let Some(text) = given_at(matches, "ttl") else {
+        return Ok(1);
+    };
+    let Some(ttl) = number_between(text, 1, 255) else {
+        return Err(Misfit {
+            argument: "ttl",
+            form: Form::Ttl,
+            text,
+        });
+    };
+    Ok(ttl as u8)
 }
 
 fn cid_of(text: &str) -> Option<[u8; 16]>

@@ -5,9 +5,10 @@ ghost use Rattle.cueplayer_words.specs.declared.job.WordsFault.TheVariants.{Unfi
 use crate::misfit::Misfit;
 use std::alloc::{AllocError, Global};
 use std::marker::Model;
+use targets::Targets;
 use thiserror::Error;
 
-/// The name of a file, as the words gave it. Contracts see its bytes.
+/// A name as the words gave it: of a file, a network card or a source. Contracts see its bytes.
 #[derive(Debug, Drop)]
 pub struct Name {
     text: String,
@@ -41,8 +42,8 @@ impl Name {
 pub struct Night {
     pub show: Name,
 
-    /// The IPv4 address and the UDP port to send to.
-    pub to: ([u8; 4], u16),
+    /// Where the packets of each universe go.
+    pub targets: Targets,
 
     /// The CID of who sends: the UUID's 16 bytes in order.
     pub cid: [u8; 16],
@@ -52,6 +53,19 @@ pub struct Night {
 
     /// The number of the first universe, 1 to 63,999 (1 where it is absent).
     pub base: u16,
+
+    /// The network card to send by, by its name or its address.
+    pub interface: Option<Name>,
+
+    /// Whether packets may go by another card than that one, where the route leads by it.
+    pub any_route: bool,
+
+    /// The name of who sends: 1 to 63 bytes, no control character among them.
+    pub name: Option<Name>,
+
+    /// How many routers a packet to a multicast group may pass, and one: 1 to 255 (1 where it is
+    /// absent).
+    pub ttl: u8,
 }
 
 /// What the words ask for: one of the program's lines, with the values of its arguments.
@@ -90,16 +104,26 @@ pub enum Job {
         base: u16,
     },
 
-    /// `play SHOW --to ADDR --cid UUID [--priority P] [--base U]`: play input lines to the network.
+    /// `play SHOW --to TARGET.. --cid UUID [--priority P] [--base U] [--interface CARD]
+    /// [--any-route] [--name TEXT] [--ttl HOPS]`: play input lines to the network.
     Play(Night),
 
-    /// `live SHOW --to ADDR --cid UUID [--priority P] [--base U] [--record FILE]
-    /// [--end-with-input]`: play by the clock what is typed. `record_file` is where the lines that
-    /// were played are written to, where a file is named; the night ends where its input ends, or
-    /// the light holds.
+    /// `live` with the arguments of `play` and `[--record FILE] [--resume] [--spare] [--start N]
+    /// [--follow FILE] [--patience MS] [--end-with-input]`: play by the clock what is typed.
+    /// `record_file` is where the lines that were played are written to, where a file is named; a
+    /// night that resumes has one, and goes on in it. A spare resumes. The night starts in a cue, in
+    /// thousandths, 1 to 9,999,999, where one is named. Where `main_file` is named, it follows the
+    /// record of another night, until that is silent for `patience` milliseconds, 1 to 60,000 (1,000
+    /// where it is absent); it neither resumes nor starts in a cue then. It ends where its input
+    /// ends, or the light holds.
     Live {
         night: Night,
         record_file: Option<Name>,
+        resumes: bool,
+        is_spare: bool,
+        start: Option<u32>,
+        main_file: Option<Name>,
+        patience: u32,
         ends_with_input: bool,
     },
 

@@ -14,8 +14,10 @@ mod arguments;
 mod job;
 mod line;
 mod misfit;
+mod number;
 mod program;
 mod read;
+mod target;
 
 pub use job::{Job, Name, Night, WordsFault};
 pub use misfit::{Form, Misfit};

@@ -1,7 +1,7 @@
 ghost use Rattle.std.specs.Prelude.{◌≡◌, IfOk};
 ghost use Rattle.clap.specs.Words.{app_of};
 ghost use Rattle.cueplayer_words.specs.Program.{IsArgument, IsLine, required, required_option};
-ghost use Rattle.cueplayer_words.specs.Program.{flag, option};
+ghost use Rattle.cueplayer_words.specs.Program.{flag, option, repeated_option};
 ghost use Rattle.cueplayer_words.specs.Line.{app_of_line, rule_of_argument, with_lines};
 
 use clap::{Arg, ArgAction, Command};
@@ -15,6 +15,9 @@ pub(crate) enum Argument<'a> {
 
     /// An option that has to be there.
     Required(&'a str, &'a str, &'a str),
+
+    /// An option that has to be there, and may be there more than once.
+    Repeated(&'a str, &'a str, &'a str),
 
     /// An option that may be absent.
     Optional(&'a str, &'a str, &'a str),
@@ -30,6 +33,7 @@ impl<'a> Argument<'a> {
         match self {
             Argument::Positional(id, help) => required(alloc, id, help),
             Argument::Required(id, value, help) => required_option(alloc, id, value, help),
+            Argument::Repeated(id, value, help) => repeated_option(alloc, id, value, help),
             Argument::Optional(id, value, help) => option(alloc, id, value, help),
             Argument::Flag(id, help) => flag(alloc, id, help),
         }
@@ -101,4 +105,10 @@ fn required_option<'a>(alloc: Global, id: &'a str, value: &'a str, help: &'a str
     ensures { IsArgument (required_option id.now) result }
 {
     required(alloc, id, help).long(id).value_name(value)
+}
+
+fn repeated_option<'a>(alloc: Global, id: &'a str, value: &'a str, help: &'a str) -> Arg<'a>
+    ensures { IsArgument (repeated_option id.now) result }
+{
+    required_option(alloc, id, value, help).action(ArgAction::Append)
 }

@@ -1,6 +1,7 @@
 ghost use Rattle.std.specs.Prelude.{◌≡◌, IfOk};
 ghost use Rattle.clap.specs.Words.{app_of};
-ghost use Rattle.cueplayer_words.specs.Program.{program, without_lines};
+ghost use Rattle.cueplayer_words.specs.Program.{players, program, readers, trials};
+ghost use Rattle.cueplayer_words.specs.Program.{with_all, without_lines};
 
 use crate::line::{Argument, Line, with_lines};
 use clap::Command;
@@ -24,10 +25,11 @@ const CID: Argument<'static> = Argument::Required(
     "The sender's CID, its own for good: 32 hex digits, as uuidgen prints them",
 );
 
-const TO: Argument<'static> = Argument::Required(
+const TO: Argument<'static> = Argument::Repeated(
     "to",
-    "ADDR",
-    "Where to send: a.b.c.d, at port 5568, or a.b.c.d:port; 239.255.0.0 for multicast groups",
+    "TARGET",
+    "Where to send: a.b.c.d, at port 5568, or a.b.c.d:port; 239.255.0.0 for multicast groups. \
+        3=a.b.c.d and 1-8=a.b.c.d are for these universes alone. More than once for more targets",
 );
 
 const PRIORITY: Argument<'static> = Argument::Optional(
@@ -42,10 +44,61 @@ const BASE: Argument<'static> = Argument::Optional(
     "The number of the first universe, 1 to 63999; 1 where it is absent",
 );
 
+const INTERFACE: Argument<'static> = Argument::Optional(
+    "interface",
+    "CARD",
+    "The network card to send by: its name, as eth0, or its address",
+);
+
+const ANY_ROUTE: Argument<'static> = Argument::Flag(
+    "any-route",
+    "Sends also where the route to a target leads by another card; wants --interface",
+);
+
+const NAME: Argument<'static> = Argument::Optional(
+    "name",
+    "TEXT",
+    "The source's name on monitors, 1 to 63 bytes; cueplayer where it is absent",
+);
+
+const TTL: Argument<'static> = Argument::Optional(
+    "ttl",
+    "HOPS",
+    "The TTL of multicast, 1 to 255, for routers on the way; 1 where it is absent",
+);
+
 const RECORD: Argument<'static> = Argument::Optional(
     "record",
     "FILE",
     "A new file, or an empty one, for the lines that are played: a text for play",
+);
+
+const RESUME: Argument<'static> = Argument::Flag(
+    "resume",
+    "Takes up the night of the record, and goes on in it; wants --record",
+);
+
+const SPARE: Argument<'static> = Argument::Flag(
+    "spare",
+    "Stands by as a spare of the night that it takes up; wants --resume",
+);
+
+const START: Argument<'static> = Argument::Optional(
+    "start",
+    "N",
+    "The number of the cue that the night starts in, at full",
+);
+
+const FOLLOW: Argument<'static> = Argument::Optional(
+    "follow",
+    "FILE",
+    "The record of a main: its lines are carried out as they come, until it is silent",
+);
+
+const PATIENCE: Argument<'static> = Argument::Optional(
+    "patience",
+    "MS",
+    "How long a main may be silent, 1 to 60000 milliseconds; 1000 where it is absent",
 );
 
 const END_WITH_INPUT: Argument<'static> = Argument::Flag(
@@ -75,7 +128,7 @@ const COUNT: Argument<'static> = Argument::Positional(
     "How many datagrams to receive, 1 to 1000000: then the run ends",
 );
 
-const LINES: [Line<'static>; 9] = [
+const READERS: [Line<'static>; 5] = [
     Line {
         name: "check",
         about: "Reads a show and prints its counts",
@@ -106,20 +159,45 @@ const LINES: [Line<'static>; 9] = [
         example: "Example: cueplayer slots night.asc 1.5 --base 1",
         arguments: &[SHOW, CUE, BASE],
     },
+];
+
+const PLAYERS: [Line<'static>; 2] = [
     Line {
         name: "play",
         about: "Plays the lines of standard input to the network",
         example: "Example: cueplayer play night.asc --to 10.0.0.7 \
             --cid c0ffee00-0000-4000-8000-00000000e131",
-        arguments: &[SHOW_FILE, TO, CID, PRIORITY, BASE],
+        arguments: &[
+            SHOW_FILE, TO, CID, PRIORITY, BASE, INTERFACE, ANY_ROUTE, NAME, TTL,
+        ],
     },
     Line {
         name: "live",
         about: "Plays what is typed to the network, by the clock",
         example: "Example: cueplayer live night.asc --to 10.0.0.7 \
             --cid c0ffee00-0000-4000-8000-00000000e131",
-        arguments: &[SHOW_FILE, TO, CID, PRIORITY, BASE, RECORD, END_WITH_INPUT],
+        arguments: &[
+            SHOW_FILE,
+            TO,
+            CID,
+            PRIORITY,
+            BASE,
+            INTERFACE,
+            ANY_ROUTE,
+            NAME,
+            TTL,
+            RECORD,
+            RESUME,
+            SPARE,
+            START,
+            FOLLOW,
+            PATIENCE,
+            END_WITH_INPUT,
+        ],
     },
+];
+
+const TRIALS: [Line<'static>; 2] = [
     Line {
         name: "rehearse",
         about: "Rehearses a script of consoles, receivers and a network in memory",
@@ -138,7 +216,26 @@ const LINES: [Line<'static>; 9] = [
 pub(crate) fn program<'a>(alloc: Global) -> Result<Command<'a>, AllocError>
     ensures { IfOk result (λ command. app_of command ≡ program) }
 {
-    with_lines(alloc, without_lines(alloc)?, &LINES)
+    let command = with_readers(alloc, without_lines(alloc)?)?;
+    with_trials(alloc, with_players(alloc, command)?)
+}
+
+fn with_readers<'a>(alloc: Global, command: Command<'a>) -> Result<Command<'a>, AllocError>
+    ensures { IfOk result (λ whole. app_of whole ≡ with_all (app_of command.entry) readers) }
+{
+    with_lines(alloc, command, &READERS)
+}
+
+fn with_players<'a>(alloc: Global, command: Command<'a>) -> Result<Command<'a>, AllocError>
+    ensures { IfOk result (λ whole. app_of whole ≡ with_all (app_of command.entry) players) }
+{
+    with_lines(alloc, command, &PLAYERS)
+}
+
+fn with_trials<'a>(alloc: Global, command: Command<'a>) -> Result<Command<'a>, AllocError>
+    ensures { IfOk result (λ whole. app_of whole ≡ with_all (app_of command.entry) trials) }
+{
+    with_lines(alloc, command, &TRIALS)
 }
 
 fn without_lines<'a>(alloc: Global) -> Result<Command<'a>, AllocError>

@@ -6,12 +6,14 @@ ghost use Rattle.cueplayer_words.specs.Program.{rules_of};
 ghost use Rattle.cueplayer_words.specs.Job.{IsInRange, line_of, check_of, explain_of, cues_of};
 ghost use Rattle.cueplayer_words.specs.Job.{look_of, slots_of, night_of, play_of};
 ghost use Rattle.cueplayer_words.specs.Job.{live_of, rehearse_of, listen_of};
-ghost use Rattle.cueplayer_words.specs.Misfit.{IsWhole, first_misfit, has_texts, misfit_in};
+ghost use Rattle.cueplayer_words.specs.Misfit.{IsWhole, NightFits, first_misfit, has_texts};
+ghost use Rattle.cueplayer_words.specs.Misfit.{misfit_in};
 ghost use Rattle.cueplayer_words.specs.Asked.{Answers, Explains, IsAsked, RefusedBy};
 
 use crate::arguments::{
-    address_at, base_at, cid_at, count_at, cue_at, has_flag, name_at, priority_at, text_at,
-    universe_at,
+    address_at, any_route_at, base_at, cid_at, count_at, cue_at, follows_at, has_flag, name_at,
+    name_of, patience_at, priority_at, resumes_at, source_name_at, spare_at, start_at, targets_at,
+    text_at, ttl_at, universe_at,
 };
 use crate::job::{Job, Name, Night, WordsFault};
 use crate::program::program;
@@ -144,11 +146,39 @@ fn read_live<'a>(alloc: Global, matches: &ArgMatches<'a>) -> Result<Job, WordsFa
     ensures { Answers IsInRange (live_of (rows_of (found_of matches.now)))
         (misfit_in (codes "live", rows_of (found_of matches.now))) result }
 {
-    let night = read_night(alloc, matches)?;
+    match read_night(alloc, matches) {
+        Ok(night) => read_live_night(alloc, matches, night),
+        Err(fault) => Err(fault),
+    }
+}
+
+// The job of `live`, where its night was read.
+fn read_live_night<'a>(
+    alloc: Global,
+    matches: &ArgMatches<'a>,
+    night: Night,
+) -> Result<Job, WordsFault<'a>>
+    requires asked { night_of (rows_of (found_of matches.now)) ≡ Some night }
+    requires range { night.priority ≤ 200 }
+    requires fits { NightFits (rows_of (found_of matches.now)) }
+    ensures { Answers IsInRange (live_of (rows_of (found_of matches.now)))
+        (misfit_in (codes "live", rows_of (found_of matches.now))) result }
+{
+    let resumes = resumes_at(matches)?;
+    let is_spare = spare_at(matches)?;
+    let start = start_at(matches)?;
+    let _follows = follows_at(matches)?;
+    let patience = patience_at(matches)?;
     let record_file = name_at(alloc, matches, "record")?;
+    let main_file = name_at(alloc, matches, "follow")?;
     Ok(Job::Live {
         night,
         record_file,
+        resumes,
+        is_spare,
+        start,
+        main_file,
+        patience,
         ends_with_input: has_flag(matches, "end-with-input"),
     })
 }
@@ -156,20 +186,31 @@ fn read_live<'a>(alloc: Global, matches: &ArgMatches<'a>) -> Result<Job, WordsFa
 // The night of a line that plays, where each of its texts has its form.
 fn read_night<'a>(alloc: Global, matches: &ArgMatches<'a>) -> Result<Night, WordsFault<'a>>
     requires { has_texts night_arguments (rows_of (found_of matches.now)) ≡ true }
-    ensures { Answers (λ night. night.priority ≤ 200) (night_of (rows_of (found_of matches.now)))
+    ensures night { Answers (λ night. night.priority ≤ 200)
+        (night_of (rows_of (found_of matches.now)))
         (first_misfit night_arguments (rows_of (found_of matches.now))) result }
+    ensures fits { IfOk result (λ _. NightFits (rows_of (found_of matches.now))) }
 {
-    let to = address_at(matches, "to")?;
+    let targets = targets_at(matches)?;
     let cid = cid_at(matches)?;
     let priority = priority_at(matches)?;
     let base = base_at(matches)?;
+    let any_route = any_route_at(matches)?;
+    let source_name = source_name_at(matches)?;
+    let ttl = ttl_at(matches)?;
     let show = Name::new(alloc, text_at(matches, "SHOW"))?;
+    let interface = name_at(alloc, matches, "interface")?;
+    let name = name_of(alloc, source_name)?;
     Ok(Night {
         show,
-        to,
+        targets,
         cid,
         priority,
         base,
+        interface,
+        any_route,
+        name,
+        ttl,
     })
 }
 
@@ -188,7 +229,7 @@ fn read_listen<'a>(matches: &ArgMatches<'a>) -> Result<Job, WordsFault<'a>>
     ensures { Answers IsInRange (listen_of (rows_of (found_of matches.now)))
         (misfit_in (codes "listen", rows_of (found_of matches.now))) result }
 {
-    let at = address_at(matches, "ADDR")?;
+    let at = address_at(matches)?;
     let universe = universe_at(matches)?;
     let count = count_at(matches)?;
     Ok(Job::Listen {

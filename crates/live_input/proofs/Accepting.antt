@@ -14,12 +14,12 @@ use Rattle.desk_core.specs.Played.{Act, last_moment, last_tick, refusal}
 use Rattle.live_input.specs.declared.progress.Stage.{Stage}
 use Rattle.live_input.specs.declared.progress.Stage.TheVariants.{On, Dark, Ended}
 use Rattle.live_input.specs.Laws.{IsDim, accepted, since_end, taken}
-use Rattle.live_input.specs.Night.{Answer, Happening, answer_to, answers, asked, due, is_dark}
+use Rattle.live_input.specs.Night.{Answer, Happening, answer_to, answers, asked, due}
 use Rattle.live_input.specs.Night.{close, dim, is_on, is_through, now, order, stage, stage_by, tick}
 use Rattle.live_input.proofs.Asked.{is_end}
 use Rattle.live_input.proofs.Cases.{Keeps, Next, answer_is_next, clock_below, through}
 use Rattle.live_input.proofs.Cases.{closes, darkens, dims, leaves, takes, ticks}
-use Rattle.live_input.proofs.Nights.{on_only}
+use Rattle.live_input.proofs.Nights.{dark_only, on_only}
 
 -- a desk with this history, at this moment, agrees with the answers given: its last tick, if there
 -- was one, is 23 ms before the next is due, and its grand master is down where the night is dark
@@ -80,10 +80,6 @@ tick_dims (Ended count) n settings dark = tt
 on_none : (s : Stage) → is_on s ≡ true → since_end s ≡ None
 on_none s on = rw (on_only s on) refl
 
-dark_only : (s : Stage) → is_dark s ≡ true → (count : ℕ) × (s ≡ Dark count)
-dark_only (Dark count) dark = (count, refl)
-dark_only s dark = cc
-
 order_by : (show : Tables) (h : List Happening) (n : ℕ) (line : List ℕ) (c : Command)
     → is_on (stage (answers h)) ≡ true → is_end c ≡ false → now h ≤ n
     → Agrees (accepted show (answers h)) (answers h) (now h)
@@ -138,11 +134,11 @@ close_by show h n typed below none s le a =
 
 agrees_by : (show : Tables) → Keeps (λ given n. Agrees (accepted show given) given n)
 agrees_by show h n _ (takes line left is on fit c spelled other) le below a =
-    rw spelled (order_by show h n line c on other le a)
-agrees_by show h n _ (darkens line left is on) le below a = dim_by show h n _ below on le a
-agrees_by show h n _ (dims on owed) le below a = dim_by show h n _ below on le a
+    rw spelled (order_by show h n line c on.0 other.0 le a)
+agrees_by show h n _ (darkens line left is on) le below a = dim_by show h n _ below on.0 le a
+agrees_by show h n _ (dims on owed) le below a = dim_by show h n _ below on.0 le a
 agrees_by show h n _ (leaves line left is on) le below a =
-    close_by show h n _ below (on_none _ on) (rw (on_only _ on) refl) le a
+    close_by show h n _ below (on_none _ on.0) (rw (on_only _ on.0) refl) le a
 agrees_by show h n _ (closes dark) le below a =
     let s = (dark_only (stage (answers h)) dark).1 in
     close_by show h n _ below (rw s refl) (rw s refl) le a

@@ -16,7 +16,7 @@ use Rattle.live_input.specs.declared.given.Given.{Given}
 use Rattle.live_input.specs.Told.{Leaves, Tells, TellsFirst}
 use Rattle.live_input.proofs.TypedLemmas.{none_left}
 
-request_more : (given : List Answer) (n : ℕ) (line : List ℕ) (request : Request)
+pub request_more : (given : List Answer) (n : ℕ) (line : List ℕ) (request : Request)
     → lines_answered (to_request n line request ∷ given) ≡ lines_answered given ++ line ∷ []
 request_more given n line (Nothing why) = refl
 request_more given n line Where = refl

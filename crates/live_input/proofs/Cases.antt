@@ -1,8 +1,8 @@
 -- The answers that there are, and what holds through a night.
-use Rattle.std.proofs.Common.{◌≡◌, ◌≤◌, ◌<◌, ◌^◌, ℕ, Bool, true, false, refl, arith, List, [], ◌∷◌}
-use Rattle.std.proofs.Common.{length, Option, Some, None}
+use Rattle.std.proofs.Common.{◌≡◌, ◌≤◌, ◌<◌, ◌^◌, ℕ, true, false, refl, arith, List, [], ◌∷◌}
+use Rattle.std.proofs.Common.{length, Some, None}
 use Rattle.std.specs.Prelude.{◌&&◌, nat_le, unwrap_or}
-use Rattle.std.proofs.lemmas.Bool.{and_parts, cond_both, leb-true}
+use Rattle.std.proofs.lemmas.Bool.{and_parts, cond_both, le-leb, leb-true}
 use Rattle.ascii_text.specs.Text.{words_of}
 use Rattle.desk_core.specs.declared.command.Command.{Command}
 use Rattle.console_text.specs.Spelling.{command_of}
@@ -10,7 +10,7 @@ use Rattle.live_input.specs.Night.{Answer, Happening, answer_to, answers, asked,
 use Rattle.live_input.specs.Laws.{IsOn}
 use Rattle.live_input.specs.Night.{before_lines, due, ends_with_input, goes_first}
 use Rattle.live_input.specs.Night.{is_dark, is_on, is_over, lines_left, now}
-use Rattle.live_input.specs.Night.{stage, to_lines, to_request}
+use Rattle.live_input.specs.Night.{request_of, stage, to_lines, to_request, words_asked}
 use Rattle.live_input.specs.Night.{order, dim, close, tick, place, help, refusal, wait, over}
 use Rattle.live_input.specs.declared.reason.Reason.{Reason}
 use Rattle.live_input.specs.declared.request.Request.{Request}
@@ -19,66 +19,79 @@ use Rattle.live_input.specs.declared.request.Request.TheVariants.{Finish, Order}
 use Rattle.live_input.specs.Keys.{without_keys}
 use Rattle.live_input.proofs.Asked.{Meets, is_end, request_meets}
 
+-- commands are taken, and no tick goes first
+abbrev pub HasTurn : List Answer → ℕ → Type 0
+HasTurn given n = (is_on (stage given) ≡ true) × (goes_first given n ≡ false)
+
+-- a line asks for a command, which is no `end`
+abbrev pub Ordinary : List ℕ → Command → Type 0
+Ordinary line command = (is_end command ≡ false)
+    × (words_asked true (words_of (without_keys line)) ≡ Order command)
+
 -- each answer at a moment after these happenings, and when it comes
 pub data Next (h : List Happening) (n : ℕ) : Answer → Type 0 where
   nothing : is_over (answers h) ≡ true → Next h n over
   takes : (line : List ℕ) (later : List (List ℕ)) → lines_left (answers h) h ≡ line ∷ later
-      → is_on (stage (answers h)) ≡ true → length (at_moment n line) ≤ 200
+      → HasTurn (answers h) n → length (at_moment n line) ≤ 200
       → (command : Command) → command_of (words_of (without_keys line)) ≡ Some command
-      → is_end command ≡ false → Next h n (order n line)
+      → Ordinary line command → Next h n (order n line)
   darkens : (line : List ℕ) (later : List (List ℕ)) → lines_left (answers h) h ≡ line ∷ later
-      → is_on (stage (answers h)) ≡ true → Next h n (dim n (Some line))
+      → HasTurn (answers h) n → Next h n (dim n (Some line))
   leaves : (line : List ℕ) (later : List (List ℕ)) → lines_left (answers h) h ≡ line ∷ later
-      → is_on (stage (answers h)) ≡ true → Next h n (close n (Some line))
+      → HasTurn (answers h) n → Next h n (close n (Some line))
   places : (line : List ℕ) (later : List (List ℕ)) → lines_left (answers h) h ≡ line ∷ later
       → IsOn (answers h) → Next h n (place n line)
   helps : (line : List ℕ) (later : List (List ℕ)) → lines_left (answers h) h ≡ line ∷ later
       → IsOn (answers h) → Next h n (help line)
   refuses : (why : Reason) (line : List ℕ) (later : List (List ℕ))
       → lines_left (answers h) h ≡ line ∷ later → IsOn (answers h) → Next h n (refusal why line)
-  dims : is_on (stage (answers h)) ≡ true → ends_with_input h ≡ true → Next h n (dim n None)
+  dims : HasTurn (answers h) n → ends_with_input h ≡ true → Next h n (dim n None)
   closes : is_dark (stage (answers h)) ≡ true → Next h n (close n None)
   ticks : is_over (answers h) ≡ false → is_dark (stage (answers h)) ≡ false
       → due (answers h) ≤ n → Next h n (tick n)
   waits : lines_left (answers h) h ≡ [] → IsOn (answers h) → Next h n (wait (due (answers h)))
 
 request_is : (h : List Happening) (n : ℕ) (line : List ℕ) (later : List (List ℕ))
-    → IsOn (answers h) → lines_left (answers h) h ≡ line ∷ later → (request : Request)
+    → IsOn (answers h) → goes_first (answers h) n ≡ false
+    → lines_left (answers h) h ≡ line ∷ later → (request : Request)
+    → request_of (is_on (stage (answers h))) n line ≡ request
     → Meets (is_on (stage (answers h))) n line request → Next h n (to_request n line request)
-request_is h n line later free left (Nothing why) m = refuses why line later left free
-request_is h n line later free left Where m = places line later left free
-request_is h n line later free left Help m = helps line later left free
-request_is h n line later free left Leave m = leaves line later left m
-request_is h n line later free left Finish m = darkens line later left m
-request_is h n line later free left (Order c) m = takes line later left m.0 m.1 c m.2 m.3
+request_is h n line later free none left (Nothing why) is m = refuses why line later left free
+request_is h n line later free none left Where is m = places line later left free
+request_is h n line later free none left Help is m = helps line later left free
+request_is h n line later free none left Leave is m = leaves line later left (m, none)
+request_is h n line later free none left Finish is m = darkens line later left (m, none)
+request_is h n line later free none left (Order c) is m =
+    takes line later left (m.0, none) m.1 c m.2 (m.3, rw (le-leb _ 200 m.1, m.0) at is)
 
-lines_are : (h : List Happening) (n : ℕ) → IsOn (answers h) → (left : List (List ℕ))
-    → lines_left (answers h) h ≡ left → Next h n (to_lines left (answers h) (ends_with_input h) n)
-lines_are h n on [] is =
+lines_are : (h : List Happening) (n : ℕ) → IsOn (answers h)
+    → goes_first (answers h) n ≡ false → (left : List (List ℕ)) → lines_left (answers h) h ≡ left
+    → Next h n (to_lines left (answers h) (ends_with_input h) n)
+lines_are h n on none [] is =
     cond_both (is_on (stage (answers h)) && ends_with_input h) _ _ (Next h n)
-    (λ owed. let parts = and_parts _ _ owed in dims parts.0 parts.1)
-    (λ none. cond_both (nat_le (due (answers h)) n) _ _ (Next h n)
+    (λ owed. let parts = and_parts _ _ owed in dims (parts.0, none) parts.1)
+    (λ other. cond_both (nat_le (due (answers h)) n) _ _ (Next h n)
     (λ late. ticks on.0 on.1 (leb-true _ n late)) (λ early. waits is on))
-lines_are h n on (line ∷ later) is = request_is h n line later on is _
+lines_are h n on none (line ∷ later) is = request_is h n line later on none is _ refl
     (request_meets (is_on (stage (answers h))) n line)
 
 -- what comes before any line, or else the rest
 first_is : (h : List Happening) (n : ℕ) → is_over (answers h) ≡ false → (rest : Answer)
-    → (IsOn (answers h) → Next h n rest)
+    → (IsOn (answers h) → goes_first (answers h) n ≡ false → Next h n rest)
     → Next h n (unwrap_or (before_lines (answers h) n) rest)
 first_is h n on rest later =
     cond_both (is_dark (stage (answers h))) _ _ (λ b. Next h n (unwrap_or b rest))
     (λ dark. closes dark)
     (λ light. cond_both (goes_first (answers h) n) _ _ (λ b. Next h n (unwrap_or b rest))
     (λ first. ticks on light (leb-true _ n (and_parts _ _ first).0))
-    (λ none. later (on, light)))
+    (λ none. later (on, light) none))
 
 pub answer_is_next : (h : List Happening) (moment : ℕ)
     → Next h (now (asked moment ∷ h)) (answer_to h moment)
 answer_is_next h moment =
     let n = now (asked moment ∷ h) in
     cond_both (is_over (answers h)) _ _ (Next h n) (λ e. nothing e)
-    (λ on. first_is h n on _ (λ is. lines_are h n is (lines_left (answers h) h) refl))
+    (λ on. first_is h n on _ (λ is none. lines_are h n is none (lines_left (answers h) h) refl))
 
 pub clock_below : (h : List Happening) → now h < 2 ^ 48
 clock_below [] = omega arith

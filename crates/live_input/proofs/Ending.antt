@@ -68,12 +68,12 @@ one_order s left line given on e = cc
 
 ending_by : Keeps (λ given n. Ends (stage given) (was_left given) (words_given given))
 ending_by h n _ (takes line later is on _ _ _ _) le below e =
-    one_order (stage (answers h)) _ (without_keys line) _ on e
+    one_order (stage (answers h)) _ (without_keys line) _ on.0 e
 ending_by h n _ (darkens line later is on) le below e =
-    one_dim n (Some line) (stage (answers h)) _ _ on e
-ending_by h n _ (dims on owed) le below e = one_dim n None (stage (answers h)) _ _ on e
+    one_dim n (Some line) (stage (answers h)) _ _ on.0 e
+ending_by h n _ (dims on owed) le below e = one_dim n None (stage (answers h)) _ _ on.0 e
 ending_by h n _ (leaves line later is on) le below e =
-    one_leave n line (stage (answers h)) _ on
+    one_leave n line (stage (answers h)) _ on.0
 ending_by h n _ (closes dark) le below e = one_close n (stage (answers h)) _ _ dark e
 ending_by h n _ (ticks on light late) le below e =
     one_tick n (stage (answers h)) _ _ light on e

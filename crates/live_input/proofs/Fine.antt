@@ -1,7 +1,10 @@
 -- The lines that are given, as `play` reads them.
 use Rattle.std.proofs.Common.{◌≡◌, ◌≤◌, ◌<◌, ◌^◌, ℕ, true, false, refl, ap, ◌∙◌, arith, List, []}
 use Rattle.std.proofs.Common.{◌∷◌, ◌++◌, length, fold, reverse, append_assoc, length-append, Option}
-use Rattle.std.proofs.Common.{Some, None}
+use Rattle.std.proofs.Common.{Some, None, ◌+◌, append-nil}
+use Rattle.std.proofs.lemmas.List.{take_all}
+use Rattle.std.proofs.lemmas.List.Sums.{fold-append}
+use Rattle.live_input.proofs.TypedLemmas.{more_typed}
 use Rattle.std.specs.Prelude.{◌==◌, is_some, codes, decimal, flat_map, not, All}
 use Rattle.std.specs.List.{list_all}
 use Rattle.std.proofs.lemmas.Bool.{cond_both, not-true}
@@ -26,7 +29,7 @@ use Rattle.live_input.proofs.Spelled.{call_is, no_digit, reading_is}
 
 -- ---- what lines spell
 
-spells : (n : ℕ) (line : List ℕ) → n < 2 ^ 48 → (spelled : Option Command)
+pub spells : (n : ℕ) (line : List ℕ) → n < 2 ^ 48 → (spelled : Option Command)
     → command_of (words_of line) ≡ spelled → is_some spelled ≡ true
     → Spells spelled n line × (is_malformed (reading_of (at_moment n line)) ≡ false)
 spells n line below None e some = cc
@@ -52,7 +55,7 @@ spelled h moment =
 
 -- ---- lines without LF
 
-abbrev NotLf : ℕ → Type 0
+abbrev pub NotLf : ℕ → Type 0
 NotLf b = (b == 10) ≡ false
 
 abbrev NoLf : Typed → Type 0
@@ -71,9 +74,31 @@ typed_no_lf : (t : Typed) (bytes : List ℕ) → NoLf t → NoLf (fold with_byte
 typed_no_lf t [] h = h
 typed_no_lf t (b ∷ bytes) h = typed_no_lf (with_byte t b) bytes (byte_no_lf t b h)
 
-left_no_lf : (h : List Happening) → All (All NotLf) (lines_left (answers h) h)
+pub left_no_lf : (h : List Happening) → All (All NotLf) (lines_left (answers h) h)
 left_no_lf h = All-drop (All NotLf) _ (typed_of (bytes_come h)).lines
     (typed_no_lf no_bytes (bytes_come h) (All-nil (All NotLf), All-nil NotLf)).0
+
+-- what has no LF goes into the line
+line_whole : (lines : List (List ℕ)) (rest text : List ℕ) → All NotLf text
+    → length rest + length text ≤ 200
+    → fold with_byte (record { lines = lines; rest = rest }) text
+    ≡ record { lines = lines; rest = rest ++ text }
+line_whole lines rest [] whole fit = rw append-nil refl
+line_whole lines rest (b ∷ text) whole fit =
+    let fits : length (rest ++ b ∷ []) ≤ 201 = simp length-append (omega arith) in
+    let more : length (rest ++ b ∷ []) + length text ≤ 200 = simp length-append (omega arith) in
+    rw (All-head NotLf b text whole, take_all 201 (rest ++ b ∷ []) fits)
+    (line_whole lines (rest ++ b ∷ []) text (All-tail NotLf b text whole) more
+    ∙ rw append_assoc refl)
+
+-- and an LF ends it
+pub line_typed : (bytes text : List ℕ) (lines : List (List ℕ))
+    → typed_of bytes ≡ record { lines = lines; rest = [] } → All NotLf text
+    → length text ≤ 200 → says_nothing text ≡ false
+    → typed_of (bytes ++ (text ++ 10 ∷ [])) ≡ record { lines = lines ++ text ∷ []; rest = [] }
+line_typed bytes text lines is whole fit says =
+    let line = line_whole lines [] text whole (omega arith) in
+    more_typed bytes (text ++ 10 ∷ []) ∙ rw (is, fold-append with_byte, line, says) refl
 
 -- ---- the lines that are given
 
@@ -91,13 +116,21 @@ one_good n line good short whole = record {
       (no_digit (λ b. b == 10) refl n) refl) whole;
 }
 
+-- a short word behind a moment
+pub word_fits : (n : ℕ) (word : List ℕ) → n < 2 ^ 48 → length word ≤ 8
+    → length (at_moment n word) ≤ 200
+word_fits n word below short = simp length-append (omega (arith, length-decimal-le 15 n))
+
+pub word_whole : (word : List ℕ) → list_all (λ b. not (b == 10)) word ≡ true → All NotLf word
+word_whole word whole =
+    All-weaker _ NotLf (λ b. not-true (b == 10)) word (AllPass-from_list_all _ word whole)
+
 -- `master 0`, `end` or a tick
 short_good : (n : ℕ) (word : List ℕ) → n < 2 ^ 48
     → is_malformed (spelling.at_moment (Some n) (call_of (words_of word))) ≡ false
     → length word ≤ 8 → list_all (λ b. not (b == 10)) word ≡ true → IsGood (at_moment n word)
 short_good n word below good short whole = one_good n word (rw (reading_is n word below) good)
-    (simp length-append (omega (arith, length-decimal-le 15 n)))
-    (All-weaker _ NotLf (λ b. not-true (b == 10)) word (AllPass-from_list_all _ word whole))
+    (word_fits n word below short) (word_whole word whole)
 
 good_by : Keeps (λ given n. All IsGood (lines_given given))
 good_by h n _ (takes line later is on fit c spelled other) le below g =
@@ -139,11 +172,6 @@ all_reverse lines g = λ i d inside. grind (arith, moves, elements)
 all_good : (h : List Happening) → All IsGood (reverse (lines_given (answers h)))
 all_good h = all_reverse (lines_given (answers h)) (through
     (λ given n. All IsGood (lines_given given)) (All-nil IsGood) good_by h)
-
--- each line is read as it was given
-pub lines_whole : (h : List Happening)
-    → lines_of (text_of (lines_given (answers h))) ≡ reverse (lines_given (answers h))
-lines_whole h = lines_of-text (reverse (lines_given (answers h))) (all_good h)
 
 pub lines_fine : (h : List Happening) → AreFine (lines_of (text_of (lines_given (answers h))))
 lines_fine h =

@@ -1,12 +1,12 @@
 -- The text of a line without its keys.
-use Rattle.std.proofs.Common.{◌≡◌, ◌≤◌, ◌+◌, ℕ, suc, true, false, arith, List, [], ◌∷◌, ◌++◌, length}
-use Rattle.std.proofs.Common.{append_assoc, length-append}
+use Rattle.std.proofs.Common.{◌≡◌, ◌≤◌, ◌+◌, ℕ, suc, arith, List, [], ◌∷◌, length}
+use Rattle.std.proofs.Common.{length-append, refl, ap}
 use Rattle.std.specs.Prelude.{All, decimal}
-use Rattle.std.proofs.lemmas.Bool.{cond_both}
+use Rattle.std.proofs.lemmas.Bool.{cond_both, not-true}
 use Rattle.std.proofs.lemmas.List.Elements.{All-cons, All-head, All-nil, All-tail}
 use Rattle.live_input.specs.declared.keys.Part.{Part}
 use Rattle.live_input.specs.declared.keys.Part.TheVariants.{Text}
-use Rattle.live_input.specs.Keys.{is_text, part_after, text_from, without_keys}
+use Rattle.live_input.specs.Keys.{is_escape, is_text, part_after, text_from, without_keys}
 use Rattle.live_input.specs.Night.{at_moment}
 
 -- it is no longer than the line
@@ -17,7 +17,7 @@ text_short part (b ∷ line) =
     cond_both (is_text part b) _ _ (λ (text : List ℕ). length text ≤ suc (length line))
     (λ e. omega (arith, rest)) (λ e. omega (arith, rest))
 
-spaced : (n : ℕ) (words : List ℕ)
+pub spaced : (n : ℕ) (words : List ℕ)
     → length (at_moment n words) ≡ length (decimal n) + suc (length words)
 spaced n words = simp length-append (omega arith)
 
@@ -39,14 +39,11 @@ text_whole P part (b ∷ line) h =
 pub keys_whole : (P : ℕ → Type 0) (line : List ℕ) → All P line → All P (without_keys line)
 keys_whole P = text_whole P Text
 
--- ---- a byte more
-
-pub next_text : (whole text rest : List ℕ) (part : Part) (b : ℕ) → is_text part b ≡ true
-    → whole ≡ text ++ text_from part (b ∷ rest)
-    → whole ≡ (text ++ b ∷ []) ++ text_from (part_after part b) rest
-next_text whole text rest part b is so_far = rw append_assoc (rw is at so_far)
-
-pub next_key : (whole text rest : List ℕ) (part : Part) (b : ℕ) → is_text part b ≡ false
-    → whole ≡ text ++ text_from part (b ∷ rest)
-    → whole ≡ text ++ text_from (part_after part b) rest
-next_key whole text rest part b is so_far = rw is at so_far
+-- what is left has no keys
+pub text_again : (part : Part) (line : List ℕ)
+    → without_keys (text_from part line) ≡ text_from part line
+text_again part [] = refl
+text_again Text (b ∷ line) = cond_both (is_text Text b) _ _ (λ text. without_keys text ≡ text)
+    (λ is. rw (not-true (is_escape b) is) (ap (λ text. b ∷ text) (text_again Text line)))
+    (λ none. text_again (part_after Text b) line)
+text_again part (b ∷ line) = text_again (part_after part b) line

@@ -7,6 +7,8 @@ pub mod KeyLemmas
 pub mod Ending
 pub mod Nights
 pub mod Fine
+pub mod Recalling
+pub mod Records
 pub mod Spelled
 pub mod TypedLemmas
 pub mod Turns

@@ -1,16 +1,14 @@
 -- What holds through a night.
-use Rattle.std.proofs.Common.{◌≤◌, ℕ, List, [], ◌∷◌, arith, ◌≡◌, suc, ◌+◌, true, false}
-use Rattle.std.proofs.Common.{length, Option, Some, None, ◌↔◌, refl, ◌++◌, drop, append_assoc}
-use Rattle.std.proofs.Common.{append-nil}
+use Rattle.std.proofs.Common.{◌≤◌, ℕ, List, [], ◌∷◌, arith, ◌≡◌, true, false}
+use Rattle.std.proofs.Common.{length, None, ◌↔◌, refl, ◌++◌, drop, append_assoc}
+use Rattle.std.proofs.Common.{append-nil, Bool}
 use Rattle.std.specs.List.{filter_map}
 use Rattle.std.proofs.lemmas.Bool.Decides.{nat_tests}
 use Rattle.std.proofs.Math.Seq.{drop-append_seam}
 use Rattle.live_input.specs.Laws.{AlwaysRise, LinesFollowTicks, Rise, TicksGoFirst, moment_of}
-use Rattle.live_input.specs.Laws.{tick_of}
-use Rattle.live_input.specs.Night.{Answer, Happening, answers, due, now, close, dim, stage}
-use Rattle.live_input.specs.Night.{stage_by}
-use Rattle.live_input.specs.Night.{ends_with_input, is_on, is_through}
-use Rattle.live_input.specs.Night.{tick}
+use Rattle.live_input.specs.Laws.{IsEnding, tick_of, was_left, words_given}
+use Rattle.live_input.specs.Night.{Answer, Happening, answers, due, now, dim, stage}
+use Rattle.live_input.specs.Night.{ends_with_input, is_dark, is_on, is_through}
 use Rattle.live_input.specs.Night.{answer_to, asked, bytes_come, came, closed, is_over}
 use Rattle.live_input.specs.declared.progress.Stage.{Stage}
 use Rattle.live_input.specs.declared.progress.Stage.TheVariants.{On, Dark, Ended}
@@ -18,6 +16,7 @@ use Rattle.live_input.specs.Night.{goes_first, lines_answered, lines_left, over,
 use Rattle.live_input.specs.Typed.{typed_of}
 use Rattle.live_input.proofs.Cases.{Keeps, Next, closes, takes, through, ticks, answer_is_next}
 use Rattle.live_input.proofs.Cases.{nothing, places, helps, refuses, waits, darkens, dims, leaves}
+use Rattle.live_input.proofs.Ending.{ends_whole}
 use Rattle.live_input.proofs.TypedLemmas.{Adds, grows}
 
 -- ---- the moments of lines and of ticks
@@ -57,46 +56,20 @@ pub on_only : (s : Stage) → is_on s ≡ true → s ≡ On
 on_only On on = refl
 on_only s on = cc
 
+pub dark_only : (s : Stage) → is_dark s ≡ true → (count : ℕ) × (s ≡ Dark count)
+dark_only (Dark count) dark = (count, refl)
+dark_only s dark = cc
+
 -- there are at most three behind `end`
-abbrev AtMostThree : Stage → Type 0
-AtMostThree (Ended count) = count ≤ 3
-AtMostThree _ = Unit {0}
-
-one_tick : (n : ℕ) (s : Stage) → is_through s ≡ false → AtMostThree s
-    → AtMostThree (stage_by (tick n) s)
-one_tick n On on few = tt
-one_tick n (Dark k) on few = tt
-one_tick n (Ended k) on few = grind (arith, nat_tests, on)
-
-one_end : (n : ℕ) (typed : Option (List ℕ)) (s : Stage) → AtMostThree s
-    → AtMostThree (stage_by (close n typed) s)
-one_end n typed On few = omega arith
-one_end n typed (Dark k) few = omega arith
-one_end n typed (Ended k) few = few
-
-one_dim : (n : ℕ) (typed : Option (List ℕ)) (s : Stage) → AtMostThree s
-    → AtMostThree (stage_by (dim n typed) s)
-one_dim n typed On few = tt
-one_dim n typed (Dark k) few = tt
-one_dim n typed (Ended k) few = few
-
-counted_by : Keeps (λ given n. AtMostThree (stage given))
-counted_by h n _ (darkens line later is on) le below few =
-    one_dim n (Some line) (stage (answers h)) few
-counted_by h n _ (leaves line later is on) le below few =
-    one_end n (Some line) (stage (answers h)) few
-counted_by h n _ (dims on owed) le below few = one_dim n None (stage (answers h)) few
-counted_by h n _ (closes dark) le below few = one_end n None (stage (answers h)) few
-counted_by h n _ (ticks on light late) le below few = one_tick n (stage (answers h)) on few
-counted_by h n _ _ le below few = few
-
-three : (s : Stage) → AtMostThree s → is_through s ≡ true → s ≡ Ended 3
-three (Ended k) few through = grind (arith, nat_tests, few, through)
-three s few through = cc
+three : (s : Stage) (left : Bool) (given : List (List ℕ)) → IsEnding s left given
+    → is_through s ≡ true → s ≡ Ended 3
+three (Ended k) true given ends through = grind (arith, nat_tests, ends.0, through)
+three (Ended k) false given ends through = grind (arith, nat_tests, ends.0, through)
+three s left given ends through = cc
 
 pub just_three : (h : List Happening) → is_over (answers h) ≡ true → stage (answers h) ≡ Ended 3
-just_three h is =
-    three _ (through (λ given n. AtMostThree (stage given)) tt counted_by h) is
+just_three h is = three (stage (answers h)) (was_left (answers h)) (words_given (answers h))
+    (ends_whole h) is
 
 -- ---- the order of the lines
 
@@ -150,7 +123,7 @@ late_first given n none late = grind (arith, nat_tests, none, late)
 pub ticks_first : TicksGoFirst
 ticks_first h moment on none late = rw (on.0, on.1, late_first (answers h) _ none late) refl
 
-behind_tick : (given : List Answer) (n : ℕ) → was_tick given ≡ true → goes_first given n ≡ false
+pub behind_tick : (given : List Answer) (n : ℕ) → was_tick given ≡ true → goes_first given n ≡ false
 behind_tick given n ticked = grind (arith, nat_tests, ticked)
 
 pub lines_follow : LinesFollowTicks

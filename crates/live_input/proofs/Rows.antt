@@ -4,7 +4,8 @@ use Rattle.std.specs.Fmt.{digits}
 use Rattle.live_input.specs.Night.{answers, due_after, lines_given, shown, came, closed, asked}
 use Rattle.live_input.specs.Night.{order, dim, close, tick, place, help, refusal, wait, over}
 use Rattle.live_input.specs.Night.{ignored_keys}
-use Rattle.live_input.specs.declared.reason.Reason.TheVariants.{Long, Ending, Keys, Moment, Go, Alone}
+use Rattle.live_input.specs.Recall.{recall_of}
+use Rattle.live_input.specs.declared.reason.Reason.TheVariants.{Ending, Keys, Moment, Go, Alone}
 use Rattle.live_input.specs.declared.reason.Reason.TheVariants.{Goto, Numbered, Master, Unknown}
 use Rattle.live_input.specs.Keys.{without_keys}
 use Rattle.live_input.specs.Reasons.{reason_of}
@@ -36,10 +37,10 @@ turns : answers (asked 120 ∷ asked 90 ∷ asked 60 ∷ asked 30 ∷ came (code
 unfolding digits
 turns = refl
 
--- no command ends nothing
+-- no command ends nothing; at first a line goes before the tick
 refused : answers (asked 1 ∷ asked 1 ∷ asked 1 ∷ asked 1 ∷ came (codes "tick\njump 3\ngo\n") ∷ [])
-    ≡ order 1 (codes "go") ∷ refusal Unknown (codes "jump 3") ∷ refusal Unknown (codes "tick")
-    ∷ tick 1 ∷ []
+    ≡ order 1 (codes "go") ∷ refusal Unknown (codes "jump 3") ∷ tick 1
+    ∷ refusal Unknown (codes "tick") ∷ []
 unfolding digits
 refused = refl
 
@@ -124,3 +125,22 @@ arrows : (answers (asked 1 ∷ asked 1 ∷ came (27 ∷ codes "[Ago\n" ++ 27 ∷
     × (ignored_keys (order 1 (codes "go") ∷ refusal Keys (27 ∷ codes "[B") ∷ []) ≡ false)
 unfolding digits
 arrows = (refl, refl, refl, refl)
+
+-- a night that begins with a cue at full: the first tick shows it
+begins : answers (asked 0 ∷ asked 0 ∷ came (codes "goto 3 in 0\n") ∷ [])
+    ≡ tick 0 ∷ order 0 (codes "goto 3 in 0") ∷ []
+unfolding digits
+begins = refl
+
+-- a record of a night that was left, one tick behind `end`, and what happens so that it is given
+-- again
+record_again : recall_of (codes "25 tick" ∷ codes "3 end" ∷ codes "1 go" ∷ codes "0 tick" ∷ [])
+    ≡ asked 25 ∷ asked 3 ∷ came (codes "leave\n") ∷ asked 1 ∷ came (codes "go\n") ∷ asked 0 ∷ []
+unfolding digits
+record_again = refl
+
+given_again : answers (asked 25 ∷ asked 3 ∷ came (codes "leave\n") ∷ asked 1 ∷ came (codes "go\n")
+    ∷ asked 0 ∷ [])
+    ≡ tick 25 ∷ close 3 (Some (codes "leave")) ∷ order 1 (codes "go") ∷ tick 0 ∷ []
+unfolding digits
+given_again = refl

@@ -1,41 +1,19 @@
 -- Between a tick's due moment and the tick there is at most one line.
-use Rattle.std.proofs.Common.{◌≡◌, ◌⊎◌, inl, inr, ◌≤◌, ℕ, true, false, List, [], ◌∷◌, ◌++◌, arith}
-use Rattle.std.proofs.Common.{refl, Option, Some, None}
+use Rattle.std.proofs.Common.{◌≡◌, ◌⊎◌, inl, inr, ◌≤◌, ℕ, false, List, [], ◌∷◌, ◌++◌, arith}
+use Rattle.std.proofs.Common.{refl, Some, None}
 use Rattle.live_input.specs.Laws.{IsOn, IsTick, NothingIsAsked, TicksAreNext}
 use Rattle.live_input.specs.Night.{Answer, Happening, answer_to, answers, asked, came, closed}
-use Rattle.live_input.specs.Night.{due, is_dark, is_on, is_over, is_through, now, stage, stage_by}
+use Rattle.live_input.specs.Night.{due, is_over, now, stage}
 use Rattle.live_input.specs.Night.{was_tick, order, dim, close, place, help, refusal, wait}
-use Rattle.live_input.specs.declared.progress.Stage.{Stage}
-use Rattle.live_input.specs.declared.progress.Stage.TheVariants.{Dark}
 use Rattle.live_input.proofs.Cases.{Next, answer_is_next, nothing, ticks, takes, darkens, leaves}
 use Rattle.live_input.proofs.Cases.{places, helps, refuses, dims, closes, waits}
-use Rattle.live_input.proofs.Nights.{on_only, ticks_first}
-
--- the night is on at this stage, and not to be closed now
-abbrev IsOpen : Stage → Type 0
-IsOpen s = (is_through s ≡ false) × (is_dark s ≡ false)
+use Rattle.live_input.proofs.Nights.{dark_only, on_only, ticks_first}
 
 -- the answer is no tick, the tick is due as before, and nothing else goes before it
 record Stays (h : List Happening) (answer : Answer) : Type 0 where
   none : was_tick (answer ∷ answers h) ≡ false
   same : due (answer ∷ answers h) ≡ due (answers h)
   open_still : IsOn (answer ∷ answers h)
-
-on_open : (s : Stage) → is_on s ≡ true → IsOpen s
-on_open s on = rw (on_only s on) (refl, refl)
-
-dim_open : (n : ℕ) (typed : Option (List ℕ)) (s : Stage) → is_on s ≡ true
-    → IsOpen (stage_by (dim n typed) s)
-dim_open n typed s on = rw (on_only s on) (refl, refl)
-
-leave_open : (n : ℕ) (typed : Option (List ℕ)) (s : Stage) → is_on s ≡ true
-    → IsOpen (stage_by (close n typed) s)
-leave_open n typed s on = rw (on_only s on) (refl, refl)
-
-close_open : (n : ℕ) (typed : Option (List ℕ)) (s : Stage) → is_dark s ≡ true
-    → IsOpen (stage_by (close n typed) s)
-close_open n typed (Dark count) dark = (refl, refl)
-close_open n typed s dark = cc
 
 stays : (h : List Happening) (answer : Answer) → was_tick (answer ∷ answers h) ≡ false
     → due (answer ∷ answers h) ≡ due (answers h) → IsOn (answer ∷ answers h)
@@ -48,18 +26,18 @@ tick_or_line : (h : List Happening) (n : ℕ) (answer : Answer) → Next h n ans
 tick_or_line h n _ (nothing over) on = cc
 tick_or_line h n _ (ticks _ _ _) on = inl tt
 tick_or_line h n _ (takes line later _ is _ _ _ _) on =
-    stays h (order n line) refl refl (on_open (stage (answers h)) is)
+    stays h (order n line) refl refl (rw (on_only (stage (answers h)) is.0) (refl, refl))
 tick_or_line h n _ (darkens line later _ is) on =
-    stays h (dim n (Some line)) refl refl (dim_open n (Some line) (stage (answers h)) is)
+    stays h (dim n (Some line)) refl refl (rw (on_only (stage (answers h)) is.0) (refl, refl))
 tick_or_line h n _ (leaves line later _ is) on =
-    stays h (close n (Some line)) refl refl (leave_open n (Some line) (stage (answers h)) is)
+    stays h (close n (Some line)) refl refl (rw (on_only (stage (answers h)) is.0) (refl, refl))
 tick_or_line h n _ (places line later _ is) on = stays h (place n line) refl refl is
 tick_or_line h n _ (helps line later _ is) on = stays h (help line) refl refl is
 tick_or_line h n _ (refuses why line later _ is) on = stays h (refusal why line) refl refl is
 tick_or_line h n _ (dims is _) on =
-    stays h (dim n None) refl refl (dim_open n None (stage (answers h)) is)
+    stays h (dim n None) refl refl (rw (on_only (stage (answers h)) is.0) (refl, refl))
 tick_or_line h n _ (closes dark) on =
-    stays h (close n None) refl refl (close_open n None (stage (answers h)) dark)
+    stays h (close n None) refl refl (rw (dark_only (stage (answers h)) dark).1 (refl, refl))
 tick_or_line h n _ (waits _ is) on = stays h (wait (due (answers h))) refl refl is
 
 -- what was answered is as it was, and the clock does not fall

@@ -1,6 +1,6 @@
 -- What arrow and function keys send, which is no text: ESC, `[` and bytes up to one of 64 to 126;
 -- ESC, `O` and one byte; or ESC and one other byte.
-use Rattle.std.specs.Prelude.{ℕ, Bool, true, false, ◌&&◌, ◌==◌, not, nat_le, if◌then◌else◌}
+use Rattle.std.specs.Prelude.{ℕ, Bool, false, ◌&&◌, ◌==◌, not, nat_le, if◌then◌else◌}
 use Rattle.std.specs.Prelude.{List, [], ◌∷◌}
 use Rattle.std.specs.List.{list_any}
 use Rattle.live_input.specs.declared.keys.Part.{Part}

@@ -22,6 +22,7 @@ use Rattle.live_input.specs.Night.{order, dim, close, tick, wait, over}
 use Rattle.live_input.specs.declared.progress.Stage.{Stage}
 use Rattle.live_input.specs.declared.progress.Stage.TheVariants.{On, Dark, Ended}
 use Rattle.live_input.specs.Keys.{without_keys}
+use Rattle.live_input.specs.Recall.{AreRecalled}
 use Rattle.live_input.specs.Typed.{typed_of}
 
 -- ---- lines
@@ -151,6 +152,13 @@ abbrev pub NightsEnd : Type 0
 NightsEnd =
     (h : List Happening) (moment : ℕ)
     → (answer_to h moment ≡ over) ↔ (stage (answers h) ≡ Ended 3)
+
+-- ---- a night that is given again
+
+-- each record of a live night is given again: whatever happened, the lines that it gave are a
+-- record that another night takes up whole
+abbrev pub RecordsAreRecalled : Type 0
+RecordsAreRecalled = (h : List Happening) → AreRecalled (lines_given (answers h))
 
 -- ---- how a night ends
 

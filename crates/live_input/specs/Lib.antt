@@ -2,6 +2,7 @@ pub mod Keys
 pub mod Reasons
 pub mod Typed
 pub mod Night
+pub mod Recall
 pub mod Kept
 pub mod Stands
 pub mod TypedView

@@ -184,9 +184,10 @@ ticked_by (tick moment) before = true
 ticked_by over before = before
 ticked_by _ before = false
 
--- the answer before was a tick
+-- the answer before was a tick; and so at first, so that a line goes before the first tick too: a
+-- night may begin with a cue at full
 abbrev pub was_tick : List Answer → Bool
-was_tick [] = false
+was_tick [] = true
 was_tick (answer ∷ older) = ticked_by answer (was_tick older)
 
 -- a key that sends a sequence was pressed for the line that it answers

@@ -1,9 +1,11 @@
 -- What a live input keeps, against what happened to it.
 use Rattle.std.specs.Prelude.{◌≡◌, ◌∷◌, ◌++◌, [], ℕ, List, length, drop, fold, Option, Some, None}
+use Rattle.live_input.specs.declared.given.GivenLine.{GivenLine}
 use Rattle.live_input.specs.Kept.{Kept, TypedKept}
 use Rattle.live_input.specs.Night.{Happening, answers, bytes_come, ends_with_input}
 use Rattle.live_input.specs.Night.{ignored_keys, lines_answered, now}
-use Rattle.live_input.specs.Told.{Leaves}
+use Rattle.live_input.specs.Recall.{IsRecalled, recalled}
+use Rattle.live_input.specs.Told.{IsGiven, Leaves}
 use Rattle.live_input.specs.Typed.{typed_of, with_byte}
 
 -- these bytes came, and these lines were taken: what was not taken yet makes of them what all bytes
@@ -34,3 +36,10 @@ pub record StandsFor (kept : Kept) (happenings : List Happening) : Type 0 where
   pub now_is : kept.now ≡ now happenings
   pub keys_is : kept.keys ≡ ignored_keys (answers happenings)
   pub leaves : Leaves kept.progress (answers happenings)
+
+-- a line of a record was given again behind these happenings
+pub record Recalls (old new : Kept) (line : List ℕ) (given : GivenLine)
+    (happened : List Happening) : Type 0 where
+  pub stands : StandsFor new (recalled line happened)
+  pub is_given : IsGiven given line
+  pub is_recalled : IsRecalled line happened

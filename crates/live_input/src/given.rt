@@ -97,3 +97,14 @@ fn printable(byte: u8) -> u8
         b'?'
     }
 }
+
+// A line with its LF.
+pub fn with_end(line: &[u8]) -> InputLine
+    requires { length line.now ≤ 200 }
+    ensures { result.items ≡ line.now ++ 10 ∷ [] }
+{
+    let mut whole = InputLine::new();
+    whole.try_extend_from_slice(line).unwrap();
+    whole.push(b'\n');
+    whole
+}

@@ -6,7 +6,7 @@ ghost use Rattle.live_input.specs.Laws.{LinesAreFine};
 ghost use Rattle.live_input.specs.Laws.{LinesComeInOrder};
 ghost use Rattle.live_input.specs.Laws.{LinesFollowTicks, MomentsNeverFall, NightsEnd};
 ghost use Rattle.live_input.specs.Laws.{TicksAreApart, TicksAreNext, TicksGoFirst, WaitsComeLast};
-ghost use Rattle.live_input.specs.Laws.{EndsAreAccepted, TicksAreAccepted};
+ghost use Rattle.live_input.specs.Laws.{EndsAreAccepted, RecordsAreRecalled, TicksAreAccepted};
 
 /// `play` takes each line that is given: none is malformed, and none has more than 200 bytes.
 pub fn lines_are_fine()
@@ -61,6 +61,13 @@ pub fn ticks_are_next()
 #[tactic(auto, using(crate::proofs::Nights::lines_follow))]
 pub fn lines_follow_ticks()
     ensures { LinesFollowTicks }
+{}
+
+/// The lines that a night gives are a record that another night takes up whole: it gives each of
+/// them again, and refuses none.
+#[tactic(auto, using(crate::proofs::Records::records_recalled))]
+pub fn records_are_recalled()
+    ensures { RecordsAreRecalled }
 {}
 
 /// A night begins to end by itself only where it was to end with its input, which ended. Any other

@@ -1,15 +1,18 @@
-ghost use Rattle.std.specs.Prelude.{◌≡◌, ◌≤◌, ℕ, List, [], ◌∷◌, length};
+ghost use Rattle.std.specs.Prelude.{◌≡◌, ◌≤◌, ◌<◌, ◌^◌, ℕ, List, [], ◌∷◌, length, IfNone, IfSome};
 ghost use Rattle.live_input.specs.Night.{Happening, came, closed, asked, answer_to, answers};
-ghost use Rattle.live_input.specs.Night.{ignored_keys};
-ghost use Rattle.live_input.specs.Stands.{StandsFor};
+ghost use Rattle.live_input.specs.Night.{ignored_keys, is_over, now};
+ghost use Rattle.live_input.specs.Recall.{IsRecalled, typed_again};
+ghost use Rattle.live_input.specs.Stands.{Recalls, StandsFor};
 ghost use Rattle.live_input.specs.Told.{Tells};
 ghost use Rattle.live_input.specs.declared.given.Given.TheVariants.{Until};
 
-use crate::given::Given;
+use crate::given::{Given, GivenLine, with_end};
 use crate::keys::has_keys;
 use crate::progress::Progress;
 use crate::typed::TypedLines;
-use desk_core::MOMENTS;
+use console_text::{Call, Reading, read_call};
+use desk_core::{Command, MOMENTS};
+use itoa::Buffer;
 use std::marker::Model;
 
 // The last moment that a desk takes.
@@ -134,5 +137,71 @@ impl LiveInput {
             → result ≡ ignored_keys (answers happenings) }
     {
         self.keys
+    }
+
+    /// Gives a line of a record again, without its LF: types its words, and asks at its moment what
+    /// is next. None where that is not this very line, or where a typed line is left; then the
+    /// input is of no use any more.
+    pub fn recall(&mut self, line: &[u8]) -> Option<GivenLine>
+        requires taken { self.old.typed.unread ≡ [] }
+        ensures recalls { IfSome result (λ given. (happened : List Happening)
+            → StandsFor self.old happened
+            → Recalls self.old self.new line.now given happened) }
+        ensures other { IfNone result ((happened : List Happening)
+            → StandsFor self.old happened → IsRecalled line.now happened → ⊥) }
+        ensures drained { IfSome result (λ given. self.new.typed.unread ≡ []) }
+    {
+        if line.len() > 200 {
+            return None;
+        }
+        let Reading::At(moment, call) = read_call(line) else {
+            return None;
+        };
+        let whole = with_end(line);
+        self.type_again(moment, call, whole.as_slice());
+        let Given::Line(given) = self.next(moment) else {
+            return None;
+        };
+        if given.text.as_slice() != whole.as_slice() {
+            return None;
+        }
+        if self.typed.next_line().is_some() {
+            return None;
+        }
+        Some(given)
+    }
+
+    // Types the words of a call again, which stand in a line behind its moment.
+    fn type_again(&mut self, moment: u64, call: Call, line: &[u8])
+        requires taken { self.old.typed.unread ≡ [] }
+        requires short { length line.now ≤ 4096 }
+        ensures { (happened : List Happening) → StandsFor self.old happened
+            → StandsFor self.new (typed_again moment call line.now happened) }
+    {
+        match call {
+            Call::Tick => {}
+            Call::Order(Command::End) => self.take_bytes(b"leave\n"),
+            Call::Order(_) => {
+                let words = line.len().min(Buffer::new().format(moment).len() + 1);
+                self.take_bytes(&line[words..]);
+            }
+        }
+    }
+
+    /// The moment of the last look at the clock, in milliseconds; 0 before the first.
+    pub fn moment(&self) -> u64
+        ensures value { (happened : List Happening) → StandsFor self.entry.now happened
+            → result ≡ now happened }
+        ensures below { result < 2 ^ 48 }
+    {
+        self.now
+    }
+
+    /// Whether nothing comes any more.
+    pub fn is_over(&self) -> bool
+        ensures { (happened : List Happening) → StandsFor self.entry.now happened
+            → result ≡ is_over (answers happened) }
+    {
+        self.progress.is_over()
     }
 }

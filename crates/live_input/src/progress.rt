@@ -37,7 +37,7 @@ pub struct Progress {
     // When the next tick is due.
     pub due: u64,
     pub stage: Stage,
-    // Whether the last answer was a tick.
+    // Whether a line goes before the next tick: the last answer was a tick, or there was none.
     pub ticked: bool,
 }
 
@@ -48,7 +48,7 @@ impl Progress {
         Progress {
             due: 0,
             stage: Stage::On,
-            ticked: false,
+            ticked: true,
         }
     }
 

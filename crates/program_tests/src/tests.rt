@@ -5,3 +5,4 @@ mod live;
 mod play;
 mod rehearsal;
 mod runs;
+mod watching;

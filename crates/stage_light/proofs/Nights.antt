@@ -1,18 +1,20 @@
 -- What a live night has played, and under which history.
 use Rattle.std.proofs.Common.{◌≡◌, ℕ, refl, ap, sym, ◌∙◌, List, [], ◌∷◌, Ok, Err}
-use Rattle.std.proofs.Common.{Option, Some, None, inl, inr}
+use Rattle.std.proofs.Common.{◌++◌, append-nil, Option, Some, None, Result, inl, inr}
 use Rattle.std.specs.Prelude.{◌-◌, codes, is_none, option_map, if◌then◌else◌}
 use Rattle.std.proofs.lemmas.List.{append_cancel_left, append_cancel_right}
 use Rattle.ascii_text.specs.Text.{words_of}
-use Rattle.console.specs.Streams.{Production}
 use Rattle.console_text.specs.declared.call.Call.{Call}
 use Rattle.console_text.specs.declared.call.Call.TheVariants.{Order, Tick}
 use Rattle.console_text.specs.declared.reading.Reading.TheVariants.{At}
 use Rattle.console_text.specs.Spelling.{act_of, command_of, reading_of}
 use Rattle.cueplayer_faults.specs.declared.fault.RunFault.TheVariants as run
 use Rattle.cueplayer_live.specs.Booth.{BoothState}
-use Rattle.cueplayer_live.specs.Night.{Lives, Seen, seen}
+use Rattle.cueplayer_faults.specs.declared.fault.RunFault.{RunFault}
+use Rattle.cueplayer_live.specs.Night.{LivedOn, Lives, Seen, answers_since, seen}
+use Rattle.cueplayer_live.proofs.Living.{history_joined, history_since}
 use Rattle.cueplayer_play.specs.Run.{history_of, sends_of, taken, taken_by}
+use Rattle.devices.specs.Send.{Send}
 use Rattle.desk_core.specs.declared.answer.Refused.{Refused}
 use Rattle.desk_core.specs.declared.command.Command.{Command}
 use Rattle.desk_core.specs.declared.command.Command.TheVariants.{End, Master}
@@ -25,45 +27,59 @@ use Rattle.live_input.specs.Laws.{accepted}
 use Rattle.live_input.specs.Night as answer
 use Rattle.live_input.specs.Night.{Answer, Happening, answer_to, answers, at_moment, lines_given}
 use Rattle.live_input.specs.Night.{with_given}
+use Rattle.live_input.specs.Recall.{recall_of}
 use Rattle.live_input.proofs.Fine.{spelled}
-use Rattle.stage_light.specs.Plays.{IsPlay, Play}
+use Rattle.live_input.proofs.Recalling.{recalled_lines}
+use Rattle.stage_light.specs.Plays.{IsPlay, Play, history}
 use Rattle.stage_light.specs.Programs.{IsNight, NightHeadline, NightsArePlays, NightsAreTyped}
+use Rattle.stage_light.specs.Restarts.{RestartHeadline, new_play, play_on}
+use Rattle.stage_light.proofs.Restarting.{breaks_plays, plays_go_on}
 use Rattle.stage_light.proofs.Showing.{headline}
 
 -- ---- a live night is a play
 
-lives_plays : (p : Production) (happened : List Happening) (before after : Seen) (lost : ℕ)
-    → Lives p happened before after lost → IsNight p before after
-lives_plays p happened before after lost lives = record {
-  happened = happened;
-  happened_is = lives.happened_is;
-  has_played = record {
+module _ (play : Play) (first : List Happening) (is_play : IsPlay play)
+    (lines_are : play.lines ≡ lines_given (answers first)) where
+  lives_plays : (happened : List Happening) (before after : Seen) (lost : ℕ)
+      → Lives play.production first happened before after lost → IsNight play first before after
+  lives_plays happened before after lost lives = record {
+    happened = happened;
+    happened_is = lives.happened_is;
     offered = sends_of lives.run;
     after_is = lives.offered_is;
-    is_play = record {
-      run = lives.run;
-      lines_are = lives.lines_are;
-      is_run = lives.is_run;
-      offered_are = refl;
-    };
-  };
-}
+    is_play = rw (← lives.lines_are) (plays_go_on play lives.run is_play
+        (rw lines_are lives.is_run));
+  }
+
+  lived_plays : (result : Result (Unit {0}) RunFault) (before after : Seen)
+      → LivedOn play.production first result before after → IsNight play first before after
+  lived_plays (Ok done) before after is = lives_plays is.happened before after 0 is.lives
+  lived_plays (Err (run.Lost n)) before after is =
+      lives_plays is.1.happened before after n is.1.lives
+  lived_plays (Err run.Device) before after is =
+      let night = lives_plays is.0 before (seen is.2 after.offered) is.1 is.3 in
+      record {
+        happened = night.happened;
+        happened_is = elim is.4 [
+          | inl broke ↦ ap (λ (b : BoothState). b.happened) broke ∙ night.happened_is
+          | inr worn ↦ ap (λ (b : BoothState). b.happened) worn.0 ∙ night.happened_is
+        ];
+        offered = night.offered;
+        after_is = night.after_is;
+        is_play = night.is_play;
+      }
+  lived_plays (Err _) before after is = absurd is
 
 pub nights_plays : NightsArePlays
-nights_plays p (Ok done) before after is = lives_plays p is.happened before after 0 is.lives
-nights_plays p (Err (run.Lost n)) before after is =
-    lives_plays p is.1.happened before after n is.1.lives
-nights_plays p (Err run.Device) before after is =
-    let night = lives_plays p is.0 before (seen is.2 after.offered) is.1 is.3 in
+nights_plays play first passed result before after is_play lines_are is =
+    let night = lived_plays play first is_play lines_are result _ after is in
     record {
       happened = night.happened;
-      happened_is = elim is.4 [
-        | inl broke ↦ ap (λ (b : BoothState). b.happened) broke ∙ night.happened_is
-        | inr worn ↦ ap (λ (b : BoothState). b.happened) worn.0 ∙ night.happened_is
-      ];
-      has_played = night.has_played;
+      happened_is = night.happened_is;
+      offered = night.offered;
+      after_is = night.after_is;
+      is_play = night.is_play;
     }
-nights_plays p (Err _) before after is = absurd is
 
 -- ---- what was typed
 
@@ -111,16 +127,53 @@ nights_typed show (answer.asked moment ∷ older) =
     (nights_typed show older) (spelled older moment)
 nights_typed show (_ ∷ older) = nights_typed show older
 
+-- the history of a night behind a play
+pub history_is : (play : Play) (first happened : List Happening) (offered : List Send)
+    → play.lines ≡ lines_given (answers first)
+    → history (play_on play (lines_given (answers_since first happened)) offered)
+    ≡ history_of play.production.show (lines_given (answers (happened ++ first)))
+history_is play first happened offered lines_are =
+    ap (λ lines. history_of play.production.show (lines_given (answers_since first happened)
+    ++ lines)) lines_are
+    ∙ history_joined play.production.show (lines_given (answers_since first happened))
+    (lines_given (answers first))
+    ∙ sym (history_since play.production.show first happened)
+
 pub night_headline : NightHeadline
-night_headline p result before after is happened offered happened_is offered_is u t traffic hears
-    fresh =
-    let night = nights_plays p result before after is in
+night_headline play first passed result before after is_play lines_are is happened offered
+    happened_is offered_is u t traffic hears fresh =
+    let night = nights_plays play first passed result before after is_play lines_are is in
     let same : night.happened ≡ happened = append_cancel_right night.happened happened
     before.booth.happened (sym night.happened_is ∙ happened_is) in
-    let sends : night.has_played.offered ≡ offered = append_cancel_left before.offered
-    night.has_played.offered offered (sym night.has_played.after_is ∙ offered_is) in
-    let play : Play =
-    record { production = p; lines = lines_given (answers happened); offered = offered } in
-    let is_play : IsPlay play = rw (← same, ← sends) night.has_played.is_play in
-    headline play u t traffic is_play hears fresh
-    ∙ ap (λ history. latest_frame p.show history (u - p.base)) (nights_typed p.show happened)
+    let sends : night.offered ≡ offered = append_cancel_left before.offered
+    night.offered offered (sym night.after_is ∙ offered_is) in
+    let all : Play = play_on play (lines_given (answers_since first happened)) offered in
+    let plays : IsPlay all = rw (← same, ← sends) night.is_play in
+    headline all u t traffic plays hears fresh
+    ∙ ap (λ history. latest_frame play.production.show history (u - play.production.base))
+    (history_is play first happened offered lines_are
+    ∙ nights_typed play.production.show (happened ++ first))
+
+-- ---- across a restart
+
+pub restart_headline : RestartHeadline
+restart_headline p newest older offered later passed result before after happened is broke recalled
+    lived happened_is offered_is =
+    let none : IsPlay (new_play p) =
+    record { run = []; lines_are = refl; is_run = tt; offered_are = refl } in
+    let all = breaks_plays (new_play p) newest older offered is none broke in
+    let record_lines = newest ∷ older in
+    let broken = play_on (new_play p) record_lines (offered ++ all.0) in
+    let lines_are : broken.lines ≡ lines_given (answers (recall_of record_lines)) =
+    append-nil record_lines ∙ sym (recalled_lines record_lines recalled) in (
+      all.0,
+      all.1,
+      λ u t traffic hears fresh.
+          night_headline broken (recall_of record_lines) passed result before after all.2 lines_are
+          lived happened later happened_is offered_is u t traffic hears fresh
+          ∙ ap (λ history. latest_frame p.show history (u - p.base))
+          (sym (nights_typed p.show (happened ++ recall_of record_lines))
+          ∙ sym (history_is broken (recall_of record_lines) happened later lines_are)
+          ∙ ap (λ lines. history_of p.show (lines_given (answers_since (recall_of record_lines)
+          happened) ++ lines)) (append-nil record_lines)),
+    )

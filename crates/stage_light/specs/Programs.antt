@@ -13,12 +13,13 @@ use Rattle.cueplayer_play.specs.Play.{Plays}
 use Rattle.cueplayer_play.specs.Run.{Emitted, Ran, history_of}
 use Rattle.cueplayer_play.specs.Stage.{RunsDry}
 use Rattle.cueplayer_runs.specs.Listening.{listen_text, replies, Listened}
-use Rattle.cueplayer_live.specs.Night.{Lived, Seen}
+use Rattle.cueplayer_live.specs.Night.{Lived, Seen, answers_since}
 use Rattle.live_input.specs.Laws.{accepted}
 use Rattle.live_input.specs.Night.{Happening, answers, lines_given}
 use Rattle.stage_light.specs.Plays.{Play, IsPlay, sends_for, frame_for}
 use Rattle.stage_light.specs.Traffic.{Traffic, datagrams_in, receipts, slots_at, IsFresh}
 use Rattle.stage_light.specs.Laws.{HearsOne}
+use Rattle.stage_light.specs.Restarts.{play_on}
 
 -- ---- what `play` did is a play
 
@@ -50,19 +51,23 @@ PlaysArePlays ended =
 
 -- ---- a live night is a play
 
--- what happened to its input since, and that the lines which were given under it are a play
-pub record IsNight (p : Production) (before after : Seen) : Type 0 where
+-- what happened to its input since, and that the lines which were given under it are one play with
+-- those before
+pub record IsNight (play : Play) (first : List Happening) (before after : Seen) : Type 0 where
   pub happened : List Happening
   pub happened_is : after.booth.happened ≡ happened ++ before.booth.happened
-  pub has_played : HasPlayed p (lines_given (answers happened)) before.offered after.offered
+  pub offered : List Send
+  pub after_is : after.offered ≡ before.offered ++ offered
+  pub is_play : IsPlay (play_on play (lines_given (answers_since first happened)) offered)
 
 -- A LIVE NIGHT IS A PLAY. Whatever bytes came, whatever the clock said and however it ended: the
--- link was offered what is due at the lines that the live input gave. So the laws of plays hold of
--- each live night
+-- link was offered what is due at the lines that the live input gave, behind those of a play where
+-- it took up its record. So the laws of plays hold of each live night
 abbrev pub NightsArePlays : Type 0
 NightsArePlays =
-    (p : Production) (result : Result (Unit {0}) RunFault) (before after : Seen)
-    → Lived p result before after → IsNight p before after
+    (play : Play) (first : List Happening) (passed : ℕ) (result : Result (Unit {0}) RunFault)
+    (before after : Seen) → IsPlay play → play.lines ≡ lines_given (answers first)
+    → Lived play.production first passed result before after → IsNight play first before after
 
 -- A NIGHT IS WHAT WAS TYPED. The history under which a show is meant then is what a desk accepts
 -- of the answers: the commands that were typed, the ticks, and the end of the night, each at its
@@ -72,22 +77,25 @@ NightsAreTyped =
     (show : Tables) (happenings : List Happening)
     → history_of show (lines_given (answers happenings)) ≡ accepted show (answers happenings)
 
--- FROM WHAT WAS TYPED TO THE LIGHT. So the headline of a live night, however it ended: where this
--- happened to its input, and these sends were offered, a receiver that hears them alone, and to
--- which they are fresh, shows what the show means at the latest tick, under the commands that were
--- typed before that tick
+-- FROM WHAT WAS TYPED TO THE LIGHT. So the headline of a live night, however it ended, and whether
+-- it began anew or behind the lines of a play: where this happened to its input, and these sends
+-- were offered, a receiver that hears it all alone, and to which it is fresh, shows what the show
+-- means at the latest tick, under the commands that were typed before that tick
 abbrev pub NightHeadline : Type 0
 NightHeadline =
-    (p : Production) (result : Result (Unit {0}) RunFault) (before after : Seen)
-    → Lived p result before after → (happened : List Happening) (offered : List Send)
+    (play : Play) (first : List Happening) (passed : ℕ) (result : Result (Unit {0}) RunFault)
+    (before after : Seen) → IsPlay play → play.lines ≡ lines_given (answers first)
+    → Lived play.production first passed result before after
+    → (happened : List Happening) (offered : List Send)
     → after.booth.happened ≡ happened ++ before.booth.happened
     → after.offered ≡ before.offered ++ offered
-    → (let given = answers happened in
-    let play : Play = record { production = p; lines = lines_given given; offered = offered } in
-    (universe t : ℕ) (traffic : Traffic ℕ) → HearsOne play universe t traffic
-    → IsFresh t (sends_for play universe) (receipts traffic)
+    → (let show = play.production.show in
+    let all = play_on play (lines_given (answers_since first happened)) offered in
+    (universe t : ℕ) (traffic : Traffic ℕ) → HearsOne all universe t traffic
+    → IsFresh t (sends_for all universe) (receipts traffic)
     → slots_at universe traffic t
-    ≡ latest_frame p.show (accepted p.show given) (universe - p.base))
+    ≡ latest_frame show (accepted show (answers (happened ++ first)))
+    (universe - play.production.base))
 
 -- ---- from `play` to `listen`
 

@@ -18,6 +18,8 @@ ghost use Rattle.stage_light.specs.Laws.{Headline, MergeLaw, SendsAreAddressed, 
 ghost use Rattle.stage_light.specs.Laws.{SendsStay, SilenceIsDark, UnpatchedSlotsAreZero};
 ghost use Rattle.stage_light.specs.Laws.{WindowLaw};
 ghost use Rattle.stage_light.specs.OldShows.{OldShowsLaw};
+ghost use Rattle.stage_light.specs.Restarts.{BreaksArePlays, MeansOne, PlaysGoOn, RestartHeadline};
+ghost use Rattle.stage_light.specs.Restarts.{RecordsAreTakenUp, TakesOver};
 ghost use Rattle.stage_light.specs.Programs.{DryRunsArePlays, ListenLaw, NightsArePlays};
 ghost use Rattle.stage_light.specs.Programs.{NightHeadline, NightsAreTyped, PlaysArePlays};
 ghost use Rattle.stage_light.specs.Programs.{PlayToListen, RunsArePlays};
@@ -39,13 +41,37 @@ pub fn plays_are_plays<R: Feed>(_input: &R)
 {}
 
 /// And so is a live night, where its booth and its link tell: whatever was typed, whatever the clock
-/// said and however it ended, the lines that its input gave are a play (`plays`). Its history is
-/// that of the commands that were typed, of the ticks, and of the end of the night (`typed`); so
-/// the promise holds of a live night, under the commands that were typed (`headline`).
+/// said and however it ended, the lines that its input gave are a play, behind the lines of its
+/// record where it went on behind one (`plays`). Its history is that of the commands that were
+/// typed, of the ticks, and of the end of the night (`typed`); so the promise holds of a live night,
+/// under the commands that were typed (`headline`).
 pub fn nights_are_plays()
     ensures plays { NightsArePlays }
     ensures typed { NightsAreTyped }
     ensures headline { NightHeadline }
+{}
+
+/// A night that was killed, and one that went on behind its record, are one play. The second takes
+/// up the history (`history`); of what was due when the first broke off at most one packet for each
+/// universe was never sent, and what the second sends comes next in the same streams (`stream`); so
+/// the promise holds across the restart (`headline`).
+pub fn nights_go_on()
+    ensures history { PlaysGoOn }
+    ensures stream { BreaksArePlays }
+    ensures headline { RestartHeadline }
+{}
+
+/// Where the lines of a text are the first that a live night gave, `take_up` takes up each of them,
+/// wherever the text ends. So `--resume` and a backup refuse no line that `live` wrote.
+pub fn records_are_taken_up()
+    ensures { RecordsAreTakenUp }
+{}
+
+/// Where all consoles that light a receiver mean the same, whatever their priorities, it shows that
+/// (`one`); so where one takes over that has carried out the same, the slots stay (`over`).
+pub fn consoles_take_over()
+    ensures one { MeansOne }
+    ensures over { TakesOver }
 {}
 
 /// What a play's link is offered for a universe is the stream of that universe, packet by packet;

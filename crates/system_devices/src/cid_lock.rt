@@ -9,10 +9,10 @@ use std::time::Duration;
 use std::{env, io};
 
 // A console that ended, or that was ended, has let its lock go within so many turns.
-const TURNS: u32 = 20;
+const TURNS: u32 = 100;
 
 // How long a turn is, in milliseconds.
-const TURN: u64 = 50;
+const TURN: u64 = 10;
 
 /// There is room for the folder that the environment names.
 pub type PathText = ArrayString<512>;

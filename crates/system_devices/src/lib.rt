@@ -4,27 +4,46 @@
 //! outputs of a live night hold nobody up ([`BoundedOutput`]): that is measured, and not proved.
 #![tactic(auto)]
 
+mod appended_lines;
 mod bounded_output;
+mod card_sender;
+mod cards;
 mod cid_lock;
 mod fault;
 mod input;
+mod lock_holder;
 mod messages;
+mod neighbors;
+mod network;
 mod output;
 mod record;
+mod record_file;
+mod record_lock;
+mod routes;
 mod socket;
+mod system_lines;
 mod typed_input;
 mod watched_output;
 mod way;
 mod writers;
 
+pub use appended_lines::AppendedLines;
 pub use bounded_output::{BoundedOutput, Names};
+pub use card_sender::CardSender;
+pub use cards::{Card, CardName, CardState, Cards, card_state};
 pub use cid_lock::{CidLock, LockFault, PathText};
 pub use fault::DeviceFault;
 pub use input::SystemInput;
 pub use messages::Messages;
+pub use network::{
+    GROUPS, Leaving, MOST_SOURCES, Network, Path, PathState, Source, SourceState, is_multicast,
+};
 pub use output::SystemOutput;
-pub use record::{Record, RecordFault};
-pub use socket::{AddressText, ReceivingSocket, SendingSocket, SocketFault};
+pub use record::Record;
+pub use record_file::{Pause, RecordFault, RecordFile};
+pub use record_lock::remove_unused_record;
+pub use routes::{Route, route_to};
+pub use socket::{AddressText, ReceivingSocket, SocketFault};
 pub use typed_input::{Came, TypedInput};
 pub use watched_output::WatchedOutput;
 pub use writers::{PipedOutput, wait_for_writers};

@@ -1,19 +1,9 @@
-use crate::bounded_output::{BoundedOutput, Names};
-use crate::fault::DeviceFault;
+use crate::bounded_output::BoundedOutput;
 use crate::messages::Messages;
 use crate::writers::{PipedOutput, wait_for_writers};
 use arrayvec::ArrayString;
 use std::fmt::Write;
-use std::fs::{File, OpenOptions, metadata};
-use std::io::ErrorKind;
-use std::os::unix::fs::FileTypeExt;
-
-const NAMES: Names = Names {
-    output: "the record",
-    pipe: "CUEPLAYER_RECORD_PIPE",
-    mark: "! ",
-    lines: "lines",
-};
+use std::fs::File;
 
 const LATE: &[u8] = b"record: late, and the light goes on\n";
 
@@ -21,21 +11,14 @@ const WHOLE: &[u8] = b"record: whole again\n";
 
 const MISSING: &[u8] = b"record: goes on, and a comment in it says how many lines are missing\n";
 
-/// Why a record cannot be kept.
-#[derive(Clone, Copy, Debug, PartialEq, Eq)]
-pub enum RecordFault {
-    /// Its file cannot be opened, for the system's reason.
-    File(ErrorKind),
-    /// Something stands in its file: no night is written over another.
-    NotEmpty,
-    /// What its lines go through cannot be had.
-    Way(DeviceFault),
-}
-
 /// Where the lines of a night are kept, if anywhere.
 #[derive(Drop)]
 pub struct Record {
     lines: Option<BoundedOutput<File>>,
+    // Its file, which stays locked where no line can be kept any more.
+    file: Option<File>,
+    // How long its file was before.
+    length: u64,
     // Lines wait, or were dropped, and that was told.
     is_late: bool,
     // The gaps that were told.
@@ -43,32 +26,28 @@ pub struct Record {
 }
 
 impl Record {
-    /// A file of this name, a new one or one that is empty, or a FIFO; or none where no name is
-    /// given. The lines of a file go through the pipe that the environment names, if it does.
-    ///
-    /// # Errors
-    ///
-    /// As [`RecordFault`] lists them.
-    pub fn open(rt: &HostRuntime, name: Option<&str>) -> Result<Self, RecordFault> {
-        let Some(name) = name else {
-            return Ok(Record {
-                lines: None,
-                is_late: false,
-                gaps: 0,
-            });
-        };
-        match BoundedOutput::new(rt, open_file(rt, name)?, NAMES) {
-            Ok(lines) => Ok(Record {
-                lines: Some(lines),
-                is_late: false,
-                gaps: 0,
-            }),
-            Err(fault) => Err(RecordFault::Way(fault)),
+    /// No record.
+    pub fn none() -> Self {
+        Record {
+            lines: None,
+            file: None,
+            length: 0,
+            is_late: false,
+            gaps: 0,
         }
     }
-}
 
-impl Record {
+    // Lines behind so many bytes of a file.
+    pub(crate) fn of(lines: BoundedOutput<File>, file: File, length: u64) -> Self {
+        Record {
+            lines: Some(lines),
+            file: Some(file),
+            length,
+            is_late: false,
+            gaps: 0,
+        }
+    }
+
     /// Keeps a line, or drops it. Where the record is late, is whole again, or cannot be written
     /// any more, that is told.
     pub fn keep(&mut self, line: &[u8], messages: &mut Messages) {
@@ -76,6 +55,19 @@ impl Record {
             return;
         };
         lines.put(line);
+        self.tell_state(messages);
+    }
+
+    /// Keeps a line before the night begins: none is dropped as long as they are taken, and so that
+    /// may take time.
+    pub fn copy(&mut self, line: &[u8], messages: &mut Messages) {
+        let Some(lines) = &mut self.lines else {
+            return;
+        };
+        lines.put(line);
+        if lines.is_late() {
+            lines.finish();
+        }
         self.tell_state(messages);
     }
 
@@ -120,27 +112,11 @@ impl PipedOutput for Record {
             return 0;
         };
         match lines.written_file(rt) {
-            Some(file) => lines.piped_bytes().saturating_sub(file.len()),
+            Some(file) => {
+                let wanted = self.length.saturating_add(lines.piped_bytes());
+                wanted.saturating_sub(file.len())
+            }
             None => 0,
         }
-    }
-}
-
-// A FIFO is opened for reading too: so it is there at once, whether anybody reads it or not.
-fn open_file(rt: &HostRuntime, name: &str) -> Result<File, RecordFault> {
-    let is_fifo = match metadata(rt, name) {
-        Ok(found) => found.file_type().is_fifo(),
-        Err(_) => false,
-    };
-    let opened = if is_fifo {
-        OpenOptions::new().read(true).write(true).open(rt, name)
-    } else {
-        OpenOptions::new().append(true).create(true).open(rt, name)
-    };
-    let file = opened.map_err(|error| RecordFault::File(error.kind()))?;
-    match file.metadata() {
-        Ok(found) if found.len() == 0 => Ok(file),
-        Ok(_) => Err(RecordFault::NotEmpty),
-        Err(error) => Err(RecordFault::File(error.kind())),
     }
 }

@@ -1,7 +1,7 @@
 ghost use Rattle.std.specs.Prelude.{[]};
 
 use arrayvec::ArrayString;
-use devices::{Datagrams, Link, LinkFault};
+use devices::{Datagrams, LinkFault};
 use std::fmt::Write;
 use std::io::ErrorKind;
 use std::net::{IpAddr, Net, SocketAddr, UdpSocket};
@@ -65,99 +65,35 @@ impl Datagrams for ReceivingSocket {
     }
 }
 
-// All universes are sent to their own multicast groups where this address is asked for.
-const MULTICAST: [u8; 4] = [239, 255, 0, 0];
-
-/// A UDP socket that sends. It is not connected: what the network answers to one datagram does not
-/// fail a later one. It does not tell what it was offered.
-#[derive(Drop)]
-pub struct SendingSocket {
-    inner: UdpSocket,
-    host: [u8; 4],
-    port: u16,
-    failure: Option<(SocketAddr, ErrorKind)>,
-}
-
-impl SendingSocket {
-    /// A socket that sends all universes to this IPv4 address and port; or, where the address is
-    /// 239.255.0.0, each to the multicast group of its number (E1.31, multicast addressing).
-    pub fn open(rt: &impl Net, to: ([u8; 4], u16)) -> Result<Self, SocketFault> {
-        let inner = bind(rt, ([0, 0, 0, 0], 0))?;
-        let (host, port) = to;
-        Ok(SendingSocket {
-            inner,
-            host,
-            port,
-            failure: None,
-        })
-    }
-
-    /// From now on a packet that would have to wait is lost.
-    ///
-    /// # Errors
-    ///
-    /// The system's reason.
-    pub fn never_wait(&self) -> Result<(), ErrorKind> {
-        self.inner
-            .set_nonblocking(true)
-            .map_err(|error| error.kind())
-    }
-
-    /// Whether each universe is sent to the multicast group of its number.
-    pub fn is_multicast(&self) -> bool {
-        self.host == MULTICAST
-    }
-
-    /// Where the last send that failed went to, and the system's reason.
-    pub fn failure(&self) -> Option<(AddressText, ErrorKind)> {
-        let (address, kind) = self.failure?;
-        Some((text_of(address), kind))
-    }
-
-    fn address(&self, universe: u16) -> SocketAddr {
-        let host = if self.is_multicast() {
-            let [high, low] = universe.to_be_bytes();
-            [239, 255, high, low]
-        } else {
-            self.host
-        };
-        SocketAddr::new(IpAddr::from(host), self.port)
-    }
-}
-
-impl Link for SendingSocket {
-    ghost tells = { λ _. ⊥ };
-
-    ghost offered = { λ _. [] };
-
-    // A call that a signal interrupted sent nothing, and is made again.
-    fn send(&mut self, universe: u16, bytes: &[u8]) -> Result<(), LinkFault> {
-        let address = self.address(universe);
-        for _ in 0..u64::MAX {
-            match self.inner.send_to(bytes, address) {
-                Ok(count) if count == bytes.len() => return Ok(()),
-                Err(error) if error.kind() == ErrorKind::Interrupted => {}
-                Err(error) => {
-                    self.failure = Some((address, error.kind()));
-                    return Err(LinkFault);
-                }
-                Ok(_) => return Err(LinkFault),
-            }
+/// Sends a datagram whole. A call that a signal interrupted sent nothing, and is made again.
+///
+/// # Errors
+///
+/// The system's reason.
+pub fn send_whole(socket: &UdpSocket, bytes: &[u8], address: SocketAddr) -> Result<(), ErrorKind> {
+    for _ in 0..u64::MAX {
+        match socket.send_to(bytes, address) {
+            Ok(count) if count == bytes.len() => return Ok(()),
+            Err(error) if error.kind() == ErrorKind::Interrupted => {}
+            Err(error) => return Err(error.kind()),
+            Ok(_) => return Err(ErrorKind::WriteZero),
         }
-        Err(LinkFault)
     }
+    Err(ErrorKind::Interrupted)
 }
 
 /// An address and its port: there is room for four numbers of three digits and one of five.
 pub type AddressText = ArrayString<21>;
 
-fn text_of(address: SocketAddr) -> AddressText {
+/// An address as text.
+pub fn text_of(address: SocketAddr) -> AddressText {
     let mut text = AddressText::new();
     let _ = write!(text, "{address}");
     text
 }
 
-fn bind(rt: &impl Net, at: ([u8; 4], u16)) -> Result<UdpSocket, SocketFault> {
+/// A socket at an IPv4 address and a port of this machine.
+pub fn bind(rt: &impl Net, at: ([u8; 4], u16)) -> Result<UdpSocket, SocketFault> {
     let (host, port) = at;
     let address = SocketAddr::new(IpAddr::from(host), port);
     match UdpSocket::bind(rt, address) {

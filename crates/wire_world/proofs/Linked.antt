@@ -139,7 +139,7 @@ module _ (p : Production) (h : List Act) (m u : ℕ) where
       ne_eqb _ u (λ s. omega (arith, lt, s, eqb-true n u q))))
 
   -- the sends to a universe are what is due on it
-  sent_due : (ns : List ℕ) {xs : List Send} {pairs : List (ℕ × Offered)}
+  pub sent_due : (ns : List ℕ) {xs : List Send} {pairs : List (ℕ × Offered)}
       → AllPairs (λ x y. x < y) ns → AreOffered p.source (map (due_at p h m) ns) xs pairs
       → sent_to u xs ≡ (if list_any (λ n. nat_eq n u) ns then due u else [])
   sent_due [] rise none = refl

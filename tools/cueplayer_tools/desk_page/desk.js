@@ -31,7 +31,7 @@ const page = {
   universes: [],
   universe: 0,
   slots: new Map(),
-  reason: "",
+  reasons: {},
   clock: [],
   isCrowded: false,
 };
@@ -294,6 +294,7 @@ function alarms() {
     told.push(["The night is ending: receivers are told"]);
   }
   if (state.late && state.status === null) told.push(["live does not answer"]);
+  if (state.status === null) for (const trouble of state.troubles) told.push([trouble]);
   const { count, universe, moment } = state.lost;
   if (count > page.dismissedLost) {
     const latest = `of universe ${universe} at ${seconds(moment)}`;
@@ -329,7 +330,8 @@ function showLevels() {
   byId("grid").hidden = slots === undefined;
   setText("universe", `Universe ${universe ?? "none"}`);
   if (slots === undefined) {
-    const why = page.reason ? `: ${page.reason}` : "";
+    const reason = page.reasons[universe];
+    const why = reason ? `: ${reason}` : "";
     setText("lit", `levels are not received here${why}`);
     return;
   }
@@ -382,6 +384,7 @@ function showState(state) {
   setText("lost", `${state.lost.count} packets lost`);
   lost.classList.toggle("is-some", state.lost.count > 0);
   setText("skipped", state.skipped);
+  setText("ways", state.ways.join("; "));
   showFade();
   showAlarms();
 }
@@ -418,8 +421,8 @@ function listen() {
   });
   hear("state", showState);
   hear("alive", () => {});
-  hear("levels", ({ reason, slots, others }) => {
-    page.reason = reason;
+  hear("levels", ({ reasons, slots, others }) => {
+    page.reasons = reasons;
     for (const [universe, hex] of Object.entries(slots)) page.slots.set(Number(universe), hex);
     const sends = others.length > 1 ? "Other sources send here" : "Another source sends here";
     setText("others", others.length ? `${sends}: ${others.join("; ")}` : "");

@@ -1,13 +1,18 @@
+ghost use Rattle.std.specs.Prelude.{IfOk};
+ghost use Rattle.program_tests.specs.Nights.{IsPlayable};
+
+mod again;
 mod booth;
 mod devices_fail;
+mod follow;
 mod long;
 mod rows;
 
 use booth::{BoothFaults, Coming, MemoryBooth};
 use cueplayer_faults::RunFault;
-use cueplayer_live::live;
+use cueplayer_live::Night;
 use devices::memory::{Faults, MemoryLink};
-use fade_core::PlainFader;
+use fade_core::{Fader, PlainFader};
 use sacn_packet::SourceName;
 use sacn_source::Identity;
 use std::alloc::Global;
@@ -65,14 +70,10 @@ impl<'a> Run<'a> {
         mut booth: MemoryBooth<'a>,
     ) -> Self {
         let mut link = MemoryLink::new(alloc, setting.link.passing, setting.link.failing);
-        let answer = live::<PlainFader, _, _>(
-            alloc,
-            setting.show,
-            identity(rt),
-            setting.base,
-            &mut booth,
-            &mut link,
-        );
+        let answer = match new_night::<PlainFader>(alloc, setting, identity(rt)) {
+            Ok(mut night) => night.live(0, &mut booth, &mut link),
+            Err(fault) => Err(fault),
+        };
         Run {
             answer,
             booth,
@@ -94,6 +95,16 @@ impl<'a> Run<'a> {
         let send = self.link.sends.get(place)?;
         send.bytes.get(126).copied()
     }
+}
+
+fn new_night<F: Fader>(
+    alloc: Global,
+    setting: &Setting<'_>,
+    source: Identity,
+) -> Result<Night<F>, RunFault>
+    ensures { IfOk result (λ night. IsPlayable F.stands_for night) }
+{
+    Night::open(alloc, setting.show, source, setting.base)
 }
 
 fn identity(rt: &impl Abort) -> Identity {

@@ -101,6 +101,7 @@ impl Booth for MemoryBooth<'_> {
     ghost tells = { λ _. ⊥ };
 
     ghost state = { λ _. record {
+      begun = [];
       happened = [];
       kept = record { items = []; failures = 0 };
       shown = record { items = []; failures = 0 };
@@ -108,6 +109,10 @@ impl Booth for MemoryBooth<'_> {
       waited = [];
       faults = 0;
     } };
+
+    fn begin(&mut self, moment: u64) {
+        self.now = moment;
+    }
 
     fn moment(&mut self) -> Result<u64, LinkFault> {
         self.faults.moment.count()?;

@@ -50,7 +50,7 @@ fn short_night(rt: HostRuntime) {
 }
 
 // What `play` offers of the record that a night left.
-fn played(rt: &impl Abort, alloc: Global, kept: &[u8]) -> MemoryLink {
+pub fn played(rt: &impl Abort, alloc: Global, kept: &[u8]) -> MemoryLink {
     let mut feed = MemoryFeed::new(kept, 4096, 0, 0);
     let mut link = MemoryLink::new(alloc, 0, 0);
     let mut out = MemoryOutput::new(alloc, 0, 0);

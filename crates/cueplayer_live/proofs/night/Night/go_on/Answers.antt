@@ -1,4 +1,4 @@
-use Rattle.std.proofs.Common.{arith, ◌∙◌, refl, ap, sym, List, [], ◌∷◌}
+use Rattle.std.proofs.Common.{arith, ◌++◌, ◌∙◌, refl, ap, sym, List, [], ◌∷◌}
 use Rattle.live_input.specs.Night.{Happening, answer_to, answers, asked, ignored_keys, lines_given}
 use Rattle.live_input.specs.Night.{stage, stage_by}
 use Rattle.live_input.specs.Stands as live
@@ -41,14 +41,15 @@ returns-in-Line-clause-goes g c =
                   stands.console_stands);
               input_stands = c.next.ensures.stands happened stands.input_stands;
             };
-        lived = λ tells p happened start stands lives.
+        lived = λ tells p first earlier start stands lives.
+            let happened = earlier ++ first in
             let given = giving happened stands.input_stands in
             let carried = c.tell_keys.ensures.told_booth tells.0 in
             let did = c.carry_out-lost.ensures.carried_out given.line given.is_given p _
             stands.console_stands carried tells.1 in
             let told = c.tell_keys.ensures.tells (asked moment ∷ happened)
             (c.next.ensures.stands happened stands.input_stands) tells.0 in
-            lives_more p happened moment start _ _ lives c.in-Line.given given
+            lives_more p first earlier moment start _ _ lives c.in-Line.given given
             c.carry_out-lost.result c.saturating_add-self.result did.offers did.sends
             did.are_offered
             (rw (given.told_is (answers happened)) (with_keys moment _ _ _ _

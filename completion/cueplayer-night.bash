@@ -1,0 +1,40 @@
+# Completion for bash of the words of cueplayer-night: the folder, commands, the options of live.
+# shellcheck shell=bash
+
+# Fills COMPREPLY with what may stand where the cursor is.
+_cueplayer_night() {
+    local current=${COMP_WORDS[COMP_CWORD]} job=${COMP_WORDS[2]-} choices='' kind='' name
+    local before=${COMP_WORDS[COMP_CWORD - 1]}
+    if ((COMP_CWORD == 1)); then
+        kind=-d
+        if [[ $current == -* ]]; then choices=--help kind=''; fi
+    elif ((COMP_CWORD == 2)); then
+        choices="start make go back goto sub group master where end leave stop halt status watch"
+    elif [[ $job != start && $job != make ]]; then
+        :
+    elif [[ $before == --to ]]; then
+        choices=239.255.0.0
+    elif [[ $before == --interface ]]; then
+        for name in /sys/class/net/*; do choices+=" ${name##*/}"; done
+    elif [[ $before == --* && $before != --any-route && $before != --background &&
+        $before != --end-with-input ]]; then
+        :
+    elif [[ $current == -* ]]; then
+        for name in --to --cid --priority --base --interface --any-route --name --ttl --start \
+            --end-with-input --background; do
+            [[ $name != --to && " ${COMP_WORDS[*]:3:COMP_CWORD-3} " == *" $name "* ]] ||
+                choices+=" $name"
+        done
+        [[ $job == start ]] || choices=${choices% --background}
+    elif ((COMP_CWORD == 3)); then
+        kind=-f
+    fi
+    if [[ -n $kind ]]; then
+        compopt -o filenames 2>/dev/null
+        mapfile -t COMPREPLY < <(compgen "$kind" -- "$current")
+    else
+        mapfile -t COMPREPLY < <(compgen -W "$choices" -- "$current")
+    fi
+}
+
+complete -F _cueplayer_night cueplayer-night

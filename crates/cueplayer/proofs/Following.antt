@@ -1,0 +1,31 @@
+-- A night that has followed a main can follow on, and can be played.
+use Rattle.std.proofs.Common.{List, ◌++◌}
+use Rattle.devices.specs.Send.{Send}
+use Rattle.fade_core.specs.Level.{Start}
+use Rattle.cueplayer_live.specs.Beginning.{HasTakenUp}
+use Rattle.cueplayer_live.specs.Following.{Follows}
+use Rattle.cueplayer_live.specs.declared.follow.Pause.{Pause}
+use Rattle.cueplayer_live.specs.declared.main_console.Led.{Led}
+use Rattle.cueplayer_live.specs.declared.night.Night.{Night}
+use Rattle.cueplayer.specs.Opening.{CanFollow, IsPlayable}
+use Rattle.live_input.specs.Recall.{recall_of}
+
+pub follows_on : {F : Type 0} (stands_for : F → List Start → Type 0) (tells : Type 0)
+    (pause : Pause) (old new : Night F) (given gives : List Led) (before after : List Send)
+    → CanFollow stands_for old
+    → Follows stands_for tells pause old new given gives before after → CanFollow stands_for new
+follows_on stands_for tells pause old new given gives before after can follows =
+    let p = can.1.0 in
+    let taken = can.1.1 in
+    let now : HasTakenUp stands_for p new = record {
+      lines = follows.lines ++ taken.lines;
+      stands = follows.takes.stands p taken.lines taken.stands;
+      are_recalled = follows.takes.are_recalled p taken.lines taken.stands taken.are_recalled;
+    } in
+    (follows.takes.ready, (p, now))
+
+pub playable : {F : Type 0} (stands_for : F → List Start → Type 0) (night : Night F)
+    → CanFollow stands_for night → IsPlayable stands_for night
+playable stands_for night can =
+    let taken = can.1.1 in
+    ((can.1.0, recall_of taken.lines, taken.stands), can.0.none_lost)

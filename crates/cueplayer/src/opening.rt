@@ -1,0 +1,241 @@
+ghost use Rattle.std.specs.Prelude.{IfOk, []};
+ghost use Rattle.console.specs.Streams.{Production};
+ghost use Rattle.cueplayer_live.specs.Beginning.{IsReady};
+ghost use Rattle.cueplayer_live.specs.Stands.{StandsFor};
+ghost use Rattle.cueplayer.specs.Opening.{CanFollow, IsPlayable};
+
+use crate::failure::{Failure, JobFault};
+use crate::live_job::LiveWords;
+use crate::refusal::Refusal;
+use crate::source_name::source_name;
+use arrayvec::ArrayString;
+use cueplayer_faults::RunFault;
+use cueplayer_live::{Night, Silent};
+use fade_core::Fader;
+use jiff::Timestamp;
+use memchr::{memchr, memrchr};
+use record_head::{HeadLines, HeadName, RecordHead};
+use sacn_source::Identity;
+use sha2::{Digest, Sha256};
+use std::fmt::Write;
+
+// A head ends with a moment of so many bytes, its LF included.
+const STARTED: usize = 25;
+
+// So many lines of a record are its head.
+const HEAD_LINES: u64 = 2;
+
+/// What of a record a night goes on behind, and how it begins one.
+#[derive(Drop)]
+pub struct Opening {
+    /// The first lines of a record that begins.
+    pub head: Option<HeadLines>,
+    /// The lines of a night that goes on stand from here..
+    from: usize,
+    /// ..to here. What stands behind them is a line that was cut.
+    pub to: usize,
+}
+
+impl Opening {
+    /// Without a record.
+    pub fn none() -> Opening {
+        Opening {
+            head: None,
+            from: 0,
+            to: 0,
+        }
+    }
+
+    /// Behind so many bytes of a record, which has lines of a night.
+    pub fn behind(taken: usize) -> Opening {
+        Opening {
+            head: None,
+            from: 0,
+            to: taken,
+        }
+    }
+
+    /// By what stands in a record.
+    ///
+    /// # Errors
+    ///
+    /// Where that is of another night, or of none; or where the clock cannot be read.
+    pub fn of(
+        rt: &HostRuntime,
+        words: LiveWords<'_>,
+        show: &[u8],
+        text: &[u8],
+    ) -> Result<Opening, JobFault> {
+        let night = head_of(rt, words, show)?;
+        let Some(head) = head_in(text) else {
+            return Opening::begins(&night, text);
+        };
+        let Some(record) = RecordHead::read(head) else {
+            return Err(JobFault::Record(Refusal::no_record()));
+        };
+        if let Some(difference) = record.differs_from(&night) {
+            let refusal = Refusal::other(difference, &record, &night);
+            return Err(JobFault::Record(refusal));
+        }
+        Ok(Opening {
+            head: None,
+            from: head.len().saturating_add(1),
+            to: memrchr(b'\n', text).map_or(0, |last| last.saturating_add(1)),
+        })
+    }
+
+    // Behind nothing, or behind a part of a head: a night of which no line was written whole.
+    fn begins(night: &RecordHead, text: &[u8]) -> Result<Opening, JobFault> {
+        let head = night.lines();
+        let front = head.as_slice();
+        let front = front
+            .get(..head.len().saturating_sub(STARTED))
+            .unwrap_or(front);
+        if front.starts_with(text) || (text.starts_with(front) && text.len() < head.len()) {
+            Ok(Opening {
+                head: Some(head),
+                from: 0,
+                to: 0,
+            })
+        } else {
+            Err(JobFault::Record(Refusal::no_record()))
+        }
+    }
+
+    // The lines of the night that goes on.
+    fn lines<'t>(&self, text: &'t [u8]) -> &'t [u8] {
+        text.get(self.from..self.to).unwrap_or(&[])
+    }
+
+    /// Whether a night goes on: there are lines of it.
+    pub fn goes_on(&self) -> bool {
+        self.from < self.to
+    }
+}
+
+// The first two lines of a text without the last LF, where it has two that are whole.
+fn head_in(text: &[u8]) -> Option<&[u8]> {
+    let first = memchr(b'\n', text)?.saturating_add(1);
+    let second = memchr(b'\n', text.get(first..)?)?;
+    text.get(..first.saturating_add(second))
+}
+
+/// Opens the night over a show, behind the lines of a record's text where it goes on.
+///
+/// # Errors
+///
+/// Where the show, the cue to start in or a line of the record is refused, or the night has ended.
+pub fn open_night<F: Fader>(
+    rt: &HostRuntime,
+    words: LiveWords<'_>,
+    show: &[u8],
+    source: Identity,
+    record: (&Opening, &[u8]),
+) -> Result<Night<F>, JobFault>
+    ensures playable { IfOk result (λ night. IsPlayable F.stands_for night) }
+{
+    let (opening, text) = record;
+    match Night::<F>::open(rt.alloc(), show, source, words.night.base) {
+        Ok(night) if opening.goes_on() => go_on(night, words, opening.lines(text), text),
+        Ok(night) => begin(night, words.start, show),
+        Err(fault) => Err(failed(fault, show)),
+    }
+}
+
+/// Opens the night over a show, so that it can follow a main.
+///
+/// # Errors
+///
+/// Where the show is refused.
+pub fn new_night<F: Fader>(
+    rt: &HostRuntime,
+    show: &[u8],
+    source: Identity,
+    base: u16,
+) -> Result<Night<F>, JobFault>
+    ensures { IfOk result (λ night. CanFollow F.stands_for night) }
+{
+    match Night::<F>::open(rt.alloc(), show, source, base) {
+        Ok(night) => Ok(night),
+        Err(fault) => Err(failed(fault, show)),
+    }
+}
+
+fn failed(fault: RunFault, show: &[u8]) -> JobFault {
+    JobFault::Run(Failure::of_run(fault, show, None))
+}
+
+// Begins a night, in a cue where one is named.
+fn begin<F: Fader>(
+    mut night: Night<F>,
+    start: Option<u32>,
+    show: &[u8],
+) -> Result<Night<F>, JobFault>
+    requires real { (p : Production) × StandsFor F.stands_for p night [] }
+    requires ready { IsReady night }
+    ensures playable { IfOk result (λ night. IsPlayable F.stands_for night) }
+{
+    let Some(cue) = start else {
+        return Ok(night);
+    };
+    match night.begin_with(cue) {
+        Ok(()) => Ok(night),
+        Err(fault) => Err(failed(fault, show)),
+    }
+}
+
+// Goes on behind these lines of the text of a record.
+fn go_on<F: Fader>(
+    mut night: Night<F>,
+    words: LiveWords<'_>,
+    lines: &[u8],
+    text: &[u8],
+) -> Result<Night<F>, JobFault>
+    requires real { (p : Production) × StandsFor F.stands_for p night [] }
+    requires ready { IsReady night }
+    ensures playable { IfOk result (λ night. IsPlayable F.stands_for night) }
+{
+    if let (Some(_), Some(file)) = (words.start, words.record_file) {
+        return Err(JobFault::Record(Refusal::has_night(file)));
+    }
+    match night.take_up(lines, &mut Silent) {
+        Ok(_) if night.is_over() => Err(JobFault::Record(Refusal::over())),
+        Ok(_) => Ok(night),
+        Err(line) => {
+            let refusal = Refusal::line(line.saturating_add(HEAD_LINES), text);
+            Err(JobFault::Record(refusal))
+        }
+    }
+}
+
+/// The head of a record of this night that begins now.
+///
+/// # Errors
+///
+/// Where the clock cannot be read.
+pub fn head_of(rt: &HostRuntime, words: LiveWords<'_>, show: &[u8]) -> Result<RecordHead, Failure> {
+    let Some(name) = HeadName::new(source_name(words.night).as_bytes()) else {
+        return Err(Failure::device("the source name is too long"));
+    };
+    Ok(RecordHead {
+        show: Sha256::digest(show),
+        cid: words.night.cid,
+        priority: words.night.priority,
+        base: words.night.base,
+        name,
+        started: now(rt)?,
+    })
+}
+
+// The system's time, as `2026-11-26T19:30:00.250Z`.
+fn now(rt: &HostRuntime) -> Result<[u8; 24], Failure> {
+    let Ok(now) = Timestamp::now(rt) else {
+        return Err(Failure::device("the clock cannot be read"));
+    };
+    let mut text = ArrayString::<40>::new();
+    let _ = write!(text, "{now:.3}");
+    match <[u8; 24]>::try_from(text.as_str().as_bytes()) {
+        Ok(text) => Ok(text),
+        Err(_) => Err(Failure::device("the clock is beyond the year 9999")),
+    }
+}

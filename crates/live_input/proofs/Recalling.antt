@@ -1,0 +1,166 @@
+-- Lines of a record that are given again.
+use Rattle.std.proofs.Common.{◌≡◌, ℕ, ◌+◌, refl, ap, sym, ◌∙◌, arith, List, [], ◌∷◌, ◌++◌, length}
+use Rattle.std.proofs.Common.{drop, decimal, Bool, not, true, false, Option, Some, None}
+use Rattle.std.specs.Prelude.{IfNone, is_some, option_map}
+use Rattle.std.proofs.lemmas.List.{append_cancel_right}
+use Rattle.desk_core.specs.declared.command.Command.{Command}
+use Rattle.desk_core.specs.declared.command.Command.TheVariants.{Go, Back, Goto, GotoIn, Sub}
+use Rattle.desk_core.specs.declared.command.Command.TheVariants.{Group, Master, End}
+use Rattle.console_text.specs.declared.call.Call.{Call}
+use Rattle.console_text.specs.declared.call.Call.TheVariants.{Order, Tick}
+use Rattle.console_text.specs.declared.reading.Reading.{Reading}
+use Rattle.console_text.specs.declared.reading.Reading.TheVariants.{At, Blank, Malformed}
+use Rattle.console_text.specs.Spelling.{reading_of}
+use Rattle.live_input.specs.declared.given.Given.{Given}
+use Rattle.live_input.specs.declared.given.GivenLine.{GivenLine}
+use Rattle.live_input.specs.declared.given.Given.TheVariants.{Help, Line, Over, Refused, Until}
+use Rattle.live_input.specs.declared.given.Given.TheVariants.{Where}
+use Rattle.live_input.specs.Night.{Answer, Happening, answer_to, answers, asked, came}
+use Rattle.live_input.specs.Night.{bytes_come, lines_answered, lines_given, lines_left, with_given}
+use Rattle.live_input.specs.Night.{order, dim, close, tick, place, help, refusal, wait, over}
+use Rattle.live_input.specs.Recall.{AreRecalled, IsRecalled, recall_of, recalled, recalled_by}
+use Rattle.live_input.specs.Recall.{typed_again}
+use Rattle.live_input.specs.Kept.{TypedKept}
+use Rattle.live_input.specs.Stands.{TakesLine, TypedStands}
+use Rattle.live_input.specs.Told.{IsGiven, Tells}
+use Rattle.live_input.specs.Typed.{typed_of}
+use Rattle.live_input.proofs.TypedLemmas.{none_left}
+
+-- ---- an answer, by what was given
+
+pub record GivesLine (answer : Answer) (given : GivenLine) : Type 0 where
+  pub line : List ℕ
+  pub is_given : IsGiven given line
+  pub lines_are : (older : List (List ℕ)) → with_given answer older ≡ line ∷ older
+
+gives_line : (given : GivenLine) (answer : Answer) (line : List ℕ) → IsGiven given line
+    → ((older : List (List ℕ)) → with_given answer older ≡ line ∷ older) → GivesLine answer given
+gives_line given answer line is lines =
+    record { line = line; is_given = is; lines_are = lines }
+
+pub one_line : (given : GivenLine) (answer : Answer) → Tells (Line given) answer
+    → GivesLine answer given
+one_line given (order moment line) t = gives_line given _ _ t (λ _. refl)
+one_line given (dim moment typed) t = gives_line given _ _ t (λ _. refl)
+one_line given (close moment typed) t = gives_line given _ _ t (λ _. refl)
+one_line given (tick moment) t = gives_line given _ _ t (λ _. refl)
+one_line given _ t = absurd t
+
+pub no_line : (given : Given) (answer : Answer) → ((line : GivenLine) → given ≡ Line line → ⊥)
+    → Tells given answer → (older : List (List ℕ)) → with_given answer older ≡ older
+no_line (Line line) answer not t older = absurd (not line refl)
+no_line (Where moment) (place when line) not t older = refl
+no_line Help (help line) not t older = refl
+no_line (Refused text why) (refusal reason line) not t older = refl
+no_line (Until moment) (wait due) not t older = refl
+no_line Over over not t older = refl
+no_line _ _ not t older = absurd t
+
+-- ---- what is typed again
+
+pub same_answers : (moment : ℕ) (call : Call) (line : List ℕ) (happened : List Happening)
+    → answers (typed_again moment call line happened) ≡ answers happened
+same_answers moment Tick line happened = refl
+same_answers moment (Order Go) line happened = refl
+same_answers moment (Order Back) line happened = refl
+same_answers moment (Order (Goto n)) line happened = refl
+same_answers moment (Order (GotoIn n time)) line happened = refl
+same_answers moment (Order (Sub n byte)) line happened = refl
+same_answers moment (Order (Group n byte)) line happened = refl
+same_answers moment (Order (Master byte)) line happened = refl
+same_answers moment (Order End) line happened = refl
+
+pub words_typed : (moment : ℕ) (command : Command) (line : List ℕ) (happened : List Happening)
+    → (command ≡ End → ⊥)
+    → typed_again moment (Order command) line happened
+    ≡ came (drop (length (decimal moment) + 1) line) ∷ happened
+words_typed moment Go line happened not = refl
+words_typed moment Back line happened not = refl
+words_typed moment (Goto n) line happened not = refl
+words_typed moment (GotoIn n time) line happened not = refl
+words_typed moment (Sub n byte) line happened not = refl
+words_typed moment (Group n byte) line happened not = refl
+words_typed moment (Master byte) line happened not = refl
+words_typed moment End line happened not = absurd (not refl)
+
+pub no_call : (reading : Reading) (line : List ℕ) (happened : List Happening)
+    → ((moment : ℕ) (call : Call) → reading ≡ At moment call → ⊥)
+    → recalled_by reading line happened ≡ happened
+no_call (At moment call) line happened not = absurd (not moment call refl)
+no_call Blank line happened not = refl
+no_call Malformed line happened not = refl
+
+pub one_more : (line : List ℕ) (older : List (List ℕ)) → older ≡ line ∷ older → ⊥
+one_more line older is = let l = ap length is in omega (arith, l)
+
+-- ---- a line that is given again, or another
+
+module _ (line : List ℕ) (happened : List Happening) (moment : ℕ) (call : Call)
+    (reads : reading_of line ≡ At moment call) where
+  abbrev typed : List Happening
+  typed = typed_again moment call (line ++ 10 ∷ []) happened
+
+  pub recalled_is : recalled line happened ≡ asked moment ∷ typed
+  recalled_is = ap (λ reading. recalled_by reading line happened) reads
+
+  -- what gives no line gives another
+  pub none_given : (given : Given) → ((g : GivenLine) → given ≡ Line g → ⊥)
+      → Tells given (answer_to typed moment) → IsRecalled line happened → ⊥
+  none_given given not tells is =
+      let none = no_line given (answer_to typed moment) not tells (lines_given (answers typed)) in
+      one_more line (lines_given (answers happened))
+      (rw (recalled_is, none, same_answers moment call (line ++ 10 ∷ []) happened) at is.given)
+
+  -- a line that is given is this one where its text is
+  pub same_line : (given : GivenLine) → Tells (Line given) (answer_to typed moment)
+      → (text : List ℕ) → text ≡ line ++ 10 ∷ [] → given.text.items ≡ text
+      → IsGiven given line
+      × (lines_given (answers (recalled line happened)) ≡ line ∷ lines_given (answers happened))
+  same_line given tells text is same =
+      let one = one_line given (answer_to typed moment) tells in
+      let line_is : one.line ≡ line = append_cancel_right one.line line (10 ∷ [])
+      (sym one.is_given.text_is ∙ same ∙ is) in (
+        rw line_is at one.is_given,
+        rw recalled_is (one.lines_are (lines_given (answers typed))
+            ∙ rw (line_is, same_answers moment call (line ++ 10 ∷ []) happened) refl),
+      )
+
+-- ---- what is left of what was typed
+
+pub left_none : (typed : TypedKept) (happened : List Happening)
+    → TypedStands typed (bytes_come happened) (lines_answered (answers happened))
+    → typed.unread ≡ [] → lines_left (answers happened) happened ≡ []
+left_none typed happened stands none =
+    none_left typed (bytes_come happened) (lines_answered (answers happened)) stands none
+
+module _ {X : Type 0} (line_in : X → List ℕ) where
+  pub stays_typed : (old new : TypedKept) (next : Option X)
+      → TakesLine old new (option_map line_in next) → is_some next ≡ false
+      → (bytes : List ℕ) (taken : List (List ℕ)) → TypedStands old bytes taken
+      → TypedStands new bytes taken
+  stays_typed old new None takes none bytes taken stands = takes bytes taken stands
+  stays_typed old new (Some x) takes none bytes taken stands = cc
+
+  pub line_left : (old new : TypedKept) (next : Option X)
+      → TakesLine old new (option_map line_in next) → is_some next ≡ true
+      → (bytes : List ℕ) (taken : List (List ℕ)) → TypedStands old bytes taken
+      → drop (length taken) (typed_of bytes).lines ≡ [] → ⊥
+  line_left old new None takes some bytes taken stands left = cc
+  line_left old new (Some x) takes some bytes taken stands left =
+      let later = (takes bytes taken stands).0 in cc
+
+pub if_none : {X Y : Type 0} (next : Option X) → IfNone next Y → is_some next ≡ false → Y
+if_none None y none = y
+if_none (Some x) y none = cc
+
+pub equal : (same differs : Bool) → differs ≡ not same → differs ≡ false → same ≡ true
+equal true differs is none = refl
+equal false differs is none = cc
+
+-- ---- a record
+
+pub recalled_lines : (lines : List (List ℕ)) → AreRecalled lines
+    → lines_given (answers (recall_of lines)) ≡ lines
+recalled_lines [] are = refl
+recalled_lines (line ∷ older) are =
+    are.0.given ∙ ap (λ lines. line ∷ lines) (recalled_lines older are.1)

@@ -1,0 +1,31 @@
+ghost use Rattle.std.specs.Prelude.{[]};
+
+use crate::network::Network;
+use devices::LinkFault;
+use std::cell::RefCell;
+use targets::{Address, Sender};
+
+/// Sends datagrams to the network, which is also watched. It does not tell what it was offered.
+#[derive(Drop)]
+pub struct CardSender<'a> {
+    network: &'a RefCell<Network>,
+}
+
+impl<'a> CardSender<'a> {
+    pub fn new(network: &'a RefCell<Network>) -> CardSender<'a> {
+        CardSender { network }
+    }
+}
+
+impl Sender for CardSender<'_> {
+    ghost tells = { λ _. ⊥ };
+
+    ghost offered = { λ _. [] };
+
+    fn send_to(&mut self, to: Address, bytes: &[u8]) -> Result<(), LinkFault> {
+        match self.network.try_borrow_mut() {
+            Ok(mut network) => network.send(to, bytes),
+            Err(_) => Err(LinkFault),
+        }
+    }
+}

@@ -1,0 +1,373 @@
+use crate::cards::{CardName, CardState, card_state, card_to};
+use crate::neighbors::Neighbors;
+use crate::routes::{is_of_this_machine, route_to, source_to};
+use crate::socket::{AddressText, SocketFault, bind, send_whole, text_of};
+use arrayvec::ArrayVec;
+use devices::LinkFault;
+use std::io::ErrorKind;
+use std::net::{IpAddr, SocketAddr, UdpSocket};
+use targets::{Address, MOST_TARGETS, Targets};
+
+/// The most addresses of this machine that a night sends from.
+pub const MOST_SOURCES: usize = 8;
+
+/// The host that stands for the multicast groups of all universes.
+pub const GROUPS: [u8; 4] = [239, 255, 0, 0];
+
+/// A neighbor is silent where it did not answer at so many looks one behind the other.
+pub const SILENCE: u8 = 2;
+
+/// How packets leave this machine.
+#[derive(Clone, Copy, Debug)]
+pub struct Leaving {
+    /// The address that they all come from, where a card is named; else the system's route to each
+    /// host gives it.
+    pub source: Option<[u8; 4]>,
+
+    /// The route to a host may lead by another card.
+    pub is_any_route: bool,
+
+    /// So many routers take a packet to a multicast group on.
+    pub ttl: u8,
+
+    /// A packet that would have to wait is lost.
+    pub never_waits: bool,
+}
+
+/// How an address of this machine is.
+#[derive(Clone, Copy, Debug, Default, PartialEq, Eq)]
+pub enum SourceState {
+    /// Packets leave by its card.
+    #[default]
+    Sends,
+    /// Its card has no link.
+    NoLink,
+    /// Its card is down.
+    Down,
+    /// The machine does not have it.
+    Lost,
+}
+
+/// An address of this machine that packets come from, and its card.
+#[derive(Default, Drop)]
+pub struct Source {
+    pub address: [u8; 4],
+    pub card: CardName,
+    pub state: SourceState,
+    socket: Option<UdpSocket>,
+}
+
+/// How a host is reached.
+#[derive(Clone, Copy, Debug, Default)]
+pub enum PathState {
+    /// By the card of its source, or by any.
+    Leads,
+    /// The system's route leads by this other card.
+    Elsewhere(CardName),
+    /// There is no route.
+    #[default]
+    Nowhere,
+}
+
+/// A host that packets go to.
+#[derive(Clone, Copy, Debug, Default)]
+pub struct Path {
+    pub host: [u8; 4],
+
+    /// The place of its source; none where there was no route to it so far.
+    pub source: Option<usize>,
+
+    pub state: PathState,
+
+    /// Who takes its packets first, where that is another machine at the card's network: the host
+    /// itself, or a gateway.
+    pub neighbor: Option<[u8; 4]>,
+
+    /// At so many looks one behind the other it did not answer.
+    pub silence: u8,
+
+    // By this address the route led elsewhere.
+    other: Option<[u8; 4]>,
+}
+
+impl Path {
+    /// Whether no route leads to the host.
+    pub fn is_without_route(&self) -> bool {
+        matches!(self.state, PathState::Nowhere)
+    }
+
+    /// Whether nobody answers there.
+    pub fn is_silent(&self) -> bool {
+        self.silence >= SILENCE
+    }
+}
+
+/// The sockets of a night: one for each address of this machine that it sends from. Each is bound to
+/// its address, so that its multicast leaves by the card of that and by no other.
+#[derive(Drop)]
+pub struct Network {
+    leaving: Leaving,
+    // Bound to no address: for hosts to which there was no route so far.
+    unbound: UdpSocket,
+    sources: ArrayVec<Source, MOST_SOURCES>,
+    paths: ArrayVec<Path, MOST_TARGETS>,
+    failure: Option<(SocketAddr, ErrorKind)>,
+}
+
+/// Whether an address is that of a multicast group.
+pub fn is_multicast(host: [u8; 4]) -> bool {
+    matches!(host, [224..=239, ..])
+}
+
+impl Network {
+    /// Opens the sockets for these targets.
+    ///
+    /// # Errors
+    ///
+    /// The system's reason where one cannot be had.
+    pub fn open(
+        rt: &HostRuntime,
+        targets: &Targets,
+        leaving: Leaving,
+    ) -> Result<Network, SocketFault> {
+        let mut network = Network {
+            leaving,
+            unbound: socket_at(rt, [0, 0, 0, 0], leaving)?,
+            sources: ArrayVec::new(),
+            paths: ArrayVec::new(),
+            failure: None,
+        };
+        for target in targets.as_slice() {
+            let host = target.address.host;
+            if network.place_of(host).is_none() {
+                let path = network.path_to(rt, host)?;
+                let _ = network.paths.try_push(path);
+            }
+        }
+        Ok(network)
+    }
+
+    /// The addresses that packets come from.
+    pub fn sources(&self) -> &[Source] {
+        self.sources.as_slice()
+    }
+
+    /// The hosts that packets go to, each once.
+    pub fn paths(&self) -> &[Path] {
+        self.paths.as_slice()
+    }
+
+    /// The source of a path, where there is one.
+    pub fn source_of(&self, path: &Path) -> Option<&Source> {
+        self.sources.as_slice().get(path.source?)
+    }
+
+    /// Where the last send that failed went to, and the system's reason.
+    pub fn failure(&self) -> Option<(AddressText, ErrorKind)> {
+        let (address, kind) = self.failure?;
+        Some((text_of(address), kind))
+    }
+
+    // How this host is reached for the first time.
+    fn path_to(&mut self, rt: &HostRuntime, host: [u8; 4]) -> Result<Path, SocketFault> {
+        let mut path = Path {
+            host,
+            ..Path::default()
+        };
+        let route = source_to(rt, host);
+        if let Some(address) = self.leaving.source.or(route) {
+            path.source = self.add_source(rt, address, host)?;
+            path.state = PathState::Leads;
+        }
+        if !is_multicast(host) {
+            self.look_along(rt, &mut path, route);
+        }
+        Ok(path)
+    }
+
+    // The place of the source of this address, for a host; none where there are too many.
+    fn add_source(
+        &mut self,
+        rt: &HostRuntime,
+        address: [u8; 4],
+        host: [u8; 4],
+    ) -> Result<Option<usize>, SocketFault> {
+        for (place, source) in self.sources.as_slice().iter().enumerate() {
+            if source.address == address {
+                return Ok(Some(place));
+            }
+        }
+        let source = Source {
+            address,
+            card: card_to(rt, address, host),
+            state: SourceState::Sends,
+            socket: Some(socket_at(rt, address, self.leaving)?),
+        };
+        let place = self.sources.len();
+        match self.sources.try_push(source) {
+            Ok(()) => Ok(Some(place)),
+            Err(_) => Ok(None),
+        }
+    }
+
+    // Looks where the route to the host of a path leads: by which address.
+    fn look_along(&self, rt: &HostRuntime, path: &mut Path, route: Option<[u8; 4]>) {
+        let Some(source) = self.source_of(path) else {
+            return;
+        };
+        let Some(address) = route else {
+            path.state = PathState::Nowhere;
+            path.other = None;
+            return;
+        };
+        if path.neighbor.is_none() || path.silence > 0 {
+            let neighbor = neighbor_to(rt, path.host, address);
+            if path.neighbor != neighbor {
+                path.silence = 0;
+            }
+            path.neighbor = neighbor;
+        }
+        if address == source.address || self.leaving.is_any_route {
+            path.state = PathState::Leads;
+            path.other = None;
+        } else if path.other != Some(address) {
+            let card = card_to(rt, address, path.host);
+            path.other = Some(address);
+            path.state = if card.as_str() == source.card.as_str() {
+                PathState::Leads
+            } else {
+                PathState::Elsewhere(card)
+            };
+        }
+    }
+
+    /// Looks at the cards, the addresses and the routes.
+    pub fn look(&mut self, rt: &HostRuntime) {
+        for source in self.sources.as_mut_slice() {
+            source.state = state_of(rt, source);
+        }
+        let mut paths = self.paths.take();
+        for path in paths.as_mut_slice() {
+            self.look_at(rt, path);
+        }
+        let mut neighbors = Neighbors::open(rt);
+        neighbors.look(paths.as_mut_slice());
+        self.paths = paths;
+    }
+
+    fn look_at(&mut self, rt: &HostRuntime, path: &mut Path) {
+        match self.source_of(path) {
+            None => {
+                if let Ok(found) = self.path_to(rt, path.host) {
+                    *path = found;
+                }
+            }
+            Some(source) => {
+                if source.state != SourceState::Sends {
+                    path.silence = 0;
+                } else if !is_multicast(path.host) {
+                    let route = source_to(rt, path.host);
+                    self.look_along(rt, path, route);
+                }
+            }
+        }
+    }
+
+    // The place of the path to a host.
+    fn place_of(&self, host: [u8; 4]) -> Option<usize> {
+        for (place, path) in self.paths.as_slice().iter().enumerate() {
+            if path.host == host {
+                return Some(place);
+            }
+        }
+        None
+    }
+
+    // The path of a packet to a host, which may be the group of a universe.
+    fn path_of(&self, host: [u8; 4]) -> Option<&Path> {
+        let place = match (self.place_of(host), host) {
+            (Some(place), _) => place,
+            (None, [239, 255, ..]) => self.place_of(GROUPS)?,
+            (None, _) => return None,
+        };
+        self.paths.as_slice().get(place)
+    }
+
+    /// Sends a datagram. It is not offered to another card than that of its source, unless any will
+    /// do; and what a card without a link takes is lost all the same.
+    ///
+    /// # Errors
+    ///
+    /// Where it is lost.
+    pub fn send(&mut self, to: Address, bytes: &[u8]) -> Result<(), LinkFault> {
+        let address = SocketAddr::new(IpAddr::from(to.host), to.port);
+        match self.offer(address, to.host, bytes) {
+            Ok(()) => Ok(()),
+            Err(kind) => {
+                self.failure = Some((address, kind));
+                Err(LinkFault)
+            }
+        }
+    }
+
+    fn offer(&self, address: SocketAddr, host: [u8; 4], bytes: &[u8]) -> Result<(), ErrorKind> {
+        let path = self.path_of(host);
+        if let Some(path) = path
+            && let PathState::Elsewhere(_) = path.state
+        {
+            return Err(ErrorKind::NetworkUnreachable);
+        }
+        let Some(source) = path.and_then(|path| self.source_of(path)) else {
+            return send_whole(&self.unbound, bytes, address);
+        };
+        let socket = source.socket.as_ref().unwrap_or(&self.unbound);
+        match source.state {
+            SourceState::Sends => send_whole(socket, bytes, address),
+            SourceState::NoLink => {
+                send_whole(socket, bytes, address)?;
+                Err(ErrorKind::NetworkDown)
+            }
+            SourceState::Down => Err(ErrorKind::NetworkDown),
+            SourceState::Lost => Err(ErrorKind::AddrNotAvailable),
+        }
+    }
+}
+
+fn socket_at(
+    rt: &HostRuntime,
+    address: [u8; 4],
+    leaving: Leaving,
+) -> Result<UdpSocket, SocketFault> {
+    let socket = bind(rt, (address, 0))?;
+    let set = if leaving.never_waits {
+        socket.set_nonblocking(true)
+    } else {
+        Ok(())
+    };
+    let set = set.and_then(|_| socket.set_multicast_ttl_v4(leaving.ttl.into()));
+    match set {
+        Ok(()) => Ok(socket),
+        Err(error) => Err(SocketFault {
+            address: text_of(SocketAddr::new(IpAddr::from(address), 0)),
+            kind: error.kind(),
+        }),
+    }
+}
+
+// Who takes the packets from this address to a host first, unless that is this machine.
+fn neighbor_to(rt: &HostRuntime, host: [u8; 4], address: [u8; 4]) -> Option<[u8; 4]> {
+    if address == host || matches!(address, [127, ..]) {
+        return None;
+    }
+    let route = route_to(rt, host)?;
+    Some(route.gateway.unwrap_or(host))
+}
+
+fn state_of(rt: &HostRuntime, source: &Source) -> SourceState {
+    match card_state(rt, source.card.as_str()) {
+        CardState::Down => SourceState::Down,
+        _ if !is_of_this_machine(rt, source.address) => SourceState::Lost,
+        CardState::NoLink => SourceState::NoLink,
+        CardState::Up => SourceState::Sends,
+    }
+}

@@ -1,0 +1,243 @@
+use crate::bounded_output::{BoundedOutput, Names};
+use crate::fault::DeviceFault;
+use crate::lock_holder::holder;
+use crate::record::Record;
+use crate::record_lock::{FileLock, is_same, lock, lock_at_once};
+use byte_reading::{Unread, first_bytes};
+use std::fs::{File, Metadata, OpenOptions, metadata};
+use std::io::{Error, ErrorKind};
+use std::os::unix::fs::FileTypeExt;
+use std::time::{Instant, SystemTime};
+
+const NAMES: Names = Names {
+    output: "the record",
+    pipe: "CUEPLAYER_RECORD_PIPE",
+    mark: "! ",
+    lines: "lines",
+};
+
+/// Why a record cannot be kept.
+#[derive(Clone, Copy, Debug, PartialEq, Eq)]
+pub enum RecordFault {
+    /// Its file cannot be opened or read, for the system's reason.
+    File(ErrorKind),
+    /// Something stands in its file: no night is written over another.
+    NotEmpty,
+    /// A night is to go on in what is no file.
+    NoFile,
+    /// Another night is kept in its file, by this process where that is known.
+    InUse(Option<u32>),
+    /// The file system has no locks.
+    NoLocks,
+    /// What its lines go through cannot be had.
+    Way(DeviceFault),
+    /// A growth was refused.
+    Memory,
+}
+
+/// The file of a record before a night begins or goes on in it. It is locked, and as it was.
+#[derive(Drop)]
+pub struct RecordFile {
+    file: File,
+    text: Vec<u8>,
+    pause: Option<Pause>,
+    has_lock: bool,
+}
+
+/// How long a record had not been written when it was read.
+#[derive(Clone, Copy)]
+pub struct Pause {
+    /// Until when: all that passes from then on passes by this clock, the time that it takes to
+    /// read a long record too.
+    pub until: Instant,
+    pub milliseconds: u64,
+}
+
+impl RecordFile {
+    /// Opens and locks a record's file: one that is new or empty, a FIFO or a device; or, where a
+    /// night resumes, any regular file, which is read whole.
+    ///
+    /// # Errors
+    ///
+    /// As [`RecordFault`] lists them. The file is as it was then.
+    pub fn open(rt: &HostRuntime, name: &str, resumes: bool) -> Result<Self, RecordFault> {
+        let file = open_file(rt, name, resumes).map_err(of_system)?;
+        let found = file.metadata().map_err(of_system)?;
+        if !resumes {
+            refuse_lines(&found)?;
+        } else if !found.is_file() {
+            return Err(RecordFault::NoFile);
+        }
+        let mut record = RecordFile {
+            file,
+            text: Vec::new(rt.alloc()),
+            pause: None,
+            has_lock: true,
+        };
+        if found.is_file() {
+            record.lock(rt, name)?;
+            record.read(rt, resumes)?;
+        }
+        Ok(record)
+    }
+
+    /// Opens the file of a night's record that another process keeps, without its lock.
+    ///
+    /// # Errors
+    ///
+    /// As [`RecordFault`] lists them.
+    pub fn watch(rt: &HostRuntime, name: &str) -> Result<Self, RecordFault> {
+        let file = OpenOptions::new()
+            .read(true)
+            .append(true)
+            .open(rt, name)
+            .map_err(of_system)?;
+        if !file.metadata().map_err(of_system)?.is_file() {
+            return Err(RecordFault::NoFile);
+        }
+        Ok(RecordFile {
+            file,
+            text: Vec::new(rt.alloc()),
+            pause: None,
+            has_lock: false,
+        })
+    }
+
+    /// Takes the lock of a watched file, unless the night of its record is still kept in it, by its
+    /// program or by the writer of that; whether it is taken.
+    ///
+    /// # Errors
+    ///
+    /// `NoLocks` where the file system has none; `File` as [`RecordFault`] lists it.
+    pub fn take_over(&mut self, rt: &HostRuntime, name: &str) -> Result<bool, RecordFault> {
+        match lock_at_once(rt, &self.file) {
+            FileLock::Theirs => return Ok(false),
+            FileLock::Missing => return Err(RecordFault::NoLocks),
+            FileLock::Ours => self.has_lock = true,
+        }
+        self.refuse_other_name(rt, name)?;
+        let found = self.file.metadata().map_err(of_system)?;
+        self.pause = Some(pause_of(rt, &found).map_err(of_system)?);
+        Ok(true)
+    }
+
+    fn lock(&mut self, rt: &HostRuntime, name: &str) -> Result<(), RecordFault> {
+        match lock(rt, &self.file) {
+            FileLock::Ours => {}
+            FileLock::Theirs => return Err(RecordFault::InUse(holder(rt, &self.file))),
+            FileLock::Missing => self.has_lock = false,
+        }
+        self.refuse_other_name(rt, name)
+    }
+
+    // A file that was removed meanwhile, or that has another name now, is none to begin in.
+    fn refuse_other_name(&self, rt: &HostRuntime, name: &str) -> Result<(), RecordFault> {
+        let named = metadata(rt, name).map_err(of_system)?;
+        let locked = self.file.metadata().map_err(of_system)?;
+        if is_same(&named, &locked) {
+            Ok(())
+        } else {
+            Err(RecordFault::File(ErrorKind::NotFound))
+        }
+    }
+
+    fn read(&mut self, rt: &HostRuntime, resumes: bool) -> Result<(), RecordFault> {
+        let found = self.file.metadata().map_err(of_system)?;
+        if !resumes {
+            return refuse_lines(&found);
+        }
+        self.pause = Some(pause_of(rt, &found).map_err(of_system)?);
+        match first_bytes(rt.alloc(), &mut self.file, usize::MAX) {
+            Ok(text) => self.text = text,
+            Err(Unread::Device(kind)) => return Err(RecordFault::File(kind)),
+            Err(Unread::Memory) => return Err(RecordFault::Memory),
+        }
+        Ok(())
+    }
+
+    /// What stands in it, where a night resumes.
+    pub fn text(&self) -> &[u8] {
+        self.text.as_slice()
+    }
+
+    /// How many bytes stand in it; 0 where the system does not say.
+    pub fn length(&self) -> u64 {
+        match self.file.metadata() {
+            Ok(found) if found.is_file() => found.len(),
+            _ => 0,
+        }
+    }
+
+    /// How long it had not been written, where a night resumes.
+    pub fn pause(&self) -> Option<Pause> {
+        self.pause
+    }
+
+    /// Whether no other night can be kept in it.
+    pub fn has_lock(&self) -> bool {
+        self.has_lock
+    }
+
+    /// Cuts it to so many bytes, and has lines kept behind them, by the writer that the environment
+    /// names a pipe to, if it does.
+    ///
+    /// # Errors
+    ///
+    /// As [`RecordFault`] lists them.
+    pub fn keep_lines(self, rt: &HostRuntime, length: usize) -> Result<Record, RecordFault> {
+        if (length as u64) < self.length() {
+            self.file.set_len(length as u64).map_err(of_system)?;
+        }
+        let RecordFile { file, .. } = self;
+        let locked = file.try_clone().map_err(of_system)?;
+        match BoundedOutput::new(rt, file, NAMES) {
+            Ok(lines) => Ok(Record::of(lines, locked, length as u64)),
+            Err(fault) => Err(RecordFault::Way(fault)),
+        }
+    }
+}
+
+fn refuse_lines(found: &Metadata) -> Result<(), RecordFault> {
+    if found.len() > 0 {
+        Err(RecordFault::NotEmpty)
+    } else {
+        Ok(())
+    }
+}
+
+fn of_system(error: Error) -> RecordFault {
+    match error.kind() {
+        ErrorKind::OutOfMemory => RecordFault::Memory,
+        kind => RecordFault::File(kind),
+    }
+}
+
+// A FIFO is opened for reading too: so it is there at once, whether anybody reads it or not.
+fn open_file(rt: &HostRuntime, name: &str, is_read: bool) -> Result<File, Error> {
+    let is_fifo = match metadata(rt, name) {
+        Ok(found) => found.file_type().is_fifo(),
+        Err(_) => false,
+    };
+    if is_fifo {
+        return OpenOptions::new().read(true).write(true).open(rt, name);
+    }
+    OpenOptions::new()
+        .read(is_read)
+        .append(true)
+        .create(true)
+        .open(rt, name)
+}
+
+// Where the system's clock ran back, nothing of it counts.
+fn pause_of(rt: &HostRuntime, file: &Metadata) -> Result<Pause, Error> {
+    let written = file.modified()?;
+    let until = Instant::now(rt)?;
+    let milliseconds = match SystemTime::now(rt)?.duration_since(written) {
+        Ok(passed) => u64::try_from(passed.as_millis()).unwrap_or(u64::MAX),
+        Err(_) => 0,
+    };
+    Ok(Pause {
+        until,
+        milliseconds,
+    })
+}

@@ -1,0 +1,5 @@
+pub mod Datagram
+pub mod Kept
+pub mod Address
+pub mod Choice
+pub mod Misfit

@@ -1,0 +1,439 @@
+"""Two network cards: by which one packets leave, and what a night tells when nobody hears it."""
+
+import time
+import uuid
+from contextlib import contextmanager
+
+from networks import EVERYDAY, LIT, OFFICE, STAGE, NetworkTest, Night, Venue, universes
+from program import CID, FolderTest, packet, text
+from wire import SLOT_1
+
+SHOW = text("CUE 1", "UP 0", "CHAN 1@H80", "PATCH 1 1<1@FL 1<513@FL")
+MULTICAST = "239.255.0.0"
+ONE_TICK = b"0 goto 1\n10 tick\n"
+# A trouble is told within so many seconds.
+SOON = 2.0
+# For so many seconds it is looked whether packets come: a stage that stands still has one in 0.8.
+DURING = 1.2
+
+
+def groups(*numbers):
+    """The multicast groups of universes (E1.31-2018, 9.3.1)."""
+    return {f"239.255.{number >> 8}.{number & 255}" for number in numbers}
+
+
+def hosts(came):
+    """Where datagrams went to."""
+    return {each.to for each in came}
+
+
+class CardsTest(NetworkTest, FolderTest):
+    SHOW = SHOW
+
+    def setUp(self):
+        super().setUp()
+        # How long it took to tell each trouble, in seconds.
+        self.waits = []
+
+    def sent(self, venue, *words, cid=None):
+        """What the office and the stage get of a run of `play`, under a CID of its own."""
+        cid = cid or str(uuid.uuid4())
+        done = venue.run("play", self.show, "--cid", cid, *words, stdin=ONE_TICK)
+        self.assertEqual((0, b""), (done.returncode, done.stderr), words)
+        return venue.office.came(), venue.stage.came()
+
+    def night(self, kept, *options, **network):
+        """A network, and a night in it whose start was told."""
+        venue = Venue(kept, **network)
+        return venue, Night(kept, venue, self.show, *options)
+
+    def assertFrom(self, night, *lines):
+        """The start says by which cards and addresses the night sends."""
+        begins = ("from ", "other cards: ", "no route ")
+        self.assertEqual(list(lines), [line for line in night.start if line.startswith(begins)])
+
+    @contextmanager
+    def soon(self, night, pattern):
+        """What happens inside is told within two seconds."""
+        before = time.monotonic()
+        yield
+        night.told(pattern)
+        self.waits.append(time.monotonic() - before)
+        self.assertLess(self.waits[-1], SOON, pattern)
+
+
+class Ways(CardsTest):
+    """By which card packets leave: each target, in one packet of each universe."""
+
+    def test_ways(self):
+        """Multicast by the default route, or by the card that is named; unicast by the system's
+        route; and what is named for a universe in place of what is named for all."""
+        self.side_by_side(
+            self.default_route,
+            self.named_card,
+            self.address_of_a_card,
+            self.both_nodes,
+            self.any_route,
+            self.one_elsewhere,
+            self.several_of_one,
+            self.each_its_own,
+            self.plain_packet,
+            self.named_packet,
+        )
+
+    def default_route(self, kept):
+        office, stage = self.sent(Venue(kept), "--to", MULTICAST)
+        self.assertEqual((groups(1, 2), []), (hosts(office), stage))
+        self.assertEqual({EVERYDAY}, {each.source for each in office})
+
+    def named_card(self, kept, name="lit"):
+        office, stage = self.sent(Venue(kept), "--to", MULTICAST, "--interface", name)
+        self.assertEqual(([], groups(1, 2)), (office, hosts(stage)))
+        self.assertEqual({LIT}, {each.source for each in stage})
+
+    def address_of_a_card(self, kept):
+        self.named_card(kept, LIT)
+
+    def both_nodes(self, kept):
+        office, stage = self.sent(Venue(kept), "--to", OFFICE, "--to", STAGE)
+        self.assertEqual([{1, 2}] * 2, [universes(office), universes(stage)])
+        found = {(each.source, each.to) for each in office + stage}
+        self.assertEqual({(EVERYDAY, OFFICE), (LIT, STAGE)}, found)
+
+    def any_route(self, kept):
+        words = ("--to", OFFICE, "--interface", "lit", "--any-route")
+        office, stage = self.sent(Venue(kept), *words)
+        self.assertEqual(({1, 2}, []), (universes(office), stage))
+        self.assertEqual({(LIT, OFFICE)}, {(each.source, each.to) for each in office})
+
+    def one_elsewhere(self, kept):
+        office, stage = self.sent(Venue(kept), "--to", MULTICAST, "--to", f"2={STAGE}")
+        self.assertEqual((groups(1), {STAGE}), (hosts(office), hosts(stage)))
+        self.assertEqual(({1}, {2}), (universes(office), universes(stage)))
+
+    def several_of_one(self, kept):
+        named = (STAGE, f"1={MULTICAST}", f"1-2={STAGE}", f"1={OFFICE}")
+        office, stage = self.sent(Venue(kept), *(f"--to={word}" for word in named))
+        self.assertEqual(["239.255.0.1", OFFICE], [each.to for each in office])
+        self.assertEqual((2, {1, 2}), (len(stage), universes(stage)))
+        self.assertEqual(1, len({each.packet for each in [*office, stage[0]]}))
+
+    def each_its_own(self, kept):
+        words = ("--to", f"1={OFFICE}", "--to", f"2-2={STAGE}")
+        office, stage = self.sent(Venue(kept), *words)
+        self.assertEqual(({1}, {2}), (universes(office), universes(stage)))
+
+    def plain_packet(self, kept):
+        """The time to live is 1 where none is named."""
+        _, stage = self.sent(Venue(kept), "--to", MULTICAST, "--interface", "lit", "--name", "x")
+        self.assertEqual({1}, {each.ttl for each in stage})
+
+    def named_packet(self, kept):
+        """It and the source's name are whole in each packet."""
+        name = "Main \u00e9" + "n" * 56
+        words = ("--to", MULTICAST, "--interface", "lit", "--ttl", "255", "--name", name)
+        _, stage = self.sent(Venue(kept), *words, cid=CID)
+        wanted = [packet(universe, {1: 128}, cid=CID, name=name) for universe in (1, 2)]
+        self.assertEqual({255}, {each.ttl for each in stage})
+        self.assertEqual(wanted, [each.packet for each in stage])
+
+
+class Starts(CardsTest):
+    """What a night says of cards at its start."""
+
+    def test_start(self):
+        cases = (self.named, self.default_route, self.local_route, self.several, self.one_card)
+        self.side_by_side(*cases)
+
+    def named(self, kept):
+        """By either form of the word."""
+        venue = Venue(kept)
+        for word in ("lit", LIT):
+            night = Night(kept, venue, self.show, "--to", MULTICAST, "--interface", word)
+            self.assertFrom(night, f"from {LIT} (lit)")
+            self.assertEqual((0, []), night.end())
+
+    def default_route(self, kept):
+        """Where nothing is said, the way is told, and which other card could be meant."""
+        _, night = self.night(kept, "--to", MULTICAST)
+        others = f"other cards: lit ({LIT}); --interface lit sends by it"
+        self.assertFrom(night, f"from {EVERYDAY} (eth0), the default route", others)
+
+    def local_route(self, kept):
+        """A node's address leaves no doubt."""
+        _, night = self.night(kept, "--to", STAGE)
+        self.assertFrom(night, f"from {LIT} (lit), the route to 10.101.2.0/24")
+
+    def several(self, kept):
+        """A line of each address."""
+        _, night = self.night(kept, "--to", f"1={STAGE}", "--to", f"2={OFFICE}")
+        by_office = f"from {EVERYDAY} (eth0), the route to 10.101.1.0/24"
+        by_stage = f"from {LIT} (lit), the route to 10.101.2.0/24"
+        self.assertFrom(night, by_stage, by_office)
+
+    def one_card(self, kept):
+        """Where there is no other card with an address, none is told of."""
+        venue = Venue(kept)
+        venue.console.ip(f"addr del {LIT}/24 dev lit")
+        night = Night(kept, venue, self.show, "--to", MULTICAST)
+        self.assertFrom(night, f"from {EVERYDAY} (eth0), the default route")
+
+
+class Watch(CardsTest):
+    """A night that nobody hears says so within two seconds; nothing moves to another card."""
+
+    NO_LINK = "no link lit: nodes get nothing; check the cable"
+    DOWN = "lit is down: nodes get nothing; ip link set lit up"
+    GONE = f"lit has lost {LIT}: nodes get nothing"
+    NOBODY = "no answer from 10.101.2.77: nothing has that address; check the node and --to"
+
+    def test_cases(self):
+        self.side_by_side(
+            self.cable_out,
+            self.cable_out_of_a_node,
+            self.cable_out_at_the_start,
+            self.card_down,
+            self.address_gone,
+            self.card_gone,
+            self.route_changed,
+            self.route_gone,
+            self.any_route,
+            self.no_network_yet,
+            self.node_that_refuses,
+            self.no_such_node,
+            self.one_of_two_cards,
+            self.backup,
+        )
+        print(f"    told after {max(self.waits):.2f} s at most, {len(self.waits)} times")
+
+    def lit_night(self, kept, *options):
+        """A night by the card `lit`, heard on the stage."""
+        venue, night = self.night(kept, "--interface", "lit", *(options or ("--to", MULTICAST)))
+        venue.stage.wait()
+        return venue, night
+
+    def assertToldAgain(self, night, told):
+        """A `where` tells what is wrong once more."""
+        night.ask()
+        night.told(told)
+
+    def assertDark(self, venue, night):
+        """Nothing comes to the stage or to the office, whatever is typed."""
+        venue.stage.came(0)
+        venue.office.came(0)
+        night.ask("go")
+        time.sleep(DURING)
+        self.assertEqual(([], []), (venue.stage.came(0), venue.office.came(0)))
+
+    def assertLit(self, venue):
+        """Light comes to the stage: the look that was commanded meanwhile."""
+        levels = {each.packet[SLOT_1] for each in venue.stage.wait()}
+        self.assertEqual(({128}, []), (levels, venue.office.came(0)))
+
+    def assertLost(self, night):
+        """The night ends with the number of packets that were lost."""
+        status, told = night.end()
+        self.assertEqual(5, status)
+        self.assertRegex("\n".join(told), r"(?m)^lost [1-9]\d*$")
+
+    def cable_out(self, kept):
+        venue, night = self.lit_night(kept)
+        with self.soon(night, self.NO_LINK):
+            venue.stage.ip("link set port down")
+        self.assertToldAgain(night, self.NO_LINK)
+        self.assertDark(venue, night)
+        with self.soon(night, "link lit"):
+            venue.stage.ip("link set port up")
+        self.assertLit(venue)
+        self.assertLost(night)
+
+    def cable_out_of_a_node(self, kept):
+        """Also where packets go to its address alone, and no card is named."""
+        venue, night = self.night(kept, "--to", STAGE)
+        venue.stage.wait()
+        with self.soon(night, self.NO_LINK):
+            venue.stage.ip("link set port down")
+        self.assertDark(venue, night)
+
+    def cable_out_at_the_start(self, kept):
+        venue = Venue(kept)
+        venue.stage.ip("link set port down")
+        night = Night(kept, venue, self.show, "--to", MULTICAST, "--interface", "lit")
+        with self.soon(night, self.NO_LINK):
+            pass
+
+    def card_down(self, kept):
+        venue, night = self.lit_night(kept)
+        with self.soon(night, self.DOWN):
+            venue.console.ip("link set lit down")
+        self.assertToldAgain(night, self.DOWN)
+        self.assertDark(venue, night)
+        with self.soon(night, "link lit"):
+            venue.console.ip("link set lit up")
+        self.assertLit(venue)
+        self.assertLost(night)
+
+    def address_gone(self, kept):
+        venue, night = self.lit_night(kept)
+        with self.soon(night, self.GONE):
+            venue.console.ip(f"addr del {LIT}/24 dev lit")
+        self.assertToldAgain(night, self.GONE)
+        self.assertDark(venue, night)
+        with self.soon(night, f"lit has {LIT}"):
+            venue.console.ip(f"addr add {LIT}/24 dev lit")
+        self.assertLit(venue)
+        self.assertLost(night)
+
+    def card_gone(self, kept):
+        """Also where the default route leads by another card that is there."""
+        venue, night = self.lit_night(kept)
+        with self.soon(night, self.GONE):
+            venue.console.ip("link del lit")
+        venue.office.came(0)
+        night.ask("go")
+        time.sleep(DURING)
+        self.assertEqual([], venue.office.came(0))
+        self.assertLost(night)
+
+    def route_changed(self, kept):
+        """Packets to a node do not follow a route that leads by another card."""
+        venue, night = self.lit_night(kept, "--to", STAGE)
+        told = f"the route to {STAGE} leads by eth0: nodes get nothing; check ip route get {STAGE}"
+        with self.soon(night, told):
+            venue.console.ip(f"route add {STAGE}/32 via {OFFICE}")
+        self.assertToldAgain(night, told)
+        self.assertDark(venue, night)
+        with self.soon(night, f"the route to {STAGE} leads by lit"):
+            venue.console.ip(f"route del {STAGE}/32 via {OFFICE}")
+        self.assertLit(venue)
+        self.assertLost(night)
+
+    def route_gone(self, kept):
+        """Where a node's route is gone there is none, or the one that is left leads elsewhere."""
+        venue, night = self.lit_night(kept, "--to", STAGE)
+        venue.console.ip("route del default")
+        told = f"no route to {STAGE}: nodes get nothing until there is one"
+        with self.soon(night, told):
+            venue.console.ip("route del 10.101.2.0/24 dev lit")
+        self.assertDark(venue, night)
+        with self.soon(night, f"the route to {STAGE} leads by lit"):
+            venue.console.ip("route add 10.101.2.0/24 dev lit")
+        self.assertLit(venue)
+
+    def any_route(self, kept):
+        """With --any-route they do, and nothing is told."""
+        venue, night = self.lit_night(kept, "--to", STAGE, "--any-route")
+        venue.console.ip(f"route add {STAGE}/32 via {OFFICE}")
+        venue.office.wait()
+        time.sleep(DURING)
+        self.assertEqual((0, []), night.end())
+
+    def no_network_yet(self, kept):
+        """The night begins without any network, and is heard once there is one."""
+        venue, night = self.night(kept, "--to", MULTICAST, has_addresses=False)
+        self.assertFrom(night, f"no route to {MULTICAST}: nodes get nothing until there is one")
+        night.ask("go")
+        with self.soon(night, f"from {EVERYDAY} (eth0), the default route"):
+            venue.give_addresses()
+        self.assertEqual({128}, {each.packet[SLOT_1] for each in venue.office.wait()[-1:]})
+
+    def node_that_refuses(self, kept):
+        """A node that answers by ICMP that nobody listens costs nobody a packet."""
+        venue = Venue(kept)
+        venue.stage.refuse()
+        night = Night(kept, venue, self.show, "--to", STAGE, "--to", OFFICE)
+        night.ask("go")
+        time.sleep(DURING)
+        self.assertEqual((0, []), night.end())
+        office, stage = venue.office.came(), venue.stage.came()
+        self.assertEqual([each.packet for each in office], [each.packet for each in stage])
+        self.assertEqual([], [line for line in night.out.rest() if " live " in line])
+
+    def no_such_node(self, kept):
+        """Nobody has the address that is sent to; then somebody has it."""
+        venue, night = self.night(kept, "--to", "10.101.2.77")
+        with self.soon(night, self.NOBODY):
+            pass
+        self.assertToldAgain(night, self.NOBODY)
+        venue.stage.ip("addr add 10.101.2.77/24 dev port")
+        night.told("10.101.2.77 answers")
+        self.assertEqual({"10.101.2.77"}, hosts(venue.stage.wait()))
+
+    def backup(self, kept):
+        """A night that follows another one watches its own card."""
+        venue = Venue(kept)
+        record = self.folder / "main.play"
+        Night(kept, venue, self.show, "--to", OFFICE, "--record", record)
+        named = ("--to", MULTICAST, "--interface", "lit")
+        backup = Night(kept, venue, self.show, *named, "--follow", record, "--priority", "90")
+        venue.stage.wait()
+        with self.soon(backup, self.NO_LINK):
+            venue.stage.ip("link set port down")
+        with self.soon(backup, "link lit"):
+            venue.stage.ip("link set port up")
+
+    def one_of_two_cards(self, kept):
+        """A packet is lost where one of its targets gets none; the other gets it all the same."""
+        named = (f"1={STAGE}", f"1={OFFICE}", f"2={OFFICE}")
+        venue, night = self.night(kept, *(f"--to={word}" for word in named))
+        with self.soon(night, self.NO_LINK):
+            venue.stage.ip("link set port down")
+        venue.office.came(0)
+        night.ask("go")
+        self.assertEqual({1, 2}, universes(venue.office.wait()))
+        lost = night.out.find(r"\d+ live (.*)")[1]
+        self.assertRegex(lost, r"^1:x\d+ 2:(s\d+|-)$")
+
+
+class Refusals(CardsTest):
+    CARDS = f"there are eth0 ({EVERYDAY}), lit ({LIT}), lo (127.0.0.1)"
+
+    def test_refusals(self):
+        """Each names what there is. Nothing is sent or made, and the status is 2."""
+        self.side_by_side(self.refused_cards, self.card_down, self.refused_routes)
+
+    def assertRefused(self, venue, remark, *words):
+        record = self.folder / f"{venue.console.name}.play"
+        for job in (["play"], ["live", "--record", record]):
+            done = venue.run(*job, self.show, "--cid", uuid.uuid4(), *words, stdin=ONE_TICK)
+            self.assertEqual((2, b""), (done.returncode, done.stdout))
+            self.assertEqual(f"words refused\n{remark}\n", done.stderr.decode())
+        self.assertEqual(([], []), (venue.office.came(0), venue.stage.came()))
+        self.assertFalse(record.exists())
+
+    def refused_cards(self, kept):
+        venue = Venue(kept)
+        venue.console.ip("link add bare type veth peer name other", "link set bare up")
+        for word, told in (
+            ("eth7", f"no card eth7: {self.CARDS}"),
+            ("LIT", f"no card LIT: {self.CARDS}"),
+            ("bare", f"bare has no address: {self.CARDS}"),
+            ("other", f"other is down, and has no address: {self.CARDS}"),
+            (STAGE, f"no card has {STAGE}: {self.CARDS}"),
+        ):
+            self.assertRefused(venue, told, "--to", MULTICAST, "--interface", word)
+
+    def card_down(self, kept):
+        """The system does not tell the addresses of a card that is down."""
+        venue = Venue(kept)
+        venue.console.ip("link set lit down")
+        there = f"there are eth0 ({EVERYDAY}), lo (127.0.0.1)"
+        for word, told in (
+            ("lit", f"lit is down, and has no address: {there}"),
+            (LIT, f"the card of {LIT} is down, or is not known: {there}"),
+        ):
+            self.assertRefused(venue, told, "--to", MULTICAST, "--interface", word)
+
+    def refused_routes(self, kept):
+        """A node behind another card than the one that is named."""
+        venue = Venue(kept)
+        for words, node, card, named in (
+            (("--to", OFFICE), OFFICE, "eth0", "lit"),
+            (("--to", STAGE, "--to", f"2={OFFICE}"), OFFICE, "eth0", "lit"),
+            (("--to", "192.0.2.7"), "192.0.2.7", "eth0", "lit"),
+            (("--to", STAGE), STAGE, "lit", "eth0"),
+        ):
+            told = f"the route to {node} leads by {card}, and not by {named}:"
+            told += " --any-route sends by it"
+            for word in (named, LIT if named == "lit" else EVERYDAY):
+                self.assertRefused(venue, told, *words, "--interface", word)

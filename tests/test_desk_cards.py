@@ -1,0 +1,184 @@
+"""`tools/desk` and `cueplayer-night` on a machine with two network cards: by which they send and
+hear, and what they show of a cable that is out."""
+
+import socket
+import subprocess
+import sys
+import uuid
+
+from desks import SHOW, Page
+from folders import NIGHT
+from networks import LIT, OFFICE, PORT, STAGE, NetworkTest, Venue
+from program import CID, FolderTest, packet
+from tooling import PATIENCE, TOOLS, Lines, wait_for
+
+MULTICAST = "239.255.0.0"
+NO_LINK = "no link lit: nodes get nothing; check the cable"
+ALONE = "they are sent to one receiver alone"
+
+
+def level(page, universe="1"):
+    """What a page shows of the first slot."""
+    slots = page.newest.get("levels", {}).get("slots", {})
+    return int(slots.get(universe, "00")[:2], 16)
+
+
+def send(node):
+    """Sends as another source at a node, to the group of universe 1."""
+    with socket.socket(socket.AF_INET, socket.SOCK_DGRAM) as other:
+        other.bind((node.address, 0))
+        sent = packet(1, {}, cid=CID, name=f"at {node.address}")
+        other.sendto(sent, ("239.255.0.1", PORT))
+
+
+class DeskCardsTest(NetworkTest, FolderTest):
+    SHOW = SHOW
+
+    def begun(self, kept, venue, *words):
+        """A desk on the console's machine: its lines on both outputs."""
+        desk = subprocess.Popen(
+            venue.console.words(sys.executable, TOOLS / "desk", *words),
+            text=True,
+            stdout=subprocess.PIPE,
+            stderr=subprocess.PIPE,
+        )
+        kept.callback(desk.wait, PATIENCE)
+        kept.callback(desk.terminate)
+        return Lines(desk.stdout), Lines(desk.stderr)
+
+    def opened(self, kept, venue, *words):
+        """The open page of a desk there, and what the desk tells."""
+        out, told = self.begun(kept, venue, *words)
+        address = out.next().removeprefix("desk: ")
+        page = venue.console.within(lambda: Page(self, address))
+        page.wait(placed=True)
+        return page, told
+
+    def assertShows(self, page, trouble):
+        """The page shows this alone behind its moment, and so until it is over; that line."""
+        (shown,) = wait_for(lambda: page.state.get("troubles"), trouble)
+        self.assertRegex(shown, rf"^\d+:\d\d:\d\d {trouble}$")
+        return shown
+
+
+class DeskCards(DeskCardsTest):
+    def test_desks(self):
+        self.side_by_side(
+            self.named_card, self.default_route, self.cable, self.targets, self.no_such_card
+        )
+
+    def opened(self, kept, venue, *words, show=None):
+        return super().opened(kept, venue, show or self.show, "--cid", uuid.uuid4(), *words)
+
+    def command(self, venue, page, line):
+        self.assertEqual(204, venue.console.within(lambda: page.command(line)))
+
+    def named_card(self, kept):
+        """The night is sent by the card that is named, and what is sent there is heard."""
+        venue = Venue(kept)
+        source = ("--name", "the desk", "--ttl", "3")
+        page, _ = self.opened(kept, venue, "--to", MULTICAST, "--interface", "lit", *source)
+        page.wait(ways=[f"from {LIT} (lit)"], troubles=[], notices=[])
+        self.command(venue, page, "sub 1 50")
+        wait_for(lambda: level(page) == 128, "the level")
+        came = venue.stage.wait()[-1]
+        name = came.packet[44:108].rstrip(b"\0")
+        self.assertEqual((LIT, 3, b"the desk"), (came.source, came.ttl, name))
+        self.assertEqual([], venue.office.came(0))
+
+        def heard():
+            for node in (venue.office, venue.stage):
+                node.within(lambda: send(node))
+            return page.newest["levels"]["others"]
+
+        told = [f"at {STAGE}, priority 100, universe 1"]
+        self.assertEqual(told, wait_for(heard, "the source"))
+
+    def default_route(self, kept):
+        """Where no card is named it is said by which one it sends, and which could be meant."""
+        page, _ = self.opened(kept, Venue(kept), "--to", MULTICAST)
+        page.wait(ways=["from 10.101.1.10 (eth0), the default route"])
+        told = f"other cards: lit ({LIT}); --interface lit sends by it"
+        wait_for(lambda: page.notices() == [told], "the other card")
+
+    def cable(self, kept):
+        """A cable that is out is shown until it is in again, also to a page that is opened then."""
+        venue = Venue(kept)
+        page, told = self.opened(kept, venue, "--to", MULTICAST, "--interface", LIT)
+        venue.stage.ip("link set port down")
+        shown = self.assertShows(page, NO_LINK)
+        self.command(venue, page, "go")
+        page.wait(current="1", troubles=[shown])
+        again = venue.console.within(lambda: Page(self, f"{page.origin}{page.path}"))
+        again.wait(troubles=[shown])
+        told.find(rf"desk: live: \d+:\d\d:\d\d {NO_LINK}$")
+        venue.stage.ip("link set port up")
+        page.wait(troubles=[])
+        again.wait(troubles=[])
+
+    def targets(self, kept):
+        """Levels are received of the universes that go to groups, and of no others."""
+        venue, show = Venue(kept), self.file("wide.asc", SHOW + b"PATCH 1 1<513@FL\n")
+        named = (f"2={STAGE}", f"2={OFFICE}", f"1={MULTICAST}")
+        words = [*(f"--to={word}" for word in named), "--interface", "lit", "--any-route"]
+        page, _ = self.opened(kept, venue, *words, show=show)
+        self.command(venue, page, "sub 1 50")
+        wait_for(lambda: level(page) == 128, "the level")
+        self.assertEqual({"2": ALONE}, page.newest["levels"]["reasons"])
+        self.assertEqual({"1"}, set(page.newest["levels"]["slots"]))
+        self.assertEqual({STAGE, "239.255.0.1"}, {each.to for each in venue.stage.wait()})
+
+    def no_such_card(self, kept):
+        """What `live` refuses of a card is told, and nothing begins."""
+        words = (self.show, "--cid", uuid.uuid4(), "--to", MULTICAST, "--interface", "eth7")
+        _, told = self.begun(kept, Venue(kept), *words)
+        told.find("desk: live: no card eth7: there are eth0 ")
+        told.find("desk: live has ended with status 2")
+
+
+class NightCards(DeskCardsTest):
+    """The same of a night that `cueplayer-night` keeps going."""
+
+    def test_nights(self):
+        self.side_by_side(self.cable, self.card_that_is_late)
+
+    def night(self, kept, name):
+        """A network, and what runs the script over a night there."""
+        venue = Venue(kept)
+
+        def asked(*words):
+            words = venue.console.words(NIGHT, self.folder / name, *words)
+            return subprocess.run(words, capture_output=True, text=True, timeout=2 * PATIENCE)
+
+        kept.callback(asked, "halt")
+        return venue, asked
+
+    def cable(self, kept):
+        """A desk that comes later shows the cable that is out, and so does `status`."""
+        venue, asked = self.night(kept, "tonight")
+        words = ("--to", MULTICAST, "--interface", "lit", "--cid", uuid.uuid4())
+        begun = asked("start", self.show, *words, "--background")
+        self.assertIn(f"\nfrom {LIT} (lit)\n", begun.stdout)
+        venue.stage.wait()
+        venue.stage.ip("link set port down")
+        wait_for(lambda: NO_LINK in asked("status").stdout, "the cable")
+        page, _ = self.opened(kept, venue, "--night", self.folder / "tonight")
+        self.assertShows(page, NO_LINK)
+        venue.stage.ip("link set port up")
+        page.wait(troubles=[])
+        self.assertNotIn(f"from {LIT}", asked("status").stdout)
+
+    def card_that_is_late(self, kept):
+        """A night that begins with its machine waits for its card."""
+        venue, asked = self.night(kept, "late")
+        words = ("--to", MULTICAST, "--interface", LIT, "--cid", uuid.uuid4())
+        venue.console.ip(f"addr del {LIT}/24 dev lit")
+        refused = asked("start", self.show, *words)
+        self.assertEqual(2, refused.returncode)
+        self.assertIn(f"no card has {LIT}: there are ", refused.stdout)
+        self.assertEqual(0, asked("make", self.show, *words).returncode)
+        begun = asked("start", "--background")
+        self.assertEqual(0, begun.returncode)
+        self.assertIn("live waits for its network card", begun.stdout)
+        venue.console.ip(f"addr add {LIT}/24 dev lit")
+        self.assertEqual({LIT}, {each.source for each in venue.stage.wait()})

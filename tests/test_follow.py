@@ -1,0 +1,362 @@
+"""`live --follow`: a backup carries out the lines of a main's record as they come, under its own CID,
+and goes on by itself when the main is silent."""
+
+import os
+import subprocess
+import tempfile
+import time
+from pathlib import Path
+
+from program import CID, PROGRAM, run
+from restarts import PATIENCE, KilledNight, head, sent_by, universe_of
+from test_restart import SHOW, ByTheScript, RestartTest
+from wire import OPTIONS, SLOT_1, TERMINATED, address_of, receiving
+
+BACKUP = CID[:-1] + "2"
+# Of a backup; the main has 100.
+PRIORITY = 90
+# How long a main may be silent, in milliseconds, and how late the light may come behind that.
+SILENCE, LATE = 300, 100
+# Of a main whose lines the test writes itself.
+LONG = "60000"
+REFUSED = b": the main leads; take ends the following\n"
+
+
+def slots_by_place(sent):
+    """The slots of packets, by their moment and universe."""
+    return {(each.moment, universe_of(each.packet)): each.packet[SLOT_1:] for each in sent}
+
+
+def lines_of(record):
+    """The lines of a record behind its head."""
+    return record.read_bytes().split(b"\n", 2)[2]
+
+
+class FollowTest(RestartTest):
+    def backup(self, record, *options, show=SHOW, silence=SILENCE, **kept):
+        """A night that follows this record; it runs."""
+        words = ["--follow", record, "--patience", str(silence), "--priority", str(PRIORITY)]
+        night = self.night(*words, *options, show=show, cid=BACKUP, **kept)
+        night.begin(resume=False)
+        return night
+
+    def both(self, *lines, **kept):
+        """A main at which these lines were typed, and its backup; both send."""
+        main = self.night()
+        main.begin()
+        main.light(2)
+        backup = self.backup(main.record, **kept)
+        main.type(b"".join(lines))
+        backup.light(2)
+        return main, backup
+
+    def written(self, *lines, **kept):
+        """A record that the test writes, and a night that follows it."""
+        record = Path(tempfile.mkdtemp(dir=self.folder), "main.play")
+        record.write_bytes(head(SHOW))
+        self.write(record, *lines)
+        return record, self.backup(record, **{"silence": LONG, **kept})
+
+    def write(self, record, *lines):
+        with open(record, "ab", buffering=0) as file:
+            file.write(b"".join(line.encode() + b"\n" for line in lines))
+
+    def meant(self, night):
+        """What the record of a backup means, as packets of its own."""
+        return list(sent_by(SHOW, night.record.read_bytes(), BACKUP, PRIORITY))
+
+    def assertStream(self, night):
+        """What was heard of a backup is the end of what its record means. Answers that end."""
+        meant = self.meant(night)[-len(night.heard) :]
+        self.assertEqual([each.packet for each in meant], [each.packet for each in night.heard])
+        return meant
+
+    def assertTold(self, night, *lines):
+        """Answers what was printed and told by a night that does not run any more."""
+        ((out, err),) = night.told()
+        for line in lines:
+            self.assertRegex(err, rb"(?m)^" + line)
+        return out, err
+
+
+class Leads(FollowTest):
+    """While the main is there."""
+
+    def test_slots(self):
+        """At each tick the slots of both streams are equal, until the end of both."""
+        main, backup = self.both(b"go\n")
+        time.sleep(0.4)
+        main.type(b"sub 1 50\ngo\n")
+        time.sleep(0.6)
+        self.assertEqual(0, main.end())
+        self.assertEqual(0, backup.processes[-1].wait(PATIENCE))
+        time.sleep(0.1)
+        led = slots_by_place(sent_by(SHOW, main.record.read_bytes()))
+        heard = slots_by_place(self.assertStream(backup))
+        self.assertLess(60, len(heard))
+        self.assertEqual(heard, {place: led[place] for place in heard})
+        self.assertEqual(TERMINATED, backup.heard[-1].packet[OPTIONS] & TERMINATED)
+        self.assertTold(
+            backup,
+            rb"follows: .*, of CID %b, priority 100, at 0:00:0\d of the night, " % CID.encode(),
+            rb"0:00:0\d the main has ended the night\n",
+        )
+        # The record of a backup is the main's, but for its head.
+        self.assertEqual(1, len({lines_of(each.record) for each in (main, backup)}))
+
+    def test_typed(self):
+        """What is typed moves no light; `where` and `help` are answered."""
+        main, backup = self.both(b"go\n")
+        backup.type(b"go\nend\nwhere\nhelp\n\n  \ntake 2\ngo")
+        backup.light(10)
+        main.end()
+        backup.processes[-1].wait(PATIENCE)
+        out, err = self.assertTold(backup)
+        refused = [line for line in err.splitlines(True) if line.startswith(b"line refused: ")]
+        self.assertEqual([b"line refused: " + word + REFUSED for word in (b"go", b"end", b"take 2")], refused)
+        self.assertRegex(out, rb"(?m)^\d+ where cue 1 next 2 master 255$")
+        self.assertIn(b"take: from now on this console leads", out)
+        self.assertEqual(1, backup.record.read_bytes().count(b" go\n"))
+
+    def test_old_lines(self):
+        """What stood in the record before is taken up, and not sent."""
+        record, backup = self.written("0 tick", "25 tick", "30 goto 2 in 0", "50 tick")
+        time.sleep(0.3)
+        self.assertEqual([], backup.heard)
+        self.write(record, "75 tick")
+        backup.light(2)
+        self.assertEqual({75}, {each.moment for each in self.assertStream(backup)})
+
+    def test_cut_line(self):
+        """A line waits for its LF, and may be cut off by a main that is taken up."""
+        record, backup = self.written("0 tick")
+        for part in (b"25 ti", b"ck", b"\n30 go"):
+            time.sleep(0.1)
+            with open(record, "ab", buffering=0) as file:
+                file.write(part)
+        backup.light(2)
+        time.sleep(0.1)
+        os.truncate(record, record.read_bytes().rfind(b"\n") + 1)
+        self.write(record, "50 tick", "75 tick")
+        backup.light(4)
+        self.assertEqual(b"0 tick\n25 tick\n50 tick\n75 tick\n", lines_of(backup.record))
+        self.assertStream(backup)
+
+    def test_comment(self):
+        """A comment says that lines are missing: it is told, and left out."""
+        record, backup = self.written("0 tick")
+        time.sleep(0.1)
+        self.write(record, "! 3 lines dropped", "25 tick")
+        backup.light(2)
+        backup.kill()
+        self.assertTold(backup, rb"the main's record: lines are missing, .*: ! 3 lines dropped\n")
+
+    def test_other_line(self):
+        """A line that no night gives ends the backup, and is named."""
+        for line in ("25 tock", "20 tick", "25 " + "0" * 300, "x" * 5000):
+            record, backup = self.written("0 tick", "25 tick")
+            time.sleep(0.1)
+            self.write(record, line)
+            self.assertEqual(4, backup.processes[-1].wait(PATIENCE))
+            self.assertTold(backup, rb"record: line 5 is none that live gives\n")
+
+    def test_taken_up(self):
+        """A main that is killed and taken up within the patience is followed on."""
+        main, backup = self.both(b"go\n", silence=5000)
+        main.kill()
+        main.begin()
+        main.light(2)
+        main.type(b"master 50\n")
+        backup.light(4)
+        self.assertEqual(0, main.end())
+        self.assertEqual(0, backup.processes[-1].wait(PATIENCE))
+        self.assertIn(b" master 50\n", backup.record.read_bytes())
+        self.assertStream(backup)
+
+    def test_fifo(self):
+        """The record of a main may be a FIFO."""
+        pipe = self.folder / "main.pipe"
+        os.mkfifo(pipe)
+        backup = self.backup(pipe, silence=1000)
+        with open(pipe, "r+b", buffering=0) as file:
+            file.write(head(SHOW) + b"0 tick\n")
+            time.sleep(0.2)
+            file.write(b"25 ti")
+            time.sleep(0.1)
+            file.write(b"ck\n")
+            backup.light(2)
+        self.assertStream(backup)
+
+
+class Killed(FollowTest):
+    def test_killed(self):
+        """In the midst of a fade: the light goes on with no jump, within the patience."""
+        main, backup = self.both(b"go\n")
+        time.sleep(0.5)
+        main.kill()
+        time.sleep(1)
+        self.assertEqual(0, backup.end(b"take\nwhere\nend\n"))
+        meant = self.assertStream(backup)
+        kill = main.kills[0].at
+        after = next(k for k, each in enumerate(backup.heard) if each.at > kill + 0.1)
+        gap = 1000 * (backup.heard[after].at - kill)
+        print(f"    {gap:.0f} ms from the kill to the backup's own light")
+        self.assertLess(gap, SILENCE + LATE)
+        # The clock goes on: each packet comes at its moment, by the clock of those before the kill.
+        zeros = [1000 * each.at - sent.moment for each, sent in zip(backup.heard, meant)]
+        self.assertLess(max(zeros) - min(zeros), LATE)
+        # Dimmer 1 of cue 1, in a fade of six seconds, never falls and never leaps.
+        levels = [
+            each.packet[SLOT_1] for each in meant if universe_of(each.packet) == 1
+            if each.moment < meant[-1].moment - 200
+        ]
+        steps = [b - a for a, b in zip(levels, levels[1:])]
+        self.assertLessEqual(0, min(steps))
+        self.assertLessEqual(max(steps), 255 * (SILENCE + LATE) / 6000 + 2)
+        out, err = self.assertTold(
+            backup,
+            rb"0:00:0\d the main is silent: goes on by itself\n",
+            rb"line refused: take: no such command",
+        )
+        self.assertRegex(out, rb"(?m)^\d+ where cue 1 next 2 master 255$")
+
+
+class KilledByTheScript(ByTheScript, Killed):
+    """A program of its own writes each record."""
+
+
+class Silent(FollowTest):
+    """Where the main leads no more."""
+
+    def test_take(self):
+        """`take` ends the following at once, and what is typed behind it counts."""
+        main, backup = self.both(b"go\n", silence=LONG)
+        backup.light(4)
+        backup.type(b"back\ntake\ngo\n")
+        backup.light(20)
+        main.type(b"master 50\n")
+        backup.light(4)
+        self.assertEqual(0, backup.end())
+        self.assertTold(backup, rb"line refused: back: ", rb"0:00:0\d the following was ended: goes on")
+        lines = backup.record.read_bytes()
+        self.assertEqual((2, 0, 0), tuple(map(lines.count, (b" go\n", b" back\n", b" master 50\n"))))
+        self.assertStream(backup)
+        self.assertEqual(0, main.end())
+
+    def test_part_of_a_line(self):
+        """A line is of the moment at which its LF comes."""
+        main, backup = self.both(b"go\n")
+        backup.type(b"goto 1")
+        backup.light(4)
+        main.kill()
+        time.sleep(2 * SILENCE / 1000)
+        backup.type(b" in 0\n")
+        backup.light(4)
+        self.assertEqual(0, backup.end())
+        self.assertRegex(backup.record.read_bytes(), rb"(?m)^\d+ goto 1 in 0$")
+        out, _ = self.assertTold(backup)
+        self.assertRegex(out, rb"(?m)^\d+ cue 1$")
+
+    def test_back_again(self):
+        """A main that is taken up later is not followed again: priority says whose light counts."""
+        main, backup = self.both(b"go\n")
+        main.kill()
+        backup.light(4)
+        time.sleep(2 * SILENCE / 1000)
+        main.begin()
+        main.light(2)
+        main.type(b"master 50\n")
+        main.light(4)
+        self.assertEqual((0, 0), (main.end(), backup.end()))
+        self.assertNotIn(b"master 50", backup.record.read_bytes())
+        self.assertStream(backup)
+        self.assertEqual({100, PRIORITY}, {each.packet[108] for each in main.heard + backup.heard})
+
+    def test_gone(self):
+        """A record that is deleted, that is replaced, or that lost lines ends the following."""
+        def replace(name):
+            os.replace(self.copied(name), name)
+
+        for lose in (os.remove, replace, lambda name: os.truncate(name, len(head(SHOW)) + 7)):
+            record, backup = self.written("0 tick", "25 tick")
+            time.sleep(0.2)
+            lose(record)
+            time.sleep(0.1)
+            self.assertEqual(0, backup.end())
+            self.assertTold(backup, rb"0:00:0\d the main's record is gone: goes on by itself\n")
+
+    def copied(self, name):
+        """A copy of a file."""
+        copy = Path(f"{name}.copy")
+        copy.write_bytes(name.read_bytes())
+        return copy
+
+    def test_input_ended(self):
+        """An input that ended while the main led is told when it is of use."""
+        main, backup = self.both(b"go\n")
+        backup.processes[-1].stdin.close()
+        backup.light(4)
+        main.kill()
+        time.sleep(3 * SILENCE / 1000)
+        backup.kill()
+        self.assertTold(backup, rb"0:00:0\d the main is silent: .*\n(.*\n)*input ended: the light holds")
+
+    def test_own_record(self):
+        """Its record is taken up by --resume as any other."""
+        main, backup = self.both(b"go\n")
+        main.kill()
+        backup.light(20)
+        backup.kill()
+        words = [str(each) for each in backup.words if each not in ("--follow", main.record)]
+        words.remove("--patience")
+        words.remove(str(SILENCE))
+        backup.words = words
+        backup.begin()
+        backup.light(4)
+        self.assertEqual(0, backup.end())
+
+
+class Refused(FollowTest):
+    def assertRefused(self, record, fault, *options, status=4, cid=BACKUP):
+        """Nothing is sent, and no record is begun."""
+        with receiving() as receiver:
+            own = self.folder / "own.play"
+            words = ["live", self.show, "--to", address_of(receiver), "--cid", cid, "--record", own]
+            words += ["--follow", record, "--patience", "200", *options]
+            done = subprocess.run([PROGRAM, *words], input=b"take\n", capture_output=True, timeout=PATIENCE)
+            self.assertEqual((status, b""), (done.returncode, done.stdout), done.stderr)
+            self.assertRegex(done.stderr, rb"^" + fault)
+            receiver.setblocking(False)
+            self.assertRaises(BlockingIOError, receiver.recv, 1500)
+            self.assertFalse(own.exists())
+
+    def setUp(self):
+        super().setUp()
+        self.show = self.folder / "show.asc"
+        self.show.write_bytes(SHOW)
+        self.record = self.folder / "main.play"
+
+    def test_heads(self):
+        for content, fault in (
+            (head(SHOW + b"\n"), rb"record: another show\n.*SHA-256"),
+            (head(SHOW, base=2), rb"record: another base\n.*give --base 2"),
+            (head(SHOW, cid=BACKUP), rb"record: the same cid as --cid: a backup has a CID of its own\n"),
+            (b"0 tick\n", rb"record: no record of live\n"),
+            (b"", rb"record: no record of live\n"),
+            (head(SHOW)[:-1], rb"record: no record of live\n"),
+        ):
+            self.record.write_bytes(content)
+            self.assertRefused(self.record, fault)
+        self.assertRefused(self.folder, rb"record: no record of live\n")
+        self.assertRefused(self.folder / "none", rb"device fault\n.*none: there is no such file", status=5)
+
+    def test_same_cid_of_a_main_that_is_on(self):
+        main = self.night()
+        main.begin()
+        main.light()
+        self.assertRefused(main.record, rb"record: the same cid as --cid", cid=CID)
+
+    def test_other_words(self):
+        words = ["live", self.show, "--to", "127.0.0.1", "--cid", CID, "--follow", self.record]
+        for more in (["--start", "1"], ["--record", "x", "--resume"], ["--patience", "60001"]):
+            self.assertEqual(2, run(*words, *more).status)

@@ -1,0 +1,433 @@
+"""`live --resume`: a night that is killed goes on, as one stream and one record."""
+
+import calendar
+import os
+import random
+import signal
+import subprocess
+import tempfile
+import time
+from pathlib import Path
+
+from program import CID, PROGRAM, TOP, run, text
+from restarts import HEAD, Ear, Judge, KilledNight, head, moments, sent_by
+from test_live import LiveTest, without_moments
+from wire import OPTIONS, SEQUENCE, TERMINATED, address_of, receiving
+
+# Two universes, in each of which something changes at nearly every tick of a move.
+SHOW = text(
+    "CUE 1", "UP 6", "CHAN 1@FL 2@70 3@H20",
+    "CUE 2", "UP 5", "DOWN 4", "CHAN 1@10 2@FL 4@FL",
+    "SUB 1", "CHAN 5@FL",
+    "PATCH 1 1<1@FL 2<2@FL 5<9@50",
+    "PATCH 1 1<513@60 2<514@FL 3<515@80 4<1024@FL",
+)  # fmt: skip
+SEED = int(os.environ.get("CUEPLAYER_SEED", 41))
+# In milliseconds: from a kill to the next packet at most, and how far moments may be off then.
+DARK, OFF = 500, 100
+# A restart may take so much longer where the script starts the program and its writer.
+BY_SCRIPT = 500
+HOUR = 3600
+# Lines with comments and keys, some that are refused, and one that is not recorded.
+HARD = b"goto 1 in 9 ! here\nGOTO  2\nback\nback\n\x1b[Ago\nwhere\ngroup 9 FL\n"
+
+
+def next_tick(moment):
+    """When a tick is due behind one at this moment."""
+    return max(25 * (moment // 25 + 1), moment + 23)
+
+
+class RestartTest(LiveTest):
+    SHOW = SHOW
+
+    def night(self, *options, show=SHOW, **kept):
+        """A night that may be killed; nothing of it runs yet."""
+        folder = Path(tempfile.mkdtemp(dir=self.folder))
+        night = KilledNight(folder, show, *options, **kept)
+        self.addCleanup(night.close)
+        return night
+
+    def killed(self, *lines, pause=0.3, **kept):
+        """A night that was killed so many seconds behind these lines."""
+        night = self.night(**kept)
+        night.begin()
+        night.light(2)
+        night.type(b"".join(lines))
+        time.sleep(pause)
+        night.kill()
+        return night
+
+    def assertEnds(self, night):
+        """The process that runs brings the night to its end."""
+        self.assertEqual(0, night.end())
+
+    def assertGoesOn(self, night):
+        """A night that was killed is taken up, and ends."""
+        night.begin()
+        night.light()
+        self.assertEnds(night)
+
+    def played(self, night, *options):
+        """The packets that `play` sends of a night's record."""
+        ear = Ear(receiving())
+        words = ["play", night.show, "--to", address_of(ear.receiver), "--cid", CID, *options]
+        outcome = run(*words, stdin=night.record.read_bytes())
+        time.sleep(0.1)
+        ear.close()
+        self.assertEqual((0, b""), (outcome.status, outcome.err))
+        return [each.packet for each in ear.heard]
+
+    def assertOne(self, night, *options, **source):
+        """The record is one, which `play` takes whole, and what was heard of all processes is its
+        stream. Answers the figures."""
+        judge = Judge(night, **source)
+        figures = judge.figures()
+        meant = [each.packet for each in judge.sent]
+        self.assertEqual(meant, self.played(night, *options))
+        self.assertEqual(len(meant) - 1, judge.places[-1])
+        record = night.record.read_bytes()
+        self.assertEqual(1, len(HEAD.findall(record)))
+        ticks = moments(record)
+        self.assertLessEqual(23, min(b - a for a, b in zip(ticks, ticks[1:])))
+        return figures
+
+    def assertTaken(self, night, *options, dark=DARK, **source):
+        """A night that has ended was taken up soon at each kill, and moments went on."""
+        figures = self.assertOne(night, *options, **source)
+        print(
+            f"    {len(night.kills)} kills: at most {max(figures.gaps):.0f} ms to the next packet,"
+            f" {figures.lost} packets lost, moments at most {figures.drift:.0f} ms off"
+        )
+        self.assertLess(max(figures.gaps), dark)
+        self.assertLess(figures.drift, OFF)
+
+
+class ByTheScript:
+    """Has the script start each process of a night, and with it one that writes the record."""
+
+    def night(self, *options, **kept):
+        environment = os.environ | {"CUEPLAYER": str(PROGRAM)}
+        return super().night(*options, program=TOP / "cueplayer", env=environment, **kept)
+
+    def assertTaken(self, night, *options, dark=DARK + BY_SCRIPT, **source):
+        super().assertTaken(night, *options, dark=dark, **source)
+
+
+class Kills(RestartTest):
+    def play(self, night, chance, kills):
+        """Moves without end, and kills in the midst of them, some at a night that just begins."""
+        night.begin()
+        night.light(2)
+        night.type(b"go\n")
+        for k in range(kills):
+            time.sleep(chance.uniform(0, 0.02) if k % 4 == 3 else chance.uniform(0.05, 0.4))
+            night.kill()
+            night.begin()
+            if k % 4 != 2:
+                night.light()
+                line = chance.choice((b"sub 1 %d\n", b"master %d\n"))
+                night.type(line % chance.randint(30, 100))
+        night.light()
+        self.assertEnds(night)
+
+    def test_kills(self):
+        """Eight processes that were killed, and the one that ends the night, are one stream."""
+        night = self.night()
+        self.play(night, random.Random(SEED), 8)
+        self.assertTaken(night)
+
+    def test_another_source(self):
+        """The same with a priority, a base, a name, and a CID however it is spelled."""
+        name = "M\u00e4in, priority 7, base 3, name x"
+        options = ("--priority", "150", "--base", "7", "--name", name)
+        night = self.night(*options, cid=CID.upper())
+        self.play(night, random.Random(SEED + 1), 2)
+        self.assertTaken(night, *options, priority=150, base=7, name=name)
+
+    def test_killed_before_the_packets(self):
+        """A tick may be recorded and not carried out: it costs one packet of each universe."""
+        night = self.killed(b"go\n")
+        last = moments(night.record.read_bytes())[-1]
+        with open(night.record, "ab") as record:
+            record.write(b"%d tick\n" % next_tick(last))
+        self.assertGoesOn(night)
+        self.assertEqual(2, self.assertOne(night).lost)
+
+    def test_killed_behind_end(self):
+        """A night that had ended in part ends by itself, with the packets that are left."""
+        night = self.killed(b"go\n")
+        last = moments(night.record.read_bytes())[-1]
+        with open(night.record, "ab") as record:
+            record.write(b"%d end\n%d tick\n" % (last + 1, next_tick(last)))
+        self.assertEqual(0, night.begin().wait(30))
+        time.sleep(0.1)
+        self.assertEqual(2, self.assertOne(night).lost)
+        _, _, behind = night.record.read_bytes().partition(b" end\n")
+        self.assertEqual(3, behind.count(b"\n"))
+
+    def test_hard_night(self):
+        """Whatever live has recorded is taken up: of floods, of a process that stood still, and of
+        lines that were refused or had keys in them."""
+        night = self.night()
+        night.begin()
+        night.light(2)
+        for _ in range(5):
+            night.type(HARD * 99)
+            night.processes[-1].send_signal(signal.SIGSTOP)
+            time.sleep(0.15)
+            night.processes[-1].send_signal(signal.SIGCONT)
+            time.sleep(0.02)
+        night.type(b"goto 2 in 5\n")
+        night.light(20)
+        night.kill()
+        self.assertGoesOn(night)
+        self.assertTaken(night)
+
+    def test_what_is_told(self):
+        """Nothing is shown again, and no fault is told."""
+        night = self.killed(b"go\nsub 1 50\n")
+        night.begin()
+        night.light()
+        night.type(b"where\nback\n")
+        self.assertEnds(night)
+        (first, _), (second, told) = night.told()
+        self.assertEqual(["ok", "cue 1", "ok"], without_moments(first))
+        where = "where cue 1 next 2 master 255 sub 1:128"
+        self.assertEqual([where, "refused AtStart", "ok", "ok"], without_moments(second))
+        lines = told.splitlines()
+        self.assertEqual([b"show:", b"sends:"], [line.split()[0] for line in lines[:2]])
+        self.assertTrue(lines[-1].startswith(b"end ends the night, "), lines)
+        self.assertNotIn(b"fault", told)
+
+    def test_two_at_once(self):
+        """Of processes that would take up one night at the same time one does, and no other."""
+        night = self.killed(b"go\n")
+        several = [night.begin() for _ in range(4)]
+        night.light()
+        until = time.monotonic() + 10
+        while len(there := [each for each in several if each.poll() is None]) > 1:
+            self.assertLess(time.monotonic(), until)
+            time.sleep(0.01)
+        self.assertEqual(1, len(there))
+        self.assertLessEqual({each.returncode for each in several if each not in there}, {4, 5})
+        night.processes.append(there[0])
+        self.assertEnds(night)
+        self.assertTaken(night)
+
+    def test_full_disk(self):
+        """Where such a night cannot be recorded, that is told once, and the light goes on."""
+        night = self.killed(b"go\n")
+        size = night.record.stat().st_size + 100
+        night.begin(limit=size)
+        night.light(40)
+        self.assertEqual(size, night.record.stat().st_size)
+        self.assertEnds(night)
+        told = night.told()[-1][1].splitlines()
+        self.assertEqual(1, told.count(b"record: device fault"), told)
+        self.assertTrue(night.heard[-1].packet[OPTIONS] & TERMINATED)
+
+
+class KillsByTheScript(ByTheScript, Kills):
+    """The same where a process of its own writes the record."""
+
+    def writer(self, night):
+        """The process that writes the record."""
+        for each in Path("/proc").glob("[0-9]*/fd/1"):
+            if each.exists() and os.path.samefile(each, night.record):
+                return int(each.parts[2])
+        return self.fail("no writer")
+
+    def go_on(self, writer):
+        try:
+            os.kill(writer, signal.SIGCONT)
+        except ProcessLookupError:
+            pass
+
+    def test_writer_that_stalls(self):
+        """A night is not taken up as long as its record is still written, and then whole."""
+        night = self.night()
+        night.begin()
+        night.light(2)
+        writer = self.writer(night)
+        os.kill(writer, signal.SIGSTOP)
+        self.addCleanup(self.go_on, writer)
+        night.type(b"go\n")
+        time.sleep(0.3)
+        before, heard = night.record.read_bytes(), len(night.heard)
+        night.kill()
+        refused = night.begin()
+        line = refused.stderr.readline()
+        self.assertRegex(line, rb"^record: in use( by process %d)?\n" % writer)
+        self.assertEqual((4, before), (refused.wait(30), night.record.read_bytes()))
+        self.assertEqual(heard, len(night.heard))
+        self.go_on(writer)
+        self.assertGoesOn(night)
+        self.assertOne(night)
+
+
+class Clock(RestartTest):
+    """The moments behind a restart, by the time at which FILE was written last."""
+
+    def taken_up(self, night, pause=0.0, shift=None):
+        """By how many milliseconds the moments go on in a restart after a pause, and how many have
+        passed from the time of FILE, which may be shifted by some seconds, to the first packet."""
+        time.sleep(pause)
+        if shift is not None:
+            os.utime(night.record, (time.time() + shift,) * 2)
+        before, written = night.record.read_bytes(), night.record.stat().st_mtime
+        heard = len(night.heard)
+        self.assertGoesOn(night)
+        last = moments(before, rb"\w")[-1]
+        first = moments(night.record.read_bytes()[len(before) :], rb"tick\n")[0]
+        return first - last, 1000 * (night.heard[heard].at - written)
+
+    def test_real_time(self):
+        """Within seconds they go on with real time: a move goes on as if nothing had happened."""
+        for pause in (0, 0.4, 1.2):
+            with self.subTest(pause=pause):
+                night = self.killed(b"go\n")
+                gone_on, real = self.taken_up(night, pause)
+                self.assertLess(abs(gone_on - real), OFF)
+                self.assertOne(night)
+
+    def test_an_hour_later(self):
+        """Of a longer time ten seconds count."""
+        for shift in (-11, -HOUR):
+            with self.subTest(shift=shift):
+                night = self.killed(b"go\n")
+                gone_on, _ = self.taken_up(night, shift=shift)
+                self.assertTrue(10_000 <= gone_on < 10_000 + DARK, gone_on)
+                self.assertOne(night)
+
+    def test_clock_that_ran_back(self):
+        """Where FILE was written later than now, nothing counts."""
+        night = self.killed(b"go\n")
+        gone_on, _ = self.taken_up(night, shift=HOUR)
+        self.assertTrue(23 <= gone_on < DARK, gone_on)
+        self.assertOne(night)
+
+    def test_clock_that_runs_to_and_fro(self):
+        """Twice killed and taken up thrice: one record, one stream."""
+        night = self.killed(b"go\n")
+        for shift in (-HOUR, HOUR, -HOUR):
+            os.utime(night.record, (time.time() + shift,) * 2)
+            night.begin()
+            night.light(8)
+            night.type(b"goto %d in 8\n" % (1 + len(night.kills) % 2))
+            night.light(8)
+            night.kill()
+        self.assertGoesOn(night)
+        self.assertOne(night)
+
+    def test_follow_on(self):
+        """A follow-on that was due meanwhile is made, at its own moment."""
+        cues = ("CUE 1", "FOLLOWON 1", "CHAN 1@50", "CUE 2", "UP 4", "CHAN 1@FL")
+        night = self.killed(b"go\n", show=text(*cues, "PATCH 1 1<1@FL"))
+        went = moments(night.record.read_bytes(), b"go")[0]
+        self.taken_up(night, 1.2)
+        self.assertOne(night)
+        shown = night.told()[-1][0].splitlines()
+        self.assertEqual(b"%d cue 2" % (went + 1000), shown[0])
+
+    def kept_alive(self, pause):
+        """A stage at rest, taken up after a pause: how long after the restart, and after the last
+        packet before it, the first one came."""
+        night = self.killed(
+            b"go\n", show=text("CUE 1", "CHAN 1@50", "PATCH 1 1<1@FL"), pause=0.4
+        )
+        time.sleep(pause)
+        begun = time.time()
+        self.taken_up(night)
+        self.assertOne(night)
+        first = next(k for k, each in enumerate(night.heard) if each.at > begun)
+        last, came = (night.heard[k].at for k in (first - 1, first))
+        return came - begun, came - last
+
+    def test_keep_alive(self):
+        """A packet that was due meanwhile comes at once, and one that was not when it is due."""
+        soon, _ = self.kept_alive(1)
+        self.assertLess(soon, DARK / 1000)
+        _, apart = self.kept_alive(0)
+        self.assertTrue(0.7 < apart < 0.8 + DARK / 1000, apart)
+
+    def test_past_the_number_255(self):
+        """Numbers go on, after a night of which the record alone is left."""
+        night = self.night()
+        lines = [(25 * k, b"tick") for k in range(400)]
+        lines += [(2480 + 2500 * k, b"goto %d" % (2 - k % 2)) for k in range(3)]
+        lines = [b"%d %s\n" % line for line in sorted([*lines, (3, b"go")])]
+        night.record.write_bytes(head(SHOW) + b"".join(lines))
+        before = len(list(sent_by(SHOW, night.record.read_bytes())))
+        self.assertGreater(before, 2 * 256)
+        self.assertGoesOn(night)
+        meant = [each.packet for each in sent_by(SHOW, night.record.read_bytes())]
+        self.assertEqual(meant[before:], [each.packet for each in night.heard])
+
+    def test_after_an_hour(self):
+        """A long record takes its time, and moments go on with real time all the same. At rest a
+        packet came each 800 ms, behind the four of the first ticks."""
+        night = self.night()
+        ticks = range(0, 1000 * HOUR, 25)
+        lines = b"".join(b"%d tick\n" % moment for moment in ticks)
+        night.record.write_bytes(head(SHOW) + lines)
+        gone_on, real = self.taken_up(night)
+        self.assertLess(abs(gone_on - real), OFF)
+        sent = 4 + (ticks[-1] - 75) // 800
+        numbers = [each.packet[SEQUENCE] for each in night.heard[::2]]
+        self.assertEqual([k % 256 for k in range(sent, sent + len(numbers))], numbers)
+
+
+class New(RestartTest):
+    """A FILE in which no night stands."""
+
+    def begun_in(self, content, *options, resume=True, **kept):
+        """A night that begins in a FILE of this content, none where that is None, and ends."""
+        night = self.night(*options, **kept)
+        if content is not None:
+            night.record.write_bytes(content)
+        night.begin(resume=resume)
+        night.light(2)
+        self.assertEnds(night)
+        return night
+
+    def test_no_night(self):
+        """Where FILE is not there, or is empty, the night begins, and that is told."""
+        for content in (None, b""):
+            with self.subTest(content):
+                night = self.begun_in(content)
+                self.assertOne(night)
+                ((_, told),) = night.told()
+                self.assertIn(b"record: %s is new\n" % bytes(night.record), told)
+
+    def test_head_alone(self):
+        """Of a night that was killed before its first line there is the head alone: it goes on."""
+        night = self.begun_in(head(SHOW))
+        self.assertTrue(night.record.read_bytes().startswith(head(SHOW)))
+        self.assertOne(night)
+
+    def test_head(self):
+        """The first line says whose the record is, may the night be taken up or not."""
+        self.assertHead(CID, "100", "1", resume=False)
+        self.assertHead(CID, "100", "1", cid=CID.replace("-", ""))
+        options = ("--priority", "7", "--base", "300")
+        self.assertHead(CID, "7", "300", *options, cid=f"{{{CID.upper()}}}")
+        for name in ("the backup, started last", "n" * 63):
+            self.assertHead(CID, "100", "1", "--name", name, name=name)
+
+    def assertHead(self, wanted, priority, base, *options, name="cueplayer", **kept):
+        before = time.time()
+        night = self.begun_in(None, *options, **kept)
+        after = time.time()
+        found = HEAD.match(night.record.read_bytes())
+        said = [found[key].decode() for key in ("cid", "priority", "base", "name")]
+        self.assertEqual([wanted, priority, base, name], said)
+        summed = subprocess.run(["sha256sum", night.show], capture_output=True)
+        self.assertEqual(summed.stdout.split()[0], found["show"])
+        whole, _, thousandths = found["started"].decode().rstrip("Z").partition(".")
+        seconds = calendar.timegm(time.strptime(whole, "%Y-%m-%dT%H:%M:%S"))
+        started = seconds + int(thousandths) / 1000
+        self.assertTrue(before - 0.002 < started < after, (before, started, after))
+
+
+class NewByTheScript(ByTheScript, New):
+    """The same where a process of its own writes the record."""

@@ -1,0 +1,193 @@
+"""What is tried: a receiver that is sent datagrams, and asked what it shows."""
+
+import re
+import shlex
+import socket
+import subprocess
+import time
+from collections.abc import Sequence
+from typing import Protocol
+
+from cueplayer_tools.conform.capture import group_of
+from cueplayer_tools.conform.expected import slots_of
+from cueplayer_tools.program import program, run
+from cueplayer_tools.rehearsal import Slots
+from cueplayer_tools.words import Refused, printable
+
+PORT = 5568
+# Sends each universe to its own multicast group, as in the words of the program.
+GROUPS = "239.255.0.0"
+PATIENCE = 10
+# Looks at all universes together take no longer, in seconds.
+LONGEST_LOOKS = 0.1
+
+
+class PeerFault(Exception):
+    """The peer ended or does not answer; the text says which."""
+
+
+class Peer(Protocol):
+    """A receiver of some universes, which do not touch each other."""
+
+    name: str
+    version: str
+    universes: Sequence[int]
+    # Whether time goes by for it. One that takes all as of one moment loses no source.
+    keeps_time: bool
+
+    def begin(self, universe: int) -> None:
+        """A case begins in this universe."""
+
+    def send(self, universe: int, data: bytes, sender: int) -> None:
+        """Sends a datagram from one of two sockets."""
+
+    def look(self, universe: int) -> Slots:
+        """The slots that it shows and that are not 0."""
+
+    def close(self) -> None:
+        """Ends what was begun for it."""
+
+
+class Clock:
+    """The time of a run, in milliseconds."""
+
+    def __init__(self) -> None:
+        self.begun = time.monotonic()
+
+    def now(self) -> int:
+        return int(1000 * (time.monotonic() - self.begun))
+
+    def wait_until(self, moment: int) -> None:
+        left = self.begun + moment / 1000 - time.monotonic()
+        if left > 0:
+            time.sleep(left)
+
+
+class SteppedClock(Clock):
+    """A clock that goes on as far as somebody waits, at once: for receivers that know no time, or
+    are told it."""
+
+    def __init__(self) -> None:
+        super().__init__()
+        self.moment = 0
+
+    def now(self) -> int:
+        return self.moment
+
+    def wait_until(self, moment: int) -> None:
+        self.moment = max(self.moment, moment)
+
+
+class Sockets:
+    """Two sockets of one address that send to a receiver, or each universe to its group."""
+
+    def __init__(self, to: str = "127.0.0.1", port: int = PORT, source: str = "") -> None:
+        self.to, self.port = to, port
+        self.sockets = [socket.socket(socket.AF_INET, socket.SOCK_DGRAM) for _ in range(2)]
+        for each in self.sockets if source else ():
+            card = socket.inet_aton(source)
+            try:
+                each.bind((source, 0))
+                each.setsockopt(socket.IPPROTO_IP, socket.IP_MULTICAST_IF, card)
+            except OSError as fault:
+                raise Refused(f"no card has {source}: {fault.strerror}") from fault
+
+    def send(self, universe: int, data: bytes, sender: int) -> None:
+        host = group_of(universe) if self.to == GROUPS else self.to
+        try:
+            self.sockets[sender].sendto(data, (host, self.port))
+        except OSError as fault:
+            raise Refused(f"{host}:{self.port}: {fault.strerror}") from fault
+
+    def close(self) -> None:
+        for each in self.sockets:
+            each.close()
+
+
+class CommandPeer:
+    """A receiver of the user's, and a command that prints a slots line of what it shows. In the
+    command `{universe}` stands for the universe that is asked for."""
+
+    keeps_time = True
+
+    def __init__(self, command: str, universes: Sequence[int], sockets: Sockets) -> None:
+        self.words = shlex.split(command)
+        if not self.words:
+            raise Refused("--command names no program")
+        self.name, self.version = printable(command), "unknown"
+        self.sockets = sockets
+        self.look(universes[0])
+        begun = time.monotonic()
+        self.look(universes[0])
+        # While it looks at one universe, no datagram goes to another.
+        at_a_time = int(LONGEST_LOOKS / (time.monotonic() - begun))
+        self.universes = universes[: max(1, at_a_time)]
+
+    def begin(self, universe: int) -> None:
+        pass
+
+    def send(self, universe: int, data: bytes, sender: int) -> None:
+        self.sockets.send(universe, data, sender)
+
+    def look(self, universe: int) -> Slots:
+        words = [word.replace("{universe}", str(universe)) for word in self.words]
+        try:
+            done = subprocess.run(words, capture_output=True, timeout=PATIENCE, check=False)
+        except subprocess.TimeoutExpired as fault:
+            raise PeerFault(f"the command gives no answer within {PATIENCE} s") from fault
+        except OSError as fault:
+            raise Refused(f"{printable(words[0])}: {fault.strerror}") from fault
+        return slots_in(done.stdout.decode("latin-1"))
+
+    def close(self) -> None:
+        self.sockets.close()
+
+
+def slots_in(printed: str) -> Slots:
+    """The slots of the last slots line of a text."""
+    lines = [line for line in printed.splitlines() if re.match(r"slots( \d+:\d+)*\s*$", line)]
+    if not lines:
+        raise PeerFault(f"no slots line in what the command prints: {printable(printed)!r}")
+    return slots_of(lines[-1])
+
+
+class OwnPeer:
+    """`cueplayer listen`, begun anew for each look, with all datagrams of the case so far."""
+
+    keeps_time = False
+
+    def __init__(self) -> None:
+        self.name = "cueplayer listen"
+        version = run("--version").printed.splitlines()
+        self.version = version[0].removeprefix("cueplayer ") if version else "unknown"
+        self.universes: Sequence[int] = range(1, 100)
+        self.came: dict[int, list[tuple[bytes, int]]] = {}
+        self.sockets = [socket.socket(socket.AF_INET, socket.SOCK_DGRAM) for _ in range(2)]
+
+    def begin(self, universe: int) -> None:
+        self.came[universe] = []
+
+    def send(self, universe: int, data: bytes, sender: int) -> None:
+        self.came[universe].append((data, sender))
+
+    def look(self, universe: int) -> Slots:
+        came = self.came[universe]
+        words = [program(), "listen", "127.0.0.1:0", str(universe), str(len(came))]
+        pipes = {"stdout": subprocess.PIPE, "stderr": subprocess.PIPE}
+        with subprocess.Popen(words, text=True, **pipes) as child:
+            assert child.stderr is not None
+            told = child.stderr.readline()
+            if not told.startswith("listening at "):
+                raise PeerFault(f"listen: {told.strip()}")
+            host, port = told.split()[2].split(":")
+            for data, sender in came:
+                self.sockets[sender].sendto(data, (host, int(port)))
+            try:
+                return slots_in(child.communicate(timeout=PATIENCE)[0])
+            except subprocess.TimeoutExpired as fault:
+                child.kill()
+                raise PeerFault("listen: not all datagrams came") from fault
+
+    def close(self) -> None:
+        for each in self.sockets:
+            each.close()

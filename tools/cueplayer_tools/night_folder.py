@@ -1,0 +1,146 @@
+"""The folder of a night that `cueplayer-night` keeps going: its words, its FIFO and its replies.
+
+The FIFO has a reader as long as `live` plays. It is opened for each line and never waited for, so a
+line is handed on now or never, and whole: one write.
+"""
+
+import argparse
+import fcntl
+import os
+import re
+import stat
+import struct
+import termios
+import time
+import uuid
+from pathlib import Path
+
+from cueplayer_tools.words import Refused, printable
+
+# Seconds for which a line may lie unread, and `live` be away: it is started again at once.
+LATE = 1.0
+# The options of `live` that have no value.
+FLAGS = ("--any-route", "--end-with-input")
+# More than `end` and the three ticks behind it have.
+_LAST_LINES = 500
+_ENDED = re.compile(r"\d+ end[^\n]*(?:\n\d+ tick){3}\n\Z", re.ASCII | re.IGNORECASE)
+
+
+def _options_in(words: list[str]) -> dict[str, list[str]]:
+    """The values of options, which are joined to them by `=` or stand behind them."""
+    options: dict[str, list[str]] = {}
+    rest = iter(words)
+    for word in rest:
+        name, is_joined, value = word.partition("=")
+        if word not in FLAGS:
+            options.setdefault(name, []).append(value if is_joined else next(rest, ""))
+    return options
+
+
+class NightFolder:
+    """A folder in which a night is played, or was."""
+
+    def __init__(self, path: str) -> None:
+        self.path = Path(path)
+        self.fifo = self.path / "in"
+        self.replies = self.path / "replies"
+        # Since when there was always something unread at a look, and since when no `live` was
+        # there; None where that was not so.
+        self.unread_since: float | None = None
+        self.away_since: float | None = None
+
+    def words(self) -> argparse.Namespace:
+        """What `live` plays: the show, where to and by which card, the CID and the base; Refused
+        where the folder does not say."""
+        try:
+            show, *words = (self.path / "night").read_text("utf-8").split("\n")[:-1]
+            options = _options_in(words)
+            (cid,) = map(uuid.UUID, options["--cid"])
+            (base,) = map(int, options.get("--base", ["1"]))
+            (card,) = options.get("--interface", [None])
+            way = {"to": options["--to"], "interface": card}
+            return argparse.Namespace(show=show, cid=cid, base=base, **way)
+        except OSError as fault:
+            raise Refused(f"no night in {self.path}: {fault.strerror}") from fault
+        except (KeyError, ValueError) as fault:
+            raise Refused(f"the words in {self.path}/night are none of a night") from fault
+
+    def live(self) -> str:
+        """The number of the process that plays, as the folder has it."""
+        try:
+            return printable((self.path / "pid").read_text("ascii").strip())
+        except (OSError, ValueError):
+            return "unknown"
+
+    def is_played(self) -> bool:
+        """Whether a `live` reads the FIFO."""
+        try:
+            os.close(self._opened())
+        except Refused:
+            return False
+        return True
+
+    def is_away(self) -> bool:
+        """Whether at each look for a second no `live` was there."""
+        now = time.monotonic()
+        if self.is_played():
+            self.away_since = None
+        elif self.away_since is None:
+            self.away_since = now
+        return self.away_since is not None and now - self.away_since > LATE
+
+    def has_ended(self) -> bool:
+        """Whether the record ends with its `end` and the three ticks behind it."""
+        try:
+            with (self.path / "record").open("rb") as record:
+                size = record.seek(0, os.SEEK_END)
+                record.seek(max(size - _LAST_LINES, 0))
+                return _ENDED.search(record.read().decode("latin-1")) is not None
+        except OSError:
+            return False
+
+    def refusal(self) -> str:
+        """Why no line is taken, and what to do."""
+        return f"no live plays the night in {self.path}: `cueplayer-night {self.path} start` does"
+
+    def give(self, line: str) -> None:
+        """Hands a line on, or refuses it: it is never handed on later."""
+        pipe = self._opened()
+        try:
+            if self._stands_still(pipe):
+                raise Refused("live does not answer: nothing was sent")
+            os.write(pipe, line.encode() + b"\n")
+        except (BlockingIOError, BrokenPipeError) as fault:
+            raise Refused("live takes no line now: nothing was sent") from fault
+        finally:
+            os.close(pipe)
+
+    def stands_still(self) -> bool:
+        """Whether lines were unread at each look for a second."""
+        try:
+            pipe = self._opened()
+        except Refused:
+            return False
+        try:
+            return self._stands_still(pipe)
+        finally:
+            os.close(pipe)
+
+    def _opened(self) -> int:
+        try:
+            pipe = os.open(self.fifo, os.O_WRONLY | os.O_NONBLOCK)
+        except OSError as fault:
+            raise Refused(f"{self.refusal()}; nothing was sent") from fault
+        if stat.S_ISFIFO(os.fstat(pipe).st_mode):
+            return pipe
+        os.close(pipe)
+        raise Refused(f"{self.fifo} is no FIFO: nothing was sent")
+
+    def _stands_still(self, pipe: int) -> bool:
+        unread = struct.unpack("@i", fcntl.ioctl(pipe, termios.FIONREAD, bytes(4)))[0]
+        now = time.monotonic()
+        if not unread:
+            self.unread_since = None
+        elif self.unread_since is None:
+            self.unread_since = now
+        return self.unread_since is not None and now - self.unread_since > LATE
