@@ -244,7 +244,7 @@ fn follow<F: Fader>(
 {
     for _turn in 0..u64::MAX {
         match night.follow(main, link) {
-            Pause::Asked => night.show_place(main.booth()),
+            Pause::Asked => night.show_place(main.booth(), link),
             Pause::Ended => return Ok(()),
             Pause::Other => return Err(JobFault::Record(Refusal::main_line(main.number()))),
         }

@@ -12,6 +12,7 @@ mod cid_lock;
 mod fault;
 mod input;
 mod lock_holder;
+mod machine;
 mod messages;
 mod neighbors;
 mod network;
@@ -34,6 +35,7 @@ pub use cards::{Card, CardName, CardState, Cards, card_state};
 pub use cid_lock::{CidLock, LockFault, PathText};
 pub use fault::DeviceFault;
 pub use input::SystemInput;
+pub use machine::{Keyboard, SystemClock};
 pub use messages::Messages;
 pub use network::{
     GROUPS, Leaving, MOST_SOURCES, Network, Path, PathState, Source, SourceState, is_multicast,
@@ -44,6 +46,6 @@ pub use record_file::{Pause, RecordFault, RecordFile};
 pub use record_lock::remove_unused_record;
 pub use routes::{Route, route_to};
 pub use socket::{AddressText, ReceivingSocket, SocketFault};
-pub use typed_input::{Came, TypedInput};
+pub use typed_input::TypedInput;
 pub use watched_output::WatchedOutput;
 pub use writers::{PipedOutput, wait_for_writers};
