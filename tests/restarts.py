@@ -187,6 +187,8 @@ class KilledNight:
         self.processes: list[subprocess.Popen] = []
         self.spare: subprocess.Popen | None = None
         self.kills: list[Kill] = []
+        # The lines of standard error that were waited for, by process.
+        self.lines: dict[int, list[bytes]] = {}
         witness()
 
     def begin(
@@ -297,9 +299,23 @@ class KilledNight:
         self.ear.settle()
         return status
 
+    def tells(self, pattern: bytes) -> None:
+        """Waits until the process that plays tells a line that begins so on standard error."""
+        night = self.processes[-1]
+        lines = self.lines.setdefault(night.pid, [])
+        while not (lines and re.match(pattern, lines[-1])):
+            if not select.select([night.stderr], [], [], PATIENCE)[0]:
+                raise Wrong(f"{pattern} is not told: {lines}")
+            lines.append(night.stderr.readline())
+            if not lines[-1]:
+                raise Wrong(f"{pattern} is not told: {lines}")
+
     def told(self) -> list[tuple[bytes, bytes]]:
         """What each process printed and told. None of them runs any more."""
-        return [(each.stdout.read(), each.stderr.read()) for each in self.processes]
+        return [
+            (each.stdout.read(), b"".join(self.lines.get(each.pid, [])) + each.stderr.read())
+            for each in self.processes
+        ]
 
     def close(self) -> None:
         for each in [*self.processes, *([self.spare] if self.spare else [])]:
