@@ -22,7 +22,7 @@ from expected import show as shows
 from expected.desk import Desk
 from expected.script import Console
 from expected.words import lines_of, uuid
-from machine import Took, by_clock, witness
+from machine import Took, by_clock
 from program import CID, PROGRAM
 from wire import SEQUENCE, address_of, receiving
 
@@ -189,7 +189,6 @@ class KilledNight:
         self.kills: list[Kill] = []
         # The lines of standard error that were waited for, by process.
         self.lines: dict[int, list[bytes]] = {}
-        witness()
 
     def begin(
         self, *options: str, resume: bool = True, limit: int | None = None
@@ -224,7 +223,8 @@ class KilledNight:
             for each in Path(f"/proc/{process.pid}/fd").iterdir():
                 if os.path.samefile(each, self.record):
                     told = Path(f"/proc/{process.pid}/fdinfo", each.name).read_text()
-                    if int(re.search(r"flags:\s*(\d+)", told)[1], 8) & os.O_ACCMODE != os.O_WRONLY:
+                    flags = int(re.search(r"flags:\s*(\d+)", told)[1], 8)
+                    if flags & os.O_ACCMODE != os.O_WRONLY:
                         return True
         return False
 

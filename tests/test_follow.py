@@ -9,7 +9,7 @@ from pathlib import Path
 
 from machine import by_clock, in_time, took
 from program import CID, PROGRAM, run
-from restarts import PATIENCE, KilledNight, head, moments, sent_by, universe_of, wait_until
+from restarts import PATIENCE, head, moments, sent_by, universe_of, wait_until
 from test_restart import SHOW, ByTheScript, RestartTest
 from wire import OPTIONS, SLOT_1, TERMINATED, address_of, receiving
 

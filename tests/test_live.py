@@ -9,7 +9,7 @@ import threading
 import time
 from pathlib import Path
 
-from machine import Took, in_time, took, witness
+from machine import Took, in_time, took
 from program import CID, PROGRAM, START, Outcome, behind_head, packet, run, text, told
 from wire import OPTIONS, SEQUENCE, SLOT_1, TERMINATED, ReceiverTest
 from wire import address_of, received, receiving, terminal
@@ -39,10 +39,6 @@ class LiveTest(ReceiverTest):
     env: dict[str, str] | None = None
     # When the newest program was started.
     at = 0.0
-
-    def setUp(self):
-        super().setUp()
-        witness()
 
     def words(self, *options, cid=CID, to=None, holds=False):
         """A night that ends with its input, unless it is to hold the light."""

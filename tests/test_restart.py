@@ -12,7 +12,7 @@ from pathlib import Path
 
 from machine import by_clock, in_time
 from program import CID, PROGRAM, TOP, run, text
-from restarts import PATIENCE, HEAD, Ear, Judge, KilledNight, Wrong, head, moments, sent_by, wait_until
+from restarts import HEAD, Ear, Judge, KilledNight, Wrong, head, moments, sent_by, wait_until
 from test_live import LiveTest, without_moments
 from wire import OPTIONS, SEQUENCE, TERMINATED, address_of, receiving
 
