@@ -9,6 +9,7 @@ import time
 from pathlib import Path
 
 from program import CID, DEVICE_FAULT, PROGRAM, UNFIT, ProgramTest, packet, run, told
+from tooling import stand_still
 from wire import free_port
 from worked import heard, look_one, with_examples
 
@@ -88,7 +89,7 @@ class Listen(ProgramTest):
     def test_udp_source(self):
         """The datagrams wait at the socket: all were sent before the first is taken."""
         listener = self.listener(count=3)
-        listener.child.send_signal(signal.SIGSTOP)
+        stand_still(listener.child.pid)
         listener.send(*DATAGRAMS)
         listener.child.send_signal(signal.SIGCONT)
         self.assertEqual((0, THREE, b""), listener.close())

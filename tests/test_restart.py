@@ -14,6 +14,7 @@ from machine import by_clock, in_time
 from program import CID, PROGRAM, TOP, run, text
 from restarts import HEAD, Ear, Judge, KilledNight, Wrong, head, moments, sent_by, wait_until
 from test_live import LiveTest, without_moments
+from tooling import stand_still
 from wire import OPTIONS, SEQUENCE, TERMINATED, address_of, receiving
 
 # Two universes, in each of which something changes at nearly every tick of a move.
@@ -189,7 +190,7 @@ class Kills(RestartTest):
         night.light(2)
         for _ in range(5):
             night.type(HARD * 99)
-            night.processes[-1].send_signal(signal.SIGSTOP)
+            stand_still(night.processes[-1].pid)
             time.sleep(0.15)
             night.processes[-1].send_signal(signal.SIGCONT)
             time.sleep(0.02)
@@ -264,7 +265,7 @@ class KillsByTheScript(ByTheScript, Kills):
         night.begin()
         night.light(2)
         writer = self.writer(night)
-        os.kill(writer, signal.SIGSTOP)
+        stand_still(writer)
         self.addCleanup(self.go_on, writer)
         night.type(b"go\n")
         night.light(20)
