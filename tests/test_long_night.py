@@ -157,6 +157,16 @@ class LongNight(LiveTest):
             self.assertLess(place, len(shown), "a press is not shown")
             yield took(at, shown[place][0])
 
+    def assertRealTime(self, lines):
+        """Each press is recorded at the moment at which it was made, or a turn later: the clock of
+        the night is the machine's from its first minute to its last."""
+        moments = [int(moment) / 1000 for moment, *words in lines if words[:2] == ["sub", "1"]]
+        self.assertEqual(len(self.presses), len(moments))
+        zeros = [pressed - moment for moment, (pressed, _) in zip(moments, self.presses)]
+        for (pressed, _), zero in zip(self.presses, zeros):
+            late = took(pressed, pressed + max(zeros) - zero)
+            in_time(late, TURN + ALLOWED, "a press by its moment")
+
     def replayed(self):
         """The digest of what `play` of the record sends, four lines at a time."""
         words = [PROGRAM, "play", *self.words(holds=True)[1:]]
@@ -192,6 +202,7 @@ class LongNight(LiveTest):
             in_time(self.between(before, after), APART + ALLOWED, f"the tick behind {before}")
         for press in presses:
             in_time(press, TURN + ALLOWED, "a press")
+        self.assertRealTime(lines)
         for universe in range(1, UNIVERSES + 1):
             numbers = [number for _, which, number, _, _ in self.heard.came if which == universe]
             self.assertEqual([k % 256 for k in range(len(numbers))], numbers)
