@@ -14,10 +14,11 @@ import uuid
 from unittest import mock
 
 from desks import SHOW, DeskTest, Page
+from machine import in_time, took
 from program import CID, behind_head, packet, text
 from test_osc import GREATEST_DOUBLE, message
 from tooling import PATIENCE, TOOLS, Started, run_tool, wait_for
-from wire import OPTIONS, TERMINATED, address_of, own_network, receiving
+from wire import OPTIONS, TERMINATED, free_port, own_network
 
 from cueplayer_tools import desk_night
 from cueplayer_tools.cue_list import read_show
@@ -118,14 +119,15 @@ class Playback(DeskTest):
         lines = ("CUE 1", "FOLLOWON 3", "CUE 2", "UP 3", "CHAN 1@FL", "PATCH 1 1<1@FL")
         self.show.write_bytes(text(*lines))
         _, page = self.opened()
+        pressed = time.monotonic()
         page.command("go")
         page.wait(current="1", next="2")
-        began = time.monotonic()
         time.sleep(1)
-        self.assertEqual("1", page.state["current"])
+        current = page.state["current"]
+        if took(pressed).ms < 3000:
+            self.assertEqual("1", current)
         fade = page.wait(current="2", next=None)["fade"]
-        # On a busy machine the page has heard of the first move late.
-        self.assertGreater(time.monotonic() - began, 1.5)
+        self.assertGreaterEqual(took(pressed).ms, 3000)
         self.assertEqual(3000, fade["whole"])
         self.wait_for_level(255)
 
@@ -162,7 +164,7 @@ class Ends(DeskTest):
         os.kill(desk.live, signal.SIGKILL)
         before = time.monotonic()
         page.wait(status=-signal.SIGKILL)
-        self.assertLess(time.monotonic() - before, 10)
+        in_time(took(before), 10_000, "the page")
 
     def test_control_c(self):
         """At the first the night goes on; the second ends it, and tells receivers."""
@@ -208,8 +210,7 @@ class Ends(DeskTest):
         desk.process.wait()
         time.sleep(0.3)
         self.came()
-        time.sleep(1.2)
-        self.assertEqual({128}, self.shown())
+        self.assertEqual({128}, wait_for(self.shown, "light"))
         again = run_tool("desk", self.show, "--to", self.to, "--cid", self.cid.upper())
         told = f"desk: process {live} plays live under this CID already: `kill {live}` ends it\n"
         self.assertEqual((1, told), (again.returncode, again.stderr))
@@ -277,8 +278,7 @@ class Beside(DeskTest):
 
     def test_levels(self):
         """Where nobody else receives at the address the grid does, and it shows what came."""
-        with receiving() as free:
-            to = address_of(free)
+        to = f"127.0.0.1:{free_port()}"
         _, page = self.opened("--grid", to=to)
         page.command("sub 1 50")
         levels = (bytes([128]) + bytes(511)).hex()
@@ -292,8 +292,7 @@ class Beside(DeskTest):
 
     def test_other_sources(self):
         """Each is named as long as it is heard; of more than eight the rest are counted."""
-        with receiving() as free:
-            to = address_of(free)
+        to = f"127.0.0.1:{free_port()}"
         _, page = self.opened("--grid", to=to)
         host, port = to.split(":")
         with socket.socket(socket.AF_INET, socket.SOCK_DGRAM) as other:
