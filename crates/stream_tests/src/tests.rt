@@ -1,3 +1,4 @@
+mod machine;
 mod memory;
 mod packet;
 mod receiver;
