@@ -96,14 +96,15 @@ class Page:
     def request(self, method, name, body=None, path=None, **headers):
         """The status and the answer of a request; a header of None is left out."""
         sent = {"Host": self.host, "Origin": self.origin, **headers}
-        if method == "POST" and "Desk_Time" not in headers:
-            sent["Desk_Time"] = self.desk_time()
+        if method == "POST":
+            sent.setdefault("Desk_Time", self.desk_time())
+            sent.setdefault("Desk_State", self.state.get("number", 0))
         connection = http.client.HTTPConnection(self.host, timeout=PATIENCE)
         try:
             connection.putrequest(method, (path or self.path) + name, skip_host=True)
             for header, value in sent.items():
                 if value is not None:
-                    connection.putheader(header.replace("_", "-"), value)
+                    connection.putheader(header.replace("_", "-"), str(value))
             if body is not None:
                 connection.putheader("Content-Length", str(len(body)))
             connection.endheaders(body)
@@ -135,7 +136,8 @@ class DeskTest(ReceiverTest):
     def begun(self, *options, to=None):
         """A desk whose night has begun, and its address."""
         self.cid = self.new_cid()
-        words = (self.show, "--to", to or self.to, "--cid", self.cid, *options)
+        # Most tests press faster than a hand; the latest of an option counts.
+        words = (self.show, "--to", to or self.to, "--cid", self.cid, "--double-go", 0, *options)
         desk = Started(self, "desk", *words)
         line = desk.out.next()
         self.assertRegex(line or "", r"^desk: http://127\.0\.0\.1:\d+/[\w-]{32}/$")

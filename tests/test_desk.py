@@ -568,7 +568,7 @@ page.request("GET", "/" + path + "events")
 events = page.getresponse()
 now = next(line for line in events if line.startswith(b"id: "))[4:].strip().decode()
 other = http.client.HTTPConnection(host, timeout=20)
-own = {"Origin": "http://" + host, "Desk-Time": now}
+own = {"Origin": "http://" + host, "Desk-Time": now, "Desk-State": "0"}
 other.request("POST", "/" + path + "command", "sub 1 50", own)
 other.getresponse().read()
 for line in events:

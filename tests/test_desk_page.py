@@ -253,6 +253,50 @@ class DeskPage(DeskTest):
         state.command("sub 1 FL")
         self.assertIsNone(state.wait(masters={"sub 1": 255})["current"])
 
+    def test_double_click(self):
+        """Two clicks on GO, or a key that is held, are one GO; after a while the next is taken."""
+        _, page, state = self.shown_page("--double-go", 400)
+        for _ in range(2):
+            page.click("document.getElementById('go')")
+        state.wait(current="1", waiting=0)
+        wait_for(state.notices, "the second is told")
+        self.assertRegex(state.notices()[0], "^go: (a second GO|another cue|a move is on its way)")
+        page.wait("document.getElementById('alarms').innerText.includes('nothing was sent')")
+
+        def goes_on():
+            page.press(" ", "Space", " ")
+            return state.state["current"] == "1.5"
+
+        wait_for(goes_on, "the next GO")
+
+    def test_held_key(self):
+        """A key that is held down is one press."""
+        _, page, state = self.shown_page()
+        page.call("Page.bringToFront")
+        key = {"key": " ", "code": "Space", "windowsVirtualKeyCode": 32, "text": " "}
+        page.call("Input.dispatchKeyEvent", type="keyDown", **key)
+        for _ in range(20):
+            page.call("Input.dispatchKeyEvent", type="keyDown", autoRepeat=True, **key)
+        page.call("Input.dispatchKeyEvent", type="keyUp", **key)
+        state.wait(current="1", waiting=0)
+        state.command("sub 1 FL")
+        self.assertEqual("1", state.wait(masters={"sub 1": 255})["current"])
+        self.assertEqual([], state.notices())
+
+    def test_silent_desk(self):
+        """Two seconds after the last word the buttons are grey, and presses do nothing, then or
+        later."""
+        desk, page, state = self.shown_page()
+        stand_still(desk.process.pid)
+        page.wait("document.getElementById('go').getAttribute('aria-disabled') === 'true'")
+        page.press(" ", "Space", " ")
+        page.click("document.getElementById('go')")
+        os.kill(desk.process.pid, signal.SIGCONT)
+        page.wait("document.getElementById('go').getAttribute('aria-disabled') === 'false'")
+        state.command("sub 1 FL")
+        self.assertIsNone(state.wait(masters={"sub 1": 255})["current"])
+        self.assertEqual([], state.notices())
+
     def test_many_pages(self):
         """Four pages of a browser listen, so that presses have a way; a fifth is told."""
         _, first, state = self.shown_page()

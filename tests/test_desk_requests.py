@@ -9,7 +9,8 @@ import socket
 import time
 
 from desks import DeskTest, Page
-from tooling import stand_still, wait_for
+from program import text
+from tooling import run_tool, stand_still, wait_for
 
 from cueplayer_tools.desk_requests import LONGEST_HEAD, Unreadable, request_in
 
@@ -32,7 +33,8 @@ class Requests(DeskTest):
         """A command as bytes, which names this size."""
         head = (
             f"POST {page.path}command HTTP/1.1\r\nHost: {page.host}\r\nOrigin: {page.origin}\r\n"
-            f"Desk-Time: {page.desk_time()}\r\nContent-Length: {size or len(body)}\r\n\r\n"
+            f"Desk-Time: {page.desk_time()}\r\nDesk-State: {page.state['number']}\r\n"
+            f"Content-Length: {size or len(body)}\r\n\r\n"
         )
         return head.encode() + body
 
@@ -62,6 +64,9 @@ class Requests(DeskTest):
                 whole.replace(b"Content", b"Content-Length: 1\r\nContent"),
                 whole.replace(b"Content", b"Transfer-Encoding: chunked\r\nContent"),
                 whole.replace(b"Desk-Time", b"Other"),
+                whole.replace(b"Desk-State", b"Other"),
+                whole.replace(b"Desk-State: ", b"Desk-State: 9"),
+                whole.replace(b"Desk-State: ", b"Desk-State: -"),
             ),
             413: (
                 whole.replace(b"Length: 2", b"Length: 201"),
@@ -177,7 +182,8 @@ class Late(DeskTest):
         host, port = page.host.split(":")
         head = (
             f"POST {page.path}command HTTP/1.1\r\nHost: {page.host}\r\nOrigin: {page.origin}\r\n"
-            f"Desk-Time: {page.desk_time()}\r\nContent-Length: 2\r\n\r\ngo"
+            f"Desk-Time: {page.desk_time()}\r\nDesk-State: {page.state['number']}\r\n"
+            "Content-Length: 2\r\n\r\ngo"
         )
         stand_still(desk.process.pid)
         with socket.create_connection((host, int(port)), timeout=10) as connection:
@@ -205,3 +211,84 @@ class Late(DeskTest):
         page.wait(late=False, current=None, masters={})
         page.command("goto 2")
         page.wait(current="2", masters={})
+
+
+class TooMany(DeskTest):
+    """No GO is carried out twice, or for another cue than the page showed as next."""
+
+    def test_double_go(self):
+        """A second GO within the time is refused, and told; one behind it is taken."""
+        desk, page = self.opened("--double-go", 10_000)
+        self.assertEqual(204, page.command("go", Desk_Time=page.desk_time()))
+        page.wait(current="1", waiting=0)
+        self.assertEqual(409, page.command("go"))
+        told = r"^go: a second GO \d+ ms after the first: nothing was sent$"
+        wait_for(page.notices, "a notice")
+        self.assertRegex(page.notices()[0], told)
+        for line, cue in (("back", None), ("goto 1.5", "1.5")):
+            page.command(line)
+            page.wait(current=cue or "1", waiting=0)
+        self.assertEqual(409, page.command("go"))
+        page.command("sub 1 FL")
+        self.assertEqual("1.5", page.wait(masters={"sub 1": 255})["current"])
+
+    def test_usual_time(self):
+        """It is 400 ms where nothing else is said, from press to press."""
+        desk, page = self.opened("--double-go", 400)
+        wait_for(lambda: int(page.desk_time()) > 1500, "the desk's clock")
+        self.assertEqual(204, page.command("go", Desk_Time=page.desk_time(ago=600)))
+        page.wait(current="1", waiting=0)
+        self.assertEqual(204, page.command("go"))
+        page.wait(current="1.5", waiting=0)
+        words = run_tool("desk", "--help").stdout
+        self.assertRegex(" ".join(words.split()), r"--double-go MS a second GO .* \(400\)")
+        for word in ("-1", "x", "10001", "1.5"):
+            done = run_tool("desk", self.show, "--to", self.to, f"--double-go={word}")
+            self.assertEqual(2, done.returncode)
+
+    def test_state_that_is_over(self):
+        """GO and BACK count for the cue that the page showed as next; other presses for any."""
+        _, page = self.opened()
+        before = page.state["number"]
+        self.assertEqual(204, page.command("go", Desk_State=before))
+        page.wait(current="1", waiting=0)
+        for line in ("go", "back", "GO"):
+            self.assertEqual(409, page.command(line, Desk_State=before))
+        why = "another cue is next than when it was pressed: nothing was sent"
+        wait_for(lambda: f"go: {why}" in page.notices(), why)
+        for line in ("sub 1 FL", "goto 1.5"):
+            self.assertEqual(204, page.command(line, Desk_State=before))
+        page.wait(current="1.5", masters={"sub 1": 255}, waiting=0)
+        # What changes beside the cues makes no press an old one.
+        seen = page.state["number"]
+        page.command("sub 1 50")
+        page.wait(masters={"sub 1": 128}, waiting=0)
+        self.assertEqual(204, page.command("go", Desk_State=seen))
+        page.wait(current="2")
+        for ahead in (page.state["number"] + 1000, "9" * 15, "", "x", "-1", None):
+            self.assertEqual(400, page.command("back", Desk_State=ahead))
+
+    def test_move_on_its_way(self):
+        """A GO behind one that has no answer yet is refused: the page still shows the old cue."""
+        desk, page = self.opened()
+        stand_still(desk.live)
+        self.assertEqual(204, page.command("go"))
+        self.assertEqual(409, page.command("go"))
+        os.kill(desk.live, signal.SIGCONT)
+        told = "go: a move is on its way: nothing was sent"
+        wait_for(lambda: told in page.notices() or page.state["current"] == "1", told)
+        page.command("sub 1 FL")
+        self.assertIn(page.wait(masters={"sub 1": 255})["current"], ("1", None))
+
+    def test_follow_on(self):
+        """A GO that was pressed as a cue went by itself does not skip it."""
+        lines = ("CUE 1", "FOLLOWON 1", "CUE 2", "CUE 3", "CHAN 1@FL", "PATCH 1 1<1@FL")
+        self.show.write_bytes(text(*lines))
+        _, page = self.opened()
+        page.command("go")
+        seen = page.wait(current="1", waiting=0)["number"]
+        page.wait(current="2")
+        self.assertEqual(409, page.command("go", Desk_State=seen))
+        page.command("sub 9 FL")
+        wait_for(lambda: any("NoSub" in told for told in page.notices()), "the answer behind it")
+        self.assertEqual("2", page.state["current"])

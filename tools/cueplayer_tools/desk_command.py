@@ -3,6 +3,7 @@ machine to play it from."""
 
 import argparse
 import os
+import re
 import select
 import signal
 import socket
@@ -20,6 +21,7 @@ from cueplayer_tools.desk_folder import FolderNight
 from cueplayer_tools.desk_heard import HeardNight
 from cueplayer_tools.desk_levels import LevelReader, Way
 from cueplayer_tools.desk_night import Night
+from cueplayer_tools.desk_press import USUAL_DOUBLE_GO, MoveGuard
 from cueplayer_tools.desk_server import DeskServer
 from cueplayer_tools.desk_view import show_view
 from cueplayer_tools.night_folder import NightFolder
@@ -34,6 +36,7 @@ END_PATIENCE = 10.0
 WATCH_EVERY = 0.05
 # Of what `live` prints: hours of it, where its disk stands still.
 MOST_REPLIES = 100_000
+MOST_DOUBLE_GO = 10_000
 # Words of `live`, which a desk on another's night does not take.
 NIGHT_WORDS = ("show", "to", "interface", "any_route", "ttl", "name", "cid", "priority", "base")
 NIGHT_WORDS += ("record", "replies")
@@ -93,6 +96,13 @@ def _add_page(parser: argparse.ArgumentParser) -> None:
         help="of the page; left out, the system chooses one",
     )
     parser.add_argument(
+        "--double-go",
+        metavar="MS",
+        type=_milliseconds,
+        default=round(USUAL_DOUBLE_GO * 1000),
+        help="a second GO within so many milliseconds is refused (400); 0 takes each",
+    )
+    parser.add_argument(
         "--osc",
         metavar="PORT",
         type=port_number,
@@ -103,6 +113,13 @@ def _add_page(parser: argparse.ArgumentParser) -> None:
         action="store_true",
         help="receive the levels at --to too, an address of this machine's own",
     )
+
+
+def _milliseconds(word: str) -> int:
+    """A time of at most ten seconds."""
+    if re.fullmatch(r"\d{1,5}", word, re.ASCII) and int(word) <= MOST_DOUBLE_GO:
+        return int(word)
+    raise argparse.ArgumentTypeError(f"no time from 0 to {MOST_DOUBLE_GO} ms: {word!r}")
 
 
 def _read_words(words: list[str]) -> argparse.Namespace:
@@ -227,6 +244,7 @@ def run_desk(words: argparse.Namespace, tell: Teller, tell_address: Teller) -> i
         night: HeardNight = Night(show, _live_words(words), tell, replies)
     else:
         night = FolderNight(show, folder, tell)
+    night.guard = MoveGuard(words.double_go / 1000)
     try:
         tell_address(f"desk: {server.address}")
         tell(f"console {words.cid}, live is process {night.live()}")

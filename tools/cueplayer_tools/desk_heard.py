@@ -15,6 +15,7 @@ from collections.abc import Callable
 
 from cueplayer_tools.cue_list import Show
 from cueplayer_tools.desk_input import WHERE, FolderInput, LiveInput
+from cueplayer_tools.desk_press import FROM_HERE, GO, MoveGuard, Press
 from cueplayer_tools.desk_state import State
 from cueplayer_tools.live_links import Mended, Trouble, read_link_line
 from cueplayer_tools.live_lines import (
@@ -72,6 +73,8 @@ class HeardNight(ABC):
         self.keep = keep
         self.state = State(show)
         self.clock = Clock()
+        self.guard = MoveGuard(double_go=0.0)
+        # The number of the state.
         self.version = 0
         self.start_lines = list(START_LINES)
         # Whether `where` is still to be asked.
@@ -108,6 +111,8 @@ class HeardNight(ABC):
 
     def _change(self) -> None:
         self.version += 1
+        state = self.state
+        self.guard.see(self.version, (state.is_placed, state.current, state.following))
         self.changed.notify_all()
 
     def _hear(self, line: str) -> None:
@@ -241,9 +246,11 @@ class HeardNight(ABC):
             self.is_to_ask = True
             self._ask_place()
 
-    def give(self, text: str) -> None:
-        """Hands a command on to `live`; Refused where it is none, or `live` cannot take it."""
+    def give(self, text: str, press: Press | None = None) -> None:
+        """Hands a command on to `live`, of a page where there is a press; Refused where it is none,
+        `live` cannot take it, or it is a move too many."""
         line = command_line(text)
+        at = time.monotonic() if press is None else press.at
         with self.changed:
             if self.state.status is not None:
                 raise Refused("the night has ended")
@@ -251,7 +258,13 @@ class HeardNight(ABC):
                 raise Refused("replies of live were lost, and the state is read: press again")
             if self._is_over():
                 raise Refused("the night is ending")
+            if line in FROM_HERE and press is not None:
+                self.guard.check_page(press, self.input.is_moving())
+            if line == GO:
+                self.guard.check_go(at)
             self.input.give(line)
+            if line == GO:
+                self.guard.go(at)
 
     def refuse(self, text: str, kind: str = "refused") -> None:
         """Tells all pages of what was refused before it came to `live`."""

@@ -12,7 +12,7 @@ import time
 from collections import deque
 
 from cueplayer_tools.night_folder import NightFolder
-from cueplayer_tools.words import Refused
+from cueplayer_tools.words import MOVES, Refused
 
 # Asks for the whole state of the night.
 WHERE = "where"
@@ -39,6 +39,10 @@ class Waiting:
     def is_asked(self) -> bool:
         """Whether a `where` waits for its answer."""
         return any(line == WHERE for _, line in self.waiting)
+
+    def is_moving(self) -> bool:
+        """Whether a move waits for its answer."""
+        return any(line.split()[0] in MOVES for _, line in self.waiting)
 
     def forget_asked(self) -> None:
         """The last `where` was answered: what was handed on before it waits no more."""

@@ -24,6 +24,7 @@ from typing import Any
 from cueplayer_tools.addresses import LOOPBACK
 from cueplayer_tools.desk_levels import LevelReader
 from cueplayer_tools.desk_heard import HeardNight
+from cueplayer_tools.desk_press import Press
 from cueplayer_tools.desk_requests import Entrance, Request
 from cueplayer_tools.desk_view import state_view
 from cueplayer_tools.words import Refused, printable
@@ -50,7 +51,7 @@ HEADERS = {
 MOST_PAGES = 32
 MOST_WAITING = 128
 # A page that hears nothing for longer than some of these takes the desk for lost.
-ALIVE_EVERY = 1.0
+ALIVE_EVERY = 0.5
 LEVELS_EVERY = 0.1
 # So long may one page block its own thread.
 PAGE_PATIENCE = 30.0
@@ -163,12 +164,14 @@ class DeskServer:
             _refuse(connection, HTTPStatus.REQUEST_ENTITY_TOO_LARGE)
         elif (age := self._age(request)) is None:
             _refuse(connection, HTTPStatus.BAD_REQUEST, "a command says when it was pressed")
+        elif (seen := self._seen(request)) is None:
+            _refuse(connection, HTTPStatus.BAD_REQUEST, "a command says which state its page showed")
         else:
             line = request.body.decode("latin-1")
             try:
                 if age > PRESS_DEADLINE:
                     raise Refused(f"pressed {age / 1000:.1f} s ago, too late: nothing was sent")
-                self.night.give(line)
+                self.night.give(line, Press(time.monotonic() - age / 1000, seen))
             except Refused as fault:
                 self.night.refuse(f"{printable(line, 40)}: {fault}")
                 _refuse(connection, HTTPStatus.CONFLICT, str(fault))
@@ -183,6 +186,14 @@ class DeskServer:
             return None
         age = self.now() - int(pressed)
         return age if age >= -AHEAD else None
+
+    def _seen(self, request: Request) -> int | None:
+        """The number of the state that the page showed; None where it does not say, or there was
+        no such state yet."""
+        seen = request.headers.get("Desk-State", "")
+        if not re.fullmatch(r"[0-9]{1,15}", seen) or int(seen) > self.night.version:
+            return None
+        return int(seen)
 
     def _open_page(self, connection: socket.socket) -> None:
         if not self.pages.acquire(blocking=False):

@@ -40,6 +40,7 @@ def state_view(night: HeardNight) -> dict[str, Any]:
         elapsed = max(night.clock.now() - state.fade.moment, 0)
         fade = {"whole": state.fade.whole, "elapsed": elapsed}
     return {
+        "number": night.version,
         "current": _spelled(state.current),
         "next": _spelled(state.following),
         "placed": state.is_placed,

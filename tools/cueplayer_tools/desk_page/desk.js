@@ -2,7 +2,9 @@
 // The page of the desk. It shows what the desk says that the program said, and nothing that it
 // believes itself; what is pressed goes to the desk as a line, and its answer comes as an event.
 
-const SILENCE = 4000;
+// A page that hears nothing for so long is dead: its buttons are grey, and a press does nothing.
+const SILENCE = 2000;
+const STATES_KEPT = 5000;
 const FADER_REST = 500;
 const SECOND_PRESS = 3000;
 // What is pressed is sent within a second, or not at all.
@@ -23,6 +25,8 @@ const page = {
   faders: [],
   heard: 0,
   stateAt: 0,
+  // The numbers of the states that were shown lately, and when.
+  shown: [],
   isGone: false,
   dismissed: 0,
   dismissedLost: 0,
@@ -46,7 +50,7 @@ async function command(line, pressed) {
   const timer = setTimeout(() => stop.abort(), left);
   try {
     if (left <= 0) stop.abort();
-    const headers = { "Desk-Time": String(deskTime(at)) };
+    const headers = { "Desk-Time": String(deskTime(at)), "Desk-State": String(seenAt(at)) };
     const request = { method: "POST", body: line, headers, signal: stop.signal };
     const answer = await fetch("command", request);
     page.unsent = answer.ok || answer.status === 409 ? "" : `${line}: not taken by the desk`;
@@ -72,6 +76,12 @@ function hearClock(time) {
 
 function deskTime(at) {
   return Math.max(Math.floor(at + Math.max(...page.clock.map(({ ahead }) => ahead))), 0);
+}
+
+// The number of the state that was shown at a press: it may be older than the one of now.
+function seenAt(at) {
+  const before = page.shown.filter((each) => each.at <= at);
+  return (before.at(-1) ?? page.shown[0]).number;
 }
 
 function isSilent() {
@@ -309,6 +319,9 @@ function alarms() {
 
 function showAlarms() {
   document.body.classList.toggle("is-dead", isDead());
+  for (const id of ["go", "back", "blackout"]) {
+    byId(id).setAttribute("aria-disabled", String(isDead()));
+  }
   const told = alarms();
   const words = JSON.stringify(told.map(([text]) => text));
   // A screen reader says what is new, so nothing is put there anew that stands there already.
@@ -376,6 +389,8 @@ function showState(state) {
   const before = page.state;
   page.state = state;
   page.stateAt = performance.now();
+  page.shown = page.shown.filter(({ at }) => page.stateAt - at < STATES_KEPT);
+  page.shown.push({ at: page.stateAt, number: state.number });
   showCues(state, before);
   for (const fader of page.faders) fader.show();
   const isBlack = state.grand === 0;
@@ -412,6 +427,7 @@ function listen() {
   });
   hear("show", (show) => {
     page.state = null;
+    page.shown = [];
     page.universes = show.universes;
     setText("title", show.title);
     setText("osc", show.osc ? `OSC at ${show.osc}` : "");
