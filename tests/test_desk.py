@@ -83,6 +83,7 @@ class Playback(DeskTest):
         """Two pages show the same, and one that is opened again shows it at once."""
         _, address = self.begun()
         one, two = Page(self, address), Page(self, address)
+        one.wait(placed=True)
         one.command("go")
         two.wait(current="1")
         two.command("sub 1 FL")
@@ -364,7 +365,7 @@ class Outputs(DeskTest):
                 told += os.read(reader.fileno(), 65_536)
             address = re.search(r"desk: (\S+/)\n", told.decode("latin-1"))[1]
             page = Page(self, address)
-            page.wait(ending=False)
+            page.wait(placed=True)
             page.command("go")
             page.wait(current="1")
             desk.terminate()
