@@ -37,7 +37,10 @@ class Playback(DeskTest):
         _, page = self.opened()
         kinds = ("number", "name", "up", "down")
         cues = [tuple(cue[kind] for kind in kinds) for cue in page.newest["show"]["cues"]]
-        expected = [("1", "one", 0, 0), ("1.5", "half past", 3000, 1000), ("2", "two <b>s", 0, 0)]
+        cut, up, down = ({"time": time, "delay": delay} for time, delay in
+                         ((0, 0), (2000, 1000), (1000, 0)))
+        names = ("one", "half past", "two <b>s")
+        expected = [("1", names[0], cut, cut), ("1.5", names[1], up, down), ("2", names[2], cut, cut)]
         self.assertEqual(expected, cues)
         faders = [{"line": "sub 1", "name": "all"}, {"line": "group 3", "name": ""}]
         self.assertEqual(faders, page.newest["show"]["faders"])
@@ -120,11 +123,13 @@ class Playback(DeskTest):
         self.show.write_bytes(text(*lines))
         _, page = self.opened()
         page.command("go")
-        page.wait(current="1", next="2")
+        follow = page.wait(current="1", next="2")["follow"]
+        self.assertEqual(3000, follow["whole"])
+        self.assertLess(follow["elapsed"], 3000)
         began = time.monotonic()
         time.sleep(1)
         self.assertEqual("1", page.state["current"])
-        fade = page.wait(current="2", next=None)["fade"]
+        fade = page.wait(current="2", next=None, follow=None)["fade"]
         # On a busy machine the page has heard of the first move late.
         self.assertGreater(time.monotonic() - began, 1.5)
         self.assertEqual(3000, fade["whole"])

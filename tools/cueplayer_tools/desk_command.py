@@ -194,6 +194,9 @@ def _watch(night: HeardNight, server: DeskServer, presses: _Presses) -> None:
             is_told, presses.is_asked_for = True, False
             presses.is_over = not server.pages.was_opened
             presses.tell(f"live has ended with status {night.state.status}")
+        elif is_told and night.state.status is None:
+            is_told, presses.is_asked_for = False, True
+            presses.tell(f"the night is taken up: live is process {night.live()}")
         time.sleep(WATCH_EVERY)
 
 

@@ -94,6 +94,14 @@ class HeardNight(ABC):
         """Reads what `live` says, from here on."""
 
     @abstractmethod
+    def can_resume(self) -> bool:
+        """Whether nothing plays the night, nobody is at work on that, and it can be taken up."""
+
+    @abstractmethod
+    def resume(self) -> None:
+        """Takes the night up where it was; Refused where that cannot be."""
+
+    @abstractmethod
     def end(self, patience: float) -> int:
         """Leaves the night; the status of the desk."""
 
@@ -142,9 +150,10 @@ class HeardNight(ABC):
         if self.is_astray or asked in (None, WHERE):
             self._take_strange_answer(answer)
             return
+        given = self.input.given()
         self.input.answered()
         if answer.refusal is None:
-            self.state.accept(answer.moment, asked)
+            self.state.accept(answer.moment, asked, given)
         else:
             self.state.tell("refused", f"{asked}: refused, {answer.refusal}")
 
@@ -177,6 +186,7 @@ class HeardNight(ABC):
         """Answers are missing, and nobody knows which, until a `where` is answered that is asked
         from here on: those that are still to come stand before it."""
         self.is_astray = True
+        self.state.forget_moves()
         self.unsure_until = time.monotonic() + UNSURE
         self._doubt()
 
@@ -236,12 +246,15 @@ class HeardNight(ABC):
             self.state.tell("way", printable(line["others"], 300))
 
     def _hear_link(self, link: Trouble | Mended, text: str) -> None:
-        """Takes what is said of the network. What is wrong stands until it is over."""
+        """Takes what is said of the network or the record. What is wrong stands until it is over."""
         if isinstance(link, Trouble):
-            self.state.trouble(link, text)
+            self.state.trouble(link, link.text if link.kind == "record" else text)
             return
         self.state.mend(link)
-        if link.about is None:
+        if link.kind == "record":
+            # That lines are missing in it has to be known behind the trouble too.
+            self.state.tell("record", text)
+        elif link.about is None:
             # The answer comes with all that is still wrong.
             self.is_to_ask = True
             self._ask_place()

@@ -32,6 +32,10 @@ class Waiting:
         """The line that the next answer is to: the oldest that waits."""
         return self.waiting[0][1] if self.waiting else None
 
+    def given(self) -> float:
+        """When the oldest line that waits was handed on, by `time.monotonic()`."""
+        return self.waiting[0][0]
+
     def answered(self) -> str | None:
         """The line that an answer is to. It waits no more."""
         return self.waiting.popleft()[1] if self.waiting else None
@@ -72,6 +76,11 @@ class LiveInput(Waiting):
         again = f"/proc/self/fd/{self.theirs}"
         self.back = os.open(again, os.O_RDONLY | os.O_NONBLOCK)
         self.is_probed = False
+
+    def close(self) -> None:
+        """Nobody reads any more."""
+        os.close(self.ours)
+        os.close(self.back)
 
     def give(self, line: str) -> None:
         """Hands on a line, or refuses it: it is never handed on later."""

@@ -29,7 +29,7 @@ HTML, CSS, SCRIPT = (f"text/{kind}; charset=utf-8" for kind in ("html", "css", "
 FILES = {
     "": ("desk.html", HTML),
     "desk.css": ("desk.css", CSS),
-    "desk.js": ("desk.js", SCRIPT),
+    **{name: (name, SCRIPT) for name in ("press.js", "cues.js", "faders.js", "desk.js")},
 }
 # For those who have shown no PIN yet.
 PIN_FILES = {
@@ -59,6 +59,7 @@ class DeskServer:
         self.elsewhere = elsewhere
         self.tell = tell
         self.pages = Pages(self)
+        self.is_resuming = threading.Lock()
         # The number of the PINs.
         self.guests = 0
         self.picture: list[str] = []
@@ -67,6 +68,7 @@ class DeskServer:
         self.posts: dict[str, Callable[[socket.socket, Request, Visit], None]] = {
             "command": self._take_command,
             "pins": self._change_pins,
+            "resume": self._resume,
         }
 
     def show(self, night: HeardNight, levels: LevelReader, view: dict[str, Any]) -> None:
@@ -165,6 +167,20 @@ class DeskServer:
         self.guests += 1
         self.night.wake()
         answer(connection, HTTPStatus.NO_CONTENT)
+
+    def _resume(self, connection: socket.socket, request: Request, visit: Visit) -> None:
+        """Takes up a night that was broken off, which takes a while: what comes of it is told."""
+        if self.is_resuming.acquire(blocking=False):
+            threading.Thread(target=self._resume_night, daemon=True).start()
+        answer(connection, HTTPStatus.NO_CONTENT)
+
+    def _resume_night(self) -> None:
+        try:
+            self.night.resume()
+        except (Refused, OSError) as fault:
+            self.night.refuse(f"not taken up: {fault}")
+        finally:
+            self.is_resuming.release()
 
     def _take_command(self, connection: socket.socket, request: Request, visit: Visit) -> None:
         """A command, in plain text: 204 says that it was handed on, the events what came of it."""
