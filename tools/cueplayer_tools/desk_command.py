@@ -195,8 +195,8 @@ def _watch(night: HeardNight, server: DeskServer, presses: _Presses) -> None:
             presses.is_over = not server.pages.was_opened
             presses.tell(f"live has ended with status {night.state.status}")
         elif is_told and night.state.status is None:
+            # It was taken up.
             is_told, presses.is_asked_for = False, True
-            presses.tell(f"the night is taken up: live is process {night.live()}")
         time.sleep(WATCH_EVERY)
 
 

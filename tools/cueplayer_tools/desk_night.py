@@ -119,6 +119,7 @@ class Night(HeardNight):
             self._begin([*self.words, "--resume"])
             self._change()
         self.read()
+        self.tell(f"the night is taken up: live is process {self.live()}")
 
     def end(self, patience: float) -> int:
         """Ends the night, and waits for `live` to tell its receivers; its status."""
