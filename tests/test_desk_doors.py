@@ -12,6 +12,7 @@ import time
 import unittest
 from unittest import mock
 
+from browser import CHROMIUM, MISSING, Browser
 from desks import DeskTest, Page
 from tooling import PATIENCE, run_tool, wait_for
 
@@ -273,6 +274,60 @@ class Encrypted(DoorTest):
     def told(self, desk):
         desk.process.terminate()
         return "\n".join(desk.err.rest())
+
+
+@unittest.skipUnless(CHROMIUM, MISSING)
+class InBrowser(DoorTest):
+    def entered(self, browser, door, pin):
+        """The page of who has typed this PIN."""
+        page = browser.opened(f"{door.origin}/")
+        page.wait("document.activeElement.id === 'pin'")
+        self.assertEqual([], [name for name in page.names("textbox") if not name])
+        page.value(f"document.getElementById('pin').value = '{pin}'")
+        page.press("Enter", "Enter", "\r")
+        return page
+
+    def test_pages(self):
+        """By the PIN a page plays, by the other one it watches, and by none it asks again; new PINs
+        send both out."""
+        _, page, door = self.opened()
+        browsers = [Browser(self), Browser(self)]
+        wrong = next(pin for pin in ("000000", "000001", "000002")
+                     if pin not in (door.play, door.watch))
+        played = self.entered(browsers[0], door, wrong)
+        played.wait("document.getElementById('told').textContent.startsWith('no such PIN')")
+        played.value(f"document.getElementById('pin').value = '{door.play}'")
+        played.press("Enter", "Enter", "\r")
+        watched = self.entered(browsers[1], door, door.watch)
+        for each in (played, watched):
+            each.wait("document.getElementById('next').textContent === '1 one'")
+        watched.wait("document.getElementById('role').textContent.startsWith('Watching')")
+        self.assertEqual("none", watched.value("getComputedStyle(document.querySelector('.buttons')).display"))
+        watched.press(" ", "Space", " ")
+        watched.press("Backspace")
+        played.press(" ", "Space", " ")
+        page.wait(current="1", notices=[])
+        watched.wait("document.getElementById('current').textContent === '1 one'")
+        self.assertTrue(watched.value("document.getElementById('master').disabled"))
+        self.assertEqual("", played.text("pin-play"))
+        self.assertEqual(204, page.request("POST", "pins", b"new")[0])
+        for each in (played, watched):
+            each.wait("document.getElementById('pin') !== null")
+
+    def test_new_pins(self):
+        """This machine's own page has the address and the PINs, and makes new ones at the second
+        press."""
+        _, address = self.begun("--listen", "127.0.0.1:0")
+        browser = Browser(self)
+        page = browser.opened(address)
+        page.wait("!document.getElementById('guests').hidden")
+        page.value("document.querySelector('[data-to=more]').click()")
+        before = page.text("pin-play")
+        self.assertRegex(before, r"^\d{6}$")
+        for _ in range(2):
+            page.click("document.getElementById('new-pins')")
+        page.wait(f"document.getElementById('pin-play').textContent !== '{before}'")
+        self.assertEqual([], browser.faults)
 
 
 class PinsOfADesk(unittest.TestCase):
