@@ -1,12 +1,16 @@
 """`tools/desk`: requests that are cut short, slow or many, and presses that come late."""
 
+import collections
 import contextlib
 import os
 import random
+import re
 import resource
 import signal
 import socket
+import threading
 import time
+from pathlib import Path
 
 from desks import DeskTest, Page
 from program import text
@@ -156,6 +160,52 @@ class Requests(DeskTest):
                     self.assertLess(time.monotonic() - before, 1)
             again = Page(self, page.origin + page.path)
             again.wait(masters={"sub 1": (15 * 255 + 50) // 100}, current=None)
+
+
+class Flooded(DeskTest):
+    def test_all_at_once(self):
+        """A flood of datagrams, slow connections and 32 pages: a GO is taken in a second, and the
+        memory of the desk stays as it is."""
+        desk, page = self.opened("--osc", 0)
+        host, port = page.newest["show"]["osc"].split(":")
+        is_over = threading.Event()
+
+        def flood():
+            with socket.socket(socket.AF_INET, socket.SOCK_DGRAM) as sender:
+                while not is_over.is_set():
+                    with contextlib.suppress(OSError):
+                        sender.sendto(b"/cueplayer/other\0\0\0\0,\0\0\0", (host, int(port)))
+
+        def hold_back():
+            held = collections.deque(maxlen=1_000)
+            while not is_over.wait(0.002):
+                with contextlib.suppress(OSError):
+                    held.append(socket.create_connection(page.host.split(":"), 1))
+                    held[-1].send(b"POST /command HTTP/1.1\r\n")
+
+        pages = [Page(self, page.origin + page.path) for _ in range(31)]
+        for each in pages:
+            each.wait(placed=True)
+        others = [threading.Thread(target=each, daemon=True) for each in (flood, hold_back)]
+        for each in others:
+            each.start()
+        self.addCleanup(is_over.set)
+        memory = []
+        for turn in range(40):
+            before = time.monotonic()
+            self.assertEqual(204, page.command("goto 1" if turn % 2 else "go"))
+            page.wait(current="1" if turn % 2 or not turn else "1.5", waiting=0)
+            self.assertLess(time.monotonic() - before, 1)
+            memory.append(self.memory(desk))
+        is_over.set()
+        for each in others:
+            each.join()
+        self.assertLess(memory[-1] - memory[5], 10_000)
+
+    def memory(self, desk):
+        """The memory of the desk, in KB."""
+        status = Path(f"/proc/{desk.process.pid}/status").read_text()
+        return int(re.search(r"VmRSS:\s+(\d+) kB", status)[1])
 
 
 class Late(DeskTest):
