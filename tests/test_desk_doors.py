@@ -378,6 +378,10 @@ class PinsOfADesk(unittest.TestCase):
         with mock.patch.object(desk_pins.time, "monotonic", lambda: now[0]):
             told = [self.wrong(pins, f"10.0.{at // 250}.{at % 250}") for at in range(1_000)]
         self.assertEqual(30, sum("no such PIN" in each for each in told))
+        pins = Pins()
+        with mock.patch.object(desk_pins.time, "monotonic", lambda: now[0]):
+            told = [self.wrong(pins, f"10.0.0.{at // 5}") for at in range(1_000)]
+        self.assertEqual(30, sum("no such PIN" in each for each in told))
         self.assertLessEqual(len(pins.attempts.wrong) + len(pins.attempts.locked), 60)
 
 

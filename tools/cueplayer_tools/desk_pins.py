@@ -50,11 +50,14 @@ class Attempts:
     def __init__(self) -> None:
         self.wrong: list[tuple[float, str]] = []
         self.locked: dict[str, float] = {}
+        # When an address showed a right one: those before count no more for it.
+        self.right: dict[str, float] = {}
 
     def check(self, address: str) -> None:
         """Refuses an address that is locked, or anybody where too many were wrong."""
         now = time.monotonic()
         self.wrong = [each for each in self.wrong if now - each[0] < LOCKED]
+        self.right = {each: at for each, at in self.right.items() if now - at < LOCKED}
         self.locked = {each: until for each, until in self.locked.items() if until > now}
         if address in self.locked:
             left = self.locked[address] - now
@@ -66,15 +69,15 @@ class Attempts:
         """Takes a wrong one; whether the address is locked for it."""
         now = time.monotonic()
         self.wrong.append((now, address))
-        if sum(each == address for _, each in self.wrong) < MOST_WRONG:
-            return False
-        self.locked[address] = now + LOCKED
-        self.forget(address)
-        return True
+        since = self.right.get(address, -1.0)
+        count = sum(each == address and at > since for at, each in self.wrong)
+        if count >= MOST_WRONG:
+            self.locked[address] = now + LOCKED
+        return count >= MOST_WRONG
 
-    def forget(self, address: str) -> None:
-        """The address begins anew."""
-        self.wrong = [each for each in self.wrong if each[1] != address]
+    def forgive(self, address: str) -> None:
+        """The address showed a right one."""
+        self.right[address] = time.monotonic()
 
 
 class Pins:
@@ -106,7 +109,7 @@ class Pins:
             if self.attempts.add(address):
                 self.tell(f"{MOST_WRONG} wrong PINs came from {address}: it is locked for a minute")
             raise Refused("no such PIN: it stands on the desk's terminal, and on its own page")
-        self.attempts.forget(address)
+        self.attempts.forgive(address)
         (role,) = roles
         self._make_room(role)
         token = secrets.token_urlsafe(24)
