@@ -363,13 +363,14 @@ class PinsOfADesk(unittest.TestCase):
             for _ in range(4):
                 self.wrong(pins, "10.0.0.1")
             pins.enter(pins.pins[Role.PLAY], "10.0.0.1")
+            now[0] = 1.0
             for _ in range(5):
                 self.assertIn("no such PIN", self.wrong(pins, "10.0.0.1"))
             self.assertIn("wait 60 seconds", self.wrong(pins, "10.0.0.1"))
-            now[0] = 59.0
+            now[0] = 60.0
             self.assertIn("wait 1 seconds", self.wrong(pins, "10.0.0.1"))
             pins.enter(pins.pins[Role.PLAY], "10.0.0.2")
-            now[0] = 60.5
+            now[0] = 61.5
             pins.enter(pins.pins[Role.PLAY], "10.0.0.1")
 
     def test_many_addresses(self):
