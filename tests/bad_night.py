@@ -171,7 +171,8 @@ class Desk:
         """Presses as the page does; the status, or None where there was none in a second."""
         at = max(int(milliseconds() + max(self.ahead)), 0)
         connection = http.client.HTTPConnection(self.host, timeout=1.0)
-        headers = {"Origin": f"http://{self.host}", "Desk-Time": str(at)}
+        seen = self.state.get("number", 0)
+        headers = {"Origin": f"http://{self.host}", "Desk-Time": str(at), "Desk-State": str(seen)}
         try:
             connection.request("POST", self.path + "command", line, headers)
             return connection.getresponse().status

@@ -38,7 +38,10 @@ class Playback(DeskTest):
         _, page = self.opened()
         kinds = ("number", "name", "up", "down")
         cues = [tuple(cue[kind] for kind in kinds) for cue in page.newest["show"]["cues"]]
-        expected = [("1", "one", 0, 0), ("1.5", "half past", 3000, 1000), ("2", "two <b>s", 0, 0)]
+        cut, up, down = ({"time": time, "delay": delay} for time, delay in
+                         ((0, 0), (2000, 1000), (1000, 0)))
+        names = ("one", "half past", "two <b>s")
+        expected = [("1", names[0], cut, cut), ("1.5", names[1], up, down), ("2", names[2], cut, cut)]
         self.assertEqual(expected, cues)
         faders = [{"line": "sub 1", "name": "all"}, {"line": "group 3", "name": ""}]
         self.assertEqual(faders, page.newest["show"]["faders"])
@@ -84,6 +87,7 @@ class Playback(DeskTest):
         """Two pages show the same, and one that is opened again shows it at once."""
         _, address = self.begun()
         one, two = Page(self, address), Page(self, address)
+        one.wait(placed=True)
         one.command("go")
         two.wait(current="1")
         two.command("sub 1 FL")
@@ -121,6 +125,7 @@ class Playback(DeskTest):
         _, page = self.opened()
         pressed = time.monotonic()
         page.command("go")
+<<<<<<< HEAD
         page.wait(current="1", next="2")
         time.sleep(1)
         current = page.state["current"]
@@ -128,6 +133,17 @@ class Playback(DeskTest):
             self.assertEqual("1", current)
         fade = page.wait(current="2", next=None)["fade"]
         self.assertGreaterEqual(took(pressed).ms, 3000)
+=======
+        follow = page.wait(current="1", next="2")["follow"]
+        self.assertEqual(3000, follow["whole"])
+        self.assertLess(follow["elapsed"], 3000)
+        began = time.monotonic()
+        time.sleep(1)
+        self.assertEqual("1", page.state["current"])
+        fade = page.wait(current="2", next=None, follow=None)["fade"]
+        # On a busy machine the page has heard of the first move late.
+        self.assertGreater(time.monotonic() - began, 1.5)
+>>>>>>> f1b0bcc1032e42e2cf7dd7186eaad0eb15ab27d0
         self.assertEqual(3000, fade["whole"])
         self.wait_for_level(255)
 
@@ -363,7 +379,7 @@ class Outputs(DeskTest):
                 told += os.read(reader.fileno(), 65_536)
             address = re.search(r"desk: (\S+/)\n", told.decode("latin-1"))[1]
             page = Page(self, address)
-            page.wait(ending=False)
+            page.wait(placed=True)
             page.command("go")
             page.wait(current="1")
             desk.terminate()
@@ -567,7 +583,7 @@ page.request("GET", "/" + path + "events")
 events = page.getresponse()
 now = next(line for line in events if line.startswith(b"id: "))[4:].strip().decode()
 other = http.client.HTTPConnection(host, timeout=20)
-own = {"Origin": "http://" + host, "Desk-Time": now}
+own = {"Origin": "http://" + host, "Desk-Time": now, "Desk-State": "0"}
 other.request("POST", "/" + path + "command", "sub 1 50", own)
 other.getresponse().read()
 for line in events:
