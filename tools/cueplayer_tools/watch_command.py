@@ -2,6 +2,7 @@
 
 import argparse
 import copy
+import math
 import re
 import select
 import signal
@@ -57,6 +58,8 @@ class Watch:
     watched: Watched
     # Takes each line that is told.
     print_line: Callable[[str], None]
+    # Seconds of which the packets are counted.
+    every: float = SECOND
 
     def __post_init__(self) -> None:
         self.rates = Rates()
@@ -97,13 +100,14 @@ class Watch:
             for kept in self.kept:
                 kept.clock(self.moment)
                 kept.flush()
-        now = time.monotonic()
-        if now - self.second >= SECOND:
-            self.rates.end_second(now - self.second)
-            self.second = now
-            self._count_dropped()
+        if time.monotonic() - self.second >= self.every:
+            self.count()
 
-    def _count_dropped(self) -> None:
+    def count(self) -> None:
+        """Ends the seconds of which packets are counted."""
+        now = time.monotonic()
+        self.rates.end_second(max(now - self.second, 0.001))
+        self.second = now
         new = self.socket.newly_dropped()
         self.dropped += new
         if new:
@@ -230,8 +234,9 @@ def opened(chosen: argparse.Namespace, universes: list[int], is_quiet: bool) -> 
     for kind, name in ((Record, chosen.record), (Script, chosen.script)):
         if name is not None:
             kept.append(kind(name, universes, complain))
-    feed = Feed(universes)
-    return Watch(receiver, feed, kept, Watched(universes), silent if is_quiet else print_out)
+    every = SECOND if chosen.once is None else math.inf
+    print_line = silent if is_quiet else print_out
+    return Watch(receiver, Feed(universes), kept, Watched(universes), print_line, every)
 
 
 def run(chosen: argparse.Namespace, universes: list[int]) -> int:
@@ -246,6 +251,7 @@ def run(chosen: argparse.Namespace, universes: list[int]) -> int:
         ran = follow(watch, None if chosen.once is None else watch.start + chosen.once)
     watch.end()
     if chosen.once is not None:
+        watch.count()
         lines = summary(watch.watched, watch.rates, watch.dropped)
     else:
         lines = watch.last_slots()

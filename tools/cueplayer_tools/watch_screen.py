@@ -55,7 +55,7 @@ class Screen:
         lines = [*picture.lines, *rows]
         self._write(
             _HOME
-            + "".join(f"{line}{_TO_LINE_END}\r\n" for line in lines)
+            + "".join(f"{line}{_TO_LINE_END}\n" for line in lines)
             + picture.foot
             + _TO_LINE_END
             + _TO_SCREEN_END

@@ -73,21 +73,21 @@ class WatchSocket:
         self.lacking: str | None = None
         self.dropped = 0
         try:
-            self._share(port)
+            self._share()
             for universe in (*universes, DISCOVERY):
                 self._join(group_of(universe), card)
+            self.socket.bind(("", port))
         except BaseException:
             self.socket.close()
             raise
 
-    def _share(self, port: int) -> None:
+    def _share(self) -> None:
         self.socket.setblocking(False)
         for option in (socket.SO_REUSEADDR, socket.SO_REUSEPORT):
             self.socket.setsockopt(socket.SOL_SOCKET, option, 1)
         self.socket.setsockopt(socket.SOL_SOCKET, socket.SO_RCVBUF, ROOM)
         # Groups that another program joined, at another card, are not meant.
         self.socket.setsockopt(socket.IPPROTO_IP, _IP_MULTICAST_ALL, 0)
-        self.socket.bind(("", port))
 
     def _join(self, group: str, card: Card) -> None:
         try:

@@ -7,7 +7,9 @@ from cueplayer_tools.watch_rates import Rates
 from cueplayer_tools.watch_state import SLOTS, Universe, Watched
 
 SOURCES = 4
-_HEAD = f"  {'source':32} {'prio':>4} {'per s':>5} {'lost':>6}  {'from':15}  CID"
+# Characters of a source's name that are shown.
+NAMED = 24
+_HEAD = f"  {'source':{NAMED}} {'prio':>4} {'per s':>5} {'lost':>6}  {'from':15}  CID"
 _KEYS = "n p: universe   up down: scroll   number m: mark a slot   f: freeze   q: quit"
 # Widths of a row's number and of a slot.
 _MARGIN, _CELL = 4, 4
@@ -86,7 +88,7 @@ def source_lines(universe: Universe, rates: Rates) -> list[str]:
         rate, host = rates.of(universe.number, cid)
         first = ">" if universe.leads(cid) else " "
         lines.append(
-            f"{first} {source.name[:32]:32} {source.priority:4} {rate:5} {source.lost:6}  {host:15}  {cid}"
+            f"{first} {source.name[:NAMED]:{NAMED}} {source.priority:4} {rate:5} {source.lost:6}  {host:15}  {cid}"
         )
     return lines
 
