@@ -18,6 +18,7 @@ from fcntl import ioctl
 
 import inputs
 from expected import watch as expected
+from floods import Burst
 from networks import LIT, PORT, Machine, NetworkTest, Venue
 from program import CID, FolderTest, packet, run, text
 from tooling import PATIENCE, TOOLS, Lines, run_tool, wait_for
@@ -415,11 +416,12 @@ class Flood(TerminalTest):
         made += [packet(9, {1: 1}, cid=cid) for cid in sources]
         made += [packet(1, {3: 3}, cid=cid) for cid in sources]
         made += [os.urandom(n) for n in range(200)] + [packet(1, {})[:n] for n in range(0, 638, 7)]
+        burst = Burst([(each, ("239.255.0.1", PORT)) for each in made])
         before, frames, sent = memory(child.pid), 0, 0
         until = time.monotonic() + SECONDS
         while time.monotonic() < until:
-            self.send(*made)
-            sent += len(made)
+            burst.send(self.sender, 0, len(burst))
+            sent += len(burst)
             while select.select([self.master], [], [], 0)[0]:
                 frames += os.read(self.master, 1 << 16).count(b"\x1b[H")
         print(f"    {sent / SECONDS:,.0f} datagrams a second, {frames} pictures")

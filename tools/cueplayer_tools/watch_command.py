@@ -69,22 +69,23 @@ class Watch:
         self.poll = select.poll()
         self.poll.register(self.feed.output, select.POLLIN)
 
-    def wait(self, keyboard: int | None) -> None:
-        """Waits until there is something to do: a datagram, a line, a key or a look."""
+    def wait(self, keyboard: int | None) -> set[int]:
+        """Waits until there is something to do: a datagram, a line, a key or a look; what is there."""
         receives = 0 if self.feed.is_full() else select.POLLIN
         self.poll.register(self.socket, receives)
         self.poll.register(self.feed.input, select.POLLOUT if self.feed.waiting else 0)
         if keyboard is not None:
             self.poll.register(keyboard, select.POLLIN)
-        self.poll.poll(LOOK - self._now() % LOOK)
+        return {file for file, _ in self.poll.poll(LOOK - self._now() % LOOK)}
 
-    def turn(self) -> bool:
+    def turn(self, ready: set[int]) -> bool:
         """Takes what has come; whether the program still runs."""
         self.tick()
-        self.receive()
+        if self.socket.fileno() in ready and not self.feed.is_full():
+            self.receive()
         if self.feed.waiting:
             self.feed.push()
-        lines = self.feed.said()
+        lines = self.feed.said() if self.feed.output in ready else []
         for line in lines or []:
             self.tell(line)
         return lines is not None
@@ -115,8 +116,6 @@ class Watch:
 
     def receive(self) -> None:
         """Gives the datagrams that have come, each with this moment."""
-        if self.feed.is_full():
-            return
         lines = []
         for _ in range(MOST_AT_ONCE):
             came = self.socket.next()
@@ -163,8 +162,7 @@ def follow(watch: Watch, until: float | None) -> bool:
     """Goes on until a time or control-C; whether the program ran so long."""
     try:
         while until is None or time.monotonic() < until:
-            watch.wait(None)
-            if not watch.turn():
+            if not watch.turn(watch.wait(None)):
                 return False
     except KeyboardInterrupt:
         pass
@@ -179,10 +177,10 @@ def show(watch: Watch) -> bool:
     drawn = -1
     try:
         while True:
-            watch.wait(screen.keyboard)
-            if not watch.turn():
+            ready = watch.wait(screen.keyboard)
+            if not watch.turn(ready):
                 return False
-            typed = screen.keys() if select.select([screen.keyboard], [], [], 0)[0] else []
+            typed = screen.keys() if screen.keyboard in ready else []
             if not all([view.key(key) for key in typed]):
                 return True
             if not view.is_frozen:

@@ -13,10 +13,10 @@ PORT = 5568
 DISCOVERY = 64_214
 # A receiver looks at no more of a datagram.
 LONGEST_DATAGRAM = 1_500
-# Bytes of receive buffer that are asked for; the system grants what it allows.
+# Bytes of receive buffer that are asked for; the system grants what it allows, and to root all.
 ROOM = 8 << 20
 # Of Linux, not named in `socket`.
-_IP_MULTICAST_ALL, _SO_MEMINFO, _DROPS = 49, 55, 8
+_SO_RCVBUFFORCE, _IP_MULTICAST_ALL, _SO_MEMINFO, _DROPS = 33, 49, 55, 8
 _COUNTS = struct.Struct("@9I")
 
 
@@ -85,7 +85,10 @@ class WatchSocket:
         self.socket.setblocking(False)
         for option in (socket.SO_REUSEADDR, socket.SO_REUSEPORT):
             self.socket.setsockopt(socket.SOL_SOCKET, option, 1)
-        self.socket.setsockopt(socket.SOL_SOCKET, socket.SO_RCVBUF, ROOM)
+        try:
+            self.socket.setsockopt(socket.SOL_SOCKET, _SO_RCVBUFFORCE, ROOM)
+        except OSError:
+            self.socket.setsockopt(socket.SOL_SOCKET, socket.SO_RCVBUF, ROOM)
         # Groups that another program joined, at another card, are not meant.
         self.socket.setsockopt(socket.IPPROTO_IP, _IP_MULTICAST_ALL, 0)
 

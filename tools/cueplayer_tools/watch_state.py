@@ -11,7 +11,6 @@ FLASH = 1_000
 SHOWN = 3_000
 _LINE = re.compile(r"(\d+) (\d+) (\w+)(?: (.*))?", re.ASCII)
 _SOURCE = re.compile(r"(.*) ([0-9a-f-]{36})(?: priority (\d+)| (\d+))?", re.ASCII)
-_SLOT = re.compile(r"(\d+):(\d+)", re.ASCII)
 
 
 @dataclass
@@ -24,20 +23,14 @@ class Source:
 
 
 @dataclass
-class Change:
-    """When a slot changed last, and from what."""
-
-    moment: int
-    before: int
-
-
-@dataclass
 class Universe:
     """A universe: its slots and its sources by their CIDs."""
 
     number: int
     slots: list[int] = field(default_factory=lambda: [0] * SLOTS)
-    changes: dict[int, Change] = field(default_factory=dict)
+    # Of each slot its level before the last change, and when that was.
+    before: list[int] = field(default_factory=lambda: [0] * SLOTS)
+    changed: list[int] = field(default_factory=lambda: [-FLASH - 1] * SLOTS)
     flashes: dict[int, int] = field(default_factory=dict)
     sources: dict[str, Source] = field(default_factory=dict)
     ignored: Counter[str] = field(default_factory=Counter)
@@ -54,20 +47,29 @@ class Universe:
         """Whether a flash of a slot, 1 to 512, is still shown."""
         return slot in self.flashes and moment - self.flashes[slot] < SHOWN
 
-    def show(self, moment: int, levels: dict[int, int]) -> list[int]:
-        """Takes the levels that are not 0, by their slots; the slots that flashed."""
-        flashed = []
-        for slot in range(1, SLOTS + 1):
-            before, level = self.slots[slot - 1], levels.get(slot, 0)
-            if before == level:
-                continue
-            last = self.changes.get(slot)
-            if last and last.before == level and moment - last.moment <= FLASH:
-                self.flashes[slot] = moment
-                flashed.append(slot)
-            self.changes[slot] = Change(moment, before)
-            self.slots[slot - 1] = level
+    def show(self, moment: int, levels: list[int]) -> list[int]:
+        """Takes the levels of all slots; the slots that flashed."""
+        places = [n for n, (old, new) in enumerate(zip(self.slots, levels)) if old != new]
+        flashed = [
+            n + 1
+            for n in places
+            if self.before[n] == levels[n] and moment - self.changed[n] <= FLASH
+        ]
+        self.flashes.update(dict.fromkeys(flashed, moment))
+        for n in places:
+            self.before[n] = self.slots[n]
+            self.changed[n] = moment
+        self.slots = levels
         return flashed
+
+
+def levels_in(pairs: str) -> list[int]:
+    """The levels of all slots, by the pairs of a slots line."""
+    levels = [0] * SLOTS
+    for pair in pairs.split():
+        slot, _, level = pair.partition(":")
+        levels[int(slot) - 1] = int(level)
+    return levels
 
 
 class Watched:
@@ -90,8 +92,7 @@ class Watched:
             self._ignore(number, rest)
         elif universe := self.universes.get(number):
             if word == "slots":
-                levels = {int(slot): int(level) for slot, level in _SLOT.findall(rest)}
-                flashed = universe.show(moment, levels)
+                flashed = universe.show(moment, levels_in(rest))
                 return [f"{moment} {number} flash {' '.join(map(str, flashed))}"] if flashed else []
             self._change(universe, word, rest)
         return []
