@@ -4,6 +4,7 @@ import os
 import random
 import re
 import select
+import shutil
 import signal
 import socket
 import struct
@@ -20,9 +21,9 @@ import inputs
 from expected import watch as expected
 from floods import Burst
 from networks import LIT, PORT, Machine, NetworkTest, Venue
-from program import CID, FolderTest, packet, run, text
+from program import CID, TOP, FolderTest, packet, run, text
 from tooling import PATIENCE, TOOLS, Lines, run_tool, wait_for
-from wire import terminal
+from wire import own_network, terminal
 
 from cueplayer_tools.watch_command import universes_of  # noqa: E402  (tooling has its folder on the path)
 from cueplayer_tools.watch_files import Record, Script  # noqa: E402
@@ -121,7 +122,8 @@ class Kept(FolderTest):
             self.assertEqual(2, done.returncode)
             self.assertIn("File exists", done.stderr)
         done = run_tool("watch", "1-9", "--port", "0", "--interface", "lo", "--script", name + "2")
-        self.assertEqual((2, "watch: --script: a script has at most 8 receivers\n"), (done.returncode, done.stderr))
+        told = "watch: --script: a script has at most 8 receivers\n"
+        self.assertEqual((2, told), (done.returncode, done.stderr))
 
 
 class State(unittest.TestCase):
@@ -140,8 +142,9 @@ class State(unittest.TestCase):
     def test_sources(self):
         watched = Watched([1])
         for line in (f"5 1 source main a {CID} priority 100", f"5 1 source  {OTHER} priority 101",
-                     f"6 1 lost main a {CID} 3", f"7 1 lost main a {CID} 4", f"8 0 ignored Unreadable Short 2",
-                     f"9 1 ignored OutOfSequence 2", f"9 1 ignored OutOfSequence 3"):  # fmt: skip
+                     f"6 1 lost main a {CID} 3", f"7 1 lost main a {CID} 4",
+                     "8 0 ignored Unreadable Short 2", "9 1 ignored OutOfSequence 2",
+                     "9 1 ignored OutOfSequence 3"):  # fmt: skip
             watched.take(line)
         universe = watched.universes[1]
         self.assertEqual(("main a", 100, 7), tuple(vars(universe.sources[CID]).values()))
@@ -248,7 +251,8 @@ class InLines(ToolTest):
         """Who sends what, after some time."""
         child, out, err = self.lines("1", "2", "--once", "2.5")
         for number in range(20):
-            self.send(packet(1, {1: 64}, 2 * number, name="main"), packet(1, {1: 9}, number, priority=99, cid=OTHER))
+            self.send(packet(1, {1: 64}, 2 * number, name="main"))
+            self.send(packet(1, {1: 9}, number, priority=99, cid=OTHER))
             time.sleep(0.02)
         told = out.rest()
         self.assertEqual((0, []), (child.wait(PATIENCE), err.rest()))
@@ -463,3 +467,28 @@ class OnTheStage(ToolTest):
             self.assertIn("\nslots 1:128\n", seen)
             self.assertIn("\nslots\n", unseen)
             self.assertNotIn(CID, unseen)
+
+
+class Others(unittest.TestCase):
+    """What the programs of other makers send."""
+
+    def seen(self, peer, *tools):
+        """The source and a level of it, as the tool told them."""
+        if missing := [each for each in (*tools, "ip") if not shutil.which(each)]:
+            self.skipTest(f"not there: {', '.join(missing)}")
+        if os.geteuid() != 0:
+            self.skipTest("only root can give it a network of its own")
+        words = [*own_network(self), sys.executable, TOP / "tests/watched_peer.py", peer]
+        done = subprocess.run(words, capture_output=True, text=True, timeout=4 * PATIENCE)
+        self.assertEqual((0, ""), (done.returncode, done.stderr))
+        return done.stdout.splitlines()
+
+    def test_open_lighting(self):
+        source, slots = self.seen("ola", "olad", "ola_dev_info", "ola_patch", "setpriv")
+        self.assertRegex(source, r"^\d+ 1 source .*OLA.* [0-9a-f-]{36} priority 100$")
+        self.assertRegex(slots, r"^\d+ 1 slots 1:200$")
+
+    def test_qlcplus(self):
+        source, slots = self.seen("qlcplus", "qlcplus")
+        self.assertRegex(source, r"^\d+ 1001 source Q Light Controller.* [0-9a-f-]{36} priority 100$")
+        self.assertRegex(slots, r"^\d+ 1001 slots 1:200$")

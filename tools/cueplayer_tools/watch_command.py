@@ -70,7 +70,7 @@ class Watch:
         self.poll.register(self.feed.output, select.POLLIN)
 
     def wait(self, keyboard: int | None) -> set[int]:
-        """Waits until there is something to do: a datagram, a line, a key or a look; what is there."""
+        """Waits for a datagram, a line, a key or the next look; the files that are ready."""
         receives = 0 if self.feed.is_full() else select.POLLIN
         self.poll.register(self.socket, receives)
         self.poll.register(self.feed.input, select.POLLOUT if self.feed.waiting else 0)
@@ -123,7 +123,7 @@ class Watch:
                 break
             datagram, sender = came
             self.rates.add(datagram, sender)
-            # An empty datagram is too short, as one of a byte is; a moment alone would be the clock.
+            # An empty datagram is too short, as one of a byte is; a moment alone is the clock.
             datagram = datagram or b"\0"
             lines.append(b"%d %s\n" % (self.moment, datagram.hex().encode()))
             for kept in self.kept:
@@ -204,7 +204,9 @@ def parsed(words: list[str]) -> argparse.Namespace:
         "universes", metavar="UNIVERSE", nargs="+", help="a universe, as 1, or several, as 1-4"
     )
     parser.add_argument(
-        "--interface", metavar="CARD", help="the network card to join groups by: its name or address"
+        "--interface",
+        metavar="CARD",
+        help="the network card to join groups by: its name or address",
     )
     parser.add_argument(
         "--port", type=port_number, default=PORT, help=f"the port of the datagrams ({PORT})"
@@ -213,7 +215,7 @@ def parsed(words: list[str]) -> argparse.Namespace:
         "--once", metavar="SECONDS", type=float, help="watch so long, print what is known, and end"
     )
     parser.add_argument("--lines", action="store_true", help="print lines at a terminal, too")
-    parser.add_argument("--record", metavar="FILE", help="keep what came, for cueplayer watch <FILE")
+    parser.add_argument("--record", metavar="FILE", help="keep what came, for cueplayer watch")
     parser.add_argument("--script", metavar="FILE", help="keep what came, for cueplayer rehearse")
     return parser.parse_args(words)
 

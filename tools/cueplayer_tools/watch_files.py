@@ -1,4 +1,4 @@
-"""What `tools/watch` keeps: a record for `cueplayer watch`, and a script for `cueplayer rehearse`."""
+"""What `tools/watch` keeps: a record for `cueplayer watch`, and a script of a rehearsal."""
 
 from collections.abc import Callable
 from typing import BinaryIO

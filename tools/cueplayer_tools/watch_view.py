@@ -18,7 +18,7 @@ _ROWS_OF = (64, 32, 20, 16, 10, 8)
 
 @dataclass
 class View:
-    """What is looked at: a universe, from some row of its slots on, and the slots that are marked."""
+    """What is looked at: a universe, from some row of its slots on, and which slots are marked."""
 
     numbers: list[int]
     at: int = 0
@@ -87,9 +87,8 @@ def source_lines(universe: Universe, rates: Rates) -> list[str]:
     for cid, source in universe.sources.items():
         rate, host = rates.of(universe.number, cid)
         first = ">" if universe.leads(cid) else " "
-        lines.append(
-            f"{first} {source.name[:NAMED]:{NAMED}} {source.priority:4} {rate:5} {source.lost:6}  {host:15}  {cid}"
-        )
+        numbers = f"{source.priority:4} {rate:5} {source.lost:6}"
+        lines.append(f"{first} {source.name[:NAMED]:{NAMED}} {numbers}  {host:15}  {cid}")
     return lines
 
 
@@ -110,7 +109,9 @@ def summary(watched: Watched, rates: Rates, dropped: int) -> list[str]:
     return [*lines, ignored_lines(watched, universe, dropped)[1]]
 
 
-def picture(watched: Watched, rates: Rates, dropped: int, view: View, size: tuple[int, int]) -> Picture:
+def picture(
+    watched: Watched, rates: Rates, dropped: int, view: View, size: tuple[int, int]
+) -> Picture:
     """The universe that is looked at, in so many columns and lines."""
     width, height = size
     universe = watched.universes[view.number]
@@ -148,5 +149,6 @@ def slot_rows(
 
     firsts = range(1, SLOTS + 1, count)
     return [
-        (first, [cell(slot) for slot in range(first, min(first + count, SLOTS + 1))]) for first in firsts
+        (first, [cell(slot) for slot in range(first, min(first + count, SLOTS + 1))])
+        for first in firsts
     ]
