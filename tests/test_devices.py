@@ -169,6 +169,7 @@ class Outputs(ProgramTest):
             (("cues", "-"), SHOW),
             (("cues", "-", "--json"), SHOW),
             (("rehearse", show, script), b""),
+            (("watch", "1"), b"0 00\n1000\n"),
             (("play", show, *to), b"0 tick\n"),
         )
 
