@@ -22,6 +22,7 @@ from cueplayer_tools.desk_heard import HeardNight
 from cueplayer_tools.desk_levels import LevelReader, Way
 from cueplayer_tools.desk_doors import WordDoor
 from cueplayer_tools.desk_network import (
+    add_midi,
     add_network,
     check_network,
     pin_door,
@@ -32,7 +33,10 @@ from cueplayer_tools.desk_night import Night
 from cueplayer_tools.desk_press import USUAL_DOUBLE_GO, MoveGuard
 from cueplayer_tools.desk_server import DeskServer
 from cueplayer_tools.desk_view import show_view
+from cueplayer_tools.midi_port import MidiPort
+from cueplayer_tools.midi_show import Wanted
 from cueplayer_tools.night_folder import NightFolder
+from cueplayer_tools.osc_feedback import Feedback
 from cueplayer_tools.osc_port import OscPort
 from cueplayer_tools.targets import target
 from cueplayer_tools.teller import Teller, leave_all
@@ -97,6 +101,7 @@ def _add_way(parser: argparse.ArgumentParser) -> None:
 def _add_page(parser: argparse.ArgumentParser) -> None:
     """The options of the page, also where the night is another's."""
     add_network(parser)
+    add_midi(parser)
     parser.add_argument(
         "--double-go",
         metavar="MS",
@@ -153,14 +158,33 @@ def _replies(words: argparse.Namespace, tell: Teller) -> Teller:
 
 
 def _take_osc(night: HeardNight, receiver: socket.socket) -> None:
-    """Takes Open Sound Control as `tools/osc` does."""
+    """Takes Open Sound Control as `tools/osc` does, and tells those who ask what changes."""
     port = OscPort(receiver, lambda text: night.refuse(f"OSC: {text}", "osc"))
+    feedback = Feedback(night, receiver)
+    port.ask = feedback.ask
+    threading.Thread(target=feedback.serve, daemon=True).start()
     poll = select.poll()
     poll.register(port, select.POLLIN)
     while True:
         patience = port.patience()
         poll.poll(None if patience is None else 1 + int(patience * 1000))
         port.take(night.give)
+
+
+def _take_others(night: HeardNight, receiver: socket.socket | None, midi: MidiPort | None) -> None:
+    """Takes what comes beside the pages, from here on."""
+    if receiver is not None:
+        threading.Thread(target=_take_osc, args=(night, receiver), daemon=True).start()
+    if midi is not None:
+        midi.tell = night.refuse
+        threading.Thread(target=midi.serve, args=(night.give,), daemon=True).start()
+
+
+def _midi(words: argparse.Namespace, tell: Teller) -> MidiPort | None:
+    if words.midi is None:
+        return None
+    wanted = Wanted(words.midi_device, words.midi_go, words.midi_back)
+    return MidiPort(words.midi, wanted, tell)
 
 
 class _Presses:
@@ -261,6 +285,7 @@ def run_desk(words: argparse.Namespace, tell: Teller, tell_address: Teller) -> i
     server = DeskServer(WordDoor(words.port), pin_door(words), tell)
     receiver = None if words.osc is None else bound_socket(words.osc)
     osc = None if receiver is None else "{}:{}".format(*receiver.getsockname())
+    midi = _midi(words, tell)
     presses = _Presses(tell, is_own=folder is None)
     _heed_signals(presses)
     # Listens before the night begins, so that its first packets are heard.
@@ -272,8 +297,7 @@ def run_desk(words: argparse.Namespace, tell: Teller, tell_address: Teller) -> i
         night.read()
         levels.read(night.wake)
         server.show(night, levels, show_view(show, Path(words.show).name, words.base, osc))
-        if receiver is not None:
-            threading.Thread(target=_take_osc, args=(night, receiver), daemon=True).start()
+        _take_others(night, receiver, midi)
         _watch(night, server, presses)
     finally:
         # Whatever happened, no `live` of its own is left behind that nobody can play.

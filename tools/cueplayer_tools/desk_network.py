@@ -1,8 +1,10 @@
 """How a desk is reached from elsewhere: the options, and what is told of them at the start."""
 
 import argparse
+import re
 import ssl
 import sys
+from collections.abc import Callable
 
 from cueplayer_tools.addresses import Address, listening_address, port_number
 from cueplayer_tools.desk_doors import PinDoor
@@ -56,12 +58,46 @@ def add_network(parser: argparse.ArgumentParser) -> None:
     )
 
 
+def add_midi(parser: argparse.ArgumentParser) -> None:
+    """The options of a MIDI device."""
+    parser.add_argument(
+        "--midi",
+        metavar="FILE",
+        help="take MIDI Show Control from this raw MIDI device, as /dev/snd/midiC1D0",
+    )
+    parser.add_argument(
+        "--midi-device",
+        metavar="N",
+        type=_number_up_to(111),
+        default=0,
+        help="of MIDI Show Control, the number of this device, 0 to 111 (0)",
+    )
+    for name in ("go", "back"):
+        parser.add_argument(
+            f"--midi-{name}",
+            metavar="NOTE",
+            type=_number_up_to(127),
+            help=f"a note that is {name.upper()}, 0 to 127; 60 is the middle C",
+        )
+
+
+def _number_up_to(greatest: int) -> Callable[[str], int]:
+    def read(word: str) -> int:
+        if re.fullmatch(r"\d{1,3}", word, re.ASCII) and int(word) <= greatest:
+            return int(word)
+        raise argparse.ArgumentTypeError(f"no number from 0 to {greatest}: {word!r}")
+
+    return read
+
+
 def check_network(parser: argparse.ArgumentParser, words: argparse.Namespace) -> None:
     """Refuses what cannot be served."""
     for name in ("listen", "osc"):
         address = getattr(words, name)
         if address is not None and (fault := foreign(address)):
             parser.error(f"--{name}: {fault}")
+    if words.midi is None and (words.midi_go, words.midi_back) != (None, None):
+        parser.error("--midi-go and --midi-back are of the device of --midi")
     if (words.certificate is None) != (words.key is None):
         parser.error("--certificate and --key go together")
     if words.listen is None and (words.certificate or words.host):
