@@ -188,9 +188,10 @@ for host, port in json.loads(sys.argv[1]):
     places[f"{host}:{port}"] = place
 subprocess.run(sys.argv[2:], input=b"0 tick\\n", check=True, stdout=subprocess.DEVNULL)
 came = {}
-for name, place in places.items():
-    while select.select([place], [], [], 0.1)[0]:
-        came.setdefault(name, []).append(place.recv(2048).hex())
+while ready := select.select(list(places.values()), [], [], 0.2)[0]:
+    for name, place in places.items():
+        if place in ready:
+            came.setdefault(name, []).append(place.recv(2048).hex())
 print(json.dumps(came))
 """
 
