@@ -1,0 +1,5 @@
+pub mod Notices
+pub mod Pipes
+pub mod Entries
+pub mod Stands
+pub mod Handing
