@@ -1,11 +1,10 @@
 -- What each step of a queue does to its account.
-use Rattle.std.proofs.Common.{◌≡◌, ◌≢◌, ◌≤◌, ◌<◌, ◌+◌, ◌^◌, ◌-◌, ◌∙◌, ℕ, add-zero, suc, min, List, [], ◌∷◌, ◌++◌}
-use Rattle.std.proofs.Common.{Option, Some, None, IsSome, false, is_some, append_assoc, append-nil, ap, arith, drop, length, refl, sym, subst, take}
-use Rattle.std.specs.List.{flat_map}
+use Rattle.std.proofs.Common.{◌≡◌, ◌≢◌, ◌≤◌, ◌<◌, ◌+◌, ◌∙◌, ℕ, add-zero, min, List, [], ◌∷◌, ◌++◌}
+use Rattle.std.proofs.Common.{Option, Some, None, IsSome, false, is_some, append_assoc, append-nil, ap, arith, drop, length, refl, sym, take}
 use Rattle.std.proofs.lemmas.List.{flat_map_more, length-append, length-take-le, length-take, nil_from_length, take-append-drop, take-take}
 use Rattle.std.proofs.lemmas.List.Sums.{sum_by-append}
 use Rattle.std.specs.declared.io.ErrorKind.{ErrorKind}
-use Rattle.line_queue.specs.Entries.{Entry, counted, gaps_of, is_gap, lines_in, lines_of, text_in, text_of}
+use Rattle.line_queue.specs.Entries.{Entry, counted, gaps_of, lines_in, lines_of, text_in, text_of}
 use Rattle.line_queue.specs.Entries.Entry.{Gap, Whole}
 use Rattle.line_queue.specs.Notices.{notice_text}
 use Rattle.line_queue.specs.Pipes.{PipeTape, lasting}

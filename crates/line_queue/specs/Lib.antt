@@ -3,3 +3,4 @@ pub mod Pipes
 pub mod Entries
 pub mod Stands
 pub mod Handing
+pub mod Kept

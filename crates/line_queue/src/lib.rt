@@ -10,10 +10,12 @@
 //! ```
 #![tactic(auto)]
 
+mod memory;
 mod notice;
 mod pipe;
 mod queue;
 
+pub use memory::MemoryPipe;
 pub use notice::{Notice, NoticeText};
 pub use pipe::Pipe;
 pub use queue::LineQueue;

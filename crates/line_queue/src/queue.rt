@@ -43,8 +43,8 @@ impl<P: Pipe> LineQueue<P> {
     ghost use Rattle.std.specs.Prelude.{IfOk, IsNone, None};
     ghost use Rattle.line_queue.specs.Handing.{AsksAtMost, IsDone};
     ghost use Rattle.line_queue.specs.Pipes.{IsFresh};
-    ghost use Rattle.line_queue.specs.Stands.{Accounts, HasRoom, StandsFor, TakesMore, dropped_in};
-    ghost use Rattle.line_queue.specs.Stands.{waiting_in};
+    ghost use Rattle.line_queue.specs.Stands.{HasRoom, StandsFor, TakesMore, dropped_in, failure_in};
+    ghost use Rattle.line_queue.specs.Stands.{notice_in, waiting_in};
 
     /// An empty queue in front of a pipe, with the words of its notices.
     ///
@@ -57,7 +57,7 @@ impl<P: Pipe> LineQueue<P> {
         ensures stands { IfOk result (λ queue. P.tells queue.pipe → IsFresh (P.tape queue.pipe)
             → StandsFor queue (P.tape queue.pipe) []) }
         ensures pipe { IfOk result (λ queue. queue.pipe ≡ pipe) }
-        ensures notice { IfOk result (λ queue. queue.notice ≡ notice) }
+        ensures notice { IfOk result (λ queue. notice_in queue ≡ notice) }
         ensures empty { IfOk result (λ queue. HasRoom queue []) }
     {
         Ok(LineQueue {
@@ -74,11 +74,12 @@ impl<P: Pipe> LineQueue<P> {
     /// Takes a line and hands it on, or drops it.
     pub fn put(&mut self, line: &[u8])
         ensures told { P.tells self.new.pipe → P.tells self.old.pipe }
+        ensures notice { notice_in self.new ≡ notice_in self.old }
         ensures stands { P.tells self.new.pipe → TakesMore (line.now ∷ []) self.old
             (P.tape self.old.pipe) self.new (P.tape self.new.pipe) }
         ensures asks { P.tells self.new.pipe
             → AsksAtMost 32 0 (P.tape self.old.pipe) (P.tape self.new.pipe) }
-        ensures over { IsSome self.old.failure → self.new ≡ self.old }
+        ensures over { IsSome (failure_in self.old) → self.new ≡ self.old }
     {
         self.take(line);
         self.hand_on();
@@ -88,16 +89,17 @@ impl<P: Pipe> LineQueue<P> {
     /// more calls of the system than their bytes do.
     pub fn take(&mut self, line: &[u8])
         ensures told { P.tells self.new.pipe → P.tells self.old.pipe }
+        ensures notice { notice_in self.new ≡ notice_in self.old }
         ensures stands { P.tells self.new.pipe → TakesMore (line.now ∷ []) self.old
             (P.tape self.old.pipe) self.new (P.tape self.new.pipe) }
         ensures kept { HasRoom self.old line.now → (self.new.pipe ≡ self.old.pipe)
             × (waiting_in self.new ≡ waiting_in self.old ++ line.now) × HasRoom self.new [] }
         // Where it is the first that is dropped, it does not fit behind what waits.
-        ensures dropped { IsNone self.new.failure → dropped_in self.new ≡ 1
+        ensures dropped { IsNone (failure_in self.new) → dropped_in self.new ≡ 1
             → 65536 < length (waiting_in self.new) + length line.now }
         ensures asks { P.tells self.new.pipe
             → AsksAtMost 16 0 (P.tape self.old.pipe) (P.tape self.new.pipe) }
-        ensures over { IsSome self.old.failure → self.new ≡ self.old }
+        ensures over { IsSome (failure_in self.old) → self.new ≡ self.old }
     {
         self.make_room(line);
         if self.failure.is_some() {
@@ -113,6 +115,7 @@ impl<P: Pipe> LineQueue<P> {
     // Hands on where a line does not fit behind what waits.
     fn make_room(&mut self, line: &[u8])
         ensures told { P.tells self.new.pipe → P.tells self.old.pipe }
+        ensures notice { notice_in self.new ≡ notice_in self.old }
         ensures stands { P.tells self.new.pipe → TakesMore [] self.old (P.tape self.old.pipe)
             self.new (P.tape self.new.pipe) }
         ensures asks { P.tells self.new.pipe
@@ -146,6 +149,7 @@ impl<P: Pipe> LineQueue<P> {
     /// Hands on what waits, as far as it is taken at once: 16 parts at most.
     pub fn hand_on(&mut self)
         ensures told { P.tells self.new.pipe → P.tells self.old.pipe }
+        ensures notice { notice_in self.new ≡ notice_in self.old }
         ensures stands { P.tells self.new.pipe → TakesMore [] self.old (P.tape self.old.pipe)
             self.new (P.tape self.new.pipe) }
         ensures asks { P.tells self.new.pipe
@@ -161,6 +165,7 @@ impl<P: Pipe> LineQueue<P> {
     /// Hands on what waits, as long as some of it is taken within a second.
     pub fn finish(&mut self)
         ensures told { P.tells self.new.pipe → P.tells self.old.pipe }
+        ensures notice { notice_in self.new ≡ notice_in self.old }
         ensures stands { P.tells self.new.pipe → TakesMore [] self.old (P.tape self.old.pipe)
             self.new (P.tape self.new.pipe) }
         ensures asks { P.tells self.new.pipe
@@ -176,6 +181,7 @@ impl<P: Pipe> LineQueue<P> {
     // Writes so many parts at most, as long as the pipe takes bytes within so many milliseconds.
     fn write_parts(&mut self, parts: usize, milliseconds: u64)
         ensures told { P.tells self.new.pipe → P.tells self.old.pipe }
+        ensures notice { notice_in self.new ≡ notice_in self.old }
         ensures stands { P.tells self.new.pipe → TakesMore [] self.old (P.tape self.old.pipe)
             self.new (P.tape self.new.pipe) }
         ensures asks { P.tells self.new.pipe → AsksAtMost parts milliseconds
@@ -199,6 +205,7 @@ impl<P: Pipe> LineQueue<P> {
     fn write_part(&mut self)
         requires { 0 < length (waiting_in self.old) }
         ensures told { P.tells self.new.pipe → P.tells self.old.pipe }
+        ensures notice { notice_in self.new ≡ notice_in self.old }
         ensures stands { P.tells self.new.pipe → TakesMore [] self.old (P.tape self.old.pipe)
             self.new (P.tape self.new.pipe) }
         ensures once { P.tells self.new.pipe
@@ -220,15 +227,17 @@ impl<P> LineQueue<P> {
     ghost use Rattle.std.specs.Prelude.{◌<◌, ◌++◌, ◌∷◌, [], List, ℕ, None, Some, false, length, take};
     ghost use Rattle.line_queue.specs.Entries.{IsTextOf};
     ghost use Rattle.line_queue.specs.Pipes.{PipeTape, after_write};
-    ghost use Rattle.line_queue.specs.Stands.{Accounts, StandsFor, dropped_in, is_late, waiting_in};
+    ghost use Rattle.line_queue.specs.Stands.{Accounts, StandsFor, dropped_in, failure_in, gaps_in};
+    ghost use Rattle.line_queue.specs.Stands.{is_late, notice_in, taken_in, waiting_in};
 
     // A line for which there is no room was given.
     fn drop_line(&mut self)
-        requires { self.old.failure ≡ None }
+        requires { failure_in self.old ≡ None }
         ensures stands { (line : List ℕ) (tape : PipeTape) (given : List (List ℕ))
             → StandsFor self.old tape given → StandsFor self.new tape (given ++ line ∷ []) }
         ensures pipe { self.new.pipe ≡ self.old.pipe }
-        ensures room { self.new.dropped ≡ 1 → (self.old.dropped ≡ 0)
+        ensures notice { notice_in self.new ≡ notice_in self.old }
+        ensures room { dropped_in self.new ≡ 1 → (dropped_in self.old ≡ 0)
             × (waiting_in self.new ≡ waiting_in self.old) }
     {
         self.dropped = self.dropped.saturating_add(1);
@@ -242,6 +251,7 @@ impl<P> LineQueue<P> {
         ensures stands { (tape : PipeTape) (given : List (List ℕ)) → StandsFor self.old tape given
             → StandsFor self.new (after_write tape (take count (waiting_in self.old)) None) given }
         ensures pipe { self.new.pipe ≡ self.old.pipe }
+        ensures notice { notice_in self.new ≡ notice_in self.old }
         ensures no_drop { dropped_in self.new ≤ dropped_in self.old }
     {
         self.taken = self.taken.saturating_add(count as u64);
@@ -251,10 +261,11 @@ impl<P> LineQueue<P> {
 
     // Puts a notice in place of the lines that were dropped, if nothing waits in front of it.
     fn tell_gap(&mut self)
-        requires { self.old.failure ≡ None }
+        requires { failure_in self.old ≡ None }
         ensures stands { (tape : PipeTape) (given : List (List ℕ)) → Accounts self.old tape given
             → StandsFor self.new tape given }
         ensures pipe { self.new.pipe ≡ self.old.pipe }
+        ensures notice { notice_in self.new ≡ notice_in self.old }
         ensures no_drop { dropped_in self.new ≤ dropped_in self.old }
         ensures still { 0 < dropped_in self.new → self.new ≡ self.old }
     {
@@ -273,6 +284,7 @@ impl<P> LineQueue<P> {
         ensures stands { (tape : PipeTape) (given : List (List ℕ)) → StandsFor self.old tape given
             → StandsFor self.new (after_write tape [] (Some kind)) given }
         ensures pipe { self.new.pipe ≡ self.old.pipe }
+        ensures notice { notice_in self.new ≡ notice_in self.old }
         ensures dropped { dropped_in self.new ≡ dropped_in self.old }
     {
         self.failure = Some(kind);
@@ -281,21 +293,21 @@ impl<P> LineQueue<P> {
 
     /// The system's reason where a write failed. Nothing is written any more then.
     pub fn failure(&self) -> Option<ErrorKind>
-        ensures { result ≡ self.now.failure }
+        ensures { result ≡ failure_in self.now }
     {
         self.failure
     }
 
     /// How many bytes the pipe took, up to 2^64 - 1.
     pub fn taken(&self) -> u64
-        ensures { result ≡ self.now.taken }
+        ensures { result ≡ taken_in self.now }
     {
         self.taken
     }
 
     /// How many times lines are missing, and a notice stands in their place, up to 2^64 - 1.
     pub fn gaps(&self) -> u64
-        ensures { result ≡ self.now.gaps }
+        ensures { result ≡ gaps_in self.now }
     {
         self.gaps
     }
@@ -303,9 +315,9 @@ impl<P> LineQueue<P> {
     /// Whether lines wait until they are taken, or were dropped and it is not told yet.
     pub fn is_late(&self) -> bool
         ensures late { result ≡ is_late self.now }
-        ensures all { result ≡ false → self.now.failure ≡ None → (tape : PipeTape)
+        ensures all { result ≡ false → failure_in self.now ≡ None → (tape : PipeTape)
             (given : List (List ℕ)) → StandsFor self.now tape given
-            → IsTextOf self.now.notice given tape.taken }
+            → IsTextOf (notice_in self.now) given tape.taken }
     {
         !self.waiting.is_empty() || self.dropped > 0
     }

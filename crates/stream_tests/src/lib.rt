@@ -1,4 +1,4 @@
-//! Tests of the crates that send and receive: `devices`, `sacn_packet`, `sacn_source`,
+//! Tests of the crates that send and receive: `devices`, `line_queue`, `sacn_packet`, `sacn_source`,
 //! `sacn_receiver` and `receiver_text`, by their public calls.
 //!
 //! They are a crate of their own, so that the proof of a crate does not wait for its tests, and

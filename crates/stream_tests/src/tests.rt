@@ -1,5 +1,6 @@
 mod memory;
 mod packet;
+mod queue;
 mod receiver;
 mod replies;
 mod source;

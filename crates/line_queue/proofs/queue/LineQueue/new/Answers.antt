@@ -1,5 +1,4 @@
-use Rattle.std.proofs.Common.{◌∙◌, [], ap, append-nil, length, refl, sym}
-use Rattle.line_queue.specs.Entries.{counted}
+use Rattle.std.proofs.Common.{◌∙◌, [], append-nil, refl, sym}
 use Rattle.line_queue.proofs.queue.LineQueue.new.Goals as goal
 
 pub returns-clause-stands : goal.returns-clause-stands

@@ -1,6 +1,5 @@
-use Rattle.std.proofs.Common.{◌≡◌, ◌≤◌, ◌∙◌, ◌++◌, [], None, Some, List, ℕ, ap, append-nil, arith, length, length-take, refl, sym, subst, take}
-use Rattle.std.proofs.lemmas.Grind.{common_steps}
-use Rattle.line_queue.specs.Pipes.{PipeTape, after_write}
+use Rattle.std.proofs.Common.{◌≡◌, ◌∙◌, [], None, Some, ap, refl, sym, subst, take}
+use Rattle.line_queue.specs.Pipes.{after_write}
 use Rattle.line_queue.specs.Stands.{StandsFor, waiting_in}
 use Rattle.line_queue.proofs.Accounting.{none_more, same_stands, take-front}
 use Rattle.line_queue.proofs.queue.LineQueue.write_part.Goals as goal

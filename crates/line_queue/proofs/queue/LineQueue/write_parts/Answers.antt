@@ -40,6 +40,7 @@ loop-preserved g c =
           ≡ c.args.milliseconds * c.loop.counter + c.args.milliseconds = rw (add-one, mul-suc) refl in
           omega (arith, wrote.no_wait tells, waited, before.wait (asked.told told), times);
       no_drop = omega arith;
+      notice = wrote.notice ∙ before.notice;
       empty = λ none. let still : waiting_in c.loop.self ≡ [] = ap waiting_in (before.empty none) ∙ none in
           absurd (grind (arith, common_steps));
     }

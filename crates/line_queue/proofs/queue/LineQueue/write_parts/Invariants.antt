@@ -1,5 +1,5 @@
 use Rattle.std.proofs.Common.{◌≡◌, ◌≤◌, ◌+◌, ◌*◌, []}
-use Rattle.line_queue.specs.Stands.{TakesMore, dropped_in, waiting_in}
+use Rattle.line_queue.specs.Stands.{TakesMore, dropped_in, notice_in, waiting_in}
 use Rattle.line_queue.proofs.queue.LineQueue.write_parts.Given as goal
 
 -- so many parts were written, each after a wait
@@ -13,5 +13,6 @@ invariant-loop g l = record {
   wait : g.P.Pipe.tells l.self.pipe → (g.P.Pipe.tape l.self.pipe).wait
       ≡ (g.P.Pipe.tape l.initial.self.pipe).wait + l.milliseconds * l.counter;
   no_drop : dropped_in l.self ≤ dropped_in l.initial.self;
+  notice : notice_in l.self ≡ notice_in l.initial.self;
   empty : waiting_in l.initial.self ≡ [] → l.self ≡ l.initial.self;
 }
