@@ -1,7 +1,8 @@
 //! The devices of the system: files, standard input and output, sockets, and the lock of a CID.
 //!
-//! None of them tells what it gave or took, so hardly anything is said of them in contracts. The
-//! outputs of a live night hold nobody up ([`BoundedOutput`]): that is measured, and not proved.
+//! None of them tells what it gave or took, so hardly anything is said of them in contracts. What an
+//! output that holds nobody up ([`BoundedOutput`]) does with its lines is that of a `LineQueue`, which
+//! has a contract; how long the system's calls take is measured, and not proved.
 #![tactic(auto)]
 
 mod appended_lines;
