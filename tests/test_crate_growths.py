@@ -41,6 +41,7 @@ TESTED = {
     "desk_tests::patch": Tested(("Rig::new",), EACH),
     "desk_tests::playback": Tested(("Playback::new",), EACH),
     "stream_tests::source": Tested(("Sender::open",), EACH),
+    "stream_tests::queue": Tested(("LineQueue::new",), EACH),
     "desk_tests::desk": Tested(("Desk::open",), EACH),
     "console_tests::world": Tested(("rehearse",), EACH),
     "show_tests::reader": Tested(

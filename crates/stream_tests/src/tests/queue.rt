@@ -72,3 +72,15 @@ fn nothing_is_written_behind_a_failure(rt: HostRuntime) {
     assert!(rt; failed.failure() == Some(ErrorKind::BrokenPipe));
     assert!(rt; failed.pipe.bytes.as_slice() == b"0 go\n" && failed.pipe.writes == 2);
 }
+
+// Where memory is refused there is no queue; behind that there is one, with nothing in it.
+#[test]
+fn each_growth_refused(rt: HostRuntime) {
+    let faults = Faults::new(0, 0);
+    let first = pipe(&rt, 1000, faults, ErrorKind::BrokenPipe);
+    let queue = match LineQueue::new(rt.alloc(), first, NOTICE) {
+        Ok(queue) => queue,
+        Err(_) => queue(&rt, pipe(&rt, 1000, faults, ErrorKind::BrokenPipe)),
+    };
+    assert!(rt; !queue.is_late() && queue.taken() == 0 && queue.gaps() == 0);
+}
