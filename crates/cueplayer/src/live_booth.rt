@@ -10,7 +10,7 @@ use devices::{Link, LinkFault};
 use live_input::Reason;
 use live_machine::{Came, MachineInput, NightClock, NightInput};
 use std::time::Instant;
-use system_devices::{Keyboard, Record, SystemClock, TypedInput};
+use system_devices::{Keyboard, Record, SystemClock};
 
 // Told where the input ends and the night goes on.
 const INPUT_ENDED: &[u8] = b"input ended: the light holds; SIGTERM to the program ends the night \
@@ -41,17 +41,16 @@ impl<'a> LiveBooth<'a> {
     pub fn new(
         rt: &'a HostRuntime,
         start: Instant,
-        input: TypedInput,
-        ends_with_input: bool,
-        record: Record,
+        input: NightInput<Keyboard<'a>>,
+        night_record: Record,
         screen: Screen,
     ) -> Self {
         LiveBooth {
             rt,
             clock: NightClock::new(SystemClock::new(rt, start), 0),
-            input: NightInput::new(Keyboard::new(rt, input), ends_with_input),
+            input,
             input_ended: None,
-            record,
+            record: night_record,
             screen,
             watch: None,
         }
