@@ -12,6 +12,7 @@ mod cid_lock;
 mod fault;
 mod input;
 mod lock_holder;
+mod machine_name;
 mod messages;
 mod neighbors;
 mod network;
@@ -34,6 +35,7 @@ pub use cards::{Card, CardName, CardState, Cards, card_state};
 pub use cid_lock::{CidLock, LockFault, PathText};
 pub use fault::DeviceFault;
 pub use input::SystemInput;
+pub use machine_name::machine_name;
 pub use messages::Messages;
 pub use network::{
     GROUPS, Leaving, MOST_SOURCES, Network, Path, PathState, Source, SourceState, is_multicast,
