@@ -204,14 +204,15 @@ fn push_own_address(rt: &HostRuntime, line: &mut CardLine, address: &str, cards:
     let names = names.as_str();
     let _ = match count {
         0 => write!(line, "no card is known to have {address}: "),
-        1 => write!(
-            line,
-            "no card that is up has {address}: {names} is down; ip link set {names} up; "
-        ),
         _ => write!(
             line,
-            "no card that is up has {address}: {names} are down; ip link set NAME up; "
+            "no card that is up is known to have {address}: {names} "
         ),
+    };
+    let _ = match count {
+        0 => Ok(()),
+        1 => write!(line, "is down; ip link set {names} up; "),
+        _ => write!(line, "are down; ip link set NAME up; "),
     };
 }
 
