@@ -188,8 +188,11 @@ class Venue:
 class Night:
     """A night of `live` on the console's machine."""
 
-    def __init__(self, kept: ExitStack, venue: Venue, show: Path, *options: object) -> None:
-        words = venue.console.words(PROGRAM, "live", show, "--cid", uuid.uuid4(), *options)
+    def __init__(
+        self, kept: ExitStack, venue: Venue, show: Path, *options: object, cid: str | None = None
+    ) -> None:
+        cid = cid or str(uuid.uuid4())
+        words = venue.console.words(PROGRAM, "live", show, "--cid", cid, *options)
         pipes = dict.fromkeys(("stdin", "stdout", "stderr"), subprocess.PIPE)
         self.process = subprocess.Popen(words, text=True, bufsize=1, **pipes)
         kept.callback(self._leave)

@@ -62,6 +62,17 @@ def run(*words, stdin=b"", **options):
     return Outcome(done.returncode, done.stdout, told(done.stderr))
 
 
+def live_name(machine):
+    """How `live` names its source on the machine of this name where it is given no --name: behind
+    the program's name what is printable ASCII of the machine's, 63 bytes at most."""
+    seen = re.sub("[^!-~]", "", machine)
+    return f"cueplayer {seen}"[:63].strip()
+
+
+# That of this machine.
+LIVE_NAME = live_name(os.uname().nodename)
+
+
 def text(*lines):
     """A show text: each line, ended by LF. A character stands for the byte of its number."""
     return "".join(line + "\n" for line in lines).encode("latin-1")

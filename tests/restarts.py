@@ -23,7 +23,7 @@ from expected.desk import Desk
 from expected.script import Console
 from expected.words import lines_of, uuid
 from machine import Took, by_clock
-from program import CID, PROGRAM
+from program import CID, LIVE_NAME, PROGRAM
 from wire import SEQUENCE, address_of, receiving
 
 HEAD = re.compile(
@@ -42,7 +42,7 @@ TIMESTAMP, FORCED_ROOM = 35, 33
 
 
 def head(
-    show: bytes, cid: str = CID, priority: int = 100, base: int = 1, name: str = "cueplayer"
+    show: bytes, cid: str = CID, priority: int = 100, base: int = 1, name: str = LIVE_NAME
 ) -> bytes:
     """The first lines of a record."""
     return (
@@ -85,7 +85,7 @@ def sent_by(
     cid: str = CID,
     priority: int = 100,
     base: int = 1,
-    name: str = "cueplayer",
+    name: str = LIVE_NAME,
 ) -> Iterator[Sent]:
     """The packets that the lines of a record mean, by the second reader."""
     desk, console = Desk(shows.read(show), base), Console(base, priority, uuid(cid.encode()), name)

@@ -1,12 +1,13 @@
 """Two network cards: by which one packets leave, and what a night tells when nobody hears it."""
 
+import re
 import time
 import uuid
 from contextlib import contextmanager
 
 from machine import in_time, took
 from networks import EVERYDAY, LIT, OFFICE, STAGE, NetworkTest, Night, Venue, universes
-from program import CID, FolderTest, packet, text
+from program import CID, LIVE_NAME, FolderTest, packet, text
 from wire import SLOT_1
 
 SHOW = text("CUE 1", "UP 0", "CHAN 1@H80", "PATCH 1 1<1@FL 1<513@FL")
@@ -386,12 +387,63 @@ class Watch(CardsTest):
         self.assertRegex(lost, r"^1:x\d+ 2:(s\d+|-)$")
 
 
+class Staying(CardsTest):
+    """Packets to a node leave by one card. Where the route changes in a fade, which has packets in
+    each tick, the other card hears none of them, and each is counted."""
+
+    # A default route leads by the office's card all the time.
+    CHANGES = (
+        ("link set lit down",),
+        (f"addr del {LIT}/24 dev lit",),
+        ("link del lit",),
+        (f"route add {STAGE}/32 via {OFFICE}",),
+        ("route del 10.101.2.0/24 dev lit",),
+    )
+
+    def test_staying(self):
+        self.side_by_side(*map(self.of_change, self.CHANGES))
+
+    def of_change(self, lines):
+        def case(kept):
+            self.stays(kept, lines)
+
+        case.__name__ = lines[0]
+        return case
+
+    def stays(self, kept, lines):
+        venue = Venue(kept)
+        record = self.folder / f"{venue.console.name}.play"
+        cid = str(uuid.uuid4())
+        night = Night(kept, venue, self.show, "--to", STAGE, "--record", record, cid=cid)
+        night.ask("goto 1 in 5")
+        came = venue.stage.wait()
+        venue.console.ip(*lines)
+        time.sleep(DURING)
+        status, told = night.end()
+        came += venue.stage.came()
+        self.assertEqual((5, 0), (status, len(venue.office.came())))
+        lost = int(re.search(r"(?m)^lost (\d+)$", "\n".join(told))[1])
+        self.assertEqual(self.offered(venue, record, cid), len(came) + lost)
+
+    def offered(self, venue, record, cid):
+        """How many packets a night sends, by `play` of its record."""
+        words = ("play", self.show, "--to", OFFICE, "--cid", cid, "--name", LIVE_NAME)
+        done = venue.run(*words, stdin=record.read_bytes())
+        self.assertEqual((0, b""), (done.returncode, done.stderr))
+        return len(venue.office.came())
+
+
 class Refusals(CardsTest):
     CARDS = f"there are eth0 ({EVERYDAY}), lit ({LIT}), lo (127.0.0.1)"
 
     def test_refusals(self):
         """Each names what there is. Nothing is sent or made, and the status is 2."""
-        self.side_by_side(self.refused_cards, self.card_down, self.refused_routes)
+        self.side_by_side(
+            self.refused_cards,
+            self.card_down,
+            self.address_without_a_network,
+            self.refused_routes,
+        )
 
     def assertRefused(self, venue, remark, *words):
         record = self.folder / f"{venue.console.name}.play"
@@ -404,24 +456,48 @@ class Refusals(CardsTest):
 
     def refused_cards(self, kept):
         venue = Venue(kept)
-        venue.console.ip("link add bare type veth peer name other", "link set bare up")
+        venue.console.ip(
+            "link add bare type veth peer name other",
+            "link set bare up",
+            "link add plugged type veth peer name socket",
+            "link set plugged up",
+            "link set socket up",
+        )
         for word, told in (
             ("eth7", f"no card eth7: {self.CARDS}"),
             ("LIT", f"no card LIT: {self.CARDS}"),
-            ("bare", f"bare has no address: {self.CARDS}"),
-            ("other", f"other is down, and has no address: {self.CARDS}"),
+            ("plugged", f"plugged has no address: {self.CARDS}"),
+            ("bare", f"bare has no link and no address: check the cable; {self.CARDS}"),
+            ("other", f"other is down: ip link set other up; {self.CARDS}"),
             (STAGE, f"no card has {STAGE}: {self.CARDS}"),
         ):
             self.assertRefused(venue, told, "--to", MULTICAST, "--interface", word)
 
     def card_down(self, kept):
-        """The system does not tell the addresses of a card that is down."""
+        """The system tells that it has the address of a card that is down, and not which one it is:
+        the card is down, and no card has no address."""
         venue = Venue(kept)
         venue.console.ip("link set lit down")
         there = f"there are eth0 ({EVERYDAY}), lo (127.0.0.1)"
         for word, told in (
-            ("lit", f"lit is down, and has no address: {there}"),
-            (LIT, f"the card of {LIT} is down, or is not known: {there}"),
+            ("lit", "lit is down: ip link set lit up"),
+            (LIT, f"no card that is up is known to have {LIT}: lit is down; ip link set lit up"),
+        ):
+            named = ("--to", MULTICAST, "--interface", word)
+            self.assertRefused(venue, f"{told}; {there}", *named)
+        venue.console.ip("link add bare type veth peer name other")
+        told = f"no card that is up is known to have {LIT}: lit, other, bare are down"
+        told += f"; ip link set NAME up; {there}"
+        self.assertRefused(venue, told, "--to", MULTICAST, "--interface", LIT)
+
+    def address_without_a_network(self, kept):
+        """No route leads to a network of the address: so no file of the system names its card."""
+        venue = Venue(kept)
+        venue.console.ip("addr add 10.9.0.1/32 dev eth0", f"addr del {LIT}/24 dev lit")
+        there = f"there are eth0 ({EVERYDAY}), lo (127.0.0.1)"
+        for word, told in (
+            ("lit", f"lit has no known address: {there}"),
+            ("10.9.0.1", f"no card is known to have 10.9.0.1: {there}"),
         ):
             self.assertRefused(venue, told, "--to", MULTICAST, "--interface", word)
 

@@ -300,7 +300,7 @@ class MessageTest(StubTest):
 
 class Messages(MessageTest):
     SKIPPED = "show: 3 cues, 1 submaster, 1 group, 1 dimmer; 3 lines skipped: see cueplayer explain"
-    SENDS = "sends: universe 1 to 127.0.0.1:5568, priority 100, CID x, name cueplayer"
+    SENDS = "sends: universe 1 to 127.0.0.1:5568, priority 100, CID x, name cueplayer booth"
 
     def test_start(self):
         """What the program says as it begins is for the terminal; the page has what is skipped."""

@@ -10,7 +10,7 @@ from unittest import mock
 from browser import CHROMIUM, MISSING, Browser
 from desks import SHOW, DeskTest, Page
 from machine import in_time, took
-from program import PROGRAM, TOP, run, text
+from program import LIVE_NAME, PROGRAM, TOP, run, text
 from tooling import stand_still, wait_for
 
 # The program, whose `live` also says what is written to a FIFO.
@@ -113,7 +113,7 @@ class DeskPage(DeskTest):
             page.click("document.getElementById('end')")
         state.wait(status=0)
         came += self.came()
-        words = ["play", self.show, "--to", self.to, "--cid", self.cid]
+        words = ["play", self.show, "--to", self.to, "--cid", self.cid, "--name", LIVE_NAME]
         replay = run(*words, stdin=record.read_bytes())
         self.assertEqual((0, b""), (replay.status, replay.err))
         self.assertEqual(came, self.came())

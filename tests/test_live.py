@@ -10,7 +10,7 @@ import time
 from pathlib import Path
 
 from machine import Took, in_time, took
-from program import CID, PROGRAM, START, Outcome, behind_head, packet, run, text, told
+from program import CID, LIVE_NAME, PROGRAM, START, Outcome, behind_head, packet, run, text, told
 from wire import OPTIONS, SEQUENCE, SLOT_1, TERMINATED, ReceiverTest
 from wire import address_of, received, receiving, terminal
 from worked import S1
@@ -130,7 +130,7 @@ class Live(LiveTest):
         changes = [b for a, b in zip([None] + shown, shown) if a != b]
         # Submaster 1 is 128; the master at 128 of 255 makes it 64.
         self.assertEqual([0, 128, 64, 0], changes)
-        self.assertEqual(packet(1, {}, came[-1][SEQUENCE], TERMINATED), came[-1])
+        self.assertEqual(packet(1, {}, came[-1][SEQUENCE], TERMINATED, name=LIVE_NAME), came[-1])
 
     def test_closed_input(self):
         """With --end-with-input the end of the input is that of the night; a last line needs no LF."""
@@ -295,11 +295,12 @@ class Live(LiveTest):
         refused = b"line refused: nonsense: no such command; help lists the commands\n"
         self.assertEqual((0, refused), (outcome.status, outcome.err))
         came = self.came()
-        words = ["play", *self.words(holds=True)[1:], "--priority", "150", "--base", "7"]
+        source = ("--priority", "150", "--base", "7", "--name", LIVE_NAME)
+        words = ["play", *self.words(holds=True)[1:], *source]
         replay = run(*words, stdin=record.read_bytes())
         self.assertEqual((0, b""), (replay.status, replay.err))
         self.assertEqual(came, self.came())
-        self.assertEqual(packet(7, {}, 0, priority=150), came[0])
+        self.assertEqual(packet(7, {}, 0, priority=150, name=LIVE_NAME), came[0])
         replies = [line for line in replay.out.splitlines() if b" live" not in line and b" ending" not in line]
         shown = outcome.out.splitlines()
         self.assertEqual([line for line in shown if b" cue " not in line], replies)

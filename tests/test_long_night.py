@@ -14,7 +14,7 @@ import threading
 import time
 
 from machine import in_time, took
-from program import PROGRAM, behind_head, text
+from program import LIVE_NAME, PROGRAM, behind_head, text
 from test_live import LiveTest
 from wire import OPTIONS, SEQUENCE
 
@@ -169,7 +169,7 @@ class LongNight(LiveTest):
 
     def replayed(self):
         """The digest of what `play` of the record sends, four lines at a time."""
-        words = [PROGRAM, "play", *self.words(holds=True)[1:]]
+        words = [PROGRAM, "play", *self.words(holds=True)[1:], "--name", LIVE_NAME]
         play = subprocess.Popen(words, stdin=subprocess.PIPE, stdout=subprocess.PIPE)
         heard, lines = hashlib.sha256(), behind_head(self.kept.read_bytes())
         for first in range(0, len(lines), 4):

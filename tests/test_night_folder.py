@@ -499,7 +499,9 @@ class Stubbed(FolderNightTest):
         self.file("status", b"2\n")
         for said in (
             "no card lit: there are lo (127.0.0.1)",
-            "lit is down, and has no address: there are lo (127.0.0.1)",
+            "lit is down: ip link set lit up; there are lo (127.0.0.1)",
+            "lit has no link and no address: check the cable; there are lo (127.0.0.1)",
+            "no card that is up is known to have 10.0.0.2: lit is down; ip link set lit up; there are lo",
             "the route to 10.0.0.7 leads by off, and not by lit: --any-route sends by it",
         ):
             with self.subTest(said):

@@ -11,7 +11,7 @@ import time
 from pathlib import Path
 
 from machine import by_clock, in_time
-from program import CID, PROGRAM, TOP, run, text
+from program import CID, LIVE_NAME, PROGRAM, TOP, run, text
 from restarts import HEAD, Ear, Judge, KilledNight, Wrong, head, moments, sent_by, wait_until
 from test_live import LiveTest, without_moments
 from tooling import stand_still
@@ -85,6 +85,8 @@ class RestartTest(LiveTest):
     def played(self, night, *options):
         """The packets that `play` sends of a night's record."""
         ear = Ear(receiving())
+        if "--name" not in options:
+            options = (*options, "--name", LIVE_NAME)
         words = ["play", night.show, "--to", address_of(ear.receiver), "--cid", CID, *options]
         outcome = run(*words, stdin=night.record.read_bytes())
         ear.settle()
@@ -443,7 +445,7 @@ class New(RestartTest):
         for name in ("the backup, started last", "n" * 63):
             self.assertHead(CID, "100", "1", "--name", name, name=name)
 
-    def assertHead(self, wanted, priority, base, *options, name="cueplayer", **kept):
+    def assertHead(self, wanted, priority, base, *options, name=LIVE_NAME, **kept):
         before = time.time()
         night = self.begun_in(None, *options, **kept)
         after = time.time()

@@ -138,7 +138,6 @@ class Refused(RestartTest):
         self.assertRefused("another priority", "--priority", "101", told=(100, 101))
         self.assertRefused("another base", "--base", "2", told=(1, 2))
         self.record.write_bytes(head(SHOW, name="another") + b"0 tick\n")
-        self.assertRefused("another name", told=("cueplayer", "another"))
         self.assertRefused("another name", "--name", "the main", told=("the main", "another"))
         self.show.write_bytes(SHOW + b"!")
         self.record.write_bytes(record_of("0 tick"))

@@ -1,16 +1,21 @@
 """`live --start N`: the first packet shows a cue at full."""
 
 from expected import runs
-from program import Outcome, behind_head, packet, run
+from program import LIVE_NAME, Outcome, behind_head, packet, run
 from restarts import moments
 from test_restart import SHOW, RestartTest
+
+
+def sent_first(universe, slots, priority=100):
+    """The first packet of a universe."""
+    return packet(universe, slots, 0, priority=priority, name=LIVE_NAME)
 
 
 class Start(RestartTest):
     def assertStarts(self, night, cue, base=1, priority=100):
         """The first packets, and so all of them, show a cue at full."""
         frames = runs.full(SHOW, cue)
-        wanted = [packet(base + k, slots, 0, priority=priority) for k, slots in frames.items()]
+        wanted = [sent_first(base + k, slots, priority) for k, slots in frames.items()]
         self.assertEqual(wanted, [each.packet for each in night.heard[: len(frames)]])
         record = night.record.read_bytes()
         move, tick = behind_head(record)[:2]
@@ -55,7 +60,7 @@ class Start(RestartTest):
         night.begin()
         night.light(2)
         self.assertEnds(night)
-        wanted = [packet(1 + k, slots, 0) for k, slots in runs.full(SHOW, 2000).items()]
+        wanted = [sent_first(1 + k, slots) for k, slots in runs.full(SHOW, 2000).items()]
         self.assertEqual(wanted, [each.packet for each in night.heard[heard:][: len(wanted)]])
 
     def test_no_such_cue(self):

@@ -3,12 +3,12 @@
 import os
 import subprocess
 
-from program import CID, PROGRAM, TOP, text
+from program import CID, LIVE_NAME, PROGRAM, TOP, text
 from test_live import LiveTest
 from wire import own_network
 from worked import S1
 
-SENDS = f"priority 100, CID {CID}, name cueplayer"
+SENDS = f"priority 100, CID {CID}, name {LIVE_NAME}"
 HERE = "from 127.0.0.1 (lo)"
 ENDS = "end ends the night, leave leaves the light to others"
 NO_RECORD = "record: none; --record FILE keeps one"
@@ -71,7 +71,7 @@ class StartLines(LiveTest):
         for priority in ("0", "200"):
             for cid in (CID.upper(), CID.replace("-", ""), f"{{{CID}}}"):
                 told = self.lines("--priority", priority, cid=cid)[1]
-                self.assertEqual(f"sends: universe 1 to {self.to}, priority {priority}, CID {CID}, name cueplayer", told)
+                self.assertEqual(f"sends: universe 1 to {self.to}, priority {priority}, CID {CID}, name {LIVE_NAME}", told)
 
     def test_name(self):
         """As it is in each packet, in UTF-8."""

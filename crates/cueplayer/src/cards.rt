@@ -1,5 +1,5 @@
 use crate::failure::{Failure, JobFault};
-use crate::remark::{Remark, push_shown};
+use crate::remark::{Remark, of_name, push_shown};
 use arrayvec::{ArrayString, ArrayVec};
 use cueplayer_faults::RunFault;
 use cueplayer_words::{Name, Night};
@@ -11,6 +11,9 @@ use targets::{TargetMisfit, Targets};
 
 /// An address and its card, or the part of a message that names one.
 pub type HostText = ArrayString<64>;
+
+// Why a card cannot be sent by.
+type CardLine = ArrayString<480>;
 
 /// A host's address.
 pub fn host_text(host: [u8; 4]) -> HostText {
@@ -146,26 +149,76 @@ fn source_of(rt: &HostRuntime, night: &Night) -> Result<Option<[u8; 4]>, JobFaul
     }
 }
 
-// Why a card that was named cannot be sent by.
+// Why a card that was named cannot be sent by, and what to do.
 fn of_card(rt: &HostRuntime, named: &str, found: Option<Card>, cards: &Cards) -> Remark {
-    let mut remark = Remark::new();
-    let (front, back): (&str, &str) = match found {
-        None if named.parse::<Ipv4Addr>().is_ok() => ("no card has ", ""),
-        None => ("no card ", ""),
-        Some(card) if card.address.is_some() => ("the card of ", " is down, or is not known"),
-        Some(_) if card_state(rt, named) == CardState::Down => ("", " is down, and has no address"),
-        Some(_) => ("", " has no address"),
+    let shown = of_name(named);
+    let shown = shown.as_str();
+    let mut line = CardLine::new();
+    let _ = match found {
+        None if named.parse::<Ipv4Addr>().is_ok() => write!(line, "no card has {shown}: "),
+        None => write!(line, "no card {shown}: "),
+        Some(card) if card.address.is_some() => {
+            push_own_address(rt, &mut line, shown, cards);
+            Ok(())
+        }
+        Some(_) => {
+            let address = address_word(cards);
+            match card_state(rt, named) {
+                CardState::Down => write!(line, "{shown} is down: ip link set {shown} up; "),
+                CardState::NoLink => write!(
+                    line,
+                    "{shown} has no link and no {address}: check the cable; "
+                ),
+                CardState::Up => write!(line, "{shown} has no {address}: "),
+            }
+        }
     };
-    push_shown(&mut remark, front.as_bytes());
-    push_shown(&mut remark, named.as_bytes());
-    push_shown(&mut remark, back.as_bytes());
+    let mut remark = remark_of(line.as_str());
     push_cards(&mut remark, cards);
     remark
 }
 
+// What a card without a row of its own does not have. Where the card of an address is not known, it
+// may be this one.
+fn address_word(cards: &Cards) -> &'static str {
+    if cards.as_slice().iter().all(Card::is_known) {
+        "address"
+    } else {
+        "known address"
+    }
+}
+
+// Adds that this machine has an address, and that no card is known to have it. One that is down may:
+// the system's files do not tell.
+fn push_own_address(rt: &HostRuntime, line: &mut CardLine, address: &str, cards: &Cards) {
+    let mut names = ArrayString::<160>::new();
+    let mut count = 0_usize;
+    for card in cards.as_slice() {
+        let name = card.name.as_str();
+        if card.address.is_none() && card_state(rt, name) == CardState::Down {
+            let front = if count == 0 { "" } else { ", " };
+            let _ = write!(names, "{front}{name}");
+            count = count.saturating_add(1);
+        }
+    }
+    let names = names.as_str();
+    let _ = match count {
+        0 => write!(line, "no card is known to have {address}: "),
+        _ => write!(
+            line,
+            "no card that is up is known to have {address}: {names} "
+        ),
+    };
+    let _ = match count {
+        0 => Ok(()),
+        1 => write!(line, "is down; ip link set {names} up; "),
+        _ => write!(line, "are down; ip link set NAME up; "),
+    };
+}
+
 // Adds which cards can be sent by.
 fn push_cards(remark: &mut Remark, cards: &Cards) {
-    let mut front = ": there are ";
+    let mut front = "there are ";
     for card in cards.as_slice() {
         if card.address.is_some() && card.is_known() {
             push_shown(remark, front.as_bytes());

@@ -102,7 +102,7 @@ fn follow_over<'a, F: Fader>(
     tell(rt, backup, network, followed, &mut leader)?;
     leader.follow(now(rt)?);
     let targets = backup.words.night.targets.copy();
-    let mut link = TargetLink::new(CardSender::new(network), targets);
+    let mut link = TargetLink::new(CardSender::new(rt, network), targets);
     let answer = follow_and_lead(rt, night, &mut leader, &mut link);
     leader.booth().finish();
     Ok(played(answer?, backup.show, network, None))

@@ -6,6 +6,7 @@ use crate::cards::{check_targets, open_network};
 use crate::device_failure::of_socket;
 use crate::failure::{Failure, JobFault};
 use crate::live_job::{LiveWords, MainWords, play_live};
+use crate::live_name::{OldRecord, live_name};
 use crate::reading::{file_text, script_text, show_text};
 use crate::remark::{of_device, plain};
 use crate::source_name::source_name;
@@ -57,9 +58,14 @@ pub fn run(rt: &HostRuntime, job: Job) -> Result<(), JobFault>
             patience,
             ends_with_input,
         } => {
+            let mut night = night;
+            let record_file = record_file.as_ref().map(Name::as_str);
+            if night.name.is_none() {
+                night.name = Some(name_of_night(rt, record_file, resumes, is_spare)?);
+            }
             let words = LiveWords {
                 night: &night,
-                record_file: record_file.as_ref().map(Name::as_str),
+                record_file,
                 resumes,
                 is_spare,
                 start,
@@ -75,6 +81,26 @@ pub fn run(rt: &HostRuntime, job: Job) -> Result<(), JobFault>
             count,
         } => ends(listen_at(rt, at, universe, count)),
         Job::Watch { universes } => ends(watch_lines(rt, universes.as_slice())),
+    }
+}
+
+// The name of who sends in a live night that was given none.
+fn name_of_night(
+    rt: &HostRuntime,
+    record_file: Option<&str>,
+    resumes: bool,
+    is_spare: bool,
+) -> Result<Name, Failure> {
+    let record = match record_file {
+        Some(file) if resumes => Some(OldRecord {
+            file,
+            is_played: is_spare,
+        }),
+        _ => None,
+    };
+    match live_name(rt, record) {
+        Ok(name) => Ok(name),
+        Err(_) => Err(Failure::from(RunFault::Memory)),
     }
 }
 
@@ -205,7 +231,7 @@ fn play_lines(rt: &HostRuntime, night: &Night, source: Identity) -> Result<(), J
         tell(rt, NO_LOCK);
     }
     let network = RefCell::new(open_network(rt, night, false)?);
-    let mut link = TargetLink::new(CardSender::new(&network), night.targets.copy());
+    let mut link = TargetLink::new(CardSender::new(rt, &network), night.targets.copy());
     let mut input = SystemInput::new(rt.stdin());
     let mut out = SystemOutput::new(rt.stdout());
     let answer = play::<StepFader, _, _, _>(

@@ -281,22 +281,23 @@ pub fn lead<F: Fader>(
     let input = NightInput::new(Keyboard::new(rt, input), words.ends_with_input);
     let booth = LiveBooth::new(rt, start, input, record, screen);
     let network = RefCell::new(network);
-    let answer = lead_over(words, &network, booth, passed, night);
+    let answer = lead_over(words, (rt, &network), booth, passed, night);
     Ok(played(answer, show, &network, None))
 }
 
 // Plays a night over a network.
 fn lead_over<'a, F: Fader>(
     words: LiveWords<'_>,
-    network: &'a RefCell<Network>,
+    over: (&'a HostRuntime, &'a RefCell<Network>),
     mut booth: LiveBooth<'a>,
     passed: u64,
     night: &mut LiveNight<F>,
 ) -> Result<(), RunFault>
     requires { IsPlayable F.stands_for night.old }
 {
+    let (rt, network) = over;
     booth.watch(LinkWatch::new(network));
-    let mut link = TargetLink::new(CardSender::new(network), words.night.targets.copy());
+    let mut link = TargetLink::new(CardSender::new(rt, network), words.night.targets.copy());
     let answer = night.live(passed, &mut booth, &mut link);
     booth.finish();
     answer

@@ -9,6 +9,7 @@ mod jobs;
 mod link_watch;
 mod live_booth;
 mod live_job;
+mod live_name;
 mod main_record;
 mod network_lines;
 mod opening;

@@ -22,7 +22,12 @@ impl Model for Name {
 }
 
 impl Name {
-    pub(crate) fn new(alloc: Global, text: &str) -> Result<Name, AllocError>
+    /// The name that this text is.
+    ///
+    /// # Errors
+    ///
+    /// Where memory was refused.
+    pub fn new(alloc: Global, text: &str) -> Result<Name, AllocError>
         ensures { IfOk result (λ name. name ≡ text.now) }
     {
         Ok(Name {

@@ -58,7 +58,7 @@ const ANY_ROUTE: Argument<'static> = Argument::Flag(
 const NAME: Argument<'static> = Argument::Optional(
     "name",
     "TEXT",
-    "The source's name on monitors, 1 to 63 bytes; cueplayer where it is absent",
+    "The source's name on monitors, 1 to 63 bytes; else cueplayer, and of live the machine's too",
 );
 
 const TTL: Argument<'static> = Argument::Optional(

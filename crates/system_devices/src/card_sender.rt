@@ -8,12 +8,13 @@ use targets::{Address, Sender};
 /// Sends datagrams to the network, which is also watched. It does not tell what it was offered.
 #[derive(Drop)]
 pub struct CardSender<'a> {
+    rt: &'a HostRuntime,
     network: &'a RefCell<Network>,
 }
 
 impl<'a> CardSender<'a> {
-    pub fn new(network: &'a RefCell<Network>) -> CardSender<'a> {
-        CardSender { network }
+    pub fn new(rt: &'a HostRuntime, network: &'a RefCell<Network>) -> CardSender<'a> {
+        CardSender { rt, network }
     }
 }
 
@@ -24,7 +25,7 @@ impl Sender for CardSender<'_> {
 
     fn send_to(&mut self, to: Address, bytes: &[u8]) -> Result<(), LinkFault> {
         match self.network.try_borrow_mut() {
-            Ok(mut network) => network.send(to, bytes),
+            Ok(mut network) => network.send(self.rt, to, bytes),
             Err(_) => Err(LinkFault),
         }
     }

@@ -14,6 +14,7 @@ mod fault;
 mod input;
 mod lock_holder;
 mod machine;
+mod machine_name;
 mod messages;
 mod neighbors;
 mod network;
@@ -37,6 +38,7 @@ pub use cid_lock::{CidLock, LockFault, PathText};
 pub use fault::DeviceFault;
 pub use input::SystemInput;
 pub use machine::{Keyboard, SystemClock};
+pub use machine_name::machine_name;
 pub use messages::Messages;
 pub use network::{
     GROUPS, Leaving, MOST_SOURCES, Network, Path, PathState, Source, SourceState, is_multicast,

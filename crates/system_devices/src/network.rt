@@ -6,6 +6,7 @@ use arrayvec::ArrayVec;
 use devices::LinkFault;
 use std::io::ErrorKind;
 use std::net::{IpAddr, SocketAddr, UdpSocket};
+use std::time::Instant;
 use targets::{Address, MOST_TARGETS, Targets};
 
 /// The most addresses of this machine that a night sends from.
@@ -16,6 +17,10 @@ pub const GROUPS: [u8; 4] = [239, 255, 0, 0];
 
 /// A neighbor is silent where it did not answer at so many looks one behind the other.
 pub const SILENCE: u8 = 2;
+
+// A look at the route to a host counts for so many milliseconds: so the packets of a tick have one,
+// and not one each.
+const FRESH: u128 = 1;
 
 /// How packets leave this machine.
 #[derive(Clone, Copy, Debug)]
@@ -88,6 +93,9 @@ pub struct Path {
 
     // By this address the route led elsewhere.
     other: Option<[u8; 4]>,
+
+    // When the route was looked for, before a packet.
+    looked: Option<Instant>,
 }
 
 impl Path {
@@ -210,8 +218,24 @@ impl Network {
         }
     }
 
-    // Looks where the route to the host of a path leads: by which address.
+    // Looks where the route to the host of a path leads, by which address, and who takes its
+    // packets first.
     fn look_along(&self, rt: &HostRuntime, path: &mut Path, route: Option<[u8; 4]>) {
+        if let Some(address) = route
+            && path.source.is_some()
+            && (path.neighbor.is_none() || path.silence > 0)
+        {
+            let neighbor = neighbor_to(rt, path.host, address);
+            if path.neighbor != neighbor {
+                path.silence = 0;
+            }
+            path.neighbor = neighbor;
+        }
+        self.look_for_card(rt, path, route);
+    }
+
+    // Looks by which card the route to the host of a path leads.
+    fn look_for_card(&self, rt: &HostRuntime, path: &mut Path, route: Option<[u8; 4]>) {
         let Some(source) = self.source_of(path) else {
             return;
         };
@@ -220,13 +244,6 @@ impl Network {
             path.other = None;
             return;
         };
-        if path.neighbor.is_none() || path.silence > 0 {
-            let neighbor = neighbor_to(rt, path.host, address);
-            if path.neighbor != neighbor {
-                path.silence = 0;
-            }
-            path.neighbor = neighbor;
-        }
         if address == source.address || self.leaving.is_any_route {
             path.state = PathState::Leads;
             path.other = None;
@@ -293,14 +310,38 @@ impl Network {
         self.paths.as_slice().get(place)
     }
 
+    // Looks for the route to a host before a packet goes there, unless that was done just now. The
+    // multicast of a bound socket needs no look, since it leaves by the card of its address.
+    fn look_before(&mut self, rt: &HostRuntime, host: [u8; 4]) {
+        if is_multicast(host) || self.leaving.is_any_route {
+            return;
+        }
+        let Some(place) = self.place_of(host) else {
+            return;
+        };
+        let now = Instant::now(rt).ok();
+        let Some(mut path) = self.paths.as_slice().get(place).copied() else {
+            return;
+        };
+        if path.source.is_none() || is_fresh(path.looked, now) {
+            return;
+        }
+        path.looked = now;
+        self.look_for_card(rt, &mut path, source_to(rt, host));
+        if let Some(place) = self.paths.as_mut_slice().get_mut(place) {
+            *place = path;
+        }
+    }
+
     /// Sends a datagram. It is not offered to another card than that of its source, unless any will
     /// do; and what a card without a link takes is lost all the same.
     ///
     /// # Errors
     ///
     /// Where it is lost.
-    pub fn send(&mut self, to: Address, bytes: &[u8]) -> Result<(), LinkFault> {
+    pub fn send(&mut self, rt: &HostRuntime, to: Address, bytes: &[u8]) -> Result<(), LinkFault> {
         let address = SocketAddr::new(IpAddr::from(to.host), to.port);
+        self.look_before(rt, to.host);
         match self.offer(address, to.host, bytes) {
             Ok(()) => Ok(()),
             Err(kind) => {
@@ -330,6 +371,13 @@ impl Network {
             SourceState::Down => Err(ErrorKind::NetworkDown),
             SourceState::Lost => Err(ErrorKind::AddrNotAvailable),
         }
+    }
+}
+
+fn is_fresh(looked: Option<Instant>, now: Option<Instant>) -> bool {
+    match (looked, now) {
+        (Some(looked), Some(now)) => now.duration_since(looked).as_millis() < FRESH,
+        _ => false,
     }
 }
 
