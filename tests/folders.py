@@ -107,8 +107,8 @@ class FolderNightTest(ReceiverTest):
         return out
 
     def number(self, name):
-        """The process of which the folder tells."""
-        return int((self.night / name).read_text())
+        """The process of which the folder tells. The file is empty while it is written."""
+        return int(wait_for(lambda: (self.night / name).read_text().strip(), name))
 
     def spare(self):
         """The process that stands by, once it does: it is no shell any more, and has taken up the

@@ -403,11 +403,23 @@ class ByChance(FolderNightTest):
             keeper = self.kill("lock")
             wait_for(lambda: not self.is_there(keeper), "the keeper is gone")
 
+    def live(self):
+        """The process that plays the night, once a keeper has written which one that is."""
+
+        def named():
+            text = (self.night / "pid").read_text().strip()
+            return text and self.is_there(int(text)) and int(text)
+
+        if not named() and not self.is_there(self.number("lock")):
+            self.assertEqual(0, self.asked("start", "--background").status)
+        return wait_for(named, "the live that plays")
+
     def kill_live(self):
         """Where nothing would start it again, something is begun that does."""
         if self.kills < self.MOST_KILLS:
             self.kills += 1
-            live = self.kill("pid")
+            live = self.live()
+            os.kill(live, signal.SIGKILL)
             wait_for(lambda: not self.is_there(live), "live is gone")
             if not self.is_there(self.number("lock")):
                 self.assertEqual(0, self.asked("start", "--background").status)
