@@ -3,6 +3,7 @@
 import os
 import random
 import re
+import resource
 import select
 import shutil
 import signal
@@ -16,13 +17,15 @@ import unittest
 from collections import Counter
 from contextlib import ExitStack
 from fcntl import ioctl
+from functools import partial
+from unittest import mock
 
 import inputs
 from expected import watch as expected
 from floods import Burst
 from networks import LIT, PORT, Machine, NetworkTest, Venue
 from program import CID, TOP, FolderTest, packet, run, text
-from tooling import PATIENCE, TOOLS, Lines, run_tool, wait_for
+from tooling import PATIENCE, TOOLS, Lines, run_tool, stand_still, wait_for
 from wire import own_network, terminal
 
 from cueplayer_tools.watch_command import universes_of  # noqa: E402  (tooling has its folder on the path)
@@ -34,6 +37,8 @@ NIGHTS, IN_A_SCRIPT, SEED = 1_000, 100, 1
 ON_TRIAL = [1, 2, 7, 63999]
 TENTH = 100
 OTHER = CID[:-1] + "2"
+# Bytes that a disk has room for.
+LIMIT = 4096
 # Seconds of the flood, and kilobytes that it may add to what the tool holds.
 SECONDS, GROWTH = 1.5, 24_000
 
@@ -114,6 +119,21 @@ class Kept(FolderTest):
                 each.close()
             self.assertAgree(*(open(name, "rb").read() for name in names))
 
+    def test_full_script(self):
+        """A script ends before it would be too long, and is told so once."""
+        told, name = [], str(self.folder / "short.script")
+        with mock.patch("cueplayer_tools.watch_files.LONGEST_SCRIPT", 4000):
+            script = Script(name, ON_TRIAL, told.append)
+            for number in range(5):
+                script.clock(100 * number)
+                script.datagram(100 * number, packet(1, {1: 1}, number))
+            script.close()
+        self.assertEqual(1, len(told))
+        self.assertRegex(told[0], r"short\.script is full: a script has at most 16 MiB$")
+        with open(name, "rb") as kept:
+            slots, _ = self.rehearsed(kept.read())
+        self.assertEqual("slots 1:1", slots[200, 1])
+
     def test_files_that_are_there(self):
         """A file is never written over, and a script has at most eight receivers."""
         name = str(self.file("there", b"kept"))
@@ -177,10 +197,10 @@ class ToolTest(NetworkTest, FolderTest):
         wait_for(lambda: sockets(machine) > before or child.poll() is not None, "the tool has its socket")
         return child
 
-    def lines(self, *words):
+    def lines(self, *words, **options):
         """The tool without a screen: the process, and its lines as they come."""
         pipes = dict.fromkeys(("stdout", "stderr"), subprocess.PIPE)
-        child = self.start(self.machine, *words, text=True, **pipes)
+        child = self.start(self.machine, *words, text=True, **pipes, **options)
         return child, Lines(child.stdout), Lines(child.stderr)
 
     def send(self, *datagrams, to="239.255.0.1"):
@@ -276,6 +296,30 @@ class InLines(ToolTest):
         said = run("watch", "1", "2", stdin=lines)
         self.assertEqual(0, said.status)
         self.assertIn(told[0], said.out.decode().splitlines())
+
+    def test_record_on_a_full_disk(self):
+        """It is told once where the record ends, and the watch goes on."""
+        name = str(self.folder / "night.lines")
+        limit = partial(resource.setrlimit, resource.RLIMIT_FSIZE, (LIMIT, LIMIT))
+        child, out, err = self.lines("1", "--record", name, preexec_fn=limit)
+        for number in range(10):
+            self.send(packet(1, {1: 1}, number))
+        self.assertTrue(err.find(r"watch: .*night\.lines ends here: File too large$"))
+        self.send(packet(1, {1: 2}, 10))
+        self.assertTrue(out.find(r"\d+ 1 slots 1:2$"))
+        child.send_signal(signal.SIGINT)
+        self.assertEqual((0, []), (child.wait(PATIENCE), err.rest()))
+        self.assertEqual(LIMIT, os.path.getsize(name))
+
+    def test_dropped(self):
+        """What the machine had no room for while the tool stood still is told."""
+        child, out, _ = self.lines("1")
+        stand_still(child.pid)
+        burst = Burst([(packet(1, {}), ("239.255.0.1", PORT))] * 1000)
+        for _ in range(20):
+            burst.send(self.sender, 0, len(burst))
+        child.send_signal(signal.SIGCONT)
+        self.assertTrue(out.find(r"\d+ 0 dropped [1-9]\d*$"))
 
     def test_what_cannot_be_watched(self):
         for words, told in (
