@@ -1,6 +1,7 @@
 """What the tests of `tools/desk` share: a desk whose night has begun, and open pages of it."""
 
 import contextlib
+import functools
 import http.client
 import json
 import os
@@ -12,7 +13,7 @@ import time
 import uuid
 from pathlib import Path
 
-from program import text
+from program import run, text
 from tooling import PATIENCE, Started, wait_for
 from wire import SLOT_1, ReceiverTest
 
@@ -32,6 +33,15 @@ SHOW = text(
     "CHAN 1@50",
     "PATCH 1 1<1@FL",
 )
+
+
+NO_WATCH = "the program has no word watch"
+
+
+@functools.cache
+def watches():
+    """Whether the program reads levels for a desk."""
+    return b"watch" in run("--help").out
 
 
 class Page:

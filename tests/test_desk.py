@@ -1,6 +1,7 @@
 """`tools/desk`: its page over HTTP, and the light that it moves."""
 
 import contextlib
+import itertools
 import json
 import os
 import random
@@ -10,10 +11,13 @@ import socket
 import subprocess
 import sys
 import time
+import unittest
 import uuid
+from pathlib import Path
 from unittest import mock
 
-from desks import SHOW, DeskTest, Page
+from bad_night import children
+from desks import NO_WATCH, SHOW, DeskTest, Page, watches
 from machine import in_time, took
 from program import CID, behind_head, packet, text
 from test_osc import GREATEST_DOUBLE, message
@@ -282,44 +286,69 @@ class Beside(DeskTest):
             told = f"OSC: refused from {host}:{sender.getsockname()[1]}: /other: no such address"
             wait_for(lambda: page.notices() == [told], "a notice")
 
+    @unittest.skipUnless(watches(), NO_WATCH)
     def test_levels(self):
-        """Where nobody else receives at the address the grid does, and it shows what came."""
+        """Where nobody else receives at the address the grid does, and it shows what a receiver
+        shows: the source of the greatest priority, as long as it is heard."""
         to = f"127.0.0.1:{free_port()}"
         _, page = self.opened("--grid", to=to)
         page.command("sub 1 50")
-        levels = (bytes([128]) + bytes(511)).hex()
-        wait_for(lambda: page.newest.get("levels", {}).get("slots") == {"1": levels}, "levels")
-        with socket.socket(socket.AF_INET, socket.SOCK_DGRAM) as other:
+        own, other = ((bytes([level]) + bytes(511)).hex() for level in (128, 7))
+        slots = lambda: page.newest.get("levels", {}).get("slots")
+        wait_for(lambda: slots() == {"1": own}, "levels")
+        with socket.socket(socket.AF_INET, socket.SOCK_DGRAM) as sender:
             strange = packet(1, {1: 7}, priority=150, cid=CID[:-1] + "2")
-            other.sendto(strange, ("127.0.0.1", int(to.split(":")[1])))
+            sender.sendto(strange, ("127.0.0.1", int(to.split(":")[1])))
         told = ["cueplayer, priority 150, universe 1"]
         wait_for(lambda: page.newest["levels"]["others"] == told, "the other source")
-        self.assertNotIn("07", json.dumps(page.newest["levels"]["slots"])[:20])
+        wait_for(lambda: slots() == {"1": other}, "the levels of the other source")
+        wait_for(lambda: slots() == {"1": own}, "our own once it is silent")
+        self.assertEqual([], page.newest["levels"]["others"])
 
+    @unittest.skipUnless(watches(), NO_WATCH)
     def test_other_sources(self):
-        """Each is named as long as it is heard; of more than eight the rest are counted."""
+        """Each is named as long as it is heard; where more come than a receiver has room for, that
+        is said."""
         to = f"127.0.0.1:{free_port()}"
         _, page = self.opened("--grid", to=to)
         host, port = to.split(":")
         with socket.socket(socket.AF_INET, socket.SOCK_DGRAM) as other:
             other.connect((host, int(port)))
 
-            def send(number, universe=1, options=0):
+            def send(number, sequence=0, options=0):
                 cid = f"{CID[:-2]}{number}"
-                other.send(packet(universe, {}, priority=number, cid=cid, options=options))
+                other.send(packet(1, {}, sequence, priority=number, cid=cid, options=options))
 
             def is_told(*names):
-                told = [f"cueplayer, priority {name}" for name in names[:8]]
-                told += [f"and {len(names) - 8} more"] * (len(names) > 8)
-                return page.newest.get("levels", {}).get("others") == told
+                others = page.newest.get("levels", {}).get("others")
+                return others == [f"cueplayer, priority {name}, universe 1" for name in names]
 
-            for number in range(10, 20):
+            for number in (10, 11, 12):
                 send(number)
-            ten = [f"{number}, universe 1" for number in range(10, 20)]
-            wait_for(lambda: is_told(*ten), "ten sources")
-            wait_for(lambda: send(15) or is_told("15, universe 1"), "the one that goes on")
-            send(15, options=TERMINATED)
-            wait_for(lambda: is_told(), "no other source")
+            wait_for(lambda: is_told(10, 11, 12), "three sources")
+            send(13)
+            crowd = "more than are told apart, universe 1"
+            wait_for(lambda: crowd in page.newest["levels"]["others"], crowd)
+            numbers = itertools.count(1)
+            wait_for(lambda: send(11, next(numbers) % 256) or is_told(11), "the one that goes on")
+            send(11, next(numbers) % 256, TERMINATED)
+            wait_for(is_told, "no other source")
+
+    @unittest.skipUnless(watches(), NO_WATCH)
+    def test_watch_that_ends(self):
+        """The page says that the levels are not received; the light goes on."""
+        with receiving() as free:
+            to = address_of(free)
+        desk, page = self.opened("--grid", to=to)
+        wait_for(lambda: page.newest.get("levels", {}).get("slots"), "levels")
+        killed = [Path(f"/proc/{pid}/cmdline") for pid in children(desk.process.pid)]
+        for words in killed:
+            if b"watch" in words.read_bytes().split(b"\0"):
+                os.kill(int(words.parent.name), signal.SIGKILL)
+        told = {"1": "the levels cannot be read: watch has ended"}
+        wait_for(lambda: page.newest["levels"]["reasons"] == told, told)
+        page.command("go")
+        page.wait(current="1")
 
     def test_osc_that_cannot_be_read(self):
         """Nothing that a datagram holds ends the taking of others."""
@@ -552,6 +581,7 @@ class Cid(DeskTest):
 
 
 class Multicast(DeskTest):
+    @unittest.skipUnless(watches(), NO_WATCH)
     def test_levels(self):
         """At `--to 239.255.0.0` the levels of each universe come to the grid by its own group."""
         script = "ip link set lo up multicast on && ip route add 239.0.0.0/8 dev lo && exec \"$@\""

@@ -2,6 +2,7 @@
 
 import contextlib
 import http.client
+import os
 import re
 import shutil
 import socket
@@ -20,6 +21,18 @@ from cueplayer_tools import desk_pins, desk_picture
 from cueplayer_tools.desk_pins import Pins, Role
 from cueplayer_tools.own_addresses import is_public
 from cueplayer_tools.words import Refused
+
+
+# Stands for python3-qrcode: a code of two rows.
+CODE = b"""
+class QRCode:
+    def __init__(self, border):
+        pass
+    def add_data(self, address):
+        assert address.startswith("http://127.0.0.1:"), address
+    def get_matrix(self):
+        return [[False, True], [True, False]]
+"""
 
 
 class Door:
@@ -68,6 +81,8 @@ class Guests(DoorTest):
         """Without it there is only the page that asks for it; with it the session plays."""
         desk, page, door = self.opened()
         desk.err.find("desk: no TLS: the network is trusted")
+        for name in ("/", "/pin.js"):
+            self.assertNotRegex(door.request("GET", name)[1], r"https?://|<style|\son\w+=|\sstyle=")
         for name, status in (("/", 200), ("/pin.js", 200), ("/desk.css", 200), ("/desk.js", 401),
                              ("/events", 401), ("/other", 401), ("//", 401), ("/../desk.js", 401)):
             self.assertEqual(status, door.request("GET", name)[0], name)
@@ -313,6 +328,18 @@ class InBrowser(DoorTest):
         self.assertEqual(204, page.request("POST", "pins", b"new")[0])
         for each in (played, watched):
             each.wait("document.getElementById('pin') !== null")
+
+    def test_picture(self):
+        """The address as a picture, where python3-qrcode makes one."""
+        self.file("qrcode.py", CODE)
+        with mock.patch.dict(os.environ, PYTHONPATH=str(self.folder)):
+            _, address = self.begun("--listen", "127.0.0.1:0")
+        browser = Browser(self)
+        page = browser.opened(address)
+        page.wait("document.getElementById('modules').getAttribute('d') === 'M1 0h1v1h-1zM0 1h1v1h-1z'")
+        page.value("document.querySelector('[data-to=more]').click()")
+        page.wait("document.getElementById('picture').getBoundingClientRect().width > 100")
+        self.assertEqual([], browser.faults)
 
     def test_new_pins(self):
         """This machine's own page has the address and the PINs, and makes new ones at the second

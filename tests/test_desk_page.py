@@ -8,7 +8,7 @@ import unittest
 from unittest import mock
 
 from browser import CHROMIUM, MISSING, Browser
-from desks import SHOW, DeskTest, Page
+from desks import NO_WATCH, SHOW, DeskTest, Page, watches
 from machine import in_time, took
 from program import LIVE_NAME, PROGRAM, TOP, run, text
 from tooling import stand_still, wait_for
@@ -535,6 +535,7 @@ class DeskPage(DeskTest):
 
 @unittest.skipUnless(CHROMIUM, MISSING)
 class Grid(DeskTest):
+    @unittest.skipUnless(watches(), NO_WATCH)
     def test_grid(self):
         self.receiver.close()
         _, address = self.begun("--grid")

@@ -7,7 +7,7 @@ import time
 import unittest
 
 from browser import CHROMIUM, MISSING, Browser
-from desks import DeskTest, Page
+from desks import NO_WATCH, DeskTest, Page, watches
 from folders import resumes
 from program import CID, packet
 from test_desk_folder import NO_RESUME, DeskFolderTest
@@ -126,6 +126,7 @@ class BrokenOffFolder(DeskFolderTest):
 
 @unittest.skipUnless(CHROMIUM, MISSING)
 class Shown(DeskTest):
+    @unittest.skipUnless(watches(), NO_WATCH)
     def test_other_source(self):
         """Who else sends on the night's universes stands in the bar, as long as it is heard."""
         with receiving() as free:

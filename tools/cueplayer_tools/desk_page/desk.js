@@ -157,10 +157,8 @@ function drawPicture(rows) {
   const dark = rows.flatMap((row, y) => (
     [...row].map((each, x) => (each === "1" ? `M${x} ${y}h1v1h-1z` : ""))
   ));
-  const path = document.createElementNS("http://www.w3.org/2000/svg", "path");
-  path.setAttribute("d", dark.join(""));
+  byId("modules").setAttribute("d", dark.join(""));
   picture.setAttribute("viewBox", `0 0 ${rows[0].length} ${rows.length}`);
-  picture.replaceChildren(path);
 }
 
 function showGuests(guests) {
