@@ -337,8 +337,7 @@ class Beside(DeskTest):
     @unittest.skipUnless(watches(), NO_WATCH)
     def test_watch_that_ends(self):
         """The page says that the levels are not received; the light goes on."""
-        with receiving() as free:
-            to = address_of(free)
+        to = f"127.0.0.1:{free_port()}"
         desk, page = self.opened("--grid", to=to)
         wait_for(lambda: page.newest.get("levels", {}).get("slots"), "levels")
         killed = [Path(f"/proc/{pid}/cmdline") for pid in children(desk.process.pid)]
