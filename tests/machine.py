@@ -9,6 +9,7 @@ import contextlib
 import functools
 import json
 import os
+import signal
 import subprocess
 import sys
 import threading
@@ -127,6 +128,8 @@ class Naps:
 
 def main() -> None:
     """Tells at each line of standard input what was noted, until that ends."""
+    # Control-C is for the tests, whose end ends this.
+    signal.signal(signal.SIGINT, signal.SIG_IGN)
     naps = [Naps(processor) for processor in os.sched_getaffinity(0)]
     for _ in sys.stdin:
         print(json.dumps({each.processor: each.noted() for each in naps}), flush=True)
