@@ -38,13 +38,10 @@ pub struct LineQueue<P> {
     ghost over: { IsSome failure → vec_len waiting ≡ 0 },
 }
 
-impl<P: Pipe> LineQueue<P> {
-    ghost use Rattle.std.specs.Prelude.{◌<◌, ◌+◌, ◌++◌, ◌∷◌, ◌&&◌, [], length, nat_eq, nat_le};
-    ghost use Rattle.std.specs.Prelude.{IfOk, IsNone, None};
-    ghost use Rattle.line_queue.specs.Handing.{AsksAtMost, IsDone};
+impl<P: Pipe + Drop> LineQueue<P> {
+    ghost use Rattle.std.specs.Prelude.{[], IfOk};
     ghost use Rattle.line_queue.specs.Pipes.{IsFresh};
-    ghost use Rattle.line_queue.specs.Stands.{HasRoom, StandsFor, TakesMore, dropped_in, failure_in};
-    ghost use Rattle.line_queue.specs.Stands.{notice_in, waiting_in};
+    ghost use Rattle.line_queue.specs.Stands.{HasRoom, StandsFor, notice_in};
 
     /// An empty queue in front of a pipe, with the words of its notices.
     ///
@@ -52,8 +49,6 @@ impl<P: Pipe> LineQueue<P> {
     ///
     /// Where a growth was refused.
     pub fn new(alloc: Global, pipe: P, notice: Notice) -> Result<Self, AllocError>
-    where
-        P: Drop,
         ensures stands { IfOk result (λ queue. P.tells queue.pipe → IsFresh (P.tape queue.pipe)
             → StandsFor queue (P.tape queue.pipe) []) }
         ensures pipe { IfOk result (λ queue. queue.pipe ≡ pipe) }
@@ -70,6 +65,14 @@ impl<P: Pipe> LineQueue<P> {
             failure: None,
         })
     }
+}
+
+impl<P: Pipe> LineQueue<P> {
+    ghost use Rattle.std.specs.Prelude.{◌<◌, ◌+◌, ◌++◌, ◌∷◌, ◌&&◌, [], length, nat_eq, nat_le};
+    ghost use Rattle.std.specs.Prelude.{IsNone, None};
+    ghost use Rattle.line_queue.specs.Handing.{AsksAtMost, IsDone};
+    ghost use Rattle.line_queue.specs.Stands.{HasRoom, TakesMore, dropped_in, failure_in};
+    ghost use Rattle.line_queue.specs.Stands.{notice_in, waiting_in};
 
     /// Takes a line and hands it on, or drops it.
     pub fn put(&mut self, line: &[u8])
