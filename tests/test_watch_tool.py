@@ -18,6 +18,7 @@ from collections import Counter
 from contextlib import ExitStack
 from fcntl import ioctl
 from functools import partial
+from pathlib import Path
 from unittest import mock
 
 import inputs
@@ -210,8 +211,7 @@ class ToolTest(NetworkTest, FolderTest):
 
 def sockets(machine):
     """How many sockets of a machine are at the port of streaming ACN."""
-    words = machine.words("cat", "/proc/net/udp")
-    return subprocess.run(words, capture_output=True, text=True, check=True).stdout.count(":15C0 ")
+    return machine.within(Path("/proc/thread-self/net/udp").read_text).count(":15C0 ")
 
 
 class InLines(ToolTest):
@@ -333,6 +333,29 @@ class InLines(ToolTest):
                     capture_output=True, text=True, timeout=PATIENCE,
                 )  # fmt: skip
                 self.assertEqual((2, told + "\n"), (done.returncode, done.stderr))
+
+    def test_no_card(self):
+        """Where no route leads to the groups, what is sent to the machine is watched all the same."""
+        with ExitStack() as kept:
+            machine = Machine(kept)
+            child = self.start(machine, "1", "--once", "1", stdout=subprocess.PIPE, stderr=subprocess.PIPE)
+            with machine.within(lambda: socket.socket(socket.AF_INET, socket.SOCK_DGRAM)) as sender:
+                sender.sendto(packet(1, {1: 7}), ("127.0.0.1", PORT))
+            out, err = child.communicate(timeout=PATIENCE)
+        self.assertEqual(
+            "watch: cannot join 239.255.0.1: No such device; only unicast is heard: name a network card by "
+            "--interface\n", err.decode())  # fmt: skip
+        self.assertIn("slots 1:7", out.decode())
+
+    def test_reader_that_has_gone(self):
+        """The tool ends, and has nothing to say."""
+        reader, writer = os.pipe()
+        child = self.start(self.machine, "1", stdout=writer, stderr=subprocess.PIPE)
+        os.close(writer)
+        os.close(reader)
+        self.send(*(packet(1, {1: n}, n) for n in range(3)))
+        self.assertEqual(b"", child.communicate(timeout=PATIENCE)[1])
+        self.assertEqual(0, child.returncode)
 
     def test_program_that_ends(self):
         """It is told, and the tool ends."""

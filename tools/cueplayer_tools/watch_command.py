@@ -3,6 +3,7 @@
 import argparse
 import copy
 import math
+import os
 import re
 import select
 import signal
@@ -46,6 +47,13 @@ def universes_of(words: list[str]) -> list[int]:
     if len(set(numbers)) < len(numbers):
         raise Refused("a watch names a universe once")
     return numbers
+
+
+def seconds(word: str) -> float:
+    """A time in seconds, up to a day."""
+    if re.fullmatch(r"\d{1,5}(\.\d{1,3})?", word, re.ASCII) and float(word) <= 86_400:
+        return float(word)
+    raise argparse.ArgumentTypeError(f"no time: {printable(word)}")
 
 
 @dataclass
@@ -158,25 +166,36 @@ def silent(line: str) -> None:
     """Prints nothing."""
 
 
-def follow(watch: Watch, until: float | None) -> bool:
-    """Goes on until a time or control-C; whether the program ran so long."""
-    try:
-        while until is None or time.monotonic() < until:
-            if not watch.turn(watch.wait(None)):
-                return False
-    except KeyboardInterrupt:
-        pass
+class Over:
+    """Whether the watch is to end: by control-C or SIGTERM, which interrupt no line. A second one
+    interrupts what waits for a reader that stands still."""
+
+    def __init__(self) -> None:
+        self.is_set = False
+        for number in (signal.SIGINT, signal.SIGTERM):
+            signal.signal(number, self._set)
+
+    def _set(self, number: int, frame: object) -> None:
+        self.is_set = True
+        signal.signal(number, signal.default_int_handler)
+
+
+def follow(watch: Watch, until: float, over: Over) -> bool:
+    """Goes on until a time, or the end; whether the program ran so long."""
+    while time.monotonic() < until and not over.is_set:
+        if not watch.turn(watch.wait(None)):
+            return False
     return True
 
 
-def show(watch: Watch) -> bool:
-    """Shows a screen until `q` or control-C; whether the program ran so long."""
+def show(watch: Watch, over: Over) -> bool:
+    """Shows a screen until `q` or the end; whether the program ran so long."""
     screen = Screen()
     view = View(list(watch.watched.universes))
     frozen: tuple[Watched, Rates] | None = None
     drawn = -1
     try:
-        while True:
+        while not over.is_set:
             ready = watch.wait(screen.keyboard)
             if not watch.turn(ready):
                 return False
@@ -191,7 +210,6 @@ def show(watch: Watch) -> bool:
                 drawn = watch.moment // LOOK
                 watched, rates = frozen or (watch.watched, watch.rates)
                 screen.draw(picture(watched, rates, watch.dropped, view, screen.size()))
-    except KeyboardInterrupt:
         return True
     finally:
         screen.leave()
@@ -212,7 +230,7 @@ def parsed(words: list[str]) -> argparse.Namespace:
         "--port", type=port_number, default=PORT, help=f"the port of the datagrams ({PORT})"
     )
     parser.add_argument(
-        "--once", metavar="SECONDS", type=float, help="watch so long, print what is known, and end"
+        "--once", metavar="SECONDS", type=seconds, help="watch so long, print what is known, and end"
     )
     parser.add_argument("--lines", action="store_true", help="print lines at a terminal, too")
     parser.add_argument("--record", metavar="FILE", help="keep what came, for cueplayer watch")
@@ -239,42 +257,45 @@ def opened(chosen: argparse.Namespace, universes: list[int], is_quiet: bool) -> 
     return Watch(receiver, Feed(universes), kept, Watched(universes), print_line, every)
 
 
-def run(chosen: argparse.Namespace, universes: list[int]) -> int:
+def run(chosen: argparse.Namespace, universes: list[int], over: Over) -> int:
     """Watches as the words ask for; the exit status."""
     has_screen = (
         chosen.once is None and not chosen.lines and sys.stdin.isatty() and sys.stdout.isatty()
     )
     watch = opened(chosen, universes, has_screen or chosen.once is not None)
-    if has_screen:
-        ran = show(watch)
-    else:
-        ran = follow(watch, None if chosen.once is None else watch.start + chosen.once)
-    watch.end()
-    if chosen.once is not None:
-        watch.count()
-        lines = summary(watch.watched, watch.rates, watch.dropped)
-    else:
-        lines = watch.last_slots()
-    print("\n".join(lines), flush=True)
+    until = math.inf if chosen.once is None else watch.start + chosen.once
+    try:
+        ran = show(watch, over) if has_screen else follow(watch, until, over)
+        watch.end()
+        print("\n".join(last_lines(watch, chosen.once is not None)), flush=True)
+    except (BrokenPipeError, KeyboardInterrupt):
+        watch.feed.stop()
+        raise
     if not ran:
         complain("cueplayer watch ended by itself: what it told is above")
         return 1
     return 0
 
 
+def last_lines(watch: Watch, is_summary: bool) -> list[str]:
+    """What is printed at the end: who sends what, or the slots."""
+    if not is_summary:
+        return watch.last_slots()
+    watch.count()
+    return summary(watch.watched, watch.rates, watch.dropped)
+
+
 def main(words: list[str]) -> int:
     """Runs the tool with these words, and answers its exit status."""
     chosen = parsed(words)
-    signal.signal(signal.SIGTERM, signal.default_int_handler)
     try:
-        universes = universes_of(chosen.universes)
-        return run(chosen, universes)
+        return run(chosen, universes_of(chosen.universes), Over())
     except Refused as fault:
         complain(str(fault))
         return 2
-    except BrokenPipeError:
-        # Nobody reads any more.
-        sys.stderr.close()
+    except (BrokenPipeError, KeyboardInterrupt):
+        # Nobody reads any more: what is left to print has no place.
+        os.dup2(os.open(os.devnull, os.O_WRONLY), 1)
         return 0
     except OSError as fault:
         complain(f"cannot watch at port {chosen.port}: {fault.strerror}")

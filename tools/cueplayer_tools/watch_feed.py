@@ -60,3 +60,8 @@ class Feed:
         """Ends the program's input behind what waits; the last lines that it prints."""
         came, _ = self.child.communicate(bytes(self.waiting))
         return (self.part + came).decode("latin-1").splitlines()
+
+    def stop(self) -> None:
+        """Ends the program, whatever it has left to say."""
+        self.child.kill()
+        self.child.wait()
