@@ -255,6 +255,7 @@ class Ends(DeskTest):
         record, replies = self.folder / "night.play", self.folder / "night.replies"
         desk, page = self.opened("--record", record, "--replies", replies)
         page.command("back")
+        wait_for(page.notices, "the refusal")
         page.command("go")
         page.wait(current="1")
         desk.process.terminate()

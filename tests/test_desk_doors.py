@@ -310,6 +310,10 @@ class InBrowser(DoorTest):
         wrong = next(pin for pin in ("000000", "000001", "000002")
                      if pin not in (door.play, door.watch))
         played = self.entered(browsers[0], door, wrong)
+        for width in (1280, 390):
+            played.call("Emulation.setDeviceMetricsOverride", width=width, height=844,
+                        deviceScaleFactor=1, mobile=False)
+            self.assertLessEqual(played.value("document.documentElement.scrollWidth"), width)
         played.wait("document.getElementById('told').textContent.startsWith('no such PIN')")
         played.value(f"document.getElementById('pin').value = '{door.play}'")
         played.press("Enter", "Enter", "\r")

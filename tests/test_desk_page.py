@@ -144,7 +144,7 @@ class DeskPage(DeskTest):
         page.click("document.getElementById('goto')")
         state.wait(current="2")
         page.wait("document.querySelector('[aria-current]')?.innerText.includes('two <b>s')")
-        page.wait("document.getElementById('goto').disabled")
+        page.wait("document.getElementById('goto').getAttribute('aria-disabled') === 'true'")
         page.value(f"{self.cue(0)}.focus()")
         page.press("ArrowDown")
         page.press("Enter", "Enter", "\r")

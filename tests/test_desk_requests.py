@@ -173,9 +173,10 @@ class Flooded(DeskTest):
 
         def flood():
             with socket.socket(socket.AF_INET, socket.SOCK_DGRAM) as sender:
-                while not is_over.is_set():
-                    with contextlib.suppress(OSError):
-                        sender.sendto(b"/cueplayer/other\0\0\0\0,\0\0\0", (host, int(port)))
+                while not is_over.wait(0.001):
+                    for _ in range(30):
+                        with contextlib.suppress(OSError):
+                            sender.sendto(b"/cueplayer/other\0\0\0\0,\0\0\0", (host, int(port)))
 
         def hold_back():
             held = collections.deque(maxlen=1_000)
@@ -191,13 +192,17 @@ class Flooded(DeskTest):
         for each in others:
             each.start()
         self.addCleanup(is_over.set)
-        memory = []
+        memory, late = [], 0
         for turn in range(40):
-            before = time.monotonic()
-            self.assertEqual(204, page.command("goto 1" if turn % 2 else "go"))
-            page.wait(current="1" if turn % 2 or not turn else "1.5", waiting=0)
-            self.assertLess(time.monotonic() - before, 1)
+            before, line = time.monotonic(), "goto 1" if turn % 2 else "goto 1.5 in 0"
+            # On a busy machine now and then one is refused, and told, since it came too late.
+            while page.command(line) != 204:
+                late += 1
+                before = time.monotonic()
+            page.wait(current=line.split()[1], waiting=0)
+            late += time.monotonic() - before > 1
             memory.append(self.memory(desk))
+        self.assertLessEqual(late, 3)
         is_over.set()
         for each in others:
             each.join()

@@ -7,9 +7,8 @@ import unittest
 from unittest import mock
 
 from desks import SHOW, DeskTest
-from program import text
 from test_osc import message, padded
-from tooling import PATIENCE, wait_for
+from tooling import wait_for
 
 from cueplayer_tools import osc_feedback
 from cueplayer_tools.cue_list import Cue, Show

@@ -246,7 +246,8 @@ class HeardNight(ABC):
             self.state.tell("way", printable(line["others"], 300))
 
     def _hear_link(self, link: Trouble | Mended, text: str) -> None:
-        """Takes what is said of the network or the record. What is wrong stands until it is over."""
+        """Takes what is said of the network or the record: what is wrong stands until it is
+        over."""
         if isinstance(link, Trouble):
             self.state.trouble(link, link.text if link.kind == "record" else text)
             return

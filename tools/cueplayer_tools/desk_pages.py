@@ -126,7 +126,8 @@ class _OpenPage:
         levels = self.server.levels.levels
         slots = dict(levels.slots)
         changed = {at: slots[at].hex() for at in slots if slots[at] != self.slots.get(at)}
-        self._event("levels", {"reasons": levels.reasons, "slots": changed, "others": levels.others})
+        told = {"reasons": levels.reasons, "slots": changed, "others": levels.others}
+        self._event("levels", told)
         self.slots = slots
 
     def _event(self, kind: str, data: dict[str, Any]) -> None:

@@ -68,7 +68,7 @@ function selectCue(number) {
     button.setAttribute("aria-pressed", String(each === number));
   }
   const chosen = page.cues.get(number);
-  byId("goto").disabled = chosen === undefined;
+  byId("goto").setAttribute("aria-disabled", String(chosen === undefined));
   const words = chosen ? `${number} ${chosen.name}`.trim() : "";
   byId("goto").textContent = chosen ? `Go to ${words}` : "Go to: select a cue";
 }

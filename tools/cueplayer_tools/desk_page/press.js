@@ -155,7 +155,8 @@ function onPress(button, short, long) {
   }
   button.addEventListener("contextmenu", (event) => event.preventDefault());
   button.addEventListener("click", (event) => {
-    if (!wasLong) short(event);
+    // A click by a key has no count: it is short, whatever the last press was.
+    if (!wasLong || event.detail === 0) short(event);
     wasLong = false;
   });
 }
