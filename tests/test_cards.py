@@ -1,6 +1,7 @@
 """Two network cards: by which one packets leave, and what a night tells when nobody hears it."""
 
 import re
+import subprocess
 import time
 import uuid
 from contextlib import contextmanager
@@ -388,41 +389,52 @@ class Watch(CardsTest):
 
 
 class Staying(CardsTest):
-    """Packets to a node leave by one card. Where the route changes in a fade, which has packets in
-    each tick, the other card hears none of them, and each is counted."""
+    """Packets leave by one card. Where the cards or the routes change in a fade, which has packets
+    in each tick, the other card hears none of them."""
 
     # A default route leads by the office's card all the time.
     CHANGES = (
         ("link set lit down",),
         (f"addr del {LIT}/24 dev lit",),
         ("link del lit",),
-        (f"route add {STAGE}/32 via {OFFICE}",),
+        (f"route add {STAGE}/32 via {OFFICE}", f"route add 239.255.0.0/16 via {OFFICE}"),
         ("route del 10.101.2.0/24 dev lit",),
     )
 
     def test_staying(self):
-        self.side_by_side(*map(self.of_change, self.CHANGES))
+        nodes = [self.case(self.to_a_node, lines) for lines in self.CHANGES]
+        groups = [self.case(self.to_groups, lines) for lines in self.CHANGES]
+        self.side_by_side(*nodes, *groups, self.cable_out)
 
-    def of_change(self, lines):
+    def case(self, of_change, lines):
         def case(kept):
-            self.stays(kept, lines)
+            of_change(kept, lines)
 
-        case.__name__ = lines[0]
+        case.__name__ = f"{of_change.__name__}: {lines[0]}"
         return case
 
-    def stays(self, kept, lines):
+    def fading(self, kept, venue, *options, **source):
+        """A night in a fade, and what the stage has of it so far."""
+        night = Night(kept, venue, self.show, *options, **source)
+        night.ask("goto 1 in 5")
+        return night, venue.stage.wait()
+
+    def assertStays(self, venue, night):
+        """Nothing comes to the office; how many packets were lost."""
+        time.sleep(DURING)
+        status, told = night.end()
+        self.assertEqual((5, 0), (status, len(venue.office.came())))
+        return int(re.search(r"(?m)^lost (\d+)$", "\n".join(told))[1])
+
+    def to_a_node(self, kept, lines):
+        """Each packet from the change on is counted as lost."""
         venue = Venue(kept)
         record = self.folder / f"{venue.console.name}.play"
         cid = str(uuid.uuid4())
-        night = Night(kept, venue, self.show, "--to", STAGE, "--record", record, cid=cid)
-        night.ask("goto 1 in 5")
-        came = venue.stage.wait()
+        night, came = self.fading(kept, venue, "--to", STAGE, "--record", record, cid=cid)
         venue.console.ip(*lines)
-        time.sleep(DURING)
-        status, told = night.end()
+        lost = self.assertStays(venue, night)
         came += venue.stage.came()
-        self.assertEqual((5, 0), (status, len(venue.office.came())))
-        lost = int(re.search(r"(?m)^lost (\d+)$", "\n".join(told))[1])
         self.assertEqual(self.offered(venue, record, cid), len(came) + lost)
 
     def offered(self, venue, record, cid):
@@ -431,6 +443,25 @@ class Staying(CardsTest):
         done = venue.run(*words, stdin=record.read_bytes())
         self.assertEqual((0, b""), (done.returncode, done.stderr))
         return len(venue.office.came())
+
+    def to_groups(self, kept, lines):
+        """Multicast leaves by the card of its address, whatever routes there are."""
+        venue = Venue(kept)
+        night, _ = self.fading(kept, venue, "--to", MULTICAST, "--interface", "lit")
+        venue.console.ip(*lines)
+        time.sleep(DURING)
+        night.end()
+        self.assertEqual([], venue.office.came())
+
+    def cable_out(self, kept):
+        """Also where the system passes over the routes of a card without a link."""
+        venue = Venue(kept)
+        passed_over = "net.ipv4.conf.all.ignore_routes_with_linkdown=1"
+        words = venue.console.words("sysctl", "-qw", passed_over)
+        subprocess.run(words, check=True)
+        night, _ = self.fading(kept, venue, "--to", STAGE)
+        venue.stage.ip("link set port down")
+        self.assertGreater(self.assertStays(venue, night), 0)
 
 
 class Refusals(CardsTest):
