@@ -1,4 +1,4 @@
-"""docs/PROVED.md: it says of each crate what README says of it, its tables have every public call of
+"""docs/PROVED.md: it says of each crate what docs/ASSURANCE.md says of it, its tables have every public call of
 the crates with the clauses of its contract, and the tests that it names are there.
 
 Run by itself (`python3 tests/test_proved.py`) it writes the tables anew. Of a call whose
@@ -203,9 +203,10 @@ class Proved(unittest.TestCase):
     maxDiff = None
 
     def test_crates(self):
-        """README and the page say the same of each crate: one sentence, and the calls that carry it."""
-        readme = (TOP / "README.md").read_text().partition("\n## What is proved\n")[2]
-        rows = re.findall(r"^\| ([a-z]\w+) \| (.*) \| (.*) \|$", readme, re.MULTILINE)
+        """docs/ASSURANCE.md and the page say the same of each crate: one sentence, and the calls that
+        carry it."""
+        assurance = (TOP / "docs/ASSURANCE.md").read_text().partition("\n## What is proved\n")[2]
+        rows = re.findall(r"^\| ([a-z]\w+) \| (.*) \| (.*) \|$", assurance, re.MULTILINE)
         told = re.findall(r"^- \*\*(\w+)\.\*\* (.*) \*By\* (.*)\.$", PAGE.read_text(), re.MULTILINE)
         self.assertEqual(sorted(crates()), sorted(name for name, _, _ in rows))
         self.assertEqual(rows, told)
