@@ -9,6 +9,7 @@ import socket
 import ssl
 import subprocess
 import sys
+import threading
 import time
 import unittest
 from unittest import mock
@@ -381,6 +382,27 @@ class PinsOfADesk(unittest.TestCase):
         self.assertIsNone(pins.session(first, "10.0.0.1"))
         self.assertIsNotNone(pins.session(watching, "10.0.0.1"))
         self.assertIsNotNone(pins.session(tokens[0], "10.0.0.3"))
+
+    def test_change_meanwhile(self):
+        """Whatever happens at once, a session is none behind a change of the PINs."""
+        pins, tokens, is_over = Pins(), [], threading.Event()
+
+        def enter():
+            while not is_over.is_set():
+                with contextlib.suppress(Refused):
+                    tokens.append(pins.enter(pins.pins[Role.PLAY], "10.0.0.1"))
+
+        threads = [threading.Thread(target=enter) for _ in range(4)]
+        for thread in threads:
+            thread.start()
+        for _ in range(500):
+            pins.change()
+        is_over.set()
+        for thread in threads:
+            thread.join()
+        pins.change()
+        self.assertEqual({None}, {pins.session(token, "10.0.0.1") for token in tokens} | {None})
+        self.assertEqual({}, pins.sessions)
 
     def wrong(self, pins, address):
         with self.assertRaises(Refused) as refused:
