@@ -27,7 +27,7 @@ HIDDEN = """(() => {
   const row = (at) => document.querySelectorAll("#cues button")[at];
   const parts = {
     play: ["current", "next", "go", "back", "blackout", "goto", "master", row(26), row(27)],
-    large: ["current", "next", "go", "back"],
+    large: ["current", "next", "go", "back", "blackout"],
     levels: ["universe", "before", "after"],
     more: ["double-tap"],
   }["VIEW"].map((part) => (typeof part === "string" ? document.getElementById(part) : part));
