@@ -1,5 +1,6 @@
 """`tools/desk --listen`: who comes from elsewhere, by a PIN, and who does not."""
 
+import argparse
 import contextlib
 import http.client
 import os
@@ -9,6 +10,7 @@ import socket
 import ssl
 import subprocess
 import sys
+import threading
 import time
 import unittest
 from unittest import mock
@@ -18,6 +20,7 @@ from desks import DeskTest, Page
 from tooling import PATIENCE, run_tool, wait_for
 
 from cueplayer_tools import desk_pins, desk_picture
+from cueplayer_tools.desk_network import warnings
 from cueplayer_tools.desk_pins import Pins, Role
 from cueplayer_tools.own_addresses import is_public
 from cueplayer_tools.words import Refused
@@ -382,6 +385,27 @@ class PinsOfADesk(unittest.TestCase):
         self.assertIsNotNone(pins.session(watching, "10.0.0.1"))
         self.assertIsNotNone(pins.session(tokens[0], "10.0.0.3"))
 
+    def test_change_meanwhile(self):
+        """Whatever happens at once, a session is none behind a change of the PINs."""
+        pins, tokens, is_over = Pins(), [], threading.Event()
+
+        def enter():
+            while not is_over.is_set():
+                with contextlib.suppress(Refused):
+                    tokens.append(pins.enter(pins.pins[Role.PLAY], "10.0.0.1"))
+
+        threads = [threading.Thread(target=enter) for _ in range(4)]
+        for thread in threads:
+            thread.start()
+        for _ in range(500):
+            pins.change()
+        is_over.set()
+        for thread in threads:
+            thread.join()
+        pins.change()
+        self.assertEqual({None}, {pins.session(token, "10.0.0.1") for token in tokens} | {None})
+        self.assertEqual({}, pins.sessions)
+
     def wrong(self, pins, address):
         with self.assertRaises(Refused) as refused:
             pins.enter("x", address)
@@ -415,6 +439,17 @@ class PinsOfADesk(unittest.TestCase):
             told = [self.wrong(pins, f"10.0.0.{at // 5}") for at in range(1_000)]
         self.assertEqual(30, sum("no such PIN" in each for each in told))
         self.assertLessEqual(len(pins.attempts.wrong) + len(pins.attempts.locked), 60)
+
+
+class Warned(unittest.TestCase):
+    def test_public_addresses(self):
+        """An address that the internet reaches is warned of; one of a network of ours is not."""
+        words = argparse.Namespace(listen=("9.9.9.9", 8090), osc=("10.1.1.1", 8000), certificate="x")
+        (told,) = warnings(words)
+        self.assertTrue(told.startswith("--listen: 9.9.9.9 faces the public internet"))
+        words = argparse.Namespace(listen=None, osc=("9.9.9.9", 8000), certificate=None)
+        (told,) = warnings(words)
+        self.assertTrue(told.startswith("--osc: 9.9.9.9 faces the public internet"))
 
 
 class Picture(unittest.TestCase):

@@ -28,7 +28,7 @@ HIDDEN = """(() => {
   const row = (at) => document.querySelectorAll("#cues button")[at];
   const parts = {
     play: ["current", "next", "go", "back", "blackout", "goto", "master", row(26), row(27)],
-    large: ["current", "next", "go", "back"],
+    large: ["current", "next", "go", "back", "blackout"],
     levels: ["universe", "before", "after"],
     more: ["double-tap"],
   }["VIEW"].map((part) => (typeof part === "string" ? document.getElementById(part) : part));
@@ -55,6 +55,12 @@ class DeskPage(DeskTest):
         page.wait("!document.body.classList.contains('is-dead')")
         return desk, page, Page(self, address)
 
+    def wait_for_cue(self, page, state, cue):
+        """Waits until a page shows this cue: a GO that is pressed before then is refused."""
+        shown = "document.getElementById('current').textContent.split(' ')[0]"
+        page.wait(f"{shown} === '{cue}'")
+        return state.wait(current=cue, waiting=0)
+
     def wait_for_alarm(self, page, *told):
         """Waits until an alarm says one of these."""
         found = set()
@@ -76,19 +82,19 @@ class DeskPage(DeskTest):
         """By the space bar wherever the focus is, by the button, and by Enter."""
         _, page, state = self.shown_page()
         page.press(" ", "Space", " ")
-        state.wait(current="1")
+        self.wait_for_cue(page, state, "1")
         self.wait_for_level(128)
         page.value("document.getElementById('back').focus()")
         page.press(" ", "Space", " ")
-        state.wait(current="1.5")
+        self.wait_for_cue(page, state, "1.5")
         page.wait("document.getElementById('current').textContent === '1.5 half past'")
         page.press("Backspace")
-        state.wait(current="1")
+        self.wait_for_cue(page, state, "1")
         page.click("document.getElementById('go')")
-        state.wait(current="1.5")
+        self.wait_for_cue(page, state, "1.5")
         page.value("document.getElementById('go').focus()")
         page.press("Enter", "Enter", "\r")
-        state.wait(current="2")
+        self.wait_for_cue(page, state, "2")
         self.wait_for_level(51)
         page.wait("document.title === '2 two <b>s'")
         self.assertNoFaults()
@@ -104,10 +110,10 @@ class DeskPage(DeskTest):
         came = []
         for cue in ("0.5", "1", "1.5", "2", "3", "4", "5"):
             page.press(" ", "Space", " ")
-            state.wait(current=cue)
+            self.wait_for_cue(page, state, cue)
             came += self.came(0.02)
         page.press("Backspace")
-        state.wait(current="4")
+        self.wait_for_cue(page, state, "4")
         page.value("document.querySelector('[data-to=more]').click()")
         for _ in range(2):
             page.click("document.getElementById('end')")
@@ -427,6 +433,8 @@ class DeskPage(DeskTest):
             page.press(" ", "Space", " ")
             state.wait(current=cue)
             in_time(took(pressed), 2000, "a press")
+            for each in (first, others[2]):
+                self.wait_for_cue(each, state, cue)
         more[0].press(" ", "Space", " ")
         others[0].close()
         wait_for(lambda: any(page.text("current") == "2 two <b>s" for page in more), "its place")

@@ -71,6 +71,8 @@ class LevelReader:
                 self.levels.reasons[universe] = reasons[0]
             elif len(self.universes) < MOST_UNIVERSES:
                 self.universes.append(universe)
+            else:
+                self.levels.reasons[universe] = f"{MOST_UNIVERSES} universes are shown"
 
     @property
     def levels(self) -> Levels:

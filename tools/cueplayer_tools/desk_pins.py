@@ -8,6 +8,7 @@ go on.
 import hashlib
 import hmac
 import secrets
+import threading
 import time
 from collections.abc import Callable
 from dataclasses import dataclass
@@ -81,9 +82,10 @@ class Attempts:
 
 
 class Pins:
-    """The PINs of this desk, and who showed them. Used by one thread at a time."""
+    """The PINs of this desk, and who showed them. One door changes them while another asks."""
 
     def __init__(self) -> None:
+        self.lock = threading.Lock()
         # Gets what the operator has to know.
         self.tell: Callable[[str], None] = lambda text: None
         self.attempts = Attempts()
@@ -93,6 +95,10 @@ class Pins:
 
     def change(self) -> None:
         """Makes new PINs, and ends all sessions."""
+        with self.lock:
+            self._change()
+
+    def _change(self) -> None:
         for session in self.sessions.values():
             session.is_over = True
         self.sessions = {}
@@ -103,14 +109,19 @@ class Pins:
 
     def enter(self, pin: str, address: str) -> str:
         """The token of a new session; Refused where this is no PIN, or the address is locked."""
-        self.attempts.check(address)
-        roles = [role for role in Role if _is_same(pin, self.pins[role])]
-        if not roles:
-            if self.attempts.add(address):
-                self.tell(f"{MOST_WRONG} wrong PINs came from {address}: it is locked for a minute")
-            raise Refused("no such PIN: it stands on the desk's terminal, and on its own page")
+        with self.lock:
+            self.attempts.check(address)
+            roles = [role for role in Role if _is_same(pin, self.pins[role])]
+            if roles:
+                return self._begin(roles[0], address)
+            is_locked = self.attempts.add(address)
+        if is_locked:
+            self.tell(f"{MOST_WRONG} wrong PINs came from {address}: it is locked for a minute")
+        raise Refused("no such PIN: it stands on the desk's terminal, and on its own page")
+
+    def _begin(self, role: Role, address: str) -> str:
+        """The token of a new session."""
         self.attempts.forgive(address)
-        (role,) = roles
         self._make_room(role)
         token = secrets.token_urlsafe(24)
         self.sessions[_kept(token)] = Session(role, address)
@@ -118,7 +129,8 @@ class Pins:
 
     def session(self, token: str, address: str) -> Session | None:
         """The session of this token, at the address that began it; None where there is none."""
-        session = self.sessions.get(_kept(token))
+        with self.lock:
+            session = self.sessions.get(_kept(token))
         return session if session is not None and session.address == address else None
 
     def _make_room(self, role: Role) -> None:

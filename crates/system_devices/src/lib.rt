@@ -14,11 +14,11 @@ mod fault;
 mod input;
 mod lock_holder;
 mod machine;
-mod machine_name;
 mod messages;
 mod neighbors;
 mod network;
 mod output;
+mod own_name;
 mod record;
 mod record_file;
 mod record_lock;
@@ -38,12 +38,12 @@ pub use cid_lock::{CidLock, LockFault, PathText};
 pub use fault::DeviceFault;
 pub use input::SystemInput;
 pub use machine::{Keyboard, SystemClock};
-pub use machine_name::machine_name;
 pub use messages::Messages;
 pub use network::{
     GROUPS, Leaving, MOST_SOURCES, Network, Path, PathState, Source, SourceState, is_multicast,
 };
 pub use output::SystemOutput;
+pub use own_name::machine_name;
 pub use record::Record;
 pub use record_file::{Pause, RecordFault, RecordFile};
 pub use record_lock::remove_unused_record;
