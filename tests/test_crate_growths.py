@@ -68,6 +68,7 @@ TESTED = {
 }
 # Public calls whose growths are refused in the program alone, and the test that refuses them.
 IN_THE_PROGRAM = {
+    "Name::new": "test_refused_growths.RefusedGrowths.test_live",
     "first_bytes": "test_refused_growths.RefusedGrowths.test_check",
     "open": "test_refused_growths.RefusedGrowths.test_play",
     "read_words": "test_refused_growths.RefusedGrowths.test_words",
