@@ -173,9 +173,12 @@ class Goes(FolderNightTest):
         self.wait_for_reply("no spare stands by, by the lines above")
         live = self.number("pid")
         self.assertNotIn("a spare stands by", self.asked("status").out)
+        self.assertEqual(1, self.replies().count("record: another show"))
         os.kill(live, signal.SIGKILL)
         self.wait_for_reply("live refused to begin, with status 4")
         self.assertEqual(1, self.replies().count("no spare stands by"))
+        # The spare said so, and then `live`.
+        self.assertEqual(2, self.replies().count("record: another show"))
 
     def test_keeper_is_killed(self):
         """`live` plays on and is commanded; the next keeper takes hold of it, and restarts it."""
