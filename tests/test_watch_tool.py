@@ -214,6 +214,18 @@ def sockets(machine):
     return machine.within(Path("/proc/thread-self/net/udp").read_text).count(":15C0 ")
 
 
+def interrupt(machine, child):
+    """Control-C for the tool, once it has taken what has come."""
+    taken = re.compile(r":15C0 \S+ \S+ \w+:00000000 ")
+
+    def is_taken():
+        text = machine.within(Path("/proc/thread-self/net/udp").read_text)
+        return len(taken.findall(text)) == text.count(":15C0 ")
+
+    wait_for(is_taken, "the tool has taken what has come")
+    child.send_signal(signal.SIGINT)
+
+
 class InLines(ToolTest):
     """The tool where standard output is no terminal."""
 
@@ -268,12 +280,14 @@ class InLines(ToolTest):
         }, found)  # fmt: skip
 
     def test_once(self):
-        """Who sends what, after some time."""
-        child, out, err = self.lines("1", "2", "--once", "2.5")
+        """Who sends what, after some time or control-C."""
+        done = run_tool("watch", "1", "--port", "0", "--interface", "lo", "--once", "0.2")
+        self.assertEqual((0, "universe 1"), (done.returncode, done.stdout.splitlines()[0]))
+        child, out, err = self.lines("1", "2", "--once", "600")
         for number in range(20):
             self.send(packet(1, {1: 64}, 2 * number, name="main"))
             self.send(packet(1, {1: 9}, number, priority=99, cid=OTHER))
-            time.sleep(0.02)
+        interrupt(self.machine, child)
         told = out.rest()
         self.assertEqual((0, []), (child.wait(PATIENCE), err.rest()))
         sources = "\n".join(told)
@@ -338,9 +352,10 @@ class InLines(ToolTest):
         """Where no route leads to the groups, what is sent to the machine is watched all the same."""
         with ExitStack() as kept:
             machine = Machine(kept)
-            child = self.start(machine, "1", "--once", "1", stdout=subprocess.PIPE, stderr=subprocess.PIPE)
+            child = self.start(machine, "1", stdout=subprocess.PIPE, stderr=subprocess.PIPE)
             with machine.within(lambda: socket.socket(socket.AF_INET, socket.SOCK_DGRAM)) as sender:
                 sender.sendto(packet(1, {1: 7}), ("127.0.0.1", PORT))
+            interrupt(machine, child)
             out, err = child.communicate(timeout=PATIENCE)
         self.assertEqual(
             "watch: cannot join 239.255.0.1: No such device; only unicast is heard: name a network card by "
@@ -522,13 +537,15 @@ class OnTheStage(ToolTest):
                 node.refuse()
             show = self.file("a.asc", text("CUE 1", "UP 0", "CHAN 1@H80", "PATCH 1 1<1@FL"))
             pipes = dict.fromkeys(("stdout", "stderr"), subprocess.PIPE)
-            words = ["1", "--interface", "port", "--once", "3"]
+            words = ["1", "--interface", "port", "--once", "600"]
             stage, office = (
                 self.start(node, *words, text=True, **pipes) for node in (venue.stage, venue.office)
             )
             play = ["play", show, "--to", "239.255.0.0", "--cid", CID, "--interface", "lit", "--any-route"]
             lines = b"0 go\n" + b"".join(b"%d tick\n" % moment for moment in range(0, 200, 25))
             self.assertEqual(0, venue.run(*play, stdin=lines).returncode)
+            for node, child in ((venue.stage, stage), (venue.office, office)):
+                interrupt(node, child)
             seen, unseen = (child.communicate(timeout=PATIENCE)[0] for child in (stage, office))
             self.assertRegex(seen, rf"(?m)^> {re.escape(LIVE_NAME)} +100 +\d+ +0  {re.escape(LIT)} +{CID}$")
             self.assertIn("\nslots 1:128\n", seen)
