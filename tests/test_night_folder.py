@@ -495,7 +495,6 @@ class Stubbed(FolderNightTest):
     def test_no_card(self):
         """Where the network is not there yet, `start` alone waits for it; new words are refused."""
         self.file("status", b"2\n")
-        keepers = []
         for said in (
             "no card lit: there are lo (127.0.0.1)",
             "lit is down: ip link set lit up; there are lo (127.0.0.1)",
@@ -509,11 +508,11 @@ class Stubbed(FolderNightTest):
                 self.night = self.folder / said.partition(":")[0]
                 done = self.asked("start", *self.words)
                 self.assertEqual((2, 1), (done.status, self.began()))
-                keepers.append(self.kept())
-                keepers[-1].out.find(".*live waits for its network card")
+                keeper = self.kept()
+                keeper.out.find(".*live waits for its network card")
                 self.assertIn(said, self.asked("status").out)
-        for keeper in keepers:
-            keeper.process.kill()
+                keeper.process.kill()
+                keeper.process.wait()
 
     def test_card_that_comes(self):
         """It is told once, and what comes of it is that of any other night."""

@@ -10,9 +10,9 @@ mod card_sender;
 mod cards;
 mod cid_lock;
 mod fault;
+mod host_name;
 mod input;
 mod lock_holder;
-mod machine_name;
 mod messages;
 mod neighbors;
 mod network;
@@ -34,8 +34,8 @@ pub use card_sender::CardSender;
 pub use cards::{Card, CardName, CardState, Cards, card_state};
 pub use cid_lock::{CidLock, LockFault, PathText};
 pub use fault::DeviceFault;
+pub use host_name::machine_name;
 pub use input::SystemInput;
-pub use machine_name::machine_name;
 pub use messages::Messages;
 pub use network::{
     GROUPS, Leaving, MOST_SOURCES, Network, Path, PathState, Source, SourceState, is_multicast,
