@@ -23,6 +23,7 @@ mod record_lock;
 mod routes;
 mod socket;
 mod system_lines;
+mod tied_socket;
 mod typed_input;
 mod watched_output;
 mod way;
