@@ -100,10 +100,14 @@ class Node(Machine):
 
     def begin(self) -> None:
         """Sees what comes by its cable, from here on, and listens, so that it refuses nothing."""
-        self.cable = self.within(self._tapped)
+        self.watch_cable()
         self.listener = self.within(self._bound)
-        self.kept.callback(self.cable.close)
         self.kept.callback(self.refuse)
+
+    def watch_cable(self) -> None:
+        """Sees what comes by its cable, which may be a new one."""
+        self.cable = self.within(self._tapped)
+        self.kept.callback(self.cable.close)
 
     def _tapped(self) -> socket.socket:
         tap = socket.socket(socket.AF_PACKET, socket.SOCK_DGRAM, socket.htons(ETH_P_IP))
@@ -157,12 +161,16 @@ class Venue:
         self.console = Machine(kept)
         self.office, self.stage = Node(kept, OFFICE), Node(kept, STAGE)
         for card, node in (("eth0", self.office), ("lit", self.stage)):
-            self.console.ip(f"link add {card} type veth peer name port netns {node.name}")
-            node.ip(f"addr add {node.address}/24 dev port", "link set port up")
+            self.plug(card, node)
             node.begin()
         if has_addresses:
             self.give_addresses()
             wait_for(self._is_up, "the console's cards are up")
+
+    def plug(self, card: str, node: Node) -> None:
+        """Plugs in a card of the console, with a cable to a node."""
+        self.console.ip(f"link add {card} type veth peer name port netns {node.name}")
+        node.ip(f"addr add {node.address}/24 dev port", "link set port up")
 
     def give_addresses(self) -> None:
         """What a machine gets as its network comes up."""

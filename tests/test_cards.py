@@ -198,6 +198,7 @@ class Watch(CardsTest):
             self.card_down,
             self.address_gone,
             self.card_gone,
+            self.card_plugged_in_anew,
             self.route_changed,
             self.route_gone,
             self.any_route,
@@ -296,6 +297,19 @@ class Watch(CardsTest):
         night.ask("go")
         time.sleep(DURING)
         self.assertEqual([], venue.office.came(0))
+        self.assertLost(night)
+
+    def card_plugged_in_anew(self, kept):
+        """It is another card to the system, and the same one to the night."""
+        venue, night = self.lit_night(kept, "--to", STAGE)
+        with self.soon(night, self.GONE):
+            venue.console.ip("link del lit")
+        night.ask("go")
+        venue.plug("lit", venue.stage)
+        venue.stage.watch_cable()
+        with self.soon(night, f"lit has {LIT}"):
+            venue.console.ip(f"addr add {LIT}/24 dev lit", "link set lit up")
+        self.assertLit(venue)
         self.assertLost(night)
 
     def route_changed(self, kept):
@@ -404,7 +418,7 @@ class Staying(CardsTest):
     def test_staying(self):
         nodes = [self.case(self.to_a_node, lines) for lines in self.CHANGES]
         groups = [self.case(self.to_groups, lines) for lines in self.CHANGES]
-        self.side_by_side(*nodes, *groups, self.cable_out)
+        self.side_by_side(*nodes, *groups, self.cable_out, self.without_ties)
 
     def case(self, of_change, lines):
         def case(kept):
@@ -462,6 +476,19 @@ class Staying(CardsTest):
         night, _ = self.fading(kept, venue, "--to", STAGE)
         venue.stage.ip("link set port down")
         self.assertGreater(self.assertStays(venue, night), 0)
+
+
+    def without_ties(self, kept):
+        """Where the system ties no socket to a card, at most the packets of one tick leave by the
+        other one."""
+        venue = Venue(kept)
+        words = venue.console.words("sysctl", "-qw", "net.ipv6.bindv6only=1")
+        subprocess.run(words, check=True)
+        night, _ = self.fading(kept, venue, "--to", STAGE)
+        venue.console.ip("link set lit down")
+        time.sleep(DURING)
+        night.end()
+        self.assertLess(len(venue.office.came()), 3)
 
 
 class Refusals(CardsTest):

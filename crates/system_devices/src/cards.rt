@@ -237,6 +237,14 @@ pub fn card_state(rt: &HostRuntime, name: &str) -> CardState {
     }
 }
 
+/// The number that the system gives the card of this name. A card that is plugged in anew has
+/// another one.
+pub fn card_index(rt: &HostRuntime, name: &str) -> Option<u32> {
+    let mut path = ArrayString::<64>::new();
+    let _ = write!(path, "/sys/class/net/{name}/ifindex");
+    first_line(rt, path.as_str())?.as_str().parse::<u32>().ok()
+}
+
 // `carrier` says the same, but waits while a card is being changed.
 fn is_without_link(state: &str) -> bool {
     matches!(state, "down" | "lowerlayerdown" | "dormant" | "notpresent")

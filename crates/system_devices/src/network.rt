@@ -1,7 +1,8 @@
-use crate::cards::{CardName, CardState, card_state, card_to};
+use crate::cards::{CardName, CardState, card_index, card_state, card_to};
 use crate::neighbors::Neighbors;
 use crate::routes::{is_of_this_machine, route_to, source_to};
 use crate::socket::{AddressText, SocketFault, bind, send_whole, text_of};
+use crate::tied_socket::TiedSocket;
 use arrayvec::ArrayVec;
 use devices::LinkFault;
 use std::io::ErrorKind;
@@ -60,6 +61,35 @@ pub struct Source {
     pub card: CardName,
     pub state: SourceState,
     socket: Option<UdpSocket>,
+    // For hosts by the route to which packets may not leave by another card.
+    tied: Option<TiedSocket>,
+}
+
+impl Source {
+    // Ties a socket to the card that is there now, unless that is done.
+    fn tie(&mut self, rt: &HostRuntime, waits: bool) {
+        let index = card_index(rt, self.card.as_str());
+        let tied = self.tied.as_ref().map(TiedSocket::index);
+        if index != tied {
+            self.tied = TiedSocket::open(rt, self.address, self.card.as_str(), waits);
+        }
+    }
+
+    // The multicast of a bound socket leaves by the card of its address.
+    fn send(&self, unbound: &UdpSocket, bytes: &[u8], to: Address) -> Result<(), ErrorKind> {
+        match &self.tied {
+            Some(tied) if !is_multicast(to.host) => tied.send(bytes, to.host, to.port),
+            _ => send_whole(
+                self.socket.as_ref().unwrap_or(unbound),
+                bytes,
+                socket_address(to),
+            ),
+        }
+    }
+}
+
+fn socket_address(to: Address) -> SocketAddr {
+    SocketAddr::new(IpAddr::from(to.host), to.port)
 }
 
 /// How a host is reached.
@@ -102,6 +132,11 @@ impl Path {
     /// Whether no route leads to the host.
     pub fn is_without_route(&self) -> bool {
         matches!(self.state, PathState::Nowhere)
+    }
+
+    // Whether the route leads there by the card of its source, or by any.
+    fn leads(&self) -> bool {
+        matches!(self.state, PathState::Leads)
     }
 
     /// Whether nobody answers there.
@@ -205,12 +240,16 @@ impl Network {
                 return Ok(Some(place));
             }
         }
-        let source = Source {
+        let mut source = Source {
             address,
             card: card_to(rt, address, host),
             state: SourceState::Sends,
             socket: Some(socket_at(rt, address, self.leaving)?),
+            tied: None,
         };
+        if !self.leaving.is_any_route {
+            source.tie(rt, !self.leaving.never_waits);
+        }
         let place = self.sources.len();
         match self.sources.try_push(source) {
             Ok(()) => Ok(Some(place)),
@@ -262,6 +301,9 @@ impl Network {
     pub fn look(&mut self, rt: &HostRuntime) {
         for source in self.sources.as_mut_slice() {
             source.state = state_of(rt, source);
+            if !self.leaving.is_any_route {
+                source.tie(rt, !self.leaving.never_waits);
+            }
         }
         let mut paths = self.paths.take();
         for path in paths.as_mut_slice() {
@@ -340,32 +382,29 @@ impl Network {
     ///
     /// Where it is lost.
     pub fn send(&mut self, rt: &HostRuntime, to: Address, bytes: &[u8]) -> Result<(), LinkFault> {
-        let address = SocketAddr::new(IpAddr::from(to.host), to.port);
         self.look_before(rt, to.host);
-        match self.offer(address, to.host, bytes) {
+        match self.offer(to, bytes) {
             Ok(()) => Ok(()),
             Err(kind) => {
-                self.failure = Some((address, kind));
+                self.failure = Some((socket_address(to), kind));
                 Err(LinkFault)
             }
         }
     }
 
-    fn offer(&self, address: SocketAddr, host: [u8; 4], bytes: &[u8]) -> Result<(), ErrorKind> {
-        let path = self.path_of(host);
-        if let Some(path) = path
-            && let PathState::Elsewhere(_) = path.state
-        {
+    fn offer(&self, to: Address, bytes: &[u8]) -> Result<(), ErrorKind> {
+        let path = self.path_of(to.host);
+        let Some(source) = path.and_then(|path| self.source_of(path)) else {
+            return send_whole(&self.unbound, bytes, socket_address(to));
+        };
+        // Without a route the system would ask who has the address at the card's network.
+        if !self.leaving.is_any_route && !path.is_some_and(Path::leads) {
             return Err(ErrorKind::NetworkUnreachable);
         }
-        let Some(source) = path.and_then(|path| self.source_of(path)) else {
-            return send_whole(&self.unbound, bytes, address);
-        };
-        let socket = source.socket.as_ref().unwrap_or(&self.unbound);
         match source.state {
-            SourceState::Sends => send_whole(socket, bytes, address),
+            SourceState::Sends => source.send(&self.unbound, bytes, to),
             SourceState::NoLink => {
-                send_whole(socket, bytes, address)?;
+                source.send(&self.unbound, bytes, to)?;
                 Err(ErrorKind::NetworkDown)
             }
             SourceState::Down => Err(ErrorKind::NetworkDown),
