@@ -1,30 +1,35 @@
 use devices::memory::Faults;
 use line_queue::{LineQueue, MemoryPipe, Notice};
+use std::alloc::Global;
 use std::io::ErrorKind;
+use std::process::Abort;
 
 const NOTICE: Notice = Notice {
     mark: "! ",
     lines: "lines",
 };
 
-fn pipe(rt: &HostRuntime, room: usize, faults: Faults, kind: ErrorKind) -> MemoryPipe {
-    MemoryPipe::new(rt.alloc(), room, 100, faults, kind)
-}
-
-fn queue(rt: &HostRuntime, pipe: MemoryPipe) -> LineQueue<MemoryPipe> {
-    LineQueue::new(rt.alloc(), pipe, NOTICE).expect(rt, "a queue")
+fn queue_before(
+    rt: &impl Abort,
+    alloc: Global,
+    room: usize,
+    faults: Faults,
+    kind: ErrorKind,
+) -> LineQueue<MemoryPipe> {
+    let pipe = MemoryPipe::new(alloc, room, 100, faults, kind);
+    LineQueue::new(alloc, pipe, NOTICE).expect(rt, "a queue")
 }
 
 // A pipe that takes 100 bytes by a write gets the lines as they are.
 #[test]
 fn lines_go_through(rt: HostRuntime) {
     let faults = Faults::new(0, 0);
-    let mut queue = queue(&rt, pipe(&rt, 1000, faults, ErrorKind::BrokenPipe));
+    let mut queue = queue_before(&rt, rt.alloc(), 1000, faults, ErrorKind::BrokenPipe);
     queue.put(b"0 go\n");
     queue.take(b"23 tick\n");
-    assert!(rt; queue.is_late() && queue.pipe.bytes.as_slice() == b"0 go\n");
+    assert!(rt; queue.is_late() && queue.pipe.bytes.as_slice() == b"0 go\n".as_slice());
     queue.hand_on();
-    assert!(rt; !queue.is_late() && queue.pipe.bytes.as_slice() == b"0 go\n23 tick\n");
+    assert!(rt; !queue.is_late() && queue.pipe.bytes.as_slice() == b"0 go\n23 tick\n".as_slice());
     assert!(rt; queue.taken() == 13 && queue.gaps() == 0 && queue.pipe.writes == 2);
 }
 
@@ -33,7 +38,7 @@ fn lines_go_through(rt: HostRuntime) {
 #[test]
 fn dropped_lines_are_counted(rt: HostRuntime) {
     let faults = Faults::new(0, 0);
-    let mut queue = queue(&rt, pipe(&rt, 0, faults, ErrorKind::BrokenPipe));
+    let mut queue = queue_before(&rt, rt.alloc(), 0, faults, ErrorKind::BrokenPipe);
     for _ in 0..70 {
         queue.put(&[b'x'; 1000]);
     }
@@ -42,8 +47,9 @@ fn dropped_lines_are_counted(rt: HostRuntime) {
     queue.finish();
     queue.put(b"0 go\n");
     let bytes = queue.pipe.bytes.as_slice();
-    assert!(rt; bytes.len() == 65_000 + 23 && bytes[..65_000].iter().all(|byte| *byte == b'x'));
-    assert!(rt; &bytes[65_000..] == b"! 5 lines dropped\n0 go\n");
+    let count = bytes.iter().filter(|byte| **byte == b'x').count();
+    assert!(rt; bytes.len() == 65_023 && count == 65_000);
+    assert!(rt; bytes.ends_with(b"! 5 lines dropped\n0 go\n".as_slice()));
     assert!(rt; queue.gaps() == 1 && !queue.is_late());
 }
 
@@ -51,26 +57,28 @@ fn dropped_lines_are_counted(rt: HostRuntime) {
 #[test]
 fn long_line_is_counted(rt: HostRuntime) {
     let faults = Faults::new(0, 0);
-    let mut queue = queue(&rt, pipe(&rt, 1000, faults, ErrorKind::BrokenPipe));
+    let mut queue = queue_before(&rt, rt.alloc(), 1000, faults, ErrorKind::BrokenPipe);
     queue.put(&[b'x'; 65_537]);
     queue.put(b"0 go\n");
-    assert!(rt; queue.pipe.bytes.as_slice() == b"! 1 lines dropped\n0 go\n");
+    assert!(rt; queue.pipe.bytes.as_slice() == b"! 1 lines dropped\n0 go\n".as_slice());
 }
 
 // A write that a signal interrupts is made again; behind one that failed nothing is written.
 #[test]
 fn nothing_is_written_behind_a_failure(rt: HostRuntime) {
-    let again = pipe(&rt, 1000, Faults::new(0, 1), ErrorKind::Interrupted);
-    let mut interrupted = queue(&rt, again);
+    let signal = Faults::new(0, 1);
+    let mut interrupted = queue_before(&rt, rt.alloc(), 1000, signal, ErrorKind::Interrupted);
     interrupted.put(b"0 go\n");
-    assert!(rt; interrupted.failure().is_none() && interrupted.pipe.bytes.as_slice() == b"0 go\n");
-    let broken = pipe(&rt, 1000, Faults::new(1, 1), ErrorKind::BrokenPipe);
-    let mut failed = queue(&rt, broken);
+    assert!(rt;
+        interrupted.failure().is_none() && interrupted.pipe.bytes.as_slice() == b"0 go\n".as_slice()
+    );
+    let fault = Faults::new(1, 1);
+    let mut failed = queue_before(&rt, rt.alloc(), 1000, fault, ErrorKind::BrokenPipe);
     for _ in 0..3 {
         failed.put(b"0 go\n");
     }
     assert!(rt; failed.failure() == Some(ErrorKind::BrokenPipe));
-    assert!(rt; failed.pipe.bytes.as_slice() == b"0 go\n" && failed.pipe.writes == 2);
+    assert!(rt; failed.pipe.bytes.as_slice() == b"0 go\n".as_slice() && failed.pipe.writes == 2);
 }
 
 // Where memory is refused there is no queue; behind that there is one, with nothing in it.
