@@ -76,7 +76,7 @@ _cueplayer_parse() {
 
 # Fills COMPREPLY with what may stand where the cursor is.
 _cueplayer() {
-    local jobs="check explain cues look slots play live rehearse listen help"
+    local jobs="check explain cues look slots play live rehearse listen watch help"
     local job='' option='' used=' ' place=0 words_only='' choices='' is_file='' name
     local -a words=()
     _cueplayer_join

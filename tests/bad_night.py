@@ -6,9 +6,10 @@ link goes down and up.
 usage: tests/bad_night.py [--seconds N] [--seed S]
 
 It makes a network of its own, where a desk plays multicast through a link that it can take down.
-What must hold: no tick is later than 60 ms beyond what bare sleepers on this machine were, no
+What must hold: no tick is later than 60 ms, but for the time in which the machine stood still, no
 packet is off its place, no press is carried out late, and the night ends with its streams. It
-prints what was seen; the exit status is 1 where something was wrong.
+prints what was seen; the exit status is 1 where something was wrong, and 2 where something was late
+and nothing else was wrong.
 """
 
 import argparse
@@ -28,12 +29,14 @@ import tempfile
 import threading
 import time
 import uuid
+from collections.abc import Iterator
 from pathlib import Path
 
 sys.dont_write_bytecode = True
 sys.path.insert(0, str(Path(__file__).resolve().parent))
 
-from program import behind_head, packet  # noqa: E402  (tests/ is on the path from here on)
+from machine import Late, Took, in_time, witness  # noqa: E402  (tests/ is on the path from here on)
+from program import behind_head, packet  # noqa: E402
 from tooling import TOOLS  # noqa: E402
 from wire import OPTIONS, SEQUENCE, TERMINATED  # noqa: E402
 
@@ -49,15 +52,6 @@ LINK = (
     "ip link set lo up && ip link add stage type veth peer name hall && ip link set hall up && "
     f"ip addr add {HERE}/24 dev stage && {UP}"
 )
-SLEEPER = """
-import sys, time
-begin, worst = time.monotonic(), 0.0
-while (now := time.monotonic()) - begin < float(sys.argv[1]):
-    due = begin + (int((now - begin) / 0.025) + 1) * 0.025
-    time.sleep(due - now)
-    worst = max(worst, time.monotonic() - due)
-print(round(worst * 1000))
-"""
 
 
 def show_text(chance: random.Random) -> str:
@@ -85,8 +79,10 @@ class Receiver:
         self.count = 0
         self.ended = 0
         self.wrong: list[str] = []
-        # While the link is down, and shortly after, packets may be missing.
+        # While the link is down, and shortly after, packets may be missing; and behind that before
+        # the first one of a universe.
         self.may_miss_until = 0.0
+        self.may_miss: set[int] = set()
         self.sockets = [self._joined(universe) for universe in range(1, UNIVERSES + 1)]
         threading.Thread(target=self._read, daemon=True).start()
 
@@ -105,6 +101,13 @@ class Receiver:
             for ready in select.select(self.sockets, [], [])[0]:
                 self._take(ready.recv(2048))
 
+    def settle(self) -> None:
+        """Waits until all that came has been read: nothing has, for a while."""
+        count = -1
+        while count != self.count:
+            count = self.count
+            time.sleep(0.3)
+
     def _take(self, data: bytes) -> None:
         if len(data) != 638 or data[22:38] != self.cid:
             return
@@ -113,8 +116,11 @@ class Receiver:
         self.ended += bool(data[OPTIONS] & TERMINATED)
         step = (number - self.last.get(universe, number - 1)) % 256
         self.last[universe] = number
-        if step != 1 and time.monotonic() > self.may_miss_until:
+        if time.monotonic() <= self.may_miss_until:
+            return
+        if step != 1 and universe not in self.may_miss:
             self.wrong.append(f"universe {universe}: {step} steps to number {number}")
+        self.may_miss.discard(universe)
 
 
 class Desk:
@@ -124,6 +130,7 @@ class Desk:
         self.record = folder / "night.play"
         show = folder / "show.asc"
         show.write_text(show_text(chance))
+        self.began = time.monotonic()
         words = [sys.executable, TOOLS / "desk", show, "--to", "239.255.0.0", "--cid", str(cid)]
         words += ["--record", self.record, "--replies", folder / "replies", "--osc", "0"]
         pipes = {"stdout": subprocess.PIPE, "stderr": subprocess.PIPE}
@@ -164,7 +171,8 @@ class Desk:
         """Presses as the page does; the status, or None where there was none in a second."""
         at = max(int(milliseconds() + max(self.ahead)), 0)
         connection = http.client.HTTPConnection(self.host, timeout=1.0)
-        headers = {"Origin": f"http://{self.host}", "Desk-Time": str(at)}
+        seen = self.state.get("number", 0)
+        headers = {"Origin": f"http://{self.host}", "Desk-Time": str(at), "Desk-State": str(seen)}
         try:
             connection.request("POST", self.path + "command", line, headers)
             return connection.getresponse().status
@@ -274,6 +282,7 @@ class Trouble:
 
     def take_link_down(self) -> None:
         self.receiver.may_miss_until = time.monotonic() + 3600
+        self.receiver.may_miss = set(range(1, UNIVERSES + 1))
         subprocess.run(["ip", "link", "set", "stage", "down"], check=True)
         time.sleep(self.chance.uniform(0.1, 2))
         subprocess.run(UP, shell=True, check=True)
@@ -298,65 +307,83 @@ def name_of(process: int) -> str:
     return Path(f"/proc/{process}/comm").read_text().strip()
 
 
-def late_presses(
-    lines: list[list[str]], made: list[tuple[float, int]], latest: int
-) -> tuple[int, list[str]]:
-    """How many presses were carried out, and those that were later than so many milliseconds."""
+def carried_out(lines: list[list[str]], made: list[tuple[float, int]]) -> list[Took]:
+    """How old each press was when it was carried out; far too old where it was never made."""
     moves = [(int(moment), int(words[1])) for moment, *words in lines if words[0] == "goto"]
     by_cue = collections.defaultdict(list)
     for pressed, cue in made:
         by_cue[cue].append(pressed)
     # The clock of `live` and this one: the quickest press took next to nothing.
     first = min(moment - pressed for moment, cue in moves for pressed in by_cue[cue][:1])
-    late = []
+    found = []
     for moment, cue in moves:
         ages = [moment - pressed - first for pressed in by_cue[cue]]
         age = min((each for each in ages if each >= -1), default=1e9)
-        if age > latest:
-            late.append(f"goto {cue} at {moment} was {age:.0f} ms old")
-    return len(moves), late
+        until = (moment - first) / 1000
+        found.append(Took(age, until - age / 1000, until))
+    return found
 
 
-def faults_of(desk: Desk, receiver: Receiver, presses: Presses, slept: int) -> list[str]:
-    """What was wrong in a night that has ended; prints what was seen."""
-    lines = [line.split() for line in behind_head(desk.record.read_bytes())]
+def late_in(lines: list[list[str]], presses: list[Took], began: float) -> list[str]:
+    """What was later than it may be, of a night that began at this moment."""
     ticks = [int(moment) for moment, *words in lines if words == ["tick"]]
+    late = []
+    for before, after in zip(ticks, ticks[1:]):
+        stretch = Took(after - before, began + before / 1000 - 1, began + after / 1000 + 1)
+        with told(late):
+            in_time(stretch, TICK + BEYOND, f"the tick at {after}")
+    for each in presses:
+        # What is in time for the desk waits for `live`, at most as long as a tick may.
+        with told(late):
+            in_time(each, LATE + BEYOND, "a press")
     worst = max(after - before for before, after in zip(ticks, ticks[1:])) - TICK
-    # What is in time for the desk waits for `live`, at most as long as a tick may.
-    moves, faults = late_presses(lines, presses.made, LATE + slept + BEYOND)
-    faults += receiver.wrong[:10]
-    print(f"{len(ticks)} ticks, the latest by {worst} ms; bare sleepers by {slept} ms")
-    print(f"{len(presses.made)} presses, {moves} carried out; answers {dict(presses.answers)}")
+    stood = max((woke - due for each in witness().stalls.values() for due, woke in each), default=0)
+    print(f"{len(ticks)} ticks, the latest by {worst} ms; the machine stood still for {1000 * stood:.0f} ms")
+    return late
+
+
+@contextlib.contextmanager
+def told(late: list[str]) -> Iterator[None]:
+    """What is late inside is one of these."""
+    try:
+        yield
+    except Late as fault:
+        late.append(str(fault))
+
+
+def faults_of(desk: Desk, receiver: Receiver, presses: Presses) -> tuple[list[str], list[str]]:
+    """What was wrong in a night that has ended, and what was late; prints what was seen."""
+    lines = [line.split() for line in behind_head(desk.record.read_bytes())]
+    moves = carried_out(lines, presses.made)
+    late = late_in(lines, moves, desk.began)
+    faults = receiver.wrong[:10]
+    print(f"{len(presses.made)} presses, {len(moves)} carried out; answers {dict(presses.answers)}")
     print(f"{receiver.count} packets received, {receiver.ended} ended streams")
-    if worst > slept + BEYOND:
-        faults.append(f"a tick was {worst} ms late")
-    if moves < len(presses.made) // 3:
+    if len(moves) < len(presses.made) // 3:
         faults.append("most presses were not carried out")
     if receiver.ended < UNIVERSES:
         faults.append("the streams have not ended")
-    return faults
+    return faults, late
 
 
-def play(seconds: float, seed: int) -> list[str]:
-    """Plays the night in this network; what was wrong in it."""
+def play(seconds: float, seed: int) -> tuple[list[str], list[str]]:
+    """Plays the night in this network; what was wrong in it, and what was late."""
     subprocess.run(LINK, shell=True, check=True)
+    witness()
     chance, cid = random.Random(seed), uuid.uuid4()
     with tempfile.TemporaryDirectory() as folder:
         receiver = Receiver(cid)
         desk = Desk(Path(folder), cid, chance)
         try:
-            words = [sys.executable, "-c", SLEEPER, str(seconds)]
-            sleepers = [subprocess.Popen(words, stdout=subprocess.PIPE) for _ in range(3)]
             presses = Presses(desk, random.Random(seed + 1))
             trouble = Trouble(desk, receiver, chance)
             trouble.until(time.monotonic() + seconds)
             presses.end()
-            slept = max(int(sleeper.communicate()[0]) for sleeper in sleepers)
             print(", ".join(f"{kind} {count}" for kind, count in sorted(trouble.happened.items())))
             desk.process.terminate()
             desk.process.wait(30)
-            time.sleep(0.2)
-            return faults_of(desk, receiver, presses, slept)
+            receiver.settle()
+            return faults_of(desk, receiver, presses)
         finally:
             desk.process.kill()
             with contextlib.suppress(ProcessLookupError):
@@ -372,10 +399,12 @@ def main() -> int:
     if not words.inside:
         network = ["unshare", *(["--user", "--map-root-user"] if os.geteuid() else []), "--net"]
         return subprocess.run([*network, sys.executable, *sys.argv, "--inside"]).returncode
-    faults = play(words.seconds, words.seed)
+    faults, late = play(words.seconds, words.seed)
     for fault in faults:
         print(f"WRONG: {fault}")
-    return 1 if faults else 0
+    for each in late:
+        print(f"LATE: {each}")
+    return 1 if faults else 2 if late else 0
 
 
 if __name__ == "__main__":

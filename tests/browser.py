@@ -123,6 +123,7 @@ class BrowserPage:
     def press(self, key, code=None, text="", shift=False):
         """Presses and lets go a key, at wish with Shift held."""
         virtual = {" ": 32, "Enter": 13, "Backspace": 8, "ArrowRight": 39, "ArrowDown": 40}
+        virtual["Tab"] = 9
         self.call("Page.bringToFront")
         named = {"key": key, "code": code or key, "windowsVirtualKeyCode": virtual[key]}
         named["modifiers"] = 8 if shift else 0
@@ -131,13 +132,25 @@ class BrowserPage:
 
     def click(self, expression, shift=False):
         """Clicks in the middle of an element, at wish with Shift held."""
+        self.hold(expression, shift)
+        self.let_go(shift)
+
+    def hold(self, expression, shift=False):
+        """Presses the mouse in the middle of an element, and holds it."""
         script = f"(() => {{ const at = ({expression}); at.scrollIntoView({{block: 'center'}});"
         script += "const box = at.getBoundingClientRect();"
         script += "return [box.x + box.width / 2, box.y + box.height / 2]; })()"
-        x, y = self.value(script)
-        for kind in ("mousePressed", "mouseReleased"):
-            held = {"button": "left", "clickCount": 1, "modifiers": 8 if shift else 0}
-            self.call("Input.dispatchMouseEvent", type=kind, x=x, y=y, **held)
+        self.at = self.value(script)
+        self._mouse("mousePressed", shift)
+
+    def let_go(self, shift=False):
+        """Lets go the mouse where it was pressed."""
+        self._mouse("mouseReleased", shift)
+
+    def _mouse(self, kind, shift):
+        x, y = self.at
+        held = {"button": "left", "clickCount": 1, "modifiers": 8 if shift else 0}
+        self.call("Input.dispatchMouseEvent", type=kind, x=x, y=y, **held)
 
     def names(self, role):
         """The names that a screen reader has for the parts of this role."""

@@ -1,6 +1,7 @@
 """What the tests of `tools/desk` share: a desk whose night has begun, and open pages of it."""
 
 import contextlib
+import functools
 import http.client
 import json
 import os
@@ -12,7 +13,7 @@ import time
 import uuid
 from pathlib import Path
 
-from program import text
+from program import run, text
 from tooling import PATIENCE, Started, wait_for
 from wire import SLOT_1, ReceiverTest
 
@@ -34,16 +35,27 @@ SHOW = text(
 )
 
 
+NO_WATCH = "the program has no word watch"
+
+
+@functools.cache
+def watches():
+    """Whether the program reads levels for a desk."""
+    return b"watch" in run("--help").out
+
+
 class Page:
     """An open page: the newest event of each kind, read as they come."""
 
-    def __init__(self, test, address):
-        self.host, self.path = re.fullmatch(r"http://([^/]+)(/.*/)", address).groups()
+    def __init__(self, test, address, cookie=None):
+        self.host, self.path = re.fullmatch(r"http://([^/]+)(/(?:.*/)?)", address).groups()
+        self.cookie = cookie
         self.origin = f"http://{self.host}"
         self.connection = http.client.HTTPConnection(self.host, timeout=PATIENCE)
         self.connection.connect()
         self.socket = self.connection.sock
-        self.connection.request("GET", self.path + "events")
+        kept = {} if cookie is None else {"Cookie": cookie}
+        self.connection.request("GET", self.path + "events", headers=kept)
         self.answer = self.connection.getresponse()
         self.newest = {}
         # By how much the desk's clock is ahead of this one's, in milliseconds.
@@ -95,15 +107,17 @@ class Page:
 
     def request(self, method, name, body=None, path=None, **headers):
         """The status and the answer of a request; a header of None is left out."""
-        sent = {"Host": self.host, "Origin": self.origin, **headers}
-        if method == "POST" and "Desk_Time" not in headers:
-            sent["Desk_Time"] = self.desk_time()
+        sent = {"Host": self.host, "Origin": self.origin, "Cookie": self.cookie, **headers}
+        if method == "POST":
+            sent.setdefault("Desk_Time", self.desk_time())
+            wait_for(lambda: self.state, "a state")
+            sent.setdefault("Desk_State", self.state["number"])
         connection = http.client.HTTPConnection(self.host, timeout=PATIENCE)
         try:
             connection.putrequest(method, (path or self.path) + name, skip_host=True)
             for header, value in sent.items():
                 if value is not None:
-                    connection.putheader(header.replace("_", "-"), value)
+                    connection.putheader(header.replace("_", "-"), str(value))
             if body is not None:
                 connection.putheader("Content-Length", str(len(body)))
             connection.endheaders(body)
@@ -135,7 +149,8 @@ class DeskTest(ReceiverTest):
     def begun(self, *options, to=None):
         """A desk whose night has begun, and its address."""
         self.cid = self.new_cid()
-        words = (self.show, "--to", to or self.to, "--cid", self.cid, *options)
+        # Most tests press faster than a hand; the latest of an option counts.
+        words = (self.show, "--to", to or self.to, "--cid", self.cid, "--double-go", 0, *options)
         desk = Started(self, "desk", *words)
         line = desk.out.next()
         self.assertRegex(line or "", r"^desk: http://127\.0\.0\.1:\d+/[\w-]{32}/$")

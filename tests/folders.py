@@ -9,11 +9,14 @@ import time
 import uuid
 from pathlib import Path
 
+from machine import Late
 from program import PROGRAM, TOP, Outcome, run, text
 from tooling import PATIENCE, Lines, wait_for
 from wire import SEQUENCE, SLOT_1, ReceiverTest
 
 NIGHT = TOP / "cueplayer-night"
+# What a command tells behind a second in which no `live` took it or answered.
+NO_ANSWER = re.compile("no answer within a second|no live plays the night")
 SHOW = text(
     "CUE 1",
     "CHAN 1@50",
@@ -77,10 +80,17 @@ class FolderNightTest(ReceiverTest):
         )
         return Outcome(done.returncode, done.stdout, done.stderr)
 
+    def answered(self, *words):
+        """A command that has an answer, which it waits for up to a second."""
+        outcome = self.asked(*words)
+        if NO_ANSWER.search(outcome.err):
+            raise Late(outcome.err.strip())
+        self.assertEqual("", outcome.err)
+        return outcome
+
     def without_moments(self, *words):
         """The status of a command, and its answers without the moments."""
-        status, out, err = self.asked(*words)
-        self.assertEqual("", err)
+        status, out, _ = self.answered(*words)
         return status, re.sub(r"(?m)^\d+ ", "", out).splitlines()
 
     def kept(self, *words, **options):
@@ -97,8 +107,8 @@ class FolderNightTest(ReceiverTest):
         return out
 
     def number(self, name):
-        """The process of which the folder tells."""
-        return int((self.night / name).read_text())
+        """The process of which the folder tells. The file is empty while it is written."""
+        return int(wait_for(lambda: (self.night / name).read_text().strip(), name))
 
     def spare(self):
         """The process that stands by, once it does: it is no shell any more, and has taken up the

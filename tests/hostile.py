@@ -29,6 +29,7 @@ import inputs  # noqa: E402
 from expected import runs, show as shows  # noqa: E402
 from expected.words import cue_number  # noqa: E402
 from program import CID, PROGRAM, told as without_remark  # noqa: E402
+from wire import free_port  # noqa: E402
 
 HUNG = -999
 DATAGRAMS = 60  # of one run of `listen`
@@ -80,9 +81,7 @@ class Runner:
         self.receiver.bind(("127.0.0.1", 0))
         self.receiver.setblocking(False)
         self.sender = socket.socket(socket.AF_INET, socket.SOCK_DGRAM)
-        with socket.socket(socket.AF_INET, socket.SOCK_DGRAM) as free:
-            free.bind(("127.0.0.1", 0))
-            self.listening = free.getsockname()
+        self.listening = ("127.0.0.1", free_port())
 
     def close(self):
         for stream in self.streams:

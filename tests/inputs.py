@@ -20,6 +20,8 @@ KEYS += [b"\x1b", b"\x1b[", b"\x1bO", b"\x1b[[", b"\x1b\x1b[A"]
 STEPS = [0, 0, 1, 22, 23, 24, 25, 25, 25, 25, 100, 199, 200, 775, 799, 800, 801, 2500, 5000, 60000]
 STARTS = [0] * 20 + [5] * 5 + [1000000] * 5 + [(1 << 48) - 3000, (1 << 48) - 1, 1 << 48]
 BEHIND = [1, 1, 1, 2, 3, 18, 19, 20, 21, 127, 128, 217, 235, 236, 237, 255, 0]
+PASSED = [0, 0, 1, 5, 22, 23, 25, 25, 50, 99, 100, 101, 800, 999, 1000, 2499, 2500]
+NAMES = [b"main", b"main", b"backup", b"", b"a\0b", b"\x1b[2J\x07", b"\xff" * 64, "M\u00fcller".encode(), b"a b !"]
 OTHER_LINES = [
     "IDENT 3:0", "IDENT 3:0 x", "SET CHANNELS 96", "CONSOLE x", "MANUFACTURER", "CLEAR GROUPS", "CLEAR CUES",
     "CLEAR PATCH", "CLEAR SUB", "CLEAR CUE 2", "CLEAR x", "CLEAR", "$MAKER 9", "$", "$$FADE 7", "$$", "MACRO 7",
@@ -218,6 +220,43 @@ def datagram(r, cid=CIDS[-1], sequence=None):
     if r.random() < 0.1:
         sent += bytes(r.choice([1, 2, 861, 862, 863, 9000]))
     return sent
+
+
+def watch_lines(r, nights, universes):
+    """Nights of `watch`, each long behind the one before: lines of the clock and of datagrams."""
+    lines, moment = [], 0
+    for _ in range(nights):
+        sources = r.sample(CIDS, r.choice([1, 2, 4, 6]))
+        numbers = {}
+        for _ in range(r.choice([5, 20, 60])):
+            moment += r.choice(PASSED)
+            behind = r.choice([1, 30, 3000]) if r.random() < 0.03 else 0
+            made = "" if r.random() < 0.3 else watched_datagram(r, r.choice(sources), numbers, universes).hex()
+            spelled_so = made.upper() if r.random() < 0.1 else made
+            lines.append([padded(r, max(moment - behind, 0)), *filter(None, [spelled_so])])
+        moment += r.choice([2499, 2500, 2501, 9000])
+    return text_of(r, [spelled(r, words, odd=0) for words in lines])
+
+
+def watched_datagram(r, cid, numbers, universes):
+    """A datagram of a source: mostly its next of a universe, short, its name of any bytes."""
+    universe = r.choice([*universes] * 6 + [3, 64000, 0])
+    number = (numbers.get((cid, universe), r.randrange(256)) + r.choice(BEHIND)) % 256
+    if r.random() < 0.8:
+        numbers[cid, universe] = number
+    name = r.choice(NAMES)
+    options = r.choice([0] * 16 + [0x40, 0x40, 0x80, 0xC0, 0x20])
+    priority = r.choice([100] * 12 + [0, 99, 101, 200, 201])
+    slots = {r.choice([1, 2, 8]): r.choice([1, 64, 255]) for _ in range(2)}
+    sent = bytearray(short_packet(packet(universe, slots, number, options, priority, cid), r.choice([0, 2, 8])))
+    sent[44:108] = name.ljust(64, b"\0")[:64]
+    if r.random() < 0.08:
+        sent[125] = r.choice([0xDD, 0xDD, 0xCC, 1])
+    if r.random() < 0.06:
+        sent[21], sent[43] = r.choice([(8, 1), (8, 2), (8, 3), (4, 1)])
+    if r.random() < 0.04:
+        sent[r.randrange(126)] ^= 1 << r.randrange(8)
+    return bytes(sent[: r.randrange(126)] if r.random() < 0.02 else sent)
 
 
 def target_word(r, universes, addresses):

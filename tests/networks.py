@@ -71,16 +71,22 @@ class Machine:
     def within(self, make: Callable[[], Made]) -> Made:
         """Calls this in a thread that is on this machine: a socket made there stays there."""
         made: list[Made] = []
+        failed: list[Exception] = []
 
         def enter() -> None:
             with open(f"/run/netns/{self.name}", "rb") as namespace:
                 if ctypes.CDLL(None).setns(namespace.fileno(), CLONE_NEWNET):
                     return
-            made.append(make())
+            try:
+                made.append(make())
+            except Exception as fault:
+                failed.append(fault)
 
         thread = threading.Thread(target=enter)
         thread.start()
         thread.join()
+        if failed:
+            raise failed[0]
         return made[0]
 
 

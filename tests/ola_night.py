@@ -45,7 +45,7 @@ PORT = 9090
 CUES = ("CUE 1", "CHAN 1@20 2@FL", "CUE 2", "UP 8", "CHAN 1@FL 2@20")
 SHOW = text(*CUES, "PATCH 1 1<1@FL 2<512@FL")
 SLOTS = slice(126, 126 + 512)
-PATIENCE = 20
+PATIENCE = 60
 
 
 class Daemon:

@@ -1,6 +1,9 @@
 """Nights that are killed and taken up: the head of a record, and what was heard of a night."""
 
+import contextlib
+import fcntl
 import hashlib
+import os
 import re
 import resource
 import select
@@ -10,7 +13,7 @@ import struct
 import subprocess
 import threading
 import time
-from collections.abc import Iterator
+from collections.abc import Callable, Iterator
 from pathlib import Path
 from typing import NamedTuple
 
@@ -19,6 +22,7 @@ from expected import show as shows
 from expected.desk import Desk
 from expected.script import Console
 from expected.words import lines_of, uuid
+from machine import Took, by_clock
 from program import CID, LIVE_NAME, PROGRAM
 from wire import SEQUENCE, address_of, receiving
 
@@ -31,6 +35,8 @@ STARTED = "2026-11-26T19:30:00.250Z"
 UNIVERSE = slice(113, 115)
 # How long light is waited for, and a program that is to end, in seconds.
 PATIENCE = 30
+# The length of a datagram that is no packet, and that a test sends to itself.
+MARK = 16
 # What Linux calls SO_TIMESTAMPNS, the option and the time that comes by it, and SO_RCVBUFFORCE.
 TIMESTAMP, FORCED_ROOM = 35, 33
 
@@ -47,6 +53,15 @@ def head(
 
 class Wrong(AssertionError):
     """What was not as it must be."""
+
+
+def wait_until(holds: Callable[[], bool], what: str) -> None:
+    """Waits until a condition holds."""
+    until = time.monotonic() + PATIENCE
+    while not holds():
+        if time.monotonic() > until:
+            raise Wrong(f"not within {PATIENCE} seconds: {what}")
+        time.sleep(0.001)
 
 
 class Sent(NamedTuple):
@@ -99,12 +114,24 @@ def limit_files(size: int) -> None:
     resource.setrlimit(resource.RLIMIT_FSIZE, (size, size))
 
 
+def is_free(file: int) -> bool:
+    """Whether no other process holds the lock of a file."""
+    try:
+        fcntl.flock(file, fcntl.LOCK_EX | fcntl.LOCK_NB)
+    except BlockingIOError:
+        return False
+    fcntl.flock(file, fcntl.LOCK_UN)
+    return True
+
+
 class Ear(threading.Thread):
     """Takes every datagram of a socket, with the time at which the system took it."""
 
     def __init__(self, receiver: socket.socket) -> None:
         super().__init__(daemon=True)
         self.receiver, self.heard, self.is_over = receiver, list[Heard](), False
+        # What `settle` sent, and what of it came.
+        self.marks = set[bytes]()
         receiver.setsockopt(socket.SOL_SOCKET, TIMESTAMP, 1)
         try:
             receiver.setsockopt(socket.SOL_SOCKET, FORCED_ROOM, 1 << 23)
@@ -116,8 +143,18 @@ class Ear(threading.Thread):
         while not self.is_over:
             if select.select([self.receiver], [], [], 0.05)[0]:
                 packet, ((_, _, stamp),), _, (_, port) = self.receiver.recvmsg(1500, 64)
+                if len(packet) == MARK:
+                    self.marks.add(packet)
+                    continue
                 seconds, nanoseconds = struct.unpack("qq", stamp)
                 self.heard.append(Heard(seconds + nanoseconds / 1e9, port, packet))
+
+    def settle(self) -> None:
+        """Waits until all that was sent before has been heard: datagrams come in their order."""
+        mark = os.urandom(MARK)
+        with socket.socket(socket.AF_INET, socket.SOCK_DGRAM) as own:
+            own.sendto(mark, self.receiver.getsockname())
+        wait_until(lambda: mark in self.marks, "what was sent has come")
 
     def close(self) -> None:
         self.is_over = True
@@ -150,6 +187,8 @@ class KilledNight:
         self.processes: list[subprocess.Popen] = []
         self.spare: subprocess.Popen | None = None
         self.kills: list[Kill] = []
+        # The lines of standard error that were waited for, by process.
+        self.lines: dict[int, list[bytes]] = {}
 
     def begin(
         self, *options: str, resume: bool = True, limit: int | None = None
@@ -171,6 +210,24 @@ class KilledNight:
         self.spare = self._started([*options, "--resume", "--spare"])
         return self.spare
 
+    def stands_by(self, *options: str) -> subprocess.Popen:
+        """Starts a spare, and waits until it reads the record."""
+        spare = self.stand_by(*options)
+        wait_until(lambda: self._is_read_by(spare), "the spare reads the record")
+        return spare
+
+    def _is_read_by(self, process: subprocess.Popen) -> bool:
+        """Whether a process has the record open for reading, as the script that starts it has not."""
+        # A file that is closed meanwhile is not there any more.
+        with contextlib.suppress(OSError):
+            for each in Path(f"/proc/{process.pid}/fd").iterdir():
+                if os.path.samefile(each, self.record):
+                    told = Path(f"/proc/{process.pid}/fdinfo", each.name).read_text()
+                    flags = int(re.search(r"flags:\s*(\d+)", told)[1], 8)
+                    if flags & os.O_ACCMODE != os.O_WRONLY:
+                        return True
+        return False
+
     def promote(self) -> None:
         """From now on the spare is the process that plays."""
         if self.spare is None:
@@ -185,33 +242,80 @@ class KilledNight:
     def type(self, line: bytes) -> None:
         self.processes[-1].stdin.write(line)
 
-    def light(self, packets: int = 1) -> None:
-        """Waits until so many more packets have come."""
-        wanted, until = len(self.ear.heard) + packets, time.monotonic() + PATIENCE
-        while len(self.ear.heard) < wanted:
-            night = self.processes[-1]
-            if night.poll() is not None:
-                raise Wrong(f"status {night.returncode}: {night.stderr.read()}")
-            if time.monotonic() > until:
-                raise Wrong("no light")
-            time.sleep(0.001)
+    def typed(self, lines: bytes) -> None:
+        """Types commands, lines that are recorded as they are, and waits until a tick has come
+        behind them: they were carried out and answered."""
+        before = self.record.stat().st_size
+        self.type(lines)
+        wanted = [b" " + line for line in lines.splitlines(keepends=True)]
+        wait_until(
+            lambda: all(line in self.record.read_bytes()[before:] for line in wanted),
+            f"the record has {lines}",
+        )
+        ticks = len(moments(self.record.read_bytes()))
+        wait_until(lambda: len(moments(self.record.read_bytes())) > ticks, "a tick comes")
 
-    def kill(self) -> None:
+    def light(self, packets: int = 1) -> None:
+        """Waits until so many more packets have come, of the process that plays."""
+        wanted, night = len(self.ear.heard) + packets, self.processes[-1]
+
+        def is_there() -> bool:
+            if len(self.ear.heard) < wanted and night.poll() is not None:
+                raise Wrong(f"status {night.returncode}: {night.stderr.read()}")
+            return len(self.ear.heard) >= wanted
+
+        wait_until(is_there, "light")
+
+    def kill(self, stalls: bool = False) -> None:
+        """Kills the process that plays. Where no spare stands by to take the record at once, and
+        what writes it does not stall, the record is whole then."""
         at = time.time()
         self.processes[-1].kill()
         self.processes[-1].wait()
         self.kills.append(Kill(at, time.time()))
+        if self.spare is None and not stalls:
+            self.settle()
+
+    def settle(self) -> None:
+        """Waits until no process has the record any more, and all that was sent has been heard. A
+        writer ends behind the program, and holds the record's lock until then."""
+        if self.record.exists():
+            with open(self.record, "rb") as file:
+                wait_until(lambda: is_free(file.fileno()), "the record is whole")
+        self.ear.settle()
+
+    def is_at_rest(self) -> bool:
+        """Whether all that the record means was heard: no tick was recorded and not carried out."""
+        return len(list(sent_by(self.text, self.record.read_bytes()))) == len(self.ear.heard)
 
     def end(self, line: bytes = b"end\n") -> int:
         """Types the line that ends the night, and answers the status."""
         self.type(line)
+        return self.ended()
+
+    def ended(self) -> int:
+        """Waits until the process that plays has ended, and answers the status."""
         status = self.processes[-1].wait(PATIENCE)
-        time.sleep(0.1)
+        self.ear.settle()
         return status
+
+    def tells(self, pattern: bytes) -> None:
+        """Waits until the process that plays tells a line that begins so on standard error."""
+        night = self.processes[-1]
+        lines = self.lines.setdefault(night.pid, [])
+        while not (lines and re.match(pattern, lines[-1])):
+            if not select.select([night.stderr], [], [], PATIENCE)[0]:
+                raise Wrong(f"{pattern} is not told: {lines}")
+            lines.append(night.stderr.readline())
+            if not lines[-1]:
+                raise Wrong(f"{pattern} is not told: {lines}")
 
     def told(self) -> list[tuple[bytes, bytes]]:
         """What each process printed and told. None of them runs any more."""
-        return [(each.stdout.read(), each.stderr.read()) for each in self.processes]
+        return [
+            (each.stdout.read(), b"".join(self.lines.get(each.pid, [])) + each.stderr.read())
+            for each in self.processes
+        ]
 
     def close(self) -> None:
         for each in [*self.processes, *([self.spare] if self.spare else [])]:
@@ -223,14 +327,22 @@ class KilledNight:
 
 
 class Figures(NamedTuple):
-    """What receivers had of a night, in milliseconds: from each kill to the next packet; how far
-    the light was behind the show at most; how many packets were lost; and how far the moments of a
-    process were off those of the one before."""
+    """What receivers had of a night: how long it took from each kill to the next packet; how far
+    the light was behind the show at most, in milliseconds; how many packets were lost; and how far
+    the moments of each process were off those of the one before."""
 
-    gaps: list[float]
+    gaps: list[Took]
     behind: float
     lost: int
-    drift: float
+    drifts: list[Took]
+
+    def dark(self) -> float:
+        """The longest time from a kill to the next packet, in milliseconds."""
+        return max((each.ms for each in self.gaps), default=0.0)
+
+    def drift(self) -> float:
+        """How far moments were off at most, in milliseconds."""
+        return max((each.ms for each in self.drifts), default=0.0)
 
 
 class Judge:
@@ -254,7 +366,9 @@ class Judge:
             yield place - 1
 
     def _kills_between(self, first: float, last: float) -> int:
-        return sum(first < kill.done < last for kill in self.kills)
+        """How many kills there may have been between two packets: a spare sends before it is known
+        that the process before it is gone."""
+        return sum(first < kill.done and kill.at < last for kill in self.kills)
 
     def lost(self) -> int:
         """How many packets were lost: at most one of a universe at a kill, and else none."""
@@ -272,29 +386,43 @@ class Judge:
             latest[universe], missing[universe] = at, 0
         return lost
 
-    def gaps(self) -> list[float]:
-        """From each kill to the next packet, where that came before the next kill."""
+    def gaps(self) -> list[Took]:
+        """From each kill to the next packet of another process, where that came before the next
+        kill."""
         found = []
         ends = [kill.at for kill in self.kills[1:]] + [float("inf")]
         for kill, until in zip(self.kills, ends):
-            behind = [each.at for each in self.heard if kill.done < each.at < until]
-            found += [1000 * (behind[0] - kill.at)] if behind else []
+            before = [each.port for each in self.heard if each.at <= kill.at][-1:]
+            behind = [
+                each.at
+                for each in self.heard
+                if kill.at < each.at < until and (each.at > kill.done or each.port not in before)
+            ]
+            found += [by_clock(kill.at, behind[0])] if behind else []
         return found
 
-    def clock(self) -> list[float]:
-        """Of each process the time at which its moments were 0, in milliseconds, by the packet
-        that was least late."""
-        zeros: dict[int, float] = {}
+    def _zeros(self) -> list[tuple[float, float, float]]:
+        """Of each process the time at which its moments were 0, by the packet that was least late,
+        and from when to when it was heard, in seconds."""
+        zeros: dict[int, tuple[float, float, float]] = {}
         for each, place in zip(self.heard, self.places):
-            zero = 1000 * each.at - self.sent[place].moment
-            zeros[each.port] = min(zero, zeros.get(each.port, zero))
+            zero = each.at - self.sent[place].moment / 1000
+            least, first, _ = zeros.get(each.port, (zero, each.at, each.at))
+            zeros[each.port] = min(zero, least), first, each.at
         return list(zeros.values())
 
+    def drifts(self) -> list[Took]:
+        """How far the moments of each process were off those of the one before."""
+        zeros = self._zeros()
+        return [
+            by_clock(first, last)._replace(ms=1000 * abs(zero - before))
+            for (before, first, _), (zero, _, last) in zip(zeros, zeros[1:])
+        ]
+
     def figures(self) -> Figures:
-        zeros = self.clock()
-        drift = max((abs(b - a) for a, b in zip(zeros, zeros[1:])), default=0)
+        (zero, *_), *_ = self._zeros()
         behind = [
-            1000 * each.at - zeros[0] - self.sent[before].moment
+            1000 * (each.at - zero) - self.sent[before].moment
             for each, before in zip(self.heard[1:], self.places)
         ]
-        return Figures(self.gaps(), max(behind), self.lost(), drift)
+        return Figures(self.gaps(), max(behind), self.lost(), self.drifts())

@@ -5,6 +5,7 @@ import subprocess
 import sys
 import unittest
 
+from machine import Late
 from program import TOP
 from wire import own_network
 
@@ -18,4 +19,7 @@ class BadNight(unittest.TestCase):
         words = [sys.executable, TOP / "tests/bad_night.py", "--seconds", SECONDS]
         done = subprocess.run(words, capture_output=True, text=True, timeout=float(SECONDS) + 120)
         print("    " + done.stdout.strip().replace("\n", "\n    "))
-        self.assertEqual((0, ""), (done.returncode, done.stderr))
+        self.assertEqual("", done.stderr)
+        if done.returncode == 2:
+            raise Late(done.stdout.strip().splitlines()[-1])
+        self.assertEqual(0, done.returncode)

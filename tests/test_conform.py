@@ -14,6 +14,7 @@ import unittest
 import small_receivers
 import small_sources
 from expected.receiver import Receiver
+from machine import Late, witness
 from program import TOP, FolderTest, slots_in
 from small_receivers import Small
 from tooling import run_tool
@@ -30,6 +31,8 @@ from cueplayer_tools.conform.trial import Setting, tried
 from cueplayer_tools.conform_command import main
 
 CASES = {rule.name: {case.name for case in rule.cases} for rule in RULES}
+# A machine that stood still for so long, in milliseconds, may have held up a source.
+STALLED = 20
 PAGE, RESULTS = TOP / "docs/CONFORMANCE.md", TOP / "docs/conformance.json"
 # The choices of our own receiver.
 OURS = {
@@ -284,11 +287,13 @@ class Tool(FolderTest):
         self.assertEqual({name: each for name, each in OURS.items() if name not in late}, told)
 
     def test_own_source(self):
-        """`live` breaks no rule. A busy machine may hold it up once."""
-        words = ("source", "cueplayer", "--seconds", 6)
-        result = self.result(*words)
-        if any(rule["verdict"] == "broken" for rule in result["rules"]):
-            result = self.result(*words)
+        """`live` breaks no rule."""
+        began = time.monotonic()
+        result = self.result("source", "cueplayer", "--seconds", 6)
+        broken = [rule["rule"] for rule in result["rules"] if rule["verdict"] == "broken"]
+        stalled = witness().stalled(began, time.monotonic())
+        if broken and stalled > STALLED:
+            raise Late(f"broken: {broken}; the machine stood still for {stalled:.0f} ms")
         self.assertKept(result, "seen")
 
     @contextlib.contextmanager

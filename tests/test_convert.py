@@ -587,19 +587,19 @@ class Time(ConvertTest):
         return text(*lines)[: 1 << 20]
 
     def test_a_megabyte(self):
-        """It is converted within a second of processor time."""
+        """It is converted within three seconds of a slow processor's time."""
         content = self.megabyte().ljust(1 << 20, b"!")
         began = time.process_time()
         convert(content)
-        self.assertLess(time.process_time() - began, 1.0)
+        self.assertLess(time.process_time() - began, 3.0)
 
     def test_whole_run(self):
-        """And with all that the program says of it within two."""
+        """And with all that the program says of it within five."""
         file = self.file("given", self.megabyte())
         before = resource.getrusage(resource.RUSAGE_CHILDREN)
         self.assertEqual(0, run_tool("convert", file).returncode)
         after = resource.getrusage(resource.RUSAGE_CHILDREN)
-        self.assertLess(after.ru_utime - before.ru_utime, 2.0)
+        self.assertLess(after.ru_utime - before.ru_utime, 5.0)
 
     def test_noise(self):
         """Nothing makes it slow: long lines, blanks, marks, parts and continuation lines."""
@@ -617,7 +617,7 @@ class Time(ConvertTest):
             with self.subTest(content[:24]):
                 began = time.process_time()
                 convert(content)
-                self.assertLess(time.process_time() - began, 1.5)
+                self.assertLess(time.process_time() - began, 3.0)
 
 
 # Lines that exports may have, and that a show file does not take as they stand.

@@ -41,6 +41,7 @@ TESTED = {
     "desk_tests::patch": Tested(("Rig::new",), EACH),
     "desk_tests::playback": Tested(("Playback::new",), EACH),
     "stream_tests::source": Tested(("Sender::open",), EACH),
+    "stream_tests::queue": Tested(("LineQueue::new",), EACH),
     "desk_tests::desk": Tested(("Desk::open",), EACH),
     "console_tests::world": Tested(("rehearse",), EACH),
     "show_tests::reader": Tested(
@@ -67,6 +68,7 @@ TESTED = {
 }
 # Public calls whose growths are refused in the program alone, and the test that refuses them.
 IN_THE_PROGRAM = {
+    "Name::new": "test_refused_growths.RefusedGrowths.test_live",
     "first_bytes": "test_refused_growths.RefusedGrowths.test_check",
     "open": "test_refused_growths.RefusedGrowths.test_play",
     "read_words": "test_refused_growths.RefusedGrowths.test_words",

@@ -7,6 +7,7 @@ import unittest
 
 import inputs
 from expected import live, show as shows
+from machine import in_time, took
 from nights import Typed, expected, play_nights
 from program import text
 from test_live import LiveTest
@@ -18,7 +19,7 @@ CHAIN = 2000
 MOVED = re.compile(r"\d+ cue [\d.]+")
 # A command that moves, where it is not refused.
 ORDER = re.compile(rb"(?i)\b(go|back|goto)\b")
-# What a chain of moves may take on a busy machine, in milliseconds.
+# What a chain of moves may take, in milliseconds.
 LATE = 400
 
 
@@ -134,7 +135,8 @@ class CueLinesAsTheyCome(LiveTest):
         at = int(night.stdout.readline().removesuffix(b" ok\n"))
         with open(night.stdout.fileno(), "rb", closefd=False) as shown:
             self.assertEqual([b"%d cue %d\n" % (at, n) for n in cues], [shown.readline() for _ in cues])
-        self.assertLess(1000 * (time.monotonic() - typed), LATE)
+        in_time(took(typed), LATE, "a chain of moves")
         self.assertEqual(0, self.ended(night).status)
         ticks = [int(line.split()[0]) for line in record.read_bytes().splitlines() if b" tick" in line]
-        self.assertLess(max(b - a for a, b in zip(ticks, ticks[1:])), LATE)
+        for before, after in zip(ticks, ticks[1:]):
+            in_time(self.between(before, after), LATE, f"the tick behind {before}")

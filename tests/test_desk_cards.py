@@ -6,10 +6,12 @@ import subprocess
 import sys
 import uuid
 
-from desks import SHOW, Page
+from desks import SHOW, Page, watches
 from folders import NIGHT
 from networks import LIT, OFFICE, PORT, STAGE, NetworkTest, Venue
 from program import CID, FolderTest, packet
+from test_desk_doors import Door
+from test_osc import message
 from tooling import PATIENCE, TOOLS, Lines, wait_for
 
 MULTICAST = "239.255.0.0"
@@ -17,10 +19,15 @@ NO_LINK = "no link lit: nodes get nothing; check the cable"
 ALONE = "they are sent to one receiver alone"
 
 
-def level(page, universe="1"):
-    """What a page shows of the first slot."""
-    slots = page.newest.get("levels", {}).get("slots", {})
-    return int(slots.get(universe, "00")[:2], 16)
+def wait_for_level(page, level):
+    """Waits until a page shows this level of the first slot, where the program has `watch`."""
+
+    def shown():
+        slots = page.newest.get("levels", {}).get("slots", {})
+        return int(slots.get("1", "00")[:2], 16)
+
+    if watches():
+        wait_for(lambda: shown() == level, "the level")
 
 
 def send(node):
@@ -64,7 +71,13 @@ class DeskCardsTest(NetworkTest, FolderTest):
 class DeskCards(DeskCardsTest):
     def test_desks(self):
         self.side_by_side(
-            self.named_card, self.default_route, self.cable, self.targets, self.no_such_card
+            self.named_card,
+            self.default_route,
+            self.cable,
+            self.targets,
+            self.no_such_card,
+            self.second_machine,
+            self.tablet_with_faders,
         )
 
     def opened(self, kept, venue, *words, show=None):
@@ -80,7 +93,7 @@ class DeskCards(DeskCardsTest):
         page, _ = self.opened(kept, venue, "--to", MULTICAST, "--interface", "lit", *source)
         page.wait(ways=[f"from {LIT} (lit)"], troubles=[], notices=[])
         self.command(venue, page, "sub 1 50")
-        wait_for(lambda: level(page) == 128, "the level")
+        wait_for_level(page, 128)
         came = venue.stage.wait()[-1]
         name = came.packet[44:108].rstrip(b"\0")
         self.assertEqual((LIT, 3, b"the desk"), (came.source, came.ttl, name))
@@ -92,7 +105,8 @@ class DeskCards(DeskCardsTest):
             return page.newest["levels"]["others"]
 
         told = [f"at {STAGE}, priority 100, universe 1"]
-        self.assertEqual(told, wait_for(heard, "the source"))
+        if watches():
+            self.assertEqual(told, wait_for(heard, "the source"))
 
     def default_route(self, kept):
         """Where no card is named it is said by which one it sends, and which could be meant."""
@@ -123,10 +137,50 @@ class DeskCards(DeskCardsTest):
         words = [*(f"--to={word}" for word in named), "--interface", "lit", "--any-route"]
         page, _ = self.opened(kept, venue, *words, show=show)
         self.command(venue, page, "sub 1 50")
-        wait_for(lambda: level(page) == 128, "the level")
-        self.assertEqual({"2": ALONE}, page.newest["levels"]["reasons"])
-        self.assertEqual({"1"}, set(page.newest["levels"]["slots"]))
+        wait_for_level(page, 128)
+        if watches():
+            self.assertEqual({"2": ALONE}, page.newest["levels"]["reasons"])
+            self.assertEqual({"1"}, set(page.newest["levels"]["slots"]))
         self.assertEqual({STAGE, "239.255.0.1"}, {each.to for each in venue.stage.wait()})
+
+    def second_machine(self, kept):
+        """Another machine plays by the PIN, and by nothing else; both show the same."""
+        venue = Venue(kept)
+        words = (self.show, "--cid", uuid.uuid4(), "--to", MULTICAST, "--interface", "lit")
+        out, told = self.begun(kept, venue, *words, "--listen", f"{LIT}:8090")
+        here = out.next().removeprefix("desk: ")
+        door = Door(out.next())
+        self.assertEqual(f"http://{LIT}:8090", door.origin)
+        told.find("desk: no TLS: the network is trusted")
+        self.assertEqual(401, venue.stage.within(lambda: door.request("GET", "/events")[0]))
+        self.assertEqual(204, venue.stage.within(lambda: door.enter(door.play)[0]))
+        guest = venue.stage.within(lambda: Page(self, f"{door.origin}/", door.cookie))
+        guest.wait(placed=True)
+        self.assertEqual(204, venue.stage.within(lambda: guest.command("go")))
+        page = venue.console.within(lambda: Page(self, here))
+        for each in (page, guest):
+            each.wait(current="1", next="1.5", waiting=0)
+        wait_for_level(guest, 128)
+        # A session that was carried to a third machine is none.
+        venue.console.ip("addr add 10.101.2.11/24 dev lit")
+        self.assertEqual(401, venue.console.within(lambda: door.request("GET", "/events")[0]))
+        # The page by its word is served to its own machine alone.
+        with self.assertRaises(OSError):
+            venue.stage.within(lambda: Page(self, here.replace("127.0.0.1", LIT)))
+
+    def tablet_with_faders(self, kept):
+        """Open Sound Control comes from another machine, where an address is named."""
+        venue = Venue(kept)
+        words = ("--to", MULTICAST, "--interface", "lit", "--osc", f"{LIT}:8000")
+        page, _ = self.opened(kept, venue, *words)
+        self.assertEqual(f"{LIT}:8000", page.newest["show"]["osc"])
+
+        def send():
+            with socket.socket(socket.AF_INET, socket.SOCK_DGRAM) as tablet:
+                tablet.sendto(message("/cueplayer/sub/1", 0.5), (LIT, 8000))
+
+        wait_for(lambda: venue.stage.within(send) or page.state["masters"], "the fader")
+        page.wait(masters={"sub 1": 128})
 
     def no_such_card(self, kept):
         """What `live` refuses of a card is told, and nothing begins."""

@@ -47,7 +47,7 @@ class Guards(DeskTest):
     def test_headers(self):
         """Nothing is loaded from elsewhere, framed, kept or told to others."""
         _, page = self.opened()
-        for name in ("", "desk.css", "desk.js"):
+        for name in ("", "desk.css", "press.js", "cues.js", "faders.js", "desk.js"):
             status, content, headers = page.request("GET", name)
             self.assertEqual((200, "no-store"), (status, headers["Cache-Control"]))
             self.assertIn("default-src 'none'", headers["Content-Security-Policy"])

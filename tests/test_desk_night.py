@@ -321,13 +321,27 @@ class Messages(MessageTest):
         """All else is told on the page as it is, also where it begins like a line of the start."""
         self.begun()
         faults = [
-            "show: TooLong", self.SENDS, "record: device fault",
+            "show: TooLong", self.SENDS, "record: 3 bytes are still with its writer",
             "line refused: go 4: go takes no number; goto 4 goes to a cue",
         ]  # fmt: skip
         self.hear(*faults)
         self.assertEqual((faults, ""), (self.notices(), self.night.state.skipped))
         self.hear(self.SKIPPED, self.SENDS, "record: none; --record FILE keeps one", faults[2])
         self.assertEqual([*faults, faults[2]], self.notices())
+
+    def test_record(self):
+        """A record that cannot be written, or is late, is a trouble in words until it is over."""
+        self.begun()
+        self.hear(self.SKIPPED, self.SENDS, "record: night.play")
+        self.hear("record: late, and the light goes on")
+        (late,) = self.night.state.troubles.values()
+        self.assertEqual("the record waits for its disk: the light goes on", late)
+        missing = "record: goes on, and a comment in it says how many lines are missing"
+        self.hear(missing)
+        self.assertEqual(({}, [missing]), (self.night.state.troubles, self.notices()))
+        self.hear("record: late, and the light goes on", "record: device fault")
+        (fault,) = self.night.state.troubles.values()
+        self.assertTrue(fault.startswith("the record cannot be written any more"))
 
 
 class Links(MessageTest):

@@ -1,15 +1,21 @@
 """`tools/desk`: requests that are cut short, slow or many, and presses that come late."""
 
+import collections
 import contextlib
 import os
 import random
+import re
 import resource
 import signal
 import socket
+import threading
 import time
+from pathlib import Path
 
 from desks import DeskTest, Page
-from tooling import stand_still, wait_for
+from machine import in_time, took
+from program import text
+from tooling import run_tool, stand_still, wait_for
 
 from cueplayer_tools.desk_requests import LONGEST_HEAD, Unreadable, request_in
 
@@ -32,7 +38,8 @@ class Requests(DeskTest):
         """A command as bytes, which names this size."""
         head = (
             f"POST {page.path}command HTTP/1.1\r\nHost: {page.host}\r\nOrigin: {page.origin}\r\n"
-            f"Desk-Time: {page.desk_time()}\r\nContent-Length: {size or len(body)}\r\n\r\n"
+            f"Desk-Time: {page.desk_time()}\r\nDesk-State: {page.state['number']}\r\n"
+            f"Content-Length: {size or len(body)}\r\n\r\n"
         )
         return head.encode() + body
 
@@ -62,6 +69,9 @@ class Requests(DeskTest):
                 whole.replace(b"Content", b"Content-Length: 1\r\nContent"),
                 whole.replace(b"Content", b"Transfer-Encoding: chunked\r\nContent"),
                 whole.replace(b"Desk-Time", b"Other"),
+                whole.replace(b"Desk-State", b"Other"),
+                whole.replace(b"Desk-State: ", b"Desk-State: 9"),
+                whole.replace(b"Desk-State: ", b"Desk-State: -"),
             ),
             413: (
                 whole.replace(b"Length: 2", b"Length: 201"),
@@ -122,7 +132,7 @@ class Requests(DeskTest):
         for sent in (whole[:1], whole[:-1]):
             before = time.monotonic()
             self.assertEqual(408, self.sent(page, sent, is_over=False))
-            self.assertLess(time.monotonic() - before, 8)
+            in_time(took(before), 8000, "a request")
         host, port = page.host.split(":")
         with socket.create_connection((host, int(port)), timeout=10) as connection:
             before = time.monotonic()
@@ -130,7 +140,7 @@ class Requests(DeskTest):
                 for at in range(100):
                     connection.send(whole[at : at + 1])
                     time.sleep(0.1)
-            self.assertLess(time.monotonic() - before, 8)
+            in_time(took(before), 8000, "a request")
         page.command("group 3 FL")
         page.wait(masters={"group 3": 255})
 
@@ -148,9 +158,60 @@ class Requests(DeskTest):
                 if turn % 50 == 0:
                     before = time.monotonic()
                     self.assertEqual(204, page.command(f"sub 1 {turn // 50}"))
-                    self.assertLess(time.monotonic() - before, 1)
+                    in_time(took(before), 1000, "a press")
             again = Page(self, page.origin + page.path)
             again.wait(masters={"sub 1": (15 * 255 + 50) // 100}, current=None)
+
+
+class Flooded(DeskTest):
+    def test_all_at_once(self):
+        """A flood of datagrams, slow connections and 32 pages: a GO is taken in a second, and the
+        memory of the desk stays as it is."""
+        desk, page = self.opened("--osc", 0)
+        host, port = page.newest["show"]["osc"].split(":")
+        is_over = threading.Event()
+
+        def flood():
+            with socket.socket(socket.AF_INET, socket.SOCK_DGRAM) as sender:
+                while not is_over.wait(0.001):
+                    for _ in range(30):
+                        with contextlib.suppress(OSError):
+                            sender.sendto(b"/cueplayer/other\0\0\0\0,\0\0\0", (host, int(port)))
+
+        def hold_back():
+            held = collections.deque(maxlen=1_000)
+            while not is_over.wait(0.002):
+                with contextlib.suppress(OSError):
+                    held.append(socket.create_connection(page.host.split(":"), 1))
+                    held[-1].send(b"POST /command HTTP/1.1\r\n")
+
+        pages = [Page(self, page.origin + page.path) for _ in range(31)]
+        for each in pages:
+            each.wait(placed=True)
+        others = [threading.Thread(target=each, daemon=True) for each in (flood, hold_back)]
+        for each in others:
+            each.start()
+        self.addCleanup(is_over.set)
+        memory, late = [], 0
+        for turn in range(40):
+            before, line = time.monotonic(), "goto 1" if turn % 2 else "goto 1.5 in 0"
+            # On a busy machine now and then one is refused, and told, since it came too late.
+            while page.command(line) != 204:
+                late += 1
+                before = time.monotonic()
+            page.wait(current=line.split()[1], waiting=0)
+            late += time.monotonic() - before > 1
+            memory.append(self.memory(desk))
+        self.assertLessEqual(late, 3)
+        is_over.set()
+        for each in others:
+            each.join()
+        self.assertLess(memory[-1] - memory[5], 10_000)
+
+    def memory(self, desk):
+        """The memory of the desk, in KB."""
+        status = Path(f"/proc/{desk.process.pid}/status").read_text()
+        return int(re.search(r"VmRSS:\s+(\d+) kB", status)[1])
 
 
 class Late(DeskTest):
@@ -177,7 +238,8 @@ class Late(DeskTest):
         host, port = page.host.split(":")
         head = (
             f"POST {page.path}command HTTP/1.1\r\nHost: {page.host}\r\nOrigin: {page.origin}\r\n"
-            f"Desk-Time: {page.desk_time()}\r\nContent-Length: 2\r\n\r\ngo"
+            f"Desk-Time: {page.desk_time()}\r\nDesk-State: {page.state['number']}\r\n"
+            "Content-Length: 2\r\n\r\ngo"
         )
         stand_still(desk.process.pid)
         with socket.create_connection((host, int(port)), timeout=10) as connection:
@@ -205,3 +267,84 @@ class Late(DeskTest):
         page.wait(late=False, current=None, masters={})
         page.command("goto 2")
         page.wait(current="2", masters={})
+
+
+class TooMany(DeskTest):
+    """No GO is carried out twice, or for another cue than the page showed as next."""
+
+    def test_double_go(self):
+        """A second GO within the time is refused, and told; one behind it is taken."""
+        desk, page = self.opened("--double-go", 10_000)
+        self.assertEqual(204, page.command("go", Desk_Time=page.desk_time()))
+        page.wait(current="1", waiting=0)
+        self.assertEqual(409, page.command("go"))
+        told = r"^go: a second GO \d+ ms after the first: nothing was sent$"
+        wait_for(page.notices, "a notice")
+        self.assertRegex(page.notices()[0], told)
+        for line, cue in (("back", None), ("goto 1.5", "1.5")):
+            page.command(line)
+            page.wait(current=cue or "1", waiting=0)
+        self.assertEqual(409, page.command("go"))
+        page.command("sub 1 FL")
+        self.assertEqual("1.5", page.wait(masters={"sub 1": 255})["current"])
+
+    def test_usual_time(self):
+        """It is 400 ms where nothing else is said, from press to press."""
+        desk, page = self.opened("--double-go", 400)
+        wait_for(lambda: int(page.desk_time()) > 1500, "the desk's clock")
+        self.assertEqual(204, page.command("go", Desk_Time=page.desk_time(ago=600)))
+        page.wait(current="1", waiting=0)
+        self.assertEqual(204, page.command("go"))
+        page.wait(current="1.5", waiting=0)
+        words = run_tool("desk", "--help").stdout
+        self.assertRegex(" ".join(words.split()), r"--double-go MS a second GO .* \(400\)")
+        for word in ("-1", "x", "10001", "1.5"):
+            done = run_tool("desk", self.show, "--to", self.to, f"--double-go={word}")
+            self.assertEqual(2, done.returncode)
+
+    def test_state_that_is_over(self):
+        """GO and BACK count for the cue that the page showed as next; other presses for any."""
+        _, page = self.opened()
+        before = page.state["number"]
+        self.assertEqual(204, page.command("go", Desk_State=before))
+        page.wait(current="1", waiting=0)
+        for line in ("go", "back", "GO"):
+            self.assertEqual(409, page.command(line, Desk_State=before))
+        why = "another cue is next than when it was pressed: nothing was sent"
+        wait_for(lambda: f"go: {why}" in page.notices(), why)
+        for line in ("sub 1 FL", "goto 1.5"):
+            self.assertEqual(204, page.command(line, Desk_State=before))
+        page.wait(current="1.5", masters={"sub 1": 255}, waiting=0)
+        # What changes beside the cues makes no press an old one.
+        seen = page.state["number"]
+        page.command("sub 1 50")
+        page.wait(masters={"sub 1": 128}, waiting=0)
+        self.assertEqual(204, page.command("go", Desk_State=seen))
+        page.wait(current="2")
+        for ahead in (page.state["number"] + 1000, "9" * 15, "", "x", "-1", None):
+            self.assertEqual(400, page.command("back", Desk_State=ahead))
+
+    def test_move_on_its_way(self):
+        """A GO behind one that has no answer yet is refused: the page still shows the old cue."""
+        desk, page = self.opened()
+        stand_still(desk.live)
+        self.assertEqual(204, page.command("go"))
+        self.assertEqual(409, page.command("go"))
+        os.kill(desk.live, signal.SIGCONT)
+        told = "go: a move is on its way: nothing was sent"
+        wait_for(lambda: told in page.notices() or page.state["current"] == "1", told)
+        page.command("sub 1 FL")
+        self.assertIn(page.wait(masters={"sub 1": 255})["current"], ("1", None))
+
+    def test_follow_on(self):
+        """A GO that was pressed as a cue went by itself does not skip it."""
+        lines = ("CUE 1", "FOLLOWON 1", "CUE 2", "CUE 3", "CHAN 1@FL", "PATCH 1 1<1@FL")
+        self.show.write_bytes(text(*lines))
+        _, page = self.opened()
+        page.command("go")
+        seen = page.wait(current="1", waiting=0)["number"]
+        page.wait(current="2")
+        self.assertEqual(409, page.command("go", Desk_State=seen))
+        page.command("sub 9 FL")
+        wait_for(lambda: any("NoSub" in told for told in page.notices()), "the answer behind it")
+        self.assertEqual("2", page.state["current"])

@@ -1,7 +1,6 @@
 """Files, pipes and memory: where the show comes from, where the output goes, and what fails."""
 
 import os
-import re
 import resource
 import signal
 import subprocess
@@ -11,11 +10,18 @@ import unittest
 from pathlib import Path
 
 from program import CID, DEVICE_FAULT, PROGRAM, FolderTest, ProgramTest, counts, packet, run, text, told
+from restarts import moments, wait_until
+from tooling import stand_still
 from worked import LOOK_ONE as SHOW
 
 LOOK = ("look", "-", "1", "--cid", CID)
 LINE = packet(1, {1: 64}).hex().encode() + b"\n"
 CHECKED = counts(lines=5, cues=1, dimmers=1)
+
+
+def ticks_of(record):
+    """The moments of the ticks of a record, none where it is not there yet."""
+    return moments(record.read_bytes(), rb"tick$") if record.exists() else []
 
 
 class Files(FolderTest):
@@ -114,13 +120,11 @@ class Floods(FolderTest):
                 night = self.flooded(
                     line, "live", "--record", record, stdout=subprocess.DEVNULL, stderr=subprocess.DEVNULL
                 )
-                time.sleep(1)
+                wait_until(lambda: len(ticks_of(record)) > 20, "ticks come")
                 night.kill()
                 night.wait()
-                ticks = [int(at) for at in re.findall(rb"^(\d+) tick$", record.read_bytes(), re.MULTILINE)]
-                self.assertGreater(len(ticks), 10)
+                ticks = ticks_of(record)
                 self.assertGreaterEqual(min(b - a for a, b in zip(ticks, ticks[1:])), 23)
-
 
     def test_live_is_stopped(self):
         """A night that the system holds for a second goes on: what it missed is not made up for."""
@@ -129,15 +133,16 @@ class Floods(FolderTest):
         words.append("--end-with-input")
         pipes = {"stdin": subprocess.PIPE, "stdout": subprocess.PIPE, "stderr": subprocess.DEVNULL}
         night = subprocess.Popen(words, **pipes)
+        self.addCleanup(night.wait)
         self.addCleanup(night.kill)
-        while not record.exists() or record.read_bytes().count(b"tick") < 4:
-            time.sleep(0.01)
-        night.send_signal(signal.SIGSTOP)
+        wait_until(lambda: len(ticks_of(record)) > 3, "ticks come")
+        stand_still(night.pid)
         time.sleep(1)
+        before = len(ticks_of(record))
         night.send_signal(signal.SIGCONT)
-        time.sleep(0.3)
+        wait_until(lambda: len(ticks_of(record)) > before + 10, "ticks come again")
         out, _ = night.communicate(timeout=60)
-        ticks = [int(at) for at in re.findall(rb"^(\d+) tick$", record.read_bytes(), re.MULTILINE)]
+        ticks = ticks_of(record)
         gaps = [b - a for a, b in zip(ticks, ticks[1:])]
         self.assertEqual((0, 2), (night.returncode, out.count(b" ok\n")))
         self.assertGreater(max(gaps), 900)
@@ -164,6 +169,7 @@ class Outputs(ProgramTest):
             (("cues", "-"), SHOW),
             (("cues", "-", "--json"), SHOW),
             (("rehearse", show, script), b""),
+            (("watch", "1"), b"0 00\n1000\n"),
             (("play", show, *to), b"0 tick\n"),
         )
 

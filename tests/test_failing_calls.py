@@ -5,19 +5,20 @@ import re
 import subprocess
 import sys
 
-from expected import runs
+from expected import runs, watch as watches
 from preload import PreloadTest
 from program import CID, DEVICE_FAULT, PROGRAM, START, Outcome, counts, packet, run, text, told
 from test_listen import DATAGRAMS, THREE, Listener
 from test_live import without_moments
 from test_refused_lines import NUMBERED, UNKNOWN
 from wire import OPTIONS, SEQUENCE, TERMINATED, ReceiverTest, own_network
-from worked import HEADER, LOOK_ONE, S1, keep_alive, plays, rehearsals
+from worked import HEADER, LOOK_ONE, S1, keep_alive, look_one, plays, rehearsals
 
 NETWORK_ERRORS = (errno.EAGAIN, errno.ECONNREFUSED, errno.ENETUNREACH, errno.ENOBUFS, errno.EPERM)
 (FADE,) = plays("five_second_fade")
 LINES, PRINTED = (each.decode().splitlines() for each in (FADE.stdin, FADE.out))
 KEPT_ALIVE = keep_alive()
+LOOK = look_one()
 (REHEARSED,) = rehearsals("rehearse_basic")
 TICKS = KEPT_ALIVE.stdin.decode().splitlines()
 
@@ -166,6 +167,27 @@ class Prints(FailingCalls):
             for error in (errno.EIO, errno.EAGAIN):
                 outcome = self.failing(["check", "-"], S1, ("read", read, read, error))
                 self.assertEqual(Outcome(5, b"", DEVICE_FAULT), outcome)
+
+    def test_watch(self):
+        """Each write and each read fails: what was printed at the lines before stays."""
+        lines = text(*(f"{1000 * n} {LOOK.hex()}" for n in range(12)))
+        told, _ = watches.watch(lines, [1])
+        printed = {}
+        for line in told:
+            moment = int(line.split()[0])
+            printed[moment] = printed.get(moment, b"") + text(line)
+        writes = list(printed.values())
+        self.assertEqual(Outcome(0, b"".join(writes), b""), self.failing(["watch", "1"], lines))
+        for call in ("read", "write"):
+            outcome = self.failing(["watch", "1"], lines, (call, 1, 3, errno.EINTR))
+            self.assertEqual(Outcome(0, b"".join(writes), b""), outcome)
+        for write in range(1, len(writes) + 1):
+            outcome = self.failing(["watch", "1"], lines, ("write", write, write, errno.EIO))
+            self.assertEqual(Outcome(5, b"".join(writes[: write - 1]), DEVICE_FAULT), outcome)
+        # The second read begins in the middle of the fourth line.
+        for read, whole in ((1, 0), (2, 3)):
+            outcome = self.failing(["watch", "1"], lines, ("read", read, read, errno.EIO))
+            self.assertEqual(Outcome(5, b"".join(writes[:whole]), DEVICE_FAULT), outcome)
 
     def test_script_cut(self):
         """A script that ends anywhere."""

@@ -7,8 +7,9 @@ import tempfile
 import time
 from pathlib import Path
 
+from machine import by_clock, in_time, took
 from program import CID, PROGRAM, run
-from restarts import PATIENCE, KilledNight, head, sent_by, universe_of
+from restarts import PATIENCE, head, moments, sent_by, universe_of, wait_until
 from test_restart import SHOW, ByTheScript, RestartTest
 from wire import OPTIONS, SLOT_1, TERMINATED, address_of, receiving
 
@@ -17,8 +18,10 @@ BACKUP = CID[:-1] + "2"
 PRIORITY = 90
 # How long a main may be silent, in milliseconds, and how late the light may come behind that.
 SILENCE, LATE = 300, 100
-# Of a main whose lines the test writes itself.
+# Of a main whose lines the test writes itself, or that is to lead however late it is.
 LONG = "60000"
+LEADS = rb"the main leads; "
+ALONE = rb"\d:\d\d:\d\d the main is silent: goes on by itself"
 REFUSED = b": the main leads; take ends the following\n"
 
 
@@ -33,29 +36,38 @@ def lines_of(record):
 
 
 class FollowTest(RestartTest):
-    def backup(self, record, *options, show=SHOW, silence=SILENCE, **kept):
-        """A night that follows this record; it runs."""
+    def backup(self, record, *options, show=SHOW, silence=LONG, **kept):
+        """A night that follows this record; it runs, and has taken up what stands there."""
         words = ["--follow", record, "--patience", str(silence), "--priority", str(PRIORITY)]
         night = self.night(*words, *options, show=show, cid=BACKUP, **kept)
         night.begin(resume=False)
+        night.tells(LEADS)
         return night
 
     def both(self, *lines, **kept):
-        """A main at which these lines were typed, and its backup; both send."""
+        """A main at which these lines were typed, and its backup; both send, and have them."""
         main = self.night()
         main.begin()
         main.light(2)
         backup = self.backup(main.record, **kept)
-        main.type(b"".join(lines))
-        backup.light(2)
+        main.typed(b"".join(lines))
+        self.follows(main, backup)
         return main, backup
+
+    def follows(self, main, backup):
+        """The backup has carried out what the main had recorded, and sent its light."""
+        recorded = len(moments(main.record.read_bytes(), rb"\w"))
+        wait_until(
+            lambda: len(moments(backup.record.read_bytes(), rb"\w")) >= recorded, "the backup follows"
+        )
+        backup.light(2)
 
     def written(self, *lines, **kept):
         """A record that the test writes, and a night that follows it."""
         record = Path(tempfile.mkdtemp(dir=self.folder), "main.play")
         record.write_bytes(head(SHOW))
         self.write(record, *lines)
-        return record, self.backup(record, **{"silence": LONG, **kept})
+        return record, self.backup(record, **kept)
 
     def write(self, record, *lines):
         with open(record, "ab", buffering=0) as file:
@@ -85,12 +97,11 @@ class Leads(FollowTest):
     def test_slots(self):
         """At each tick the slots of both streams are equal, until the end of both."""
         main, backup = self.both(b"go\n")
-        time.sleep(0.4)
+        backup.light(30)
         main.type(b"sub 1 50\ngo\n")
-        time.sleep(0.6)
+        backup.light(40)
         self.assertEqual(0, main.end())
-        self.assertEqual(0, backup.processes[-1].wait(PATIENCE))
-        time.sleep(0.1)
+        self.assertEqual(0, backup.ended())
         led = slots_by_place(sent_by(SHOW, main.record.read_bytes()))
         heard = slots_by_place(self.assertStream(backup))
         self.assertLess(60, len(heard))
@@ -98,8 +109,8 @@ class Leads(FollowTest):
         self.assertEqual(TERMINATED, backup.heard[-1].packet[OPTIONS] & TERMINATED)
         self.assertTold(
             backup,
-            rb"follows: .*, of CID %b, priority 100, at 0:00:0\d of the night, " % CID.encode(),
-            rb"0:00:0\d the main has ended the night\n",
+            rb"follows: .*, of CID %b, priority 100, at 0:00:\d\d of the night, " % CID.encode(),
+            rb"0:00:\d\d the main has ended the night\n",
         )
         # The record of a backup is the main's, but for its head.
         self.assertEqual(1, len({lines_of(each.record) for each in (main, backup)}))
@@ -110,7 +121,7 @@ class Leads(FollowTest):
         backup.type(b"go\nend\nwhere\nhelp\n\n  \ntake 2\ngo")
         backup.light(10)
         main.end()
-        backup.processes[-1].wait(PATIENCE)
+        backup.ended()
         out, err = self.assertTold(backup)
         refused = [line for line in err.splitlines(True) if line.startswith(b"line refused: ")]
         self.assertEqual([b"line refused: " + word + REFUSED for word in (b"go", b"end", b"take 2")], refused)
@@ -135,6 +146,7 @@ class Leads(FollowTest):
             with open(record, "ab", buffering=0) as file:
                 file.write(part)
         backup.light(2)
+        # The part behind its last LF has been read by then, mostly.
         time.sleep(0.1)
         os.truncate(record, record.read_bytes().rfind(b"\n") + 1)
         self.write(record, "50 tick", "75 tick")
@@ -145,7 +157,6 @@ class Leads(FollowTest):
     def test_comment(self):
         """A comment says that lines are missing: it is told, and left out."""
         record, backup = self.written("0 tick")
-        time.sleep(0.1)
         self.write(record, "! 3 lines dropped", "25 tick")
         backup.light(2)
         backup.kill()
@@ -155,21 +166,20 @@ class Leads(FollowTest):
         """A line that no night gives ends the backup, and is named."""
         for line in ("25 tock", "20 tick", "25 " + "0" * 300, "x" * 5000):
             record, backup = self.written("0 tick", "25 tick")
-            time.sleep(0.1)
             self.write(record, line)
             self.assertEqual(4, backup.processes[-1].wait(PATIENCE))
             self.assertTold(backup, rb"record: line 5 is none that live gives\n")
 
     def test_taken_up(self):
         """A main that is killed and taken up within the patience is followed on."""
-        main, backup = self.both(b"go\n", silence=5000)
+        main, backup = self.both(b"go\n")
         main.kill()
         main.begin()
         main.light(2)
         main.type(b"master 50\n")
         backup.light(4)
         self.assertEqual(0, main.end())
-        self.assertEqual(0, backup.processes[-1].wait(PATIENCE))
+        self.assertEqual(0, backup.ended())
         self.assertIn(b" master 50\n", backup.record.read_bytes())
         self.assertStream(backup)
 
@@ -177,10 +187,9 @@ class Leads(FollowTest):
         """The record of a main may be a FIFO."""
         pipe = self.folder / "main.pipe"
         os.mkfifo(pipe)
-        backup = self.backup(pipe, silence=1000)
         with open(pipe, "r+b", buffering=0) as file:
             file.write(head(SHOW) + b"0 tick\n")
-            time.sleep(0.2)
+            backup = self.backup(pipe)
             file.write(b"25 ti")
             time.sleep(0.1)
             file.write(b"ck\n")
@@ -191,20 +200,25 @@ class Leads(FollowTest):
 class Killed(FollowTest):
     def test_killed(self):
         """In the midst of a fade: the light goes on with no jump, within the patience."""
-        main, backup = self.both(b"go\n")
+        main, backup = self.both(b"go\n", silence=SILENCE)
         time.sleep(0.5)
+        began = time.monotonic()
         main.kill()
-        time.sleep(1)
+        backup.tells(ALONE)
+        backup.light(40)
         self.assertEqual(0, backup.end(b"take\nwhere\nend\n"))
         meant = self.assertStream(backup)
         kill = main.kills[0].at
-        after = next(k for k, each in enumerate(backup.heard) if each.at > kill + 0.1)
-        gap = 1000 * (backup.heard[after].at - kill)
-        print(f"    {gap:.0f} ms from the kill to the backup's own light")
-        self.assertLess(gap, SILENCE + LATE)
+        # What the main had recorded comes within a tick or two.
+        own = len(moments(main.record.read_bytes()))
+        first = moments(backup.record.read_bytes())[own]
+        after = next(k for k, each in enumerate(meant) if each.moment >= first)
+        gap = by_clock(kill, backup.heard[after].at)
+        print(f"    {gap.ms:.0f} ms from the kill to the backup's own light")
+        in_time(gap, SILENCE + LATE, "from the kill to the backup's own light")
         # The clock goes on: each packet comes at its moment, by the clock of those before the kill.
         zeros = [1000 * each.at - sent.moment for each, sent in zip(backup.heard, meant)]
-        self.assertLess(max(zeros) - min(zeros), LATE)
+        in_time(took(began - 1)._replace(ms=max(zeros) - min(zeros)), LATE, "packets are late")
         # Dimmer 1 of cue 1, in a fade of six seconds, never falls and never leaps.
         levels = [
             each.packet[SLOT_1] for each in meant if universe_of(each.packet) == 1
@@ -212,10 +226,11 @@ class Killed(FollowTest):
         ]
         steps = [b - a for a, b in zip(levels, levels[1:])]
         self.assertLessEqual(0, min(steps))
-        self.assertLessEqual(max(steps), 255 * (SILENCE + LATE) / 6000 + 2)
+        # A step in milliseconds of the fade.
+        in_time(gap._replace(ms=6000 * max(steps) / 255), SILENCE + LATE + 50, "a leap of the light")
         out, err = self.assertTold(
             backup,
-            rb"0:00:0\d the main is silent: goes on by itself\n",
+            rb"0:00:\d\d the main is silent: goes on by itself\n",
             rb"line refused: take: no such command",
         )
         self.assertRegex(out, rb"(?m)^\d+ where cue 1 next 2 master 255$")
@@ -230,14 +245,13 @@ class Silent(FollowTest):
 
     def test_take(self):
         """`take` ends the following at once, and what is typed behind it counts."""
-        main, backup = self.both(b"go\n", silence=LONG)
-        backup.light(4)
+        main, backup = self.both(b"go\n")
         backup.type(b"back\ntake\ngo\n")
         backup.light(20)
         main.type(b"master 50\n")
         backup.light(4)
         self.assertEqual(0, backup.end())
-        self.assertTold(backup, rb"line refused: back: ", rb"0:00:0\d the following was ended: goes on")
+        self.assertTold(backup, rb"line refused: back: ", rb"0:00:\d\d the following was ended: goes on")
         lines = backup.record.read_bytes()
         self.assertEqual((2, 0, 0), tuple(map(lines.count, (b" go\n", b" back\n", b" master 50\n"))))
         self.assertStream(backup)
@@ -245,11 +259,11 @@ class Silent(FollowTest):
 
     def test_part_of_a_line(self):
         """A line is of the moment at which its LF comes."""
-        main, backup = self.both(b"go\n")
+        main, backup = self.both(b"go\n", silence=SILENCE)
         backup.type(b"goto 1")
         backup.light(4)
         main.kill()
-        time.sleep(2 * SILENCE / 1000)
+        backup.tells(ALONE)
         backup.type(b" in 0\n")
         backup.light(4)
         self.assertEqual(0, backup.end())
@@ -259,10 +273,9 @@ class Silent(FollowTest):
 
     def test_back_again(self):
         """A main that is taken up later is not followed again: priority says whose light counts."""
-        main, backup = self.both(b"go\n")
+        main, backup = self.both(b"go\n", silence=SILENCE)
         main.kill()
-        backup.light(4)
-        time.sleep(2 * SILENCE / 1000)
+        backup.tells(ALONE)
         main.begin()
         main.light(2)
         main.type(b"master 50\n")
@@ -279,11 +292,10 @@ class Silent(FollowTest):
 
         for lose in (os.remove, replace, lambda name: os.truncate(name, len(head(SHOW)) + 7)):
             record, backup = self.written("0 tick", "25 tick")
-            time.sleep(0.2)
             lose(record)
-            time.sleep(0.1)
+            backup.tells(rb"0:00:\d\d the main's record is gone")
             self.assertEqual(0, backup.end())
-            self.assertTold(backup, rb"0:00:0\d the main's record is gone: goes on by itself\n")
+            self.assertTold(backup, rb"0:00:\d\d the main's record is gone: goes on by itself\n")
 
     def copied(self, name):
         """A copy of a file."""
@@ -293,18 +305,19 @@ class Silent(FollowTest):
 
     def test_input_ended(self):
         """An input that ended while the main led is told when it is of use."""
-        main, backup = self.both(b"go\n")
+        main, backup = self.both(b"go\n", silence=SILENCE)
         backup.processes[-1].stdin.close()
         backup.light(4)
         main.kill()
-        time.sleep(3 * SILENCE / 1000)
+        backup.tells(rb"input ended: the light holds")
         backup.kill()
-        self.assertTold(backup, rb"0:00:0\d the main is silent: .*\n(.*\n)*input ended: the light holds")
+        self.assertTold(backup, rb"0:00:\d\d the main is silent: .*\n(.*\n)*input ended: the light holds")
 
     def test_own_record(self):
         """Its record is taken up by --resume as any other."""
-        main, backup = self.both(b"go\n")
+        main, backup = self.both(b"go\n", silence=SILENCE)
         main.kill()
+        backup.tells(ALONE)
         backup.light(20)
         backup.kill()
         words = [str(each) for each in backup.words if each not in ("--follow", main.record)]

@@ -14,7 +14,7 @@ from program import PROGRAM, TOP
 from tooling import run_tool
 
 OTHER = MADE + "# a later one\n"
-TOOLS = ("conform", "convert", "desk", "osc", "picture", "sheet", "storm")
+TOOLS = ("conform", "convert", "desk", "osc", "picture", "sheet", "storm", "watch")
 SCRIPTS = ("cueplayer", "cueplayer-night")
 STARTERS = tuple(f"bin/{name}" for name in (*SCRIPTS, *(f"cueplayer-{tool}" for tool in TOOLS)))
 LIST = "lib/cueplayer/installed"

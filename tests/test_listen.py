@@ -9,17 +9,12 @@ import time
 from pathlib import Path
 
 from program import CID, DEVICE_FAULT, PROGRAM, UNFIT, ProgramTest, packet, run, told
+from tooling import stand_still
+from wire import free_port
 from worked import heard, look_one, with_examples
 
 LOOK_ONE = look_one()
 DATAGRAMS, THREE = heard("listen_three")
-
-
-def free_port():
-    """A port of 127.0.0.1 that nothing is bound on."""
-    with socket.socket(socket.AF_INET, socket.SOCK_DGRAM) as probe:
-        probe.bind(("127.0.0.1", 0))
-        return probe.getsockname()[1]
 
 
 def is_bound(host, port):
@@ -94,7 +89,7 @@ class Listen(ProgramTest):
     def test_udp_source(self):
         """The datagrams wait at the socket: all were sent before the first is taken."""
         listener = self.listener(count=3)
-        listener.child.send_signal(signal.SIGSTOP)
+        stand_still(listener.child.pid)
         listener.send(*DATAGRAMS)
         listener.child.send_signal(signal.SIGCONT)
         self.assertEqual((0, THREE, b""), listener.close())

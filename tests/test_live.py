@@ -9,6 +9,7 @@ import threading
 import time
 from pathlib import Path
 
+from machine import Took, in_time, took
 from program import CID, LIVE_NAME, PROGRAM, START, Outcome, behind_head, packet, run, text, told
 from wire import OPTIONS, SEQUENCE, SLOT_1, TERMINATED, ReceiverTest
 from wire import address_of, received, receiving, terminal
@@ -17,6 +18,9 @@ from worked import S1
 OTHER = CID[:-1] + "2"
 MOMENT = re.compile(rb"^\d+ ", re.MULTILINE)
 NEVER = 30
+# In milliseconds, how much of the ticks of two seconds may be missing; behind what time it is told
+# that an input has ended, and what an `end` takes that was typed before.
+MISSED, HELD, TURN = 1500, 250, 150
 
 
 def ignore_hang_up():
@@ -33,6 +37,8 @@ class LiveTest(ReceiverTest):
     SHOW = S1
     PROGRAM = PROGRAM
     env: dict[str, str] | None = None
+    # When the newest program was started.
+    at = 0.0
 
     def words(self, *options, cid=CID, to=None, holds=False):
         """A night that ends with its input, unless it is to hold the light."""
@@ -42,6 +48,7 @@ class LiveTest(ReceiverTest):
     def started(self, *options, preexec_fn=None, cid=CID, to=None, holds=False, **pipes):
         """A program that is to play a night; its input and its outputs are pipes, unless others are given."""
         pipes = dict.fromkeys(("stdin", "stdout", "stderr"), subprocess.PIPE) | pipes
+        self.at = time.monotonic()
         night = subprocess.Popen(
             [self.PROGRAM, *self.words(*options, cid=cid, to=to, holds=holds)],
             env=self.env,
@@ -50,8 +57,22 @@ class LiveTest(ReceiverTest):
             **pipes,
         )
         self.addCleanup(lambda: [each.close() for each in (night.stdin, night.stdout, night.stderr) if each])
+        # Its lock is free for the next one when it is gone.
+        self.addCleanup(night.wait)
         self.addCleanup(night.kill)
         return night
+
+    def between(self, first, last):
+        """From one moment of the newest night to another: when that was, to a second."""
+        return Took(last - first, self.at + first / 1000, self.at + last / 1000 + 1)
+
+    def assertPace(self, ticks, seconds):
+        """The ticks of so many seconds came, each 23 ms behind another at least, but for those of
+        the times in which the machine stood still."""
+        gaps = [b - a for a, b in zip(ticks, ticks[1:])]
+        self.assertGreaterEqual(min(gaps), 23)
+        missing = 1000 * seconds - 25 * len(ticks)
+        in_time(self.between(0, ticks[-1])._replace(ms=missing), MISSED, "ticks that did not come")
 
     def begun(self, *options, **kept):
         """A night that has begun; what it told at its start was read, where standard error is a pipe."""
@@ -130,7 +151,12 @@ class Live(LiveTest):
         for lines in (b"end\n", b"sub 1 FL\nend\n", b"leave\n", b"sub 1 FL\nend"):
             with self.subTest(lines):
                 night = self.begun(holds=True)
-                out, err = night.communicate(lines, timeout=30)
+                typed = time.monotonic()
+                _, err = night.communicate(lines, timeout=30)
+                if err.startswith(b"input ended: the light holds; "):
+                    # So long it had not come to the `end`.
+                    in_time(took(typed)._replace(ms=HELD), TURN, "an end that was typed")
+                    err = b""
                 self.assertEqual((0, b""), (night.returncode, err))
                 self.came()
 
@@ -142,13 +168,14 @@ class Live(LiveTest):
         line = night.stderr.readline()
         self.assertTrue(line.startswith(b"input ended: the light holds; SIGTERM "), line)
         self.assertEqual(["ok"], without_moments(night.stdout.readline()))
-        time.sleep(0.3)
-        self.came()
-        time.sleep(1)
-        came = self.came()
+        shown = []
+        until = time.monotonic() + NEVER
+        # Behind those of the submaster's tick come others, as long as the light holds.
+        while shown.count((128, 0)) < 6:
+            shown += [(each[SLOT_1], each[OPTIONS]) for each in self.came()]
+            self.assertLess(time.monotonic(), until)
         self.assertIsNone(night.poll())
-        self.assertIn(len(came), (1, 2))
-        self.assertEqual({(128, 0)}, {(each[SLOT_1], each[OPTIONS]) for each in came})
+        self.assertEqual({(128, 0)}, set(shown[shown.index((128, 0)) :]))
         night.terminate()
         self.assertEqual(-signal.SIGTERM, night.wait(timeout=30))
         self.assertEqual((b"", b""), (night.stdout.read(), night.stderr.read()))
@@ -202,8 +229,9 @@ class Live(LiveTest):
         """A fade of two seconds is seen in the levels, with every step upwards."""
         self.show.write_bytes(text("CUE 1", "UP 2", "CHAN 1@FL", "PATCH 1 1<1@FL"))
         night = self.begun()
+        typed = time.monotonic()
         self.told(night, b"go\n", "ok", "cue 1", pause=1.0)
-        half = self.came(wait=0)
+        half, stretch = self.came(wait=0), took(typed)
         time.sleep(1.3)
         self.ended(night)
         came = half + self.came()
@@ -211,8 +239,11 @@ class Live(LiveTest):
         levels = [each[SLOT_1] for each in came[:-7]]
         self.assertEqual(sorted(levels), levels)
         self.assertEqual((0, 255), (levels[0], levels[-1]))
-        self.assertGreater(len(set(levels)), 20)
-        self.assertTrue(50 < half[-1][SLOT_1] < 230, half[-1][SLOT_1])
+        missing = 2000 - 25 * len(set(levels))
+        in_time(took(typed)._replace(ms=missing), MISSED, "levels that did not come")
+        shown = 2000 * half[-1][SLOT_1] / 255
+        self.assertLessEqual(shown, stretch.ms + 10)
+        in_time(stretch._replace(ms=stretch.ms - shown), 400, "the fade is behind")
 
     def test_pace(self):
         """Ticks are 23 ms apart at least, and come on a grid of 25 ms as far as the machine lets them."""
@@ -224,8 +255,7 @@ class Live(LiveTest):
         ticks = [int(moment) for moment, *words in lines if words == ["tick"]]
         gaps = [b - a for a, b in zip(ticks, ticks[1:])]
         print(f"    {len(ticks)} ticks in {ticks[-1]} ms, {min(gaps)} to {max(gaps)} ms apart")
-        self.assertGreaterEqual(min(gaps), 23)
-        self.assertGreater(len(ticks), 20)
+        self.assertPace(ticks, 2)
         moments = [int(moment) for moment, *_ in lines]
         self.assertEqual(sorted(moments), moments)
 
@@ -394,19 +424,20 @@ class Live(LiveTest):
 
     def test_two_consoles(self):
         """Two nights into one `listen`: the one of priority 150 leads."""
-        with receiving() as free:
-            at = address_of(free)
-        listen = subprocess.Popen([PROGRAM, "listen", at, "1", "16"], stdout=subprocess.PIPE)
+        pipe = subprocess.PIPE
+        listen = subprocess.Popen([PROGRAM, "listen", "127.0.0.1:0", "1", "20"], stdout=pipe, stderr=pipe)
+        self.addCleanup(listen.communicate)
         self.addCleanup(listen.kill)
-        time.sleep(0.5)
+        at = listen.stderr.readline().split()[2].decode()
         main = self.begun("--priority", "150", to=at)
+        self.told(main, b"sub 1 50\n")
         backup = self.begun("--priority", "100", cid=OTHER, to=at)
-        self.typed(main, b"sub 1 50\n", pause=0)
-        self.typed(backup, b"sub 1 FL\n", pause=0)
+        self.told(backup, b"sub 1 FL\n")
+        # The last of them keep the streams alive.
         printed = listen.communicate(timeout=30)[0].decode().splitlines()
         self.ended(main)
         self.ended(backup)
-        self.assertEqual(17, len(printed))
+        self.assertEqual(21, len(printed))
         self.assertEqual([], [line for line in printed[:-1] if " taken " not in line])
         # Submaster 1 is 128, and 128 of 255 makes it 64.
         self.assertEqual("slots 1:64", printed[-1])
@@ -467,6 +498,7 @@ class Lock(LiveTest):
             night = self.begun()
             self.told(night, b"back\n", "refused AtStart", pause=0)
             night.kill()
+            night.wait()
 
     def test_no_folder(self):
         """Where no lock can be made that is told, and the night begins."""

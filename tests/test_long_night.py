@@ -4,7 +4,6 @@ SECONDS and SEED of the environment, as CUEPLAYER_NIGHT=600 and CUEPLAYER_SEED=7
 """
 
 import hashlib
-import multiprocessing
 import os
 import random
 import select
@@ -14,6 +13,7 @@ import subprocess
 import threading
 import time
 
+from machine import in_time, took
 from program import LIVE_NAME, PROGRAM, behind_head, text
 from test_live import LiveTest
 from wire import OPTIONS, SEQUENCE
@@ -21,7 +21,7 @@ from wire import OPTIONS, SEQUENCE
 SECONDS = float(os.environ.get("CUEPLAYER_NIGHT", 120))
 SEED = int(os.environ.get("CUEPLAYER_SEED", 38))
 UNIVERSES = 16
-# Beyond what a program that only sleeps shows on this machine, in milliseconds.
+# How late a tick and a press may be, in milliseconds.
 ALLOWED = 60
 # From one tick to the next, and what a line waits for at most where nothing is late.
 APART, TURN = 25, 50
@@ -37,33 +37,6 @@ def show():
         "SUB 1", "CHAN 400@FL",
         *moving, f"PATCH 1 400<{512 * UNIVERSES}@FL",
     )
-
-
-def sleep_only(found, is_over):
-    """Sleeps two milliseconds at a time, and answers the latest waking, in milliseconds."""
-    latest = 0.0
-    while not is_over.is_set():
-        due = time.perf_counter() + 0.002
-        time.sleep(0.002)
-        latest = max(latest, time.perf_counter() - due)
-    found.put(1000 * latest)
-
-
-class Sleeper:
-    """A bare sleeper on each processor."""
-
-    def __init__(self):
-        self.found, self.is_over = multiprocessing.Queue(), multiprocessing.Event()
-        self.sleepers = [
-            multiprocessing.Process(target=sleep_only, args=(self.found, self.is_over), daemon=True)
-            for _ in os.sched_getaffinity(0)
-        ]
-        for each in self.sleepers:
-            each.start()
-
-    def latest(self):
-        self.is_over.set()
-        return max(self.found.get() for _ in self.sleepers)
 
 
 class Reader(threading.Thread):
@@ -102,7 +75,7 @@ class Receiver(threading.Thread):
     def take(self, each):
         self.digest.update(each)
         universe = int.from_bytes(each[UNIVERSE : UNIVERSE + 2], "big")
-        self.came.append((time.perf_counter(), universe, each[SEQUENCE], each[SLOT], each[OPTIONS]))
+        self.came.append((time.monotonic(), universe, each[SEQUENCE], each[SLOT], each[OPTIONS]))
 
 
 class LongNight(LiveTest):
@@ -127,9 +100,9 @@ class LongNight(LiveTest):
         self.readers = [Reader(self.night.stdout), Reader(self.night.stderr)]
 
     def press(self):
-        level = 255 * (len(self.presses) % 2 == 0)
-        self.presses.append((time.perf_counter(), level))
-        self.night.stdin.write(b"sub 1 FL\n" if level else b"sub 1 0\n")
+        level = 1 + len(self.presses) % 250
+        self.presses.append((time.monotonic(), level))
+        self.night.stdin.write(b"sub 1 H%02X\n" % level)
 
     def flood(self):
         self.night.stdin.write(b"no such command\n" * 300 + b"group 9 FL\n" * 300)
@@ -144,9 +117,9 @@ class LongNight(LiveTest):
 
     def play(self):
         """What happens, by chance; towards the end both readers die."""
-        start = time.perf_counter()
+        start = time.monotonic()
         self.night.stdin.write(b"go\n")
-        while (elapsed := time.perf_counter() - start) < SECONDS:
+        while (elapsed := time.monotonic() - start) < SECONDS:
             time.sleep(self.random.uniform(0.1, 0.6))
             event = self.random.choice(("press", "press", "press", "flood", "out", "err", "record"))
             if event == "press":
@@ -172,14 +145,27 @@ class LongNight(LiveTest):
         self.heard.is_over = True
         self.heard.join()
 
-    def late_presses(self):
-        """How long each press took to the first datagram of the last universe that shows it."""
+    def shown_presses(self):
+        """Of each press how long it took to the first datagram of the last universe that shows it,
+        or one behind it, where the machine stood still from the one to the other."""
         shown = [(at, slot) for at, universe, _, slot, _ in self.heard.came if universe == UNIVERSES]
         place = 0
-        for at, level in self.presses:
-            while place < len(shown) and (shown[place][0] < at or shown[place][1] != level):
+        for number, (at, _) in enumerate(self.presses):
+            levels = {level for _, level in self.presses[number : number + 100]}
+            while place < len(shown) and (shown[place][0] < at or shown[place][1] not in levels):
                 place += 1
-            yield 1000 * (shown[place][0] - at) if place < len(shown) else float("inf")
+            self.assertLess(place, len(shown), "a press is not shown")
+            yield took(at, shown[place][0])
+
+    def assertRealTime(self, lines):
+        """Each press is recorded at the moment at which it was made, or a turn later: the clock of
+        the night is the machine's from its first minute to its last."""
+        moments = [int(moment) / 1000 for moment, *words in lines if words[:2] == ["sub", "1"]]
+        self.assertEqual(len(self.presses), len(moments))
+        zeros = [pressed - moment for moment, (pressed, _) in zip(moments, self.presses)]
+        for (pressed, _), zero in zip(self.presses, zeros):
+            late = took(pressed, pressed + max(zeros) - zero)
+            in_time(late, TURN + ALLOWED, "a press by its moment")
 
     def replayed(self):
         """The digest of what `play` of the record sends, four lines at a time."""
@@ -198,23 +184,25 @@ class LongNight(LiveTest):
         return heard.hexdigest()
 
     def test_night(self):
-        machine = Sleeper()
         self.begin()
         self.play()
         self.end()
-        latest = machine.latest()
         lines = [line.split() for line in behind_head(self.kept.read_bytes())]
         self.assertEqual([], [words for words in lines if words[0] == "!"], "the record lacks lines")
         ticks = [int(moment) for moment, *words in lines if words == ["tick"]]
         gaps = [b - a for a, b in zip(ticks, ticks[1:])]
-        late = list(self.late_presses())
+        presses = list(self.shown_presses())
+        latest = max(each.ms for each in presses)
         print(
-            f"    {len(ticks)} ticks at most {max(gaps)} ms apart, {len(late)} presses at most {max(late):.0f} ms,"
-            f" {len(self.heard.came)} datagrams; a bare sleeper {latest:.0f} ms"
+            f"    {len(ticks)} ticks at most {max(gaps)} ms apart, {len(presses)} presses at most {latest:.0f} ms,"
+            f" {len(self.heard.came)} datagrams"
         )
         self.assertGreaterEqual(min(gaps), 23)
-        self.assertLess(max(gaps), APART + ALLOWED + latest)
-        self.assertLess(max(late), TURN + ALLOWED + latest)
+        for before, after in zip(ticks, ticks[1:]):
+            in_time(self.between(before, after), APART + ALLOWED, f"the tick behind {before}")
+        for press in presses:
+            in_time(press, TURN + ALLOWED, "a press")
+        self.assertRealTime(lines)
         for universe in range(1, UNIVERSES + 1):
             numbers = [number for _, which, number, _, _ in self.heard.came if which == universe]
             self.assertEqual([k % 256 for k in range(len(numbers))], numbers)

@@ -22,6 +22,8 @@ TARGET = (
 CUE = b"a cue is a number from 0.001 to 9999.999, as 2.5"
 PRIORITY = b"a priority is a number from 0 to 200"
 UNIVERSE = b"a universe is a number from 1 to 63999"
+ONCE = b"a watch names a universe once"
+SIXTEEN = b"a watch has at most 16 universes"
 COUNT = b"a count is a number from 1 to 1000000"
 RECORDED = b"a night goes on in its record: --record FILE names it"
 PATIENCE = b"a patience is a number of milliseconds from 1 to 60000"
@@ -30,6 +32,7 @@ ALONE = b"a night that follows begins where its main is: leave out --resume and 
 INPUT_LINE = (
     b"MOMENT and go, back, goto CUE, goto CUE in TIME, sub N LEVEL, group N LEVEL, master LEVEL, end or tick"
 )
+WATCH_LINE = b"MOMENT and a datagram in hex, or MOMENT alone, in at most 3072 bytes"
 SCRIPT_LINE = b"console BASE PRIORITY UUID, receiver UNIVERSE, or MOMENT and do, tick, deliver, stray or slots"
 SHOW = text("CUE 1", "CHAN 1@FL", "PATCH 1 1<1@FL")
 
@@ -92,6 +95,10 @@ class Messages(unittest.TestCase):
             (("listen", "::1", "1", "1"), b"ADDR `::1`", ADDRESS),
             (("listen", "127.0.0.1", "64000", "1"), b"UNIVERSE `64000`", UNIVERSE),
             (("listen", "127.0.0.1", "1", "1000001"), b"COUNT `1000001`", COUNT),
+            (("watch", "1", "0", "x"), b"UNIVERSE `0`", UNIVERSE),
+            (("watch", "1", "2", "01"), b"UNIVERSE `01`", ONCE),
+            (("watch", *map(str, range(1, 18))), b"UNIVERSE `17`", SIXTEEN),
+            (("watch", "0", *map(str, range(1, 17))), b"UNIVERSE `16`", SIXTEEN),
             (("live", "a", *to, *cid, "--start", "0"), b"--start `0`", CUE),
             (("live", "a", *to, *cid, "--resume"), b"--resume", RECORDED),
             (("live", "a", *to, *cid, "--follow", "b", "--patience", "0"), b"--patience `0`", PATIENCE),
@@ -121,6 +128,7 @@ class Messages(unittest.TestCase):
             show.write_bytes(SHOW)
             words = ("play", show, "--to", "127.0.0.1:9", "--cid", CID)
             self.assertEqual((4, [b"line 2 refused", INPUT_LINE]), run(*words, stdin=b"0 tick\n1 jump\n"))
+            self.assertEqual((4, [b"line 2 refused", WATCH_LINE]), run("watch", "1", stdin=b"1\nx\n"))
             script.write_bytes(b"console 1 100 " + CID.encode() + b"\n0 go 1\n")
             told = [b"line 2 refused", b"`0 go 1`: " + SCRIPT_LINE]
             self.assertEqual((4, told), run("rehearse", show, script))

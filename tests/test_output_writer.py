@@ -12,6 +12,7 @@ import time
 from program import told
 from test_live import without_moments
 from test_record_writer import NEVER, WriterTest
+from tooling import stand_still
 
 BEFORE = b"what stood there\n"
 WRONG = b"line refused: jump: no such command; help lists the commands\n"
@@ -67,7 +68,7 @@ class OutputWriter(WriterTest):
         self.light(night, b"sub 1 FL\n", 128)
         writers = [self.writer(night, self.out), self.writer(night, self.err)]
         for each in writers:
-            os.kill(each, signal.SIGSTOP)
+            stand_still(each)
         night.stdin.write(b"back\njump\n" * 600)
         self.light(night, b"sub 1 50\n", 64)
         time.sleep(3)
@@ -87,7 +88,7 @@ class OutputWriter(WriterTest):
             night = self.begun("--record", self.record, stdout=out)
         self.light(night, b"sub 1 FL\n", 128)
         writer = self.writer(night, self.out)
-        os.kill(writer, signal.SIGSTOP)
+        stand_still(writer)
         count = 7_000
         night.stdin.write(b"back\n" * count)
         self.light(night, b"sub 1 0\n", 0)
@@ -109,7 +110,7 @@ class OutputWriter(WriterTest):
                 self.light(night, b"sub 1 FL\n", 128)
                 writer = self.writer(night, self.out)
                 self.assertEqual([writer], self.writers(night))
-                os.kill(writer, signal.SIGSTOP)
+                stand_still(writer)
                 night.stdin.write(b"jump\nback\n" * 300)
                 self.light(night, b"sub 1 0\n", 0)
                 os.kill(writer, signal.SIGCONT)
@@ -150,7 +151,7 @@ class OutputWriter(WriterTest):
                 self.light(night, b"sub 1 FL\n", 128)
                 writers = [self.writer(night, self.out), self.writer(night, self.err)]
                 for each in writers:
-                    os.kill(each, signal.SIGSTOP)
+                    stand_still(each)
                 night.stdin.write(b"jump\n")
                 self.light(night, b"sub 1 0\n", 0)
                 night.send_signal(signal_number)
@@ -196,7 +197,7 @@ class OutputWriter(WriterTest):
             night = self.begun(stdout=out)
         self.light(night, b"sub 1 FL\n", 128)
         writer = self.writer(night, self.out)
-        os.kill(writer, signal.SIGSTOP)
+        stand_still(writer)
         self.light(night, b"sub 1 0\n", 0)
         before = self.out.stat().st_size
         self.assertEnds(night)

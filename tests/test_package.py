@@ -12,7 +12,7 @@ from pathlib import Path
 
 from program import CID, SHIPPED, TOP
 
-TOOLS = ("conform", "convert", "desk", "osc", "picture", "sheet", "storm")
+TOOLS = ("conform", "convert", "desk", "osc", "picture", "sheet", "storm", "watch")
 # What the package is made of besides dist/.
 PARTS = ("cueplayer", "cueplayer-night", "install", "VERSION", "README.md", "CHANGELOG.md", "LICENSE", "HANDLES", "crates.txt")
 FOLDERS = ("dist", "dev", "tools", "man", "completion", "docs", "examples")

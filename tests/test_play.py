@@ -6,7 +6,7 @@ import subprocess
 import sys
 
 from program import CID, DEVICE_FAULT, PROGRAM, UNFIT, FolderTest, Outcome, packet, run, text, told
-from wire import address_of, own_network, received, receiving
+from wire import address_of, free_port, own_network, received, receiving
 from worked import S1, keep_alive, plays, table, with_examples
 
 TWO_UNIVERSES = table("two_universes").show
@@ -85,9 +85,7 @@ class Ends(PlayTest):
 
     def test_nobody_listens(self):
         """What the network answers to one packet fails no later one."""
-        with receiving() as receiver:
-            port = receiver.getsockname()[1]
-        words = self.words(S1, to=f"127.0.0.1:{port}")
+        words = self.words(S1, to=f"127.0.0.1:{free_port()}")
         lines = b"".join(b"%d tick\n" % (25 * k) for k in range(4))
         out = b"".join(b"%d live 1:s%d\n" % (25 * k, k) for k in range(4))
         self.assertEqual((0, out, b""), run(*words, stdin=lines))

@@ -1,4 +1,4 @@
-"""docs/PROVED.md: it says of each crate what README says of it, its tables have every public call of
+"""docs/PROVED.md: it says of each crate what docs/ASSURANCE.md says of it, its tables have every public call of
 the crates with the clauses of its contract, and the tests that it names are there.
 
 Run by itself (`python3 tests/test_proved.py`) it writes the tables anew. Of a call whose
@@ -25,6 +25,8 @@ FUNCTION = re.compile(r"^( *)(pub )?(?:const )?fn (\w+)", re.M)
 IMPL = r"impl(?:<[^>]*>)? (?:([\w:]+)(?:<[^>]*>)? for )?(\w+)"
 OWNER = re.compile(rf"^(?:{IMPL}|pub trait (\w+))", re.M)
 # A clause of a contract, with the comment above it; the name may be left out.
+# The bounds of type parameters, in front of the clauses.
+BOUNDS = re.compile(r"\s*where\b[^{;]*?,(?=\s*(?:requires|ensures)\b)")
 CLAUSE = re.compile(r"\s*(?://[^\n]*\n\s*)*(requires|ensures)\*?(?: (\w+))? \{")
 # The doc comment above a function; in it, when the call refuses.
 DOC = re.compile(r"((?:^ *///[^\n]*\n)+)(?: *#\[[^\n]*\n)*\Z", re.M)
@@ -95,6 +97,8 @@ def after_braces(text, at):
 def contract(text, at):
     """The names of the conditions and clauses that stand here; one without a name is its word."""
     found = {"requires": [], "ensures": []}
+    if bounds := BOUNDS.match(text, at):
+        at = bounds.end()
     while clause := CLAUSE.match(text, at):
         found[clause[1]].append(clause[2] or clause[1])
         at = after_braces(text, clause.end())
@@ -117,7 +121,8 @@ def exported(crate):
     uses = re.findall(r"pub use (\w+)::(?:\{([^}]*)\}|(\w+));", library)
     inside = {name for _, *some in uses for name in re.findall(r"\w+", " ".join(some))}
     if "pub mod memory" in library:
-        inside |= {"MemoryDatagrams", "MemoryFeed", "MemoryLink", "MemoryOutput"}
+        memory = [crate / "src/memory.rt", *(crate / "src/memory").glob("*.rt")]
+        inside |= {name for file in memory if file.exists() for name in re.findall(r"pub struct (\w+)", file.read_text())}
     return inside
 
 
@@ -198,9 +203,10 @@ class Proved(unittest.TestCase):
     maxDiff = None
 
     def test_crates(self):
-        """README and the page say the same of each crate: one sentence, and the calls that carry it."""
-        readme = (TOP / "README.md").read_text().partition("\n## What is proved\n")[2]
-        rows = re.findall(r"^\| ([a-z]\w+) \| (.*) \| (.*) \|$", readme, re.MULTILINE)
+        """docs/ASSURANCE.md and the page say the same of each crate: one sentence, and the calls that
+        carry it."""
+        assurance = (TOP / "docs/ASSURANCE.md").read_text().partition("\n## What is proved\n")[2]
+        rows = re.findall(r"^\| ([a-z]\w+) \| (.*) \| (.*) \|$", assurance, re.MULTILINE)
         told = re.findall(r"^- \*\*(\w+)\.\*\* (.*) \*By\* (.*)\.$", PAGE.read_text(), re.MULTILINE)
         self.assertEqual(sorted(crates()), sorted(name for name, _, _ in rows))
         self.assertEqual(rows, told)

@@ -11,6 +11,7 @@ from pathlib import Path
 
 from program import PROGRAM, TOP, run, told
 from test_outputs import OutputsTest
+from tooling import stand_still
 
 NEVER = 30
 
@@ -87,7 +88,7 @@ class RecordWriter(WriterTest):
         night = self.begun("--record", self.record, stdout=subprocess.DEVNULL)
         self.light(night, b"sub 1 FL\n", 128)
         writer = self.writer(night)
-        os.kill(writer, signal.SIGSTOP)
+        stand_still(writer)
         line = b"master FL ! " + b"x" * 150 + b"\n"
         night.stdin.write(line * 600)
         self.assertEqual(b"record: late, and the light goes on\n", night.stderr.readline())
@@ -107,7 +108,7 @@ class RecordWriter(WriterTest):
         night = self.begun("--record", self.record)
         self.light(night, b"sub 1 FL\n", 128)
         writer = self.writer(night)
-        os.kill(writer, signal.SIGSTOP)
+        stand_still(writer)
         self.light(night, b"sub 1 50\n", 64)
         self.light(night, b"master 50\n", 32)
         night.kill()
@@ -132,7 +133,7 @@ class RecordWriter(WriterTest):
         night = self.begun("--record", self.record)
         self.light(night, b"sub 1 FL\n", 128)
         writer = self.writer(night)
-        os.kill(writer, signal.SIGSTOP)
+        stand_still(writer)
         self.light(night, b"sub 1 0\n", 0)
         before = self.record.stat().st_size
         self.assertEnds(night)

@@ -96,6 +96,21 @@ class RefusedGrowths(Growths):
         script.write_bytes(text(*lines))
         self.assertEachRefused(["rehearse", self.show, script], b"")
 
+    def test_watch(self):
+        """What was printed at the lines before stays."""
+        words = ["watch", "1", "2"]
+        lines = text(*(f"{200 * n} {watched(n).hex()}" for n in range(8)), "9000")
+        whole = self.run_preloaded(words, lines, self.environment(0))
+        growths, _ = self.growths()
+        self.assertEqual((0, b""), (whole.status, whole.err))
+        self.assertGreater(growths, 8)
+        for growth in range(1, growths + 1):
+            with self.subTest(growth=growth):
+                outcome = self.run_preloaded(words, lines, self.environment(growth))
+                if outcome != whole:
+                    self.assertEqual((MEMORY.status, MEMORY.err), (outcome.status, outcome.err))
+                    self.assertTrue(whole.out.startswith(outcome.out) and outcome.out != whole.out)
+
     def test_words(self):
         """Of each line, words that ask for help, that the parser refuses, and that lack their form."""
         for words in (["--help"], ["look", "-"], ["check", "a", "b"], ["rehearse", "a"], ["explain"]):
@@ -107,8 +122,16 @@ class RefusedGrowths(Growths):
             ["play", *night, "201"],
             ["live", *night, "x", "--record", "b"],
             ["listen", "127.0.0.1", "1", "0"],
+            ["watch", "1", "1"],
         ):
             self.assertEachRefused(words, b"", has_remark=True)
+
+
+def watched(n):
+    """A datagram of a night of `watch`, by its number: of seven sources, some of them strangers."""
+    cid = f"{CID[:-1]}{n % 7}"
+    sent = packet(1 + n % 3, {1 + n % 512: 255}, 3 * n % 256, 0x40 * (n % 13 == 0), 100 + n % 2, cid)
+    return sent[: 638 if n % 5 else 30]
 
 
 # Of cue 50 two channels move, which a tick draws alone; of cue 51, which follows, too many for that.

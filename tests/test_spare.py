@@ -5,10 +5,11 @@ import select
 import signal
 import time
 
-from restarts import head, moments
-from test_restart import HARD, SEED, ByTheScript, RestartTest, next_tick
+from restarts import PATIENCE, Wrong, head, moments, wait_until
+from test_restart import HARD, SEED, TRIES, ByTheScript, RestartTest, next_tick
+from tooling import stand_still
 
-# In milliseconds: from a kill to the next packet at most, on a machine that is busy.
+# In milliseconds: from a kill to the next packet at most.
 DARK = 250
 
 
@@ -19,8 +20,8 @@ class Spare(RestartTest):
         night.begin()
         night.light(2)
         night.type(b"".join(lines))
-        night.stand_by()
-        time.sleep(0.3)
+        night.light(2)
+        night.stands_by()
         return night
 
     def replace(self, night):
@@ -28,7 +29,7 @@ class Spare(RestartTest):
         night.kill()
         night.promote()
         night.light()
-        night.stand_by()
+        night.stands_by()
 
     def assertGoesOn(self, night):
         night.kill()
@@ -62,7 +63,7 @@ class Spare(RestartTest):
     def test_what_was_typed(self):
         """Lines that were refused, keys and comments; each line of the record is taken up."""
         night = self.begun(HARD)
-        time.sleep(0.2)
+        night.light(8)
         self.assertGoesOn(night)
         self.assertTaken(night, dark=DARK)
 
@@ -78,19 +79,26 @@ class Spare(RestartTest):
         """A night that was killed behind its `end` is brought to its end by the spare."""
         night = self.begun(b"go\n")
         night.type(b"end\n")
-        while not moments(night.record.read_bytes(), b"end"):
-            time.sleep(0.001)
+        wait_until(lambda: moments(night.record.read_bytes(), b"end"), "it is recorded")
         night.kill()
         night.promote()
-        self.assertEqual(0, night.processes[-1].wait(30))
-        time.sleep(0.1)
+        self.assertEqual(0, night.ended())
         self.assertOne(night)
+
+    def killed_between_ticks(self, *lines):
+        """The same, and its spare stands still."""
+        for _ in range(TRIES):
+            night = self.begun(*lines)
+            stand_still(night.spare.pid)
+            night.kill()
+            night.settle()
+            if night.is_at_rest():
+                return night
+        raise Wrong(f"{TRIES} kills, and none fell between two ticks")
 
     def test_killed_before_the_packets(self):
         """A tick may be recorded and not carried out, and a line be cut: the line is dropped."""
-        night = self.begun(b"go\n")
-        night.spare.send_signal(signal.SIGSTOP)
-        night.kill()
+        night = self.killed_between_ticks(b"go\n")
         last = moments(night.record.read_bytes())[-1]
         with open(night.record, "ab") as record:
             record.write(b"%d tick\n%d goto" % (next_tick(last), next_tick(last) + 1))
@@ -98,8 +106,8 @@ class Spare(RestartTest):
         night.promote()
         night.light()
         self.assertEnds(night)
-        # Of each universe that tick, and the one at which it may have been killed.
-        self.assertTrue(2 <= self.assertOne(night).lost <= 4)
+        # That tick, of each universe.
+        self.assertEqual(2, self.assertOne(night).lost)
         self.assertIn(b"its last line was cut", night.told()[-1][1])
 
     def test_no_live_plays(self):
@@ -114,26 +122,28 @@ class Spare(RestartTest):
     def test_two_spares(self):
         """One goes on, which it tells, and the other stands by for that one."""
         night = self.begun(b"go\n")
-        spares = [night.spare, night.stand_by()]
+        spares = [night.spare, night.stands_by()]
         self.addCleanup(lambda: [each.kill() for each in spares])
-        time.sleep(0.3)
+        errors = [each.stderr for each in spares]
         night.kill()
+        select.select(errors, [], [], PATIENCE)
+        # The other one would tell it as soon.
         time.sleep(0.3)
-        told = select.select([each.stderr for each in spares], [], [], 1)[0]
+        told = select.select(errors, [], [], 0)[0]
         self.assertEqual(1, len(told))
         spares.sort(key=lambda each: each.stderr not in told)
         night.spare = spares[0]
         night.promote()
         night.spare = spares[1]
-        time.sleep(0.2)
+        night.light(8)
         self.assertGoesOn(night)
         self.assertOne(night)
 
     def test_stands_still(self):
         """A program that is stopped is not dead: nobody sends in its place."""
         night = self.begun(b"go\n")
-        night.processes[-1].send_signal(signal.SIGSTOP)
-        time.sleep(0.1)
+        stand_still(night.processes[-1].pid)
+        night.ear.settle()
         heard = len(night.heard)
         time.sleep(0.4)
         self.assertEqual(heard, len(night.heard))

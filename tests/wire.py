@@ -1,11 +1,14 @@
 """Datagrams on this machine: sockets that receive them, and where a packet has its fields."""
 
+import contextlib
 import os
 import pty
+import random
 import select
 import shutil
 import socket
 import subprocess
+from pathlib import Path
 
 from program import FolderTest
 
@@ -19,6 +22,18 @@ def receiving(host="127.0.0.1"):
     receiver.setsockopt(socket.SOL_SOCKET, socket.SO_RCVBUF, 1 << 22)
     receiver.bind((host, 0))
     return receiver
+
+
+def free_port():
+    """A port of 127.0.0.1 that nothing is bound on, for a program that binds it later: none of
+    those that the system gives to whoever asks for any."""
+    least = int(Path("/proc/sys/net/ipv4/ip_local_port_range").read_text().split()[0])
+    while True:
+        port = random.randrange(least // 2, least)
+        with socket.socket(socket.AF_INET, socket.SOCK_DGRAM) as probe:
+            with contextlib.suppress(OSError):
+                probe.bind(("127.0.0.1", port))
+                return port
 
 
 def address_of(receiver):

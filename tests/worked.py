@@ -235,6 +235,17 @@ def heard(name):
     return [datagram_in(row["Datagram"]) for row in rows], text(*lines, *codes(last["Reply"]))
 
 
+def watched(name):
+    """The lines of an example, and what `watch` prints of them."""
+    lines, printed = [], []
+    for row in table(name).rows:
+        (moment,) = codes(row["Moment"])
+        datagram = datagram_in(row["Datagram"]) if row["Datagram"] else b""
+        lines.append(f"{moment} {datagram.hex()}")
+        printed += [f"{moment} {each}" for each in codes(row["Printed"])]
+    return text(*lines), text(*printed)
+
+
 def numbered(name, head):
     """Each number that an example's rows name, alone or as `FIRST to LAST`, with the reply of its row."""
     found = {}

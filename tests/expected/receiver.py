@@ -112,4 +112,5 @@ class Receiver:
             if data.priority == first:
                 for place, byte in enumerate(data.slots):
                     shown[place] = max(shown[place], byte)
+        shown = shown.rstrip(b"\0")
         return "slots" + "".join(f" {n}:{byte}" for n, byte in enumerate(shown, 1) if byte)

@@ -3,6 +3,7 @@ machine to play it from."""
 
 import argparse
 import os
+import re
 import select
 import signal
 import socket
@@ -12,17 +13,30 @@ import time
 import uuid
 from pathlib import Path
 
-from cueplayer_tools.addresses import LOOPBACK, bound_socket, port_number
+from cueplayer_tools.addresses import bound_socket
 from cueplayer_tools.cid_lock import holder
 from cueplayer_tools.console_cid import console_cid
-from cueplayer_tools.cue_list import read_show
+from cueplayer_tools.cue_list import Show, read_show
 from cueplayer_tools.desk_folder import FolderNight
 from cueplayer_tools.desk_heard import HeardNight
 from cueplayer_tools.desk_levels import LevelReader, Way
+from cueplayer_tools.desk_doors import WordDoor
+from cueplayer_tools.desk_network import (
+    add_midi,
+    add_network,
+    check_network,
+    pin_door,
+    tell_door,
+    warnings,
+)
 from cueplayer_tools.desk_night import Night
+from cueplayer_tools.desk_press import USUAL_DOUBLE_GO, MoveGuard
 from cueplayer_tools.desk_server import DeskServer
 from cueplayer_tools.desk_view import show_view
+from cueplayer_tools.midi_port import MidiPort
+from cueplayer_tools.midi_show import Wanted
 from cueplayer_tools.night_folder import NightFolder
+from cueplayer_tools.osc_feedback import Feedback
 from cueplayer_tools.osc_port import OscPort
 from cueplayer_tools.targets import target
 from cueplayer_tools.teller import Teller, leave_all
@@ -34,6 +48,7 @@ END_PATIENCE = 10.0
 WATCH_EVERY = 0.05
 # Of what `live` prints: hours of it, where its disk stands still.
 MOST_REPLIES = 100_000
+MOST_DOUBLE_GO = 10_000
 # Words of `live`, which a desk on another's night does not take.
 NIGHT_WORDS = ("show", "to", "interface", "any_route", "ttl", "name", "cid", "priority", "base")
 NIGHT_WORDS += ("record", "replies")
@@ -85,18 +100,14 @@ def _add_way(parser: argparse.ArgumentParser) -> None:
 
 def _add_page(parser: argparse.ArgumentParser) -> None:
     """The options of the page, also where the night is another's."""
+    add_network(parser)
+    add_midi(parser)
     parser.add_argument(
-        "--port",
-        metavar="N",
-        type=port_number,
-        default=0,
-        help="of the page; left out, the system chooses one",
-    )
-    parser.add_argument(
-        "--osc",
-        metavar="PORT",
-        type=port_number,
-        help="take Open Sound Control too, on this machine alone",
+        "--double-go",
+        metavar="MS",
+        type=_milliseconds,
+        default=round(USUAL_DOUBLE_GO * 1000),
+        help="a second GO within so many milliseconds is refused (400); 0 takes each",
     )
     parser.add_argument(
         "--grid",
@@ -105,10 +116,18 @@ def _add_page(parser: argparse.ArgumentParser) -> None:
     )
 
 
+def _milliseconds(word: str) -> int:
+    """A time of at most ten seconds."""
+    if re.fullmatch(r"\d{1,5}", word, re.ASCII) and int(word) <= MOST_DOUBLE_GO:
+        return int(word)
+    raise argparse.ArgumentTypeError(f"no time from 0 to {MOST_DOUBLE_GO} ms: {word!r}")
+
+
 def _read_words(words: list[str]) -> argparse.Namespace:
     """The words of a desk that runs `live`, or of one that takes hold of a night."""
     parser = _parser()
     chosen = parser.parse_args(words)
+    check_network(parser, chosen)
     if chosen.night is not None:
         named = [name for name in NIGHT_WORDS if getattr(chosen, name) is not None]
         given = [name.replace("_", "-") for name in named]
@@ -139,14 +158,33 @@ def _replies(words: argparse.Namespace, tell: Teller) -> Teller:
 
 
 def _take_osc(night: HeardNight, receiver: socket.socket) -> None:
-    """Takes Open Sound Control as `tools/osc` does."""
+    """Takes Open Sound Control as `tools/osc` does, and tells those who ask what changes."""
     port = OscPort(receiver, lambda text: night.refuse(f"OSC: {text}", "osc"))
+    feedback = Feedback(night, receiver)
+    port.ask = feedback.ask
+    threading.Thread(target=feedback.serve, daemon=True).start()
     poll = select.poll()
     poll.register(port, select.POLLIN)
     while True:
         patience = port.patience()
         poll.poll(None if patience is None else 1 + int(patience * 1000))
         port.take(night.give)
+
+
+def _take_others(night: HeardNight, receiver: socket.socket | None, midi: MidiPort | None) -> None:
+    """Takes what comes beside the pages, from here on."""
+    if receiver is not None:
+        threading.Thread(target=_take_osc, args=(night, receiver), daemon=True).start()
+    if midi is not None:
+        midi.tell = night.refuse
+        threading.Thread(target=midi.serve, args=(night.give,), daemon=True).start()
+
+
+def _midi(words: argparse.Namespace, tell: Teller) -> MidiPort | None:
+    if words.midi is None:
+        return None
+    wanted = Wanted(words.midi_device, words.midi_go, words.midi_back)
+    return MidiPort(words.midi, wanted, tell)
 
 
 class _Presses:
@@ -178,8 +216,11 @@ def _watch(night: HeardNight, server: DeskServer, presses: _Presses) -> None:
         night.watch()
         if night.state.status is not None and not is_told:
             is_told, presses.is_asked_for = True, False
-            presses.is_over = not server.was_opened
+            presses.is_over = not server.pages.was_opened
             presses.tell(f"live has ended with status {night.state.status}")
+        elif is_told and night.state.status is None:
+            # It was taken up.
+            is_told, presses.is_asked_for = False, True
         time.sleep(WATCH_EVERY)
 
 
@@ -207,6 +248,33 @@ def _heed_signals(presses: _Presses) -> None:
     signal.signal(signal.SIGHUP, signal.SIG_IGN)
 
 
+def _night(
+    words: argparse.Namespace, folder: NightFolder | None, show: Show, told: tuple[Teller, Teller]
+) -> HeardNight:
+    """The night: one of the desk's own, or that of a folder. What is told of it, and its replies,
+    go to these two."""
+    tell, replies = told
+    if folder is None:
+        night: HeardNight = Night(show, _live_words(words), tell, replies)
+    else:
+        night = FolderNight(show, folder, tell)
+    night.guard = MoveGuard(words.double_go / 1000)
+    return night
+
+
+def _tell_start(
+    words: argparse.Namespace, server: DeskServer, live: str, told: tuple[Teller, Teller]
+) -> None:
+    """Tells where the page is, and who may come."""
+    tell, tell_address = told
+    tell_address(f"desk: {server.here.address}")
+    tell(f"console {words.cid}, live is process {live}")
+    if server.elsewhere is not None:
+        server.picture = tell_door(server.elsewhere, tell_address)
+    for line in warnings(words):
+        tell(line)
+
+
 def run_desk(words: argparse.Namespace, tell: Teller, tell_address: Teller) -> int:
     """The desk of one night; the status of `live`, or 0 where the night is another's."""
     folder = _complete(words, tell)
@@ -214,27 +282,22 @@ def run_desk(words: argparse.Namespace, tell: Teller, tell_address: Teller) -> i
     way = Way([target(word) for word in words.to], words.interface, words.grid)
     if folder is None:
         _refuse_second(words.cid)
-    server = DeskServer(words.port)
-    receiver = None if words.osc is None else bound_socket((LOOPBACK, words.osc))
+    server = DeskServer(WordDoor(words.port), pin_door(words), tell)
+    receiver = None if words.osc is None else bound_socket(words.osc)
     osc = None if receiver is None else "{}:{}".format(*receiver.getsockname())
+    midi = _midi(words, tell)
     presses = _Presses(tell, is_own=folder is None)
     _heed_signals(presses)
     # Listens before the night begins, so that its first packets are heard.
     levels = LevelReader(way, words.cid, show.universes(words.base))
-    view = show_view(show, Path(words.show).name, words.base, osc)
     replies = _replies(words, tell)
-    if folder is None:
-        night: HeardNight = Night(show, _live_words(words), tell, replies)
-    else:
-        night = FolderNight(show, folder, tell)
+    night = _night(words, folder, show, (tell, replies))
     try:
-        tell_address(f"desk: {server.address}")
-        tell(f"console {words.cid}, live is process {night.live()}")
+        _tell_start(words, server, night.live(), (tell, tell_address))
         night.read()
         levels.read(night.wake)
-        server.show(night, levels, view)
-        if receiver is not None:
-            threading.Thread(target=_take_osc, args=(night, receiver), daemon=True).start()
+        server.show(night, levels, show_view(show, Path(words.show).name, words.base, osc))
+        _take_others(night, receiver, midi)
         _watch(night, server, presses)
     finally:
         # Whatever happened, no `live` of its own is left behind that nobody can play.

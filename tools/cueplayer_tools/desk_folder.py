@@ -34,8 +34,9 @@ class FolderNight(HeardNight):
         super().__init__(show, FolderInput(folder), tell, lambda line: None)
         self.folder = folder
         self.start_lines = []
-        # Whether it was told that no `live` is there.
+        # Whether it was told that no `live` is there, and whether somebody would start one.
         self.is_away_told = False
+        self.is_kept = True
         if not folder.is_played():
             raise Refused(folder.refusal())
         self.replies = folder.replies.open("rb")
@@ -91,8 +92,12 @@ class FolderNight(HeardNight):
         """Sees whether `live` still plays and answers."""
         super().watch()
         with self.changed:
-            was_told = self.is_away_told
+            was_told, was_kept = self.is_away_told, self.is_kept
             self.is_away_told = self.state.status is None and self.folder.is_away()
+            self.is_kept = not self.is_away_told or self.folder.is_kept()
+            if (was_told, was_kept) == (self.is_away_told, self.is_kept):
+                return
+            self._change()
             if was_told or not self.is_away_told:
                 return
             if self.folder.has_ended():
@@ -100,6 +105,16 @@ class FolderNight(HeardNight):
             else:
                 self.state.tell("fault", self.folder.refusal())
             self._change()
+
+    def can_resume(self) -> bool:
+        """Whether no `live` is there, and nobody starts one."""
+        return self.state.status is None and self.is_away_told and not self.is_kept
+
+    def resume(self) -> None:
+        """Goes on with the night in its folder."""
+        if not self.can_resume():
+            raise Refused("somebody keeps the night: nothing was done")
+        self.folder.start()
 
     def end(self, patience: float) -> int:
         """Leaves the night as it is."""

@@ -15,6 +15,7 @@ from collections.abc import Callable
 
 from cueplayer_tools.cue_list import Show
 from cueplayer_tools.desk_input import WHERE, FolderInput, LiveInput
+from cueplayer_tools.desk_press import FROM_HERE, GO, MoveGuard, Press
 from cueplayer_tools.desk_state import State
 from cueplayer_tools.live_links import Mended, Trouble, read_link_line
 from cueplayer_tools.live_lines import (
@@ -72,6 +73,8 @@ class HeardNight(ABC):
         self.keep = keep
         self.state = State(show)
         self.clock = Clock()
+        self.guard = MoveGuard(double_go=0.0)
+        # The number of the state.
         self.version = 0
         self.start_lines = list(START_LINES)
         # Whether `where` is still to be asked.
@@ -91,6 +94,14 @@ class HeardNight(ABC):
         """Reads what `live` says, from here on."""
 
     @abstractmethod
+    def can_resume(self) -> bool:
+        """Whether nothing plays the night, nobody is at work on that, and it can be taken up."""
+
+    @abstractmethod
+    def resume(self) -> None:
+        """Takes the night up where it was; Refused where that cannot be."""
+
+    @abstractmethod
     def end(self, patience: float) -> int:
         """Leaves the night; the status of the desk."""
 
@@ -108,6 +119,8 @@ class HeardNight(ABC):
 
     def _change(self) -> None:
         self.version += 1
+        state = self.state
+        self.guard.see(self.version, (state.is_placed, state.current, state.following))
         self.changed.notify_all()
 
     def _hear(self, line: str) -> None:
@@ -137,9 +150,10 @@ class HeardNight(ABC):
         if self.is_astray or asked in (None, WHERE):
             self._take_strange_answer(answer)
             return
+        given = self.input.given()
         self.input.answered()
         if answer.refusal is None:
-            self.state.accept(answer.moment, asked)
+            self.state.accept(answer.moment, asked, given)
         else:
             self.state.tell("refused", f"{asked}: refused, {answer.refusal}")
 
@@ -172,6 +186,7 @@ class HeardNight(ABC):
         """Answers are missing, and nobody knows which, until a `where` is answered that is asked
         from here on: those that are still to come stand before it."""
         self.is_astray = True
+        self.state.forget_moves()
         self.unsure_until = time.monotonic() + UNSURE
         self._doubt()
 
@@ -231,19 +246,25 @@ class HeardNight(ABC):
             self.state.tell("way", printable(line["others"], 300))
 
     def _hear_link(self, link: Trouble | Mended, text: str) -> None:
-        """Takes what is said of the network. What is wrong stands until it is over."""
+        """Takes what is said of the network or the record: what is wrong stands until it is
+        over."""
         if isinstance(link, Trouble):
-            self.state.trouble(link, text)
+            self.state.trouble(link, link.text if link.kind == "record" else text)
             return
         self.state.mend(link)
-        if link.about is None:
+        if link.kind == "record":
+            # That lines are missing in it has to be known behind the trouble too.
+            self.state.tell("record", text)
+        elif link.about is None:
             # The answer comes with all that is still wrong.
             self.is_to_ask = True
             self._ask_place()
 
-    def give(self, text: str) -> None:
-        """Hands a command on to `live`; Refused where it is none, or `live` cannot take it."""
+    def give(self, text: str, press: Press | None = None) -> None:
+        """Hands a command on to `live`, of a page where there is a press; Refused where it is none,
+        `live` cannot take it, or it is a move too many."""
         line = command_line(text)
+        at = time.monotonic() if press is None else press.at
         with self.changed:
             if self.state.status is not None:
                 raise Refused("the night has ended")
@@ -251,7 +272,13 @@ class HeardNight(ABC):
                 raise Refused("replies of live were lost, and the state is read: press again")
             if self._is_over():
                 raise Refused("the night is ending")
+            if line in FROM_HERE and press is not None:
+                self.guard.check_page(press, self.input.is_moving())
+            if line == GO:
+                self.guard.check_go(at)
             self.input.give(line)
+            if line == GO:
+                self.guard.go(at)
 
     def refuse(self, text: str, kind: str = "refused") -> None:
         """Tells all pages of what was refused before it came to `live`."""

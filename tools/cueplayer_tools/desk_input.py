@@ -12,7 +12,7 @@ import time
 from collections import deque
 
 from cueplayer_tools.night_folder import NightFolder
-from cueplayer_tools.words import Refused
+from cueplayer_tools.words import MOVES, Refused
 
 # Asks for the whole state of the night.
 WHERE = "where"
@@ -32,6 +32,10 @@ class Waiting:
         """The line that the next answer is to: the oldest that waits."""
         return self.waiting[0][1] if self.waiting else None
 
+    def given(self) -> float:
+        """When the oldest line that waits was handed on, by `time.monotonic()`."""
+        return self.waiting[0][0]
+
     def answered(self) -> str | None:
         """The line that an answer is to. It waits no more."""
         return self.waiting.popleft()[1] if self.waiting else None
@@ -39,6 +43,10 @@ class Waiting:
     def is_asked(self) -> bool:
         """Whether a `where` waits for its answer."""
         return any(line == WHERE for _, line in self.waiting)
+
+    def is_moving(self) -> bool:
+        """Whether a move waits for its answer."""
+        return any(line.split()[0] in MOVES for _, line in self.waiting)
 
     def forget_asked(self) -> None:
         """The last `where` was answered: what was handed on before it waits no more."""
@@ -68,6 +76,11 @@ class LiveInput(Waiting):
         again = f"/proc/self/fd/{self.theirs}"
         self.back = os.open(again, os.O_RDONLY | os.O_NONBLOCK)
         self.is_probed = False
+
+    def close(self) -> None:
+        """Nobody reads any more."""
+        os.close(self.ours)
+        os.close(self.back)
 
     def give(self, line: str) -> None:
         """Hands on a line, or refuses it: it is never handed on later."""

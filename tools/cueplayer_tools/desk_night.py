@@ -12,7 +12,7 @@ import threading
 from collections.abc import Callable
 
 from cueplayer_tools.cue_list import Show
-from cueplayer_tools.desk_heard import HeardNight
+from cueplayer_tools.desk_heard import START_LINES, HeardNight
 from cueplayer_tools.desk_input import LiveInput
 from cueplayer_tools.program import program
 from cueplayer_tools.words import Refused
@@ -50,6 +50,10 @@ class Night(HeardNight):
         """Starts `live` with these words. Once it is read, `tell` gets what it says on standard
         error, and `keep` each line that it prints; neither may wait."""
         super().__init__(show, LiveInput(), tell, keep)
+        self.words = words
+        self._begin(words)
+
+    def _begin(self, words: list[str]) -> None:
         self.output, their_output = _roomy_pipe()
         self.messages, their_messages = _roomy_pipe()
         self.readers: list[threading.Thread] = []
@@ -95,6 +99,27 @@ class Night(HeardNight):
         with self.changed:
             self.state.status = status
             self._change()
+
+    def can_resume(self) -> bool:
+        """Whether its `live` was broken off, and it has a record."""
+        state = self.state
+        is_broken = state.status not in (None, 0) and not state.is_ending
+        return is_broken and "--record" in self.words
+
+    def resume(self) -> None:
+        """Starts `live` again where its record breaks off."""
+        with self.changed:
+            if not self.can_resume():
+                raise Refused("the night cannot be taken up: nothing was done")
+            self.input.close()
+            self.input = LiveInput()
+            self.start_lines = list(START_LINES)
+            self.is_to_ask, self.is_astray, self.unsure_until = True, False, 0.0
+            self.state.status, self.state.is_late = None, False
+            self._begin([*self.words, "--resume"])
+            self._change()
+        self.read()
+        self.tell(f"the night is taken up: live is process {self.live()}")
 
     def end(self, patience: float) -> int:
         """Ends the night, and waits for `live` to tell its receivers; its status."""

@@ -1,8 +1,9 @@
 """Requests over HTTP that come whole, and in time, or not at all.
 
-Whoever is on this machine may connect, be slow, or be a thousand. One thread reads them all: a
+Whoever reaches the desk may connect, be slow, or be a thousand. One thread reads them all: a
 connection has two seconds for its request, and where too many have not sent theirs the one that
-waits longest is closed for the next. An honest page sends its request at once, so it is served.
+waits longest is closed for the next, of the same address where that has many. An honest page sends
+its request at once, so it is served.
 """
 
 import http.client
@@ -10,6 +11,7 @@ import io
 import re
 import selectors
 import socket
+import ssl
 import time
 from collections.abc import Callable
 from dataclasses import dataclass, field
@@ -20,6 +22,8 @@ LONGEST_HEAD = 8_192
 LONGEST_BODY = 200
 DEADLINE = 2.0
 MOST_CONNECTIONS = 128
+# Of one address from elsewhere.
+MOST_OF_ONE = 32
 MOST_AT_ONCE = 32
 HEAD_END = b"\r\n\r\n"
 _FIRST_LINE = re.compile(r"([A-Z]+) (\S+) HTTP/1\.[01]\r\n", re.ASCII)
@@ -83,8 +87,28 @@ class _Arrival:
     """A connection whose request has not come whole yet."""
 
     connection: socket.socket
+    address: str
     until: float
+    # Whether TLS is still agreed on.
+    is_shaking: bool = False
     data: bytearray = field(default_factory=bytearray)
+
+    def read(self) -> bool:
+        """Reads what is there; whether all has come, as far as the other side says."""
+        try:
+            if self.is_shaking:
+                self.connection.do_handshake()
+                self.is_shaking = False
+            while more := self.connection.recv(LONGEST_HEAD + LONGEST_BODY):
+                self.data += more
+                if len(self.data) > LONGEST_HEAD + LONGEST_BODY:
+                    return False
+        except (BlockingIOError, ssl.SSLWantReadError, ssl.SSLWantWriteError):
+            return False
+        except OSError:
+            # It has gone, or what it speaks is no TLS.
+            pass
+        return True
 
 
 class Entrance:
@@ -93,15 +117,20 @@ class Entrance:
     def __init__(
         self,
         listener: socket.socket,
-        take: Callable[[socket.socket, Request], None],
+        take: Callable[[socket.socket, Request, str], None],
         refuse: Callable[[socket.socket, HTTPStatus], None],
+        tls: ssl.SSLContext | None = None,
+        most_of_one: int = MOST_CONNECTIONS,
     ) -> None:
-        """`take` and `refuse` get each connection, which does not block, as their own. Neither
-        may wait."""
+        """`take` and `refuse` get each connection, which does not block, as their own, and `take`
+        the address from which it comes. Neither may wait. An address has `most_of_one` connections
+        that have not sent their request."""
         self.listener = listener
         self.listener.setblocking(False)
         self.take = take
         self.refuse = refuse
+        self.tls = tls
+        self.most_of_one = most_of_one
         # Those that came first stand first.
         self.arrivals: dict[socket.socket, _Arrival] = {}
         self.selector = selectors.DefaultSelector()
@@ -126,32 +155,52 @@ class Entrance:
     def _accept(self) -> None:
         for _ in range(MOST_AT_ONCE):
             try:
-                connection, _ = self.listener.accept()
+                connection, (address, _) = self.listener.accept()
             except (BlockingIOError, ConnectionAbortedError):
                 return
             except OSError:
                 # No descriptor is left: the oldest gives its own.
                 self._close_oldest()
                 return
-            if len(self.arrivals) >= MOST_CONNECTIONS:
-                self._close_oldest()
+            self._make_room(address)
             connection.setblocking(False)
-            self.arrivals[connection] = _Arrival(connection, time.monotonic() + DEADLINE)
-            self.selector.register(connection, selectors.EVENT_READ)
+            try:
+                self._begin(connection, address)
+            except OSError:
+                # It has gone before a word was said.
+                connection.close()
+
+    def _begin(self, connection: socket.socket, address: str) -> None:
+        if self.tls is not None:
+            connection = self.tls.wrap_socket(
+                connection, server_side=True, do_handshake_on_connect=False
+            )
+        until = time.monotonic() + DEADLINE
+        arrival = _Arrival(connection, address, until, self.tls is not None)
+        self.arrivals[connection] = arrival
+        self.selector.register(connection, selectors.EVENT_READ)
+
+    def _make_room(self, address: str) -> None:
+        """Closes the oldest where there are too many, of this address or of all."""
+        same = [each for each in self.arrivals.values() if each.address == address]
+        if len(same) >= self.most_of_one:
+            self._leave(same[0])
+            same[0].connection.close()
+        elif len(self.arrivals) >= MOST_CONNECTIONS:
+            self._close_oldest()
 
     def _read(self, arrival: _Arrival) -> None:
+        is_over = arrival.read()
         try:
-            more = arrival.connection.recv(LONGEST_HEAD + LONGEST_BODY)
-        except BlockingIOError:
-            return
-        except OSError:
-            more = b""
-        arrival.data += more
-        try:
-            request = request_in(bytes(arrival.data), not more)
+            if is_over and not arrival.data:
+                # A browser's connection to spare.
+                self._leave(arrival)
+                arrival.connection.close()
+                return
+            request = request_in(bytes(arrival.data), is_over)
             if request is not None:
                 self._leave(arrival)
-                self.take(arrival.connection, request)
+                self.take(arrival.connection, request, arrival.address)
         except Unreadable as fault:
             self._leave(arrival)
             self.refuse(arrival.connection, fault.status)
@@ -176,7 +225,7 @@ class Entrance:
         now = time.monotonic()
         for arrival in [each for each in self.arrivals.values() if each.until <= now]:
             self._leave(arrival)
-            if arrival.data:
+            if arrival.data and not arrival.is_shaking:
                 self.refuse(arrival.connection, HTTPStatus.REQUEST_TIMEOUT)
             else:
                 # A browser's connection to spare.

@@ -1,179 +1,204 @@
-"""The page of a desk over HTTP: on this machine alone, and for those alone who know its address.
-
-A page that is open gets the whole state at each change, as server-sent events, so that it may be
-closed, opened again, or open twice. Each open page has a thread of its own, and a slow one delays
-nobody. The address holds a random word; a request without it, under another host's name or sent by
-another page is refused, so that no site in the operator's browser can move light.
+"""The page of a desk over HTTP: for this machine by a word in its address, and for others by a PIN.
 
 A press has a second. The page says when it was made by the desk's clock, which it knows from the
 events; the desk takes none that is older than `PRESS_DEADLINE`, and so its answer is back within
-the second after which the page gives up.
+the second after which the page gives up. It says too which state it showed then.
 """
 
-import hmac
-import json
 import re
-import secrets
 import socket
 import threading
 import time
+from collections.abc import Callable
 from http import HTTPStatus
 from pathlib import Path
 from typing import Any
 
-from cueplayer_tools.addresses import LOOPBACK
-from cueplayer_tools.desk_levels import LevelReader
+from cueplayer_tools.desk_answers import PLAIN, answer, refuse
+from cueplayer_tools.desk_doors import Door, PinDoor, Stopped, Visit, WordDoor
 from cueplayer_tools.desk_heard import HeardNight
-from cueplayer_tools.desk_requests import Entrance, Request
-from cueplayer_tools.desk_view import state_view
+from cueplayer_tools.desk_levels import LevelReader
+from cueplayer_tools.desk_pages import Pages
+from cueplayer_tools.desk_pins import Role
+from cueplayer_tools.desk_press import Press
+from cueplayer_tools.desk_requests import MOST_CONNECTIONS, MOST_OF_ONE, Entrance, Request
 from cueplayer_tools.words import Refused, printable
 
 PAGE = Path(__file__).resolve().parent / "desk_page"
+HTML, CSS, SCRIPT = (f"text/{kind}; charset=utf-8" for kind in ("html", "css", "javascript"))
 FILES = {
-    "": ("desk.html", "text/html; charset=utf-8"),
-    "desk.css": ("desk.css", "text/css; charset=utf-8"),
-    "desk.js": ("desk.js", "text/javascript; charset=utf-8"),
+    "": ("desk.html", HTML),
+    "desk.css": ("desk.css", CSS),
+    **{name: (name, SCRIPT) for name in ("press.js", "cues.js", "faders.js", "desk.js")},
 }
-PLAIN = "text/plain; charset=utf-8"
-HEADERS = {
-    "Content-Security-Policy": (
-        "default-src 'none'; script-src 'self'; style-src 'self'; connect-src 'self'; "
-        "base-uri 'none'; form-action 'none'; frame-ancestors 'none'"
-    ),
-    "Referrer-Policy": "no-referrer",
-    "X-Content-Type-Options": "nosniff",
-    "Cross-Origin-Opener-Policy": "same-origin",
-    "Cross-Origin-Resource-Policy": "same-origin",
-    "Cache-Control": "no-store",
-    "Connection": "close",
+# For those who have shown no PIN yet.
+PIN_FILES = {
+    "": ("pin.html", HTML),
+    "desk.css": ("desk.css", CSS),
+    "pin.js": ("pin.js", SCRIPT),
 }
-MOST_PAGES = 32
-MOST_WAITING = 128
-# A page that hears nothing for longer than some of these takes the desk for lost.
-ALIVE_EVERY = 1.0
-LEVELS_EVERY = 0.1
-# So long may one page block its own thread.
-PAGE_PATIENCE = 30.0
 # In milliseconds: how old a press may be when it comes, and by how much a browser that tells no
 # fine times may be ahead.
 PRESS_DEADLINE = 750
 AHEAD = 200
 
 
-def _head(status: HTTPStatus, kind: str, more: dict[str, str]) -> bytes:
-    """The head of an answer."""
-    headers = {"Content-Type": kind, **HEADERS, **more}
-    lines = [f"HTTP/1.1 {status.value} {status.phrase}"]
-    lines += [f"{name}: {value}" for name, value in headers.items()]
-    return "\r\n".join([*lines, "", ""]).encode()
-
-
-def _answer(
-    connection: socket.socket, status: HTTPStatus, content: bytes = b"", kind: str = PLAIN
-) -> None:
-    """Answers, and closes. An answer is short enough for the system to take it at once."""
-    length = {} if status == HTTPStatus.NO_CONTENT else {"Content-Length": str(len(content))}
-    with connection:
-        try:
-            connection.sendall(_head(status, kind, length) + content)
-            connection.shutdown(socket.SHUT_WR)
-        except OSError:
-            # It has gone.
-            pass
-
-
-def _refuse(connection: socket.socket, status: HTTPStatus, told: str = "") -> None:
-    _answer(connection, status, (told or status.phrase).encode() + b"\n")
+def _read_files(files: dict[str, tuple[str, str]]) -> dict[str, tuple[bytes, str]]:
+    """Read once: no disk stands between a press and the night."""
+    return {at: ((PAGE / name).read_bytes(), kind) for at, (name, kind) in files.items()}
 
 
 class DeskServer:
     """The server of one night."""
 
-    def __init__(self, port: int) -> None:
-        self.listener = socket.socket(socket.AF_INET, socket.SOCK_STREAM)
-        try:
-            self.listener.setsockopt(socket.SOL_SOCKET, socket.SO_REUSEADDR, 1)
-            self.listener.bind((LOOPBACK, port))
-            self.listener.listen(MOST_WAITING)
-        except OSError:
-            self.listener.close()
-            raise
-        self.port = self.listener.getsockname()[1]
-        self.token = secrets.token_urlsafe(24)
-        self.pages = threading.BoundedSemaphore(MOST_PAGES)
-        self.was_opened = False
+    def __init__(
+        self, here: WordDoor, elsewhere: PinDoor | None, tell: Callable[[str], None]
+    ) -> None:
+        """`tell` gets what the operator has to know, beside the pages; it may not wait."""
+        self.here = here
+        self.elsewhere = elsewhere
+        self.tell = tell
+        self.pages = Pages(self)
+        self.is_resuming = threading.Lock()
+        # The number of the PINs.
+        self.guests = 0
+        self.picture: list[str] = []
         self.began = time.monotonic()
-        # Read once: no disk stands between a press and the night.
-        self.files = {at: ((PAGE / name).read_bytes(), kind) for at, (name, kind) in FILES.items()}
-        self.hosts = {f"{name}:{self.port}" for name in (LOOPBACK, "localhost")}
+        self.files, self.pin_files = _read_files(FILES), _read_files(PIN_FILES)
+        self.posts: dict[str, Callable[[socket.socket, Request, Visit], None]] = {
+            "command": self._take_command,
+            "pins": self._change_pins,
+            "resume": self._resume,
+        }
 
     def show(self, night: HeardNight, levels: LevelReader, view: dict[str, Any]) -> None:
         """Serves a night from here on."""
         self.night, self.levels, self.view = night, levels, view
-        entrance = Entrance(self.listener, self._take, _refuse)
-        threading.Thread(target=entrance.serve, daemon=True).start()
+        self._open(self.here, MOST_CONNECTIONS)
+        if self.elsewhere is not None:
+            self.elsewhere.pins.tell = self._tell_guests
+            self._open(self.elsewhere, MOST_OF_ONE)
 
-    @property
-    def address(self) -> str:
-        return f"http://{LOOPBACK}:{self.port}/{self.token}/"
+    def _tell_guests(self, text: str) -> None:
+        self.tell(text)
+        self.night.refuse(text, "guest")
+
+    def _open(self, door: Door, most_of_one: int) -> None:
+        def take(connection: socket.socket, request: Request, address: str) -> None:
+            self._take(door, connection, request, address)
+
+        entrance = Entrance(door.listener, take, refuse, door.tls, most_of_one)
+        threading.Thread(target=entrance.serve, daemon=True).start()
 
     def now(self) -> int:
         """The desk's clock, in milliseconds: monotonic, and of this night."""
         return round((time.monotonic() - self.began) * 1000)
 
-    def _refusal(self, request: Request) -> HTTPStatus | None:
-        """Why this request is not answered; None where it is one of our own page."""
-        if request.method not in ("GET", "POST"):
-            return HTTPStatus.NOT_IMPLEMENTED
-        if request.headers.get("Host") not in self.hosts:
-            return HTTPStatus.FORBIDDEN
-        origin = request.headers.get("Origin")
-        if origin is not None and origin not in {f"http://{host}" for host in self.hosts}:
-            return HTTPStatus.FORBIDDEN
-        if request.headers.get("Sec-Fetch-Site", "none") not in ("same-origin", "none"):
-            return HTTPStatus.FORBIDDEN
-        token = request.path.removeprefix("/").partition("/")[0]
-        if not hmac.compare_digest(token.encode("latin-1"), self.token.encode()):
-            return HTTPStatus.NOT_FOUND
-        return None
+    def guests_view(self) -> dict[str, Any]:
+        """How others come in, for this machine's own pages."""
+        if self.elsewhere is None:
+            return {}
+        pins = {role.value: pin for role, pin in self.elsewhere.pins.pins.items()}
+        return {"address": self.elsewhere.address, "pins": pins, "picture": self.picture}
 
-    def _take(self, connection: socket.socket, request: Request) -> None:
-        """Answers a request. This is the thread of all requests, so it waits for nothing."""
-        refusal = self._refusal(request)
-        name = request.path.removeprefix("/").partition("/")[2]
-        if refusal is not None:
-            _refuse(connection, refusal)
-        elif request.method == "POST":
-            self._take_command(connection, request, name)
-        elif name == "events":
-            self._open_page(connection)
-        elif name in self.files:
-            content, kind = self.files[name]
-            _answer(connection, HTTPStatus.OK, content, kind)
-        else:
-            _refuse(connection, HTTPStatus.NOT_FOUND)
-
-    def _take_command(self, connection: socket.socket, request: Request, name: str) -> None:
-        """A command, in plain text: 204 says that it was handed on, the events what came of it."""
-        if request.headers.get("Origin") is None:
-            _refuse(connection, HTTPStatus.FORBIDDEN)
-        elif name != "command":
-            _refuse(connection, HTTPStatus.NOT_FOUND)
-        elif request.body is None:
-            _refuse(connection, HTTPStatus.REQUEST_ENTITY_TOO_LARGE)
-        elif (age := self._age(request)) is None:
-            _refuse(connection, HTTPStatus.BAD_REQUEST, "a command says when it was pressed")
-        else:
-            line = request.body.decode("latin-1")
-            try:
-                if age > PRESS_DEADLINE:
-                    raise Refused(f"pressed {age / 1000:.1f} s ago, too late: nothing was sent")
-                self.night.give(line)
-            except Refused as fault:
-                self.night.refuse(f"{printable(line, 40)}: {fault}")
-                _refuse(connection, HTTPStatus.CONFLICT, str(fault))
+    def _take(
+        self, door: Door, connection: socket.socket, request: Request, address: str
+    ) -> None:
+        """Answers a request. This is the thread of a door's requests, so it waits for nothing."""
+        try:
+            visit = door.visit(request, address)
+            if visit.role is None:
+                self._take_stranger(connection, request, visit, address)
+            elif request.method == "POST":
+                self._take_post(connection, request, visit)
+            elif visit.name == "events":
+                self.pages.open(connection, visit)
             else:
-                _answer(connection, HTTPStatus.NO_CONTENT)
+                self._send_file(connection, self.files, visit.name, HTTPStatus.NOT_FOUND)
+        except Stopped as fault:
+            refuse(connection, fault.status)
+
+    def _send_file(
+        self,
+        connection: socket.socket,
+        files: dict[str, tuple[bytes, str]],
+        name: str,
+        missing: HTTPStatus,
+    ) -> None:
+        if name not in files:
+            raise Stopped(missing)
+        content, kind = files[name]
+        answer(connection, HTTPStatus.OK, content, kind)
+
+    def _take_stranger(
+        self, connection: socket.socket, request: Request, visit: Visit, address: str
+    ) -> None:
+        """Answers who has shown no PIN yet."""
+        if request.method == "GET":
+            self._send_file(connection, self.pin_files, visit.name, HTTPStatus.UNAUTHORIZED)
+            return
+        door = self.elsewhere
+        if door is None or visit.name != "session" or request.body is None:
+            raise Stopped(HTTPStatus.UNAUTHORIZED)
+        try:
+            token = door.pins.enter(request.body.decode("latin-1").strip(), address)
+        except Refused as fault:
+            refuse(connection, HTTPStatus.FORBIDDEN, str(fault))
+        else:
+            kept = {"Set_Cookie": door.kept(token)}
+            answer(connection, HTTPStatus.NO_CONTENT, b"", PLAIN, **kept)
+
+    def _take_post(self, connection: socket.socket, request: Request, visit: Visit) -> None:
+        """What a page asks for, beside files and events."""
+        if visit.name not in self.posts:
+            raise Stopped(HTTPStatus.NOT_FOUND)
+        if visit.role != Role.PLAY:
+            refuse(connection, HTTPStatus.FORBIDDEN, "this page only watches")
+        elif request.body is None:
+            raise Stopped(HTTPStatus.REQUEST_ENTITY_TOO_LARGE)
+        else:
+            self.posts[visit.name](connection, request, visit)
+
+    def _change_pins(self, connection: socket.socket, request: Request, visit: Visit) -> None:
+        """New PINs, and everybody from elsewhere has to show one: asked for on this machine."""
+        if not visit.is_here or self.elsewhere is None:
+            raise Stopped(HTTPStatus.FORBIDDEN)
+        self.elsewhere.pins.change()
+        self.guests += 1
+        self.night.wake()
+        answer(connection, HTTPStatus.NO_CONTENT)
+
+    def _resume(self, connection: socket.socket, request: Request, visit: Visit) -> None:
+        """Takes up a night that was broken off, which takes a while: what comes of it is told."""
+        if self.is_resuming.acquire(blocking=False):
+            threading.Thread(target=self._resume_night, daemon=True).start()
+        answer(connection, HTTPStatus.NO_CONTENT)
+
+    def _resume_night(self) -> None:
+        try:
+            self.night.resume()
+        except (Refused, OSError) as fault:
+            self.night.refuse(f"not taken up: {fault}")
+        finally:
+            self.is_resuming.release()
+
+    def _take_command(self, connection: socket.socket, request: Request, visit: Visit) -> None:
+        """A command, in plain text: 204 says that it was handed on, the events what came of it."""
+        age, seen = self._age(request), self._seen(request)
+        if age is None or seen is None:
+            told = "a command says when it was pressed, and which state its page showed"
+            refuse(connection, HTTPStatus.BAD_REQUEST, told)
+            return
+        line = (request.body or b"").decode("latin-1")
+        try:
+            if age > PRESS_DEADLINE:
+                raise Refused(f"pressed {age / 1000:.1f} s ago, too late: nothing was sent")
+            self.night.give(line, Press(time.monotonic() - age / 1000, seen))
+        except Refused as fault:
+            self.night.refuse(f"{printable(line, 40)}: {fault}")
+            refuse(connection, HTTPStatus.CONFLICT, str(fault))
+        else:
+            answer(connection, HTTPStatus.NO_CONTENT)
 
     def _age(self, request: Request) -> int | None:
         """How many milliseconds ago a command was pressed, at most; None where it does not say,
@@ -184,67 +209,10 @@ class DeskServer:
         age = self.now() - int(pressed)
         return age if age >= -AHEAD else None
 
-    def _open_page(self, connection: socket.socket) -> None:
-        if not self.pages.acquire(blocking=False):
-            _refuse(connection, HTTPStatus.SERVICE_UNAVAILABLE, "too many pages are open")
-            return
-        self.was_opened = True
-        connection.settimeout(PAGE_PATIENCE)
-        page = _OpenPage(self, connection)
-        threading.Thread(target=page.send, daemon=True).start()
-
-
-class _OpenPage:
-    """A page that is open, and gets events."""
-
-    def __init__(self, server: DeskServer, connection: socket.socket) -> None:
-        self.server = server
-        self.connection = connection
-
-    def send(self) -> None:
-        """Sends events until the page is closed."""
-        try:
-            with self.connection:
-                self.connection.sendall(_head(HTTPStatus.OK, "text/event-stream", {}))
-                self._event("show", self.server.view)
-                self._send_changes()
-        except OSError:
-            # The page was closed.
-            pass
-        finally:
-            self.server.pages.release()
-
-    def _send_changes(self) -> None:
-        night, levels = self.server.night, self.server.levels
-        version, levels_version, shown = -1, -1, {}
-        while True:
-            with night.changed:
-                night.changed.wait_for(
-                    lambda: (version, levels_version) != (night.version, levels.levels.version),
-                    ALIVE_EVERY,
-                )
-                is_new, version = version != night.version, night.version
-                state = state_view(night) if is_new else None
-            if state is not None:
-                self._event("state", state)
-            elif levels_version == levels.levels.version:
-                self._event("alive", {})
-            if levels_version != levels.levels.version:
-                levels_version = levels.levels.version
-                shown = self._send_levels(shown)
-                time.sleep(LEVELS_EVERY)
-
-    def _send_levels(self, shown: dict[int, bytes]) -> dict[int, bytes]:
-        """Sends the universes that changed since `shown`; answers what is shown now."""
-        levels = self.server.levels.levels
-        slots = dict(levels.slots)
-        changed = {at: slots[at].hex() for at in slots if slots[at] != shown.get(at)}
-        told = {"reasons": levels.reasons, "slots": changed, "others": levels.others}
-        self._event("levels", told)
-        return slots
-
-    def _event(self, kind: str, data: dict[str, Any]) -> None:
-        """Sends an event, whose identity is the desk's clock before it was sent."""
-        text = json.dumps(data, separators=(",", ":"))
-        event = f"id: {self.server.now()}\nevent: {kind}\ndata: {text}\n\n"
-        self.connection.sendall(event.encode())
+    def _seen(self, request: Request) -> int | None:
+        """The number of the state that the page showed; None where it does not say, or there was
+        no such state yet."""
+        seen = request.headers.get("Desk-State", "")
+        if not re.fullmatch(r"[0-9]{1,15}", seen) or int(seen) > self.night.version:
+            return None
+        return int(seen)

@@ -1,5 +1,7 @@
 """The state of a night as a desk shows it: what `live` has said of it."""
 
+import math
+import time
 from collections import deque
 from dataclasses import dataclass, field
 
@@ -13,11 +15,13 @@ NOTICES_KEPT = 20
 
 @dataclass(frozen=True)
 class Notice:
-    """Something that must not be missed, with a number of its own."""
+    """Something that must not be missed, with a number of its own, and when it was told, by
+    `time.monotonic()`."""
 
     number: int
     kind: str
     text: str
+    at: float
 
 
 @dataclass
@@ -30,10 +34,11 @@ class Lost:
 
 
 @dataclass(frozen=True)
-class Fade:
-    """The latest move: its moment, and when its last channel arrives, from there."""
+class Span:
+    """A time from the latest move on: the moment of that, None where it is not known, and how long
+    it is."""
 
-    moment: int
+    moment: int | None
     whole: int
 
 
@@ -46,8 +51,10 @@ class State:
     is_placed: bool = False
     current: int | None = None
     following: int | None = None
-    # None where there was no move, or where its times are not known.
-    fade: Fade | None = None
+    # When the last channel arrives; None where there was no move, or its times are not known.
+    fade: Span | None = None
+    # When the next cue goes by itself; None where it does not.
+    follow: Span | None = None
     # The accepted `goto N in TIME` whose move is still to be told: the move, and TIME.
     timed: tuple[Move, int] | None = None
     grand: int = FULL
@@ -73,7 +80,7 @@ class State:
             # One of a flood must not drive out what else was told.
             self._forget("osc")
         self.told += 1
-        self.notices.append(Notice(self.told, kind, text))
+        self.notices.append(Notice(self.told, kind, text, time.monotonic()))
 
     def trouble(self, trouble: Trouble, line: str) -> None:
         """Takes that nodes get nothing; the line that said so first stands."""
@@ -89,8 +96,9 @@ class State:
             if each.kind != mended.kind or mended.about not in (None, each.about)
         }
 
-    def accept(self, moment: int, line: str) -> None:
-        """Takes a command that the program has accepted. A move is told by a line of its own."""
+    def accept(self, moment: int, line: str, given: float = math.inf) -> None:
+        """Takes a command that the program has accepted, and that was handed on at a time of
+        `time.monotonic()`. A move is told by a line of its own."""
         kind, *words = line.split()
         self.timed = None
         if kind in ("sub", "group"):
@@ -100,8 +108,9 @@ class State:
         elif kind == "end":
             self.is_ending = True
         elif kind in MOVES:
-            # What was refused before a move is behind us; other notices stay.
-            self._forget("refused", "osc")
+            # What was refused before a move is behind us. A second GO of a double click, which
+            # was refused behind the first, has to be seen.
+            self._forget("refused", "osc", before=given)
             if len(words) == 3:
                 move = Move(moment, thousandths_of(words[0]))
                 self.timed = move, milliseconds_of(words[2])
@@ -110,6 +119,7 @@ class State:
         """Takes a move, in its own times or its cue's."""
         self.is_placed = True
         self.current, self.following = move.cue, self.show.following(move.cue)
+        self._follow_from(move.moment)
         if self.timed is not None and self.timed[0] == move:
             whole = self.timed[1]
         elif move.cue in self.show.cues:
@@ -117,18 +127,30 @@ class State:
         else:
             self.forget_fade()
             return
-        self.fade = Fade(move.moment, whole)
+        self.fade = Span(move.moment, whole)
 
     def forget_fade(self) -> None:
         """Which move was the latest, or in which time it is made, is not known any more."""
         self.fade = self.timed = None
 
+    def forget_moves(self) -> None:
+        """Moves may have been made that were not told."""
+        self.forget_fade()
+        self._follow_from(None)
+
+    def _follow_from(self, moment: int | None) -> None:
+        """Takes when the current cue was come to; None where that is not known."""
+        cue = None if self.current is None else self.show.cues.get(self.current)
+        has_follow = cue is not None and cue.follow is not None and self.following is not None
+        self.follow = Span(moment, cue.follow) if has_follow else None
+
     def place(self, place: Place) -> None:
         """Takes the whole state anew."""
-        if place.cue != self.current:
-            self.forget_fade()
+        is_known = place.cue == self.current
         self.is_placed = True
         self.current, self.following = place.cue, place.following
+        if not is_known:
+            self.forget_moves()
         self._set_grand(place.grand)
         self.masters = dict(place.masters)
 
@@ -141,6 +163,6 @@ class State:
         self.grand = level
         self.lit_grand = level or self.lit_grand
 
-    def _forget(self, *kinds: str) -> None:
-        kept = [notice for notice in self.notices if notice.kind not in kinds]
+    def _forget(self, *kinds: str, before: float = math.inf) -> None:
+        kept = [each for each in self.notices if each.kind not in kinds or each.at >= before]
         self.notices = deque(kept, NOTICES_KEPT)

@@ -4,6 +4,7 @@ from typing import Any
 
 from cueplayer_tools.cue_list import Record, Show
 from cueplayer_tools.desk_heard import HeardNight
+from cueplayer_tools.desk_state import Span
 from cueplayer_tools.words import cue_word
 
 
@@ -18,8 +19,8 @@ def show_view(show: Show, title: str, base: int, osc: str | None) -> dict[str, A
         {
             "number": cue_word(number),
             "name": show.cues[number].name,
-            "up": show.cues[number].rise.whole,
-            "down": show.cues[number].fall.whole,
+            "up": vars(show.cues[number].rise),
+            "down": vars(show.cues[number].fall),
             "follow": show.cues[number].follow,
         }
         for number in show.order
@@ -33,17 +34,24 @@ def _spelled(cue: int | None) -> str | None:
     return None if cue is None else cue_word(cue)
 
 
+def _since(span: Span | None, now: int) -> dict[str, int | None] | None:
+    """How long a span is, and how much of it is over; that is None where it is not known."""
+    if span is None:
+        return None
+    elapsed = None if span.moment is None else max(now - span.moment, 0)
+    return {"whole": span.whole, "elapsed": elapsed}
+
+
 def state_view(night: HeardNight) -> dict[str, Any]:
     """What changes. Called with the night's lock held."""
-    state, fade = night.state, None
-    if state.fade is not None:
-        elapsed = max(night.clock.now() - state.fade.moment, 0)
-        fade = {"whole": state.fade.whole, "elapsed": elapsed}
+    state, now = night.state, night.clock.now()
     return {
+        "number": night.version,
         "current": _spelled(state.current),
         "next": _spelled(state.following),
         "placed": state.is_placed,
-        "fade": fade,
+        "fade": _since(state.fade, now),
+        "follow": _since(state.follow, now),
         "grand": state.grand,
         "lit_grand": state.lit_grand,
         "masters": dict(state.masters),
@@ -52,8 +60,11 @@ def state_view(night: HeardNight) -> dict[str, Any]:
         "skipped": state.skipped,
         "ways": list(state.ways),
         "troubles": list(state.troubles.values()),
-        "notices": [vars(notice) for notice in state.notices],
+        "notices": [
+            {"number": each.number, "kind": each.kind, "text": each.text} for each in state.notices
+        ],
         "late": state.is_late,
         "ending": state.is_ending,
         "status": state.status,
+        "resumes": night.can_resume(),
     }

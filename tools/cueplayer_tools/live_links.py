@@ -1,4 +1,5 @@
-"""What `live` says of cards, cables and routes on standard error, read a line at a time."""
+"""What `live` says of cards, cables, routes and its record on standard error, read a line at a
+time."""
 
 import re
 from dataclasses import dataclass
@@ -19,12 +20,22 @@ _ENDS = (
     ("route", re.compile(r"the route to (\S+) leads by \S+")),
     ("answer", re.compile(r"(\S+) answers")),
 )
+# Of the record: what is said of it, and what that means for who plays.
+_RECORD = {
+    "record: device fault": "the record cannot be written any more: the light goes on, but this "
+    "night cannot be taken up from here; look whether the disk is full",
+    "record: late, and the light goes on": "the record waits for its disk: the light goes on",
+}
+_RECORD_ENDS = (
+    "record: whole again",
+    "record: goes on, and a comment in it says how many lines are missing",
+)
 _FIRST_ROUTE = re.compile(r"from \S+ .*")
 
 
 @dataclass(frozen=True)
 class Trouble:
-    """Nodes get nothing: what is wrong, and of which card, route or node."""
+    """What is wrong, and of which card, route or node, or of the record."""
 
     kind: str
     about: str
@@ -40,7 +51,11 @@ class Mended:
 
 
 def read_link_line(line: str) -> Trouble | Mended | None:
-    """The meaning of a line; None where it says nothing of the network."""
+    """The meaning of a line; None where it says nothing of the network or the record."""
+    if line in _RECORD:
+        return Trouble("record", "", _RECORD[line])
+    if line in _RECORD_ENDS:
+        return Mended("record", None)
     moment = _MOMENT.match(line)
     text = line[moment.end() :] if moment else line
     for kind, pattern in _BEGINS:

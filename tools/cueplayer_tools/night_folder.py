@@ -10,11 +10,13 @@ import os
 import re
 import stat
 import struct
+import subprocess
 import termios
 import time
 import uuid
 from pathlib import Path
 
+from cueplayer_tools.program import keeper
 from cueplayer_tools.words import Refused, printable
 
 # Seconds for which a line may lie unread, and `live` be away: it is started again at once.
@@ -88,6 +90,31 @@ class NightFolder:
         elif self.away_since is None:
             self.away_since = now
         return self.away_since is not None and now - self.away_since > LATE
+
+    def is_kept(self) -> bool:
+        """Whether somebody keeps the night, and starts `live` again."""
+        try:
+            with (self.path / "lock").open("rb") as lock:
+                fcntl.flock(lock, fcntl.LOCK_SH | fcntl.LOCK_NB)
+        except BlockingIOError:
+            return True
+        except OSError:
+            pass
+        return False
+
+    def start(self) -> None:
+        """Goes on with the night, as `start` does; Refused with what that says."""
+        words = [keeper(), str(self.path), "start", "--background"]
+        done = subprocess.run(
+            words,
+            stdin=subprocess.DEVNULL,
+            stdout=subprocess.PIPE,
+            stderr=subprocess.STDOUT,
+            start_new_session=True,
+            check=False,
+        )
+        if done.returncode:
+            raise Refused(printable(done.stdout.strip().rpartition(b"\n")[2], 300))
 
     def has_ended(self) -> bool:
         """Whether the record ends with its `end` and the three ticks behind it."""

@@ -16,6 +16,11 @@ from cueplayer_tools.words import (
 )
 
 PREFIX = "/cueplayer/"
+# How the addresses begin that mean something here: ours, and of those that other makers document
+# QLab's `/go` and `/cue/NUMBER/start`, and Eos's `/eos/cue/LIST/NUMBER/fire`.
+FRONTS = (PREFIX, "/go\0", "/cue/", "/eos/cue/")
+# There is one list.
+LIST = "1"
 BUTTONS = ("go", "back", "end")
 # Far above the greatest cue number, and far below what has no thousandths any more.
 GREATEST = 1e6
@@ -73,11 +78,27 @@ def _time(argument: Argument) -> str:
     return time_word(milliseconds_of(f"{hundredths // 100}.{hundredths % 100:02}"))
 
 
+def _usual_line(message: Message) -> str | None:
+    """The line of an address that show control programs use."""
+    match message.address.split("/"):
+        case ["", "go"]:
+            line = "go"
+        case ["", "cue", number, "start"]:
+            line = f"goto {cue_word(thousandths_of(number))}"
+        case ["", "eos", "cue", cue_list, number, "fire"]:
+            if cue_list != LIST:
+                raise Refused(f"no cue list {printable(cue_list)}: there is list {LIST}")
+            line = f"goto {cue_word(thousandths_of(number))}"
+        case _:
+            raise Refused("no such address")
+    return line if _is_pressed(message.arguments) else None
+
+
 def line_of(message: Message) -> str | None:
     """The line that a message asks for; None at the release of a button."""
     arguments = message.arguments
     if not message.address.startswith(PREFIX):
-        raise Refused("no such address")
+        return _usual_line(message)
     match message.address.removeprefix(PREFIX).split("/"):
         case [button] if button in BUTTONS:
             return button if _is_pressed(arguments) else None

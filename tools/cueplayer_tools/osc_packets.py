@@ -1,4 +1,4 @@
-"""Open Sound Control 1.0: what a datagram says, or why it is refused.
+"""Open Sound Control 1.0: what a datagram says, or why it is refused; and datagrams of one's own.
 
 A datagram is a message or a bundle; all of it is read before anything of it counts, so a fault in
 one message of a bundle refuses them all. The time tag of a bundle is not waited for: what comes is
@@ -115,3 +115,21 @@ def messages_of(data: bytes, depth: int = 0) -> list[Message]:
     if depth == DEEPEST_BUNDLE:
         raise Refused("bundles within bundles, too deep")
     return [found for element in _elements(data) for found in messages_of(element, depth + 1)]
+
+
+def _padded(text: str) -> bytes:
+    data = text.encode().replace(b"\0", b"")
+    return data + bytes(4 - len(data) % 4)
+
+
+def packed(address: str, *arguments: Argument) -> bytes:
+    """A datagram with one message: texts in UTF-8, numbers as int32 or float32."""
+    tags, data = ",", b""
+    for argument in arguments:
+        if isinstance(argument, str):
+            tags, data = tags + "s", data + _padded(argument)
+        elif isinstance(argument, float):
+            tags, data = tags + "f", data + struct.pack(">f", argument)
+        else:
+            tags, data = tags + "i", data + struct.pack(">i", min(argument, 0x7FFF_FFFF))
+    return _padded(address) + _padded(tags) + data

@@ -12,12 +12,14 @@ import time
 from collections.abc import Callable
 
 from cueplayer_tools.addresses import Address
-from cueplayer_tools.osc_lines import PREFIX, lines_of
-from cueplayer_tools.osc_packets import BUNDLE
+from cueplayer_tools.osc_lines import FRONTS, PREFIX, lines_of
+from cueplayer_tools.osc_packets import BUNDLE, messages_of
 from cueplayer_tools.words import Refused, printable
 
 LONGEST_DATAGRAM = 65_535
-READABLE = (PREFIX.encode(), BUNDLE)
+READABLE = (*(front.encode() for front in FRONTS), BUNDLE)
+# Asks to be told what changes, and not to be told any more: each a message of its own.
+SUBSCRIBE, UNSUBSCRIBE = (f"{PREFIX}{word}" for word in ("subscribe", "unsubscribe"))
 # Bytes of receive buffer that are asked for; the system grants what it allows.
 ROOM = 4 << 20
 # Parts of 256 bytes that are read of one sender in a second. A fader sends some 60 datagrams.
@@ -34,6 +36,7 @@ _SIOCGSTAMP, _SO_MEMINFO, _DROPS = 0x8906, 55, 8
 _TIME, _COUNTS = struct.Struct("@ll"), struct.Struct("@9I")
 
 Give = Callable[[str], None]
+Ask = Callable[[Address, str], bool]
 
 
 class Refusals:
@@ -84,6 +87,8 @@ class OscPort:
 
     def __init__(self, receiver: socket.socket, tell: Callable[[str], None]) -> None:
         """Takes what comes to this socket. `tell` may not wait."""
+        # Takes who wants to be told, where somebody is told at all.
+        self.ask: Ask | None = None
         self.socket = receiver
         self.socket.setblocking(False)
         self.socket.setsockopt(socket.SOL_SOCKET, socket.SO_RCVBUF, ROOM)
@@ -130,7 +135,23 @@ class OscPort:
         self.spent[sender] = spent
         return spent > MOST_OF_ONE
 
+    def _asks(self, datagram: bytes, sender: Address) -> bool:
+        """Whether this was somebody who wants to be told, or not any more."""
+        word = datagram.partition(b"\0")[0].decode("latin-1")
+        if self.ask is None or word not in (SUBSCRIBE, UNSUBSCRIBE):
+            return False
+        try:
+            messages_of(datagram)
+        except Refused as refusal:
+            self.refusals.add(sender, f"{word}: {refusal}")
+            return True
+        if not self.ask(sender, word):
+            self.refusals.add(sender, f"{word}: too many are told already")
+        return True
+
     def _hand_on(self, datagram: bytes, sender: Address, give: Give) -> None:
+        if self._asks(datagram, sender):
+            return
         lines, refused = read(datagram)
         age = self._age() if lines else 0.0
         for line in lines:

@@ -15,6 +15,12 @@ def program() -> str:
     return str(SCRIPT) if SCRIPT.is_file() else os.environ.get("CUEPLAYER") or "cueplayer"
 
 
+def keeper() -> str:
+    """The script that keeps nights going."""
+    script = TOP / "cueplayer-night"
+    return str(script) if script.is_file() else "cueplayer-night"
+
+
 @dataclass(frozen=True)
 class Ended:
     """How a run ended: a status other than 0 has its reason in `told`."""

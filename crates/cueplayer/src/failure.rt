@@ -9,6 +9,8 @@ use std::io::ErrorKind;
 const INPUT_LINE: &str = "MOMENT and go, back, goto CUE, goto CUE in TIME, sub N LEVEL, \
     group N LEVEL, master LEVEL, end or tick";
 
+const WATCH_LINE: &str = "MOMENT and a datagram in hex, or MOMENT alone, in at most 3072 bytes";
+
 const SCRIPT_LINE: &str = "console BASE PRIORITY UUID, receiver UNIVERSE, \
     or MOMENT and do, tick, deliver, stray or slots";
 
@@ -55,6 +57,17 @@ impl Failure {
             _ => Remark::new(),
         };
         Failure { fault, remark }
+    }
+
+    /// A watch of lines of standard input, whose output the system refused for a reason.
+    pub fn of_watch(fault: RunFault, output: Option<ErrorKind>) -> Failure {
+        match fault {
+            RunFault::Line(_) => Failure {
+                fault,
+                remark: plain(WATCH_LINE),
+            },
+            _ => Failure::of_run(fault, &[], output),
+        }
     }
 
     /// A rehearsal of this script over this show.

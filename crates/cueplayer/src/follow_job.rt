@@ -15,11 +15,12 @@ use crate::start_lines::{Followed, Place, Recorded, tell_start};
 use cueplayer_faults::RunFault;
 use cueplayer_live::{Night, Pause, Silent};
 use fade_core::{Fader, StepFader};
+use live_machine::NightInput;
 use record_head::{Difference, RecordHead};
 use sacn_source::Identity;
 use std::cell::RefCell;
 use std::time::Instant;
-use system_devices::{AppendedLines, CardSender, CidLock, DeviceFault, Network};
+use system_devices::{AppendedLines, CardSender, CidLock, DeviceFault, Keyboard, Network};
 use targets::TargetLink;
 
 // What a backup plays, and whom it follows.
@@ -161,7 +162,8 @@ fn booth_of<'a>(
     } = devices;
     let record = begin_record(rt, words, record, opening, &mut screen)?;
     let start = now(rt)?;
-    let booth = LiveBooth::new(rt, start, input, words.ends_with_input, record, screen);
+    let input = NightInput::new(Keyboard::new(rt, input), words.ends_with_input);
+    let booth = LiveBooth::new(rt, start, input, record, screen);
     Ok((booth, network, lock))
 }
 
@@ -244,7 +246,7 @@ fn follow<F: Fader>(
 {
     for _turn in 0..u64::MAX {
         match night.follow(main, link) {
-            Pause::Asked => night.show_place(main.booth()),
+            Pause::Asked => night.show_place(main.booth(), link),
             Pause::Ended => return Ok(()),
             Pause::Other => return Err(JobFault::Record(Refusal::main_line(main.number()))),
         }

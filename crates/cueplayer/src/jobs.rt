@@ -1,4 +1,4 @@
-ghost use Rattle.std.specs.Prelude.{◌≡◌, ◌≤◌, IfOk};
+ghost use Rattle.std.specs.Prelude.{◌≡◌, ◌≤◌, All, IfOk};
 ghost use Rattle.cueplayer_words.specs.Job.{IsInRange};
 ghost use Rattle.cueplayer.specs.Source.{source_name};
 
@@ -16,6 +16,7 @@ use cueplayer_faults::RunFault;
 use cueplayer_play::play;
 use cueplayer_rehearse::rehearse_text;
 use cueplayer_runs::{check, listen, look, slots};
+use cueplayer_watch::watch;
 use cueplayer_words::{Job, Name, Night};
 use devices::Output;
 use fade_core::StepFader;
@@ -79,6 +80,7 @@ pub fn run(rt: &HostRuntime, job: Job) -> Result<(), JobFault>
             universe,
             count,
         } => ends(listen_at(rt, at, universe, count)),
+        Job::Watch { universes } => ends(watch_lines(rt, universes.as_slice())),
     }
 }
 
@@ -203,6 +205,18 @@ fn listen_at(rt: &HostRuntime, at: ([u8; 4], u16), universe: u16, count: u32) ->
             Some(kind) => Err(of_socket(kind)),
             None => Err(Failure::of_run(fault, &[], out.failure())),
         },
+    }
+}
+
+// Watches universes by the lines of standard input.
+fn watch_lines(rt: &HostRuntime, universes: &[u16]) -> Result<(), Failure>
+    requires { All (λ u. (1 ≤ u) × (u ≤ 63999)) universes.now }
+{
+    let mut input = SystemInput::new(rt.stdin());
+    let mut out = SystemOutput::new(rt.stdout());
+    match watch(rt.alloc(), &mut input, universes, &mut out) {
+        Ok(()) => Ok(()),
+        Err(fault) => Err(Failure::of_watch(fault, out.failure())),
     }
 }
 

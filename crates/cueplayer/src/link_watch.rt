@@ -2,14 +2,12 @@ use crate::cards::host_text;
 use crate::network_lines::{NetworkLine, push_no_route, push_route, push_source};
 use crate::screen::Screen;
 use crate::start_lines::clock_text;
+use live_machine::TURN;
 use std::cell::RefCell;
 use std::fmt::Write;
 use std::time::Instant;
 use system_devices::{MOST_SOURCES, Network, Path, PathState, Source, SourceState};
 use targets::MOST_TARGETS;
-
-/// The cards are looked at each so many milliseconds.
-pub const TURN: u64 = 500;
 
 // What is wrong with the way to a host.
 #[derive(Clone, Copy, Debug, Default, PartialEq, Eq)]

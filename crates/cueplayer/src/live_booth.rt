@@ -1,15 +1,16 @@
 ghost use Rattle.std.specs.Prelude.{[]};
 
-use crate::link_watch::{LinkWatch, TURN};
+use crate::link_watch::LinkWatch;
 use crate::remark::{Remark, push_shown};
 use crate::screen::Screen;
 use arrayvec::ArrayVec;
 use ascii_text::{Words, moment};
 use cueplayer_live::{Booth, Heard};
-use devices::LinkFault;
+use devices::{Link, LinkFault};
 use live_input::Reason;
+use live_machine::{Came, MachineInput, NightClock, NightInput};
 use std::time::Instant;
-use system_devices::{Came, Record, TypedInput};
+use system_devices::{Keyboard, Record, SystemClock};
 
 // Told where the input ends and the night goes on.
 const INPUT_ENDED: &[u8] = b"input ended: the light holds; SIGTERM to the program ends the night \
@@ -26,18 +27,10 @@ const TYPED_END: &[u8] = b"type end to end the night\n";
 #[derive(Drop)]
 pub struct LiveBooth<'a> {
     rt: &'a HostRuntime,
-    // The clock's moment was `moment` then.
-    start: Instant,
-    moment: u64,
-    input: TypedInput,
-    // The night ends where its input ends.
-    ends_with_input: bool,
+    clock: NightClock<SystemClock<'a>>,
+    input: NightInput<Keyboard<'a>>,
     // When the input ended, until that is told.
     input_ended: Option<u64>,
-    // What was typed while the night followed a main, and is of this night.
-    typed: ArrayVec<u8, 4096>,
-    // And then the input ended.
-    has_ended: bool,
     record: Record,
     screen: Screen,
     watch: Option<LinkWatch<'a>>,
@@ -48,21 +41,16 @@ impl<'a> LiveBooth<'a> {
     pub fn new(
         rt: &'a HostRuntime,
         start: Instant,
-        input: TypedInput,
-        ends_with_input: bool,
-        record: Record,
+        input: NightInput<Keyboard<'a>>,
+        night_record: Record,
         screen: Screen,
     ) -> Self {
         LiveBooth {
             rt,
-            start,
-            moment: 0,
+            clock: NightClock::new(SystemClock::new(rt, start), 0),
             input,
-            ends_with_input,
             input_ended: None,
-            typed: ArrayVec::new(),
-            has_ended: false,
-            record,
+            record: night_record,
             screen,
             watch: None,
         }
@@ -88,7 +76,7 @@ impl<'a> LiveBooth<'a> {
     /// Keeps a line of a main's record: none is dropped where that may take time.
     pub fn keep_led(&mut self, line: &[u8], may_wait: bool) {
         if let Some(led) = moment_in(&mut Words::new(line)) {
-            self.moment = led;
+            self.clock.start = led;
         }
         if may_wait {
             self.record.copy(line, self.screen.messages());
@@ -103,9 +91,9 @@ impl<'a> LiveBooth<'a> {
         milliseconds: u64,
         block: &mut [u8; 4096],
     ) -> Result<Came, LinkFault> {
-        self.look(self.moment);
+        self.look(self.clock.start);
         self.screen.hand_on();
-        self.input.wait(self.rt, milliseconds, block)
+        self.input.input.wait(milliseconds, block)
     }
 
     /// Tells that a line which was typed while the night follows a main is not carried out.
@@ -119,26 +107,10 @@ impl<'a> LiveBooth<'a> {
     }
 
     /// The night goes on by itself from now on, with this that was typed and is not answered yet.
-    pub fn lead(&mut self, now: Instant, typed: &[u8], has_ended: bool) {
-        self.start = now;
-        self.typed.clear();
-        let _ = self.typed.try_extend_from_slice(typed);
-        self.has_ended = has_ended;
-    }
-
-    // What was typed before the night led, then that the input ended; then what is typed.
-    fn next_typed(&mut self, milliseconds: u64, block: &mut [u8; 4096]) -> Result<Came, LinkFault> {
-        let count = self.typed.len();
-        if count > 0 {
-            block[..count].copy_from_slice(self.typed.as_slice());
-            self.typed.clear();
-            return Ok(Came::Bytes(count));
-        }
-        if self.has_ended {
-            self.has_ended = false;
-            return Ok(Came::End);
-        }
-        self.input.wait(self.rt, milliseconds, block)
+    pub fn lead(&mut self, now: Instant, typed: ArrayVec<u8, 4096>, has_ended: bool) {
+        self.clock.clock.start = now;
+        self.input.held = typed;
+        self.input.has_ended = has_ended;
     }
 
     /// Hands on what waits, at the end of the night, and waits for writers.
@@ -159,7 +131,7 @@ impl<'a> LiveBooth<'a> {
 
     // The input ended at this moment.
     fn end_input(&mut self, moment: u64) {
-        if !self.ends_with_input {
+        if !self.input.ends_night {
             self.input_ended = Some(moment);
         }
     }
@@ -176,40 +148,38 @@ impl Booth for LiveBooth<'_> {
       told = [];
       waited = [];
       faults = 0;
+      deeds = [];
     } };
 
     fn begin(&mut self, moment: u64) {
-        self.moment = moment;
+        self.clock.start = moment;
     }
 
     // The night asks for the moment at each turn, so what waits is offered again at each.
     fn moment(&mut self) -> Result<u64, LinkFault> {
         self.screen.hand_on();
-        let elapsed = self.start.elapsed(self.rt).map_err(|_| LinkFault)?;
-        let elapsed = u64::try_from(elapsed.as_millis()).unwrap_or(u64::MAX);
-        let moment = self.moment.saturating_add(elapsed);
+        let moment = self.clock.moment()?;
         self.look(moment);
         self.tell_input_ended(moment);
         Ok(moment)
     }
 
     fn wait(&mut self, moment: u64, due: u64, block: &mut [u8; 4096]) -> Result<Heard, LinkFault> {
-        let milliseconds = due.saturating_sub(moment).min(TURN);
-        match self.next_typed(milliseconds, block)? {
-            Came::Bytes(count) => Ok(Heard::Bytes(count.min(4096))),
-            Came::TypedEnd if !self.ends_with_input => {
+        match self.input.hear(moment, due, block)? {
+            Came::Bytes(count) => Ok(Heard::Bytes(count)),
+            Came::TypedEnd => {
                 self.screen.tell(TYPED_END);
                 Ok(Heard::Nothing)
             }
-            Came::End | Came::TypedEnd => {
+            Came::End => {
                 self.end_input(moment);
-                Ok(Heard::End(self.ends_with_input))
+                Ok(Heard::End(self.input.ends_night))
             }
             Came::Nothing => Ok(Heard::Nothing),
         }
     }
 
-    fn keep(&mut self, line: &[u8]) -> Result<(), LinkFault> {
+    fn keep<L: Link>(&mut self, line: &[u8], _link: &L) -> Result<(), LinkFault> {
         self.record.keep(line, self.screen.messages());
         if line.ends_with(b" end\n") {
             self.input_ended = None;
@@ -217,7 +187,7 @@ impl Booth for LiveBooth<'_> {
         Ok(())
     }
 
-    fn show(&mut self, line: &[u8]) -> Result<(), LinkFault> {
+    fn show<L: Link>(&mut self, line: &[u8], _link: &L) -> Result<(), LinkFault> {
         self.screen.show(line);
         let mut words = Words::new(line);
         if let Some(moment) = moment_in(&mut words)

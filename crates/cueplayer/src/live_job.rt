@@ -16,13 +16,14 @@ use cueplayer_faults::RunFault;
 use cueplayer_live::Night as LiveNight;
 use cueplayer_words::Night;
 use fade_core::{Fader, StepFader};
+use live_machine::NightInput;
 use sacn_source::Identity;
 use std::cell::RefCell;
 use std::fs::symlink_metadata;
 use std::io::ErrorKind;
 use std::time::Instant;
 use system_devices::{
-    CardSender, CidLock, Messages, Network, Pause, Record, RecordFile, TypedInput,
+    CardSender, CidLock, Keyboard, Messages, Network, Pause, Record, RecordFile, TypedInput,
     remove_unused_record,
 };
 use targets::TargetLink;
@@ -277,7 +278,8 @@ pub fn lead<F: Fader>(
         network,
     } = devices;
     let record = begin_record(rt, words, record, opening, &mut screen)?;
-    let booth = LiveBooth::new(rt, start, input, words.ends_with_input, record, screen);
+    let input = NightInput::new(Keyboard::new(rt, input), words.ends_with_input);
+    let booth = LiveBooth::new(rt, start, input, record, screen);
     let network = RefCell::new(network);
     let answer = lead_over(words, (rt, &network), booth, passed, night);
     Ok(played(answer, show, &network, None))

@@ -8,9 +8,10 @@ use arrayvec::{ArrayString, ArrayVec};
 use ascii_text::{Words, same_word};
 use cueplayer_live::{Led, MainConsole};
 use live_input::InputLine;
+use live_machine::Came;
 use std::fmt::Write;
 use std::time::Instant;
-use system_devices::{AppendedLines, Came};
+use system_devices::AppendedLines;
 
 // What is typed is waited for so long, in milliseconds, before the main's record is looked at
 // again.
@@ -111,7 +112,7 @@ impl<'a> MainRecord<'a> {
             ": goes on by itself",
         );
         let rest = self.typed.rest();
-        self.booth.lead(now, rest.as_slice(), self.input_ended);
+        self.booth.lead(now, rest, self.input_ended);
         passed
     }
 

@@ -1,6 +1,7 @@
 use arrayvec::{ArrayString, ArrayVec};
 use ascii_text::Lines;
 use cueplayer_words::{Form, Misfit};
+use live_machine::reason;
 use show_reader::ShowFault;
 use std::fmt::Write;
 use std::io::ErrorKind;
@@ -164,24 +165,4 @@ pub fn of_setup(fault: Fault) -> Remark {
         Fault::Memory => "the system refused memory",
     };
     plain(rule)
-}
-
-fn reason(kind: ErrorKind) -> &'static str {
-    match kind {
-        ErrorKind::NotFound => "there is no such file",
-        ErrorKind::PermissionDenied => "the system does not permit it",
-        ErrorKind::IsADirectory => "it is a directory",
-        ErrorKind::NotADirectory => "a part of its path is no directory",
-        ErrorKind::AddrInUse => "the address and port are in use",
-        ErrorKind::AddrNotAvailable => "this machine does not have the address",
-        ErrorKind::NetworkUnreachable => "no route leads to that network",
-        ErrorKind::HostUnreachable => "the host is not reachable",
-        ErrorKind::NetworkDown => "the network is down",
-        ErrorKind::ConnectionRefused => "nobody listens there",
-        ErrorKind::BrokenPipe => "its reader is gone",
-        ErrorKind::StorageFull => "the disk is full",
-        ErrorKind::ReadOnlyFilesystem => "the file system is read-only",
-        ErrorKind::InvalidInput => "the system does not take it",
-        _ => "the system refused",
-    }
 }

@@ -1,4 +1,5 @@
 use arrayvec::ArrayString;
+use line_queue::Notice;
 use std::fmt::Write;
 use std::fs::Metadata;
 use std::io::Stdout;
@@ -8,8 +9,10 @@ use system_devices::{BoundedOutput, DeviceFault, Messages, Names, PipedOutput, w
 const NAMES: Names = Names {
     output: "standard output",
     pipe: "CUEPLAYER_OUTPUT_PIPE",
-    mark: "",
-    lines: "replies",
+    notice: Notice {
+        mark: "",
+        lines: "replies",
+    },
 };
 
 // The bytes in the files of standard output and standard error that other processes write. Where

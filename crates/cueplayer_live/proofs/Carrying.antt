@@ -76,14 +76,14 @@ module _ (p : Production) (history : List Act) (moment : ℕ) (call : Call) (ans
 
   -- so it was carried out
   pub carried : (line : List ℕ) (s0 s1 s2 s3 : BoothState) (lost : ℕ)
-      → reading_of line ≡ At moment call → Keeps s0 s1 (line ++ 10 ∷ [])
-      → Shows s1 s2 (shown_answer moment answer) → Shows s2 s3 (cue_lines newer)
+      → reading_of line ≡ At moment call → Keeps before s0 s1 (line ++ 10 ∷ [])
+      → Shows after s1 s2 (shown_answer moment answer) → Shows after s2 s3 (cue_lines newer)
       → lost ≡ lost_of answer
       → CarriesOut p history line (seen s0 before) (seen s3 after) lost
   carried line s0 s1 s2 s3 lost reading keeps answers follows counted =
       let answered = answered_by p history moment call before after answer _ lost did refl
       counted in
-      let all = shows_more s1 s2 s3 _ _ answers follows in
+      let all = shows_more after s1 s2 s3 _ _ answers follows in
       record {
         sends = did.sends;
         offers = did.offers;
@@ -96,6 +96,10 @@ module _ (p : Production) (history : List Act) (moment : ℕ) (call : Call) (ans
         kept = rw (ap (λ (s : BoothState). s.kept) all.rest) keeps.takes;
         shown = rw (reading, ← did.answer_is, ← ap (λ (s : BoothState). s.shown) keeps.rest)
             all.takes;
+        answers = all.deeds;
+        are_shown = all.are_shown;
+        deeds_are = ap (λ (s : BoothState). s.deeds) all.rest
+            ∙ ap (λ (s : BoothState). all.deeds ++ s.deeds) keeps.rest;
         told_is = ap (λ (s : BoothState). s.told) all.rest
             ∙ ap (λ (s : BoothState). s.told) keeps.rest;
         waited_is = ap (λ (s : BoothState). s.waited) all.rest

@@ -27,14 +27,15 @@ use Rattle.live_input.specs.Night.{now, order, over, place, refusal, shown, tick
 use Rattle.live_input.specs.Stands as live
 use Rattle.live_input.specs.Told.{IsGiven, Tells}
 use Rattle.cueplayer_live.specs.declared.night.Night.{Night}
-use Rattle.cueplayer_live.specs.Booth.{BoothState, Told, begins, fails, happens, is_told, keys, refused}
+use Rattle.cueplayer_live.specs.Booth.{BoothState, Deed, Told, begins, fails, happens, is_told, keys}
+use Rattle.cueplayer_live.specs.Booth.{kept_at, refused, shown_at}
 use Rattle.cueplayer_live.specs.Booth.{waits_until}
-use Rattle.cueplayer_live.specs.Night.{IsLived, Lives, Seen, answers_since, begins_at}
+use Rattle.cueplayer_live.specs.Night.{InOrder, IsLived, Lives, Seen, answers_since, begins_at}
 use Rattle.cueplayer_live.specs.Night.{history_at, seen}
 use Rattle.cueplayer_live.specs.Night.{shown_in, told_in, told_of}
 use Rattle.cueplayer_live.specs.Night.{waited_in, waits_of}
 use Rattle.cueplayer_live.specs.Shown.{Takes, help_text, shown_of, shown_place}
-use Rattle.cueplayer_live.specs.Stands.{BreaksOff, CarriesOut, GoesOn, Shows, StandsFor}
+use Rattle.cueplayer_live.specs.Stands.{AreShown, BreaksOff, CarriesOut, GoesOn, Shows, StandsFor}
 use Rattle.cueplayer_live.specs.Stands.{Waits, told_keys}
 use Rattle.cueplayer_live.proofs.Texts.{takes_more, takes_none}
 
@@ -160,30 +161,37 @@ overs _ t = absurd t
 
 -- ---- one step
 
--- what was done since a moment was asked: what was told, offered, recorded and shown
+-- what was done since a moment was asked: what was told, offered, recorded and shown, in this order
 pub record Steps (moment : ℕ) (told : List Told) (waited : List ℕ) (sends : List Send)
-    (line text : List ℕ) (before after : Seen) : Type 0 where
+    (line text : List ℕ) (keeping : List Deed) (before after : Seen) : Type 0 where
   pub begun_is : after.booth.begun ≡ before.booth.begun
   pub happened_is : after.booth.happened ≡ asked moment ∷ before.booth.happened
   pub offered_is : after.offered ≡ before.offered ++ sends
   pub kept : Takes before.booth.kept after.booth.kept line
   pub shown : Takes before.booth.shown after.booth.shown text
+  pub showing : List Deed
+  pub are_shown : AreShown after.offered showing
+  pub deeds_are : after.booth.deeds ≡ showing ++ (keeping ++ before.booth.deeds)
   pub told_is : after.booth.told ≡ told ++ before.booth.told
   pub waited_is : after.booth.waited ≡ waited ++ before.booth.waited
   pub faults_are : after.booth.faults ≡ before.booth.faults
 
 -- something is told behind it
 pub then_tells : (moment : ℕ) (told : Told) (before middle after : BoothState)
-    {offered offers sends : List Send} {line text : List ℕ}
-    → Steps moment [] [] sends line text (seen before offered) (seen middle offers)
+    {offered offers sends : List Send} {line text : List ℕ} {keeping : List Deed}
+    → Steps moment [] [] sends line text keeping (seen before offered) (seen middle offers)
     → after ≡ is_told told middle
-    → Steps moment (told ∷ []) [] sends line text (seen before offered) (seen after offers)
+    → Steps moment (told ∷ []) [] sends line text keeping (seen before offered)
+    (seen after offers)
 then_tells moment told before middle after did is = rw is (record {
   begun_is = did.begun_is;
   happened_is = did.happened_is;
   offered_is = did.offered_is;
   kept = did.kept;
   shown = did.shown;
+  showing = did.showing;
+  are_shown = did.are_shown;
+  deeds_are = did.deeds_are;
   told_is = ap (λ others. told ∷ others) did.told_is;
   waited_is = did.waited_is;
   faults_are = did.faults_are;
@@ -191,8 +199,8 @@ then_tells moment told before middle after did is = rw is (record {
 
 -- it is waited behind it
 pub then_waits : (moment due : ℕ) (before middle : BoothState) (offered offers : List Send)
-    → Steps moment [] [] [] [] [] (seen before offered) (seen middle offers)
-    → Steps moment [] (due ∷ []) [] [] [] (seen before offered)
+    → Steps moment [] [] [] [] [] [] (seen before offered) (seen middle offers)
+    → Steps moment [] (due ∷ []) [] [] [] [] (seen before offered)
     (seen (waits_until due middle) offers)
 then_waits moment due before middle offered offers did = record {
   begun_is = did.begun_is;
@@ -200,6 +208,9 @@ then_waits moment due before middle offered offers did = record {
   offered_is = did.offered_is;
   kept = did.kept;
   shown = did.shown;
+  showing = did.showing;
+  are_shown = did.are_shown;
+  deeds_are = did.deeds_are;
   told_is = did.told_is;
   waited_is = ap (λ others. due ∷ others) did.waited_is;
   faults_are = did.faults_are;
@@ -207,26 +218,31 @@ then_waits moment due before middle offered offers did = record {
 
 -- and keys are told, where they were left out
 pub with_keys : (moment : ℕ) (ignored : Bool) (before middle after : BoothState)
-    {offered offers sends : List Send} {line text : List ℕ}
-    → Steps moment [] [] sends line text (seen before offered) (seen middle offers)
+    {offered offers sends : List Send} {line text : List ℕ} {keeping : List Deed}
+    → Steps moment [] [] sends line text keeping (seen before offered) (seen middle offers)
     → after ≡ told_keys ignored middle
-    → Steps moment (told_if ignored) [] sends line text (seen before offered) (seen after offers)
+    → Steps moment (told_if ignored) [] sends line text keeping (seen before offered)
+    (seen after offers)
 with_keys moment true before middle after did is = then_tells moment keys before middle after did is
 with_keys moment false before middle after did is = rw is did
 
 -- a text was shown, since a moment was asked
 pub shows_since : (moment : ℕ) (before asks after : BoothState) (offered : List Send)
-    {text : List ℕ} → asks ≡ happens (asked moment) before → Shows asks after text
-    → Steps moment [] [] [] [] text (seen before offered) (seen after offered)
+    {text : List ℕ} → asks ≡ happens (asked moment) before → Shows offered asks after text
+    → Steps moment [] [] [] [] text [] (seen before offered) (seen after offered)
 shows_since moment before asks after offered is shows =
-    let rest : after ≡ record (happens (asked moment) before) { shown = after.shown } =
-    shows.rest ∙ ap (λ (b : BoothState). record b { shown = after.shown }) is in
+    let shown_in : BoothState → BoothState =
+    λ b. record b { shown = after.shown; deeds = shows.deeds ++ b.deeds } in
+    let rest : after ≡ shown_in (happens (asked moment) before) = shows.rest ∙ ap shown_in is in
     record {
       begun_is = ap (λ (b : BoothState). b.begun) rest;
       happened_is = ap (λ (b : BoothState). b.happened) rest;
       offered_is = sym (append-nil offered);
       kept = rw (ap (λ (b : BoothState). b.kept) rest) (takes_none before.kept);
       shown = rw is at shows.takes;
+      showing = shows.deeds;
+      are_shown = shows.are_shown;
+      deeds_are = ap (λ (b : BoothState). b.deeds) rest;
       told_is = ap (λ (b : BoothState). b.told) rest;
       waited_is = ap (λ (b : BoothState). b.waited) rest;
       faults_are = ap (λ (b : BoothState). b.faults) rest;
@@ -237,13 +253,17 @@ pub carried_since : (p : Production) (history : List Act) (moment : ℕ) (before
     (offered offers : List Send) {line : List ℕ} {lost : ℕ} → asks ≡ happens (asked moment) before
     → (did : CarriesOut p history line (seen asks offered) (seen after offers) lost)
     → Steps moment [] [] did.sends (line ++ 10 ∷ [])
-    (shown_of p history (reading_of line) did.offers) (seen before offered) (seen after offers)
+    (shown_of p history (reading_of line) did.offers) (kept_at offered ∷ [])
+    (seen before offered) (seen after offers)
 carried_since p history moment before asks after offered offers is did = record {
   begun_is = did.begun_is ∙ ap (λ (b : BoothState). b.begun) is;
   happened_is = did.happened_is ∙ ap (λ (b : BoothState). b.happened) is;
   offered_is = did.offered_is;
   kept = rw is at did.kept;
   shown = rw is at did.shown;
+  showing = did.answers;
+  are_shown = did.are_shown;
+  deeds_are = did.deeds_are ∙ ap (λ (b : BoothState). did.answers ++ kept_at offered ∷ b.deeds) is;
   told_is = did.told_is ∙ ap (λ (b : BoothState). b.told) is;
   waited_is = did.waited_is ∙ ap (λ (b : BoothState). b.waited) is;
   faults_are = did.faults_are ∙ ap (λ (b : BoothState). b.faults) is;
@@ -259,6 +279,16 @@ one_text line older =
 more_failures : (older newer : List Send)
     → failures_of (older ++ newer) ≡ failures_of older + failures_of newer
 more_failures = sum_by-append (λ (send : Send). cond send.failed 1 0)
+
+-- ---- in which order
+
+then_shown : (first : List Send) (run : List Carried) (newer older : List Deed)
+    → AreShown (first ++ sends_of run) newer → InOrder first run older
+    → InOrder first run (newer ++ older)
+then_shown first run [] older new old = old
+then_shown first run (shown_at at ∷ newer) older new old =
+    (new.0, then_shown first run newer older new.1 old)
+then_shown first run (kept_at at ∷ newer) older new old = absurd new
 
 -- ---- what was answered since
 
@@ -320,7 +350,7 @@ module _ (p : Production) (first happened : List Happening) (moment : ℕ)
   pub lives_on : {text : Tables → List Act → List ℕ} {told : Bool → List Told} {waited : List ℕ}
       → Says answer text told waited
       → Steps moment (told_of answer) waited [] []
-      (text p.show (history_of p.show (lines_given (answers (happened ++ first))))) before after
+      (text p.show (history_of p.show (lines_given (answers (happened ++ first))))) [] before after
       → Lives p first (asked moment ∷ happened) start after lost
   lives_on {text = text} {told = told} {waited = waited} says did = record {
     run = lives.run;
@@ -333,6 +363,12 @@ module _ (p : Production) (first happened : List Happening) (moment : ℕ)
         (takes_more _ _ _ _ _ lives.kept did.kept);
     shown = rw (says.shown_is p (history_at p.show first) given lives.run)
         (takes_more _ _ _ _ _ lives.shown (rw history_is at did.shown));
+    deeds = did.showing ++ lives.deeds;
+    deeds_are = did.deeds_are ∙ ap (λ (ds : List Deed). did.showing ++ ds) lives.deeds_are
+        ∙ sym (append_assoc did.showing lives.deeds start.booth.deeds);
+    in_order = then_shown start.offered lives.run did.showing lives.deeds
+        (rw (did.offered_is ∙ append-nil before.offered ∙ lives.offered_is) at did.are_shown)
+        lives.in_order;
     told_is = did.told_is ∙ ap (λ told. told_of answer ++ told) lives.told_is
         ∙ sym (append_assoc (told_of answer) (told_in given) start.booth.told);
     waited_is = rw says.waits_are (did.waited_is ∙ ap (λ others. waited ++ others) lives.waited_is
@@ -350,11 +386,15 @@ module _ (p : Production) (first happened : List Happening) (moment : ℕ)
       → Steps moment (told_of answer) [] sends (giving.line ++ 10 ∷ [])
       (shown_of p (history_of p.show (lines_given (answers (happened ++ first))))
       (reading_of giving.line) offers)
-      before after
+      (kept_at before.offered ∷ []) before after
       → count ≡ failures_of sends → after_lost ≡ min (lost + count) 18446744073709551615
       → Lives p first (asked moment ∷ happened) start after after_lost
   lives_more given_line giving count after_lost offers sends are_offered did counted sum =
       let newest : Carried = record { line = giving.line; sends = sends; offers = offers } in
+      let offered : after.offered ≡ start.offered ++ sends_of (newest ∷ lives.run) =
+      did.offered_is ∙ ap (λ sent. sent ++ sends) lives.offered_is
+      ∙ append_assoc start.offered (sends_of lives.run) sends in
+      let deeds : List Deed = kept_at before.offered ∷ lives.deeds in
       record {
         run = newest ∷ lives.run;
         lines_are = ap (λ lines. giving.line ∷ lines) lives.lines_are
@@ -362,12 +402,17 @@ module _ (p : Production) (first happened : List Happening) (moment : ℕ)
         is_run = (rw history_is at are_offered, lives.is_run);
         begun_is = did.begun_is ∙ lives.begun_is;
         happened_is = did.happened_is ∙ ap (λ hs. asked moment ∷ hs) lives.happened_is;
-        offered_is = did.offered_is ∙ ap (λ sent. sent ++ sends) lives.offered_is
-            ∙ append_assoc start.offered (sends_of lives.run) sends;
+        offered_is = offered;
         kept = rw (one_text giving.line (lines_in lives.run))
             (takes_more _ _ _ _ _ lives.kept did.kept);
         shown = rw (giving.shown_is p (history_at p.show first) given newest lives.run)
             (takes_more _ _ _ _ _ lives.shown (rw history_is at did.shown));
+        deeds = did.showing ++ deeds;
+        deeds_are = did.deeds_are
+            ∙ ap (λ (ds : List Deed). did.showing ++ kept_at before.offered ∷ ds) lives.deeds_are
+            ∙ sym (append_assoc did.showing deeds start.booth.deeds);
+        in_order = then_shown start.offered (newest ∷ lives.run) did.showing deeds
+            (rw offered at did.are_shown) (lives.offered_is, lives.in_order);
         told_is = did.told_is ∙ ap (λ told. told_of answer ++ told) lives.told_is
             ∙ sym (append_assoc (told_of answer) (told_in given) start.booth.told);
         waited_is = rw giving.waits_none (did.waited_is ∙ lives.waited_is);
@@ -410,6 +455,9 @@ lives_waiting p first since happened start before after none lives booth_is offe
       offered_is = offered_is ∙ lives.offered_is;
       kept = rw (ap (λ (b : BoothState). b.kept) booth_is) lives.kept;
       shown = rw (same, ap (λ (b : BoothState). b.shown) booth_is) lives.shown;
+      deeds = lives.deeds;
+      deeds_are = ap (λ (b : BoothState). b.deeds) booth_is ∙ lives.deeds_are;
+      in_order = lives.in_order;
       told_is = rw same (ap (λ (b : BoothState). b.told) booth_is ∙ lives.told_is);
       waited_is = rw same (ap (λ (b : BoothState). b.waited) booth_is ∙ lives.waited_is);
       faults_are = ap (λ (b : BoothState). b.faults) booth_is ∙ lives.faults_are;
@@ -481,7 +529,7 @@ module _ {F : Type 0} (fader_stands_for : F → List Start → Type 0) where
       → (tells → (p : Production) (happened : List Happening)
       → StandsFor fader_stands_for p old happened
       → Steps moment (told (ignored_keys (answers (asked moment ∷ happened)))) waited [] []
-      (text p.show (history_of p.show (lines_given (answers happened)))) before after)
+      (text p.show (history_of p.show (lines_given (answers happened)))) [] before after)
       → (goes : GoesOn fader_stands_for tells old new before after) × (1 ≤ length goes.since)
   goes_quietly tells old new moment before after console_is lost_is input says did = (
     record {
@@ -531,6 +579,9 @@ lives_none p first before = record {
   offered_is = sym (append-nil before.offered);
   kept = takes_none before.booth.kept;
   shown = takes_none before.booth.shown;
+  deeds = [];
+  deeds_are = refl;
+  in_order = tt;
   told_is = refl;
   waited_is = refl;
   faults_are = refl;

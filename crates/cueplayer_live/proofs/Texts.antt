@@ -1,11 +1,12 @@
 -- What a booth takes.
 use Rattle.std.proofs.Common.{◌≡◌, ℕ, refl, ap, sym, ◌∙◌, arith, List, [], ◌++◌, append-nil}
-use Rattle.std.proofs.Common.{append_assoc, Ok, Err, Result}
+use Rattle.std.proofs.Common.{append_assoc, Ok, Err, Result, ◌∷◌}
 use Rattle.std.specs.Prelude.{OnErr, OnOk}
+use Rattle.devices.specs.Send.{Send}
 use Rattle.devices.specs.Tape.{Tape, with_failure, with_more}
-use Rattle.cueplayer_live.specs.Booth.{BoothState}
+use Rattle.cueplayer_live.specs.Booth.{BoothState, Deed, keeps, kept_at, shown_at, shows}
 use Rattle.cueplayer_live.specs.Shown.{Takes}
-use Rattle.cueplayer_live.specs.Stands.{Shows}
+use Rattle.cueplayer_live.specs.Stands.{AreShown, Shows}
 
 pub takes_none : (t : Tape ℕ) → Takes t t []
 takes_none t = record { never_fewer = omega arith; whole = λ _. sym (append-nil t.items) }
@@ -27,35 +28,66 @@ took t text = record { never_fewer = omega arith; whole = λ _. refl }
 failed : (t : Tape ℕ) (text : List ℕ) → Takes t (with_failure t) text
 failed t text = record { never_fewer = omega arith; whole = λ same. absurd (omega (arith, same)) }
 
--- a line was recorded
-pub record Keeps (before after : BoothState) (line : List ℕ) : Type 0 where
+-- a line was recorded when the link had been offered this
+pub record Keeps (offered : List Send) (before after : BoothState) (line : List ℕ) : Type 0 where
   pub takes : Takes before.kept after.kept line
-  pub rest : after ≡ record before { kept = after.kept }
+  pub rest : after ≡ keeps after.kept offered before
 
-pub kept_by : {E : Type 0} (r : Result (Unit {0}) E) (tells : Type 0) (s t : BoothState)
-    (line : List ℕ)
-    → OnOk r (tells → t ≡ record s { kept = with_more s.kept line })
-    → OnErr r (tells → t ≡ record s { kept = with_failure s.kept }) → tells → Keeps s t line
-kept_by (Ok done) tells s t line ok err told =
+pub kept_by : {E : Type 0} (r : Result (Unit {0}) E) (tells : Type 0) (offered : List Send)
+    (s t : BoothState) (line : List ℕ)
+    → OnOk r (tells → t ≡ keeps (with_more s.kept line) offered s)
+    → OnErr r (tells → t ≡ keeps (with_failure s.kept) offered s) → tells
+    → Keeps offered s t line
+kept_by (Ok done) tells offered s t line ok err told =
     rw (ok told) (record { takes = took s.kept line; rest = refl })
-kept_by (Err fault) tells s t line ok err told =
+kept_by (Err fault) tells offered s t line ok err told =
     rw (err told) (record { takes = failed s.kept line; rest = refl })
 
-pub shown_by : {E : Type 0} (r : Result (Unit {0}) E) (tells : Type 0) (s t : BoothState)
-    (text : List ℕ)
-    → OnOk r (tells → t ≡ record s { shown = with_more s.shown text })
-    → OnErr r (tells → t ≡ record s { shown = with_failure s.shown }) → tells → Shows s t text
-shown_by (Ok done) tells s t text ok err told =
-    rw (ok told) (record { takes = took s.shown text; rest = refl })
-shown_by (Err fault) tells s t text ok err told =
-    rw (err told) (record { takes = failed s.shown text; rest = refl })
+-- ---- what it shows
 
-pub shows_none : (s : BoothState) → Shows s s []
-shows_none s = record { takes = takes_none s.shown; rest = refl }
+one_deed : (offered : List Send) (s : BoothState) (shown : Tape ℕ) (text : List ℕ)
+    → Takes s.shown shown text → Shows offered s (shows shown offered s) text
+one_deed offered s shown text takes = record {
+  takes = takes;
+  deeds = shown_at offered ∷ [];
+  are_shown = (refl, tt);
+  rest = refl;
+}
 
-pub shows_more : (s t u : BoothState) (x y : List ℕ) → Shows s t x → Shows t u y
-    → Shows s u (x ++ y)
-shows_more s t u x y first next = record {
+pub shown_by : {E : Type 0} (r : Result (Unit {0}) E) (tells : Type 0) (offered : List Send)
+    (s t : BoothState) (text : List ℕ)
+    → OnOk r (tells → t ≡ shows (with_more s.shown text) offered s)
+    → OnErr r (tells → t ≡ shows (with_failure s.shown) offered s) → tells
+    → Shows offered s t text
+shown_by (Ok done) tells offered s t text ok err told =
+    rw (ok told) (one_deed offered s _ text (took s.shown text))
+shown_by (Err fault) tells offered s t text ok err told =
+    rw (err told) (one_deed offered s _ text (failed s.shown text))
+
+pub shows_none : (offered : List Send) (s : BoothState) → Shows offered s s []
+shows_none offered s = record {
+  takes = takes_none s.shown;
+  deeds = [];
+  are_shown = tt;
+  rest = refl;
+}
+
+all_shown : (offered : List Send) (newer older : List Deed) → AreShown offered newer
+    → AreShown offered older → AreShown offered (newer ++ older)
+all_shown offered [] older new old = old
+all_shown offered (shown_at at ∷ newer) older new old =
+    (new.0, all_shown offered newer older new.1 old)
+all_shown offered (kept_at at ∷ newer) older new old = absurd new
+
+pub shows_more : (offered : List Send) (s t u : BoothState) (x y : List ℕ) → Shows offered s t x
+    → Shows offered t u y → Shows offered s u (x ++ y)
+shows_more offered s t u x y first next = record {
   takes = takes_more s.shown t.shown u.shown x y first.takes next.takes;
-  rest = next.rest ∙ ap (λ (b : BoothState). record b { shown = u.shown }) first.rest;
+  deeds = next.deeds ++ first.deeds;
+  are_shown = all_shown offered next.deeds first.deeds next.are_shown first.are_shown;
+  rest = next.rest
+      ∙ ap (λ (b : BoothState). record b { shown = u.shown; deeds = next.deeds ++ b.deeds })
+      first.rest
+      ∙ ap (λ (ds : List Deed). record s { shown = u.shown; deeds = ds })
+      (sym (append_assoc next.deeds first.deeds s.deeds));
 }

@@ -15,7 +15,8 @@ use Rattle.live_input.specs.Keys.{has_keys}
 use Rattle.live_input.specs.Laws.{text_of}
 use Rattle.live_input.specs.Night.{Answer, Happening, answer_to, answers, asked, is_over, line_of}
 use Rattle.live_input.specs.Night.{help, lines_given, now, over, place, refusal, shown, wait}
-use Rattle.cueplayer_live.specs.Booth.{BoothState, Told, begins, fails, keys, refused}
+use Rattle.cueplayer_live.specs.Booth.{BoothState, Deed, Told, begins, fails, keys, kept_at, refused}
+use Rattle.cueplayer_live.specs.Booth.{shown_at}
 use Rattle.cueplayer_live.specs.Shown.{Takes, help_text, shown_of, shown_place}
 
 -- what a booth did, and what a link was offered
@@ -73,12 +74,26 @@ abbrev pub waited_in : List Answer → List ℕ
 waited_in [] = []
 waited_in (answer ∷ older) = waits_of answer ++ waited_in older
 
+-- ---- in which order
+
+-- each of these lines was recorded when the link had been offered what is due at the lines before
+-- it, and nothing more; and whatever was shown, was shown when it had been offered all that is due
+-- at the lines so far
+abbrev pub InOrder : List Send → List Carried → List Deed → Type 0
+InOrder first run (shown_at offered ∷ older) =
+    (offered ≡ first ++ sends_of run) × InOrder first run older
+InOrder first (newest ∷ run) (kept_at offered ∷ older) =
+    (offered ≡ first ++ sends_of run) × InOrder first run older
+InOrder first [] [] = Unit {0}
+InOrder first _ _ = ⊥
+
 -- ---- nights
 
 -- the lines that a live input gives under these happenings were carried out, after what had
 -- happened first: at each the link was offered what is due at it after the lines before, whatever
 -- sends failed; the lines were recorded, and answers, moves and what was asked for shown, as far as
--- no call of the booth failed; what is to be told was told, and it was waited wherever nothing was
+-- no call of the booth failed; each line was recorded before anything of it was offered, and shown
+-- was what is behind that; what is to be told was told, and it was waited wherever nothing was
 -- due; the clock was not set again, and neither the clock nor a wait failed; and so many packets
 -- were lost, or more than can be counted
 pub record Lives (p : Production) (first happened : List Happening) (before after : Seen)
@@ -92,6 +107,9 @@ pub record Lives (p : Production) (first happened : List Happening) (before afte
   pub kept : Takes before.booth.kept after.booth.kept (text_of (lines_in run))
   pub shown : Takes before.booth.shown after.booth.shown
       (shown_in p (history_at p.show first) (answers_since first happened) run)
+  pub deeds : List Deed
+  pub deeds_are : after.booth.deeds ≡ deeds ++ before.booth.deeds
+  pub in_order : InOrder before.offered run deeds
   pub told_is : after.booth.told ≡ told_in (answers_since first happened) ++ before.booth.told
   pub waited_is : after.booth.waited
       ≡ waited_in (answers_since first happened) ++ before.booth.waited

@@ -17,7 +17,7 @@ use Rattle.live_input.specs.Kept.{Kept}
 use Rattle.live_input.specs.Laws.{NothingIsAsked}
 use Rattle.live_input.specs.Stands as live
 use Rattle.cueplayer_live.specs.declared.night.Night.{Night}
-use Rattle.cueplayer_live.specs.Booth.{BoothState, fails, is_told, keys}
+use Rattle.cueplayer_live.specs.Booth.{BoothState, Deed, fails, is_told, kept_at, keys, shown_at}
 use Rattle.cueplayer_live.specs.Night.{Lives, Seen, seen}
 use Rattle.cueplayer_live.specs.Shown.{Takes, shown_of}
 
@@ -25,13 +25,22 @@ abbrev pub is_accepted : Answer → Bool
 is_accepted (Refused why) = false
 is_accepted _ = true
 
--- a text was shown, unless a call failed meanwhile, and nothing else was done
-pub record Shows (before after : BoothState) (text : List ℕ) : Type 0 where
-  pub takes : Takes before.shown after.shown text
-  pub rest : after ≡ record before { shown = after.shown }
+-- it showed, and recorded nothing, when the link had been offered this
+abbrev pub AreShown : List Send → List Deed → Type 0
+AreShown offered [] = Unit {0}
+AreShown offered (shown_at at ∷ older) = (at ≡ offered) × AreShown offered older
+AreShown offered (kept_at at ∷ older) = ⊥
 
--- a line was carried out after a history: the link was offered what is due at it, and it was
--- recorded and shown
+-- a text was shown when the link had been offered this, unless a call failed meanwhile, and nothing
+-- else was done
+pub record Shows (offered : List Send) (before after : BoothState) (text : List ℕ) : Type 0 where
+  pub takes : Takes before.shown after.shown text
+  pub deeds : List Deed
+  pub are_shown : AreShown offered deeds
+  pub rest : after ≡ record before { shown = after.shown; deeds = deeds ++ before.deeds }
+
+-- a line was carried out after a history: it was recorded, then the link was offered what is due at
+-- it, and then it was shown
 pub record CarriesOut (p : Production) (history : List Act) (line : List ℕ) (before after : Seen)
     (lost : ℕ) : Type 0 where
   pub sends : List Send
@@ -43,6 +52,9 @@ pub record CarriesOut (p : Production) (history : List Act) (line : List ℕ) (b
   pub kept : Takes before.booth.kept after.booth.kept (line ++ 10 ∷ [])
   pub shown : Takes before.booth.shown after.booth.shown (shown_of p history (reading_of line)
       offers)
+  pub answers : List Deed
+  pub are_shown : AreShown after.offered answers
+  pub deeds_are : after.booth.deeds ≡ answers ++ kept_at before.offered ∷ before.booth.deeds
   pub told_is : after.booth.told ≡ before.booth.told
   pub waited_is : after.booth.waited ≡ before.booth.waited
   pub faults_are : after.booth.faults ≡ before.booth.faults

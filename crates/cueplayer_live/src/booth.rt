@@ -1,10 +1,10 @@
 ghost use Rattle.std.specs.Prelude.{◌≡◌, IfOk, OnOk, OnErr};
 ghost use Rattle.devices.specs.Tape.{with_more, with_failure};
 ghost use Rattle.live_input.specs.Night.{asked};
-ghost use Rattle.cueplayer_live.specs.Booth.{BoothState, IsWithin, fails, happens, hears};
-ghost use Rattle.cueplayer_live.specs.Booth.{begins, is_told, keys, refused, waits_until};
+ghost use Rattle.cueplayer_live.specs.Booth.{BoothState, IsWithin, fails, happens, hears, keeps};
+ghost use Rattle.cueplayer_live.specs.Booth.{begins, is_told, keys, refused, shows, waits_until};
 
-use devices::LinkFault;
+use devices::{Link, LinkFault};
 use live_input::Reason;
 
 /// What a wait brought.
@@ -28,7 +28,7 @@ pub trait Booth {
     /// Contracts can see what the booth did.
     ghost tells: { Self → Type 0 };
 
-    /// What happened to the night's input, and what was kept and shown.
+    /// What happened to the night's input, and what was kept and shown, and when.
     ghost state: { Self → BoothState };
 
     /// Sets the clock: it is this moment now, in milliseconds from the start of the night.
@@ -61,29 +61,29 @@ pub trait Booth {
         ensures err { OnErr result (tells self.new → state self.new
             ≡ fails (waits_until due (state self.old))) };
 
-    /// Records a line, with its LF.
+    /// Records a line, with its LF, before anything of it is offered to this link.
     ///
     /// # Errors
     ///
     /// Where the line is not in the record. The night goes on.
-    fn keep(&mut self, line: &[u8]) -> Result<(), LinkFault>
+    fn keep<L: Link>(&mut self, line: &[u8], link: &L) -> Result<(), LinkFault>
         ensures told { tells self.new → tells self.old }
-        ensures ok { OnOk result (tells self.new → state self.new
-            ≡ record (state self.old) { kept = with_more (state self.old).kept line.now }) }
-        ensures err { OnErr result (tells self.new → state self.new
-            ≡ record (state self.old) { kept = with_failure (state self.old).kept }) };
+        ensures ok { OnOk result (tells self.new → state self.new ≡ keeps
+            (with_more (state self.old).kept line.now) (L.offered link.now) (state self.old)) }
+        ensures err { OnErr result (tells self.new → state self.new ≡ keeps
+            (with_failure (state self.old).kept) (L.offered link.now) (state self.old)) };
 
-    /// Shows a line, with its LF.
+    /// Shows a line, with its LF, behind all that is offered to this link.
     ///
     /// # Errors
     ///
     /// Where the line is not shown. The night goes on.
-    fn show(&mut self, line: &[u8]) -> Result<(), LinkFault>
+    fn show<L: Link>(&mut self, line: &[u8], link: &L) -> Result<(), LinkFault>
         ensures told { tells self.new → tells self.old }
-        ensures ok { OnOk result (tells self.new → state self.new
-            ≡ record (state self.old) { shown = with_more (state self.old).shown line.now }) }
-        ensures err { OnErr result (tells self.new → state self.new
-            ≡ record (state self.old) { shown = with_failure (state self.old).shown }) };
+        ensures ok { OnOk result (tells self.new → state self.new ≡ shows
+            (with_more (state self.old).shown line.now) (L.offered link.now) (state self.old)) }
+        ensures err { OnErr result (tells self.new → state self.new ≡ shows
+            (with_failure (state self.old).shown) (L.offered link.now) (state self.old)) };
 
     /// Tells that a typed line was refused, and why: its first 200 bytes, as they are shown.
     fn refuse(&mut self, text: &[u8], why: Reason)

@@ -47,25 +47,31 @@ pub fn carry_out<F: Fader, B: Booth, L: Link>(
         → CarriesOut p history line (seen (B.state booth.old) (L.offered link.old))
         (seen (B.state booth.new) (L.offered link.new)) result }
 {
-    let _ = booth.keep(given.text.as_slice());
+    let _ = booth.keep(given.text.as_slice(), link);
     let place = console.place();
     let performed = perform(console, given.moment, given.call, link);
-    show_answer(&performed.answer, given.moment, booth);
+    show_answer(&performed.answer, given.moment, booth, link);
     if is_accepted(&performed.answer) {
         let own = own_move(given.call, performed.current);
-        show_moves(place, console.show(), given.moment, own, booth);
+        show_moves(
+            Moves { place, own },
+            console.show(),
+            given.moment,
+            booth,
+            link,
+        );
     }
     performed.answer.lost()
 }
 
 // Shows what a console answered, where the operator wants to see it.
-fn show_answer<B: Booth>(answer: &Answer, moment: u64, booth: &mut B)
+fn show_answer<B: Booth, L: Link>(answer: &Answer, moment: u64, booth: &mut B, link: &L)
     ensures told { B.tells booth.new → B.tells booth.old }
-    ensures shows { B.tells booth.new → Shows (B.state booth.old) (B.state booth.new)
-        (shown_answer moment answer.now) }
+    ensures shows { B.tells booth.new → Shows (L.offered link.now) (B.state booth.old)
+        (B.state booth.new) (shown_answer moment answer.now) }
 {
     if is_shown(answer) {
-        let _ = booth.show(answer.line(moment).as_str().as_bytes());
+        let _ = booth.show(answer.line(moment).as_str().as_bytes(), link);
     }
 }
 
@@ -98,32 +104,45 @@ fn own_move(call: Call, current: Option<u32>) -> Option<u32>
     }
 }
 
-// Shows the moves that an accepted call made: those that were due by its moment, and its own.
-fn show_moves<B: Booth>(place: Place, show: &Show, moment: u64, own: Option<u32>, booth: &mut B)
+// The moves that an accepted call makes: those that are due behind a place, and its own.
+#[derive(Clone, Copy)]
+struct Moves {
+    place: Place,
+    own: Option<u32>,
+}
+
+// Shows the moves that an accepted call made by its moment.
+fn show_moves<B: Booth, L: Link>(due: Moves, show: &Show, moment: u64, booth: &mut B, link: &L)
     requires { moment < 2 ^ 48 }
     ensures told { B.tells booth.new → B.tells booth.old }
     ensures shows { (moves : List Move) (stopped : Bool) (time : Option ℕ)
-        → IsAt show.now place moves stopped → B.tells booth.new
-        → Shows (B.state booth.old) (B.state booth.new) (cue_lines (made moves
-        (moved_to own moment time (moves_by show.now stopped moment moves)))) }
+        → IsAt show.now due.place moves stopped → B.tells booth.new
+        → Shows (L.offered link.now) (B.state booth.old) (B.state booth.new) (cue_lines
+        (made moves (moved_to due.own moment time (moves_by show.now stopped moment moves)))) }
 {
-    show_follow_ons(place, show, moment, booth);
-    if let Some(cue) = own {
-        let _ = booth.show(cue_line(moment, cue).as_str().as_bytes());
+    show_follow_ons(due.place, show, moment, booth, link);
+    if let Some(cue) = due.own {
+        let _ = booth.show(cue_line(moment, cue).as_str().as_bytes(), link);
     }
 }
 
 // Shows the moves that are due by this moment.
-fn show_follow_ons<B: Booth>(mut place: Place, show: &Show, moment: u64, booth: &mut B)
+fn show_follow_ons<B: Booth, L: Link>(
+    mut place: Place,
+    show: &Show,
+    moment: u64,
+    booth: &mut B,
+    link: &L,
+)
     requires { moment < 2 ^ 48 }
     ensures told { B.tells booth.new → B.tells booth.old }
     ensures shows { (newer : List Move) × ((moves : List Move) (stopped : Bool)
         → IsAt show.now place moves stopped
         → moves_by show.now stopped moment moves ≡ newer ++ moves)
-        × (B.tells booth.new → Shows (B.state booth.old) (B.state booth.new)
-        (cue_lines newer)) }
+        × (B.tells booth.new → Shows (L.offered link.now) (B.state booth.old)
+        (B.state booth.new) (cue_lines newer)) }
 {
     while let Some((cue, at)) = place.follow(show, moment) {
-        let _ = booth.show(cue_line(at, cue).as_str().as_bytes());
+        let _ = booth.show(cue_line(at, cue).as_str().as_bytes(), link);
     }
 }

@@ -56,14 +56,15 @@ impl<F: Fader> Night<F> {
         Pause::Ended
     }
 
-    /// Shows where the night is, at the moment of its last line.
-    pub fn show_place<B: Booth>(&self, booth: &mut B)
+    /// Shows where the night is, at the moment of its last line, behind all that is offered to this
+    /// link.
+    pub fn show_place<B: Booth, L: Link>(&self, booth: &mut B, link: &L)
         ensures told { B.tells booth.new → B.tells booth.old }
         ensures shows { (p : Production) (happened : List Happening)
             → StandsFor F.stands_for p self.now happened → B.tells booth.new
-            → Shows (B.state booth.old) (B.state booth.new)
+            → Shows (L.offered link.now) (B.state booth.old) (B.state booth.new)
             (shown_place p.show (history_at p.show happened) (now happened)) }
     {
-        place::show_place(&self.console, self.moment(), booth);
+        place::show_place(&self.console, self.moment(), booth, link);
     }
 }

@@ -55,11 +55,11 @@ impl<F: Fader> Night<F> {
                 self.tell_keys(booth);
             }
             Given::Where(moment) => {
-                show_place(&self.console, moment, booth);
+                show_place(&self.console, moment, booth, link);
                 self.tell_keys(booth);
             }
             Given::Help => {
-                let _ = booth.show(help_text().as_bytes());
+                let _ = booth.show(help_text().as_bytes(), link);
                 self.tell_keys(booth);
             }
             Given::Refused(text, why) => booth.refuse(text.as_slice(), why),

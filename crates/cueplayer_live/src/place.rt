@@ -9,19 +9,26 @@ ghost use Rattle.cueplayer_live.specs.Stands.{Shows};
 use crate::booth::Booth;
 use console::Console;
 use console_text::where_line;
+use devices::Link;
 use fade_core::Fader;
 
 // Shows where the night is, at a moment.
-pub fn show_place<F: Fader, B: Booth>(console: &Console<F>, moment: u64, booth: &mut B)
+pub fn show_place<F: Fader, B: Booth, L: Link>(
+    console: &Console<F>,
+    moment: u64,
+    booth: &mut B,
+    link: &L,
+)
     ensures told { B.tells booth.new → B.tells booth.old }
     ensures shows { (p : Production) (history : List Act)
         → StandsFor F.stands_for p console.now history → B.tells booth.new
-        → Shows (B.state booth.old) (B.state booth.new) (shown_place p.show history moment) }
+        → Shows (L.offered link.now) (B.state booth.old) (B.state booth.new)
+        (shown_place p.show history moment) }
 {
     let current = console.current();
     let next = console.show().next(current.unwrap_or(0));
     let line = where_line(moment, current, next, console.masters());
-    let _ = booth.show(line.as_str().as_bytes());
+    let _ = booth.show(line.as_str().as_bytes(), link);
 }
 
 // The commands, a line each.

@@ -576,7 +576,7 @@ Suits s = ((list_all brings_value s.rules ≡ true) × (is_line s.name ≡ true)
 
 program_suits : Each Suits (built program).subs
 unfolding clap_on_literals
-program_suits = (inl (refl, refl, λ rows h. h), (inl (refl, refl, λ rows h. h), (inl (refl, refl, λ rows h. h), (inl (refl, refl, λ rows h. h), (inl (refl, refl, λ rows h. h), (inl (refl, refl, λ rows h. h), (inl (refl, refl, λ rows h. h), (inl (refl, refl, λ rows h. h), (inl (refl, refl, λ rows h. h), (inr refl, tt))))))))))
+program_suits = (inl (refl, refl, λ rows h. h), (inl (refl, refl, λ rows h. h), (inl (refl, refl, λ rows h. h), (inl (refl, refl, λ rows h. h), (inl (refl, refl, λ rows h. h), (inl (refl, refl, λ rows h. h), (inl (refl, refl, λ rows h. h), (inl (refl, refl, λ rows h. h), (inl (refl, refl, λ rows h. h), (inl (refl, refl, λ rows h. h), (inr refl, tt)))))))))))
 
 help_enabled : (built program).top.disable_help_subcommand ≡ false
 unfolding clap_on_literals

@@ -4,3 +4,4 @@ pub mod WordsLemmas
 mod Refusals
 mod Rows
 pub mod Targets
+pub mod Watched

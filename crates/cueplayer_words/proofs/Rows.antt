@@ -15,9 +15,10 @@ use Rattle.targets.specs.declared.target.Target.{Target}
 use Rattle.targets.specs.declared.target.Universes.{Universes}
 use Rattle.cueplayer_words.specs.declared.misfit.Form.TheVariants.{Recorded, Patience, Followed}
 use Rattle.cueplayer_words.specs.declared.misfit.Form.TheVariants.{Alone, ByCard, Resumed, Target as TargetForm}
+use Rattle.cueplayer_words.specs.declared.misfit.Form.TheVariants.{Once, Sixteen, Universe}
 use Rattle.cueplayer_words.specs.declared.job.Night.{Night}
 use Rattle.cueplayer_words.specs.declared.job.Job.TheVariants.{Check, Explain, Cues, Look, Slots}
-use Rattle.cueplayer_words.specs.declared.job.Job.TheVariants.{Play, Live, Rehearse, Listen}
+use Rattle.cueplayer_words.specs.declared.job.Job.TheVariants.{Play, Live, Rehearse, Listen, Watch}
 
 -- `check a.asc`
 abbrev check_words : List Text
@@ -299,6 +300,38 @@ rehearse_passes = refl
 rehearse_job : job_of rehearse_words ≡ Some (Rehearse (codes "a.asc") (codes "b.script"))
 unfolding clap_on_literals
 rehearse_job = refl
+
+-- `watch`, and these words behind it
+abbrev watch_words : List Text → List Text
+watch_words more = codes "cueplayer" ∷ codes "watch" ∷ more
+
+-- 17 universes, the last of them one that stands before
+abbrev seventeen : List Text
+seventeen = codes "1" ∷ codes "2" ∷ codes "3" ∷ codes "4" ∷ codes "5" ∷ codes "6" ∷ codes "7"
+    ∷ codes "8" ∷ codes "9" ∷ codes "10" ∷ codes "11" ∷ codes "12" ∷ codes "13" ∷ codes "14"
+    ∷ codes "15" ∷ codes "16" ∷ codes "1" ∷ []
+
+watch_passes : Passes (watch_words (codes "1" ∷ codes "2" ∷ []))
+unfolding clap_on_literals
+watch_passes = refl
+
+watch_job : job_of (watch_words (codes "63999" ∷ codes "01" ∷ codes "2" ∷ []))
+    ≡ Some (Watch (63999 ∷ 1 ∷ 2 ∷ []))
+unfolding clap_on_literals
+watch_job = refl
+
+nothing_watched : fault_of program (watch_words []) ≡ MissingRequiredArgument ∷ []
+unfolding clap_on_literals
+nothing_watched = refl
+
+watched_told : (misfit_of (watch_words (codes "1" ∷ codes "64000" ∷ codes "1" ∷ []))
+    ≡ Some (codes "UNIVERSE", Universe, codes "64000"))
+    × (misfit_of (watch_words (codes "0" ∷ [])) ≡ Some (codes "UNIVERSE", Universe, codes "0"))
+    × (misfit_of (watch_words (codes "7" ∷ codes "8" ∷ codes "07" ∷ []))
+    ≡ Some (codes "UNIVERSE", Once, codes "07"))
+    × (misfit_of (watch_words seventeen) ≡ Some (codes "UNIVERSE", Sixteen, codes "1"))
+unfolding clap_on_literals
+watched_told = (refl, refl, refl, refl)
 
 -- the forms of an address
 addresses : (address_of (codes "127.000.000.001:0") ≡ Some (127 ∷ 0 ∷ 0 ∷ 1 ∷ [], 0))

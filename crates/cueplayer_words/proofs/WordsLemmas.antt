@@ -85,9 +85,10 @@ pub last_line : (name : Text) → is_line name ≡ true → bytes_eq name (codes
     → bytes_eq name (codes "explain") ≡ false → bytes_eq name (codes "cues") ≡ false
     → bytes_eq name (codes "look") ≡ false → bytes_eq name (codes "slots") ≡ false
     → bytes_eq name (codes "play") ≡ false → bytes_eq name (codes "live") ≡ false
-    → bytes_eq name (codes "rehearse") ≡ false → name ≡ codes "listen"
-last_line name is a b c d e f g h =
-    let last : (bytes_eq name (codes "listen") || false) ≡ true = rw (a, b, c, d, e, f, g, h) at is in
+    → bytes_eq name (codes "rehearse") ≡ false → bytes_eq name (codes "watch") ≡ false
+    → name ≡ codes "listen"
+last_line name is a b c d e f g h i =
+    let last : (bytes_eq name (codes "listen") || false) ≡ true = rw (a, b, c, d, e, f, g, h, i) at is in
     (bytes_eq-Decides name (codes "listen")).0 (either (bytes_eq name (codes "listen")) last)
   where
     either : (b : Bool) → (b || false) ≡ true → b ≡ true

@@ -1,7 +1,7 @@
 -- The job that words ask for.
 use Rattle.std.specs.Prelude.{ℕ, ◌≤◌, List, Option, Some, None, codes, option_map}
 use Rattle.std.specs.Prelude.{Bool, true, false, ◌||◌, ◌&&◌, not, is_some, option_and_then, []}
-use Rattle.std.specs.Prelude.{if◌then◌else◌, length, nat_eq, nat_le, nat_lt, unwrap_or}
+use Rattle.std.specs.Prelude.{All, if◌then◌else◌, length, nat_eq, nat_le, nat_lt, unwrap_or}
 use Rattle.std.specs.List.{list_all}
 use Rattle.std.specs.Option.{option_map_or}
 use Rattle.std.specs.Str.{bytes_eq}
@@ -12,11 +12,12 @@ use Rattle.cueplayer_words.specs.Address.{address_of}
 use Rattle.cueplayer_words.specs.Number.{number_between}
 use Rattle.cueplayer_words.specs.Program.{program}
 use Rattle.cueplayer_words.specs.Target.{targets_of}
+use Rattle.cueplayer_words.specs.Watched.{universes_of}
 use Rattle.targets.specs.declared.target.Target.{Target}
 use Rattle.cueplayer_words.specs.declared.job.Night.{Night}
 use Rattle.cueplayer_words.specs.declared.job.Job.{Job}
 use Rattle.cueplayer_words.specs.declared.job.Job.TheVariants.{Check, Explain, Cues, Look, Slots}
-use Rattle.cueplayer_words.specs.declared.job.Job.TheVariants.{Play, Live, Rehearse, Listen}
+use Rattle.cueplayer_words.specs.declared.job.Job.TheVariants.{Play, Live, Rehearse, Listen, Watch}
 
 -- the value of an argument that has to be there: its text, read by a form
 abbrev pub value_by : {X : Type 0} → (Text → Option X) → Text → List Row → Option X
@@ -201,12 +202,17 @@ listen_of rows = listen_with (value_by address_of (codes "ADDR") rows)
     (value_by (number_between 1 63999) (codes "UNIVERSE") rows)
     (value_by (number_between 1 1000000) (codes "COUNT") rows)
 
+-- the job of `watch UNIVERSE..`
+abbrev pub watch_of : List Row → Option Job
+watch_of rows = option_map Watch (universes_of (texts_of (codes "UNIVERSES") rows))
+
 -- the numbers of a job are in the ranges that its run asks for
 abbrev pub IsInRange : Job → Type 0
 IsInRange (Listen at universe count) = (1 ≤ universe) × (universe ≤ 63999)
 IsInRange (Play night) = night.priority ≤ 200
 IsInRange (Live night record_file resumes is_spare start main_file patience ends_with_input) =
     night.priority ≤ 200
+IsInRange (Watch universes) = All (λ u. (1 ≤ u) × (u ≤ 63999)) universes
 IsInRange _ = Unit {0}
 
 -- the job of a line, by its name and the texts of its arguments
@@ -219,7 +225,8 @@ line_of line = if bytes_eq line.0 (codes "check") then check_of line.1
     else (if bytes_eq line.0 (codes "play") then play_of line.1
     else (if bytes_eq line.0 (codes "live") then live_of line.1
     else (if bytes_eq line.0 (codes "rehearse") then rehearse_of line.1
-    else (if bytes_eq line.0 (codes "listen") then listen_of line.1 else None))))))))
+    else (if bytes_eq line.0 (codes "watch") then watch_of line.1
+    else (if bytes_eq line.0 (codes "listen") then listen_of line.1 else None)))))))))
 
 -- the job of the line that clap's meaning of the program gives for the words, where each of the
 -- texts that this meaning gives has its form

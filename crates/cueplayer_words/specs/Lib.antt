@@ -1,6 +1,7 @@
 pub mod Address
 pub mod Number
 pub mod Target
+pub mod Watched
 pub mod Program
 pub mod Line
 pub mod Job

@@ -2,15 +2,16 @@
 use Rattle.std.specs.Prelude.{List, fold}
 use Rattle.clap.specs.Words.{App, Rule, new_app, with_rule, with_subcommand}
 use Rattle.cueplayer_words.specs.Program.{flag, option, repeated_option, required}
-use Rattle.cueplayer_words.specs.Program.{required_option}
+use Rattle.cueplayer_words.specs.Program.{required_option, several}
 use Rattle.cueplayer_words.specs.declared.line.Argument.{Argument}
 use Rattle.cueplayer_words.specs.declared.line.Argument.TheVariants.{Positional, Repeated, Required}
-use Rattle.cueplayer_words.specs.declared.line.Argument.TheVariants.{Flag, Optional}
+use Rattle.cueplayer_words.specs.declared.line.Argument.TheVariants.{Flag, Optional, Several}
 use Rattle.cueplayer_words.specs.declared.line.Line.{Line}
 
 -- the rule of an argument
 abbrev pub rule_of_argument : Argument → Rule
 rule_of_argument (Positional id help) = required id.now
+rule_of_argument (Several id value help) = record (several id.now) { value_names = 1 }
 rule_of_argument (Required id value help) = required_option id.now
 rule_of_argument (Repeated id value help) = repeated_option id.now
 rule_of_argument (Optional id value help) = option id.now

@@ -16,12 +16,13 @@ use Rattle.cueplayer_words.specs.Job.{has_no_record, is_source_name, texts_of}
 use Rattle.cueplayer_words.specs.Number.{number_between}
 use Rattle.cueplayer_words.specs.Program.{lines, program, rules_of}
 use Rattle.cueplayer_words.specs.Target.{read_all, target_of}
+use Rattle.cueplayer_words.specs.Watched.{misfit_of_universes}
 use Rattle.cueplayer_words.specs.declared.misfit.Form.{Form}
 use Rattle.cueplayer_words.specs.declared.misfit.Form.TheVariants.{Cue, Cid, Address, Priority}
 use Rattle.cueplayer_words.specs.declared.misfit.Form.TheVariants.{Universe, Count, Recorded}
 use Rattle.cueplayer_words.specs.declared.misfit.Form.TheVariants.{Patience, Followed, Alone}
 use Rattle.cueplayer_words.specs.declared.misfit.Form.TheVariants.{Target, Few, ByCard, SourceName}
-use Rattle.cueplayer_words.specs.declared.misfit.Form.TheVariants.{Ttl, Resumed}
+use Rattle.cueplayer_words.specs.declared.misfit.Form.TheVariants.{Ttl, Resumed, Sixteen, Once}
 use Rattle.cueplayer_words.specs.declared.misfit.Misfit.{Misfit}
 
 -- the form of an argument's text, by the argument's name; where there is none, any text will do
@@ -44,6 +45,8 @@ fits Target text = is_some (target_of text)
 fits Few text = false
 fits Priority text = is_some (number_between 0 200 text)
 fits Universe text = is_some (number_between 1 63999 text)
+fits Sixteen text = false
+fits Once text = false
 fits Count text = is_some (number_between 1 1000000 text)
 fits SourceName text = is_source_name text
 fits Ttl text = is_some (number_between 1 255 text)
@@ -87,11 +90,13 @@ abbrev pub misfit_among : Text → List Text → Option Unfit
 misfit_among id texts = option_or (option_map (λ text. (id, Few, text)) (slice_get texts 64))
     (option_map (λ text. (id, Target, text)) (result_err (read_all texts)))
 
--- the text of an argument that lacks its form: of the targets any of them
+-- the text of an argument that lacks its form: of the targets and of the universes of a watch any
+-- of them
 abbrev pub misfit_at : Text → List Row → Option Unfit
 misfit_at id rows = if bytes_eq id (codes "to")
     then misfit_among id (texts_of id rows)
-    else misfit_with id (form_in id rows) (first_of id rows)
+    else (if bytes_eq id (codes "UNIVERSES") then misfit_of_universes (texts_of id rows)
+    else misfit_with id (form_in id rows) (first_of id rows))
 
 -- each argument of a night that is there has its form
 abbrev pub NightFits : List Row → Type 0

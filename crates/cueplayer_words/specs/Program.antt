@@ -4,6 +4,7 @@ use Rattle.std.specs.Option.{option_map_or}
 use Rattle.std.specs.Str.{bytes_eq}
 use Rattle.clap.specs.Words.{App, Rule, Text, app_of, new_app, new_rule, rule_of, with_rule}
 use Rattle.clap.specs.Words.{with_subcommand}
+use Rattle.clap.specs.Lexer.{usize_max}
 use Rattle.clap.specs.declared.builder.arg.Arg.{Arg}
 use Rattle.clap.specs.declared.builder.Command.{Command}
 use Rattle.clap.specs.declared.builder.action.ArgAction.TheVariants.{Append, SetTrue}
@@ -20,6 +21,12 @@ IsLine line command = (app_of command ≡ line) × ((fields_of command).has_glob
 -- an argument that has to be there: without a flag, it is the next word
 abbrev pub required : Text → Rule
 required id = record (new_rule id) { required = true }
+
+-- an argument that is the next word and each behind it: one at least
+abbrev pub several : Text → Rule
+several id = record (required id) {
+  range = Some (record { start_inclusive = 1; end_inclusive = usize_max });
+}
 
 -- an option that has to be there: two dashes and its name, and then its value
 abbrev pub required_option : Text → Rule
@@ -72,6 +79,10 @@ abbrev pub listen_arguments : List Rule
 listen_arguments =
     required (codes "ADDR") ∷ required (codes "UNIVERSE") ∷ required (codes "COUNT") ∷ []
 
+-- `UNIVERSE..`
+abbrev pub watch_arguments : List Rule
+watch_arguments = record (several (codes "UNIVERSES")) { value_names = 1 } ∷ []
+
 -- a line, by its name and its arguments in order
 abbrev pub line : Text → List Rule → App
 line name arguments = fold with_rule (new_app name) arguments
@@ -93,6 +104,7 @@ players = line (codes "play") night_arguments ∷ line (codes "live") live_argum
 abbrev pub trials : List App
 trials = line (codes "rehearse") (show ∷ required (codes "SCRIPT") ∷ [])
     ∷ line (codes "listen") listen_arguments
+    ∷ line (codes "watch") watch_arguments
     ∷ []
 
 -- the lines of the program

@@ -1,4 +1,5 @@
-ghost use Rattle.std.specs.Prelude.{◌≡◌, ◌≤◌, IfOk, codes, is_some, length, map, option_map, true};
+ghost use Rattle.std.specs.Prelude.{[], ◌∷◌, ◌++◌};
+ghost use Rattle.std.specs.Prelude.{◌≡◌, ◌≤◌, All, IfOk, codes, is_some, length, map, option_map, true};
 ghost use Rattle.std.specs.List.{list_all};
 ghost use Rattle.std.specs.Result.{result_map_both};
 ghost use Rattle.clap.specs.Words.{all_of, first_of, found_of, rows_of};
@@ -11,13 +12,15 @@ ghost use Rattle.cueplayer_words.specs.Job.{is_source_name};
 ghost use Rattle.cueplayer_words.specs.Job.{patience_of, resumes_of, source_name_of, spare_of};
 ghost use Rattle.cueplayer_words.specs.Job.{start_of, texts_of, value_by, value_or};
 ghost use Rattle.cueplayer_words.specs.Address.{address_of};
-ghost use Rattle.cueplayer_words.specs.Misfit.{Reads, misfit_at};
+ghost use Rattle.cueplayer_words.specs.Misfit.{Reads, misfit_at, told};
+ghost use Rattle.cueplayer_words.specs.Watched.{named_behind, read_universes, universes_of};
 
 use crate::address::address;
 use crate::job::Name;
 use crate::misfit::{Form, Misfit};
 use crate::number::{TOP_UNIVERSE, number_between};
-use crate::target::target;
+use crate::target::{target, universe};
+use crate::universe_list::{MOST_UNIVERSES, UniverseList};
 use ascii_text::cue_number;
 use clap::ArgMatches;
 use std::alloc::{AllocError, Global};
@@ -312,6 +315,63 @@ pub(crate) fn universe_at<'a>(matches: &ArgMatches<'a>) -> Result<u16, Misfit<'a
         });
     };
     Ok(universe as u16)
+}
+
+/// The universes of a line that watches.
+pub(crate) fn universes_at<'a>(matches: &ArgMatches<'a>) -> Result<UniverseList, Misfit<'a>>
+    ensures value { Reads (universes_of (texts_of (codes "UNIVERSES") (rows_of (found_of matches.now))))
+        (misfit_at (codes "UNIVERSES") (rows_of (found_of matches.now))) result }
+    ensures within { IfOk result (λ list. All (λ u. (1 ≤ u) × (u ≤ 63999)) list) }
+{
+    let Some(texts) = texts_at(matches, "UNIVERSES") else {
+        return Ok(UniverseList::new());
+    };
+    if let Some(text) = texts.get(MOST_UNIVERSES) {
+        return Err(Misfit {
+            argument: "UNIVERSE",
+            form: Form::Sixteen,
+            text,
+        });
+    }
+    read_universes(texts)
+}
+
+// The universes that the texts name, or the first text that names none, or one once more.
+fn read_universes<'a>(texts: &[&'a str]) -> Result<UniverseList, Misfit<'a>>
+    requires { length texts.now ≤ 16 }
+    ensures value { result_map_both (λ list. list) told result
+        ≡ read_universes (map (λ text. text.now) texts.now) }
+    ensures within { IfOk result (λ list. All (λ u. (1 ≤ u) × (u ≤ 63999)) list) }
+{
+    let mut list = UniverseList::new();
+    for text in texts {
+        let universe = universe_behind(&list, text)?;
+        list.add(universe);
+    }
+    Ok(list)
+}
+
+// The universe that a text names behind others, none of which it is.
+fn universe_behind<'a>(before: &UniverseList, text: &'a str) -> Result<u16, Misfit<'a>>
+    ensures value { result_map_both (λ universe. before.now ++ universe ∷ []) told result
+        ≡ named_behind before.now text.now (number_between 1 63999 text.now) }
+    ensures within { IfOk result (λ universe. (1 ≤ universe) × (universe ≤ 63999)) }
+{
+    let Some(universe) = universe(text) else {
+        return Err(Misfit {
+            argument: "UNIVERSE",
+            form: Form::Universe,
+            text,
+        });
+    };
+    if before.contains(universe) {
+        return Err(Misfit {
+            argument: "UNIVERSE",
+            form: Form::Once,
+            text,
+        });
+    }
+    Ok(universe)
 }
 
 /// The count of a line that listens.

@@ -3,6 +3,7 @@ ghost use Rattle.std.specs.String.{string_bytes};
 ghost use Rattle.cueplayer_words.specs.declared.job.WordsFault.TheVariants.{Unfit, Memory};
 
 use crate::misfit::Misfit;
+use crate::universe_list::UniverseList;
 use std::alloc::{AllocError, Global};
 use std::marker::Model;
 use targets::Targets;
@@ -25,7 +26,7 @@ impl Name {
     ///
     /// # Errors
     ///
-    /// Where a growth was refused.
+    /// Where memory was refused.
     pub fn new(alloc: Global, text: &str) -> Result<Name, AllocError>
         ensures { IfOk result (λ name. name ≡ text.now) }
     {
@@ -145,6 +146,12 @@ pub enum Job {
         at: ([u8; 4], u16),
         universe: u16,
         count: u32,
+    },
+
+    /// `watch UNIVERSE..`: follow universes by the lines of standard input. They are 1 to 16, each 1
+    /// to 63,999, and none stands twice.
+    Watch {
+        universes: UniverseList,
     },
 }
 

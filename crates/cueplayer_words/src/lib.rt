@@ -18,7 +18,9 @@ mod number;
 mod program;
 mod read;
 mod target;
+mod universe_list;
 
 pub use job::{Job, Name, Night, WordsFault};
 pub use misfit::{Form, Misfit};
 pub use read::read_words;
+pub use universe_list::UniverseList;

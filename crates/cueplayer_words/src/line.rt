@@ -1,7 +1,7 @@
 ghost use Rattle.std.specs.Prelude.{◌≡◌, IfOk};
 ghost use Rattle.clap.specs.Words.{app_of};
 ghost use Rattle.cueplayer_words.specs.Program.{IsArgument, IsLine, required, required_option};
-ghost use Rattle.cueplayer_words.specs.Program.{flag, option, repeated_option};
+ghost use Rattle.cueplayer_words.specs.Program.{flag, option, repeated_option, several};
 ghost use Rattle.cueplayer_words.specs.Line.{app_of_line, rule_of_argument, with_lines};
 
 use clap::{Arg, ArgAction, Command};
@@ -12,6 +12,9 @@ use std::alloc::{AllocError, Global};
 pub(crate) enum Argument<'a> {
     /// The next word, which has to be there.
     Positional(&'a str, &'a str),
+
+    /// The next word, which has to be there, and each behind it.
+    Several(&'a str, &'a str, &'a str),
 
     /// An option that has to be there.
     Required(&'a str, &'a str, &'a str),
@@ -32,6 +35,7 @@ impl<'a> Argument<'a> {
     {
         match self {
             Argument::Positional(id, help) => required(alloc, id, help),
+            Argument::Several(id, value, help) => several(alloc, id, help).value_name(value),
             Argument::Required(id, value, help) => required_option(alloc, id, value, help),
             Argument::Repeated(id, value, help) => repeated_option(alloc, id, value, help),
             Argument::Optional(id, value, help) => option(alloc, id, value, help),
@@ -84,6 +88,12 @@ fn required<'a>(alloc: Global, id: &'a str, help: &'a str) -> Arg<'a>
     ensures { IsArgument (required id.now) result }
 {
     Arg::new(alloc, id).required(true).help(help)
+}
+
+fn several<'a>(alloc: Global, id: &'a str, help: &'a str) -> Arg<'a>
+    ensures { IsArgument (several id.now) result }
+{
+    required(alloc, id, help).num_args(1..)
 }
 
 fn option<'a>(alloc: Global, id: &'a str, value: &'a str, help: &'a str) -> Arg<'a>

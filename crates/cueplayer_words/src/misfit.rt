@@ -26,6 +26,14 @@ pub enum Form {
     #[error("a universe is a number from 1 to 63999")]
     Universe,
 
+    /// That of a universe behind 15 others at most: any text, where there are no more.
+    #[error("a watch has at most 16 universes")]
+    Sixteen,
+
+    /// That of a universe which is not named before: any text, where it is not.
+    #[error("a watch names a universe once")]
+    Once,
+
     #[error("a count is a number from 1 to 1000000")]
     Count,
 

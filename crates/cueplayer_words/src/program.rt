@@ -123,6 +123,12 @@ const UNIVERSE: Argument<'static> = Argument::Positional(
     "The universe to receive, 1 to 63999",
 );
 
+const UNIVERSES: Argument<'static> = Argument::Several(
+    "UNIVERSES",
+    "UNIVERSE",
+    "The universes to watch, 1 to 63999: at most 16, each once",
+);
+
 const COUNT: Argument<'static> = Argument::Positional(
     "COUNT",
     "How many datagrams to receive, 1 to 1000000: then the run ends",
@@ -197,7 +203,7 @@ const PLAYERS: [Line<'static>; 2] = [
     },
 ];
 
-const TRIALS: [Line<'static>; 2] = [
+const TRIALS: [Line<'static>; 3] = [
     Line {
         name: "rehearse",
         about: "Rehearses a script of consoles, receivers and a network in memory",
@@ -209,6 +215,12 @@ const TRIALS: [Line<'static>; 2] = [
         about: "Prints what a receiver makes of datagrams, and its slots at the end",
         example: "Example: cueplayer listen 0.0.0.0 1 40",
         arguments: &[ADDR, UNIVERSE, COUNT],
+    },
+    Line {
+        name: "watch",
+        about: "Prints what changes on universes, from the datagrams of standard input",
+        example: "Example: cueplayer watch 1 2 <night.lines",
+        arguments: &[UNIVERSES],
     },
 ];
 

@@ -5,7 +5,7 @@ ghost use Rattle.cueplayer_words.specs.Program.{live_arguments, listen_arguments
 ghost use Rattle.cueplayer_words.specs.Program.{rules_of};
 ghost use Rattle.cueplayer_words.specs.Job.{IsInRange, line_of, check_of, explain_of, cues_of};
 ghost use Rattle.cueplayer_words.specs.Job.{look_of, slots_of, night_of, play_of};
-ghost use Rattle.cueplayer_words.specs.Job.{live_of, rehearse_of, listen_of};
+ghost use Rattle.cueplayer_words.specs.Job.{live_of, rehearse_of, listen_of, watch_of};
 ghost use Rattle.cueplayer_words.specs.Misfit.{IsWhole, NightFits, first_misfit, has_texts};
 ghost use Rattle.cueplayer_words.specs.Misfit.{misfit_in};
 ghost use Rattle.cueplayer_words.specs.Asked.{Answers, Explains, IsAsked, RefusedBy};
@@ -13,7 +13,7 @@ ghost use Rattle.cueplayer_words.specs.Asked.{Answers, Explains, IsAsked, Refuse
 use crate::arguments::{
     address_at, any_route_at, base_at, cid_at, count_at, cue_at, follows_at, has_flag, name_at,
     name_of, patience_at, priority_at, resumes_at, source_name_at, spare_at, start_at, targets_at,
-    text_at, ttl_at, universe_at,
+    text_at, ttl_at, universe_at, universes_at,
 };
 use crate::job::{Job, Name, Night, WordsFault};
 use crate::program::program;
@@ -75,6 +75,8 @@ fn read_line<'a>(alloc: Global, line: &str, matches: &ArgMatches<'a>) -> Result<
         read_live(alloc, matches)
     } else if line == "rehearse" {
         read_rehearse(alloc, matches)
+    } else if line == "watch" {
+        read_watch(matches)
     } else {
         read_listen(matches)
     }
@@ -237,4 +239,12 @@ fn read_listen<'a>(matches: &ArgMatches<'a>) -> Result<Job, WordsFault<'a>>
         universe,
         count,
     })
+}
+
+fn read_watch<'a>(matches: &ArgMatches<'a>) -> Result<Job, WordsFault<'a>>
+    ensures { Answers IsInRange (watch_of (rows_of (found_of matches.now)))
+        (misfit_in (codes "watch", rows_of (found_of matches.now))) result }
+{
+    let universes = universes_at(matches)?;
+    Ok(Job::Watch { universes })
 }

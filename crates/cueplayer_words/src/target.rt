@@ -1,4 +1,4 @@
-ghost use Rattle.std.specs.Prelude.{◌≡◌};
+ghost use Rattle.std.specs.Prelude.{◌≡◌, ◌≤◌, IfSome};
 ghost use Rattle.cueplayer_words.specs.Number.{number_between};
 ghost use Rattle.cueplayer_words.specs.Target.{target_of, universes_of};
 
@@ -38,8 +38,10 @@ fn universes(text: &str) -> Option<Universes>
     Some(Universes { first, last })
 }
 
-fn universe(text: &str) -> Option<u16>
-    ensures { result ≡ number_between 1 63999 text.now }
+/// The universe that a text names, 1 to 63,999.
+pub(crate) fn universe(text: &str) -> Option<u16>
+    ensures value { result ≡ number_between 1 63999 text.now }
+    ensures within { IfSome result (λ universe. (1 ≤ universe) × (universe ≤ 63999)) }
 {
     let number = number_between(text, 1, TOP_UNIVERSE)?;
     Some(number as u16)

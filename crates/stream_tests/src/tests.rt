@@ -1,5 +1,7 @@
+mod machine;
 mod memory;
 mod packet;
+mod queue;
 mod receiver;
 mod replies;
 mod source;

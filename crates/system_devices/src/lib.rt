@@ -1,7 +1,8 @@
 //! The devices of the system: files, standard input and output, sockets, and the lock of a CID.
 //!
-//! None of them tells what it gave or took, so hardly anything is said of them in contracts. The
-//! outputs of a live night hold nobody up ([`BoundedOutput`]): that is measured, and not proved.
+//! None of them tells what it gave or took, so hardly anything is said of them in contracts. What an
+//! output that holds nobody up ([`BoundedOutput`]) does with its lines is that of a `LineQueue`, which
+//! has a contract; how long the system's calls take is measured, and not proved.
 #![tactic(auto)]
 
 mod appended_lines;
@@ -10,13 +11,14 @@ mod card_sender;
 mod cards;
 mod cid_lock;
 mod fault;
-mod host_name;
 mod input;
 mod lock_holder;
+mod machine;
 mod messages;
 mod neighbors;
 mod network;
 mod output;
+mod own_name;
 mod record;
 mod record_file;
 mod record_lock;
@@ -35,18 +37,19 @@ pub use card_sender::CardSender;
 pub use cards::{Card, CardName, CardState, Cards, card_state};
 pub use cid_lock::{CidLock, LockFault, PathText};
 pub use fault::DeviceFault;
-pub use host_name::machine_name;
 pub use input::SystemInput;
+pub use machine::{Keyboard, SystemClock};
 pub use messages::Messages;
 pub use network::{
     GROUPS, Leaving, MOST_SOURCES, Network, Path, PathState, Source, SourceState, is_multicast,
 };
 pub use output::SystemOutput;
+pub use own_name::machine_name;
 pub use record::Record;
 pub use record_file::{Pause, RecordFault, RecordFile};
 pub use record_lock::remove_unused_record;
 pub use routes::{Route, route_to};
 pub use socket::{AddressText, ReceivingSocket, SocketFault};
-pub use typed_input::{Came, TypedInput};
+pub use typed_input::TypedInput;
 pub use watched_output::WatchedOutput;
 pub use writers::{PipedOutput, wait_for_writers};

@@ -1,13 +1,16 @@
 use crate::bounded_output::{BoundedOutput, Names};
 use crate::fault::DeviceFault;
+use line_queue::Notice;
 use std::fs::Metadata;
 use std::io::Stderr;
 
 const NAMES: Names = Names {
     output: "standard error",
     pipe: "CUEPLAYER_ERROR_PIPE",
-    mark: "",
-    lines: "messages",
+    notice: Notice {
+        mark: "",
+        lines: "messages",
+    },
 };
 
 /// What a night tells on standard error, which may be closed, and holds nobody up.

@@ -4,6 +4,7 @@ use crate::lock_holder::holder;
 use crate::record::Record;
 use crate::record_lock::{FileLock, is_same, lock, lock_at_once};
 use byte_reading::{Unread, first_bytes};
+use line_queue::Notice;
 use std::fs::{File, Metadata, OpenOptions, metadata};
 use std::io::{Error, ErrorKind};
 use std::os::unix::fs::FileTypeExt;
@@ -12,8 +13,10 @@ use std::time::{Instant, SystemTime};
 const NAMES: Names = Names {
     output: "the record",
     pipe: "CUEPLAYER_RECORD_PIPE",
-    mark: "! ",
-    lines: "lines",
+    notice: Notice {
+        mark: "! ",
+        lines: "lines",
+    },
 };
 
 /// Why a record cannot be kept.

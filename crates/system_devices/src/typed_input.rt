@@ -1,5 +1,6 @@
 use crate::fault::DeviceFault;
 use devices::LinkFault;
+use live_machine::Came;
 use mio::unix::SourceFd;
 use mio::{Events, Interest, Poll, Token};
 use std::io::{ErrorKind, IsTerminal, Read};
@@ -29,19 +30,6 @@ pub struct TypedInput {
     poll: Poll,
     events: Events,
     readiness: Readiness,
-}
-
-/// What a wait brought.
-#[derive(Clone, Copy, Debug, PartialEq, Eq)]
-pub enum Came {
-    /// So many bytes, at the front of the block.
-    Bytes(usize),
-    /// The end of the input: nothing more can come.
-    End,
-    /// An end of input that was typed at a terminal, as by control-D: more may be typed.
-    TypedEnd,
-    /// Nothing.
-    Nothing,
 }
 
 impl TypedInput {

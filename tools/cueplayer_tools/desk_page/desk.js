@@ -1,320 +1,113 @@
 "use strict";
 // The page of the desk. It shows what the desk says that the program said, and nothing that it
-// believes itself; what is pressed goes to the desk as a line, and its answer comes as an event.
+// believes itself.
 
-const SILENCE = 4000;
-const FADER_REST = 500;
-const SECOND_PRESS = 3000;
-// What is pressed is sent within a second, or not at all.
-const PRESS_DEADLINE = 1000;
-// Clocks run apart, so what was heard of the desk's is not kept for long.
-const CLOCK_KEPT = 30000;
 // A browser has six connections to a desk, and each page keeps one: two are left for presses.
 const MOST_PAGES = 4;
 const PLACE_EVERY = 1000;
+const AGAIN_EVERY = 2000;
+const MOST_NOTICES = 3;
 
-const byId = (id) => document.getElementById(id);
-const percent = (level) => `${Math.round(level * 100 / 255)} %`;
-const seconds = (milliseconds) => `${(milliseconds / 1000).toFixed(1)} s`;
+// ---- what is kept in this browser
 
-const page = {
-  state: null,
-  cues: new Map(),
-  faders: [],
-  heard: 0,
-  stateAt: 0,
-  isGone: false,
-  dismissed: 0,
-  dismissedLost: 0,
-  unsent: "",
-  alarmsShown: "",
-  universes: [],
-  universe: 0,
-  slots: new Map(),
-  reasons: {},
-  clock: [],
-  isCrowded: false,
-};
-
-// ---- what is pressed
-
-async function command(line, pressed) {
-  if (isDead()) return;
-  const at = Math.min(pressed, performance.now());
-  const left = at + PRESS_DEADLINE - performance.now();
-  const stop = new AbortController();
-  const timer = setTimeout(() => stop.abort(), left);
+function kept(name) {
   try {
-    if (left <= 0) stop.abort();
-    const headers = { "Desk-Time": String(deskTime(at)) };
-    const request = { method: "POST", body: line, headers, signal: stop.signal };
-    const answer = await fetch("command", request);
-    page.unsent = answer.ok || answer.status === 409 ? "" : `${line}: not taken by the desk`;
+    return localStorage.getItem(name);
   } catch {
-    page.unsent = `${line}: nothing was sent: ${whyUnsent(left, stop.signal.aborted)}`;
-  }
-  clearTimeout(timer);
-  showAlarms();
-}
-
-function whyUnsent(left, isAborted) {
-  if (left <= 0) return "this page was busy for a second; press again";
-  return isAborted ? "no answer within a second; press again" : "the desk was not reached";
-}
-
-// The desk says its time with each event. One that took long to come says too little, so of
-// those of the last half minute the one counts that says most: no press is made younger by it.
-function hearClock(time) {
-  const now = performance.now();
-  page.clock = page.clock.filter(({ at }) => now - at < CLOCK_KEPT);
-  page.clock.push({ at: now, ahead: time - now });
-}
-
-function deskTime(at) {
-  return Math.max(Math.floor(at + Math.max(...page.clock.map(({ ahead }) => ahead))), 0);
-}
-
-function isSilent() {
-  return page.isGone || performance.now() - page.heard > SILENCE;
-}
-
-function isDead() {
-  return isSilent() || page.state === null || page.state.status !== null;
-}
-
-function blackout(event) {
-  if (isDead()) return;
-  const level = page.state.grand === 0 ? page.state.lit_grand : 0;
-  command(`master H${level.toString(16).padStart(2, "0")}`, event.timeStamp);
-}
-
-// A night is not ended by one slip of a finger.
-function askEnd(event) {
-  const button = byId("end");
-  if (button.dataset.asked) {
-    command("end", event.timeStamp);
-    return;
-  }
-  button.dataset.asked = "yes";
-  button.textContent = "Press once more: the light goes out";
-  setTimeout(() => {
-    delete button.dataset.asked;
-    button.textContent = "End the night";
-  }, SECOND_PRESS);
-}
-
-function pressKey(event) {
-  if (event.ctrlKey || event.altKey || event.metaKey) return;
-  const line = { " ": "go", Backspace: "back" }[event.key];
-  if (line === undefined) return;
-  event.preventDefault();
-  if (event.type === "keydown" && !event.repeat) command(line, event.timeStamp);
-}
-
-// ---- cues
-
-function cueButton(cue) {
-  const button = document.createElement("button");
-  button.type = "button";
-  button.tabIndex = -1;
-  for (const [kind, words] of [
-    ["number", cue.number],
-    ["name", cue.name],
-    ["times", `${seconds(cue.up)} / ${seconds(cue.down)}`],
-  ]) {
-    const part = document.createElement("span");
-    part.className = kind;
-    part.textContent = words;
-    button.append(part);
-  }
-  button.setAttribute("aria-label", `Go to cue ${cue.number} ${cue.name}`);
-  button.addEventListener("click", (event) => {
-    const line = event.shiftKey ? `goto ${cue.number} in 0` : `goto ${cue.number}`;
-    command(line, event.timeStamp);
-  });
-  return button;
-}
-
-function buildCues(cues) {
-  page.cues = new Map();
-  const rows = cues.map((cue) => {
-    const button = cueButton(cue);
-    page.cues.set(cue.number, { ...cue, button });
-    const row = document.createElement("li");
-    row.append(button);
-    return row;
-  });
-  byId("cues").replaceChildren(...rows);
-  if (rows.length) rows[0].firstChild.tabIndex = 0;
-}
-
-function moveInCues(event) {
-  const buttons = [...page.cues.values()].map((cue) => cue.button);
-  const at = buttons.indexOf(document.activeElement);
-  const last = buttons.length - 1;
-  const to = {
-    ArrowDown: Math.min(at + 1, last),
-    ArrowUp: Math.max(at - 1, 0),
-    Home: 0,
-    End: last,
-  }[event.key];
-  if (to === undefined || at < 0) return;
-  event.preventDefault();
-  focusable(buttons, buttons[to]);
-  buttons[to].focus();
-}
-
-function focusable(buttons, chosen) {
-  for (const button of buttons) button.tabIndex = button === chosen ? 0 : -1;
-}
-
-function showCues(state, before) {
-  const named = (number) => {
-    if (!state.placed) return "not known yet";
-    if (number === null) return "none";
-    return `${number} ${page.cues.get(number)?.name ?? ""}`;
-  };
-  setText("current", named(state.current));
-  setText("next", named(state.next));
-  document.title = state.current === null ? byId("title").textContent : named(state.current);
-  for (const [number, cue] of page.cues) {
-    if (number === state.current) cue.button.setAttribute("aria-current", "true");
-    else cue.button.removeAttribute("aria-current");
-    cue.button.classList.toggle("is-next", number === state.next);
-  }
-  if (before?.current !== state.current || before?.next !== state.next) {
-    const shown = page.cues.get(state.next ?? state.current)?.button;
-    shown?.scrollIntoView({ block: "nearest" });
-    const buttons = [...page.cues.values()].map((cue) => cue.button);
-    if (shown && !buttons.includes(document.activeElement)) focusable(buttons, shown);
+    return null;
   }
 }
 
-// ---- faders: a page moves them at once, and they rest where the program says
-
-class Fader {
-  constructor(line, name, usual) {
-    this.line = line;
-    this.usual = usual;
-    this.wanted = null;
-    this.wantedAt = 0;
-    this.isSending = false;
-    this.isHeld = false;
-    this.restAt = 0;
-    this.input = document.createElement("input");
-    Object.assign(this.input, { type: "range", min: 0, max: 255, step: 1 });
-    this.input.id = line.replace(" ", "-");
-    this.label = document.createElement("label");
-    this.label.htmlFor = this.input.id;
-    this.label.textContent = name;
-    this.output = document.createElement("output");
-    this.row = document.createElement("div");
-    this.row.className = "fader";
-    this.row.append(this.label, this.input, this.output);
-    this.input.addEventListener("input", (event) => this.move(event));
-    this.input.addEventListener("pointerdown", () => { this.isHeld = true; });
-    for (const left of ["pointerup", "pointercancel", "blur", "change"]) {
-      this.input.addEventListener(left, () => this.rest());
-    }
-    this.show();
+function keep(name, value) {
+  try {
+    localStorage.setItem(name, value);
+  } catch {
+    // It counts until the page is closed.
   }
-
-  level() {
-    if (page.state === null) return this.usual;
-    return this.line === "master" ? page.state.grand : page.state.masters[this.line] ?? this.usual;
-  }
-
-  async move(event) {
-    this.wanted = Number(this.input.value);
-    this.wantedAt = event.timeStamp;
-    if (this.isSending) return;
-    this.isSending = true;
-    while (this.wanted !== null) {
-      const level = this.wanted.toString(16).padStart(2, "0");
-      this.wanted = null;
-      await command(`${this.line} H${level}`, this.wantedAt);
-    }
-    this.isSending = false;
-    this.rest();
-  }
-
-  rest() {
-    this.isHeld = false;
-    this.restAt = performance.now() + FADER_REST;
-    setTimeout(() => this.show(), FADER_REST + 10);
-  }
-
-  show() {
-    const level = this.level();
-    this.output.textContent = percent(level);
-    this.input.setAttribute("aria-valuetext", percent(level));
-    const isFree = !this.isHeld && !this.isSending && performance.now() >= this.restAt;
-    if (isFree) this.input.value = level;
-  }
-}
-
-function buildFaders(faders) {
-  page.faders = [new Fader("master", "Grand master", 255)];
-  for (const { line, name } of faders) page.faders.push(new Fader(line, `${line} ${name}`, 0));
-  byId("faders").replaceChildren(...page.faders.map((fader) => fader.row));
 }
 
 // ---- what must not be missed
 
-function alarm(words, dismiss) {
+function alarm(words, button, act) {
   const row = document.createElement("div");
   row.className = "alarm";
   const text = document.createElement("span");
   text.textContent = words;
   row.append(text);
-  if (dismiss) {
-    const button = document.createElement("button");
-    button.type = "button";
-    button.textContent = "Dismiss";
-    button.setAttribute("aria-label", `Dismiss: ${words}`);
-    button.addEventListener("click", () => { dismiss(); showAlarms(); });
-    row.append(button);
+  if (button) {
+    const control = document.createElement("button");
+    control.type = "button";
+    control.textContent = button;
+    control.setAttribute("aria-label", `${button}: ${words}`);
+    control.addEventListener("click", () => { act(); showAlarms(); });
+    row.append(control);
   }
   return row;
 }
 
-function alarms() {
-  const { state } = page;
+function pageAlarms() {
   const told = [];
   if (page.isCrowded) {
     const words = `${MOST_PAGES} pages of this browser show the desk`;
     told.push([`${words}: close one, and this one goes on`]);
   }
   if (page.heard && isSilent()) told.push(["No word from the desk: what is shown here is old"]);
-  if (page.unsent) told.push([page.unsent, () => { page.unsent = ""; }]);
-  if (state === null) return told;
+  if (page.unsent) told.push([page.unsent, "Dismiss", () => { page.unsent = ""; }]);
+  return told;
+}
+
+function endAlarms(state) {
+  const told = [];
+  const resume = state.resumes && page.role === "play"
+    ? ["Take it up where it was", () => ask("resume")] : [];
   if (state.status !== null) {
-    told.push([`The night has ended: live ended with status ${state.status}`]);
+    told.push([`The night has ended: live ended with status ${state.status}`, ...resume]);
+  } else if (state.resumes) {
+    told.push(["No live plays the night, and nobody starts one", ...resume]);
   } else if (state.ending) {
     told.push(["The night is ending: receivers are told"]);
   }
   if (state.late && state.status === null) told.push(["live does not answer"]);
-  if (state.status === null) for (const trouble of state.troubles) told.push([trouble]);
+  return told;
+}
+
+// What is wrong on the network stands there until it is over.
+function networkAlarms(state) {
+  const told = state.status === null ? state.troubles.map((trouble) => [trouble]) : [];
+  if (page.others.length) {
+    const sends = page.others.length > 1 ? "Other sources send" : "Another source sends";
+    told.push([`${sends} on this night's universes: ${page.others.join("; ")}`]);
+  }
   const { count, universe, moment } = state.lost;
   if (count > page.dismissedLost) {
-    const latest = `of universe ${universe} at ${seconds(moment)}`;
+    const latest = `of universe ${universe} at ${tenths(moment)}`;
     const words = `${count} packets lost, the latest ${latest}`;
-    told.push([words, () => { page.dismissedLost = count; }]);
-  }
-  for (const notice of state.notices.filter(({ number }) => number > page.dismissed).slice(-3)) {
-    told.push([notice.text, () => { page.dismissed = notice.number; }]);
+    told.push([words, "Dismiss", () => { page.dismissedLost = count; }]);
   }
   return told;
 }
 
+function alarms() {
+  const { state } = page;
+  if (state === null) return pageAlarms();
+  const notices = state.notices
+    .filter(({ number }) => number > page.dismissed)
+    .slice(-MOST_NOTICES)
+    .map(({ text, number }) => [text, "Dismiss", () => { page.dismissed = number; }]);
+  return [...pageAlarms(), ...endAlarms(state), ...networkAlarms(state), ...notices];
+}
+
 function showAlarms() {
   document.body.classList.toggle("is-dead", isDead());
+  for (const id of ["go", "back", "blackout"]) {
+    byId(id).setAttribute("aria-disabled", String(isDead() || page.role !== "play"));
+  }
   const told = alarms();
-  const words = JSON.stringify(told.map(([text]) => text));
+  const words = JSON.stringify(told.map(([text, button]) => [text, button]));
   // A screen reader says what is new, so nothing is put there anew that stands there already.
   if (words === page.alarmsShown) return;
   page.alarmsShown = words;
-  byId("alarms").replaceChildren(...told.map(([text, dismiss]) => alarm(text, dismiss)));
+  byId("alarms").replaceChildren(...told.map((each) => alarm(...each)));
 }
 
 // ---- levels
@@ -355,6 +148,28 @@ function chooseUniverse(step) {
   showLevels();
 }
 
+// ---- who may come from elsewhere
+
+function drawPicture(rows) {
+  const picture = byId("picture");
+  picture.toggleAttribute("hidden", rows.length === 0);
+  if (rows.length === 0) return;
+  const dark = rows.flatMap((row, y) => (
+    [...row].map((each, x) => (each === "1" ? `M${x} ${y}h1v1h-1z` : ""))
+  ));
+  byId("modules").setAttribute("d", dark.join(""));
+  picture.setAttribute("viewBox", `0 0 ${rows[0].length} ${rows.length}`);
+}
+
+function showGuests(guests) {
+  byId("guests").hidden = guests.address === undefined;
+  if (guests.address === undefined) return;
+  setText("guest-address", guests.address);
+  setText("pin-play", guests.pins.play);
+  setText("pin-watch", guests.pins.watch);
+  drawPicture(guests.picture);
+}
+
 // ---- what is shown
 
 function setText(id, words) {
@@ -362,30 +177,43 @@ function setText(id, words) {
   if (part.textContent !== words) part.textContent = words;
 }
 
-function showFade() {
-  const fade = page.state?.fade;
-  const elapsed = fade ? fade.elapsed + performance.now() - page.stateAt : 0;
-  const isRunning = Boolean(fade) && elapsed < fade.whole;
-  byId("fade").value = !fade ? 0 : isRunning ? elapsed / fade.whole : 1;
-  const isUnknown = !fade && Boolean(page.state?.current);
-  const left = isRunning ? `${seconds(fade.whole - elapsed)} left` : "";
-  setText("fade-text", isUnknown ? "not known" : left);
+function pressed(buttons, chosen) {
+  for (const button of buttons) button.setAttribute("aria-pressed", String(button === chosen));
+}
+
+function showView(view) {
+  document.body.dataset.view = view;
+  const buttons = document.querySelectorAll("[data-to]");
+  pressed(buttons, [...buttons].find((button) => button.dataset.to === view));
+  if (page.state !== null) scrollCues(page.state);
+}
+
+function showTheme(theme) {
+  document.documentElement.dataset.theme = theme;
+  const buttons = document.querySelectorAll("[data-theme-is]");
+  pressed(buttons, [...buttons].find((button) => button.dataset.themeIs === theme));
+}
+
+function showDoubleTap() {
+  byId("double-tap").setAttribute("aria-pressed", String(doubleTapGoes()));
 }
 
 function showState(state) {
   const before = page.state;
   page.state = state;
   page.stateAt = performance.now();
+  page.shown = page.shown.filter(({ at }) => page.stateAt - at < STATES_KEPT);
+  page.shown.push({ at: page.stateAt, number: state.number });
   showCues(state, before);
   for (const fader of page.faders) fader.show();
-  const isBlack = state.grand === 0;
-  byId("blackout").setAttribute("aria-pressed", String(isBlack));
+  byId("blackout").setAttribute("aria-pressed", String(state.grand === 0));
   const lost = byId("lost");
   setText("lost", `${state.lost.count} packets lost`);
   lost.classList.toggle("is-some", state.lost.count > 0);
   setText("skipped", state.skipped);
   setText("ways", state.ways.join("; "));
   showFade();
+  showFollow();
   showAlarms();
 }
 
@@ -398,7 +226,41 @@ function linkWords() {
 function watch() {
   setText("link", linkWords());
   showFade();
+  showFollow();
   showAlarms();
+}
+
+function showShow(show) {
+  page.state = null;
+  page.shown = [];
+  page.role = show.role;
+  page.universes = show.universes;
+  document.body.classList.toggle("is-watching", show.role !== "play");
+  setText("role", show.role === "play" ? "" : "Watching: nothing here moves light");
+  setText("title", show.title);
+  setText("osc", show.osc ? `OSC at ${show.osc}` : "");
+  buildCues(show.cues);
+  buildFaders(show.faders);
+  for (const { input } of page.faders) input.disabled = show.role !== "play";
+  chooseUniverse(0);
+}
+
+function showReceived({ reasons, slots, others }) {
+  page.reasons = reasons;
+  page.others = others;
+  for (const [universe, hex] of Object.entries(slots)) page.slots.set(Number(universe), hex);
+  showLevels();
+}
+
+// A refusal ends the events for good: without a session the page that asks for the PIN comes.
+async function listenAgain() {
+  try {
+    const answer = await fetch("desk.js");
+    if (answer.status === 401) location.reload();
+  } catch {
+    // The desk is not there, and is asked again.
+  }
+  listen();
 }
 
 function listen() {
@@ -410,30 +272,17 @@ function listen() {
     take(JSON.parse(event.data));
     watch();
   });
-  hear("show", (show) => {
-    page.state = null;
-    page.universes = show.universes;
-    setText("title", show.title);
-    setText("osc", show.osc ? `OSC at ${show.osc}` : "");
-    buildCues(show.cues);
-    buildFaders(show.faders);
-    chooseUniverse(0);
-  });
+  hear("show", showShow);
   hear("state", showState);
   hear("alive", () => {});
-  hear("levels", ({ reasons, slots, others }) => {
-    page.reasons = reasons;
-    for (const [universe, hex] of Object.entries(slots)) page.slots.set(Number(universe), hex);
-    const sends = others.length > 1 ? "Other sources send here" : "Another source sends here";
-    setText("others", others.length ? `${sends}: ${others.join("; ")}` : "");
-    showLevels();
-  });
+  hear("guests", showGuests);
+  hear("levels", showReceived);
   events.addEventListener("error", () => {
     page.isGone = true;
     page.heard ||= 1;
     watch();
-    // A refusal ends it for good; what was cut off is opened again by the browser.
-    if (events.readyState === EventSource.CLOSED) setTimeout(listen, SILENCE);
+    // What was cut off is opened again by the browser.
+    if (events.readyState === EventSource.CLOSED) setTimeout(listenAgain, AGAIN_EVERY);
   });
 }
 
@@ -454,17 +303,42 @@ function takePlace(at) {
   }).catch(listen);
 }
 
-byId("go").addEventListener("click", (event) => command("go", event.timeStamp));
-byId("back").addEventListener("click", (event) => command("back", event.timeStamp));
-byId("blackout").addEventListener("click", blackout);
-byId("end").addEventListener("click", askEnd);
-byId("before").addEventListener("click", () => chooseUniverse(-1));
-byId("after").addEventListener("click", () => chooseUniverse(1));
+// ---- the controls
+
+function onClick(selector, act) {
+  for (const each of document.querySelectorAll(selector)) {
+    each.addEventListener("click", (event) => act(event, each));
+  }
+}
+
+onClick("#go", (event) => command("go", event.timeStamp));
+onClick("#back", (event) => command("back", event.timeStamp));
+onClick("#blackout", blackout);
+onClick("#before", () => chooseUniverse(-1));
+onClick("#after", () => chooseUniverse(1));
+onClick("[data-to]", (event, button) => showView(button.dataset.to));
+onClick("[data-theme-is]", (event, button) => {
+  keep("theme", button.dataset.themeIs);
+  showTheme(button.dataset.themeIs);
+});
+onClick("#double-tap", () => {
+  keep("double-tap", doubleTapGoes() ? "selects" : "goes");
+  showDoubleTap();
+});
+onPress(
+  byId("goto"),
+  (event) => goTo(page.selected, event.shiftKey, event.timeStamp),
+  (at) => goTo(page.selected, true, at),
+);
+askTwice("end", "Press once more: the light goes out", (event) => command("end", event.timeStamp));
+askTwice("new-pins", "Press once more: all others are sent out", () => ask("pins"));
 byId("cues").addEventListener("keydown", moveInCues);
 document.addEventListener("keydown", pressKey);
 document.addEventListener("keyup", pressKey);
 buildGrid();
-// Only this machine's own addresses have locks.
+showTheme(kept("theme") ?? "auto");
+showDoubleTap();
+// Only this machine's own addresses, and encrypted pages, have locks.
 if (navigator.locks) takePlace(1);
 else listen();
 setInterval(watch, 100);

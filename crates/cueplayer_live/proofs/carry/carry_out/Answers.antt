@@ -17,10 +17,11 @@ returns-clause-carried_out g c = λ line given p history stands tells told_link.
     let did = c.perform-performed.ensures.performed p history stands told_link in
     let text = c.as_slice.ensures.value ∙ given.text_is in
     let build = λ (told : g.B.Booth.tells c.show_answer.new.booth)
-    (follows : Shows (g.B.Booth.state c.show_answer.new.booth)
-    (g.B.Booth.state c.if-is_accepted.booth) (cue_lines (newer p history moment call answer did))).
+    (follows : Shows (g.L.Link.offered c.perform-performed.new.link)
+    (g.B.Booth.state c.show_answer.new.booth) (g.B.Booth.state c.if-is_accepted.booth)
+    (cue_lines (newer p history moment call answer did))).
     carried p history moment call answer did line _ _ _ _ _ given.spells
-    (rw text at (kept_by c.keep.result _ _ _ _ c.keep.ensures.ok c.keep.ensures.err
+    (rw text at (kept_by c.keep.result _ _ _ _ _ c.keep.ensures.ok c.keep.ensures.err
     (c.show_answer.ensures.told told)))
     (c.show_answer.ensures.shows told) follows c.lost.ensures.count in
     elim c.if-is_accepted.branch [
@@ -43,5 +44,5 @@ returns-clause-carried_out g c = λ line given p history stands tells told_link.
             none_newer p history moment call answer did
                 (sym c.is_accepted.ensures ∙ w.if-is_accepted.false),
             w.booth-is,
-          ) (shows_none _))
+          ) (shows_none _ _))
     ]

@@ -16,7 +16,8 @@ invariant-loop-cue g l =
           → IsAt l.show l.place (newer ++ moves) stopped
           × (moves_by l.show stopped l.moment (newer ++ moves)
           ≡ moves_by l.show stopped l.moment moves);
-      shows : B.tells l.booth → Shows (B.state l.fn.booth) (B.state l.booth) (cue_lines newer);
+      shows : B.tells l.booth → Shows (g.L.Link.offered l.fn.link) (B.state l.fn.booth)
+          (B.state l.booth) (cue_lines newer);
     }
 
 abbrev pub decreases-loop-cue : goal.decreases-loop-cue

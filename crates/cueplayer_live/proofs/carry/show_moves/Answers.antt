@@ -16,9 +16,9 @@ returns-in-Some-clause-shows g c = λ moves stopped time is tells.
       made_is (move ∷ newer) moves,
       one_line move newer,
       ← text,
-    ) (shows_more _ _ _ _ _
+    ) (shows_more _ _ _ _ _ _
     (first.2 (c.show.ensures.told tells))
-    (shown_by c.show.result _ _ _ _ c.show.ensures.ok c.show.ensures.err tells))
+    (shown_by c.show.result _ _ _ _ _ c.show.ensures.ok c.show.ensures.err tells))
 
 pub returns-in_default-clause-shows : goal.returns-in_default-clause-shows
 returns-in_default-clause-shows g c = λ moves stopped time is tells.

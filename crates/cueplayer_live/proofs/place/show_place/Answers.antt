@@ -21,4 +21,4 @@ returns-clause-shows g c = λ p history stands tells.
     ∙ ap (λ n. where_line c.args.moment current n (settings history)) next
     ∙ ap (λ n. where_line c.args.moment n (go_target p.show.cues n) (settings history))
     (c.current-current.ensures p history stands) in
-    rw (← is) (shown_by c.show-2.result _ _ _ _ c.show-2.ensures.ok c.show-2.ensures.err tells)
+    rw (← is) (shown_by c.show-2.result _ _ _ _ _ c.show-2.ensures.ok c.show-2.ensures.err tells)

@@ -15,16 +15,16 @@ read_listen-requires c =
     (sym c.eq-else-eq.ensures ∙ c.if-eq-2.false) (sym c.eq-else-eq-2.ensures ∙ c.if-eq-3.false)
     (sym c.eq-else-eq-3.ensures ∙ c.if-eq-4.false) (sym c.eq-else-eq-4.ensures ∙ c.if-eq-5.false)
     (sym c.eq-else-eq-5.ensures ∙ c.if-eq-6.false) (sym c.eq-else-eq-6.ensures ∙ c.if-eq-7.false)
-    (sym c.eq-else-eq-7.ensures ∙ c.if-eq-8.false))
+    (sym c.eq-else-eq-7.ensures ∙ c.if-eq-8.false) (sym c.eq-else-eq-8.ensures ∙ c.if-eq-9.false))
     c.requires.1
 
-pub returns-else-eq-8 : goal.returns-else-eq-8
-returns-else-eq-8 c =
+pub returns-else-eq-9 : goal.returns-else-eq-9
+returns-else-eq-9 c =
     let rows = rows_of (found_of c.args.matches.now) in
     let is = last_line c.args.line.now c.requires.0 (sym c.eq.ensures ∙ c.if-eq.false)
     (sym c.eq-else-eq.ensures ∙ c.if-eq-2.false) (sym c.eq-else-eq-2.ensures ∙ c.if-eq-3.false)
     (sym c.eq-else-eq-3.ensures ∙ c.if-eq-4.false) (sym c.eq-else-eq-4.ensures ∙ c.if-eq-5.false)
     (sym c.eq-else-eq-5.ensures ∙ c.if-eq-6.false) (sym c.eq-else-eq-6.ensures ∙ c.if-eq-7.false)
-    (sym c.eq-else-eq-7.ensures ∙ c.if-eq-8.false) in
+    (sym c.eq-else-eq-7.ensures ∙ c.if-eq-8.false) (sym c.eq-else-eq-8.ensures ∙ c.if-eq-9.false) in
     subst (λ name. Answers IsInRange (line_of (name, rows)) (misfit_in (name, rows))
     c.read_listen.result) (sym is) c.read_listen.ensures

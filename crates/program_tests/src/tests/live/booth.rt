@@ -1,8 +1,8 @@
 ghost use Rattle.cueplayer_live.specs.Booth.{IsWithin};
 
 use cueplayer_live::{Booth, Heard};
-use devices::LinkFault;
 use devices::memory::Faults;
+use devices::{Link, LinkFault};
 use live_input::Reason;
 use std::alloc::Global;
 
@@ -108,6 +108,7 @@ impl Booth for MemoryBooth<'_> {
       told = [];
       waited = [];
       faults = 0;
+      deeds = [];
     } };
 
     fn begin(&mut self, moment: u64) {
@@ -139,7 +140,7 @@ impl Booth for MemoryBooth<'_> {
         }
     }
 
-    fn keep(&mut self, line: &[u8]) -> Result<(), LinkFault> {
+    fn keep<L: Link>(&mut self, line: &[u8], _link: &L) -> Result<(), LinkFault> {
         self.faults.keep.count()?;
         self.lines = self.lines.wrapping_add(1);
         if self.keeps {
@@ -148,7 +149,7 @@ impl Booth for MemoryBooth<'_> {
         Ok(())
     }
 
-    fn show(&mut self, line: &[u8]) -> Result<(), LinkFault> {
+    fn show<L: Link>(&mut self, line: &[u8], _link: &L) -> Result<(), LinkFault> {
         self.faults.show.count()?;
         self.full |= self.shown.extend_from_slice(line).is_err();
         Ok(())

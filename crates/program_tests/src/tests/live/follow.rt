@@ -129,7 +129,7 @@ fn following_pauses(rt: HostRuntime) {
             &mut main,
             &mut link,
         ).expect(&rt, "a night");
-        night.show_place(&mut booth);
+        night.show_place(&mut booth, &link);
         assert!(rt; pause == wanted && booth.shown.as_slice() == place);
     }
 }

@@ -85,7 +85,7 @@ returns-in-Help-clause-goes g c =
     with_keys moment (ignored_keys (answers (asked moment ∷ happened))) _ _ _
     (shows_since moment _ _ _ _ (c.in_ok-moment.ensures.ok (c.show.ensures.told shown))
     (rw (← c.help_text.ensures, ← c.as_bytes.ensures.value)
-    (shown_by c.show.result _ _ _ _ c.show.ensures.ok c.show.ensures.err shown)))
+    (shown_by c.show.result _ _ _ _ _ c.show.ensures.ok c.show.ensures.err shown)))
     (c.tell_keys-in-Help.ensures.tells (asked moment ∷ happened)
     (c.next.ensures.stands happened stands.input_stands) tells.0))
 
@@ -98,7 +98,7 @@ returns-in-Refused-clause-goes g c =
     (λ tells p happened stands.
     then_tells moment (refused c.in-Refused.text.items c.in-Refused.why) _ _ _
     (shows_since moment _ _ _ (g.L.Link.offered c.args.link.now)
-    (c.in_ok-moment.ensures.ok (c.refuse.ensures.told tells.0)) (shows_none _))
+    (c.in_ok-moment.ensures.ok (c.refuse.ensures.told tells.0)) (shows_none _ _))
     (rw c.as_slice.ensures.value at (c.refuse.ensures.refused tells.0)))
 
 pub returns-in-Over-clause-goes : goal.returns-in-Over-clause-goes
@@ -108,7 +108,7 @@ returns-in-Over-clause-goes g c =
     (λ happened stands. (overs (answer_to happened moment)
     (c.in-Over.ensures.tells happened stands)).1)
     (λ tells p happened stands. shows_since moment _ _ _ _ (c.in_ok-moment.ensures.ok tells.0)
-    (shows_none _))
+    (shows_none _ _))
 
 pub returns-in-Over-clause-over : goal.returns-in-Over-clause-over
 returns-in-Over-clause-over g c = λ e p happened stands.
@@ -134,7 +134,7 @@ returns-in_ok-wait-in-Until-clause-goes g c =
     (λ happened stands. waits c.in-Until.due (answer_to happened moment)
     (c.in-Until.ensures.tells happened stands))
     (λ tells p happened stands. then_waits moment c.in-Until.due _ _ _ _
-    (shows_since moment _ _ _ _ (c.in_ok-moment.ensures.ok tells) (shows_none _))) in
+    (shows_since moment _ _ _ _ (c.in_ok-moment.ensures.ok tells) (shows_none _ _))) in
     let all = goes_more g.F.Fader.stands_for _ _ _ night _ _ middle _ quiet.0
     (goes_waiting g.F.Fader.stands_for _ _ night _ middle _ waited.console waited.lost
     waited.stands (λ tells. tells.0) refl) (λ tells. waited.told_booth tells.0) in
@@ -152,7 +152,7 @@ returns-in_err-wait-in-Until-clause-broke g c =
     (λ happened stands. waits c.in-Until.due (answer_to happened moment)
     (c.in-Until.ensures.tells happened stands))
     (λ tells p happened stands. then_waits moment c.in-Until.due _ _ _ _
-    (shows_since moment _ _ _ _ (c.in_ok-moment.ensures.ok tells) (shows_none _))) in
+    (shows_since moment _ _ _ _ (c.in_ok-moment.ensures.ok tells) (shows_none _ _))) in
     rw waited.unchanged (on_err _ (breaks_more g.F.Fader.stands_for _ _ _ night night _ _ _ quiet.0
     (breaks_none g.F.Fader.stands_for
     (g.B.Booth.tells c.wait.new.booth × g.L.Link.tells c.args.link.now) night _ _ _

@@ -17,3 +17,11 @@ returns-in-End-clause-stands g c = record {
   stands = λ happened stands. c.close.ensures happened stands;
   did = λ tells. rw c.in-End.is at (c.in_ok-count.ensures.ok tells);
 }
+
+pub returns-in-Nothing-clause-stands : goal.returns-in-Nothing-clause-stands
+returns-in-Nothing-clause-stands g c = record {
+  since = [];
+  none_asked = tt;
+  stands = λ happened stands. stands;
+  did = λ tells. rw c.in-Nothing.is at (c.in_ok-count.ensures.ok tells);
+}

@@ -1,0 +1,47 @@
+use Rattle.std.proofs.Common.{◌≡◌, ◌∙◌, [], None, Some, ap, refl, sym, subst, take}
+use Rattle.line_queue.specs.Pipes.{after_write}
+use Rattle.line_queue.specs.Stands.{StandsFor, waiting_in}
+use Rattle.line_queue.proofs.Accounting.{none_more, same_stands, take-front}
+use Rattle.line_queue.proofs.queue.LineQueue.write_part.Goals as goal
+
+pub returns-in-Ok-clause-stands : goal.returns-in-Ok-clause-stands
+returns-in-Ok-clause-stands g c = λ tells given stands.
+    let old = c.args.self.now in
+    let tape = g.P.Pipe.tape old.pipe in
+    let new = c.let_go.new.self in
+    let told = subst (λ p. g.P.Pipe.tells p) c.let_go.ensures.pipe tells in
+    let bytes : take c.in-Ok.count (take c.min-count.result c.as_slice.result.now)
+    ≡ take c.in-Ok.count (waiting_in old) = take-front c.in-Ok.count c.min-count.result
+    c.as_slice.result.now c.in-Ok.ensures.within ∙ ap (take c.in-Ok.count) c.as_slice.ensures.value in
+    let wrote : g.P.Pipe.tape new.pipe ≡ after_write tape (take c.in-Ok.count (waiting_in old)) None =
+    ap (λ p. g.P.Pipe.tape p) c.let_go.ensures.pipe ∙ c.in-Ok.ensures.ok told
+    ∙ ap (λ xs. after_write tape xs None) bytes in
+    let moved = same_stands old _ tape tape given (record {
+      notice = refl;
+      waiting = refl;
+      taken = refl;
+      dropped = refl;
+      gaps = refl;
+      failure = refl;
+    }) refl refl stands in
+    none_more new _ given (subst (λ t. StandsFor new t given) (sym wrote)
+    (c.let_go.ensures.stands tape given moved))
+
+pub returns-in-Err-2-clause-stands : goal.returns-in-Err-2-clause-stands
+returns-in-Err-2-clause-stands g c = λ tells given stands.
+    let old = c.args.self.now in
+    let tape = g.P.Pipe.tape old.pipe in
+    let new = c.fail.new.self in
+    let told = subst (λ p. g.P.Pipe.tells p) c.fail.ensures.pipe tells in
+    let wrote : g.P.Pipe.tape new.pipe ≡ after_write tape [] (Some c.in-Err.kind) =
+    ap (λ p. g.P.Pipe.tape p) c.fail.ensures.pipe ∙ c.in-Err.ensures.err told in
+    let moved = same_stands old _ tape tape given (record {
+      notice = refl;
+      waiting = refl;
+      taken = refl;
+      dropped = refl;
+      gaps = refl;
+      failure = refl;
+    }) refl refl stands in
+    none_more new _ given (subst (λ t. StandsFor new t given) (sym wrote)
+    (c.fail.ensures.stands tape given moved))

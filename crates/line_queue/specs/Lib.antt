@@ -1,0 +1,6 @@
+pub mod Notices
+pub mod Pipes
+pub mod Entries
+pub mod Stands
+pub mod Handing
+pub mod Kept

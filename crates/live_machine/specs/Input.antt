@@ -1,0 +1,40 @@
+-- What is waited for, and how long.
+use Rattle.std.specs.Prelude.{◌≤◌, ◌-◌, ℕ, min, Bool, true, List, take}
+use Rattle.live_machine.specs.declared.input.Came.{Came}
+use Rattle.live_machine.specs.declared.input.Came.TheVariants.{Bytes, End, TypedEnd, Nothing}
+
+-- what a wait brought: these bytes, an end, an end that was typed at a terminal, nothing; or it
+-- failed
+pub data Brought : Type 0 where
+  bytes : List ℕ → Brought
+  end : Brought
+  typed_end : Brought
+  nothing : Brought
+  fault : Brought
+
+-- one wait: for how many milliseconds at most, and what it brought
+pub record Wait : Type 0 where
+  pub most : ℕ
+  pub brought : Brought
+
+-- what is answered of a wait, with the block that has its bytes
+abbrev pub brought_by : Came → List ℕ → Brought
+brought_by (Bytes count) block = bytes (take count block)
+brought_by End block = end
+brought_by TypedEnd block = typed_end
+brought_by Nothing block = nothing
+
+-- a block has at most 4096 bytes
+abbrev pub IsWithin : Came → Type 0
+IsWithin (Bytes count) = count ≤ 4096
+IsWithin _ = Unit {0}
+
+-- how long it is waited, in milliseconds: until what is due next, and not beyond; and for half a
+-- second at most, since the network is looked at meanwhile
+abbrev pub wait_for : ℕ → ℕ → ℕ
+wait_for moment due = min (due - moment) 500
+
+-- an end that was typed ends the input where the night ends with it
+abbrev pub heard : Bool → Came → Came
+heard true TypedEnd = End
+heard ends came = came

@@ -1,0 +1,4 @@
+pub mod Clock
+pub mod Input
+pub mod Failure
+pub mod Kept

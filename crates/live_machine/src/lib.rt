@@ -1,0 +1,23 @@
+//! What a live night asks of the machine: what time it is, and what was typed; and why the machine
+//! did not do what it was asked for.
+//!
+//! A [`NightClock`] makes moments of what a [`MachineClock`] shows, and a [`NightInput`] says how
+//! long a [`MachineInput`] is waited for. Those of the system never tell what they gave; those over
+//! memory ([`memory`]) do, and stand in for them in tests.
+//!
+//! ```
+//! let mut clock = NightClock::new(machine_clock, 0);
+//! let mut input = NightInput::new(machine_input, false);
+//! let moment = clock.moment()?;
+//! let came = input.hear(moment, due, &mut block)?;
+//! ```
+#![tactic(auto)]
+
+mod clock;
+mod failure;
+mod input;
+pub mod memory;
+
+pub use clock::{MachineClock, NightClock, clock_law};
+pub use failure::reason;
+pub use input::{Came, MachineInput, NightInput, TURN};

@@ -1,0 +1,86 @@
+use devices::memory::Faults;
+use line_queue::{LineQueue, MemoryPipe, Notice};
+use std::io::ErrorKind;
+
+const NOTICE: Notice = Notice {
+    mark: "! ",
+    lines: "lines",
+};
+
+fn pipe(rt: &HostRuntime, room: usize, faults: Faults, kind: ErrorKind) -> MemoryPipe {
+    MemoryPipe::new(rt.alloc(), room, 100, faults, kind)
+}
+
+fn queue(rt: &HostRuntime, pipe: MemoryPipe) -> LineQueue<MemoryPipe> {
+    LineQueue::new(rt.alloc(), pipe, NOTICE).expect(rt, "a queue")
+}
+
+// A pipe that takes 100 bytes by a write gets the lines as they are.
+#[test]
+fn lines_go_through(rt: HostRuntime) {
+    let faults = Faults::new(0, 0);
+    let mut queue = queue(&rt, pipe(&rt, 1000, faults, ErrorKind::BrokenPipe));
+    queue.put(b"0 go\n");
+    queue.take(b"23 tick\n");
+    assert!(rt; queue.is_late() && queue.pipe.bytes.as_slice() == b"0 go\n");
+    queue.hand_on();
+    assert!(rt; !queue.is_late() && queue.pipe.bytes.as_slice() == b"0 go\n23 tick\n");
+    assert!(rt; queue.taken() == 13 && queue.gaps() == 0 && queue.pipe.writes == 2);
+}
+
+// Of 70 lines of 1,000 bytes the first 65 have room in a queue of 65,536 bytes whose pipe takes
+// nothing. The others are counted where they would stand, and a line behind them is kept again.
+#[test]
+fn dropped_lines_are_counted(rt: HostRuntime) {
+    let faults = Faults::new(0, 0);
+    let mut queue = queue(&rt, pipe(&rt, 0, faults, ErrorKind::BrokenPipe));
+    for _ in 0..70 {
+        queue.put(&[b'x'; 1000]);
+    }
+    assert!(rt; queue.is_late() && queue.pipe.bytes.is_empty() && queue.gaps() == 0);
+    queue.pipe.room = 100_000;
+    queue.finish();
+    queue.put(b"0 go\n");
+    let bytes = queue.pipe.bytes.as_slice();
+    assert!(rt; bytes.len() == 65_000 + 23 && bytes[..65_000].iter().all(|byte| *byte == b'x'));
+    assert!(rt; &bytes[65_000..] == b"! 5 lines dropped\n0 go\n");
+    assert!(rt; queue.gaps() == 1 && !queue.is_late());
+}
+
+// A line that is longer than the room is counted too, also where nothing waits.
+#[test]
+fn long_line_is_counted(rt: HostRuntime) {
+    let faults = Faults::new(0, 0);
+    let mut queue = queue(&rt, pipe(&rt, 1000, faults, ErrorKind::BrokenPipe));
+    queue.put(&[b'x'; 65_537]);
+    queue.put(b"0 go\n");
+    assert!(rt; queue.pipe.bytes.as_slice() == b"! 1 lines dropped\n0 go\n");
+}
+
+// A write that a signal interrupts is made again; behind one that failed nothing is written.
+#[test]
+fn nothing_is_written_behind_a_failure(rt: HostRuntime) {
+    let again = pipe(&rt, 1000, Faults::new(0, 1), ErrorKind::Interrupted);
+    let mut interrupted = queue(&rt, again);
+    interrupted.put(b"0 go\n");
+    assert!(rt; interrupted.failure().is_none() && interrupted.pipe.bytes.as_slice() == b"0 go\n");
+    let broken = pipe(&rt, 1000, Faults::new(1, 1), ErrorKind::BrokenPipe);
+    let mut failed = queue(&rt, broken);
+    for _ in 0..3 {
+        failed.put(b"0 go\n");
+    }
+    assert!(rt; failed.failure() == Some(ErrorKind::BrokenPipe));
+    assert!(rt; failed.pipe.bytes.as_slice() == b"0 go\n" && failed.pipe.writes == 2);
+}
+
+// Where memory is refused there is no queue; behind that there is one, with nothing in it.
+#[test]
+fn each_growth_refused(rt: HostRuntime) {
+    let faults = Faults::new(0, 0);
+    let first = pipe(&rt, 1000, faults, ErrorKind::BrokenPipe);
+    let queue = match LineQueue::new(rt.alloc(), first, NOTICE) {
+        Ok(queue) => queue,
+        Err(_) => queue(&rt, pipe(&rt, 1000, faults, ErrorKind::BrokenPipe)),
+    };
+    assert!(rt; !queue.is_late() && queue.taken() == 0 && queue.gaps() == 0);
+}
