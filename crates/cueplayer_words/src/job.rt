@@ -26,7 +26,7 @@ impl Name {
     ///
     /// # Errors
     ///
-    /// Where a growth was refused.
+    /// Where memory was refused.
     pub fn new(alloc: Global, text: &str) -> Result<Name, AllocError>
         ensures { IfOk result (λ name. name ≡ text.now) }
     {
