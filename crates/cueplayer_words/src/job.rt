@@ -26,7 +26,7 @@ impl Name {
     ///
     /// # Errors
     ///
-    /// Where memory was refused.
+    /// Where a growth was refused.
     pub fn new(alloc: Global, text: &str) -> Result<Name, AllocError>
         ensures { IfOk result (λ name. name ≡ text.now) }
     {
