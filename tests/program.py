@@ -128,9 +128,11 @@ class ProgramTest(unittest.TestCase):
         self.assertRuns(["check", "-"], show, out=counts(**expected))
 
     def assertFault(self, show, fault):
-        """What reads a show refuses it with this fault."""
+        """What reads a show refuses it with this fault; `explain` prints its faulty lines."""
         err = f"show{fault}\n".encode()
-        alone = ["check", "-"], ["explain", "-"], ["cues", "-"]
+        explained = run("explain", "-", stdin=show)
+        self.assertEqual((3, err), (explained.status, explained.err))
+        alone = ["check", "-"], ["check", "-", "--strict"], ["cues", "-"]
         for job in (*alone, ["look", "-", "1", "--cid", CID], ["slots", "-", "1"]):
             self.assertRuns(job, show, status=3, err=err)
 

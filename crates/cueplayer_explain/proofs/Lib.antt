@@ -1,3 +1,4 @@
 pub mod Lines
+pub mod NoteLines
 pub mod OneLine
 mod Rows
