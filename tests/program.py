@@ -29,8 +29,8 @@ FAULT = re.compile(
     rb"|device fault|lost \d+)\n"
 )
 
-# What `listen` tells before it waits.
-WAITING = (b"listening at ", b"this machine hears ")
+# What `listen` tells before it waits, and `check` of a file that is no text.
+WAITING = (b"listening at ", b"this machine hears ", b"the show has no cue, ")
 
 # What `live` tells at its start: to what it sends, and by which card, in one line or more.
 START = re.compile(

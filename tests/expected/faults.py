@@ -81,4 +81,5 @@ def faults(text):
         except LineFault as fault:
             told.append(faulty_line(n, line, words, str(fault)))
             reader.owner = owner_below(words) if words[0].upper() in PRIMARY else above
+            reader.named = "cues", 1
     return [*told, f"check answers {decides.removeprefix('show ')}"]

@@ -66,13 +66,12 @@ abbrev pub way_text : Option ℕ → List ℕ
 way_text (Some next) = codes "to " ++ decimal_text next
 way_text None = codes "nowhere"
 
-abbrev pub unfollowed_text : ℕ → Option ℕ → List ℕ
-unfollowed_text to next =
-    codes "LINK " ++ decimal_text to ++ codes " is not followed: GO goes " ++ way_text next
+abbrev pub unfollowed_text : ℕ → List ℕ
+unfollowed_text to = codes "LINK " ++ decimal_text to ++ codes " is not followed: GO goes "
 
 -- a link to a cue, where GO goes to that cue
 abbrev pub link_text : Option ℕ → Option ℕ → List ℕ
-link_text (Some to) next = unfollowed_text to next
+link_text (Some to) next = unfollowed_text to ++ way_text next
 link_text None next = codes "LINK without a cue number"
 
 abbrev pub cue_link_text : ℕ → Option ℕ → Option ℕ → List ℕ
@@ -100,11 +99,15 @@ link_note show above line =
 abbrev pub is_digit : ℕ → Bool
 is_digit byte = nat_le 48 byte && nat_le byte 57
 
--- a comma stands between two digits, before a comment
+-- a comma between two digits
+abbrev pub is_decimal : ℕ → ℕ → ℕ → Bool
+is_decimal a b c = is_digit a && (b == 44) && is_digit c
+
+-- such a comma stands before a comment
 abbrev pub has_decimal_comma : List ℕ → Bool
 has_decimal_comma (a ∷ b ∷ c ∷ rest) =
     if a == 33 then false
-    else ((is_digit a && (b == 44) && is_digit c) || has_decimal_comma (b ∷ c ∷ rest))
+    else (is_decimal a b c || has_decimal_comma (b ∷ c ∷ rest))
 has_decimal_comma _ = false
 
 -- the times of UP or DOWN, and that of FOLLOWON

@@ -6,7 +6,8 @@ ghost use Rattle.cueplayer_explain.specs.LineNotes.{is_link, linked, is_followed
 ghost use Rattle.cueplayer_explain.specs.LineNotes.{link_by, cue_link_text, unfollowed_text};
 ghost use Rattle.cueplayer_explain.specs.LineNotes.{hour_text};
 ghost use Rattle.cueplayer_explain.specs.LineNotes.{link_text, link_told, has_decimal_comma};
-ghost use Rattle.cueplayer_explain.specs.LineNotes.{comma_told, times_text, rate_times};
+ghost use Rattle.cueplayer_explain.specs.LineNotes.{is_decimal};
+ghost use Rattle.cueplayer_explain.specs.LineNotes.{comma_text, comma_told, times_text, rate_times};
 ghost use Rattle.cueplayer_explain.specs.LineNotes.{follow_times, rate_text, hour_told, hour_by};
 ghost use Rattle.cueplayer_explain.specs.Skipped.{shown};
 
@@ -110,18 +111,21 @@ fn push_link_text(
     ensures { OnOk result (out.new.items ≡ out.old.items ++ link_text to next) }
 {
     match to {
-        Some(to) => push_unfollowed(out, to, next),
+        Some(to) => {
+            push_unfollowed(out, to)?;
+            push_way(out, next)?;
+            Ok(())
+        }
         None => out.extend_from_slice(b"LINK without a cue number"),
     }
 }
 
-fn push_unfollowed(out: &mut Vec<u8>, to: u32, next: Option<u32>) -> Result<(), AllocError>
-    ensures { OnOk result (out.new.items ≡ out.old.items ++ unfollowed_text to next) }
+fn push_unfollowed(out: &mut Vec<u8>, to: u32) -> Result<(), AllocError>
+    ensures { OnOk result (out.new.items ≡ out.old.items ++ unfollowed_text to) }
 {
     out.extend_from_slice(b"LINK ")?;
     push_decimal(out, to)?;
     out.extend_from_slice(b" is not followed: GO goes ")?;
-    push_way(out, next)?;
     Ok(())
 }
 
@@ -168,9 +172,19 @@ fn push_rate_comma(
     if !has_decimal_comma(line) {
         return Ok(());
     }
-    push_comma_front(out, number, line)?;
+    push_front(out, number)?;
+    push_rate_comma_text(out, rate, line)?;
+    out.push(b'\n')?;
+    Ok(())
+}
+
+fn push_rate_comma_text(out: &mut Vec<u8>, rate: Rate, line: &[u8]) -> Result<(), AllocError>
+    ensures { OnOk result (out.new.items ≡ out.old.items ++ comma_text line.now (rate_times rate)) }
+{
+    push_comma_words(out, line)?;
     push_rate_times(out, rate)?;
-    push_comma_end(out)
+    out.extend_from_slice(b"; write a point for a decimal")?;
+    Ok(())
 }
 
 fn push_rate_times(out: &mut Vec<u8>, rate: Rate) -> Result<(), AllocError>
@@ -181,13 +195,6 @@ fn push_rate_times(out: &mut Vec<u8>, rate: Rate) -> Result<(), AllocError>
     out.extend_from_slice(b", delay ")?;
     push_decimal(out, rate.delay)?;
     Ok(())
-}
-
-fn push_comma_end(out: &mut Vec<u8>) -> Result<(), AllocError>
-    ensures { OnOk result (out.new.items
-        ≡ out.old.items ++ codes "; write a point for a decimal\n") }
-{
-    out.extend_from_slice(b"; write a point for a decimal\n")
 }
 
 fn push_follow_comma(
@@ -202,17 +209,27 @@ fn push_follow_comma(
     if !has_decimal_comma(line) {
         return Ok(());
     }
-    push_comma_front(out, number, line)?;
-    out.extend_from_slice(b"time ")?;
-    push_decimal(out, time)?;
-    push_comma_end(out)
+    push_front(out, number)?;
+    push_follow_comma_text(out, time, line)?;
+    out.push(b'\n')?;
+    Ok(())
 }
 
-fn push_comma_front(out: &mut Vec<u8>, number: u32, line: &[u8]) -> Result<(), AllocError>
-    ensures { OnOk result (out.new.items ≡ out.old.items ++ codes "note: line " ++ decimal number
-        ++ codes ": " ++ shown (take 200 line.now) ++ codes ": the comma parts two words: ") }
+fn push_follow_comma_text(out: &mut Vec<u8>, time: u32, line: &[u8]) -> Result<(), AllocError>
+    ensures { OnOk result (out.new.items
+        ≡ out.old.items ++ comma_text line.now (follow_times time)) }
 {
-    push_front(out, number)?;
+    push_comma_words(out, line)?;
+    out.extend_from_slice(b"time ")?;
+    push_decimal(out, time)?;
+    out.extend_from_slice(b"; write a point for a decimal")?;
+    Ok(())
+}
+
+fn push_comma_words(out: &mut Vec<u8>, line: &[u8]) -> Result<(), AllocError>
+    ensures { OnOk result (out.new.items ≡ out.old.items ++ shown (take 200 line.now)
+        ++ codes ": the comma parts two words: ") }
+{
     push_shown(out, first_bytes(line))?;
     out.extend_from_slice(b": the comma parts two words: ")?;
     Ok(())
@@ -223,15 +240,21 @@ fn has_decimal_comma(line: &[u8]) -> bool
     ensures { result ≡ has_decimal_comma line.now }
 {
     for end in 2..line.len() {
-        let first = line[end - 2];
+        let (first, middle, last) = (line[end - 2], line[end - 1], line[end]);
         if first == b'!' {
             return false;
         }
-        if first.is_ascii_digit() && line[end - 1] == b',' && line[end].is_ascii_digit() {
+        if is_decimal(first, middle, last) {
             return true;
         }
     }
     false
+}
+
+fn is_decimal(first: u8, middle: u8, last: u8) -> bool
+    ensures { result ≡ is_decimal first middle last }
+{
+    first.is_ascii_digit() && middle == b',' && last.is_ascii_digit()
 }
 
 /// Appends the note on an UP or DOWN line of a cue that lasts more than an hour.
