@@ -70,6 +70,16 @@ class Printed(ProgramTest):
         self.assertEqual((3, told), explained(show))
         self.assertEqual(told, faults.faults(show))
 
+    def test_examples_of_slips(self):
+        """What stands beside each example is printed, and is what the second readers say."""
+        for file in sorted((TOP / "examples/slips").glob("*.asc")):
+            with self.subTest(file.name):
+                content = file.read_bytes()
+                self.assertExplained(content)
+                printed = run("explain", "-", stdin=content).out
+                self.assertEqual(file.with_suffix(".explained").read_bytes(), printed)
+                self.assertEqual(3, run("check", "--strict", "-", stdin=content).status)
+
     def test_too_many_cues(self):
         show = text(*(f"CUE {n}" for n in range(1, 2002)), "CHAN x")
         told = ["line 2002: HalfPair: CHAN x", "check answers line 2001: Limit"]
