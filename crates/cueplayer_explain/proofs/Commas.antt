@@ -30,4 +30,4 @@ pub too_few : (bytes : List ℕ) → length bytes ≤ 2 → has_decimal_comma by
 too_few [] within = refl
 too_few (a ∷ []) within = refl
 too_few (a ∷ b ∷ []) within = refl
-too_few (a ∷ b ∷ c ∷ rest) within = omega (arith, within)
+too_few (a ∷ b ∷ c ∷ rest) within = absurd (omega (arith, within))

@@ -6,7 +6,7 @@ ghost use Rattle.cueplayer_explain.specs.LineNotes.{is_link, linked, is_followed
 ghost use Rattle.cueplayer_explain.specs.LineNotes.{link_by, cue_link_text, unfollowed_text};
 ghost use Rattle.cueplayer_explain.specs.LineNotes.{hour_text};
 ghost use Rattle.cueplayer_explain.specs.LineNotes.{link_text, link_told, has_decimal_comma};
-ghost use Rattle.cueplayer_explain.specs.LineNotes.{is_decimal};
+ghost use Rattle.cueplayer_explain.specs.LineNotes.{is_decimal, note_on};
 ghost use Rattle.cueplayer_explain.specs.LineNotes.{comma_text, comma_told, times_text, rate_times};
 ghost use Rattle.cueplayer_explain.specs.LineNotes.{follow_times, rate_text, hour_told, hour_by};
 ghost use Rattle.cueplayer_explain.specs.Skipped.{shown};
@@ -152,9 +152,8 @@ pub fn push_comma(
         ≡ out.old.items ++ comma_told number (times_text statement.now) line.now) }
 {
     match statement {
-        Statement::Rises(_, rate) | Statement::Falls(_, rate) => {
-            push_rate_comma(out, number, *rate, line)
-        }
+        Statement::Rises(_, rate) => push_rate_comma(out, number, *rate, line),
+        Statement::Falls(_, rate) => push_rate_comma(out, number, *rate, line),
         Statement::Follows(_, time) => push_follow_comma(out, number, *time, line),
         _ => Ok(()),
     }
@@ -169,9 +168,21 @@ fn push_rate_comma(
     ensures { OnOk result (out.new.items
         ≡ out.old.items ++ comma_told number (Some (rate_times rate)) line.now) }
 {
-    if !has_decimal_comma(line) {
-        return Ok(());
+    if has_decimal_comma(line) {
+        push_rate_note(out, number, rate, line)?;
     }
+    Ok(())
+}
+
+fn push_rate_note(
+    out: &mut Vec<u8>,
+    number: u32,
+    rate: Rate,
+    line: &[u8],
+) -> Result<(), AllocError>
+    ensures { OnOk result (out.new.items
+        ≡ out.old.items ++ note_on number (comma_text line.now (rate_times rate))) }
+{
     push_front(out, number)?;
     push_rate_comma_text(out, rate, line)?;
     out.push(b'\n')?;

@@ -1,9 +1,21 @@
-use Rattle.std.proofs.Common.{◌≡◌, ◌∙◌, ◌+◌, ◌∷◌, length, sym, ap, arith}
+use Rattle.std.proofs.Common.{◌≡◌, ◌∙◌, ◌+◌, [], ◌∷◌, length, refl, sym, ap, arith, rules}
 use mathlib.Core.List.{reverse_aux}
-use Rattle.ascii_text.specs.Text.{numbered_from}
+use Rattle.ascii_text.specs.Text.{lines_of, numbered_from}
 use Rattle.cueplayer_explain.proofs.Lines.{next_numbered}
 use Rattle.cueplayer_explain.proofs.NoteLines.{all_noted, none_more}
 use Rattle.cueplayer_explain.proofs.note_lines.LineNotes.read.Goals as goal
+
+pub loop-line-init : goal.loop-line-init
+loop-line-init c = (
+  [],
+  lines_of c.args.text.now,
+  record {
+    numbered = search rules;
+    all = refl;
+    within = omega arith;
+    noted = c.new-notes.ensures c.args.show.now;
+  },
+)
 
 pub returns-then-line-lines : goal.returns-then-line-lines
 returns-then-line-lines c =
