@@ -1,11 +1,12 @@
 # Completion for bash of the words of cueplayer: jobs, options, files.
 # shellcheck shell=bash
 
-# The options of a job. Each but --any-route, --end-with-input, --json, --resume and --spare takes a
-# value.
+# The options of a job. Each but --any-route, --end-with-input, --json, --resume, --spare and
+# --strict takes a value.
 _cueplayer_options() {
     local source="--to --cid --priority --base --interface --any-route --name --ttl"
     case $1 in
+        check) echo --strict ;;
         cues) echo --json ;;
         look) echo --cid ;;
         slots) echo --base ;;
@@ -62,7 +63,7 @@ _cueplayer_parse() {
             words_only=1
         elif [[ $word == -?* && -z $words_only ]]; then
             case $word in
-                -h | --help | --any-route | --end-with-input | --json | --resume | --spare) ;;
+                -h | --help | --any-route | --end-with-input | --json | --resume | --spare | --strict) ;;
                 *) option=$word ;;
             esac
             used+="$word "

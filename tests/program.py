@@ -29,8 +29,8 @@ FAULT = re.compile(
     rb"|device fault|lost \d+)\n"
 )
 
-# What `listen` tells before it waits.
-WAITING = (b"listening at ", b"this machine hears ")
+# What `listen` tells before it waits, and `check` of a file that is no text.
+WAITING = (b"listening at ", b"this machine hears ", b"the show has no cue, ")
 
 # What `live` tells at its start: to what it sends, and by which card, in one line or more.
 START = re.compile(
@@ -139,9 +139,11 @@ class ProgramTest(unittest.TestCase):
         self.assertRuns(["check", "-"], show, out=counts(**expected))
 
     def assertFault(self, show, fault):
-        """What reads a show refuses it with this fault."""
+        """What reads a show refuses it with this fault; `explain` prints its faulty lines."""
         err = f"show{fault}\n".encode()
-        alone = ["check", "-"], ["explain", "-"], ["cues", "-"]
+        explained = run("explain", "-", stdin=show)
+        self.assertEqual((3, err), (explained.status, explained.err))
+        alone = ["check", "-"], ["check", "-", "--strict"], ["cues", "-"]
         for job in (*alone, ["look", "-", "1", "--cid", CID], ["slots", "-", "1"]):
             self.assertRuns(job, show, status=3, err=err)
 

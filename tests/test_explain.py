@@ -14,13 +14,13 @@ class Explain(ProgramTest):
                     self.assertExplains(above(name) + show, explained)
 
     def assertExplains(self, show, explained):
-        """It prints this: a line for each that `check` counts as skipped, and then notes."""
+        """It prints this: a line for each that `check` counts as skipped, and notes."""
         self.assertRuns(["explain", "-"], show, out=explained)
         counted = int(run("check", "-", stdin=show).out.split()[-1])
         self.assertEqual(counted, sum(line.startswith(b"line ") for line in explained.splitlines()))
 
     def test_utf_16(self):
-        """With a mark in front and without one, of either order of bytes."""
+        """With a mark in front and without one, of either order of bytes: its note is the first."""
         notes = ["note: the file is UTF-16, which is not read as text: save it as ASCII"]
         notes += ["note: no dimmer is patched: no universe is sent"]
         marks = ("utf-16-le", b"\xff\xfe"), ("utf-16-be", b"\xfe\xff")
@@ -28,7 +28,8 @@ class Explain(ProgramTest):
             with self.subTest(encoding=encoding, front=front):
                 outcome = run("explain", "-", stdin=front + "CUE 1\nCHAN 1@FL\n".encode(encoding))
                 self.assertEqual((0, b""), (outcome.status, outcome.err))
-                self.assertEqual(notes, outcome.out.decode().splitlines()[-2:])
+                lines = outcome.out.decode().splitlines()
+                self.assertEqual(notes, [lines[0], lines[-1]])
 
     def test_examples(self):
         """All that the examples say is read and shown."""

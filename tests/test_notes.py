@@ -42,7 +42,8 @@ class Notes(unittest.TestCase):
             "line 7: cue 2: LINK without a cue number",
             "line 10: cue 3: LINK 1 is not followed: GO goes nowhere",
         )
-        self.assertNotes(["CUE 1", "LINK 7", "CLEAR CUES", "CUE 1", "CHAN 1@1"])
+        gone = ["CUE 1", "LINK 7", "CLEAR CUES", "CUE 2", "CHAN 1@1"]
+        self.assertNotes(gone)
 
     def test_parts(self):
         cue = ("CUE 4", "PART 1", "UP 5", "CHAN 1@50 2@50", "PART 2", "UP 60 10", "CHAN 3@70")
@@ -65,8 +66,9 @@ class Notes(unittest.TestCase):
     def test_opened_again(self):
         self.assertNotes(
             ["CUE 5", "CHAN 1@1", "CUE 5", "SUB 2", "CUE 5.0", "SUB 02", "GROUP 1", "CUE 5 2"],
-            "lines 2 4 6: cue 5 is opened more than once: its lines count together",
-            "lines 5 7: submaster 2 is opened more than once: its lines count together",
+            "line 4: cue 5 is opened again, as on line 2: their lines count together",
+            "line 6: cue 5 is opened again, as on line 2: their lines count together",
+            "line 7: submaster 2 is opened again, as on line 5: their lines count together",
         )
         self.assertNotes(["CUE 5", "CLEAR CUES", "CUE 5", "CHAN 1@1"])
 
@@ -92,7 +94,9 @@ class Notes(unittest.TestCase):
     def test_patched_again(self):
         self.assertNotes(
             ["PATCH 1 2<3@FL", "PATCH 1 3<3@50 3<2@FL 0<2@FL 1<2@FL 1<1@50"],
-            "lines 1 2 3: dimmer 3 is patched to channels 3 2 3: the last counts",
+            "line 2: dimmer 3 is patched to channel 2, and on line 1 to channel 3: the last counts",
+            "line 3: dimmer 3 is patched to channel 3, and on line 2 to channel 2: the last counts",
+            "line 3: dimmer 2 is patched to channel 3, and on line 1 to channel 2: the last counts",
         )
         self.assertNotes(["CLEAR PATCH", "PATCH 1 2<3@FL"])
 

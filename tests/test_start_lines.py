@@ -31,7 +31,7 @@ class StartLines(LiveTest):
         """As `check` counts them; of each it says whether there is one or more."""
         for show, *counts in (
             (b"", "0 cues", "0 submasters", "0 groups", "0 dimmers"),
-            (text("CUE 1", "CUE 1", "SUB 7", "GROUP 9", "PATCH 1 1<1@FL"),)
+            (text("CUE 1", "SUB 7", "GROUP 9", "PATCH 1 1<1@FL"),)
             + ("1 cue", "1 submaster", "1 group", "1 dimmer"),
             (text("SUB 1", "SUB 2", "GROUP 1", "GROUP 2", "GROUP 3", "PATCH 1 1<1@FL 1<2@FL"),)
             + ("0 cues", "2 submasters", "3 groups", "2 dimmers"),
@@ -47,6 +47,21 @@ class StartLines(LiveTest):
         for skipped, told in ((1, "1 line"), (2, "2 lines"), (30, "30 lines")):
             self.show.write_bytes(text("CUE 1", *["WHAT"] * skipped))
             self.assertEqual(f"{counts}; {told} skipped: see cueplayer explain", self.lines()[0])
+
+    def test_notes_of_weight(self):
+        counts = "show: 1 cue, 0 submasters, 0 groups, 0 dimmers"
+        for more, told in (
+            (["UP 0,5"], "1 note of weight"),
+            (["UP 0,5", "CUE 1"], "2 notes of weight"),
+            (["WHAT", "LINK 7"], "1 line skipped, 1 note of weight"),
+        ):
+            self.show.write_bytes(text("CUE 1", *more))
+            self.assertEqual(f"{counts}; {told}: see cueplayer explain", self.lines()[0])
+
+    def test_no_text(self):
+        self.show.write_bytes(b"\x89PNG\r\n\x1a\n")
+        told = "the show has no cue, and its file seems to be a picture (PNG)"
+        self.assertTrue(self.lines()[1].startswith(told))
 
     def test_universes(self):
         """Those that a dimmer is patched in, with the numbers that are sent."""

@@ -4,6 +4,7 @@ ghost use Rattle.cueplayer_faults.specs.declared.fault.RunFault.TheVariants as r
 use crate::refusal::Refusal;
 use crate::remark::{Remark, of_device, of_line, of_setup, of_show, plain};
 use cueplayer_faults::RunFault;
+use show_reader::ShowFault;
 use std::io::ErrorKind;
 
 const INPUT_LINE: &str = "MOMENT and go, back, goto CUE, goto CUE in TIME, sub N LEVEL, \
@@ -40,6 +41,11 @@ impl Failure {
             fault: RunFault::Device,
             remark: plain(words),
         }
+    }
+
+    /// This show was not read.
+    pub fn of_show(fault: ShowFault, show: &[u8]) -> Failure {
+        Failure::of_run(RunFault::from(fault), show, None)
     }
 
     /// A run over this show, with lines of standard input, and with replies to standard output
@@ -104,6 +110,8 @@ pub enum JobFault {
     Run(Failure),
     /// A night did not begin, since its record was refused.
     Record(Refusal),
+    /// A strict check found what may mean something else than is played.
+    Doubts(Remark),
     /// A night did not begin, since its words do not suit the show or the machine.
     Words(Remark),
 }

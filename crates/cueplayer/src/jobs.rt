@@ -8,10 +8,10 @@ use crate::failure::{Failure, JobFault};
 use crate::live_job::{LiveWords, MainWords, play_live};
 use crate::live_name::{OldRecord, live_name};
 use crate::reading::{file_text, script_text, show_text};
-use crate::remark::{of_device, plain};
+use crate::remark::{of_device, of_seeming, of_weight, plain};
 use crate::source_name::source_name;
 use cueplayer_cues::{cues, cues_json};
-use cueplayer_explain::explain;
+use cueplayer_explain::{explain, seems, weigh};
 use cueplayer_faults::RunFault;
 use cueplayer_play::play;
 use cueplayer_rehearse::rehearse_text;
@@ -22,6 +22,8 @@ use devices::Output;
 use fade_core::StepFader;
 use sacn_packet::SourceName;
 use sacn_source::Identity;
+use show_core::Show;
+use show_reader::read_show;
 use std::cell::RefCell;
 use std::io::{BufWriter, ErrorKind};
 use std::os::fd::AsFd;
@@ -42,7 +44,7 @@ pub fn run(rt: &HostRuntime, job: Job) -> Result<(), JobFault>
     requires { IsInRange job }
 {
     match job {
-        Job::Check { show } => ends(check_show(rt, show.as_str())),
+        Job::Check { show, is_strict } => check_show(rt, show.as_str(), is_strict),
         Job::Look { show, cue, cid } => ends(look_at(rt, show.as_str(), cue, cid)),
         Job::Explain { show } => ends(explain_show(rt, show.as_str())),
         Job::Cues { show, is_json } => ends(show_cues(rt, show.as_str(), is_json)),
@@ -131,11 +133,30 @@ pub fn ended(
     }
 }
 
-fn check_show(rt: &HostRuntime, show: &str) -> Result<(), Failure> {
+fn check_show(rt: &HostRuntime, show: &str, is_strict: bool) -> Result<(), JobFault> {
     let text = show_text(rt, show)?;
+    let text = text.as_slice();
     let mut out = SystemOutput::new(rt.stdout());
-    let answer = check(rt.alloc(), text.as_slice(), &mut out);
-    ended(answer, text.as_slice(), out.failure())
+    let answer = check(rt.alloc(), text, &mut out);
+    ended(answer, text, out.failure())?;
+    let loaded = read_show(rt.alloc(), text).map_err(|fault| Failure::of_show(fault, text))?;
+    tell_seeming(rt, text, &loaded.show);
+    if !is_strict {
+        return Ok(());
+    }
+    match weigh(rt.alloc(), text, &loaded) {
+        Ok(weight) if weight.is_nothing() => Ok(()),
+        Ok(weight) => Err(JobFault::Doubts(of_weight(weight))),
+        Err(_) => Err(JobFault::Run(Failure::from(RunFault::Memory))),
+    }
+}
+
+// Tells what the file of a show without cues seems to be, where that is no text.
+fn tell_seeming(rt: &HostRuntime, text: &[u8], show: &Show) {
+    if let Some(what) = seems(text, show) {
+        tell(rt, of_seeming(what).as_slice());
+        tell(rt, b"\n");
+    }
 }
 
 fn explain_show(rt: &HostRuntime, show: &str) -> Result<(), Failure> {
@@ -177,6 +198,13 @@ fn show_slots(rt: &HostRuntime, show: &str, cue: u32, base: u16) -> Result<(), F
         tell(rt, b"no dimmer is patched\n");
     }
     Ok(())
+}
+
+// The same of a show that may not be read.
+fn tell_seeming_of(rt: &HostRuntime, text: &[u8]) {
+    if let Ok(loaded) = read_show(rt.alloc(), text) {
+        tell_seeming(rt, text, &loaded.show);
+    }
 }
 
 // Tells this on standard error.
@@ -226,6 +254,7 @@ fn play_lines(rt: &HostRuntime, night: &Night, source: Identity) -> Result<(), J
     let text = file_text(rt, night.show.as_str())?;
     let text = text.as_slice();
     check_targets(rt, night, text)?;
+    tell_seeming_of(rt, text);
     let lock = CidLock::take(rt, night.cid).map_err(Failure::from)?;
     if lock.is_none() {
         tell(rt, NO_LOCK);

@@ -41,6 +41,9 @@ use words::UserWords;
 // The exit status of words that are refused.
 const REFUSED: u8 = 2;
 
+// The exit status of a show that is refused.
+const SHOW_REFUSED: u8 = 3;
+
 // The exit status of a record that is refused.
 const RECORD_REFUSED: u8 = 4;
 
@@ -70,6 +73,13 @@ fn tell(rt: &HostRuntime, remark: &Remark) {
         let _ = err.write(remark.as_slice());
         let _ = err.write(b"\n");
     }
+}
+
+// A show is refused by a strict check.
+fn doubt(rt: &HostRuntime, remark: &Remark) -> u8 {
+    let _ = SystemOutput::new(rt.stderr()).write(b"show: Doubtful\n");
+    tell(rt, remark);
+    SHOW_REFUSED
 }
 
 fn unfit(rt: &HostRuntime, remark: &Remark) -> u8 {
@@ -120,6 +130,7 @@ fn status_of(rt: &HostRuntime, answer: Result<(), JobFault>) -> u8 {
         Ok(()) => report(rt, &Ok(())),
         Err(JobFault::Run(failure)) => report(rt, &Err(failure)),
         Err(JobFault::Record(refusal)) => refuse(rt, &refusal),
+        Err(JobFault::Doubts(remark)) => doubt(rt, &remark),
         Err(JobFault::Words(remark)) => unfit(rt, &remark),
     }
 }

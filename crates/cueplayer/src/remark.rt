@@ -1,5 +1,6 @@
 use arrayvec::{ArrayString, ArrayVec};
 use ascii_text::Lines;
+use cueplayer_explain::Weight;
 use cueplayer_words::{Form, Misfit};
 use live_machine::reason;
 use show_reader::ShowFault;
@@ -74,6 +75,32 @@ pub fn of_misfit(misfit: &Misfit<'_>) -> Remark {
     push_shown(&mut remark, b": ");
     push_shown(&mut remark, form.as_bytes());
     remark
+}
+
+/// What the file of a show without cues seems to be.
+pub fn of_seeming(what: &str) -> Remark {
+    let front = b"the show has no cue, and its file seems to be ";
+    joined(&[front, what.as_bytes(), b": check the file's name and how it was saved"])
+}
+
+/// What of a show may mean something else than is played.
+pub fn of_weight(weight: Weight) -> Remark {
+    let Weight {
+        notes,
+        unknown_lines,
+    } = weight;
+    let note = if notes == 1 { "note" } else { "notes" };
+    let line = if unknown_lines == 1 { "line" } else { "lines" };
+    let mut text = ArrayString::<128>::new();
+    let _ = match (notes, unknown_lines) {
+        (0, _) => write!(text, "{unknown_lines} {line} with an unknown keyword"),
+        (_, 0) => write!(text, "{notes} {note} of weight"),
+        _ => write!(
+            text,
+            "{notes} {note} of weight, {unknown_lines} {line} with an unknown keyword"
+        ),
+    };
+    joined(&[text.as_str().as_bytes(), b": see cueplayer explain"])
 }
 
 /// The line of a show at which a fault is, and the rule that it breaks.

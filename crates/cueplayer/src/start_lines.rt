@@ -1,9 +1,10 @@
 use crate::network_lines::{NetworkLine, push_targets, tell_network};
-use crate::remark::of_name;
+use crate::remark::{of_name, of_seeming};
 use crate::screen::Screen;
 use crate::source_name::source_name;
 use arrayvec::ArrayString;
 use console_text::cue_number;
+use cueplayer_explain::{Weight, seems, weigh};
 use cueplayer_faults::RunFault;
 use cueplayer_words::Night;
 use patch_core::has_numbers;
@@ -73,8 +74,13 @@ pub fn tell_start(
     if !has_numbers(&loaded.show, night.base) {
         return Err(RunFault::Base);
     }
+    let weight = weigh(rt.alloc(), show, &loaded)?;
     let is_interruptible = is_interruptible(rt)?;
-    screen.tell(show_line(&loaded).as_str().as_bytes());
+    screen.tell(show_line(&loaded, weight).as_str().as_bytes());
+    if let Some(what) = seems(show, &loaded.show) {
+        screen.tell(of_seeming(what).as_slice());
+        screen.tell(b"\n");
+    }
     screen.tell(sends_line(night, &loaded.show).as_str().as_bytes());
     tell_network(rt, night, network, screen);
     screen.tell(record_line(recorded).as_str().as_bytes());
@@ -88,7 +94,7 @@ pub fn tell_start(
     Ok(())
 }
 
-fn show_line(loaded: &Loaded) -> Line {
+fn show_line(loaded: &Loaded, weight: Weight) -> Line {
     let Counts {
         cues,
         subs,
@@ -104,13 +110,29 @@ fn show_line(loaded: &Loaded) -> Line {
     push_count(&mut line, groups, "group");
     let _ = line.try_push_str(", ");
     push_count(&mut line, dimmers, "dimmer");
-    if loaded.skipped > 0 {
-        let _ = line.try_push_str("; ");
-        push_count(&mut line, loaded.skipped, "line");
-        let _ = line.try_push_str(" skipped: see cueplayer explain");
-    }
+    push_doubts(&mut line, loaded.skipped, weight.notes);
     let _ = line.try_push_str("\n");
     line
+}
+
+// How many lines of a show are skipped, and how many notes of weight there are on it.
+fn push_doubts(line: &mut Line, skipped: u32, notes: u32) {
+    if skipped == 0 && notes == 0 {
+        return;
+    }
+    let _ = line.try_push_str("; ");
+    if skipped > 0 {
+        push_count(line, skipped, "line");
+        let _ = line.try_push_str(" skipped");
+    }
+    if skipped > 0 && notes > 0 {
+        let _ = line.try_push_str(", ");
+    }
+    if notes > 0 {
+        push_count(line, notes, "note");
+        let _ = line.try_push_str(" of weight");
+    }
+    let _ = line.try_push_str(": see cueplayer explain");
 }
 
 // So many of what has this name.

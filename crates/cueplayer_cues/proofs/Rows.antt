@@ -3,7 +3,7 @@ use Rattle.std.specs.Prelude.{◌≡◌, refl, codes, [], ◌∷◌, None}
 use Rattle.std.specs.Fmt.{digits}
 use Rattle.hex.specs.Hex.{encode_with}
 use Rattle.show_line.specs.declared.statement.Record.TheVariants.{Cue, Group, Sub}
-use Rattle.cueplayer_cues.specs.Decimals.{decimal_text}
+use Rattle.cueplayer_explain.specs.Decimals.{decimal_text}
 use Rattle.cueplayer_cues.specs.Json.{items_text, string_text}
 use Rattle.cueplayer_cues.specs.Labels.{label_after}
 use Rattle.cueplayer_cues.specs.Table.{cue_line}

@@ -10,7 +10,7 @@ use Rattle.show_core.specs.Tables.{LevelMap, PatchMap, Tables}
 use Rattle.show_line.specs.declared.statement.Record.{Record}
 use Rattle.show_line.specs.declared.statement.Record.TheVariants.{Cue, Group, Sub}
 use Rattle.cueplayer_cues.specs.declared.cue_rows.CueRow.{CueRow}
-use Rattle.cueplayer_cues.specs.Decimals.{decimal_text}
+use Rattle.cueplayer_explain.specs.Decimals.{decimal_text}
 use Rattle.cueplayer_cues.specs.Rows.{cue_rows, dimmer_count}
 
 -- a byte inside a string: a quotation mark and a backslash behind a backslash, other printable

@@ -2,7 +2,6 @@ pub mod Labels
 pub mod LabelLines
 pub mod Rows
 pub mod Masters
-pub mod Decimals
 pub mod Table
 pub mod Json
 pub mod Prints

@@ -11,7 +11,7 @@ use Rattle.show_line.specs.declared.statement.Record.{Record}
 use Rattle.show_line.specs.declared.statement.Record.TheVariants.{Cue, Group, Sub}
 use Rattle.cueplayer_explain.specs.Skipped.{shown}
 use Rattle.cueplayer_cues.specs.declared.cue_rows.CueRow.{CueRow}
-use Rattle.cueplayer_cues.specs.Decimals.{decimal_text}
+use Rattle.cueplayer_explain.specs.Decimals.{decimal_text}
 use Rattle.cueplayer_cues.specs.Rows.{cue_rows, dimmer_count}
 
 -- a cell at the right of its column

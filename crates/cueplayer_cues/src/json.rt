@@ -7,9 +7,9 @@ ghost use Rattle.cueplayer_cues.specs.Json.{array_text, cue_text, dimmer_text, f
 ghost use Rattle.cueplayer_cues.specs.Json.{json_text, master_text, string_byte, string_text};
 ghost use Rattle.cueplayer_cues.specs.Json.{rate_text, universe_text};
 
-use crate::cell::{push_decimal, push_number};
 use crate::cue_rows::{CueRow, Masters, channel_count, cue_rows, dimmer_count};
 use crate::labels::Labels;
+use cueplayer_explain::{push_decimal, push_number};
 use show_core::{Levels, Rate, Show};
 use show_line::Record;
 use std::alloc::{AllocError, Global};

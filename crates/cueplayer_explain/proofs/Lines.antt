@@ -77,12 +77,12 @@ module _ (lines : List (List ℕ)) (bytes : List ℕ) (above : Heading)
 
   module _ (reading : Reading) (read : Some reading ≡ reading_of desk_limits (owner_of above) l)
     where
-      said_is : reading.statement ≡ statement_below desk_limits (words_in lines) l
+      pub said_is : reading.statement ≡ statement_below desk_limits (words_in lines) l
       said_is =
           (reading_is (owner_of above) l reading read).statement
           ∙ ap (λ o. said_under desk_limits o l) (ap owner_of heads ∙ owner_is (words_in lines))
 
-      keyword_is : reading.keyword ≡ keyword_in l
+      pub keyword_is : reading.keyword ≡ keyword_in l
       keyword_is = (reading_is (owner_of above) l reading read).keyword
 
       -- what is printed of it

@@ -1,67 +1,158 @@
-ghost use Rattle.std.specs.Prelude.{◌≡◌, ◌<◌, ◌^◌, ◌++◌, ℕ, List, length, take, reverse, map};
-ghost use Rattle.std.specs.Prelude.{flat_map, string_bytes, All, IfOk, OnOk};
-ghost use Rattle.ascii_text.specs.Text.{lines_of};
+ghost use Rattle.std.specs.Prelude.{◌≡◌, ◌<◌, ◌^◌, ◌++◌, ℕ, List, length, map, flat_map};
+ghost use Rattle.std.specs.Prelude.{IfOk, OnOk, OnErr};
+ghost use Rattle.show_core.specs.Tables.{Tables};
 ghost use Rattle.cueplayer_runs.specs.Faults.{CheckFails, ReadsFirst};
-ghost use Rattle.cueplayer_runs.specs.Prints.{PrintsTo};
-ghost use Rattle.cueplayer_explain.specs.Explained.{IsExplanationOf, IsOneLine, note_line};
-ghost use Rattle.cueplayer_explain.specs.Skipped.{explained, shown};
+ghost use Rattle.cueplayer_explain.specs.Explained.{AreLines, Explains, IsTextOf, ListsFaults};
+ghost use Rattle.cueplayer_explain.specs.Explained.{note_line, text_line};
+ghost use Rattle.cueplayer_explain.specs.NotesOf.{AreNotesOf, line_notes};
+ghost use Rattle.cueplayer_explain.specs.Skipped.{shown};
 
-use crate::notes::notes_on;
+use crate::faulty::faulty_lines;
+use crate::misspelt::push_misspelt;
+use crate::note_lines::LineNotes;
+use crate::notes::{Notes, encoding_notes, show_notes};
+use crate::numbered::push_numbered;
+use crate::parts::push_parts;
+use crate::patched::push_patched;
 use crate::skipped::{push_shown, skipped_lines};
 use cueplayer_faults::RunFault;
 use devices::Output;
-use show_reader::{Loaded, read_show};
+use show_reader::{LONGEST_TEXT, Loaded, ShowFault, read_show};
 use std::alloc::{AllocError, Global};
 
-/// Prints why lines of a show text are skipped: for each of them a line with its number, the
-/// reason, and its text; and then notes for the author of the show, each on a line that begins
-/// with `note: `.
+/// Prints notes for the author of a show, and why lines of its text are skipped.
 ///
+/// Notes on how the text is encoded come first; then for each skipped line a line with its number,
+/// the reason and its text; and then all other notes. A note is a line that begins with `note: `.
 /// Of a line the first 200 bytes are shown. A line's text and a note are shown as printable ASCII,
 /// a tab and a CR as a space, and each other byte as `?`, so that neither begins a line of its own.
 /// All of the text goes out by one write, and only after all memory was taken.
 ///
+/// Of a text with a fault the faulty lines are printed in place of all that.
+///
 /// # Errors
 ///
-/// The text's fault; `Memory` where a growth was refused; `Device` where the write failed.
+/// The text's fault, also where printing the faulty lines failed; `Memory` where a growth was
+/// refused; `Device` where the write of an explanation failed.
 pub fn explain<W: Output>(alloc: Global, show: &[u8], out: &mut W) -> Result<(), RunFault>
-    ensures prints { PrintsTo W.tells W.tape out.old out.new result (IsExplanationOf show.now) }
+    ensures told { W.tells out.new → W.tells out.old }
+    ensures text { W.tells out.new → Explains show.now result (W.tape out.old) (W.tape out.new) }
     ensures reads { ReadsFirst show.now (CheckFails show.now) result }
 {
-    let loaded = read_show(alloc, show)?;
+    let loaded = match read_show(alloc, show) {
+        Ok(loaded) => loaded,
+        Err(ShowFault::Memory) => return Err(RunFault::Memory),
+        Err(fault) => {
+            write_faults(alloc, show, fault, out)?;
+            return Err(RunFault::Show(fault));
+        }
+    };
     let text = explanation(alloc, show, &loaded)?;
     out.write(text.as_slice())?;
     Ok(())
 }
 
-fn explanation(alloc: Global, show: &[u8], loaded: &Loaded) -> Result<Vec<u8>, AllocError>
-    requires { length show.now < 2 ^ 32 }
-    ensures { IfOk result (λ text. (notes : List (List ℕ)) × All IsOneLine notes
-        × (text.items ≡ explained (reverse (take loaded.now.lines (lines_of show.now)))
-        ++ flat_map note_line notes)) }
+// Prints the faulty lines of a text that is not too long.
+fn write_faults<W: Output>(
+    alloc: Global,
+    show: &[u8],
+    fault: ShowFault,
+    out: &mut W,
+) -> Result<(), AllocError>
+    ensures told { W.tells out.new → W.tells out.old }
+    ensures ok { OnOk result (W.tells out.new → ListsFaults (W.tape out.old) (W.tape out.new)) }
+    ensures err { OnErr result (W.tells out.new → W.tape out.new ≡ W.tape out.old) }
 {
-    let mut text = skipped_lines(alloc, show, loaded.lines)?;
-    let notes = notes_on(alloc, show, &loaded.show)?;
-    push_notes(&mut text, notes.as_slice())?;
+    if show.len() > LONGEST_TEXT {
+        return Ok(());
+    }
+    let text = faults_text(alloc, show, fault)?;
+    let _ = out.write(text.as_slice());
+    Ok(())
+}
+
+fn faults_text(alloc: Global, show: &[u8], fault: ShowFault) -> Result<Vec<u8>, AllocError>
+    requires { length show.now < 2 ^ 32 }
+    ensures { IfOk result (λ text. AreLines text.items) }
+{
+    let mut text = Vec::new(alloc);
+    push_lines(&mut text, faulty_lines(alloc, show, fault)?.as_slice())?;
     Ok(text)
 }
 
-fn push_notes(text: &mut Vec<u8>, notes: &[String]) -> Result<(), AllocError>
+fn push_lines(text: &mut Vec<u8>, lines: &[Vec<u8>]) -> Result<(), AllocError>
     ensures { OnOk result (text.new.items
-        ≡ text.old.items ++ flat_map note_line (map (λ note. shown (string_bytes note))
-        notes.now)) }
+        ≡ text.old.items ++ flat_map text_line (map (λ line. shown line.items) lines.now)) }
 {
-    for note in notes {
-        push_note(text, note.as_str())?;
+    for line in lines {
+        push_line(text, line.as_slice())?;
     }
     Ok(())
 }
 
-fn push_note(text: &mut Vec<u8>, note: &str) -> Result<(), AllocError>
+fn push_line(text: &mut Vec<u8>, line: &[u8]) -> Result<(), AllocError>
+    ensures { OnOk result (text.new.items ≡ text.old.items ++ text_line (shown line.now)) }
+{
+    push_shown(text, line)?;
+    text.push(b'\n')?;
+    Ok(())
+}
+
+fn explanation(alloc: Global, show: &[u8], loaded: &Loaded) -> Result<Vec<u8>, AllocError>
+    requires { length show.now < 2 ^ 32 }
+    ensures { IfOk result (λ text. IsTextOf show.now loaded.now.lines loaded.now.show text.items) }
+{
+    let mut text = Vec::new(alloc);
+    push_notes(&mut text, encoding_notes(alloc, show)?.as_slice())?;
+    let skipped = skipped_lines(alloc, show, loaded.lines)?;
+    text.extend_from_slice(skipped.as_slice())?;
+    push_notes(&mut text, doubts(alloc, show, loaded)?.as_slice())?;
+    let notes = LineNotes::read(alloc, show, loaded.lines, &loaded.show)?;
+    push_line_notes(&mut text, &notes)?;
+    push_notes(&mut text, show_notes(alloc, &loaded.show)?.as_slice())?;
+    Ok(text)
+}
+
+// Notes on what may be meant otherwise.
+fn doubts(alloc: Global, show: &[u8], loaded: &Loaded) -> Result<Notes, AllocError>
+    requires { length show.now < 2 ^ 32 }
+{
+    let mut notes = Vec::new(alloc);
+    push_numbered(alloc, &mut notes, show, loaded.lines)?;
+    push_misspelt(alloc, &mut notes, show, loaded.lines)?;
+    push_parts(alloc, &mut notes, show, loaded.lines, &loaded.show)?;
+    push_patched(alloc, &mut notes, show, loaded.lines)?;
+    Ok(notes)
+}
+
+fn push_line_notes(text: &mut Vec<u8>, notes: &LineNotes) -> Result<(), AllocError>
+    ensures { OnOk result ((show : Tables) (lines : List (List ℕ)) → AreNotesOf show lines notes.now
+        → text.new.items ≡ text.old.items ++ line_notes show lines) }
+{
+    text.extend_from_slice(notes.links.as_slice())?;
+    text.extend_from_slice(notes.commas.as_slice())?;
+    text.extend_from_slice(notes.cues.notes.as_slice())?;
+    text.extend_from_slice(notes.subs.notes.as_slice())?;
+    text.extend_from_slice(notes.groups.notes.as_slice())?;
+    text.extend_from_slice(notes.hours.as_slice())
+}
+
+fn push_notes(text: &mut Vec<u8>, notes: &[Vec<u8>]) -> Result<(), AllocError>
+    ensures { OnOk result (text.new.items
+        ≡ text.old.items ++ flat_map note_line (map (λ note. shown note.items)
+        notes.now)) }
+{
+    for note in notes {
+        push_note(text, note.as_slice())?;
+    }
+    Ok(())
+}
+
+fn push_note(text: &mut Vec<u8>, note: &[u8]) -> Result<(), AllocError>
     ensures { OnOk result (text.new.items ≡ text.old.items ++ note_line (shown note.now)) }
 {
     text.extend_from_slice(b"note: ")?;
-    push_shown(text, note.as_bytes())?;
+    push_shown(text, note)?;
     text.push(b'\n')?;
     Ok(())
 }

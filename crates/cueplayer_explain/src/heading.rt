@@ -1,4 +1,5 @@
-ghost use Rattle.std.specs.Prelude.{◌≡◌};
+ghost use Rattle.std.specs.Prelude.{◌≡◌, if◌then◌else◌};
+ghost use Rattle.show_line.specs.Keywords.{may_own};
 ghost use Rattle.show_reader.specs.Meaning.{is_skipped};
 ghost use Rattle.cueplayer_explain.specs.Headings.{heading_of, heading_skipped, owner_of};
 
@@ -45,6 +46,17 @@ impl Heading {
             Keyword::Maker => Heading::Maker,
             Keyword::Clear => Heading::Nothing,
             _ => Heading::OtherPage,
+        }
+    }
+
+    /// What heads the line below a line that this heads.
+    pub fn below(self, keyword: Keyword, statement: &Statement<'_>) -> Heading
+        ensures { result ≡ if may_own keyword then heading_of keyword statement.now else self }
+    {
+        if keyword.may_own() {
+            Heading::of(keyword, statement)
+        } else {
+            self
         }
     }
 

@@ -12,11 +12,27 @@
 //! ```
 #![tactic(auto)]
 
+mod blame;
+mod decimal;
+mod distance;
 mod explanation;
+mod faulty;
 mod heading;
+mod line_notes;
+mod misspelt;
+mod note_lines;
 mod notes;
+mod numbered;
+mod openings;
+mod parts;
+mod patched;
 mod reason;
+mod seeming;
 mod skipped;
+mod weight;
 
+pub use decimal::{push_decimal, push_number};
 pub use explanation::explain;
+pub use seeming::seems;
 pub use skipped::push_shown;
+pub use weight::{Weight, weigh};

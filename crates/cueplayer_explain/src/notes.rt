@@ -1,5 +1,9 @@
+use crate::decimal::{push_decimal, push_number};
 use show_core::{CHANNELS, Cue, Show};
 use std::alloc::{AllocError, Global};
+
+/// Notes in their order, each a text of its own.
+pub type Notes = Vec<Vec<u8>>;
 
 const BYTE_ORDER_MARK: &str =
     "the file begins with a byte order mark, read as part of its first word: save it as ASCII";
@@ -11,44 +15,48 @@ const CR_ALONE: &str =
 
 const NO_PATCH: &str = "no dimmer is patched: no universe is sent";
 
-// Which channels are meant, from 0 on.
-type Channels = [bool; 4097];
+/// Which channels are meant, from 0 on.
+pub type Channels = [bool; 4097];
 
-/// Notes for the author of a show: on how its text is encoded, on its patch, and on cues and
-/// channels that no dimmer shows.
-pub fn notes_on(alloc: Global, text: &[u8], show: &Show) -> Result<Vec<String>, AllocError> {
+/// Notes on how a show text is encoded.
+pub fn encoding_notes(alloc: Global, text: &[u8]) -> Result<Notes, AllocError> {
     let mut notes = Vec::new(alloc);
     for (applies, note) in [
         (text.starts_with(b"\xef\xbb\xbf"), BYTE_ORDER_MARK),
         (is_utf_16(text), UTF_16),
         (has_cr_alone(text), CR_ALONE),
-        (show.patch().is_empty(), NO_PATCH),
     ] {
         if applies {
-            push_note(alloc, &mut notes, note)?;
+            notes.push(Vec::from_slice(alloc, note.as_bytes())?)?;
         }
-    }
-    if !show.patch().is_empty() {
-        push_dark(alloc, &mut notes, show)?;
     }
     Ok(notes)
 }
 
-fn push_note(alloc: Global, notes: &mut Vec<String>, note: &str) -> Result<(), AllocError> {
-    notes.push(String::from_str(alloc, note)?)?;
-    Ok(())
+/// Notes on a show: on its patch, on cues and channels that no dimmer shows, and on cues that look
+/// as the one before.
+pub fn show_notes(alloc: Global, show: &Show) -> Result<Notes, AllocError> {
+    let mut notes = Vec::new(alloc);
+    if show.patch().is_empty() {
+        notes.push(Vec::from_slice(alloc, NO_PATCH.as_bytes())?)?;
+    } else {
+        push_dark(alloc, &mut notes, show)?;
+    }
+    let equal = equal_cues(alloc, show)?;
+    push_list(alloc, &mut notes, b"cues that look as the one before:", &equal)?;
+    Ok(notes)
 }
 
 // Notes on cues and channels that no dimmer shows.
-fn push_dark(alloc: Global, notes: &mut Vec<String>, show: &Show) -> Result<(), AllocError> {
+fn push_dark(alloc: Global, notes: &mut Notes, show: &Show) -> Result<(), AllocError> {
     let patched = patched_channels(show);
     let cues = dark_cues(alloc, show, &patched)?;
-    push_list(alloc, notes, "cues of which no channel is patched:", &cues)?;
+    push_list(alloc, notes, b"cues of which no channel is patched:", &cues)?;
     let channels = dark_channels(alloc, show, &patched)?;
     push_list(
         alloc,
         notes,
-        "channels of cues that are patched nowhere:",
+        b"channels of cues that are patched nowhere:",
         &channels,
     )
 }
@@ -67,24 +75,26 @@ fn has_cr_alone(text: &[u8]) -> bool {
 
 fn push_list(
     alloc: Global,
-    notes: &mut Vec<String>,
-    about: &str,
-    list: &String,
+    notes: &mut Notes,
+    about: &[u8],
+    list: &Vec<u8>,
 ) -> Result<(), AllocError> {
     if list.is_empty() {
         return Ok(());
     }
-    notes.push(format!(in alloc; "{about}{list}")?)?;
+    let mut note = Vec::from_slice(alloc, about)?;
+    note.extend_from_slice(list.as_slice())?;
+    notes.push(note)?;
     Ok(())
 }
 
-fn mark(channels: &mut Channels, channel: u16) {
+pub fn mark(channels: &mut Channels, channel: u16) {
     if let Some(is_marked) = channels.get_mut(usize::from(channel)) {
         *is_marked = true;
     }
 }
 
-fn is_marked(channels: &Channels, channel: u16) -> bool {
+pub fn is_marked(channels: &Channels, channel: u16) -> bool {
     channels.get(usize::from(channel)).copied().unwrap_or(false)
 }
 
@@ -115,8 +125,8 @@ fn listed_channels(show: &Show) -> Channels {
 }
 
 // The cues that list channels of which none is patched, with a space before each.
-fn dark_cues(alloc: Global, show: &Show, patched: &Channels) -> Result<String, AllocError> {
-    let mut list = String::new(alloc);
+fn dark_cues(alloc: Global, show: &Show, patched: &Channels) -> Result<Vec<u8>, AllocError> {
+    let mut list = Vec::new(alloc);
     let mut next = show.next(0);
     for _ in 0..show.counts().cues {
         let Some(n) = next else {
@@ -138,28 +148,58 @@ fn is_dark(cue: &Cue<'_>, patched: &Channels) -> bool {
             .any(|(channel, _)| is_marked(patched, *channel))
 }
 
-// A cue number from thousandths, without zeros at its end, behind a space.
-fn push_cue_number(list: &mut String, n: u32) -> Result<(), AllocError> {
-    let (whole, thousandths) = (n / 1000, n % 1000);
-    if thousandths == 0 {
-        write!(list, " {whole}")
-    } else if thousandths % 100 == 0 {
-        write!(list, " {whole}.{}", thousandths / 100)
-    } else if thousandths % 10 == 0 {
-        write!(list, " {whole}.{:02}", thousandths / 10)
-    } else {
-        write!(list, " {whole}.{thousandths:03}")
-    }
+// A cue number behind a space.
+fn push_cue_number(list: &mut Vec<u8>, n: u32) -> Result<(), AllocError> {
+    list.push(b' ')?;
+    push_decimal(list, n)
 }
 
 // The channels that cues list and no dimmer has, with a space before each.
-fn dark_channels(alloc: Global, show: &Show, patched: &Channels) -> Result<String, AllocError> {
+fn dark_channels(alloc: Global, show: &Show, patched: &Channels) -> Result<Vec<u8>, AllocError> {
     let listed = listed_channels(show);
-    let mut list = String::new(alloc);
+    let mut list = Vec::new(alloc);
     for channel in 1..=CHANNELS {
         if is_marked(&listed, channel) && !is_marked(patched, channel) {
-            write!(list, " {channel}")?;
+            push_channel(&mut list, channel)?;
         }
     }
     Ok(list)
+}
+
+/// Appends a channel behind a space.
+pub fn push_channel(list: &mut Vec<u8>, channel: u16) -> Result<(), AllocError> {
+    list.push(b' ')?;
+    push_number(list, u64::from(channel))
+}
+
+// The cues in which each channel has the level of the cue before, with a space before each.
+fn equal_cues(alloc: Global, show: &Show) -> Result<Vec<u8>, AllocError> {
+    let mut list = Vec::new(alloc);
+    let mut before = None;
+    let mut next = show.next(0);
+    for _ in 0..show.counts().cues {
+        let Some(n) = next else {
+            break;
+        };
+        if before.is_some_and(|before| are_equal(show, before, n)) {
+            push_cue_number(&mut list, n)?;
+        }
+        before = next;
+        next = show.next(n);
+    }
+    Ok(list)
+}
+
+fn are_equal(show: &Show, one: u32, other: u32) -> bool {
+    let (Some(one), Some(other)) = (show.cue(one), show.cue(other)) else {
+        return false;
+    };
+    is_within(&one, &other) && is_within(&other, &one)
+}
+
+// Whether each channel that one cue lights has that level in another.
+fn is_within(one: &Cue<'_>, other: &Cue<'_>) -> bool {
+    one.pairs()
+        .iter()
+        .all(|(channel, level)| *level == 0 || other.level(*channel) == *level)
 }

@@ -53,8 +53,8 @@ fn explain_line(out: &mut Vec<u8>, above: Heading, line: Line<'_>) -> Result<Hea
     }
 }
 
-// The words of a line behind the first.
-fn operands<'a>(line: &'a [u8]) -> Words<'a>
+/// The words of a line behind the first.
+pub fn operands<'a>(line: &'a [u8]) -> Words<'a>
     ensures { words_left result ≡ operands (words_of line.now) }
 {
     let mut words = Words::new(line);
@@ -80,8 +80,8 @@ fn push_skipped(
     Ok(())
 }
 
-// What is shown of a line.
-fn first_bytes<'a>(line: &'a [u8]) -> &'a [u8]
+/// What is shown of a line.
+pub fn first_bytes<'a>(line: &'a [u8]) -> &'a [u8]
     ensures { result.now ≡ take 200 line.now }
 {
     &line[..line.len().min(200)]

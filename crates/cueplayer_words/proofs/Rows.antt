@@ -20,9 +20,9 @@ use Rattle.cueplayer_words.specs.declared.job.Night.{Night}
 use Rattle.cueplayer_words.specs.declared.job.Job.TheVariants.{Check, Explain, Cues, Look, Slots}
 use Rattle.cueplayer_words.specs.declared.job.Job.TheVariants.{Play, Live, Rehearse, Listen, Watch}
 
--- `check a.asc`
-abbrev check_words : List Text
-check_words = codes "cueplayer" ∷ codes "check" ∷ codes "a.asc" ∷ []
+-- `check a.asc`, with more options
+abbrev check_words : List Text → List Text
+check_words more = codes "cueplayer" ∷ codes "check" ∷ codes "a.asc" ∷ more
 
 -- `look - CUE --cid CID`
 abbrev look_words : Text → List Text
@@ -38,13 +38,14 @@ abbrev listen_words : Text → Text → List Text
 listen_words address universe =
     codes "cueplayer" ∷ codes "listen" ∷ address ∷ universe ∷ codes "3" ∷ []
 
-check_passes : Passes check_words
+check_passes : Passes (check_words (codes "--strict" ∷ []))
 unfolding clap_on_literals
 check_passes = refl
 
-check_job : job_of check_words ≡ Some (Check (codes "a.asc"))
+check_job : (job_of (check_words []) ≡ Some (Check (codes "a.asc") false))
+    × (job_of (check_words (codes "--strict" ∷ [])) ≡ Some (Check (codes "a.asc") true))
 unfolding clap_on_literals
-check_job = refl
+check_job = (refl, refl)
 
 -- `explain -`
 explain_passes : Passes (codes "cueplayer" ∷ codes "explain" ∷ codes "-" ∷ [])

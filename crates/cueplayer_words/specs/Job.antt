@@ -31,9 +31,10 @@ value_or absent form id rows = option_map_or form (first_of id rows) (Some absen
 abbrev pub has_flag : Text → List Row → Bool
 has_flag id rows = option_map_or (λ text. bytes_eq text (codes "true")) (first_of id rows) false
 
--- the job of `check SHOW`
+-- the job of `check SHOW [--strict]`
 abbrev pub check_of : List Row → Option Job
-check_of rows = option_map Check (first_of (codes "SHOW") rows)
+check_of rows =
+    option_map (λ show. Check show (has_flag (codes "strict") rows)) (first_of (codes "SHOW") rows)
 
 -- the job of `explain SHOW`
 abbrev pub explain_of : List Row → Option Job

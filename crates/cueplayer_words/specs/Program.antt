@@ -89,7 +89,7 @@ line name arguments = fold with_rule (new_app name) arguments
 
 -- the lines that read a show
 abbrev pub readers : List App
-readers = line (codes "check") (show ∷ [])
+readers = line (codes "check") (show ∷ flag (codes "strict") ∷ [])
     ∷ line (codes "explain") (show ∷ [])
     ∷ line (codes "cues") (show ∷ flag (codes "json") ∷ [])
     ∷ line (codes "look") (show ∷ cue ∷ cid ∷ [])

@@ -77,9 +77,11 @@ pub struct Night {
 /// What the words ask for: one of the program's lines, with the values of its arguments.
 #[derive(Debug, Drop)]
 pub enum Job {
-    /// `check SHOW`: read a show and print its counts.
+    /// `check SHOW [--strict]`: read a show and print its counts. A strict check refuses a show that
+    /// may mean something else than is played.
     Check {
         show: Name,
+        is_strict: bool,
     },
 
     /// `explain SHOW`: print which lines of a show are skipped, and why, and notes for its author.

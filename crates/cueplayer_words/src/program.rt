@@ -106,6 +106,11 @@ const END_WITH_INPUT: Argument<'static> = Argument::Flag(
     "Ends the night where its input ends; without it the light holds",
 );
 
+const STRICT: Argument<'static> = Argument::Flag(
+    "strict",
+    "Refuses a show that may mean something else than is played, as explain tells",
+);
+
 const JSON: Argument<'static> = Argument::Flag("json", "Prints JSON, for tools");
 
 const SCRIPT: Argument<'static> = Argument::Positional(
@@ -138,8 +143,8 @@ const READERS: [Line<'static>; 5] = [
     Line {
         name: "check",
         about: "Reads a show and prints its counts",
-        example: "Example: cueplayer check night.asc",
-        arguments: &[SHOW],
+        example: "Example: cueplayer check night.asc --strict",
+        arguments: &[SHOW, STRICT],
     },
     Line {
         name: "explain",

@@ -88,7 +88,10 @@ fn read_check<'a>(alloc: Global, matches: &ArgMatches<'a>) -> Result<Job, WordsF
         (misfit_in (codes "check", rows_of (found_of matches.now))) result }
 {
     let show = Name::new(alloc, text_at(matches, "SHOW"))?;
-    Ok(Job::Check { show })
+    Ok(Job::Check {
+        show,
+        is_strict: has_flag(matches, "strict"),
+    })
 }
 
 fn read_explain<'a>(alloc: Global, matches: &ArgMatches<'a>) -> Result<Job, WordsFault<'a>>

@@ -45,7 +45,7 @@ fn faults(rt: HostRuntime) {
                 b"WHAT\nPATCH 1 1<1@101\n",
                 0,
                 Err(RunFault::Show(ShowFault::BadLevel(2))),
-                b"",
+                b"line 2: BadLevel at `101`: PATCH 1 1<1@101\ncheck answers line 2: BadLevel\n",
             ),
             (b"WHAT\n", 1, Err(RunFault::Device), b""),
         ],
@@ -65,7 +65,8 @@ fn notes(rt: HostRuntime) {
             0,
             Ok(()),
             b"note: cues of which no channel is patched: 0.25 1.5 3.125 4.07\n\
-                    note: channels of cues that are patched nowhere: 2 7 9\n",
+                    note: channels of cues that are patched nowhere: 2 7 9\n\
+                    note: cues that look as the one before: 3.125 4.07\n",
         )],
     );
 }

@@ -1,4 +1,4 @@
-use Rattle.std.proofs.Common.{◌≡◌, ◌++◌, flat_map, map, string_bytes, take}
+use Rattle.std.proofs.Common.{◌≡◌, ◌++◌, flat_map, map, take}
 use Rattle.cueplayer_explain.specs.Explained.{note_line}
 use Rattle.cueplayer_explain.specs.Skipped.{shown}
 use Rattle.cueplayer_explain.proofs.explanation.push_notes.Given as goal
@@ -7,4 +7,4 @@ abbrev pub invariant-loop-note : goal.invariant-loop-note
 invariant-loop-note l =
     l.text.items
     ≡ l.fn.text.items
-    ++ flat_map note_line (map (λ note. shown (string_bytes note)) (take l.note-index l.notes))
+    ++ flat_map note_line (map (λ note. shown note.items) (take l.note-index l.notes))

@@ -1,0 +1,53 @@
+-- What `explain` prints, put together from its parts.
+use Rattle.std.proofs.Common.{◌≡◌, ◌∙◌, ◌×◌, ℕ, ◌++◌, List, [], map, flat_map, reverse, take, ap}
+use Rattle.std.specs.Prelude.{All}
+use Rattle.ascii_text.specs.Text.{lines_of}
+use Rattle.show_core.specs.Tables.{Tables}
+use Rattle.cueplayer_explain.specs.Explained.{IsOneLine, IsTextOf, note_line}
+use Rattle.cueplayer_explain.specs.NotesOf.{line_notes}
+use Rattle.cueplayer_explain.specs.Skipped.{explained, shown}
+use Rattle.cueplayer_explain.proofs.OneLine.{one_line_each}
+
+-- notes of one line each were put behind a text
+pub record AddsNotes (old new : List ℕ) : Type 0 where
+  pub notes : List (List ℕ)
+  pub in_lines : All IsOneLine notes
+  pub is : new ≡ old ++ flat_map note_line notes
+
+pub adds : {X : Type 0} (text_of : X → List ℕ) (notes : List X) {old new : List ℕ}
+    → new ≡ old ++ flat_map note_line (map (λ note. shown (text_of note)) notes)
+    → AddsNotes old new
+adds text_of notes e = record {
+  notes = map (λ note. shown (text_of note)) notes;
+  in_lines = one_line_each text_of notes;
+  is = e;
+}
+
+module _ (text : List ℕ) (count : ℕ) (show : Tables) {a b c d e skipped : List ℕ}
+    (first : AddsNotes [] a) (lines : b ≡ a ++ skipped)
+    (skips : skipped ≡ explained (reverse (take count (lines_of text)))) (second : AddsNotes b c)
+    (on_lines : d ≡ c ++ line_notes show (reverse (take count (lines_of text))))
+    (third : AddsNotes d e) where
+  abbrev n1 : List ℕ
+  n1 = flat_map note_line first.notes
+  abbrev n2 : List ℕ
+  n2 = flat_map note_line second.notes
+  abbrev n3 : List ℕ
+  n3 = flat_map note_line third.notes
+  abbrev s : List ℕ
+  s = explained (reverse (take count (lines_of text)))
+  abbrev l : List ℕ
+  l = line_notes show (reverse (take count (lines_of text)))
+
+  pub told_whole : IsTextOf text count show e
+  told_whole = record {
+    encoding = first.notes;
+    doubts = second.notes;
+    of_show = third.notes;
+    encoding_in_lines = first.in_lines;
+    doubts_in_lines = second.in_lines;
+    of_show_in_lines = third.in_lines;
+    text_is =
+        third.is ∙ ap (λ t. t ++ n3) (on_lines ∙ ap (λ t. t ++ l) (second.is
+        ∙ ap (λ t. t ++ n2) (lines ∙ ap (λ t. a ++ t) skips ∙ ap (λ t. t ++ s) first.is)));
+  }

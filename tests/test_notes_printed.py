@@ -1,0 +1,127 @@
+"""The notes and faulty lines that `explain` prints, and what `check --strict` refuses."""
+
+import random
+import subprocess
+import time
+import unittest
+
+import changes
+from expected import faults, notes
+from expected import show as shows
+from program import PROGRAM, TOP, ProgramTest, run, text
+
+BASES = [file.read_bytes() for file in sorted((TOP / "examples").rglob("*.asc"))]
+SECONDS = 6
+
+
+def explained(content):
+    """What `explain` prints but for the lines about skipped lines: its notes, or the faulty lines."""
+    outcome = run("explain", "-", stdin=content)
+    lines = outcome.out.decode("ascii").splitlines()
+    if outcome.status == 3:
+        return 3, lines
+    return outcome.status, [line for line in lines if line.startswith("note: ")]
+
+
+class Printed(ProgramTest):
+    maxDiff = 3000
+
+    def assertExplained(self, content):
+        found = notes.notes(content)
+        expected = (3, faults.faults(content)) if found is None else (0, found)
+        self.assertEqual(expected, explained(content), content)
+
+    def assertStrict(self, content):
+        """A strict check refuses exactly what has weight."""
+        if notes.notes(content) is not None:
+            outcome = run("check", "-", "--strict", stdin=content)
+            refused = (3, b"show: Doubtful\n") if notes.is_doubtful(content) else (0, b"")
+            self.assertEqual(refused, (outcome.status, outcome.err), content)
+
+    def test_changed_shows(self):
+        """As many as there is time for, of all examples and of shows of slips."""
+        r = random.Random(7)
+        until = time.monotonic() + SECONDS
+        while time.monotonic() < until:
+            content = changes.changed(r, r.choice(BASES), changes.OF_TEXTS, 8)
+            if len(content) <= shows.LONGEST:
+                self.assertExplained(content)
+                self.assertStrict(content)
+
+    def test_encoding_stands_first(self):
+        outcome = run("explain", "-", stdin=b"\xef\xbb\xbfx\nCEU 7\n")
+        lines = outcome.out.splitlines()
+        self.assertTrue(lines[0].startswith(b"note: the file begins with a byte order mark"))
+        self.assertTrue(lines[1].startswith(b"line 1: "))
+
+    def test_all_faults(self):
+        """Each of the faulty lines, with its word; and the one that is answered."""
+        show = text("CUE 4 \"Bahnhof\"", "UP 1:60", "SUB 101", "CHAN 1@FL 2", "PATCH 1 0<1@H", "IDENT", "CUE x 2")
+        told = [
+            "line 1: BadNumber at `\"Bahnhof\"`: CUE 4 \"Bahnhof\"",
+            "line 2: BadTime at `1:60`: UP 1:60",
+            "line 3: Limit at `101`: SUB 101",
+            "line 4: HalfPair: CHAN 1@FL 2",
+            "line 5: BadLevel at `H`: PATCH 1 0<1@H",
+            "line 6: Ident: IDENT",
+            "line 7: BadNumber at `x`: CUE x 2",
+            "check answers line 1: BadNumber",
+        ]
+        self.assertEqual((3, told), explained(show))
+        self.assertEqual(told, faults.faults(show))
+
+    def test_examples_of_slips(self):
+        """What stands beside each example is printed, and is what the second readers say."""
+        for file in sorted((TOP / "examples/slips").glob("*.asc")):
+            with self.subTest(file.name):
+                content = file.read_bytes()
+                self.assertExplained(content)
+                printed = run("explain", "-", stdin=content).out
+                self.assertEqual(file.with_suffix(".explained").read_bytes(), printed)
+                self.assertEqual(3, run("check", "--strict", "-", stdin=content).status)
+
+    def test_too_many_cues(self):
+        show = text(*(f"CUE {n}" for n in range(1, 2002)), "CHAN x")
+        told = ["line 2002: HalfPair: CHAN x", "check answers line 2001: Limit"]
+        told[0] = "line 2002: BadNumber at `x`: CHAN x"
+        self.assertEqual((3, told), explained(show))
+
+    def test_slips_are_refused(self):
+        """The slips of the pen that a plain check passes."""
+        patch, cue = "PATCH 1 1<1@FL 2<2@FL", ("CUE 1", "CHAN 1@FL")
+        for slip in (
+            text(patch, "CUE 1", "UP 0,5", "CHAN 1@FL"),
+            text(patch, *cue, "CUE 1", "CHAN 2@FL"),
+            text(patch, *cue, "CEU 7", "CHAN 2@FL"),
+            text("IDENT 3:0", *cue).replace(b"\n", b"\r"),
+            text(patch, *cue).decode().encode("utf-16"),
+            b"<!DOCTYPE html>\n<html><body>show</body></html>\n",
+            b"\x89PNG\r\n\x1a\n\0\0\0\rIHDR\0\0\1\0",
+        ):  # fmt: skip
+            with self.subTest(slip[:40]):
+                self.assertEqual(0, run("check", "-", stdin=slip).status)
+                self.assertEqual(3, run("check", "--strict", "-", stdin=slip).status)
+                self.assertNotEqual(b"", run("explain", "-", stdin=slip).out)
+        self.assertEqual(0, run("check", "-", "--strict", stdin=text(patch, *cue)).status)
+
+    def test_no_text(self):
+        """What the file of a show without cues seems to be stands behind the counts."""
+        for content, what in (
+            (b"\x89PNG\r\n\x1a\n\0\0", b"a picture (PNG)"),
+            (b"\xff\xd8\xff\xe0", b"a picture (JPEG)"),
+            ("CUE 1\n".encode("utf-16"), b"text in UTF-16"),
+            ("CUE 1\n".encode("utf-16-le"), b"text in UTF-16"),
+            (b"abc" * 100 + b"\0", b"data that is no text"),
+            (b"CUE 1\n\0\n", None),
+            (b"abc" * 200 + b"\0", None),
+            (b"", None),
+        ):
+            with self.subTest(content[:20]):
+                done = subprocess.run([PROGRAM, "check", "-"], input=content, capture_output=True)
+                front = b"the show has no cue, and its file seems to be "
+                self.assertEqual(0, done.returncode)
+                self.assertTrue(done.stderr.startswith(front + what) if what else not done.stderr)
+
+
+if __name__ == "__main__":
+    unittest.main()
