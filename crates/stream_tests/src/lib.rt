@@ -1,5 +1,5 @@
-//! Tests of the crates that send and receive: `devices`, `line_queue`, `sacn_packet`, `sacn_source`,
-//! `sacn_receiver` and `receiver_text`, by their public calls.
+//! Tests of the crates that send and receive: `devices`, `line_queue`, `sacn_packet`,
+//! `sacn_source`, `sacn_receiver` and `receiver_text`, by their public calls.
 //!
 //! They are a crate of their own, so that the proof of a crate does not wait for its tests, and
 //! so that a test sees what any caller sees. `rt test` proves and runs them.
