@@ -1,7 +1,9 @@
 -- What each step of a queue does to its account.
 use Rattle.std.proofs.Common.{◌≡◌, ◌≢◌, ◌≤◌, ◌<◌, ◌+◌, ◌∙◌, ℕ, add-zero, min, List, [], ◌∷◌, ◌++◌}
-use Rattle.std.proofs.Common.{Option, Some, None, IsSome, false, is_some, append_assoc, append-nil, ap, arith, drop, length, refl, sym, take}
-use Rattle.std.proofs.lemmas.List.{flat_map_more, length-append, length-take-le, length-take, nil_from_length, take-append-drop, take-take}
+use Rattle.std.proofs.Common.{Option, Some, None, IsSome, false, is_some, append_assoc, append-nil}
+use Rattle.std.proofs.Common.{ap, arith, drop, length, refl, sym, take}
+use Rattle.std.proofs.lemmas.List.{flat_map_more, length-append, length-take-le, length-take}
+use Rattle.std.proofs.lemmas.List.{nil_from_length, take-append-drop, take-take}
 use Rattle.std.proofs.lemmas.List.Sums.{sum_by-append}
 use Rattle.std.specs.declared.io.ErrorKind.{ErrorKind}
 use Rattle.line_queue.specs.Entries.{Entry, counted, gaps_of, lines_in, lines_of, text_in, text_of}
@@ -51,7 +53,8 @@ pub record IsSame {P : Type 0} (old new : LineQueue P) : Type 0 where
   pub failure : new.failure ≡ old.failure
 
 -- they stand for the same lines, by tapes with the same bytes and the same lasting failure
-pub same_stands : {P : Type 0} (old new : LineQueue P) (before after : PipeTape) (given : List (List ℕ))
+pub same_stands : {P : Type 0} (old new : LineQueue P) (before after : PipeTape)
+    (given : List (List ℕ))
     → IsSame old new → after.taken ≡ before.taken → lasting after.fault ≡ lasting before.fault
     → StandsFor old before given → StandsFor new after given
 same_stands old new before after given same taken fault stands =
@@ -61,14 +64,16 @@ same_stands old new before after given same taken fault stands =
         untold = a.untold;
         left = a.left;
         in_order = a.in_order;
-        whole = ap (λ xs. xs ++ a.left) taken ∙ a.whole ∙ ap (λ n. text_of n a.entries) (sym same.notice);
+        whole = ap (λ xs. xs ++ a.left) taken ∙ a.whole ∙ ap (λ n. text_of n a.entries)
+            (sym same.notice);
         waits = λ alive. let was = a.waits (sym same.failure ∙ alive) in
             (same.waiting ∙ was.0, same.dropped ∙ was.1);
         fault = same.failure ∙ a.fault ∙ sym fault;
         count = same.taken ∙ a.count ∙ ap (λ xs. counted (length xs)) (sym taken);
         gaps = same.gaps ∙ a.gaps;
       };
-      told = λ alive empty. same.dropped ∙ stands.told (sym same.failure ∙ alive) (sym same.waiting ∙ empty);
+      told = λ alive empty. same.dropped ∙ stands.told (sym same.failure ∙ alive)
+          (sym same.waiting ∙ empty);
     }
 
 -- the lines are the same with none behind them
@@ -85,7 +90,8 @@ failed_more queue tape given lines over stands =
         entries = a.entries;
         untold = a.untold ++ lines;
         left = a.left;
-        in_order = ap (λ xs. xs ++ lines) a.in_order ∙ append_assoc (lines_of a.entries) a.untold lines;
+        in_order = ap (λ xs. xs ++ lines) a.in_order ∙ append_assoc
+            (lines_of a.entries) a.untold lines;
         whole = a.whole;
         waits = λ alive. absurd (over alive);
         fault = a.fault;
@@ -135,7 +141,11 @@ module _ {P : Type 0} (old new : LineQueue P) (tape : PipeTape) (given : List (L
       → new.dropped ≡ old.dropped → new.gaps ≡ old.gaps
       → StandsFor old tape given
       → (writes : ℕ)
-      → Accounts new (record tape { taken = tape.taken ++ take count old.waiting.items; writes = writes; fault = None }) given
+      → Accounts new (record tape {
+        taken = tape.taken ++ take count old.waiting.items;
+        writes = writes;
+        fault = None;
+      }) given
   taken_more count within waiting taken dropped gaps stands writes =
       let a = stands.account in
       let was = a.waits next.alive in
@@ -169,7 +179,8 @@ module _ {P : Type 0} (old new : LineQueue P) (tape : PipeTape) (given : List (L
           entries = a.entries ++ Whole line ∷ [];
           untold = [];
           left = a.left ++ line;
-          in_order = ap (λ xs. xs ++ line ∷ []) (a.in_order ∙ ap (λ xs. lines_of a.entries ++ xs) told
+          in_order = ap (λ xs. xs ++ line ∷ []) (a.in_order ∙ ap
+              (λ xs. lines_of a.entries ++ xs) told
               ∙ append-nil (lines_of a.entries))
               ∙ sym (lines_more a.entries (Whole line)) ∙ sym (append-nil _);
           whole = sym (append_assoc tape.taken a.left line) ∙ ap (λ xs. xs ++ line) a.whole

@@ -1,5 +1,6 @@
 -- What stands in an output: lines, and notices in place of lines.
-use Rattle.std.specs.Prelude.{◌≡◌, ℕ, ◌^◌, ◌-◌, min, suc, List, [], ◌∷◌, Bool, true, false, count_by, length}
+use Rattle.std.specs.Prelude.{◌≡◌, ℕ, ◌^◌, ◌-◌, min, suc, List, [], ◌∷◌, Bool, true, false}
+use Rattle.std.specs.Prelude.{count_by, length}
 use Rattle.std.specs.List.{flat_map}
 use Rattle.line_queue.specs.Notices.{notice_text}
 use Rattle.line_queue.specs.declared.notice.Notice.{Notice}

@@ -1,4 +1,5 @@
-ghost use Rattle.std.specs.Prelude.{◌≡◌, ◌≤◌, ◌+◌, ◌-◌, ◌++◌, [], false, is_err, length, min, nat_lt, take};
+ghost use Rattle.std.specs.Prelude.{◌≡◌, ◌≤◌, ◌+◌, ◌-◌, ◌++◌, [], false, is_err, length, min};
+ghost use Rattle.std.specs.Prelude.{nat_lt, take};
 ghost use Rattle.std.specs.Prelude.{IfErr, IfOk, None, Some};
 ghost use Rattle.devices.specs.Failing.{IsCounted, is_failing};
 ghost use Rattle.line_queue.specs.Kept.{tape_of};

@@ -227,7 +227,8 @@ impl<P: Pipe> LineQueue<P> {
 }
 
 impl<P> LineQueue<P> {
-    ghost use Rattle.std.specs.Prelude.{◌<◌, ◌++◌, ◌∷◌, [], List, ℕ, None, Some, false, length, take};
+    ghost use Rattle.std.specs.Prelude.{◌<◌, ◌++◌, ◌∷◌, [], List, ℕ, None, Some, false, length};
+    ghost use Rattle.std.specs.Prelude.{take};
     ghost use Rattle.line_queue.specs.Entries.{IsTextOf};
     ghost use Rattle.line_queue.specs.Pipes.{PipeTape, after_write};
     ghost use Rattle.line_queue.specs.Stands.{Accounts, StandsFor, dropped_in, failure_in, gaps_in};

@@ -1,8 +1,8 @@
 //! The devices of the system: files, standard input and output, sockets, and the lock of a CID.
 //!
-//! None of them tells what it gave or took, so hardly anything is said of them in contracts. What an
-//! output that holds nobody up ([`BoundedOutput`]) does with its lines is that of a `LineQueue`, which
-//! has a contract; how long the system's calls take is measured, and not proved.
+//! None of them tells what it gave or took, so hardly anything is said of them in contracts. An
+//! output that holds nobody up ([`BoundedOutput`]) is a `LineQueue`, whose contract says what
+//! becomes of each line; how long the system's calls take is measured, and not proved.
 #![tactic(auto)]
 
 mod appended_lines;

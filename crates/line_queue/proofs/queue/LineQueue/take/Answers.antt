@@ -1,4 +1,5 @@
-use Rattle.std.proofs.Common.{◌≡◌, ◌++◌, ◌∷◌, ◌∙◌, [], ap, append-nil, arith, is_some, refl, subst, sym}
+use Rattle.std.proofs.Common.{◌≡◌, ◌++◌, ◌∷◌, ◌∙◌, [], ap, append-nil, arith, is_some, refl, subst}
+use Rattle.std.proofs.Common.{sym}
 use Rattle.std.proofs.lemmas.Grind.{common_steps}
 use Rattle.line_queue.specs.Stands.{StandsFor, dropped_in, waiting_in}
 use Rattle.line_queue.proofs.Accounting.{failed_more, kept_more, none_is}

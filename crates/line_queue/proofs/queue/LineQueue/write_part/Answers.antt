@@ -12,8 +12,10 @@ returns-in-Ok-clause-stands g c = λ tells given stands.
     let told = subst (λ p. g.P.Pipe.tells p) c.let_go.ensures.pipe tells in
     let bytes : take c.in-Ok.count (take c.min-count.result c.as_slice.result.now)
     ≡ take c.in-Ok.count (waiting_in old) = take-front c.in-Ok.count c.min-count.result
-    c.as_slice.result.now c.in-Ok.ensures.within ∙ ap (take c.in-Ok.count) c.as_slice.ensures.value in
-    let wrote : g.P.Pipe.tape new.pipe ≡ after_write tape (take c.in-Ok.count (waiting_in old)) None =
+    c.as_slice.result.now c.in-Ok.ensures.within ∙ ap
+    (take c.in-Ok.count) c.as_slice.ensures.value in
+    let wrote : g.P.Pipe.tape new.pipe ≡ after_write tape (take c.in-Ok.count
+    (waiting_in old)) None =
     ap (λ p. g.P.Pipe.tape p) c.let_go.ensures.pipe ∙ c.in-Ok.ensures.ok told
     ∙ ap (λ xs. after_write tape xs None) bytes in
     let moved = same_stands old _ tape tape given (record {

@@ -1,4 +1,5 @@
-use Rattle.std.proofs.Common.{◌≡◌, ◌+◌, ◌*◌, ◌++◌, ◌∙◌, [], add-one, ap, append-nil, arith, refl, subst}
+use Rattle.std.proofs.Common.{◌≡◌, ◌+◌, ◌*◌, ◌++◌, ◌∙◌, [], add-one, ap, append-nil, arith, refl}
+use Rattle.std.proofs.Common.{subst}
 use Rattle.std.proofs.Math.Nat.{mul-suc}
 use Rattle.std.proofs.lemmas.Grind.{common_steps}
 use Rattle.line_queue.specs.Pipes.{lasting}
@@ -37,10 +38,12 @@ loop-preserved g c =
           let told = wrote.told tells in
           let waited = ap (λ t. t.wait) (asked.tape told) in
           let times : c.args.milliseconds * (c.loop.counter + 1)
-          ≡ c.args.milliseconds * c.loop.counter + c.args.milliseconds = rw (add-one, mul-suc) refl in
+          ≡ c.args.milliseconds * c.loop.counter + c.args.milliseconds = rw
+          (add-one, mul-suc) refl in
           omega (arith, wrote.no_wait tells, waited, before.wait (asked.told told), times);
       no_drop = omega arith;
       notice = wrote.notice ∙ before.notice;
-      empty = λ none. let still : waiting_in c.loop.self ≡ [] = ap waiting_in (before.empty none) ∙ none in
+      empty = λ none. let still : waiting_in c.loop.self ≡ [] = ap waiting_in
+          (before.empty none) ∙ none in
           absurd (grind (arith, common_steps));
     }
