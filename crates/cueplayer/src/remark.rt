@@ -80,7 +80,11 @@ pub fn of_misfit(misfit: &Misfit<'_>) -> Remark {
 /// What the file of a show without cues seems to be.
 pub fn of_seeming(what: &str) -> Remark {
     let front = b"the show has no cue, and its file seems to be ";
-    joined(&[front, what.as_bytes(), b": check the file's name and how it was saved"])
+    joined(&[
+        front,
+        what.as_bytes(),
+        b": check the file's name and how it was saved",
+    ])
 }
 
 /// What of a show may mean something else than is played.

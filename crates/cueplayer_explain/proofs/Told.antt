@@ -23,6 +23,14 @@ adds text_of notes e = record {
   is = e;
 }
 
+-- the same of a text that was empty
+pub adds_first : {X : Type 0} (text_of : X → List ℕ) (notes : List X) {old new : List ℕ} → old ≡ []
+    → new ≡ old ++ flat_map note_line (map (λ note. shown (text_of note)) notes)
+    → AddsNotes [] new
+adds_first text_of notes none e =
+    adds text_of notes
+    (e ∙ ap (λ t. t ++ flat_map note_line (map (λ note. shown (text_of note)) notes)) none)
+
 module _ (text : List ℕ) (count : ℕ) (show : Tables) {a b c d e skipped : List ℕ}
     (first : AddsNotes [] a) (lines : b ≡ a ++ skipped)
     (skips : skipped ≡ explained (reverse (take count (lines_of text)))) (second : AddsNotes b c)
@@ -30,12 +38,16 @@ module _ (text : List ℕ) (count : ℕ) (show : Tables) {a b c d e skipped : Li
     (third : AddsNotes d e) where
   abbrev n1 : List ℕ
   n1 = flat_map note_line first.notes
+
   abbrev n2 : List ℕ
   n2 = flat_map note_line second.notes
+
   abbrev n3 : List ℕ
   n3 = flat_map note_line third.notes
+
   abbrev s : List ℕ
   s = explained (reverse (take count (lines_of text)))
+
   abbrev l : List ℕ
   l = line_notes show (reverse (take count (lines_of text)))
 

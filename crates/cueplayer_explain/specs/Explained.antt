@@ -40,10 +40,10 @@ pub record IsTextOf (text : List ℕ) (count : ℕ) (show : Tables) (told : List
   pub doubts_in_lines : All IsOneLine doubts
   pub of_show_in_lines : All IsOneLine of_show
   pub text_is : told ≡ flat_map note_line encoding
-    ++ explained (reverse (take count (lines_of text)))
-    ++ flat_map note_line doubts
-    ++ line_notes show (reverse (take count (lines_of text)))
-    ++ flat_map note_line of_show
+      ++ explained (reverse (take count (lines_of text)))
+      ++ flat_map note_line doubts
+      ++ line_notes show (reverse (take count (lines_of text)))
+      ++ flat_map note_line of_show
 
 -- what `explain` prints of a show text without a fault
 abbrev pub IsExplanationOf : List ℕ → List ℕ → Type 0

@@ -5,6 +5,10 @@ use itoa::Buffer;
 use std::alloc::AllocError;
 
 /// Appends thousandths as a decimal.
+///
+/// # Errors
+///
+/// Where a growth was refused.
 pub fn push_decimal(out: &mut Vec<u8>, thousandths: u32) -> Result<(), AllocError>
     ensures { OnOk result (out.new.items ≡ out.old.items ++ decimal_text thousandths) }
 {
@@ -13,6 +17,10 @@ pub fn push_decimal(out: &mut Vec<u8>, thousandths: u32) -> Result<(), AllocErro
 }
 
 /// Appends a number.
+///
+/// # Errors
+///
+/// Where a growth was refused.
 pub fn push_number(out: &mut Vec<u8>, number: u64) -> Result<(), AllocError>
     ensures { OnOk result (out.new.items ≡ out.old.items ++ decimal number) }
 {

@@ -103,11 +103,7 @@ fn is_followed(to: Option<u32>, next: Option<u32>) -> bool
     }
 }
 
-fn push_link_text(
-    out: &mut Vec<u8>,
-    to: Option<u32>,
-    next: Option<u32>,
-) -> Result<(), AllocError>
+fn push_link_text(out: &mut Vec<u8>, to: Option<u32>, next: Option<u32>) -> Result<(), AllocError>
     ensures { OnOk result (out.new.items ≡ out.old.items ++ link_text to next) }
 {
     match to {
@@ -174,12 +170,7 @@ fn push_rate_comma(
     Ok(())
 }
 
-fn push_rate_note(
-    out: &mut Vec<u8>,
-    number: u32,
-    rate: Rate,
-    line: &[u8],
-) -> Result<(), AllocError>
+fn push_rate_note(out: &mut Vec<u8>, number: u32, rate: Rate, line: &[u8]) -> Result<(), AllocError>
     ensures { OnOk result (out.new.items
         ≡ out.old.items ++ note_on number (comma_text line.now (rate_times rate))) }
 {
@@ -301,12 +292,7 @@ fn push_long(
     Ok(())
 }
 
-fn push_hour_text(
-    out: &mut Vec<u8>,
-    cue: u32,
-    word: &[u8],
-    rate: Rate,
-) -> Result<(), AllocError>
+fn push_hour_text(out: &mut Vec<u8>, cue: u32, word: &[u8], rate: Rate) -> Result<(), AllocError>
     ensures { OnOk result (out.new.items ≡ out.old.items ++ hour_text cue word.now rate) }
 {
     out.extend_from_slice(b"cue ")?;

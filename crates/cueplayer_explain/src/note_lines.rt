@@ -74,12 +74,7 @@ impl LineNotes {
     }
 
     // Adds the notes on a line that says this.
-    fn note(
-        &mut self,
-        show: &Show,
-        line: &Line<'_>,
-        says: &Statement<'_>,
-    ) -> Result<(), AllocError>
+    fn note(&mut self, show: &Show, line: &Line<'_>, says: &Statement<'_>) -> Result<(), AllocError>
         ensures { OnOk result (AreMore show.now line.now.number says.now line.now.bytes.now
             self.old self.new) }
     {

@@ -43,7 +43,12 @@ pub fn show_notes(alloc: Global, show: &Show) -> Result<Notes, AllocError> {
         push_dark(alloc, &mut notes, show)?;
     }
     let equal = equal_cues(alloc, show)?;
-    push_list(alloc, &mut notes, b"cues that look as the one before:", &equal)?;
+    push_list(
+        alloc,
+        &mut notes,
+        b"cues that look as the one before:",
+        &equal,
+    )?;
     Ok(notes)
 }
 
@@ -199,7 +204,5 @@ fn are_equal(show: &Show, one: u32, other: u32) -> bool {
 
 // Whether each channel that one cue lights has that level in another.
 fn is_within(one: &Cue<'_>, other: &Cue<'_>) -> bool {
-    one.pairs()
-        .iter()
-        .all(|(channel, level)| *level == 0 || other.level(*channel) == *level)
+    one.pairs().iter().all(|(channel, level)| *level == 0 || other.level(*channel) == *level)
 }

@@ -123,12 +123,7 @@ fn is_emptied(what: Cleared, table: Table) -> bool
     }
 }
 
-fn push_again(
-    out: &mut Vec<u8>,
-    number: u32,
-    which: Record,
-    first: u32,
-) -> Result<(), AllocError>
+fn push_again(out: &mut Vec<u8>, number: u32, which: Record, first: u32) -> Result<(), AllocError>
     ensures { OnOk result (out.new.items
         ≡ out.old.items ++ again_told number which (Some first)) }
 {

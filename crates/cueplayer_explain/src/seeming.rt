@@ -1,3 +1,6 @@
+ghost use Rattle.std.specs.Prelude.{◌≡◌, ◌<◌, None};
+ghost use Rattle.std.specs.FinMap as maps;
+
 use show_core::Show;
 
 // So many bytes are looked at.
@@ -18,7 +21,9 @@ const BEGINNINGS: [(&[u8], &str); 8] = [
 const UTF_16: &str = "text in UTF-16";
 
 /// What the file of a show without cues seems to be, where its first 512 bytes are no text.
-pub fn seems(text: &[u8], show: &Show) -> Option<&'static str> {
+pub fn seems(text: &[u8], show: &Show) -> Option<&'static str>
+    ensures { 0 < maps.len show.now.cues → result ≡ None }
+{
     if show.counts().cues > 0 {
         return None;
     }

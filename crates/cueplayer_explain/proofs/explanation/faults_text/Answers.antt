@@ -1,4 +1,4 @@
-use Rattle.std.proofs.Common.{map}
+use Rattle.std.proofs.Common.{map, rules}
 use Rattle.cueplayer_explain.specs.Skipped.{shown}
 use Rattle.cueplayer_explain.proofs.OneLine.{one_line_each}
 use Rattle.cueplayer_explain.proofs.explanation.faults_text.Goals as goal
@@ -8,5 +8,5 @@ returns c =
     let lines = c.as_slice.result.now in (
       map (λ line. shown line.items) lines,
       one_line_each (λ line. line.items) lines,
-      c.in_ok-push_lines.ensures,
+      search rules,
     )

@@ -10,8 +10,15 @@ loop-end-preserved c =
     let at = comma_at line (end - 2) (end - 1) end 0 (omega (arith, c.loop-end.auto.end))
     (omega (arith, c.loop-end.auto.end)) c.loop-end-test.true in
     let next : end + 1 - 2 ≡ end - 1 = omega (arith, c.loop-end.auto.end) in
-    grind (arith, at, next, c.loop-end.invariant, c.if-first-eq33.false, c.is_decimal.ensures,
-    c.if-is_decimal.false)
+    grind (
+      arith,
+      at,
+      next,
+      c.loop-end.invariant,
+      c.if-first-eq33.false,
+      c.is_decimal.ensures,
+      c.if-is_decimal.false,
+    )
 
 pub returns : goal.returns
 returns c =
