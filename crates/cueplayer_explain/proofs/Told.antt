@@ -1,9 +1,14 @@
 -- What `explain` prints, put together from its parts.
-use Rattle.std.proofs.Common.{◌≡◌, ◌∙◌, ◌×◌, ℕ, ◌++◌, List, [], map, flat_map, reverse, take, ap}
+use Rattle.std.proofs.Common.{◌≡◌, ◌∙◌, ℕ, ◌++◌, List, [], map, flat_map, reverse, take, ap, subst}
 use Rattle.std.specs.Prelude.{All}
 use Rattle.ascii_text.specs.Text.{lines_of}
 use Rattle.show_core.specs.Tables.{Tables}
-use Rattle.cueplayer_explain.specs.Explained.{IsOneLine, IsTextOf, note_line}
+use Rattle.show_line.specs.Said.{desk_limits}
+use Rattle.show_reader.proofs.OneShow.{of_its_show}
+use Rattle.show_reader.specs.Reading.{lines_read}
+use Rattle.show_reader.specs.Shows.{IsShowOf}
+use Rattle.show_reader.specs.Text.{statements_of}
+use Rattle.cueplayer_explain.specs.Explained.{IsExplanationOf, IsOneLine, IsTextOf, note_line}
 use Rattle.cueplayer_explain.specs.NotesOf.{line_notes}
 use Rattle.cueplayer_explain.specs.Skipped.{explained, shown}
 use Rattle.cueplayer_explain.proofs.OneLine.{one_line_each}
@@ -63,3 +68,11 @@ module _ (text : List ℕ) (count : ℕ) (show : Tables) {a b c d e skipped : Li
         third.is ∙ ap (λ t. t ++ n3) (on_lines ∙ ap (λ t. t ++ l) (second.is
         ∙ ap (λ t. t ++ n2) (lines ∙ ap (λ t. a ++ t) skips ∙ ap (λ t. t ++ s) first.is)));
   }
+
+-- a text of the show that was read is the one of the show that the text means
+pub its_text : (show text : List ℕ) (lines : ℕ) (s : Tables)
+    → IsShowOf (statements_of desk_limits show) s → lines ≡ lines_read desk_limits show
+    → IsTextOf show lines s text → IsExplanationOf show text
+its_text show text lines s is read told =
+    of_its_show show (λ t. IsTextOf show (lines_read desk_limits show) t text) s is
+    (subst (λ n. IsTextOf show n s text) read told)

@@ -1,5 +1,5 @@
 ghost use Rattle.std.specs.Prelude.{◌≡◌, ◌<◌, ◌^◌, ◌++◌, ℕ, List, length, map, flat_map};
-ghost use Rattle.std.specs.Prelude.{IfOk, OnOk, OnErr};
+ghost use Rattle.std.specs.Prelude.{IfOk, OnOk};
 ghost use Rattle.show_core.specs.Tables.{Tables};
 ghost use Rattle.cueplayer_runs.specs.Faults.{CheckFails, ReadsFirst};
 ghost use Rattle.cueplayer_explain.specs.Explained.{AreLines, Explains, IsTextOf, ListsFaults};
@@ -32,8 +32,8 @@ use std::alloc::{AllocError, Global};
 ///
 /// # Errors
 ///
-/// The text's fault, also where printing the faulty lines failed; `Memory` where a growth was
-/// refused; `Device` where the write of an explanation failed.
+/// The text's fault, also where there was no memory for the faulty lines, or printing them failed;
+/// `Memory` where another growth was refused; `Device` where the write of an explanation failed.
 pub fn explain<W: Output>(alloc: Global, show: &[u8], out: &mut W) -> Result<(), RunFault>
     ensures told { W.tells out.new → W.tells out.old }
     ensures text { W.tells out.new → Explains show.now result (W.tape out.old) (W.tape out.new) }
@@ -43,7 +43,7 @@ pub fn explain<W: Output>(alloc: Global, show: &[u8], out: &mut W) -> Result<(),
         Ok(loaded) => loaded,
         Err(ShowFault::Memory) => return Err(RunFault::Memory),
         Err(fault) => {
-            write_faults(alloc, show, fault, out)?;
+            write_faults(alloc, show, fault, out);
             return Err(RunFault::Show(fault));
         }
     };
@@ -52,23 +52,17 @@ pub fn explain<W: Output>(alloc: Global, show: &[u8], out: &mut W) -> Result<(),
     Ok(())
 }
 
-// Prints the faulty lines of a text that is not too long.
-fn write_faults<W: Output>(
-    alloc: Global,
-    show: &[u8],
-    fault: ShowFault,
-    out: &mut W,
-) -> Result<(), AllocError>
+// Prints the faulty lines of a text that is not too long, where there is memory for them.
+fn write_faults<W: Output>(alloc: Global, show: &[u8], fault: ShowFault, out: &mut W)
     ensures told { W.tells out.new → W.tells out.old }
-    ensures ok { OnOk result (W.tells out.new → ListsFaults (W.tape out.old) (W.tape out.new)) }
-    ensures err { OnErr result (W.tells out.new → W.tape out.new ≡ W.tape out.old) }
+    ensures lists { W.tells out.new → ListsFaults (W.tape out.old) (W.tape out.new) }
 {
     if show.len() > LONGEST_TEXT {
-        return Ok(());
+        return;
     }
-    let text = faults_text(alloc, show, fault)?;
-    let _ = out.write(text.as_slice());
-    Ok(())
+    if let Ok(text) = faults_text(alloc, show, fault) {
+        let _ = out.write(text.as_slice());
+    }
 }
 
 fn faults_text(alloc: Global, show: &[u8], fault: ShowFault) -> Result<Vec<u8>, AllocError>
