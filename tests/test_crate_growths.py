@@ -59,7 +59,9 @@ TESTED = {
     ),
     "program_tests::watching": Tested(("watch",), ("watch_desk",)),
     "program_tests::explain": Tested(("explain", "push_shown"), ("faults", "notes")),
-    "program_tests::cues": Tested(("cues", "cues_json"), ("faults", "lists")),
+    "program_tests::cues": Tested(
+        ("cues", "cues_json", "push_decimal", "push_number"), ("faults", "lists")
+    ),
     "program_tests::play": Tested(("play", "Console::open"), ("rows::each_growth_refused",)),
     "program_tests::live": Tested(("Night::open",), ("rows::each_growth_refused",)),
     "program_tests::rehearsal": Tested(
@@ -68,6 +70,7 @@ TESTED = {
 }
 # Public calls whose growths are refused in the program alone, and the test that refuses them.
 IN_THE_PROGRAM = {
+    "weigh": "test_refused_growths.RefusedGrowths.test_live",
     "Name::new": "test_refused_growths.RefusedGrowths.test_live",
     "first_bytes": "test_refused_growths.RefusedGrowths.test_check",
     "open": "test_refused_growths.RefusedGrowths.test_play",
