@@ -44,7 +44,8 @@ def play_night(typed, cid=None, to=NOWHERE):
         show, record, out, err = (Path(name, file) for file in files)
         show.write_bytes(typed.show)
         words = ["live", show, "--to", to, "--cid", cid or str(uuid.uuid4()), "--record", record]
-        words.append("--end-with-input")
+        # Named as `play` names a source, so that the packets of both are the same.
+        words += ["--name", "cueplayer", "--end-with-input"]
         # A file takes all that is shown, however late it is read.
         with open(out, "wb") as shown, open(err, "wb") as told:
             streams = {"stdin": subprocess.PIPE, "stdout": shown, "stderr": told}
