@@ -1,4 +1,4 @@
-ghost use Rattle.std.specs.Prelude.{◌≡◌, ◌≤◌, All, IfOk};
+ghost use Rattle.std.specs.Prelude.{◌≡◌, ◌≤◌, ◌<◌, ◌^◌, All, IfOk, length};
 ghost use Rattle.cueplayer_words.specs.Job.{IsInRange};
 ghost use Rattle.cueplayer.specs.Source.{source_name};
 
@@ -11,7 +11,7 @@ use crate::reading::{file_text, script_text, show_text};
 use crate::remark::{of_device, of_seeming, of_weight, plain};
 use crate::source_name::source_name;
 use cueplayer_cues::{cues, cues_json};
-use cueplayer_explain::{explain, seems, weigh};
+use cueplayer_explain::{Weight, explain, seems, weigh};
 use cueplayer_faults::RunFault;
 use cueplayer_play::play;
 use cueplayer_rehearse::rehearse_text;
@@ -22,7 +22,6 @@ use devices::Output;
 use fade_core::StepFader;
 use sacn_packet::SourceName;
 use sacn_source::Identity;
-use show_core::Show;
 use show_reader::read_show;
 use std::cell::RefCell;
 use std::io::{BufWriter, ErrorKind};
@@ -136,26 +135,46 @@ pub fn ended(
 fn check_show(rt: &HostRuntime, show: &str, is_strict: bool) -> Result<(), JobFault> {
     let text = show_text(rt, show)?;
     let text = text.as_slice();
+    let weight = if is_strict {
+        Some(weight_of(rt, text)?)
+    } else {
+        None
+    };
     let mut out = SystemOutput::new(rt.stdout());
     let answer = check(rt.alloc(), text, &mut out);
     ended(answer, text, out.failure())?;
-    let loaded = read_show(rt.alloc(), text).map_err(|fault| Failure::of_show(fault, text))?;
-    tell_seeming(rt, text, &loaded.show);
-    if !is_strict {
-        return Ok(());
+    tell_seeming(rt, text);
+    match weight {
+        Some(weight) if !weight.is_nothing() => Err(JobFault::Doubts(of_weight(weight))),
+        _ => Ok(()),
     }
+}
+
+// How much of a show may mean something else than is played.
+fn weight_of(rt: &HostRuntime, text: &[u8]) -> Result<Weight, Failure>
+    requires { length text.now < 2 ^ 32 }
+{
+    let loaded = read_show(rt.alloc(), text).map_err(|fault| Failure::of_show(fault, text))?;
     match weigh(rt.alloc(), text, &loaded) {
-        Ok(weight) if weight.is_nothing() => Ok(()),
-        Ok(weight) => Err(JobFault::Doubts(of_weight(weight))),
-        Err(_) => Err(JobFault::Run(Failure::from(RunFault::Memory))),
+        Ok(weight) => Ok(weight),
+        Err(_) => Err(Failure::from(RunFault::Memory)),
     }
 }
 
 // Tells what the file of a show without cues seems to be, where that is no text.
-fn tell_seeming(rt: &HostRuntime, text: &[u8], show: &Show) {
-    if let Some(what) = seems(text, show) {
+fn tell_seeming(rt: &HostRuntime, text: &[u8]) {
+    if let Some(what) = seems(text)
+        && has_no_cue(rt, text)
+    {
         tell(rt, of_seeming(what).as_slice());
         tell(rt, b"\n");
+    }
+}
+
+fn has_no_cue(rt: &HostRuntime, text: &[u8]) -> bool {
+    match read_show(rt.alloc(), text) {
+        Ok(loaded) => loaded.show.counts().cues == 0,
+        Err(_) => false,
     }
 }
 
@@ -198,13 +217,6 @@ fn show_slots(rt: &HostRuntime, show: &str, cue: u32, base: u16) -> Result<(), F
         tell(rt, b"no dimmer is patched\n");
     }
     Ok(())
-}
-
-// The same of a show that may not be read.
-fn tell_seeming_of(rt: &HostRuntime, text: &[u8]) {
-    if let Ok(loaded) = read_show(rt.alloc(), text) {
-        tell_seeming(rt, text, &loaded.show);
-    }
 }
 
 // Tells this on standard error.
@@ -254,7 +266,7 @@ fn play_lines(rt: &HostRuntime, night: &Night, source: Identity) -> Result<(), J
     let text = file_text(rt, night.show.as_str())?;
     let text = text.as_slice();
     check_targets(rt, night, text)?;
-    tell_seeming_of(rt, text);
+    tell_seeming(rt, text);
     let lock = CidLock::take(rt, night.cid).map_err(Failure::from)?;
     if lock.is_none() {
         tell(rt, NO_LOCK);

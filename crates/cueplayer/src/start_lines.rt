@@ -77,7 +77,9 @@ pub fn tell_start(
     let weight = weigh(rt.alloc(), show, &loaded)?;
     let is_interruptible = is_interruptible(rt)?;
     screen.tell(show_line(&loaded, weight).as_str().as_bytes());
-    if let Some(what) = seems(show, &loaded.show) {
+    if let Some(what) = seems(show)
+        && loaded.show.counts().cues == 0
+    {
         screen.tell(of_seeming(what).as_slice());
         screen.tell(b"\n");
     }

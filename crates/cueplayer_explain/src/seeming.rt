@@ -1,7 +1,4 @@
-ghost use Rattle.std.specs.Prelude.{◌≡◌, ◌<◌, None};
-ghost use Rattle.std.specs.FinMap as maps;
-
-use show_core::Show;
+ghost use Rattle.std.specs.Prelude.{◌≡◌, [], None};
 
 // So many bytes are looked at.
 const LOOKED_AT: usize = 512;
@@ -20,13 +17,10 @@ const BEGINNINGS: [(&[u8], &str); 8] = [
 
 const UTF_16: &str = "text in UTF-16";
 
-/// What the file of a show without cues seems to be, where its first 512 bytes are no text.
-pub fn seems(text: &[u8], show: &Show) -> Option<&'static str>
-    ensures { 0 < maps.len show.now.cues → result ≡ None }
+/// What a file of these bytes seems to be, where its first 512 bytes are no text.
+pub fn seems(text: &[u8]) -> Option<&'static str>
+    ensures { text.now ≡ [] → result ≡ None }
 {
-    if show.counts().cues > 0 {
-        return None;
-    }
     let front = &text[..text.len().min(LOOKED_AT)];
     for (beginning, what) in BEGINNINGS {
         if front.starts_with(beginning) {
