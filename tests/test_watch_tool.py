@@ -25,7 +25,7 @@ import inputs
 from expected import watch as expected
 from floods import Burst
 from networks import LIT, PORT, Machine, NetworkTest, Venue
-from program import CID, LIVE_NAME, TOP, FolderTest, packet, run, text
+from program import CID, TOP, FolderTest, packet, run, text
 from tooling import PATIENCE, TOOLS, Lines, run_tool, stand_still, wait_for
 from wire import own_network, terminal
 
@@ -547,7 +547,7 @@ class OnTheStage(ToolTest):
             for node, child in ((venue.stage, stage), (venue.office, office)):
                 interrupt(node, child)
             seen, unseen = (child.communicate(timeout=PATIENCE)[0] for child in (stage, office))
-            self.assertRegex(seen, rf"(?m)^> {re.escape(LIVE_NAME)} +100 +\d+ +0  {re.escape(LIT)} +{CID}$")
+            self.assertRegex(seen, rf"(?m)^> cueplayer +100 +\d+ +0  {re.escape(LIT)} +{CID}$")
             self.assertIn("\nslots 1:128\n", seen)
             self.assertIn("\nslots\n", unseen)
             self.assertNotIn(CID, unseen)

@@ -49,7 +49,9 @@ def watching(kept, *words):
     """The lines of the tool."""
     words = [sys.executable, TOOLS / "watch", "--lines", *words]
     child = subprocess.Popen(words, stdout=subprocess.PIPE, text=True)
-    kept.callback(child.kill)
+    kept.callback(child.wait, PATIENCE)
+    # A tool that is killed leaves a program behind that tells that its reader is gone.
+    kept.callback(child.terminate)
     return Lines(child.stdout)
 
 

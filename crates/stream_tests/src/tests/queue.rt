@@ -85,10 +85,10 @@ fn nothing_is_written_behind_a_failure(rt: HostRuntime) {
 #[test]
 fn each_growth_refused(rt: HostRuntime) {
     let faults = Faults::new(0, 0);
-    let first = pipe(&rt, 1000, faults, ErrorKind::BrokenPipe);
-    let queue = match LineQueue::new(rt.alloc(), first, NOTICE) {
+    let pipe = MemoryPipe::new(rt.alloc(), 1000, 100, faults, ErrorKind::BrokenPipe);
+    let queue = match LineQueue::new(rt.alloc(), pipe, NOTICE) {
         Ok(queue) => queue,
-        Err(_) => queue(&rt, pipe(&rt, 1000, faults, ErrorKind::BrokenPipe)),
+        Err(_) => queue_before(&rt, rt.alloc(), 1000, faults, ErrorKind::BrokenPipe),
     };
     assert!(rt; !queue.is_late() && queue.taken() == 0 && queue.gaps() == 0);
 }
