@@ -7,11 +7,13 @@ use std::process::Abort;
 
 // The answer of a run and its output, of which so many of the first writes fail.
 //
-// Where the one growth that a run lets fail was refused here, the second run has all it needs.
+// Where the one growth that a run lets fail was refused here, the second run has all it needs. Without
+// memory for the faulty lines the fault alone is answered.
 fn end(alloc: Global, show: &[u8], failing: u64) -> (Result<(), RunFault>, MemoryOutput) {
     let mut out = MemoryOutput::new(alloc, 0, failing);
     let answer = explain(alloc, show, &mut out);
-    let refused = answer == Err(RunFault::Memory) && out.faults.failed == 0 || out.full;
+    let is_short = matches!(answer, Err(RunFault::Memory | RunFault::Show(_)));
+    let refused = is_short && out.faults.failed == 0 || out.full;
     if !refused || !out.bytes.is_empty() {
         return (answer, out);
     }
