@@ -1,5 +1,6 @@
 """The notes and faulty lines that `explain` prints, and what `check --strict` refuses."""
 
+import os
 import random
 import subprocess
 import time
@@ -12,6 +13,8 @@ from program import PROGRAM, TOP, ProgramTest, run, text
 
 BASES = [file.read_bytes() for file in sorted((TOP / "examples").rglob("*.asc"))]
 SECONDS = 6
+# So many changed shows, by hand, in place of as many as there is time for.
+SHOWS = int(os.environ.get("CUEPLAYER_SHOWS", "0"))
 
 
 def explained(content):
@@ -41,8 +44,9 @@ class Printed(ProgramTest):
     def test_changed_shows(self):
         """As many as there is time for, of all examples and of shows of slips."""
         r = random.Random(7)
-        until = time.monotonic() + SECONDS
-        while time.monotonic() < until:
+        until, tried = time.monotonic() + SECONDS, 0
+        while tried < SHOWS or not SHOWS and time.monotonic() < until:
+            tried += 1
             content = changes.changed(r, r.choice(BASES), changes.OF_TEXTS, 8)
             if len(content) <= shows.LONGEST:
                 self.assertExplained(content)

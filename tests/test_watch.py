@@ -9,7 +9,9 @@ from expected import watch as expected
 from program import CID, DEVICE_FAULT, PROGRAM, UNFIT, ProgramTest, packet, run, text, told
 from worked import watched, with_examples
 
-NIGHTS, IN_A_RUN, SEED = 500, 50, 1
+# More by hand.
+NIGHTS = int(os.environ.get("CUEPLAYER_NIGHTS", "5000"))
+IN_A_RUN, SEED = 50, 1
 ON_TRIAL = (1, 2, 7, 63999)
 SHORT = b"1000 0 ignored Unreadable Short 1\n"
 LONGEST_LINE = 3072
