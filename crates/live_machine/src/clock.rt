@@ -1,4 +1,5 @@
-ghost use Rattle.std.specs.Prelude.{◌≡◌, ◌≤◌, ℕ, List, [], ◌∷◌, ◌++◌, IfOk, OnErr};
+ghost use Rattle.std.specs.Prelude.{◌≡◌, ◌≤◌, ℕ, [], ◌∷◌, IfOk, OnErr};
+ghost use Rattle.devices.specs.Tape.{Tape, with_failure, with_more};
 ghost use Rattle.std.specs.Duration.{as_nanos};
 ghost use Rattle.live_machine.specs.Clock.{IsRight, moment_at};
 
@@ -13,8 +14,8 @@ pub trait MachineClock {
     /// Contracts can see what the clock showed.
     ghost tells: { Self → Type 0 };
 
-    /// What it showed, in nanoseconds since it was started, the first first.
-    ghost readings: { Self → List ℕ };
+    /// What it showed, in nanoseconds since it was started.
+    ghost tape: { Self → Tape ℕ };
 
     /// How long it has been since the clock was started.
     ///
@@ -24,8 +25,9 @@ pub trait MachineClock {
     fn passed(&mut self) -> Result<Duration, LinkFault>
         ensures told { tells self.new → tells self.old }
         ensures ok { IfOk result (λ passed. tells self.new
-            → readings self.new ≡ readings self.old ++ as_nanos passed ∷ []) }
-        ensures err { OnErr result (tells self.new → readings self.new ≡ readings self.old) };
+            → tape self.new ≡ with_more (tape self.old) (as_nanos passed ∷ [])) }
+        ensures err { OnErr result (tells self.new
+            → tape self.new ≡ with_failure (tape self.old)) };
 }
 
 /// The clock of a night: the machine's, and the moment at which it was started.
@@ -53,10 +55,10 @@ impl<C: MachineClock> NightClock<C> {
     pub fn moment(&mut self) -> Result<u64, LinkFault>
         ensures told { C.tells self.new.clock → C.tells self.old.clock }
         ensures ok { IfOk result (λ moment. C.tells self.new.clock → (passed : ℕ)
-            × (C.readings self.new.clock ≡ C.readings self.old.clock ++ passed ∷ [])
+            × (C.tape self.new.clock ≡ with_more (C.tape self.old.clock) (passed ∷ []))
             × (moment ≡ moment_at self.old.start passed)) }
         ensures err { OnErr result (C.tells self.new.clock
-            → C.readings self.new.clock ≡ C.readings self.old.clock) }
+            → C.tape self.new.clock ≡ with_failure (C.tape self.old.clock)) }
         ensures same { self.new.start ≡ self.old.start }
     {
         let passed = self.clock.passed()?.as_millis();

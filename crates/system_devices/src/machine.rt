@@ -23,7 +23,7 @@ impl<'a> SystemClock<'a> {
 impl MachineClock for SystemClock<'_> {
     ghost tells = { λ _. ⊥ };
 
-    ghost readings = { λ _. [] };
+    ghost tape = { λ _. record { items = []; failures = 0 } };
 
     fn passed(&mut self) -> Result<Duration, LinkFault> {
         self.start.elapsed(self.rt).map_err(|_| LinkFault)

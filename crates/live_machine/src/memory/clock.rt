@@ -1,6 +1,7 @@
 ghost use Rattle.std.specs.Prelude.{◌≡◌, ◌+◌, [], ◌∷◌, ◌++◌, List, ℕ, false, is_err, map, min, IfOk, OnErr};
 ghost use Rattle.std.specs.Duration.{as_nanos, max_nanos};
 ghost use Rattle.devices.specs.Failing.{AreFirst, IsCounted, is_failing};
+ghost use Rattle.devices.specs.Tape.{given, with_failure, with_more};
 
 use crate::clock::MachineClock;
 use devices::LinkFault;
@@ -45,7 +46,7 @@ impl MemoryClock {
 impl MachineClock for MemoryClock {
     ghost tells = { λ m. m.full ≡ false };
 
-    ghost readings = { λ m. map as_nanos m.readings.items };
+    ghost tape = { λ m. given (map as_nanos m.readings.items) m.faults.failed };
 
     fn passed(&mut self) -> Result<Duration, LinkFault>
         ensures fails { is_err result ≡ is_failing self.old.faults }
@@ -56,10 +57,12 @@ impl MachineClock for MemoryClock {
         ensures step { self.new.step ≡ self.old.step }
         ensures told { self.new.full ≡ false → self.old.full ≡ false }
         ensures ok { IfOk result (λ passed. self.new.full ≡ false
-            → map as_nanos self.new.readings.items
-            ≡ map as_nanos self.old.readings.items ++ as_nanos passed ∷ []) }
+            → given (map as_nanos self.new.readings.items) self.new.faults.failed
+            ≡ with_more (given (map as_nanos self.old.readings.items) self.old.faults.failed)
+            (as_nanos passed ∷ [])) }
         ensures err { OnErr result (self.new.full ≡ false
-            → map as_nanos self.new.readings.items ≡ map as_nanos self.old.readings.items) }
+            → given (map as_nanos self.new.readings.items) self.new.faults.failed
+            ≡ with_failure (given (map as_nanos self.old.readings.items) self.old.faults.failed)) }
     {
         self.faults.count()?;
         let passed = self.next;
