@@ -131,14 +131,14 @@ class WindowTooWide(Small):
 
 
 class DropsNumberZero(Small):
-    rule, caught = "numbering wrap", ("0 behind 255",)
+    rule, caught = "numbering wrap", ("0 after 255",)
 
     def take(self, moment, data, sender):
         if len(data) < 126 or data[111] != 0:
             super().take(moment, data, sender)
 
     def is_late(self, last, number):
-        # As one that never saw 0: 1 behind 255 is a step back.
+        # As one that never saw 0: 1 after 255 is a step back.
         return number == 1 and last is not None and last.number == 255 or super().is_late(last, number)
 
 

@@ -71,7 +71,7 @@ def without(keeps):
 
 
 def is_no_repeat(place, sent):
-    """Whether it is a change, ends the stream, or comes behind a pause."""
+    """Whether it is a change, ends the stream, or comes after a pause."""
     moment, options, level = sent[place]
     last, _, before = sent[place - 1]
     return place == 0 or options or level != before or moment - last > 0.5

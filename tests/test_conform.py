@@ -37,9 +37,9 @@ PAGE, RESULTS = TOP / "docs/CONFORMANCE.md", TOP / "docs/conformance.json"
 # The choices of our own receiver.
 OURS = {
     "look at loss": {"goes dark"},
-    "numbers behind a loss": {"takes any number"},
+    "numbers after a loss": {"takes any number"},
     "termination": {"goes dark"},
-    "behind a termination": {"takes it", "ignores it", "shows it at once"},
+    "after a termination": {"takes it", "ignores it", "shows it at once"},
     "synchronization": {"shows it at once"},
     "priority beyond": {"ignores the packet"},
     "merge": {"the highest level of each slot"},
@@ -47,7 +47,7 @@ OURS = {
     "fewer slots than before": {"the others are 0"},
     "post-amble size": {"ignores it"},
     "flags and lengths": {"ignores it"},
-    "bytes behind the packet": {"ignores the bytes"},
+    "bytes after the packet": {"ignores the bytes"},
 }
 
 
@@ -283,7 +283,7 @@ class Tool(FolderTest):
         for rule in result["rules"]:
             chosen = {case["says"] for case in rule["cases"] if case["verdict"] == "choice"}
             told |= {rule["rule"]: chosen} if chosen else {}
-        late = {"look at loss", "numbers behind a loss"}
+        late = {"look at loss", "numbers after a loss"}
         self.assertEqual({name: each for name, each in OURS.items() if name not in late}, told)
 
     def test_own_source(self):

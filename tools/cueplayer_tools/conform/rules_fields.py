@@ -68,10 +68,10 @@ def _fewer(count: int) -> Case:
         script.send(fewer)
         kept = fewer.slots + whole.slots[count:]
         script.as_if(KEEPS, fewer.but(slots=kept, number=fewer.number + 1))
-        script.look(f"{count} slots behind a packet of 512")
+        script.look(f"{count} slots after a packet of 512")
 
     plain = "the others are 0"
-    return Case(f"{count} behind 512", write, plain, (KEEPS,), is_open=True)
+    return Case(f"{count} after 512", write, plain, (KEEPS,), is_open=True)
 
 
 def _trailing(script: Script) -> None:
@@ -79,7 +79,7 @@ def _trailing(script: Script) -> None:
     one.send({1: 10})
     packet = one.packet({1: 20})
     script.send(packet.to_bytes() + b"\xff" * 4, unheard=("ignores the packet",))
-    script.look("four bytes behind the end of a packet")
+    script.look("four bytes after the end of a packet")
 
 
 def _start_code(code: int) -> Case:
@@ -154,7 +154,7 @@ RULES = (
     Rule(
         "START code",
         "7.7",
-        "Data with another START code than 0 brings no levels (E1.11)",
+        "Data with a START code other than 0 brings no levels (E1.11)",
         tuple(map(_start_code, (0xDD, 0xCC, 0x17, 0xCF, 0x01))),
     ),
     Rule(
@@ -166,13 +166,13 @@ RULES = (
     Rule(
         "cut datagrams",
         "4.1",
-        "What is shorter than a header is no packet",
+        "A datagram shorter than a header is no packet",
         (Case("in the header", _cut),),
     ),
     Rule(
         "fewer slots than before",
         "7.7",
-        "What becomes of slots that a packet does not have is left open",
+        "What happens to slots that a packet does not have is left open",
         (_fewer(2), _fewer(0)),
     ),
     Rule(
@@ -184,7 +184,7 @@ RULES = (
     Rule(
         "flags and lengths",
         "5.4, 6.1, 7.1",
-        "What lengths that disagree do is left open",
+        "What happens with lengths that disagree is left open",
         (
             _left_open("root flags", lambda packet: packet.but(root_length=0x626E)),
             _left_open("framing flags", lambda packet: packet.but(framing_length=0x6258)),
@@ -202,9 +202,9 @@ RULES = (
         ),
     ),
     Rule(
-        "bytes behind the packet",
+        "bytes after the packet",
         "5.4",
-        "What bytes behind a packet do is left open",
+        "What happens with bytes after a packet is left open",
         (Case("four", _trailing, "ignores the bytes", ("ignores the packet",), is_open=True),),
     ),
 )

@@ -192,7 +192,7 @@ RULES = (
     Rule(
         "source name",
         "6.2.2",
-        "A name is for people, and tells no source from another",
+        "A name is for people, and identifies no source",
         (Case("another name", _named_anew), Case("any bytes", _name_of_any_bytes)),
     ),
     Rule(

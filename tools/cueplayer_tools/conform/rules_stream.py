@@ -30,9 +30,9 @@ def _wrapped(script: Script) -> None:
     one = script.source()
     one.send({1: 10}, number=255)
     one.send({1: 20}, number=0)
-    script.look("0 comes behind 255")
+    script.look("0 comes after 255")
     one.send({1: 30}, number=1)
-    script.look("1 comes behind 0")
+    script.look("1 comes after 0")
 
 
 def _own_numbers(script: Script) -> None:
@@ -44,7 +44,7 @@ def _own_numbers(script: Script) -> None:
 
 def _stays(script: Script) -> None:
     script.source().send({1: 10})
-    script.look("2.0 s behind its last packet a source is there", 2000)
+    script.look("2.0 s after its last packet a source is there", 2000)
 
 
 def _is_lost(script: Script) -> None:
@@ -53,7 +53,7 @@ def _is_lost(script: Script) -> None:
     high.send({2: 20})
     for _ in range(3):
         script.send(low.packet({1: 10}), wait=1000)
-    script.look("3.3 s behind its last packet a source is lost, and the other shows", 300)
+    script.look("3.3 s after its last packet a source is lost, and the other shows", 300)
 
 
 def _goes_on(script: Script) -> None:
@@ -69,11 +69,11 @@ def _lost_look(script: Script) -> None:
     one.send({1: 10})
     script.as_if(HELD, one.packet({1: 10}), wait=1500)
     script.as_if(HELD, one.packet({1: 10}), wait=1500)
-    script.look("3.5 s behind the last packet of the only source", 500)
+    script.look("3.5 s after the last packet of the only source", 500)
 
 
-COUNT = "numbers of before count"
-COUNT_HELD = "numbers of before count, and the look is held"
+COUNT = "numbers from before count"
+COUNT_HELD = "numbers from before count, and the look is held"
 
 
 def _numbers_after_loss(script: Script) -> None:
@@ -124,7 +124,7 @@ def _begins_anew(script: Script) -> None:
     script.look("a source that ended its stream goes on at the next number")
 
 
-def _late_behind_the_end(script: Script) -> None:
+def _late_after_the_end(script: Script) -> None:
     low, high = script.source(100), script.source(150)
     low.send({1: 10}, number=20)
     high.send({2: 20}, number=21)
@@ -133,7 +133,7 @@ def _late_behind_the_end(script: Script) -> None:
     late = high.packet({2: 30}, number=22)
     script.send(late)
     script.as_if("the stream begins again", late.but(number=25))
-    script.look("a packet that the network brings behind the end of its stream")
+    script.look("a packet that the network brings after the end of its stream")
 
 
 def _preview_alone(script: Script) -> None:
@@ -179,7 +179,7 @@ def _synchronized(script: Script) -> None:
     script.send(synchronization_packet(one.cid, address, 1))
     packet = one.packet({1: 20}, synchronization=address)
     script.send(packet, unheard=(WAITS,))
-    script.look("data with an address, behind a first synchronization packet")
+    script.look("data with an address, after a first synchronization packet")
     script.send(synchronization_packet(one.cid, address, 2))
     script.as_if(WAITS, packet)
     script.look("the synchronization packet has come")
@@ -193,7 +193,7 @@ def _others_pass(script: Script) -> None:
     script.send(synchronization_packet(one.cid, script.universe, 1))
     script.look("discovery and synchronization packets bring no levels")
     one.send({1: 20})
-    script.look("data behind them is shown")
+    script.look("data after them is shown")
 
 
 RULES = (
@@ -219,8 +219,8 @@ RULES = (
     Rule(
         "numbering wrap",
         "6.7.2",
-        "Numbers go on at 0 behind 255",
-        (Case("0 behind 255", _wrapped), _numbers(5, 250, "250 is 11 behind 5")),
+        "Number 0 comes after 255",
+        (Case("0 after 255", _wrapped), _numbers(5, 250, "250 is 11 behind 5")),
     ),
     Rule(
         "numbering by source",
@@ -237,7 +237,7 @@ RULES = (
     Rule(
         "source lost",
         "6.7.1",
-        "A source is lost 2.5 s behind its last packet",
+        "A source is lost 2.5 s after its last packet",
         (Case("the other shows", _is_lost),),
     ),
     Rule(
@@ -247,9 +247,9 @@ RULES = (
         (Case("the only source", _lost_look, "goes dark", (HELD,), is_open=True),),
     ),
     Rule(
-        "numbers behind a loss",
+        "numbers after a loss",
         "6.7.2",
-        "Whether numbers of before a loss count is left open",
+        "Whether numbers from before a loss count is left open",
         (
             Case(
                 "lower number",
@@ -270,14 +270,14 @@ RULES = (
         ),
     ),
     Rule(
-        "behind a termination",
+        "after a termination",
         "6.2.6",
-        "What a receiver makes of what comes behind an end is left open",
+        "What a receiver does with packets after an end is left open",
         (
             Case("goes on", _begins_anew, "takes it", ("ignores it",), is_open=True),
             Case(
                 "a late packet",
-                _late_behind_the_end,
+                _late_after_the_end,
                 "ignores it",
                 ("the stream begins again",),
                 is_open=True,

@@ -21,7 +21,7 @@ _NAMES = uuid.UUID("c0ffee00-0000-4000-8000-00000000e131")
 
 @dataclass(frozen=True)
 class Datagram:
-    """One that is sent, so many milliseconds behind the step before, by one of two sockets. It is
+    """One that is sent, so many milliseconds after the step before, by one of two sockets. It is
     heard in every reading but those in `unheard`. One that has `only` is heard in that reading,
     and is not sent."""
 
@@ -56,7 +56,7 @@ class Source:
 
     def packet(self, levels: dict[int, int], **fields: object) -> DataPacket:
         """Its next packet. The numbers of a case rise by one over all of its sources, so that a
-        source has gaps, as behind a loss, and a case says where numbers fall."""
+        source has gaps, as after a loss, and a case says where numbers fall."""
         number = fields.pop("number", None)
         if number is None:
             number = self.script.number + 1

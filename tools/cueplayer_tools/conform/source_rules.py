@@ -24,7 +24,7 @@ LOST = 2.5
 PAUSE = 0.25
 REPEATS = 3
 TIMES = ("never", "once", "twice")
-# Of E1.11, in microseconds: a break and the mark behind it, a slot, and the shortest packet.
+# Of E1.11, in microseconds: a break and the mark after it, a slot, and the shortest packet.
 BREAK, SLOT, SHORTEST = 104, 44, 1204
 # Packets that a busy machine moves from one second into the next.
 MOVED = 4
@@ -119,7 +119,7 @@ def _numbers(heard: Listening) -> Iterator[str]:
         for last, packet in stream.pairs():
             right = (last.number + 1) % 256
             if packet.number != right:
-                yield f"universe {stream.universe}: number {packet.number} behind {last.number}"
+                yield f"universe {stream.universe}: number {packet.number} after {last.number}"
 
 
 def _reserved(heard: Listening) -> Iterator[str]:
@@ -158,7 +158,7 @@ def _alive(heard: Listening) -> Iterator[str]:
         for last, packet in stream.pairs():
             apart = packet.moment - last.moment
             if apart > KEEP_ALIVE + SLACK and not last.is_terminated:
-                yield f"{packet.where}: {apart:.2f} s behind the packet before"
+                yield f"{packet.where}: {apart:.2f} s after the packet before"
 
 
 def _fastest(stream: Stream) -> int:
@@ -236,13 +236,13 @@ RULES = (
     SourceRule("CID", "5.6", "A source has one CID", _cids),
     SourceRule("source name", "6.2.2", "The name is UTF-8 that ends with a zero byte", _names),
     SourceRule("priority", "6.2.3", "Priorities are 0 to 200", _priorities),
-    SourceRule("synchronized by", "6.2.4", "What synchronizes is 0 or a universe", _addresses),
+    SourceRule("synchronized by", "6.2.4", "The synchronization address is 0 or a universe", _addresses),
     SourceRule("numbering", "6.2.5", "The numbers of a universe rise by one", _numbers),
     SourceRule("reserved options", "6.2.6", "The reserved bits of the options are 0", _reserved),
     SourceRule("universe", "6.2.7, 9.3", "Each universe goes to its group", _universes),
     SourceRule("repeats", "6.6.2", "Levels are sent three times before a pause", _repeats),
-    SourceRule("keep-alive", "6.6.2", "A stream that is on never pauses for 1 s", _alive),
-    SourceRule("rate", "6.6.1", "No more packets a second than E1.11 has", _rate),
+    SourceRule("keep-alive", "6.6.2", "A live stream never pauses for 1 s", _alive),
+    SourceRule("rate", "6.6.1", "A universe has no more packets a second than E1.11 allows", _rate),
     SourceRule("termination", "6.2.6", "Three packets end a stream", _endings, _ends),
     SourceRule("priorities sent", "6.2.3", "Which priorities are sent", None, _sent_priorities),
     SourceRule("START codes", "7.7", "Which START codes are sent", None, _start_codes),
