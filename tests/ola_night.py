@@ -77,7 +77,7 @@ class Daemon:
                 subprocess.run(words, check=True)
                 return
             time.sleep(0.1)
-        raise Wrong("olad does not begin")
+        raise Wrong("olad does not start")
 
     def look(self) -> bytes:
         """The levels of its universe 1."""

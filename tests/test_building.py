@@ -168,7 +168,7 @@ class Building(CopiedLayout):
 
     def test_prover_that_leaves_no_program(self):
         self.write("bin/rt", "#!/bin/sh\necho all is well\n")
-        self.assertFails("rt ci ended well, but there is no program at")
+        self.assertFails("rt ci succeeded, but there is no program at")
 
     def test_interruptions(self):
         """Neither half a program is left, nor a temporary file, nor the prover; and it can be done again."""

@@ -167,7 +167,7 @@ class Examples(ConvertTest):
             "line 4: in doubt: dimmer 3: of channel 3, and then of 2",
             f"line 7: in doubt: UP 0,5 {COMMA}",
             "lines 6, 10: in doubt: cue 5 is opened again: its lines count together",
-            "line 16: in doubt: CEU 7: left out (CUE?); the lines behind it went to cue 6",
+            "line 16: in doubt: CEU 7: left out (CUE?); the lines after it went to cue 6",
         ):
             self.assertIn(part, told)
 
@@ -255,7 +255,7 @@ class Rules(ConvertTest):
 
     def test_marks_that_say_otherwise(self):
         """Words that fall into place are read so, as the program does; and the marks are told."""
-        told = "read word by word, and its marks part it otherwise"
+        told = "read word by word, though its marks group it differently"
         self.assertLines(["CHAN 1@ 2@ 3@FL"], {1: 5, 3: 255}, f"line 2: in doubt: CHAN 1@ 2@ 3@FL: {told}")
         levels = {1: 255, 2: 128, 3: 51, 4: 77, 5: 102}
         self.assertLines(["CHAN 1=FL 2/50", "CHAN 3 20", "CHAN 4,30,5,40"], levels)
@@ -307,7 +307,7 @@ class Rules(ConvertTest):
             ("UP M", (0, 0), ["line 2: lost: UP M: M is no time"]),
             ("UP 3 M", (3000, 0), ["line 2: lost: UP 3 M: M is no time"]),
             ("UP", (0, 0), ["line 2: lost: UP without a time"]),
-            ("UP 3 4 DOWN 5", (3000, 4000), ["line 2: lost: words behind UP: DOWN 5"]),
+            ("UP 3 4 DOWN 5", (3000, 4000), ["line 2: lost: words after UP: DOWN 5"]),
             ("UP 0,5", (0, 5000), [f"line 2: in doubt: UP 0,5 {COMMA}"]),
         ):
             with self.subTest(line):
@@ -407,7 +407,7 @@ class Rules(ConvertTest):
         found, show = self.converted('CUE 4 "Bahnhof; 2"', 'CUE 5 1 "x"', "CUE 6 y z")
         labels = [show.label("cues", n) for n in (4000, 5000, 6000)]
         self.assertEqual([b"Bahnhof; 2", b"x", b""], labels)
-        self.assertIn("line 3: lost: words behind CUE 6: y z", found.report.lines())
+        self.assertIn("line 3: lost: words after CUE 6: y z", found.report.lines())
 
     def test_makers_records(self):
         """They are left out, with all that stands in them; those of cues and the patch are lost."""
@@ -438,7 +438,7 @@ class Rules(ConvertTest):
             "line 2: in doubt: IDENT 2:0 to IDENT 3:0: read as of that version",
             "line 5: in doubt: UPP 5: left out (UP?)",
             "line 3: left out: unknown keyword MACRO",
-            "line 8: left out: lines behind ENDDATA",
+            "line 8: left out: lines after ENDDATA",
         )
 
 

@@ -85,7 +85,7 @@ class Playback(DeskTest):
         self.assertEqual((), tuple(page.notices()))
         self.assertEqual(409, page.command("x" * 200))
         wait_for(lambda: page.notices(), "a notice")
-        self.assertEqual("x" * 40 + "..: no command: " + "x" * 80 + "..", page.notices()[0])
+        self.assertEqual("x" * 40 + "..: not a command: " + "x" * 80 + "..", page.notices()[0])
 
     def test_two_pages(self):
         """Two pages show the same, and one that is opened again shows it at once."""
@@ -236,7 +236,7 @@ class Ends(DeskTest):
         remark = "desk: live: --priority `201`: a priority is a number from 0 to 200\n"
         self.assertEqual((2, "desk: live: words refused\n" + remark + over),
                          told(self.show, *usual, "--priority", 201))
-        self.assertEqual((1, "desk: no IPv4 address: 'x'\n"), told(self.show, "--to", "x"))
+        self.assertEqual((1, "desk: not an IPv4 address: 'x'\n"), told(self.show, "--to", "x"))
         with socket.create_server(("127.0.0.1", 0)) as taken:
             port = taken.getsockname()[1]
             self.assertEqual((1, "desk: cannot begin: Address already in use\n"),
@@ -358,7 +358,7 @@ class Beside(DeskTest):
             sender.connect((host, int(port)))
             sender.send(GREATEST_DOUBLE)
             wait_for(page.notices, "a notice")
-            self.assertIn("/cueplayer/goto: no cue number: 1e+308", page.notices()[0])
+            self.assertIn("/cueplayer/goto: not a cue number: 1e+308", page.notices()[0])
             sender.send(message("/cueplayer/go"))
             page.wait(current="1")
 
@@ -575,7 +575,7 @@ class Cid(DeskTest):
         (self.folder / "cueplayer").mkdir()
         kept = self.file("cueplayer/cid", b"x\n")
         cid, told = self.console(self.folder)
-        why = f"desk: cannot read a CID in {kept}: no UUID is there; "
+        why = f"desk: cannot read a CID in {kept}: it has no UUID; "
         self.assertEqual([f"{why}this night has one of its own: --cid {cid}"], told)
         self.assertEqual("x\n", kept.read_text())
 

@@ -93,7 +93,7 @@ class Guests(DoorTest):
         self.assertEqual(401, door.press(page, "go"))
         self.assertEqual(401, door.request("POST", "/pins", "new")[0])
         status, told = door.enter("000000" if door.play != "000000" else "000001")
-        self.assertEqual((403, "no such PIN"), (status, told[:11]))
+        self.assertEqual((403, "wrong PIN"), (status, told[:9]))
         self.assertIsNone(door.cookie)
         self.assertEqual(204, door.enter(door.play)[0])
         self.assertIn("id=\"go\"", door.request("GET", "/")[1])
@@ -227,11 +227,11 @@ class Guests(DoorTest):
             (("--listen", "192.0.2.77"), f"--listen: {there}"),
             (("--osc", "192.0.2.77:8000"), f"--osc: {there}"),
             (("--listen", "0.0.0.0"), "--listen: no card of this machine has 0.0.0.0"),
-            (("--listen", "stage"), "no IPv4 address: 'stage'"),
-            (("--listen", "127.0.0.1:x"), "no port: 'x'"),
+            (("--listen", "stage"), "not an IPv4 address: 'stage'"),
+            (("--listen", "127.0.0.1:x"), "not a port: 'x'"),
             (("--certificate", "a", "--listen", "127.0.0.1"), "--certificate and --key go together"),
-            (("--certificate", "a", "--key", "b"), "are of the page of --listen"),
-            (("--host", "a"), "are of the page of --listen"),
+            (("--certificate", "a", "--key", "b"), "--certificate and --host need --listen"),
+            (("--host", "a"), "--certificate and --host need --listen"),
         ):
             with self.subTest(words):
                 done = run_tool("desk", *usual, *words)
@@ -317,7 +317,7 @@ class InBrowser(DoorTest):
             played.call("Emulation.setDeviceMetricsOverride", width=width, height=844,
                         deviceScaleFactor=1, mobile=False)
             self.assertLessEqual(played.value("document.documentElement.scrollWidth"), width)
-        played.wait("document.getElementById('told').textContent.startsWith('no such PIN')")
+        played.wait("document.getElementById('told').textContent.startsWith('wrong PIN')")
         played.value(f"document.getElementById('pin').value = '{door.play}'")
         played.press("Enter", "Enter", "\r")
         watched = self.entered(browsers[1], door, door.watch)
@@ -420,7 +420,7 @@ class PinsOfADesk(unittest.TestCase):
             pins.enter(pins.pins[Role.PLAY], "10.0.0.1")
             now[0] = 1.0
             for _ in range(5):
-                self.assertIn("no such PIN", self.wrong(pins, "10.0.0.1"))
+                self.assertIn("wrong PIN: ", self.wrong(pins, "10.0.0.1"))
             self.assertIn("wait 60 seconds", self.wrong(pins, "10.0.0.1"))
             now[0] = 60.0
             self.assertIn("wait 1 seconds", self.wrong(pins, "10.0.0.1"))
@@ -433,11 +433,11 @@ class PinsOfADesk(unittest.TestCase):
         pins, now = Pins(), [0.0]
         with mock.patch.object(desk_pins.time, "monotonic", lambda: now[0]):
             told = [self.wrong(pins, f"10.0.{at // 250}.{at % 250}") for at in range(1_000)]
-        self.assertEqual(30, sum("no such PIN" in each for each in told))
+        self.assertEqual(30, sum("wrong PIN: " in each for each in told))
         pins = Pins()
         with mock.patch.object(desk_pins.time, "monotonic", lambda: now[0]):
             told = [self.wrong(pins, f"10.0.0.{at // 5}") for at in range(1_000)]
-        self.assertEqual(30, sum("no such PIN" in each for each in told))
+        self.assertEqual(30, sum("wrong PIN: " in each for each in told))
         self.assertLessEqual(len(pins.attempts.wrong) + len(pins.attempts.locked), 60)
 
 

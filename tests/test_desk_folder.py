@@ -106,7 +106,8 @@ class Desk(DeskFolderTest):
         self.kill_all()
         wait_for(lambda: not NightFolder(str(self.night)).is_played(), "no reader")
         self.assertEqual(409, page.command("go"))
-        told = f"no live plays the night in {self.night}: `cueplayer-night {self.night} start` does"
+        start = f"`cueplayer-night {self.night} start`"
+        told = f"no live plays the night in {self.night}: {start} goes on with it"
         wait_for(lambda: told in page.notices(), told)
         page.wait(late=True)
         self.assertEqual(0, self.asked("start", "--background").status)
@@ -174,7 +175,7 @@ class Desk(DeskFolderTest):
                       ["--priority", "1"], ["--record", "x"]):  # fmt: skip
             done = run_tool("desk", "--night", self.night, *words)
             self.assertEqual(2, done.returncode)
-            self.assertIn("--night has the words of its night: leave out ", done.stderr)
+            self.assertIn("--night has the options of its night: leave out ", done.stderr)
         self.assertEqual(2, run_tool("desk", "--to", "1.2.3.4").returncode)
         done = run_tool("desk", "--night", self.night)
         told = f"desk: no night in {self.night}: No such file or directory\n"
@@ -249,7 +250,7 @@ class Folder(FolderNightTest):
         )
         for text in ("", "show\n", f"show\n--cid\n{self.cid}\n", "show\n--to\n1.2.3.4\n--cid\nx\n"):
             (self.night / "night").write_text(text)
-            with self.assertRaisesRegex(Refused, "none of a night"):
+            with self.assertRaisesRegex(Refused, "not those of a night"):
                 self.read.words()
 
     def test_has_ended(self):
@@ -292,6 +293,6 @@ class Folder(FolderNightTest):
 
     def test_no_fifo(self):
         (self.night / "in").write_text("")
-        with self.assertRaisesRegex(Refused, "is no FIFO"):
+        with self.assertRaisesRegex(Refused, "is not a FIFO"):
             self.read.give("go")
         self.assertEqual("", (self.night / "in").read_text())

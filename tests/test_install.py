@@ -276,7 +276,7 @@ class Install(CopiedLayout):
                         file.symlink_to(self.program)
                     else:
                         file.mkdir()
-                    self.assertFails(self.prefix, telling=f"{file} is there")
+                    self.assertFails(self.prefix, telling=f"{file} exists")
                     shutil.rmtree(self.prefix)
 
     def test_file_that_was_changed(self):
@@ -288,7 +288,7 @@ class Install(CopiedLayout):
                 with file.open("a") as changed:
                     changed.write("# mine\n")
                 text = file.read_text()
-                self.assertFails(self.prefix, telling=f"{file} is there")
+                self.assertFails(self.prefix, telling=f"{file} exists")
                 status, _, err = self.run_script("install", "--remove", self.prefix)
                 self.assertEqual(0, status)
                 self.assertIn(f"{file} was changed since it was installed, and stays", err)
@@ -323,7 +323,7 @@ class Install(CopiedLayout):
         self.run_script("install", self.prefix)
         status, _, err = self.run_script("install", self.prefix)
         self.assertEqual(1, status)
-        self.assertIn(f"{self.prefix} is no folder", err)
+        self.assertIn(f"{self.prefix} is not a folder", err)
 
     def test_no_program(self):
         """One that is gone or damaged is not installed."""

@@ -42,12 +42,12 @@ REFUSED = (
     (show(RESUME, b"1"), "show control: RESUME has no meaning here"),
     (show(8), "show control: ALL_OFF has no meaning here"),
     (show(0x1F), "show control: no command 1F"),
-    (show(GO, b"1\0" + b"2"), "show control: GO: no such cue list: there is list 1"),
-    (show(GO, b"x"), "show control: GO: no cue number"),
-    (show(GO, b"1.2.3"), "show control: GO: no cue number: 1.2.3"),
-    (show(TIMED_GO, SHORT), "show control: TIMED_GO: a time wants a cue too"),
+    (show(GO, b"1\0" + b"2"), "show control: GO: no such cue list: there is only list 1"),
+    (show(GO, b"x"), "show control: GO: not a cue number"),
+    (show(GO, b"1.2.3"), "show control: GO: not a cue number: 1.2.3"),
+    (show(TIMED_GO, SHORT), "show control: TIMED_GO: a time needs a cue too"),
     (show(TIMED_GO, SHORT[:4]), "show control: TIMED_GO: a time is cut off"),
-    (show(TIMED_GO, bytes([0x60 | 5, 0, 0, 0, 0]), b"1"), "show control: TIMED_GO: no time: 18000.00"),
+    (show(TIMED_GO, bytes([0x60 | 5, 0, 0, 0, 0]), b"1"), "show control: TIMED_GO: not a time: 18000.00"),
 )
 NOTHING = (
     show(GO, device=1),
@@ -174,7 +174,7 @@ class Device(DeskTest):
         os.write(device, show(GO))
         time.sleep(1.5)
         os.kill(desk.process.pid, signal.SIGCONT)
-        wait_for(lambda: any("not read in a second" in told for told in page.notices()), "that")
+        wait_for(lambda: any("not read within a second" in told for told in page.notices()), "that")
         page.command("sub 1 FL")
         self.assertIsNone(page.wait(masters={"sub 1": 255})["current"])
         os.write(device, show(GO))
@@ -185,10 +185,10 @@ class Device(DeskTest):
         usual = (self.show, "--to", self.to, "--cid", self.cid)
         for status, told, words in (
             (1, "--midi /nowhere: No such file or directory", ("--midi", "/nowhere")),
-            (1, "no device and no FIFO", ("--midi", self.show)),
-            (2, "no number from 0 to 127: '128'", ("--midi", "x", "--midi-go", "128")),
-            (2, "no number from 0 to 111: 'x'", ("--midi", "x", "--midi-device", "x")),
-            (2, "are of the device of --midi", ("--midi-back", "1")),
+            (1, "neither a device nor a FIFO", ("--midi", self.show)),
+            (2, "not a number from 0 to 127: '128'", ("--midi", "x", "--midi-go", "128")),
+            (2, "not a number from 0 to 111: 'x'", ("--midi", "x", "--midi-device", "x")),
+            (2, "--midi-go and --midi-back need --midi", ("--midi-back", "1")),
         ):
             with self.subTest(words):
                 done = run_tool("desk", *usual, *words)

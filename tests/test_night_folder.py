@@ -566,7 +566,7 @@ class Words(FolderNightTest):
             with self.subTest(words):
                 status, out, err = self.asked(*words)
                 self.assertEqual((2, ""), (status, out))
-                self.assertRegex(err, r"\Acueplayer-night: .*; --help says what there is\n\Z")
+                self.assertRegex(err, r"\Acueplayer-night: .*; --help lists the commands\n\Z")
                 self.assertFalse(self.night.exists())
         for words in ([], [""], ["--bogus"]):
             self.assertEqual(2, subprocess.run([NIGHT, *words], capture_output=True).returncode)

@@ -108,45 +108,45 @@ REFUSED = (
     (message("/Go"), "/Go: no such address"),
     (message("/go/1"), "/go/1: no such address"),
     (message("/cue/1"), "/cue/1: no such address"),
-    (message("/cue/x/start"), "/cue/x/start: no cue number: x"),
+    (message("/cue/x/start"), "/cue/x/start: not a cue number: x"),
     (message("/cue/1/stop"), "/cue/1/stop: no such address"),
-    (message("/eos/cue/2/1/fire"), "/eos/cue/2/1/fire: no cue list 2: there is list 1"),
+    (message("/eos/cue/2/1/fire"), "/eos/cue/2/1/fire: no cue list 2: there is only list 1"),
     (message("/eos/cue/1/fire"), "/eos/cue/1/fire: no such address"),
     (message("/eos/key/go"), "/eos/key/go: no such address"),
     (message("/cueplayer/subscribe"), "/cueplayer/subscribe: no such address"),
     (message("/cueplayer/"), "/cueplayer/: no such address"),
     (message("/cueplayer/Go"), "/cueplayer/Go: no such address"),
     (message("/cueplayer/go/"), "/cueplayer/go/: no such address"),
-    (message("/cueplayer/sub/*", 1.0), "/cueplayer/sub/*: no number: *"),
-    (message("/cueplayer/sub/65536", 1.0), "/cueplayer/sub/65536: no number: 65536"),
-    (message("/cueplayer/sub/3"), "/cueplayer/sub/3: 0 arguments in the place of one"),
-    (message("/cueplayer/sub/3", 0.1, 0.2), "/cueplayer/sub/3: 2 arguments in the place of one"),
+    (message("/cueplayer/sub/*", 1.0), "/cueplayer/sub/*: not a number: *"),
+    (message("/cueplayer/sub/65536", 1.0), "/cueplayer/sub/65536: not a number: 65536"),
+    (message("/cueplayer/sub/3"), "/cueplayer/sub/3: 0 arguments instead of one"),
+    (message("/cueplayer/sub/3", 0.1, 0.2), "/cueplayer/sub/3: 2 arguments instead of one"),
     (message("/cueplayer/master", 1.5), "/cueplayer/master: level out of range: 1.5"),
     (message("/cueplayer/master", 50), "/cueplayer/master: level out of range: 50"),
-    (message("/cueplayer/master", -0.1), "/cueplayer/master: no number from 0: -0.1"),
-    (message("/cueplayer/master", float("nan")), "/cueplayer/master: no number from 0: nan"),
-    (message("/cueplayer/master", "full"), "/cueplayer/master: no number: full"),
-    (message("/cueplayer/goto", 0), "/cueplayer/goto: no cue number: 0.000"),
-    (message("/cueplayer/goto", 10000.0), "/cueplayer/goto: no cue number: 10000.000"),
-    (GREATEST_DOUBLE, "/cueplayer/goto: no cue number: 1e+308"),
-    (message("/cueplayer/goto", float("inf")), "/cueplayer/goto: no number from 0: inf"),
-    (message("/cueplayer/goto", float("-inf")), "/cueplayer/goto: no number from 0: -inf"),
-    (message("/cueplayer/goto", float("nan")), "/cueplayer/goto: no number from 0: nan"),
-    (message("/cueplayer/goto", "1\n2 go"), "/cueplayer/goto: no cue number: 1?2 go"),
-    (message("/cueplayer/goto", True), "/cueplayer/goto: no cue number"),
-    (message("/cueplayer/goto/1/in"), "/cueplayer/goto/1/in: 0 arguments in the place of one"),
-    (message("/cueplayer/goto/1/in", True), "/cueplayer/goto/1/in: no time"),
-    (message("/cueplayer/goto/1/in", -1.0), "/cueplayer/goto/1/in: no number from 0: -1"),
-    (message("/cueplayer/goto/1/in", 6000), "/cueplayer/goto/1/in: no time: 6000.00"),
-    (message("/cueplayer/goto/1/in", 1e9), "/cueplayer/goto/1/in: no time: 1e+09"),
-    (message("/cueplayer/goto/1/in", "1:60"), "/cueplayer/goto/1/in: no time: 1:60"),
-    (message("/cueplayer/goto/0/in", 1), "/cueplayer/goto/0/in: no cue number: 0"),
-    (message("/cueplayer/goto/1/in/x"), "/cueplayer/goto/1/in/x: no time: x"),
+    (message("/cueplayer/master", -0.1), "/cueplayer/master: not a number from 0: -0.1"),
+    (message("/cueplayer/master", float("nan")), "/cueplayer/master: not a number from 0: nan"),
+    (message("/cueplayer/master", "full"), "/cueplayer/master: not a number: full"),
+    (message("/cueplayer/goto", 0), "/cueplayer/goto: not a cue number: 0.000"),
+    (message("/cueplayer/goto", 10000.0), "/cueplayer/goto: not a cue number: 10000.000"),
+    (GREATEST_DOUBLE, "/cueplayer/goto: not a cue number: 1e+308"),
+    (message("/cueplayer/goto", float("inf")), "/cueplayer/goto: not a number from 0: inf"),
+    (message("/cueplayer/goto", float("-inf")), "/cueplayer/goto: not a number from 0: -inf"),
+    (message("/cueplayer/goto", float("nan")), "/cueplayer/goto: not a number from 0: nan"),
+    (message("/cueplayer/goto", "1\n2 go"), "/cueplayer/goto: not a cue number: 1?2 go"),
+    (message("/cueplayer/goto", True), "/cueplayer/goto: not a cue number"),
+    (message("/cueplayer/goto/1/in"), "/cueplayer/goto/1/in: 0 arguments instead of one"),
+    (message("/cueplayer/goto/1/in", True), "/cueplayer/goto/1/in: not a time"),
+    (message("/cueplayer/goto/1/in", -1.0), "/cueplayer/goto/1/in: not a number from 0: -1"),
+    (message("/cueplayer/goto/1/in", 6000), "/cueplayer/goto/1/in: not a time: 6000.00"),
+    (message("/cueplayer/goto/1/in", 1e9), "/cueplayer/goto/1/in: not a time: 1e+09"),
+    (message("/cueplayer/goto/1/in", "1:60"), "/cueplayer/goto/1/in: not a time: 1:60"),
+    (message("/cueplayer/goto/0/in", 1), "/cueplayer/goto/0/in: not a cue number: 0"),
+    (message("/cueplayer/goto/1/in/x"), "/cueplayer/goto/1/in/x: not a time: x"),
     (message("/cueplayer/goto/1/to/4"), "/cueplayer/goto/1/to/4: no such address"),
-    (message("/cueplayer/go", -1.0), "/cueplayer/go: no number from 0: -1"),
+    (message("/cueplayer/go", -1.0), "/cueplayer/go: not a number from 0: -1"),
     (message("/cueplayer/go", tags="b"), "an argument of type b: /cueplayer/go???,b??"),
     (message("/cueplayer/go", tags="i"), "an argument is cut off: /cueplayer/go???,i??"),
-    (GO + bytes(4), "bytes are left over behind /cueplayer/go: /cueplayer/go???,???????"),
+    (GO + bytes(4), "bytes are left over after /cueplayer/go: /cueplayer/go???,???????"),
     (b"#bundle\0", "a bundle is cut off: #bundle?"),
     (bundle(GO)[:-4], "a bundle's element has no such size: #bundle?????????????/cueplayer/go???"),
 )
@@ -360,7 +360,7 @@ class Tool(ProgramTest):
             send(datagram)
         send(GO)
         self.assertEqual("go", osc.out.next())
-        self.assertIn("no cue number: 1e+308", osc.err.next())
+        self.assertIn("not a cue number: 1e+308", osc.err.next())
         told = rf"refused 4 in a second, the latest from 127\.0\.0\.1:{self.from_port}: a size"
         self.assertRegex(osc.err.next(), told)
 
@@ -387,7 +387,7 @@ class Tool(ProgramTest):
                 sender.send(GO)
                 time.sleep(1.5)
                 sender.send(message("/cueplayer/back"))
-                self.assertIn("back: what reads the lines stands still", osc.stderr.readline())
+                self.assertIn("back: the reader of the lines stands still", osc.stderr.readline())
                 self.assertEqual("go\n", osc.stdout.readline())
                 sender.send(message("/cueplayer/back"))
                 self.assertEqual("back\n", osc.stdout.readline())

@@ -130,7 +130,7 @@ class Starting(CopiedLayout):
 
     def test_no_program_of_linux(self):
         self.ship(b"MZ\x90\0 a program of another system")
-        self.assertFails("is no program of Linux")
+        self.assertFails("is not a Linux program")
 
     def test_another_processor(self):
         self.ship(HEAD)
@@ -247,10 +247,10 @@ class Version(CopiedLayout):
             f"program: sha256 {sum_of(self.program.read_bytes())}: dist/PROVENANCE does not say what it should be",
             program,
         )
-        self.assertEqual("sources: nobody knows whether they are those of the program", sources)
+        self.assertEqual("sources: unknown whether they are those of the program", sources)
 
     def test_named_program(self):
-        told = "program: /x, which CUEPLAYER names: nothing is known of it"
+        told = "program: /x, which CUEPLAYER names: nothing is known about it"
         self.assertEqual(told, self.version(more={"CUEPLAYER": "/x"})[-1])
 
     def test_packed_commit(self):

@@ -19,7 +19,7 @@ def port_number(word: str) -> int:
     """A UDP or TCP port; 0 has the system choose one."""
     if re.fullmatch(r"\d{1,5}", word, re.ASCII) and int(word) <= 65_535:
         return int(word)
-    raise argparse.ArgumentTypeError(f"no port: {word!r}")
+    raise argparse.ArgumentTypeError(f"not a port: {word!r}")
 
 
 def listening_address(word: str) -> Address:
@@ -27,7 +27,7 @@ def listening_address(word: str) -> Address:
     host, _, port = word.rpartition(":")
     host = host or LOOPBACK
     if not _is_host(host):
-        raise argparse.ArgumentTypeError(f"no IPv4 address: {host!r}")
+        raise argparse.ArgumentTypeError(f"not an IPv4 address: {host!r}")
     return host, port_number(port)
 
 
@@ -35,7 +35,7 @@ def sending_address(word: str, usual_port: int = 5568) -> Address:
     """`ADDR:PORT`, or `ADDR` alone with the usual port of streaming ACN."""
     host, colon, port = word.partition(":")
     if not _is_host(host):
-        raise argparse.ArgumentTypeError(f"no IPv4 address: {host!r}")
+        raise argparse.ArgumentTypeError(f"not an IPv4 address: {host!r}")
     return host, port_number(port) if colon else usual_port
 
 

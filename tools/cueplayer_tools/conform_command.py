@@ -64,13 +64,13 @@ def address_word(word: str) -> tuple[str, int]:
         port = int(found[2] or PORT)
         if port < 65_536:
             return found[1], port
-    raise argparse.ArgumentTypeError(f"no address of IPv4: {word!r}")
+    raise argparse.ArgumentTypeError(f"not an IPv4 address: {word!r}")
 
 
 def host_word(word: str) -> str:
     """`ADDR`, without a port."""
     if ":" in word:
-        raise argparse.ArgumentTypeError(f"no port belongs to the address of a card: {word!r}")
+        raise argparse.ArgumentTypeError(f"the address of a card has no port: {word!r}")
     return address_word(word)[0]
 
 
@@ -82,14 +82,15 @@ def universes_word(word: str) -> range:
         last = int(found[2] or first)
         if 1 <= first <= last <= 63_999 and last - first < MOST_UNIVERSES:
             return range(first, last + 1)
-    raise argparse.ArgumentTypeError(f"no universes, at most {MOST_UNIVERSES}: {word!r}")
+    told = f"not a universe, or a range of at most {MOST_UNIVERSES}: {word!r}"
+    raise argparse.ArgumentTypeError(told)
 
 
 def _number(least: float, most: float) -> Callable[[str], float]:
     def read(word: str) -> float:
         if re.fullmatch(r"\d{1,6}(\.\d{1,3})?", word, re.ASCII) and least <= float(word) <= most:
             return float(word)
-        raise argparse.ArgumentTypeError(f"no number from {least:g} to {most:g}: {word!r}")
+        raise argparse.ArgumentTypeError(f"not a number from {least:g} to {most:g}: {word!r}")
 
     return read
 

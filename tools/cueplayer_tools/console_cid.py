@@ -46,6 +46,6 @@ def console_cid(tell: Callable[[str], None]) -> uuid.UUID:
     try:
         return uuid.UUID(file.read_text("ascii").strip())
     except (OSError, ValueError) as fault:
-        reason = getattr(fault, "strerror", None) or "no UUID is there"
+        reason = getattr(fault, "strerror", None) or "it has no UUID"
         tell(f"cannot read a CID in {file}: {reason}; this night has one of its own: --cid {made}")
         return made

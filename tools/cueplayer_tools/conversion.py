@@ -313,7 +313,7 @@ def _lines(text: str, report: Report) -> list[Line]:
     if lines and lines[-1].first == "ENDDATA":
         behind = lines_behind(text, lines[-1].number)
         if behind:
-            report.add(LEFT_OUT, behind, "lines behind ENDDATA")
+            report.add(LEFT_OUT, behind, "lines after ENDDATA")
     return lines
 
 

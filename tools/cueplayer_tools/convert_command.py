@@ -23,7 +23,7 @@ UNTRIED = "no real console's export has been tried: compare each cue with the co
 def page_number(word: str) -> int:
     number = whole(word)
     if number is None or number > 999_999_999:
-        raise argparse.ArgumentTypeError(f"no number: {word!r}")
+        raise argparse.ArgumentTypeError(f"not a number: {word!r}")
     return number
 
 

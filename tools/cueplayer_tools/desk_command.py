@@ -61,18 +61,18 @@ def _parser() -> argparse.ArgumentParser:
     parser.add_argument(
         "--night",
         metavar="NIGHT",
-        help="take hold of the night that `cueplayer-night NIGHT` keeps going, by its own words",
+        help="play the night that `cueplayer-night NIGHT` keeps going, with its own options",
     )
     parser.add_argument(
         "--cid",
         metavar="UUID",
         type=uuid.UUID,
-        help="this console's own; left out, the one that is kept in ~/.config/cueplayer/cid",
+        help="this console's own; by default the one in ~/.config/cueplayer/cid",
     )
-    parser.add_argument("--name", metavar="TEXT", help="as of `live`")
-    parser.add_argument("--priority", metavar="P", help="as of `live`")
-    parser.add_argument("--base", metavar="U", type=int, help="as of `live`")
-    parser.add_argument("--record", metavar="FILE", help="as of `live`")
+    parser.add_argument("--name", metavar="TEXT", help="as for `live`")
+    parser.add_argument("--priority", metavar="P", help="as for `live`")
+    parser.add_argument("--base", metavar="U", type=int, help="as for `live`")
+    parser.add_argument("--record", metavar="FILE", help="as for `live`")
     parser.add_argument(
         "--replies",
         metavar="FILE",
@@ -89,13 +89,13 @@ def _add_way(parser: argparse.ArgumentParser) -> None:
         "--to",
         metavar="TARGET",
         action="append",
-        help="as of `live`, once or more: an address, or 3=ADDR or 1-8=ADDR for these universes",
+        help="as for `live`, once or more: an address, or 3=ADDR or 1-8=ADDR for these universes",
     )
     parser.add_argument(
-        "--interface", metavar="CARD", help="as of `live`; the levels are received by it too"
+        "--interface", metavar="CARD", help="as for `live`; the levels are received by it too"
     )
-    parser.add_argument("--any-route", action="store_const", const=True, help="as of `live`")
-    parser.add_argument("--ttl", metavar="HOPS", help="as of `live`")
+    parser.add_argument("--any-route", action="store_const", const=True, help="as for `live`")
+    parser.add_argument("--ttl", metavar="HOPS", help="as for `live`")
 
 
 def _add_page(parser: argparse.ArgumentParser) -> None:
@@ -107,12 +107,12 @@ def _add_page(parser: argparse.ArgumentParser) -> None:
         metavar="MS",
         type=_milliseconds,
         default=round(USUAL_DOUBLE_GO * 1000),
-        help="a second GO within so many milliseconds is refused (400); 0 takes each",
+        help="refuse a second GO within this many milliseconds (400); 0 accepts each",
     )
     parser.add_argument(
         "--grid",
         action="store_true",
-        help="receive the levels at --to too, an address of this machine's own",
+        help="receive the levels at --to too, which is an address of this machine",
     )
 
 
@@ -120,7 +120,7 @@ def _milliseconds(word: str) -> int:
     """A time of at most ten seconds."""
     if re.fullmatch(r"\d{1,5}", word, re.ASCII) and int(word) <= MOST_DOUBLE_GO:
         return int(word)
-    raise argparse.ArgumentTypeError(f"no time from 0 to {MOST_DOUBLE_GO} ms: {word!r}")
+    raise argparse.ArgumentTypeError(f"not a time from 0 to {MOST_DOUBLE_GO} ms: {word!r}")
 
 
 def _read_words(words: list[str]) -> argparse.Namespace:
@@ -132,9 +132,9 @@ def _read_words(words: list[str]) -> argparse.Namespace:
         named = [name for name in NIGHT_WORDS if getattr(chosen, name) is not None]
         given = [name.replace("_", "-") for name in named]
         if given:
-            parser.error(f"--night has the words of its night: leave out {', '.join(given)}")
+            parser.error(f"--night has the options of its night: leave out {', '.join(given)}")
     elif chosen.show is None or chosen.to is None:
-        parser.error("a night of its own wants SHOW and --to; --night NIGHT takes hold of another")
+        parser.error("a new night needs SHOW and --to; --night NIGHT plays one that is kept")
     return chosen
 
 
@@ -318,5 +318,5 @@ def main(words: list[str]) -> int:
     except (Refused, argparse.ArgumentTypeError) as fault:
         tell(str(fault))
     except OSError as fault:
-        tell(f"cannot begin: {fault.strerror}")
+        tell(f"cannot start: {fault.strerror}")
     return leave_all(status, tell, tell_address)

@@ -72,7 +72,7 @@ class LevelReader:
             elif len(self.universes) < MOST_UNIVERSES:
                 self.universes.append(universe)
             else:
-                self.levels.reasons[universe] = f"{MOST_UNIVERSES} universes are shown"
+                self.levels.reasons[universe] = f"only {MOST_UNIVERSES} universes are shown"
 
     @property
     def levels(self) -> Levels:

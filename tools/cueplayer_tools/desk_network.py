@@ -33,7 +33,7 @@ def add_network(parser: argparse.ArgumentParser) -> None:
         metavar="N",
         type=port_number,
         default=0,
-        help="of the page on this machine; left out, the system chooses one",
+        help="the port of the page on this machine; by default the system chooses one",
     )
     parser.add_argument(
         "--listen",
@@ -46,7 +46,7 @@ def add_network(parser: argparse.ArgumentParser) -> None:
         metavar="NAME",
         action="append",
         default=[],
-        help="a name by which that page is asked for, beside the address",
+        help="a name that browsers may use for that page, beside the address",
     )
     parser.add_argument("--certificate", metavar="FILE", help="TLS for that page, with --key")
     parser.add_argument("--key", metavar="FILE", help="the certificate's private key")
@@ -54,7 +54,7 @@ def add_network(parser: argparse.ArgumentParser) -> None:
         "--osc",
         metavar="[ADDR:]PORT",
         type=listening_address,
-        help="take Open Sound Control too, on this machine alone without ADDR",
+        help="take Open Sound Control too; without ADDR on this machine alone",
     )
 
 
@@ -70,14 +70,14 @@ def add_midi(parser: argparse.ArgumentParser) -> None:
         metavar="N",
         type=_number_up_to(111),
         default=0,
-        help="of MIDI Show Control, the number of this device, 0 to 111 (0)",
+        help="the number of this device in MIDI Show Control, 0 to 111 (0)",
     )
     for name in ("go", "back"):
         parser.add_argument(
             f"--midi-{name}",
             metavar="NOTE",
             type=_number_up_to(127),
-            help=f"a note that is {name.upper()}, 0 to 127; 60 is the middle C",
+            help=f"a note that is {name.upper()}, 0 to 127; 60 is middle C",
         )
 
 
@@ -85,7 +85,7 @@ def _number_up_to(greatest: int) -> Callable[[str], int]:
     def read(word: str) -> int:
         if re.fullmatch(r"\d{1,3}", word, re.ASCII) and int(word) <= greatest:
             return int(word)
-        raise argparse.ArgumentTypeError(f"no number from 0 to {greatest}: {word!r}")
+        raise argparse.ArgumentTypeError(f"not a number from 0 to {greatest}: {word!r}")
 
     return read
 
@@ -97,11 +97,11 @@ def check_network(parser: argparse.ArgumentParser, words: argparse.Namespace) ->
         if address is not None and (fault := foreign(address)):
             parser.error(f"--{name}: {fault}")
     if words.midi is None and (words.midi_go, words.midi_back) != (None, None):
-        parser.error("--midi-go and --midi-back are of the device of --midi")
+        parser.error("--midi-go and --midi-back need --midi")
     if (words.certificate is None) != (words.key is None):
         parser.error("--certificate and --key go together")
     if words.listen is None and (words.certificate or words.host):
-        parser.error("--certificate and --host are of the page of --listen")
+        parser.error("--certificate and --host need --listen")
 
 
 def _tls(certificate: str, key: str) -> ssl.SSLContext:

@@ -117,7 +117,7 @@ class Pins:
             is_locked = self.attempts.add(address)
         if is_locked:
             self.tell(f"{MOST_WRONG} wrong PINs came from {address}: it is locked for a minute")
-        raise Refused("no such PIN: it stands on the desk's terminal, and on its own page")
+        raise Refused("wrong PIN: the right one stands on the desk's terminal, and on its own page")
 
     def _begin(self, role: Role, address: str) -> str:
         """The token of a new session."""

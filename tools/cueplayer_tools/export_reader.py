@@ -181,7 +181,7 @@ class Reader:
             if isinstance(self.owner, Record):
                 kind = "cue" if isinstance(self.owner, Cue) else "the submaster or group"
                 at = f"{kind} {cue_word(self.owner.key)}"
-            text += f"; the lines behind it went to {at}"
+            text += f"; the lines after it went to {at}"
         self.report.add(DOUBT, line.numbers, text)
 
     def _ident(self, line: Line) -> None:
@@ -231,7 +231,7 @@ class Reader:
             owner.text = name
             self.report.add(CHANGED, line.numbers, f"{said(line.said)}: the name is the label")
         elif rest:
-            text = f"words behind {line.first} {line.words[1]}: {said(' '.join(rest))}"
+            text = f"words after {line.first} {line.words[1]}: {said(' '.join(rest))}"
             self.report.add(LOST, line.numbers, text)
 
     def _skip(self, line: Line, kind: str, text: str) -> None:
@@ -316,7 +316,7 @@ class Reader:
             found.append(value)
         if len(line.words) > most + 1:
             rest = " ".join(line.words[most + 1 :])
-            self.report.add(LOST, line.numbers, f"words behind {line.first}: {said(rest)}")
+            self.report.add(LOST, line.numbers, f"words after {line.first}: {said(rest)}")
         return found
 
     def _rate(self, line: Line, owner: Record) -> None:

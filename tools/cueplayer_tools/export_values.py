@@ -109,7 +109,7 @@ class Values:
         texts = [line.said, *(text for _, text in line.more)]
         marks = sum(text.count(mark) for text in texts for mark in "@<>/=")
         if is_odd or marks not in (0, expected):
-            told = f"{said(line.said)}: read word by word, and its marks part it otherwise"
+            told = f"{said(line.said)}: read word by word, though its marks group it differently"
             self.report.add(DOUBT, line.numbers, told)
 
     def _by_marks(self, line: Line, read: Read, size: int, chunks: list[Chunk]) -> list:

@@ -13,7 +13,7 @@ _SYSTEM_DATA = {0xF1: 1, 0xF2: 2, 0xF3: 1}
 
 @dataclass(frozen=True)
 class Note:
-    """A note that is pressed: 0 to 127, 60 is the middle C; channels are 1 to 16."""
+    """A note that is pressed: 0 to 127, 60 is middle C; channels are 1 to 16."""
 
     channel: int
     number: int

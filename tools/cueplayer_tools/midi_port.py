@@ -26,7 +26,7 @@ def opened(path: str) -> int:
     try:
         kind = os.stat(path).st_mode
         if not stat.S_ISCHR(kind) and not stat.S_ISFIFO(kind):
-            raise Refused(f"--midi {path}: no device and no FIFO")
+            raise Refused(f"--midi {path}: neither a device nor a FIFO")
         mode = os.O_RDWR if stat.S_ISFIFO(kind) else os.O_RDONLY
         return os.open(path, mode | os.O_NONBLOCK | os.O_NOCTTY)
     except OSError as fault:
@@ -74,7 +74,7 @@ class MidiPort:
             self._lose()
         elif is_late:
             self.reader.forget()
-            self.tell("MIDI: what came was not read in a second, and is passed over: press again")
+            self.tell("MIDI: what came was not read within a second, and is skipped: press again")
         else:
             self._hand_on(data, give)
 
@@ -110,4 +110,4 @@ class MidiPort:
         except Refused:
             return
         self.looked_at = time.monotonic()
-        self.tell(f"MIDI: {self.path} is there again")
+        self.tell(f"MIDI: {self.path} is back")

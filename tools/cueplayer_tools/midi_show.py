@@ -33,11 +33,11 @@ def _cue_in(data: bytes) -> str | None:
     """The cue of `Q_number 00 Q_list 00 Q_path`; None where there is no number."""
     number, *rest = data.split(b"\0")
     if rest and rest[0] not in (b"", _LIST.encode()):
-        raise Refused(f"no such cue list: there is list {_LIST}")
+        raise Refused(f"no such cue list: there is only list {_LIST}")
     if not number:
         return None
     if not _CUE.fullmatch(number):
-        raise Refused("no cue number")
+        raise Refused("not a cue number")
     return cue_word(thousandths_of(number.decode("ascii")))
 
 
@@ -62,7 +62,7 @@ def _go(data: bytes) -> str:
 def _timed_go(data: bytes) -> str:
     time, cue = _time_in(data), _cue_in(data[5:])
     if cue is None:
-        raise Refused("a time wants a cue too")
+        raise Refused("a time needs a cue too")
     return f"goto {cue} in {time}"
 
 

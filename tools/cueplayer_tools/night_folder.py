@@ -65,7 +65,7 @@ class NightFolder:
         except OSError as fault:
             raise Refused(f"no night in {self.path}: {fault.strerror}") from fault
         except (KeyError, ValueError) as fault:
-            raise Refused(f"the words in {self.path}/night are none of a night") from fault
+            raise Refused(f"the words in {self.path}/night are not those of a night") from fault
 
     def live(self) -> str:
         """The number of the process that plays, as the folder has it."""
@@ -128,7 +128,8 @@ class NightFolder:
 
     def refusal(self) -> str:
         """Why no line is taken, and what to do."""
-        return f"no live plays the night in {self.path}: `cueplayer-night {self.path} start` does"
+        start = f"`cueplayer-night {self.path} start`"
+        return f"no live plays the night in {self.path}: {start} goes on with it"
 
     def give(self, line: str) -> None:
         """Hands a line on, or refuses it: it is never handed on later."""
@@ -161,7 +162,7 @@ class NightFolder:
         if stat.S_ISFIFO(os.fstat(pipe).st_mode):
             return pipe
         os.close(pipe)
-        raise Refused(f"{self.fifo} is no FIFO: nothing was sent")
+        raise Refused(f"{self.fifo} is not a FIFO: nothing was sent")
 
     def _stands_still(self, pipe: int) -> bool:
         unread = struct.unpack("@i", fcntl.ioctl(pipe, termios.FIONREAD, bytes(4)))[0]

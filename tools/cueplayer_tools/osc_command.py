@@ -36,7 +36,7 @@ class Output:
         """Writes a line, or refuses it."""
         # What a poll calls writable takes a line whole.
         if self._stands_still() or not self.room.poll(0):
-            raise Refused("what reads the lines stands still: not handed on")
+            raise Refused("the reader of the lines stands still: nothing was sent; press again")
         self.written += os.write(self.file, line.encode() + b"\n")
 
     def _stands_still(self) -> bool:
@@ -78,7 +78,7 @@ def main(words: list[str]) -> int:
         metavar="ADDR:PORT",
         type=listening_address,
         default=USUAL,
-        help=f"where datagrams come; a port alone is of this machine alone ({USUAL})",
+        help=f"where to listen; a port alone listens to this machine alone ({USUAL})",
     )
     parser.add_argument(
         "--night",

@@ -31,11 +31,11 @@ def _number(argument: Argument) -> float:
     """The value of an argument, a string too, where it is a number from 0."""
     if isinstance(argument, str):
         if not _DECIMAL.fullmatch(argument):
-            raise Refused(f"no number: {printable(argument)}")
+            raise Refused(f"not a number: {printable(argument)}")
         return float(argument)
     value = float(argument)
     if not math.isfinite(value) or value < 0:
-        raise Refused(f"no number from 0: {value:g}")
+        raise Refused(f"not a number from 0: {value:g}")
     return value
 
 
@@ -48,19 +48,19 @@ def _is_pressed(arguments: tuple[Argument, ...]) -> bool:
 
 def _only(arguments: tuple[Argument, ...]) -> Argument:
     if len(arguments) != 1:
-        raise Refused(f"{len(arguments)} arguments in the place of one")
+        raise Refused(f"{len(arguments)} arguments instead of one")
     return arguments[0]
 
 
 def _cue(argument: Argument) -> str:
     """A cue number: a string spells it; a float has it as near as a float can."""
     if isinstance(argument, bool):
-        raise Refused("no cue number")
+        raise Refused("not a cue number")
     if isinstance(argument, str):
         return cue_word(thousandths_of(argument))
     number = _number(argument)
     if number > GREATEST:
-        raise Refused(f"no cue number: {number:g}")
+        raise Refused(f"not a cue number: {number:g}")
     thousandths = math.floor(number * 1000 + 0.5)
     return cue_word(thousandths_of(f"{thousandths // 1000}.{thousandths % 1000:03}"))
 
@@ -68,12 +68,12 @@ def _cue(argument: Argument) -> str:
 def _time(argument: Argument) -> str:
     """A time: a string spells it; a float has seconds, to the nearest hundredth."""
     if isinstance(argument, bool):
-        raise Refused("no time")
+        raise Refused("not a time")
     if isinstance(argument, str):
         return time_word(milliseconds_of(argument))
     number = _number(argument)
     if number > GREATEST:
-        raise Refused(f"no time: {number:g}")
+        raise Refused(f"not a time: {number:g}")
     hundredths = math.floor(number * 100 + 0.5)
     return time_word(milliseconds_of(f"{hundredths // 100}.{hundredths % 100:02}"))
 
@@ -87,7 +87,7 @@ def _usual_line(message: Message) -> str | None:
             line = f"goto {cue_word(thousandths_of(number))}"
         case ["", "eos", "cue", cue_list, number, "fire"]:
             if cue_list != LIST:
-                raise Refused(f"no cue list {printable(cue_list)}: there is list {LIST}")
+                raise Refused(f"no cue list {printable(cue_list)}: there is only list {LIST}")
             line = f"goto {cue_word(thousandths_of(number))}"
         case _:
             raise Refused("no such address")

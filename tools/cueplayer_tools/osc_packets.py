@@ -86,7 +86,7 @@ def _message(data: bytes) -> Message:
         raise Refused("no address")
     arguments = tuple(_arguments(reader))
     if not reader.is_empty():
-        raise Refused(f"bytes are left over behind {printable(address)}")
+        raise Refused(f"bytes are left over after {printable(address)}")
     return Message(address, arguments)
 
 

@@ -146,7 +146,7 @@ class OscPort:
             self.refusals.add(sender, f"{word}: {refusal}")
             return True
         if not self.ask(sender, word):
-            self.refusals.add(sender, f"{word}: too many are told already")
+            self.refusals.add(sender, f"{word}: there are too many subscribers already")
         return True
 
     def _hand_on(self, datagram: bytes, sender: Address, give: Give) -> None:
@@ -180,7 +180,8 @@ class OscPort:
         lost = self._lost()
         if lost != self.lost:
             more = (lost - self.lost) % 2**32
-            self.tell(f"{more} datagrams lost, unread: too many came; press again what did nothing")
+            told = f"{more} datagrams lost, unread: too many came"
+            self.tell(f"{told}; press again if nothing happened")
             self.lost = lost
 
     def _lost(self) -> int:

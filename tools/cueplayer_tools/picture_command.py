@@ -29,13 +29,13 @@ def slot_word(word: str) -> Slot:
     found = re.fullmatch(r"(\d{1,5}):(\d{1,3})", word, re.ASCII)
     if found and 1 <= int(found[1]) <= 63_999 and 1 <= int(found[2]) <= 512:
         return int(found[1]), int(found[2])
-    raise argparse.ArgumentTypeError(f"no slot of a universe: {word!r}")
+    raise argparse.ArgumentTypeError(f"not a slot of a universe: {word!r}")
 
 
 def whole_number(word: str) -> int:
     if re.fullmatch(r"\d{1,15}", word, re.ASCII):
         return int(word)
-    raise argparse.ArgumentTypeError(f"no number: {word!r}")
+    raise argparse.ArgumentTypeError(f"not a number: {word!r}")
 
 
 def _text(file: str) -> str:
@@ -113,7 +113,7 @@ def _parser() -> argparse.ArgumentParser:
         "--every",
         metavar="MS",
         type=whole_number,
-        help="ticks of its own, so far apart, where the lines have none",
+        help="add ticks this far apart between lines that have none",
     )
     night.add_argument("--title", metavar="TEXT")
     night.set_defaults(draw=night_picture)
@@ -123,7 +123,7 @@ def _parser() -> argparse.ArgumentParser:
     rehearsal.add_argument(
         "--replies",
         metavar="FILE",
-        help="what `rehearse` printed; left out, it is run, and asked often",
+        help="what `rehearse` printed; without it, the tool runs the rehearsal",
     )
     rehearsal.add_argument("--title", metavar="TEXT")
     rehearsal.set_defaults(draw=rehearsal_picture)

@@ -31,7 +31,7 @@ def sheet_of(content: bytes, name: str, title: str | None) -> Sheet:
 def _parser() -> argparse.ArgumentParser:
     parser = argparse.ArgumentParser(prog="sheet", description=__doc__)
     parser.add_argument("show", metavar="SHOW", help="a show file; - is standard input")
-    title = "the name of the show; that of the file where it is left out"
+    title = "the name of the show; by default that of the file"
     parser.add_argument("--title", metavar="TEXT", help=title)
     return parser
 

@@ -28,14 +28,14 @@ MOST_FAULTS = 10
 def whole(word: str) -> int:
     if re.fullmatch(r"\d{1,12}", word, re.ASCII):
         return int(word)
-    raise argparse.ArgumentTypeError(f"no number: {word!r}")
+    raise argparse.ArgumentTypeError(f"not a number: {word!r}")
 
 
 def percents(word: str) -> float:
     """A share, given in percent."""
     if re.fullmatch(r"\d{1,3}(\.\d{1,6})?", word, re.ASCII) and float(word) <= 100:
         return float(word) / 100
-    raise argparse.ArgumentTypeError(f"no percent, 0 to 100: {word!r}")
+    raise argparse.ArgumentTypeError(f"not a percent, 0 to 100: {word!r}")
 
 
 def losses(word: str) -> list[float]:
@@ -47,7 +47,7 @@ def console_of(word: str) -> Console:
     found = re.fullmatch(r"(\d{1,3})(?:\+(\d{1,3}))?", word, re.ASCII)
     if found and int(found[1]) <= 200:
         return Console(int(found[1]), int(found[2] or 0))
-    raise argparse.ArgumentTypeError(f"no console, as 100 or 90+5: {word!r}")
+    raise argparse.ArgumentTypeError(f"not a console, such as 100 or 90+5: {word!r}")
 
 
 def delay_of(word: str) -> tuple[int, int]:
@@ -55,7 +55,7 @@ def delay_of(word: str) -> tuple[int, int]:
     found = re.fullmatch(r"(\d{1,6})(?:-(\d{1,6}))?", word, re.ASCII)
     if found and int(found[1]) <= int(found[2] or found[1]):
         return int(found[1]), int(found[2] or found[1])
-    raise argparse.ArgumentTypeError(f"no delay, as 3 or 1-40: {word!r}")
+    raise argparse.ArgumentTypeError(f"not a delay, such as 3 or 1-40: {word!r}")
 
 
 def held_of(word: str) -> tuple[float, int]:
@@ -69,13 +69,14 @@ def times_of(word: str) -> tuple[int, int]:
     found = re.fullmatch(r"(\d{1,12})-(\d{1,12})", word, re.ASCII)
     if found and int(found[1]) < int(found[2]):
         return int(found[1]), int(found[2])
-    raise argparse.ArgumentTypeError(f"no times, as 60000-64000: {word!r}")
+    raise argparse.ArgumentTypeError(f"not two times, such as 60000-64000: {word!r}")
 
 
 def _numbered(word: str) -> tuple[int, tuple[int, int]]:
     number, colon, times = word.partition(":")
     if not colon:
-        raise argparse.ArgumentTypeError(f"no number and times, as 1:60000-64000: {word!r}")
+        told = f"not a number and two times, such as 1:60000-64000: {word!r}"
+        raise argparse.ArgumentTypeError(told)
     return whole(number), times_of(times)
 
 
@@ -101,7 +102,7 @@ def _add_night(parser: argparse.ArgumentParser) -> None:
     parser.add_argument("--base", metavar="U", type=whole, default=1)
     parser.add_argument(
         "--every", metavar="MS", type=whole,
-        help="ticks so far apart where the lines have none; 25 where the night is no record",
+        help="add ticks this far apart between lines that have none; 25 if the night is no record",
     )  # fmt: skip
     parser.add_argument("--from", metavar="MS", dest="first", type=whole, help="the first tick")
     parser.add_argument("--until", metavar="MS", type=whole, help="the last line")
@@ -113,14 +114,14 @@ def _add_night(parser: argparse.ArgumentParser) -> None:
 
 def _add_network(parser: argparse.ArgumentParser) -> None:
     add = parser.add_argument
-    add("--seed", metavar="N", type=whole, default=1, help="the chance of the network; 1")
+    add("--seed", metavar="N", type=whole, default=1, help="the seed of the network's chance; 1")
     add("--loss", metavar="PERCENT", type=percents, default=0.0, help="packets that never come")
     add("--burst", metavar="MS", type=whole, default=0,
-        help="they are lost in bursts of this mean length, not one by one")  # fmt: skip
+        help="lose packets in bursts of this mean length, not one by one")  # fmt: skip
     add("--repeat", metavar="PERCENT", type=percents, default=0.0, help="packets that come twice")
     add("--delay", metavar="MS[-MS]", type=delay_of, default=(0, 0), help="how long one takes")
     add("--reorder", metavar="PERCENT[:MS]", type=held_of, default=(0.0, HELD_BACK),
-        help=f"packets that are held back so long; {HELD_BACK} ms")  # fmt: skip
+        help=f"packets that are held back, and how long; {HELD_BACK} ms")  # fmt: skip
     outage = {"action": "append", "default": [], "dest": "outages"}
     add("--cable", metavar="C:MS-MS", type=cable_of, help="console C's cable is out", **outage)
     add("--node", metavar="U:MS-MS", type=node_of, help="universe U's cable is out", **outage)
@@ -137,7 +138,7 @@ def add_storm(parser: argparse.ArgumentParser) -> None:
     )  # fmt: skip
     parser.add_argument(
         "--nights", metavar="N", type=whole, default=1,
-        help="of --sweep, so many nights for each rate, each with the next seed",
+        help="with --sweep, this many nights for each rate, each with the next seed",
     )  # fmt: skip
 
 

@@ -36,7 +36,7 @@ def target(word: str) -> Target:
     first = int(found[1]) if found else 0
     last = int(found[2] or first) if found else 0
     if not 1 <= first <= last <= MOST_UNIVERSES:
-        raise argparse.ArgumentTypeError(f"no universes: {universes!r}")
+        raise argparse.ArgumentTypeError(f"not universes: {universes!r}")
     return Target(sending_address(address), range(first, last + 1))
 
 

@@ -37,7 +37,7 @@ def universes_of(words: list[str]) -> list[int]:
     for word in words:
         found = re.fullmatch(r"(\d{1,5})(?:-(\d{1,5}))?", word, re.ASCII)
         if not found:
-            raise Refused(f"no universe: {printable(word)}")
+            raise Refused(f"not a universe: {printable(word)}")
         first, last = int(found[1]), int(found[2] or found[1])
         if not 1 <= first <= last <= TOP_UNIVERSE:
             raise Refused(f"a universe is a number from 1 to {TOP_UNIVERSE}: {printable(word)}")
@@ -53,7 +53,7 @@ def seconds(word: str) -> float:
     """A time in seconds, up to a day."""
     if re.fullmatch(r"\d{1,5}(\.\d{1,3})?", word, re.ASCII) and float(word) <= 86_400:
         return float(word)
-    raise argparse.ArgumentTypeError(f"no time: {printable(word)}")
+    raise argparse.ArgumentTypeError(f"not a time: {printable(word)}")
 
 
 @dataclass
@@ -230,9 +230,12 @@ def parsed(words: list[str]) -> argparse.Namespace:
         "--port", type=port_number, default=PORT, help=f"the port of the datagrams ({PORT})"
     )
     parser.add_argument(
-        "--once", metavar="SECONDS", type=seconds, help="watch so long, print what is known, and end"
+        "--once",
+        metavar="SECONDS",
+        type=seconds,
+        help="watch for that long, print what is known, and end",
     )
-    parser.add_argument("--lines", action="store_true", help="print lines at a terminal, too")
+    parser.add_argument("--lines", action="store_true", help="print lines on a terminal too")
     parser.add_argument("--record", metavar="FILE", help="keep what came, for cueplayer watch")
     parser.add_argument("--script", metavar="FILE", help="keep what came, for cueplayer rehearse")
     return parser.parse_args(words)
@@ -272,7 +275,7 @@ def run(chosen: argparse.Namespace, universes: list[int], over: Over) -> int:
         watch.feed.stop()
         raise
     if not ran:
-        complain("cueplayer watch ended by itself: what it told is above")
+        complain("cueplayer watch ended by itself: what it printed is above")
         return 1
     return 0
 

@@ -25,7 +25,7 @@ def keys_in(typed: bytes) -> list[str]:
 
 
 class Screen:
-    """A terminal: what was on it is there again at the end."""
+    """A terminal: what was on it is back at the end."""
 
     def __init__(self) -> None:
         self.keyboard = sys.stdin.fileno()

@@ -42,7 +42,7 @@ def thousandths_of(word: str) -> int:
         value = int(whole or 0) * 1000 + int((parts or "").ljust(3, "0") or 0)
         if 1 <= value <= 9_999_999:
             return value
-    raise Refused(f"no cue number: {printable(word)}")
+    raise Refused(f"not a cue number: {printable(word)}")
 
 
 def cue_word(thousandths: int) -> str:
@@ -59,7 +59,7 @@ def milliseconds_of(word: str) -> int:
     found = _MINUTES.fullmatch(word)
     if found and int(found["minutes"]) <= MOST_MINUTES and int(found["whole"]) < 60:
         return _in_milliseconds(int(found["minutes"]), found)
-    raise Refused(f"no time: {printable(word)}")
+    raise Refused(f"not a time: {printable(word)}")
 
 
 def _in_milliseconds(minutes: int, found: re.Match[str]) -> int:
@@ -77,7 +77,7 @@ def record_number(word: str) -> int:
     """The number of a submaster or group that a word spells."""
     if _NUMBER.fullmatch(word) and int(word) <= HIGHEST_NUMBER:
         return int(word)
-    raise Refused(f"no number: {printable(word)}")
+    raise Refused(f"not a number: {printable(word)}")
 
 
 def level_byte(word: str) -> int:
@@ -89,7 +89,7 @@ def level_byte(word: str) -> int:
         return int(word[1:], 16)
     if _NUMBER.fullmatch(word) and int(word) <= 100:
         return (int(word) * 255 + 50) // 100
-    raise Refused(f"no level: {printable(word)}")
+    raise Refused(f"not a level: {printable(word)}")
 
 
 def level_word(share: float) -> str:
@@ -113,4 +113,4 @@ def command_line(text: str) -> str:
             return f"{kind} {record_number(number)} H{level_byte(level):02X}"
         case ["master", level]:
             return f"master H{level_byte(level):02X}"
-    raise Refused(f"no command: {printable(text)}")
+    raise Refused(f"not a command: {printable(text)}")

@@ -37,7 +37,7 @@ def enter_own_network(script: Path, words: list[str]) -> None:
     alone = ["unshare", "--net", "true"]
     made = subprocess.run(alone, capture_output=True, text=True, check=False)
     if made.returncode:
-        raise Refused(f"no network of its own can be made: {made.stderr.strip()}")
+        raise Refused(f"cannot make a network of its own: {made.stderr.strip()}")
     os.environ[_IS_INSIDE] = "1"
     os.execvp("unshare", ["unshare", "--net", sys.executable, str(script), *words])
 

@@ -41,7 +41,7 @@ class Daemon:
         user = ["setpriv", f"--reuid={NOBODY}", f"--regid={NOBODY}", "--clear-groups"]
         words = ["olad", "--config-dir", folder, "--http-port", str(PAGES)]
         self.program.start(*user, *words, "--no-register-with-dns-sd")
-        self.device = str(wait_for(self._device, "olad does not begin"))
+        self.device = str(wait_for(self._device, "olad does not start"))
 
     def _device(self) -> str | None:
         self.program.check()

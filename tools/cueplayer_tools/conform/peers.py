@@ -147,7 +147,7 @@ def slots_in(printed: str) -> Slots:
     """The slots of the last slots line of a text."""
     lines = [line for line in printed.splitlines() if re.match(r"slots( \d+:\d+)*\s*$", line)]
     if not lines:
-        raise PeerFault(f"no slots line in what the command prints: {printable(printed)!r}")
+        raise PeerFault(f"the command prints no slots line: {printable(printed)!r}")
     return slots_of(lines[-1])
 
 

@@ -78,7 +78,7 @@ class QlcPlusPeer:
         self.qlcplus = QlcPlus(lanes)
         self.version = self.qlcplus.version
         self.sockets = Sockets(GROUPS, source=HERE)
-        wait_for(lambda: len(self.shown) == lanes, "qlcplus does not begin")
+        wait_for(lambda: len(self.shown) == lanes, "qlcplus does not start")
 
     def _read(self) -> None:
         while not self.is_over:

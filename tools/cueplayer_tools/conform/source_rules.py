@@ -236,7 +236,9 @@ RULES = (
     SourceRule("CID", "5.6", "A source has one CID", _cids),
     SourceRule("source name", "6.2.2", "The name is UTF-8 that ends with a zero byte", _names),
     SourceRule("priority", "6.2.3", "Priorities are 0 to 200", _priorities),
-    SourceRule("synchronized by", "6.2.4", "The synchronization address is 0 or a universe", _addresses),
+    SourceRule(
+        "synchronized by", "6.2.4", "The synchronization address is 0 or a universe", _addresses
+    ),
     SourceRule("numbering", "6.2.5", "The numbers of a universe rise by one", _numbers),
     SourceRule("reserved options", "6.2.6", "The reserved bits of the options are 0", _reserved),
     SourceRule("universe", "6.2.7, 9.3", "Each universe goes to its group", _universes),
