@@ -2,7 +2,7 @@
 
 from pathlib import Path
 
-from generators import synopsis
+from generators import examples_page, synopsis
 from generators.command_line import jobs
 from generators.marks import TOP, with_block
 
@@ -24,10 +24,11 @@ def blocks() -> dict[str, dict[str, str]]:
 
 def pages() -> dict[Path, str]:
     """The text of each such file."""
-    found = {}
+    found: dict[Path, str] = {}
     for name, parts in blocks().items():
         text = (TOP / name).read_text()
         for block, content in parts.items():
             text = with_block(name, block, content, text)
         found[TOP / name] = text
+    found[TOP / "docs/EXAMPLES.md"] = examples_page.page()
     return found
