@@ -24,7 +24,7 @@ def expected_outcome(lines, universes):
     return 4 if refused else 0, text(*told), err
 
 
-@with_examples("Moment", "Datagram", "Printed")
+@with_examples("moment", "datagram", "printed")
 class Watch(ProgramTest):
     def assertExample(self, name):
         lines, printed = watched(name)
