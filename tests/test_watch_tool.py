@@ -195,8 +195,10 @@ class State(unittest.TestCase):
         watched.take(f"3700000 1 source main 3 {cids[3]} priority 100")
         self.assertNotIn(cids[3], " ".join(left_lines(watched.universes[1], Rates(), watched.moment)))
         self.assertEqual("   nobody on 2", silent_text(watched))
-        self.assertEqual(["0 s", "59 s", "1 min", "59 min", "1 h"],
-                         [time_text(t) for t in (999, 59_999, 60_000, 3_599_999, 3_600_000)])
+        self.assertEqual(
+            ["0 s", "59 s", "1 min", "59 min", "1 h"],
+            [time_text(t) for t in (999, 59_999, 60_000, 3_599_999, 3_600_000)],
+        )
 
 
 class ToolTest(NetworkTest, FolderTest):
