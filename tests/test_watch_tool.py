@@ -18,6 +18,7 @@ from collections import Counter
 from contextlib import ExitStack
 from fcntl import ioctl
 from functools import partial
+from itertools import count
 from pathlib import Path
 from unittest import mock
 
@@ -445,6 +446,11 @@ class TerminalTest(ToolTest):
         wait_for(lambda: self.look() is not None and text in self.shown.rpartition("\x1b[?1049l")[2], text)
 
 
+def seconds_shown(picture):
+    """The time in the first line of a screen."""
+    return float(re.search(r"   (\d+\.\d) s ", picture)[1])
+
+
 class Screen(TerminalTest):
     """The tool at a terminal."""
 
@@ -499,6 +505,21 @@ class Screen(TerminalTest):
             self.send(packet(1, {3: level}, number))
             self.wait_for(f"{level:3}")
         self.wait_for("5*")
+
+    def test_clock_goes_on(self):
+        """Where nothing changes, the time does, and the mark of a flash goes after three seconds."""
+        self.begin("1")
+        for number, level in enumerate((5, 255, 5)):
+            self.send(packet(1, {3: level}, number))
+            self.wait_for(f"{level:3}")
+        began = seconds_shown(self.wait_for("  5*"))
+        numbers = count(3)
+
+        def without_mark():
+            self.send(packet(1, {3: 5}, next(numbers) % 256))
+            return "  5 " in (picture := self.look()) and picture
+
+        self.assertGreater(seconds_shown(wait_for(without_mark, "the mark goes")), began + 2.5)
 
     def test_control_c(self):
         """The terminal is as it was, and the last slots stand on it."""

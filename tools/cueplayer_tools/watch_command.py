@@ -106,6 +106,7 @@ class Watch:
         before, self.moment = self.moment, self._now()
         if before // LOOK != self.moment // LOOK:
             self.feed.give(b"%d\n" % self.moment)
+            self.watched.pass_to(self.moment)
             for kept in self.kept:
                 kept.clock(self.moment)
                 kept.flush()

@@ -103,13 +103,17 @@ class Watched:
         self.universes = {number: Universe(number) for number in numbers}
         self.ignored: Counter[str] = Counter()
 
+    def pass_to(self, moment: int) -> None:
+        """Takes the clock, which goes on where nothing is told."""
+        self.moment = max(self.moment, moment)
+
     def take(self, line: str) -> list[str]:
         """Takes a line of `watch`; what is told behind it."""
         found = _LINE.fullmatch(line)
         if not found:
             return []
         moment, number = int(found[1]), int(found[2])
-        self.moment = max(self.moment, moment)
+        self.pass_to(moment)
         word, rest = found[3], found[4] or ""
         if word == "ignored":
             self._ignore(number, rest)
