@@ -1,6 +1,12 @@
 # Completion for bash of the words of cueplayer-night: the folder, commands, the options of live.
 # shellcheck shell=bash
 
+# dev/pages writes the options of a night from the program's table.
+_cueplayer_night_options="--to --cid --priority --base --interface --any-route --name --ttl"
+_cueplayer_night_options+=" --start --end-with-input"
+_cueplayer_night_flags="--any-route --end-with-input"
+# end of the options of a night
+
 # Fills COMPREPLY with what may stand where the cursor is.
 _cueplayer_night() {
     local current=${COMP_WORDS[COMP_CWORD]} job=${COMP_WORDS[2]-} choices='' kind='' name
@@ -16,12 +22,10 @@ _cueplayer_night() {
         choices=239.255.0.0
     elif [[ $before == --interface ]]; then
         for name in /sys/class/net/*; do choices+=" ${name##*/}"; done
-    elif [[ $before == --* && $before != --any-route && $before != --background &&
-        $before != --end-with-input ]]; then
+    elif [[ $before == --* && " $_cueplayer_night_flags --background " != *" $before "* ]]; then
         :
     elif [[ $current == -* ]]; then
-        for name in --to --cid --priority --base --interface --any-route --name --ttl --start \
-            --end-with-input --background; do
+        for name in $_cueplayer_night_options --background; do
             [[ $name != --to && " ${COMP_WORDS[*]:3:COMP_CWORD-3} " == *" $name "* ]] ||
                 choices+=" $name"
         done

@@ -1,20 +1,49 @@
 # Completion for bash of the words of cueplayer: jobs, options, files.
 # shellcheck shell=bash
 
-# The options of a job. Each but --any-route, --end-with-input, --json, --resume, --spare and
-# --strict takes a value.
+# dev/pages writes the jobs and options from the program's table.
+_cueplayer_jobs="check explain cues look slots play live rehearse listen watch"
+
+# The options of a job.
 _cueplayer_options() {
-    local source="--to --cid --priority --base --interface --any-route --name --ttl"
     case $1 in
         check) echo --strict ;;
         cues) echo --json ;;
         look) echo --cid ;;
         slots) echo --base ;;
-        play) echo "$source" ;;
-        live) echo "$source" --record --resume --spare --start --follow --patience \
-            --end-with-input ;;
+        play) echo --to --cid --priority --base --interface --any-route --name --ttl ;;
+        live) echo --to --cid --priority --base --interface --any-route --name --ttl --record \
+            --resume --spare --start --follow --patience --end-with-input ;;
     esac
 }
+
+# The words of a job that are no options, in their order.
+_cueplayer_words() {
+    case $1 in
+        check | explain | cues | play | live) echo SHOW ;;
+        look | slots) echo SHOW CUE ;;
+        rehearse) echo SHOW SCRIPT ;;
+        listen) echo ADDR UNIVERSE COUNT ;;
+        watch) echo UNIVERSE ;;
+    esac
+}
+
+# The word behind an option; none behind a flag.
+_cueplayer_value() {
+    case $1 in
+        --cid) echo UUID ;;
+        --base) echo U ;;
+        --to) echo TARGET ;;
+        --priority) echo P ;;
+        --interface) echo CARD ;;
+        --name) echo TEXT ;;
+        --ttl) echo HOPS ;;
+        --record | --follow) echo FILE ;;
+        --start) echo N ;;
+        --patience) echo MS ;;
+    esac
+}
+# end of the jobs and options
 
 # The names of this machine's network cards.
 _cueplayer_cards() {
@@ -22,13 +51,11 @@ _cueplayer_cards() {
     for card in /sys/class/net/*; do echo "${card##*/}"; done
 }
 
-# How many words of a job, from its first on, name files.
-_cueplayer_files() {
-    case $1 in
-        check | explain | cues | look | slots | play | live) echo 1 ;;
-        rehearse) echo 2 ;;
-        *) echo 0 ;;
-    esac
+# Whether a word of the job `$1` names a file: the one behind `$2` others.
+_cueplayer_is_file() {
+    local -a named
+    read -ra named < <(_cueplayer_words "$1")
+    [[ ${named[$2]-} == SHOW || ${named[$2]-} == SCRIPT ]]
 }
 
 # Fills the caller's `words` with those up to the cursor. Readline parts --cid=UUID and
@@ -62,10 +89,7 @@ _cueplayer_parse() {
         elif [[ $word == -- ]]; then
             words_only=1
         elif [[ $word == -?* && -z $words_only ]]; then
-            case $word in
-                -h | --help | --any-route | --end-with-input | --json | --resume | --spare | --strict) ;;
-                *) option=$word ;;
-            esac
+            [[ -z $(_cueplayer_value "$word") ]] || option=$word
             used+="$word "
         elif [[ -z $job ]]; then
             job=$word
@@ -77,30 +101,27 @@ _cueplayer_parse() {
 
 # Fills COMPREPLY with what may stand where the cursor is.
 _cueplayer() {
-    local jobs="check explain cues look slots play live rehearse listen watch help"
     local job='' option='' used=' ' place=0 words_only='' choices='' is_file='' name
     local -a words=()
     _cueplayer_join
     local current=${words[-1]}
     _cueplayer_parse "${words[@]:0:${#words[@]}-1}"
-    if [[ $option == --record || $option == --follow ]]; then
-        is_file=1
-    elif [[ $option == --to ]]; then
-        choices=${current%"${current##*=}"}239.255.0.0
-    elif [[ $option == --interface ]]; then
-        choices=$(_cueplayer_cards)
-    elif [[ -n $option ]]; then
-        :
+    if [[ -n $option ]]; then
+        case $(_cueplayer_value "$option") in
+            FILE) is_file=1 ;;
+            TARGET) choices=${current%"${current##*=}"}239.255.0.0 ;;
+            CARD) choices=$(_cueplayer_cards) ;;
+        esac
     elif [[ -z $job ]]; then
-        choices=$jobs
+        choices="$_cueplayer_jobs help"
         [[ $current != -* ]] || choices="--help --version"
     elif [[ $job == help ]]; then
-        ((place)) || choices=${jobs% help}
+        ((place)) || choices=$_cueplayer_jobs
     elif [[ $current == -* && -z $words_only ]]; then
         for name in $(_cueplayer_options "$job") --help; do
             [[ $used == *" $name "* && $name != --to ]] || choices+=" $name"
         done
-    elif ((place < $(_cueplayer_files "$job"))); then
+    elif _cueplayer_is_file "$job" "$place"; then
         is_file=1
     fi
     if [[ -n $is_file ]]; then

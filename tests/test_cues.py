@@ -6,7 +6,7 @@ import time
 from expected import cue_list
 from expected import show as shows
 from program import CID, DEVICE_FAULT, TOP, ProgramTest, run, text
-from worked import codes, table, texts, with_examples
+from worked import table, with_examples
 
 HEAD = "     cue       up    delay     down    delay   follow  channels  label"
 
@@ -18,7 +18,7 @@ def printed(show):
     return json.loads(outcome.out.decode("ascii"))
 
 
-@with_examples("Show", "Label")
+@with_examples("show", "label")
 class Cues(ProgramTest):
     def assertLists(self, show):
         """Both forms say what the second reader makes of the show."""
@@ -88,8 +88,8 @@ class Cues(ProgramTest):
 
     def assertExample(self, name):
         for row in table(name).rows:
-            label = "".join(codes(row["Label"])).encode().decode("unicode_escape")
-            for show in texts(row["Show"]):
+            label = row.cells["label"]
+            for show in row.texts("show"):
                 with self.subTest(show):
                     self.assertEqual([label], [cue["label"] for cue in printed(show)["cues"][:1]])
                     self.assertLists(show)

@@ -6,7 +6,7 @@ import unittest
 
 from program import CID, TOP, ProgramTest, counts, packet, run, text
 from wire import address_of
-from worked import SECTIONS
+from worked import NAMES
 
 
 def blocks(document):
@@ -82,9 +82,9 @@ def tests_in(suite):
 
 class Documents(ProgramTest):
     def test_worked_examples(self):
-        """Each example of the page is carried out by a test of its name."""
+        """Each example is carried out by a test of its name."""
         found = set(tests_in(unittest.defaultTestLoader.discover(str(TOP / "tests"))))
-        self.assertEqual(set(), {f"test_{name}" for name in SECTIONS} - found)
+        self.assertEqual(set(), {f"test_{name}" for name in NAMES} - found)
 
     def test_profile_show(self):
         """The show that the page begins with, and what `check` prints of it."""

@@ -1,15 +1,15 @@
 """`explain`: which lines of a show are skipped, and why, and notes for its author."""
 
 from program import CID, DEVICE_FAULT, TOP, ProgramTest, run
-from worked import above, table, texts, with_examples
+from worked import above, table, with_examples
 
 
-@with_examples("Show", "Explained")
+@with_examples("show", "explained")
 class Explain(ProgramTest):
     def assertExample(self, name):
         for row in table(name).rows:
-            (explained,) = texts(row["Explained"])
-            for show in texts(row["Show"]):
+            explained = row.text("explained")
+            for show in row.texts("show"):
                 with self.subTest(show[:80]):
                     self.assertExplains(above(name) + show, explained)
 

@@ -69,7 +69,7 @@ class Listener:
         self.child.communicate()
 
 
-@with_examples("Datagram", "Reply")
+@with_examples("datagram", "reply")
 class Listen(ProgramTest):
     def listener(self, **options):
         started = Listener(**options)

@@ -120,13 +120,6 @@ class Manual(unittest.TestCase):
         wanted = {word for job in jobs().values() for word in (*job.arguments, *job.options.values())} - {""}
         self.assertEqual(wanted, set(tags(sections("cueplayer.1")["WORDS"])))
 
-    def test_synopsis(self):
-        """A line for each job of the help, as the page on formats has it."""
-        lines = shown(sections("cueplayer.1")["SYNOPSIS"]).split("\n")
-        lines = [line for line in lines if line and "--help" not in line]
-        self.assertEqual(sorted(jobs()), sorted(line.split()[1] for line in lines))
-        self.assertEqual(sorted(line for line, _ in rows(FORMATS, "The command line")), sorted(lines))
-
     def test_tools(self):
         """Each tool has a page, with exactly the options of its help."""
         others = {"cueplayer.1", "cueplayer-night.1", "cueplayer-show.5"}

@@ -25,7 +25,7 @@ def shown(offset, reply):
 class Packets(FolderTest):
     def test_cut_packet(self):
         """Over a socket, a number of datagrams at a time."""
-        replies = numbered("cut_packet", "Bytes")
+        replies = numbered("cut_packet", "bytes")
         listener = Listener(count=len(replies))
         self.addCleanup(listener.abandon)
         for first in range(0, len(replies), AT_ONCE):
@@ -37,7 +37,7 @@ class Packets(FolderTest):
 
     def test_turned_bytes(self):
         """In memory, each so late that what came before is forgotten; and then what is shown."""
-        replies = numbered("turned_bytes", "Offsets")
+        replies = numbered("turned_bytes", "offsets")
         lines, out = [f"console 1 100 {CID}", "receiver 1"], []
         for offset in range(len(LOOK_ONE)):
             reply = replies.get(offset, "taken 0")

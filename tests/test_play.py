@@ -7,9 +7,9 @@ import sys
 
 from program import CID, DEVICE_FAULT, PROGRAM, UNFIT, FolderTest, Outcome, packet, run, text, told
 from wire import address_of, free_port, own_network, received, receiving
-from worked import S1, keep_alive, plays, table, with_examples
+from worked import S1, example, keep_alive, plays, with_examples
 
-TWO_UNIVERSES = table("two_universes").show
+TWO_UNIVERSES = example("two_universes").show()
 
 
 class PlayTest(FolderTest):
@@ -24,7 +24,7 @@ class PlayTest(FolderTest):
             self.assertEqual([p.hex() for p in play.packets], [d.hex() for d in received(receiver)])
 
 
-@with_examples("Line", "Printed", "Slots")
+@with_examples("line", "printed", "slots")
 class Rows(PlayTest):
     def assertExample(self, name):
         for play in plays(name):

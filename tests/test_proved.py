@@ -1,204 +1,21 @@
-"""docs/PROVED.md: it says of each crate what docs/ASSURANCE.md says of it, its tables have every public call of
-the crates with the clauses of its contract, and the tests that it names are there.
-
-Run by itself (`python3 tests/test_proved.py`) it writes the tables anew. Of a call whose
-documentation has no word on errors, the cell on refusals is written by hand, and so is the last
-cell of each row: these are kept.
+"""docs/PROVED.md: it says of each crate what docs/ASSURANCE.md says of it, each call of its tables
+has a clause, and the tests that it names are there. `dev/pages` writes the tables; tests/test_pages.py
+tells where they are stale.
 """
 
 import importlib
 import re
+import sys
 import unittest
-from typing import NamedTuple
 
 from program import TOP
 
-PAGE = TOP / "docs/PROVED.md"
-# Whose calls no clause can describe, since they are of devices that do not tell.
-UNTOLD = ("system_devices",)
-# What a device takes is its own: one over memory grows.
-OF_DEVICES = ("Datagrams::", "Feed::", "Link::", "Output::")
-# In a signature, what says that memory may be asked for: the allocator, or want of memory.
-MAY_GROW = re.compile(r"\b(alloc|rt): |AllocError|BuildFault")
-END = re.compile(r"\n\s*(requires|ensures|ghost|decreases|where)\b|[{;]")
-FUNCTION = re.compile(r"^( *)(pub )?(?:const )?fn (\w+)", re.M)
-IMPL = r"impl(?:<[^>]*>)? (?:([\w:]+)(?:<[^>]*>)? for )?(\w+)"
-OWNER = re.compile(rf"^(?:{IMPL}|pub trait (\w+))", re.M)
-# A clause of a contract, with the comment above it; the name may be left out.
-# The bounds of type parameters, in front of the clauses.
-BOUNDS = re.compile(r"\s*where\b[^{;]*?,(?=\s*(?:requires|ensures)\b)")
-CLAUSE = re.compile(r"\s*(?://[^\n]*\n\s*)*(requires|ensures)\*?(?: (\w+))? \{")
-# The doc comment above a function; in it, when the call refuses.
-DOC = re.compile(r"((?:^ *///[^\n]*\n)+)(?: *#\[[^\n]*\n)*\Z", re.M)
-ERRORS = re.compile(r"^# Errors\n\n(.*?)(?:\n\n|\Z)", re.M | re.S)
-LAWS = ("laws.rt", "law.rt")
+sys.path.insert(0, str(TOP / "dev"))
+
+from generators.calls import PAGE, all_calls, crates, rows  # noqa: E402
+
 # Calls whose answers are advice: what they are, is tested.
 ADVICE = ("weigh",)
-TITLE = "| Call | Under | Clauses | Memory | Refuses | Only tested |"
-RULE = "|---|---|---|---|---|---|"
-
-
-class Call(NamedTuple):
-    """A public call: its signature, and what its contract and its documentation say."""
-
-    said: str
-    under: list
-    clauses: list
-    refuses: str
-
-    def may_grow(self):
-        """What keeps the allocator for later, and cannot answer want of memory, takes none."""
-        asks = self.can_refuse() and MAY_GROW.search(self.said)
-        return bool(asks) and not self.said.startswith(OF_DEVICES)
-
-    def name(self):
-        return re.split("[(<]", self.said)[0]
-
-    def can_refuse(self):
-        return bool(re.search("-> (Result|Option)<", self.said))
-
-    def row(self, refuses, only_tested):
-        """Its row of a table, with the two cells that may be written by hand."""
-        cells = [
-            f"`{self.said}`",
-            names(self.under),
-            names(self.clauses),
-            "may grow" if self.may_grow() else "none",
-            self.refuses or refuses,
-            only_tested,
-        ]
-        return re.sub(" +", " ", f"| {' | '.join(cells)} |")
-
-
-def names(labels):
-    return " ".join(f"`{label}`" for label in labels)
-
-
-def end_of_signature(text, start):
-    depth, end = 0, start
-    while depth or not END.match(text, end):
-        depth += {"(": 1, "[": 1, ")": -1, "]": -1}.get(text[end], 0)
-        end += 1
-    return end
-
-
-def in_one_line(text):
-    """A signature, from the function's name on."""
-    return re.sub(r",? \)", ")", re.sub(r"\s+", " ", text).strip()).replace("( ", "(")
-
-
-def after_braces(text, at):
-    """The place behind the brace that ends what was opened before this place."""
-    depth = 1
-    while depth:
-        depth += {"{": 1, "}": -1}.get(text[at], 0)
-        at += 1
-    return at
-
-
-def contract(text, at):
-    """The names of the conditions and clauses that stand here; one without a name is its word."""
-    found = {"requires": [], "ensures": []}
-    if bounds := BOUNDS.match(text, at):
-        at = bounds.end()
-    while clause := CLAUSE.match(text, at):
-        found[clause[1]].append(clause[2] or clause[1])
-        at = after_braces(text, clause.end())
-    if not re.match(r"\s*[{;]", text[at:]):
-        raise ValueError("a contract that is not read to its end: " + text[at : at + 60])
-    return found["requires"], found["ensures"]
-
-
-def refusal(above):
-    """What the documentation above a function says of its errors, in one line."""
-    doc = DOC.search(above)
-    said = doc and ERRORS.search(re.sub(r"(?m)^ */// ?", "", doc[1]))
-    told = re.sub(r"\s+", " ", said[1]).strip() if said else ""
-    return re.sub(r"\[(`[^`]*`)\](?:\([^)]*\))?", r"\1", told)
-
-
-def exported(crate):
-    """The names that a crate's library exports."""
-    library = (crate / "src/lib.rt").read_text()
-    uses = re.findall(r"pub use (\w+)::(?:\{([^}]*)\}|(\w+));", library)
-    inside = {name for _, *some in uses for name in re.findall(r"\w+", " ".join(some))}
-    if "pub mod memory" in library:
-        memory = [crate / "src/memory.rt", *(crate / "src/memory").glob("*.rt")]
-        inside |= {name for file in memory if file.exists() for name in re.findall(r"pub struct (\w+)", file.read_text())}
-    return inside
-
-
-def calls_in(file, public_names):
-    """The public calls that a file defines."""
-    text = file.read_text()
-    owners = [(m.start(), m[1], m[2] or m[3], bool(m[3])) for m in OWNER.finditer(text)]
-    is_laws = file.name == "laws.rt"
-    for found in FUNCTION.finditer(text):
-        end = end_of_signature(text, found.start(3))
-        said = in_one_line(text[found.start(3) : end])
-        under, clauses = contract(text, end)
-        if not found[1]:
-            public = found[2] and (is_laws or found[3] in public_names)
-            said = f"laws::{said}" if is_laws else said
-        else:
-            above = [each for each in owners if each[0] < found.start()]
-            begin, trait, owner, is_trait = above[-1]
-            public = owner in public_names and (is_trait or found[2] or trait == "Iterator")
-            said = f"{owner}::{said}"
-            if trait == "Iterator":
-                # Such a `next` has its contract from the trait, in these words.
-                clauses = re.findall(r"(?m)^    ghost (\w+) = ", text[begin : found.start()])
-        if public:
-            yield Call(said, under, clauses, refusal(text[: found.start()]))
-
-
-def calls_of(crate):
-    """The public calls of a crate, by their names, and its laws behind them."""
-    names, calls = exported(crate), []
-    for file in (crate / "src").rglob("*.rt"):
-        if "tests" not in file.relative_to(crate).as_posix():
-            calls += [(file.name in LAWS, call) for call in calls_in(file, names)]
-    return [call for _, call in sorted(calls)]
-
-
-def crates():
-    """The names of all crates, in the order of crates.txt."""
-    lines = (TOP / "crates.txt").read_text().splitlines()
-    return [line.partition(":")[0] for line in lines if line]
-
-
-def all_calls():
-    """Those of each crate that has any, in the order of crates.txt."""
-    folders = [TOP / "crates" / name for name in crates() if name not in UNTOLD]
-    found = {crate.name: calls_of(crate) for crate in folders if (crate / "src/lib.rt").exists()}
-    return {name: calls for name, calls in found.items() if calls}
-
-
-def listed(page):
-    """The page's tables of calls: from the first crate to the next chapter."""
-    begin = page.index("\n### ", page.index("\n## Each public call\n")) + 1
-    return slice(begin, page.index("\n## ", begin) + 1)
-
-
-def rows(page):
-    """The rows of the page, each as its crate, its call and its last two cells."""
-    crate = ""
-    for line in page[listed(page)].splitlines():
-        if line.startswith("### "):
-            crate = line[4:]
-        elif line.startswith("| `"):
-            _, said, *_, refuses, only_tested, _ = (cell.strip() for cell in line.split("|"))
-            yield crate, said.strip("`"), (refuses, only_tested)
-
-
-def tables(page):
-    by_hand = {(crate, said): cells for crate, said, cells in rows(page)}
-    parts = []
-    for name, calls in all_calls().items():
-        parts += [f"### {name}", "", TITLE, RULE]
-        parts += [call.row(*by_hand.get((name, call.said), ("", ""))) for call in calls]
-        parts.append("")
-    return "".join(part + "\n" for part in parts)
 
 
 class Proved(unittest.TestCase):
@@ -214,13 +31,6 @@ class Proved(unittest.TestCase):
         self.assertEqual(rows, told)
         for name, sentence, _ in rows:
             self.assertLessEqual(len(sentence.split()), 25, name)
-
-    def test_calls(self):
-        page = PAGE.read_text()
-        made, there = tables(page).splitlines(), page[listed(page)].splitlines()
-        told = "python3 tests/test_proved.py writes the tables anew"
-        self.assertEqual((set(), set()), (set(made) - set(there), set(there) - set(made)), told)
-        self.assertEqual(made, there, told)
 
     def test_cells(self):
         """Each call has a clause, and of one that can refuse it is said when."""
@@ -247,9 +57,3 @@ class Proved(unittest.TestCase):
             for part in rest.split(".")[1:]:
                 self.assertTrue(hasattr(found, part), file + rest)
                 found = getattr(found, part)
-
-
-if __name__ == "__main__":
-    written = PAGE.read_text()
-    place = listed(written)
-    PAGE.write_text(written[: place.start] + tables(written) + written[place.stop :])

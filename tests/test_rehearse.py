@@ -4,15 +4,15 @@ import subprocess
 from subprocess import DEVNULL
 
 from program import CID, DEVICE_FAULT, PROGRAM, FolderTest, run, text
-from worked import HEADER, S1, codes, rehearsal_of, rehearsals, steps, table, tables, with_examples
+from worked import HEADER, S1, rehearsal_of, rehearsals, steps, table, tables, with_examples
 
 OTHER = CID[:-1] + "2"
 LONGEST_SCRIPT = 16_777_216
 SIXTEEN = text("CUE 1", "CHAN 1@FL", "PATCH 1 " + " ".join(f"1<{512 * k + 1}@FL" for k in range(16)))
 
 
-@with_examples("Line", "Reply")
-@with_examples("Script", "Answer")
+@with_examples("line", "reply")
+@with_examples("script", "answer")
 class Rehearse(FolderTest):
     def words(self, show, script):
         """The words of a rehearsal of this show and this script."""
@@ -40,8 +40,8 @@ class Rehearse(FolderTest):
     def test_window_wrap(self):
         delivered = []
         for row in table("window_wrap").rows:
-            newest, oldest = map(int, row["Delivered"].split(" to "))
-            (reply,), (shown,) = codes(row["Reply to the first"]), codes(row["Slots"])
+            newest, oldest = map(int, row.cells["delivered"].split(" to "))
+            reply, (shown,) = row.cells["reply to the first"], row.words("slots")
             for k in range(newest, oldest - 1, -1):
                 taken = reply if k == newest else "ignored OutOfSequence"
                 delivered.append((text(f"10475 deliver 0 0 1 {k}"), taken))
@@ -50,7 +50,7 @@ class Rehearse(FolderTest):
 
     def test_window_edge(self):
         for then in tables("window_edge"):
-            self.assertReplies(*self.played(237), *steps(then.rows, "Then"))
+            self.assertReplies(*self.played(237), *steps(then.rows, "then"))
 
     def test_strays(self):
         """A stray is whatever its digits spell: nothing, a packet, or one of another source."""

@@ -1,22 +1,21 @@
 """The worked shows: what `check`, `look` and `slots` answer of them, each a test of its name."""
 
 from program import CID, NO_PATCH, ProgramTest, packet, slots_in, text
-from worked import above, codes, look_one, table, tables, texts, with_examples
+from worked import above, look_one, table, tables, with_examples
 
 
-@with_examples("Show", "Answer")
-@with_examples("Show", "Cue", "Shown")
+@with_examples("show", "answer")
+@with_examples("show", "cue", "shown")
 class Rows(ProgramTest):
     def assertExample(self, name):
         for table in tables(name):
-            for row in table.rows if "Show" in table.heads else ():
-                (*cue, answer) = (codes(row[head]) for head in table.heads[1:])
-                for show in texts(row["Show"]):
+            for row in table.rows if "show" in table.columns else ():
+                for show in row.texts("show"):
                     with self.subTest(show[:80]):
-                        if cue:
-                            self.assertShown(above(name) + show, *cue[0], answer)
+                        if "cue" in table.columns:
+                            self.assertShown(above(name) + show, row.cells["cue"], row.words("shown"))
                         else:
-                            self.assertAnswer(above(name) + show, *answer)
+                            self.assertAnswer(above(name) + show, row.cells["answer"])
 
     def assertAnswer(self, show, answer):
         """The counts of the show, or its fault."""
@@ -39,5 +38,5 @@ class Rows(ProgramTest):
     def test_packet_of_look_one(self):
         """The packet that stands in the page is the one that other tests put together by its fields."""
         self.assertEqual(look_one(), packet(1, {1: 64}))
-        (show,) = texts(table("look_one").rows[0]["Show"])
+        show = table("look_one").rows[0].text("show")
         self.assertRuns(["look", "-", "1", "--cid", CID], show, out=text(look_one().hex()))

@@ -3,11 +3,15 @@
 import os
 import random
 import subprocess
+import uuid
 
 import inputs
+import tooling  # noqa: F401  (it has the tools' folder on the path)
 from expected import watch as expected
 from program import CID, DEVICE_FAULT, PROGRAM, UNFIT, ProgramTest, packet, run, text, told
 from worked import watched, with_examples
+
+from cueplayer_tools.conform.packets import discovery_packet, synchronization_packet
 
 # More by hand.
 NIGHTS = int(os.environ.get("CUEPLAYER_NIGHTS", "5000"))
@@ -24,7 +28,7 @@ def expected_outcome(lines, universes):
     return 4 if refused else 0, text(*told), err
 
 
-@with_examples("Moment", "Datagram", "Printed")
+@with_examples("moment", "datagram", "printed")
 class Watch(ProgramTest):
     def assertExample(self, name):
         lines, printed = watched(name)
@@ -62,6 +66,28 @@ class Watch(ProgramTest):
         out = run("watch", "1", stdin=lines).out
         self.assertIn(b"2000 0 ignored Backwards 1\n", out)
         self.assertNotIn(b"1:9", out)
+
+    def test_what_is_no_level(self):
+        """Packets of E1.31 that carry no levels, whole and cut, are named with their counts, and dim nothing."""
+        cid = uuid.UUID(CID).bytes
+        named = {
+            "Discovery": discovery_packet(cid, list(range(1, 513))),
+            "Synchronization": synchronization_packet(cid, 7, 1),
+        }
+        lit = packet(1, {1: 5})
+        lines = [f"0 {lit.hex()}"]
+        for each in named.values():
+            lines += [f"10 {each[:length].hex()}" for length in (43, 44, len(each), len(each))]
+        for number, start in enumerate((0xDD, 0xDD, 0x17, 0xCC, 0xCF), 1):
+            lines.append(f"20 {(lit[:111] + bytes([number]) + lit[112:125] + bytes([start]) + lit[126:]).hex()}")
+        lines.append("1000")
+        self.assertWatches(text(*lines), 1)
+        out = run("watch", "1", stdin=text(*lines)).out.decode().splitlines()
+        self.assertEqual(
+            ["0 ignored Unreadable Short 2", "0 ignored Discovery 3", "0 ignored Synchronization 3",
+             "1 ignored AltStart 3", "1 ignored PerAddressPriority 2", "1 slots 1:5"],
+            [line.partition(" ")[2] for line in out[2:]],
+        )  # fmt: skip
 
     def test_line_by_line(self):
         """What a line changes is printed before the next one is read."""

@@ -18,6 +18,7 @@ from collections import Counter
 from contextlib import ExitStack
 from fcntl import ioctl
 from functools import partial
+from itertools import count
 from pathlib import Path
 from unittest import mock
 
@@ -31,7 +32,9 @@ from wire import own_network, terminal
 
 from cueplayer_tools.watch_command import universes_of  # noqa: E402  (tooling has its folder on the path)
 from cueplayer_tools.watch_files import Record, Script  # noqa: E402
+from cueplayer_tools.watch_rates import Rates  # noqa: E402
 from cueplayer_tools.watch_state import Watched  # noqa: E402
+from cueplayer_tools.watch_view import left_lines, silent_text, time_text  # noqa: E402
 from cueplayer_tools.words import Refused  # noqa: E402
 
 NIGHTS, IN_A_SCRIPT, SEED = 1_000, 100, 1
@@ -174,6 +177,29 @@ class State(unittest.TestCase):
         watched.take(f"9 1 ended  {OTHER}")
         self.assertEqual([CID], list(universe.sources))
         self.assertTrue(universe.leads(CID))
+
+    def test_sources_that_have_left(self):
+        """The last four are named, the latest first, until they come again; and so is a universe without any."""
+        watched = Watched([1, 2])
+        cids = [f"{CID[:-1]}{n}" for n in range(6)]
+        for n, cid in enumerate(cids):
+            watched.take(f"{n} 1 source main {n} {cid} priority 100")
+            watched.take(f"{1000 * n} 1 {'ended' if n % 2 else 'gone'} main {n} {cid}")
+        watched.take(f"3700000 1 gone main 9 {OTHER[:-1]}f")
+        told = left_lines(watched.universes[1], Rates(), watched.moment)
+        self.assertEqual(
+            [f"- {f'main {n}':24}  100 {f'{word} 1 h ago':13} {'':15}  {cids[n]}"
+             for n, word in ((5, "ended"), (4, "gone"), (3, "ended"), (2, "gone"))],
+            told,
+        )  # fmt: skip
+        self.assertEqual("   nobody on 1 2", silent_text(watched))
+        watched.take(f"3700000 1 source main 3 {cids[3]} priority 100")
+        self.assertNotIn(cids[3], " ".join(left_lines(watched.universes[1], Rates(), watched.moment)))
+        self.assertEqual("   nobody on 2", silent_text(watched))
+        self.assertEqual(
+            ["0 s", "59 s", "1 min", "59 min", "1 h"],
+            [time_text(t) for t in (999, 59_999, 60_000, 3_599_999, 3_600_000)],
+        )
 
 
 class ToolTest(NetworkTest, FolderTest):
@@ -420,6 +446,11 @@ class TerminalTest(ToolTest):
         wait_for(lambda: self.look() is not None and text in self.shown.rpartition("\x1b[?1049l")[2], text)
 
 
+def seconds_shown(picture):
+    """The time in the first line of a screen."""
+    return float(re.search(r"   (\d+\.\d) s ", picture)[1])
+
+
 class Screen(TerminalTest):
     """The tool at a terminal."""
 
@@ -430,9 +461,11 @@ class Screen(TerminalTest):
         picture = self.wait_for("64")
         self.assertRegex(picture, rf"(?m)^> main +100 .* {CID}")
         self.assertRegex(picture, r"(?m)^  1  64 +\. .* 255 *$")
-        self.key("2", "0", "m")
+        self.key("2", "0")
+        self.assertRegex(self.wait_for("20_"), r"(?m)^20_   n p, 3u: universe ")
+        self.key("m")
         self.wait_for("marked: 20=255")
-        self.key("n")
+        self.key("2", "u")
         picture = self.wait_for("universe 2 (2 of 2)")
         self.assertRegex(picture, r"(?m)^> cueplayer +150 ")
         self.assertNotIn("=255", picture)
@@ -442,8 +475,10 @@ class Screen(TerminalTest):
         self.key("p", "f")
         self.wait_for("FROZEN")
         self.send(packet(1, {1: 65}, 1))
-        self.key("n", "p")
-        self.assertRegex(self.wait_for("FROZEN"), r"(?m)^  1  64 ")
+        self.key("n")
+        self.wait_for("universe 2 (2 of 2)   FROZEN")
+        self.key("p")
+        self.assertRegex(self.wait_for("universe 1 (1 of 2)   FROZEN"), r"(?m)^  1  64 ")
         self.key("f")
         self.assertNotIn("FROZEN", self.wait_for(" 65 "))
         self.key("q")
@@ -451,12 +486,40 @@ class Screen(TerminalTest):
         self.wait_for_end("1 slots 1:65")
         self.assertEqual(self.before, termios.tcgetattr(self.slave))
 
+    def test_source_that_falls_silent(self):
+        """It stays on the screen, with how long it is gone, and universes without a source are named."""
+        self.begin("1", "2")
+        self.wait_for("nobody on 1 2")
+        self.send(packet(1, {1: 64}, name="main"), packet(1, {1: 65}, priority=99, cid=OTHER, name="backup"))
+        self.wait_for("nobody on 2")
+        self.send(packet(1, {1: 65}, 1, priority=99, cid=OTHER, name="backup", options=0x40))
+        self.assertRegex(self.wait_for("- backup"), rf"(?m)^- backup +99 ended \d s ago +\S+ +{OTHER}$")
+        self.assertRegex(self.wait_for("- main"), rf"(?m)^- main +100 gone \d s ago +\S+ +{CID}$")
+        self.wait_for("nobody on 1 2")
+        self.send(packet(1, {1: 64}, 1, name="main"))
+        self.assertNotIn("- main", self.wait_for("> main"))
+
     def test_flash_is_marked(self):
         self.begin("1")
         for number, level in enumerate((5, 255, 5)):
             self.send(packet(1, {3: level}, number))
             self.wait_for(f"{level:3}")
         self.wait_for("5*")
+
+    def test_clock_goes_on(self):
+        """Where nothing changes, the time does, and the mark of a flash goes after three seconds."""
+        self.begin("1")
+        for number, level in enumerate((5, 255, 5)):
+            self.send(packet(1, {3: level}, number))
+            self.wait_for(f"{level:3}")
+        began = seconds_shown(self.wait_for("  5*"))
+        numbers = count(3)
+
+        def without_mark():
+            self.send(packet(1, {3: 5}, next(numbers) % 256))
+            return "  5 " in (picture := self.look()) and picture
+
+        self.assertGreater(seconds_shown(wait_for(without_mark, "the mark goes")), began + 2.5)
 
     def test_control_c(self):
         """The terminal is as it was, and the last slots stand on it."""

@@ -6,7 +6,7 @@ import subprocess
 import tempfile
 
 from program import CID, PROGRAM, UNFIT, ProgramTest, counts, packet, run
-from worked import LOOK_ONE as SHOW, codes, table
+from worked import LOOK_ONE as SHOW, table
 
 LINE = packet(1, {1: 64}).hex().encode() + b"\n"
 
@@ -57,8 +57,8 @@ class Words(ProgramTest):
     def test_look_words(self):
         """A word that lacks its form, and words without an option that must be there."""
         for row in table("look_words").rows:
-            (words,), (told,) = codes(row["Words"]), codes(row["Told"])
-            outcome = run(*words.split(), stdin=SHOW)
+            told = row.cells["told"]
+            outcome = run(*row.cells["words"].split(), stdin=SHOW)
             self.assertEqual((2, b""), (outcome.status, outcome.out))
             self.assertIn(told.encode(), outcome.err)
 

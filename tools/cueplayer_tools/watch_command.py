@@ -14,7 +14,7 @@ from dataclasses import dataclass
 
 from cueplayer_tools.addresses import port_number
 from cueplayer_tools.watch_feed import Feed
-from cueplayer_tools.watch_files import Kept, Record, Script
+from cueplayer_tools.watch_files import Record, Script
 from cueplayer_tools.watch_rates import Rates
 from cueplayer_tools.watch_screen import Screen
 from cueplayer_tools.watch_socket import PORT, Card, WatchSocket
@@ -106,6 +106,7 @@ class Watch:
         before, self.moment = self.moment, self._now()
         if before // LOOK != self.moment // LOOK:
             self.feed.give(b"%d\n" % self.moment)
+            self.watched.pass_to(self.moment)
             for kept in self.kept:
                 kept.clock(self.moment)
                 kept.flush()
@@ -252,9 +253,10 @@ def opened(chosen: argparse.Namespace, universes: list[int], is_quiet: bool) -> 
     if receiver.lacking:
         complain(f"{receiver.lacking}; only unicast is heard: name a network card by --interface")
     kept: list[Record | Script] = []
-    for kind, name in ((Record, chosen.record), (Script, chosen.script)):
-        if name is not None:
-            kept.append(kind(name, universes, complain))
+    if chosen.record is not None:
+        kept.append(Record(chosen.record, universes, complain))
+    if chosen.script is not None:
+        kept.append(Script(chosen.script, universes, complain))
     every = SECOND if chosen.once is None else math.inf
     print_line = silent if is_quiet else print_out
     return Watch(receiver, Feed(universes), kept, Watched(universes), print_line, every)

@@ -9,6 +9,8 @@ SLOTS = 512
 # flash is shown.
 FLASH = 1_000
 SHOWN = 3_000
+# Sources that have left a universe and are still named: the last ones.
+MOST_LEFT = 4
 _LINE = re.compile(r"(\d+) (\d+) (\w+)(?: (.*))?", re.ASCII)
 _SOURCE = re.compile(r"(.*) ([0-9a-f-]{36})(?: priority (\d+)| (\d+))?", re.ASCII)
 
@@ -23,6 +25,16 @@ class Source:
 
 
 @dataclass
+class Left:
+    """A source that is not live any more: `gone` in silence, or `ended` by a termination."""
+
+    name: str
+    priority: int
+    word: str
+    moment: int
+
+
+@dataclass
 class Universe:
     """A universe: its slots and its sources by their CIDs."""
 
@@ -33,6 +45,8 @@ class Universe:
     changed: list[int] = field(default_factory=lambda: [-FLASH - 1] * SLOTS)
     flashes: dict[int, int] = field(default_factory=dict)
     sources: dict[str, Source] = field(default_factory=dict)
+    # By their CIDs, the one that left last at the end.
+    left: dict[str, Left] = field(default_factory=dict)
     ignored: Counter[str] = field(default_factory=Counter)
 
     def leads(self, cid: str) -> bool:
@@ -46,6 +60,15 @@ class Universe:
     def has_flashed(self, slot: int, moment: int) -> bool:
         """Whether a flash of a slot, 1 to 512, is still shown."""
         return slot in self.flashes and moment - self.flashes[slot] < SHOWN
+
+    def lose(self, cid: str, word: str, moment: int) -> None:
+        """Takes a source as one that has left."""
+        source = self.sources.pop(cid, None)
+        if source is None:
+            return
+        self.left[cid] = Left(source.name, source.priority, word, moment)
+        while len(self.left) > MOST_LEFT:
+            del self.left[next(iter(self.left))]
 
     def show(self, moment: int, levels: list[int]) -> list[int]:
         """Takes the levels of all slots; the slots that flashed."""
@@ -80,13 +103,17 @@ class Watched:
         self.universes = {number: Universe(number) for number in numbers}
         self.ignored: Counter[str] = Counter()
 
+    def pass_to(self, moment: int) -> None:
+        """Takes the clock, which goes on where nothing is told."""
+        self.moment = max(self.moment, moment)
+
     def take(self, line: str) -> list[str]:
         """Takes a line of `watch`; what is told behind it."""
         found = _LINE.fullmatch(line)
         if not found:
             return []
         moment, number = int(found[1]), int(found[2])
-        self.moment = max(self.moment, moment)
+        self.pass_to(moment)
         word, rest = found[3], found[4] or ""
         if word == "ignored":
             self._ignore(number, rest)
@@ -94,7 +121,7 @@ class Watched:
             if word == "slots":
                 flashed = universe.show(moment, levels_in(rest))
                 return [f"{moment} {number} flash {' '.join(map(str, flashed))}"] if flashed else []
-            self._change(universe, word, rest)
+            self._change(universe, word, rest, moment)
         return []
 
     def _ignore(self, number: int, rest: str) -> None:
@@ -103,14 +130,15 @@ class Watched:
         (universe.ignored if universe else self.ignored)[reason] += int(count)
 
     @staticmethod
-    def _change(universe: Universe, word: str, rest: str) -> None:
+    def _change(universe: Universe, word: str, rest: str, moment: int) -> None:
         found = _SOURCE.fullmatch(rest)
         if not found:
             return
         name, cid, priority, lost = found.groups()
         if word in ("gone", "ended"):
-            universe.sources.pop(cid, None)
+            universe.lose(cid, word, moment)
         elif word == "source":
+            universe.left.pop(cid, None)
             known = universe.sources.get(cid)
             universe.sources[cid] = Source(name, int(priority), known.lost if known else 0)
         elif word == "lost" and cid in universe.sources:

@@ -10,7 +10,7 @@ SOURCES = 4
 # Characters of a source's name that are shown.
 NAMED = 24
 _HEAD = f"  {'source':{NAMED}} {'prio':>4} {'per s':>5} {'lost':>6}  {'from':15}  CID"
-_KEYS = "n p: universe   up down: scroll   number m: mark a slot   f: freeze   q: quit"
+_KEYS = "n p, 3u: universe   up down: scroll   17m: mark a slot   f: freeze   q: quit"
 # Widths of a row's number and of a slot.
 _MARGIN, _CELL = 4, 4
 _ROWS_OF = (64, 32, 20, 16, 10, 8)
@@ -44,8 +44,14 @@ class View:
             self.top = max(self.top + (1 if key == "down" else -1), 0)
         elif key == "m":
             self._mark()
-        self.typed = (self.typed + key)[-3:] if key.isdecimal() else ""
+        elif key == "u":
+            self._turn_to(int(self.typed or 0))
+        self.typed = (self.typed + key)[-5:] if key.isdecimal() else ""
         return True
+
+    def _turn_to(self, number: int) -> None:
+        if number in self.numbers:
+            self.at, self.top = self.numbers.index(number), 0
 
     def _mark(self) -> None:
         slot = int(self.typed or 0)
@@ -92,6 +98,30 @@ def source_lines(universe: Universe, rates: Rates) -> list[str]:
     return lines
 
 
+def time_text(milliseconds: int) -> str:
+    """A time in seconds, minutes or hours, rounded down."""
+    seconds = milliseconds // 1000
+    if seconds < 60:
+        return f"{seconds} s"
+    return f"{seconds // 60} min" if seconds < 3600 else f"{seconds // 3600} h"
+
+
+def left_lines(universe: Universe, rates: Rates, moment: int) -> list[str]:
+    """A line for each source that has left, the last one first."""
+    lines = []
+    for cid, left in reversed(universe.left.items()):
+        _, host = rates.of(universe.number, cid)
+        since = f"{left.word} {time_text(moment - left.moment)} ago"
+        lines.append(f"- {left.name[:NAMED]:{NAMED}} {left.priority:4} {since:13} {host:15}  {cid}")
+    return lines
+
+
+def silent_text(watched: Watched) -> str:
+    """The universes on which nobody sends."""
+    silent = [str(u.number) for u in watched.universes.values() if not u.sources]
+    return f"   nobody on {' '.join(silent)}" if silent else ""
+
+
 def ignored_lines(watched: Watched, universe: Universe, dropped: int) -> list[str]:
     """What did not count, of the universe and of none, and what this machine had no room for."""
     return [
@@ -105,6 +135,7 @@ def summary(watched: Watched, rates: Rates, dropped: int) -> list[str]:
     lines = []
     for universe in watched.universes.values():
         lines += [f"universe {universe.number}", _HEAD, *source_lines(universe, rates)]
+        lines += left_lines(universe, rates, watched.moment)
         lines += [f"ignored here: {counts_text(universe.ignored)}", universe.slots_line(), ""]
     return [*lines, ignored_lines(watched, universe, dropped)[1]]
 
@@ -116,18 +147,19 @@ def picture(
     width, height = size
     universe = watched.universes[view.number]
     frozen = "   FROZEN" if view.is_frozen else ""
-    head = f"universe {view.number} ({view.at + 1} of {len(view.numbers)})"
-    head += f"   {watched.moment / 1000:.1f} s   {rates.total_told} datagrams/s{frozen}"
-    sources = source_lines(universe, rates)
-    lines = [head, _HEAD, *sources, *[""] * (SOURCES - len(sources))]
+    head = f"universe {view.number} ({view.at + 1} of {len(view.numbers)}){frozen}"
+    head += f"   {watched.moment / 1000:.1f} s   {rates.total_told} datagrams/s"
+    sources = source_lines(universe, rates) + left_lines(universe, rates, watched.moment)
+    sources += [""] * (SOURCES - len(sources))
+    lines = [head + silent_text(watched), _HEAD, *sources[:SOURCES]]
     lines += ignored_lines(watched, universe, dropped)
     lines.append(f"marked: {marked_text(universe, view)}")
     room = max(height - len(lines) - 1, 1)
     rows = slot_rows(watched, universe, view, per_row(width))
     view.top = min(view.top, max(len(rows) - room, 0))
-    typed = f"   {view.typed}_" if view.typed else ""
+    typed = f"{view.typed}_   " if view.typed else ""
     shown = [line[:width] for line in lines[: max(height - 2, 1)]]
-    return Picture(shown, rows[view.top : view.top + room], (_KEYS + typed)[:width])
+    return Picture(shown, rows[view.top : view.top + room], (typed + _KEYS)[:width])
 
 
 def marked_text(universe: Universe, view: View) -> str:

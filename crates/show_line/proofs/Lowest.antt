@@ -1,8 +1,10 @@
 -- The lowest of several faults.
 use Rattle.std.proofs.Common.{◌≡◌, ℕ, true, false, refl, sym, arith, List, Option, Some, None}
-use Rattle.std.specs.Prelude.{nat_lt, if◌then◌else◌}
+use Rattle.std.specs.Prelude.{nat_lt, if◌then◌else◌, Result, Ok, Err, MatchResult}
+use Rattle.std.specs.Result.{result_err}
 use Rattle.std.proofs.lemmas.Bool.Decides.{nat_tests}
 use Rattle.std.proofs.lemmas.Option.{none-some}
+use Rattle.ascii_text.specs.Forms.{number_of}
 use Rattle.show_line.specs.declared.fault.LineFault.{LineFault}
 use Rattle.show_line.specs.Faults.{rank_of, lower}
 
@@ -46,3 +48,10 @@ lower_some a f h = none-some f (sym (lower_both a (Some f) h).1)
 abbrev pub IsLowestSoFar : (List (List ℕ) → Option LineFault) → List (List ℕ) → List (List ℕ)
     → Option LineFault → Type 0
 IsLowestSoFar fault_in all left lowest = fault_in all ≡ lower lowest (fault_in left)
+
+-- the fault of a word is that of its number
+pub err_of : (word : List ℕ) (fault : Option LineFault) (number : Result ℕ LineFault)
+    → MatchResult number (λ n. (fault ≡ None) × (number_of word ≡ Some n)) (λ e. fault ≡ Some e)
+    → result_err number ≡ fault
+err_of word fault (Ok n) is = sym is.0
+err_of word fault (Err e) is = sym is

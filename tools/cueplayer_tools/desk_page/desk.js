@@ -137,7 +137,7 @@ function showLevels() {
     cell.dataset.words = words;
     cell.replaceChildren(String(at + 1), document.createElement("br"), String(level));
     cell.classList.toggle("is-lit", level > 0);
-    cell.style.setProperty("--share", `${level * 70 / 255}%`);
+    cell.style.setProperty("--share", `${level * 50 / 255}%`);
   });
   setText("lit", `${lit} slots lit`);
 }
@@ -335,6 +335,8 @@ askTwice("new-pins", "Press once more: all others are sent out", () => ask("pins
 byId("cues").addEventListener("keydown", moveInCues);
 document.addEventListener("keydown", pressKey);
 document.addEventListener("keyup", pressKey);
+// A tablet that is turned shows the current cue too.
+window.addEventListener("resize", () => { if (page.state !== null) scrollCues(page.state); });
 buildGrid();
 showTheme(kept("theme") ?? "auto");
 showDoubleTap();

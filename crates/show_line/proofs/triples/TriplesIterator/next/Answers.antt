@@ -11,3 +11,9 @@ overflow_cast-result-2 c = grind (arith, common_steps, lower_both)
 
 pub invariant_of-self-2 : goal.invariant_of-self-2
 invariant_of-self-2 c = grind (arith, common_steps, lower_both)
+
+pub returns-clause-steps : goal.returns-clause-steps
+returns-clause-steps c = grind (arith, common_steps)
+
+pub returns-then-self-len-clause-steps : goal.returns-then-self-len-clause-steps
+returns-then-self-len-clause-steps c = grind (arith, common_steps)

@@ -1,0 +1,189 @@
+#!/usr/bin/env python3
+"""Takes a picture of each view of the desk at each size, and those of the pages of docs. Run alone
+it keeps them: look at each before it is committed."""
+
+import base64
+import os
+import signal
+import sys
+import unittest
+from collections.abc import Iterator
+from pathlib import Path
+from unittest import mock
+
+TESTS = Path(__file__).resolve().parent
+sys.dont_write_bytecode = True
+sys.path[:0] = [str(TESTS), str(TESTS.parent / "tools")]
+
+from browser import Browser, BrowserPage  # noqa: E402  (both are on the path from here on)
+from desks import Page  # noqa: E402
+from pictures import Darkroom, Taken, keep  # noqa: E402
+from program import TOP, text  # noqa: E402
+from test_desk_doors import DoorTest  # noqa: E402
+from tooling import stand_still  # noqa: E402
+
+# A desk, a tablet and a telephone, each way up.
+SIZES = ((1280, 800), (1024, 768), (768, 1024), (390, 844), (844, 390))
+# What the page of this machine shows, and how it comes to that.
+VIEWS = {
+    "play": ("play", "dark"),
+    "light": ("play", "light"),
+    "large": ("large", "dark"),
+    "levels": ("levels", "dark"),
+    "more": ("more", "dark"),
+}
+SMALL_PLAY = TOP / "examples/small-play.asc"
+# Stands for python3-qrcode, which is not everywhere: a code of this many modules.
+CODE = """
+class QRCode:
+    def __init__(self, border):
+        pass
+    def add_data(self, address):
+        pass
+    def get_matrix(self):
+        return [[(x * y + x) % 3 == 0 for x in range(29)] for y in range(29)]
+"""
+
+
+def big_show() -> bytes:
+    """A show with more cues and submasters than a screen has room for."""
+    lines = []
+    for number in range(1, 31):
+        lines += [f"CUE {number} ! scene {number}", "UP 3 1"]
+        lines += ["FOLLOWON 900"] if number % 7 == 0 else []
+    for number in range(1, 9):
+        lines += [f"SUB {number} ! sub", "CHAN 1@FL"]
+    return text(*lines, "PATCH 1 1<1@FL")
+
+
+def resize(page: BrowserPage, width: int, height: int) -> None:
+    page.call(
+        "Emulation.setDeviceMetricsOverride",
+        width=width,
+        height=height,
+        deviceScaleFactor=1,
+        mobile=width < 1000,
+    )
+
+
+def colour(page: BrowserPage, theme: str) -> None:
+    """Has the system of the page be dark or light."""
+    features = [{"name": "prefers-color-scheme", "value": theme}]
+    page.call("Emulation.setEmulatedMedia", features=features)
+
+
+class PicturesTest(DoorTest):
+    """With a desk in the midst of a night."""
+
+    def night(self) -> None:
+        """Cue 27 of 30 stands, and two submasters are up."""
+        self.show.write_bytes(big_show())
+        self.file("qrcode.py", CODE.encode())
+        with mock.patch.dict(os.environ, PYTHONPATH=str(self.folder)):
+            self.desk, self.heard, self.door = self.opened()
+        for line in ("goto 27 in 0", "sub 1 50", "sub 2 FL"):
+            self.heard.command(line)
+        self.heard.wait(current="27", masters={"sub 1": 128, "sub 2": 255}, waiting=0)
+        self.browser = Browser(self)
+        self.darkroom = Darkroom(self.browser)
+        self.page = self.opened_page(f"{self.heard.origin}{self.heard.path}")
+
+    def opened_page(self, address: str) -> BrowserPage:
+        page = self.browser.opened(address)
+        colour(page, "dark")
+        self.wait_for_cue(page)
+        return page
+
+    def wait_for_cue(self, page: BrowserPage) -> None:
+        page.wait("document.getElementById('current').textContent === '27 scene 27'")
+        page.wait("!document.body.classList.contains('is-dead')")
+        page.wait("document.getElementById('sub-2').value === '255'")
+
+    def at_sizes(self, page: BrowserPage, name: str) -> Iterator[tuple[str, Taken]]:
+        for width, height in SIZES:
+            resize(page, width, height)
+            yield f"{name}-{width}x{height}", self.darkroom.taken(page)
+
+    def view(self, name: str) -> None:
+        """Brings this machine's page to a view."""
+        view, theme = VIEWS[name]
+        colour(self.page, theme)
+        self.page.value(f"document.querySelector('[data-to={view}]').click()")
+
+    def all_taken(self) -> Iterator[tuple[str, Taken]]:
+        """Each picture with its name."""
+        for name in VIEWS:
+            self.view(name)
+            yield from self.at_sizes(self.page, name)
+        yield from self.taken_of_guests()
+        self.view("play")
+        self.heard.command("goto 99")
+        self.page.wait("document.getElementById('alarms').innerText.includes('NoCue')")
+        self.page.wait("!document.getAnimations().length")
+        yield from self.at_sizes(self.page, "refused")
+        stand_still(self.desk.process.pid)
+        self.page.wait("document.getElementById('alarms').innerText.includes('No word')")
+        self.page.wait("!document.getAnimations().length")
+        yield from self.at_sizes(self.page, "silent")
+        os.kill(self.desk.process.pid, signal.SIGCONT)
+
+    def taken_of_guests(self) -> Iterator[tuple[str, Taken]]:
+        """The page that asks for the PIN, and the one that only watches."""
+        page = self.browser.opened(f"{self.door.origin}/")
+        colour(page, "dark")
+        page.wait("document.activeElement.id === 'pin'")
+        yield from self.at_sizes(page, "pin")
+        page.value(f"document.getElementById('pin').value = '{self.door.watch}'")
+        page.press("Enter", "Enter", "\r")
+        self.wait_for_cue(page)
+        yield from self.at_sizes(page, "watching")
+        page.close()
+
+    def small_play(self) -> tuple[BrowserPage, Page]:
+        """The page of an evening of the examples, and what is heard of it; what the desk sends comes
+        to this machine."""
+        self.show.write_bytes(SMALL_PLAY.read_bytes())
+        play = self.show.rename(self.folder / SMALL_PLAY.name)
+        self.show = play
+        self.receiver.close()
+        _, address = self.begun("--grid")
+        self.browser = Browser(self)
+        self.darkroom = Darkroom(self.browser)
+        page = self.browser.opened(address, width=1280, height=720)
+        colour(page, "dark")
+        heard = Page(self, address)
+        page.wait("!document.body.classList.contains('is-dead')")
+        return page, heard
+
+    def doc_pages(self) -> Iterator[tuple[str, BrowserPage]]:
+        """The pages of the two pictures of docs, each when it is to be taken."""
+        page, heard = self.small_play()
+        for line in ("goto 4", "sub 1 35"):
+            heard.command(line)
+        heard.wait(current="4", waiting=0)
+        page.wait("document.getElementById('lit').innerText === '8 slots lit'")
+        page.value("document.querySelector('[data-to=levels]').click()")
+        resize(page, 1280, 720)
+        yield "desk-levels", page
+        page.value("document.querySelector('[data-to=play]').click()")
+        page.value("document.querySelectorAll('#cues button')[6].click()")
+        heard.command("goto 2")
+        page.wait("document.getElementById('fade-text').textContent.startsWith('11')")
+        yield "desk", page
+
+
+class Draw(PicturesTest):
+    """Keeps what is shown now."""
+
+    def test_draw(self) -> None:
+        self.night()
+        keep(dict(self.all_taken()))
+
+    def test_docs(self) -> None:
+        for name, page in self.doc_pages():
+            taken = page.call("Page.captureScreenshot", format="webp", quality=60)["data"]
+            (TOP / f"docs/{name}.webp").write_bytes(base64.b64decode(taken))
+
+
+if __name__ == "__main__":
+    unittest.main(argv=[sys.argv[0], "Draw"])

@@ -1,0 +1,74 @@
+"""What the desk's page looks like: each view at five sizes, against the pictures that are kept in
+tests/pictures, and the two pictures of the desk in docs. `tests/desk_pictures.py` takes them anew."""
+
+import unittest
+
+from browser import CHROMIUM, MISSING
+from desk_pictures import PicturesTest, resize
+from desks import NO_WATCH, watches
+from pictures import PICTURES, Taken, kept_boxes
+from program import TOP
+from test_desk_page import HIDDEN
+
+# What a hand may break, and what has to be told of it; each is undone by an empty value.
+PLANTS = (
+    ("go", "display", "none", "go: at None"),
+    ("go", "background", "var(--panel)", "go: "),
+    ("back", "background", "var(--go)", "back: "),
+    ("go", "transform", "translateX(40px)", "go: at "),
+    ("masters", "transform", "translateY(-40px)", "master: at "),
+    ("alarms", "minHeight", "9rem", "alarms: is shown"),
+    ("cues", "visibility", "hidden", "current: "),
+)
+
+
+@unittest.skipUnless(CHROMIUM, MISSING)
+class DeskPictures(PicturesTest):
+    def test_views(self):
+        """Each is as it was looked at."""
+        self.night()
+        boxes = kept_boxes()
+        taken = dict(self.all_taken())
+        self.assertEqual(boxes.keys(), taken.keys())
+        for name, each in taken.items():
+            with self.subTest(name):
+                kept = Taken((PICTURES / f"{name}.png").read_bytes(), boxes[name])
+                self.assertEqual([], self.darkroom.faults(each, kept))
+        self.assertEqual([], self.browser.faults)
+
+    def test_plants(self):
+        """What is hidden, moved, of another colour, or behind something else is seen."""
+        self.night()
+        self.view("play")
+        resize(self.page, 1280, 800)
+        name = "play-1280x800"
+        kept = Taken((PICTURES / f"{name}.png").read_bytes(), kept_boxes()[name])
+        for part, style, value, told in PLANTS:
+            with self.subTest(f"{part}: {style}"):
+                place = f"document.getElementById('{part}').style.{style}"
+                self.page.value(f"{place} = '{value}'")
+                faults = self.darkroom.faults(self.darkroom.taken(self.page), kept)
+                self.assertTrue(any(fault.startswith(told) for fault in faults), faults)
+                self.page.value(f"{place} = ''")
+                self.assertEqual([], self.darkroom.faults(self.darkroom.taken(self.page), kept))
+
+    def test_turned(self):
+        """A tablet that is turned shows the current cue, the next one and what is behind them."""
+        self.night()
+        for width, height in ((1024, 768), (768, 1024), (1024, 768), (390, 844), (844, 390)):
+            resize(self.page, width, height)
+            self.page.wait(f"innerWidth === {width}")
+            self.page.wait(f"{HIDDEN.replace('VIEW', 'play')}.length === 0")
+
+    @unittest.skipUnless(watches(), NO_WATCH)
+    def test_docs(self):
+        """The pictures of the pages show the page as it is."""
+        for name, page in self.doc_pages():
+            with self.subTest(name):
+                shown = self.darkroom.taken(page)
+                kept = self.darkroom.small((TOP / f"docs/{name}.webp").read_bytes(), "webp")
+                self.assertEqual([], self.darkroom.colour_faults(shown, kept))
+
+
+if __name__ == "__main__":
+    unittest.main()
