@@ -24,7 +24,7 @@ DEADLINE = 2.0
 MOST_CONNECTIONS = 128
 # Of one address from elsewhere.
 MOST_OF_ONE = 32
-MOST_AT_ONCE = 32
+MOST_AT_ONCE = 8
 HEAD_END = b"\r\n\r\n"
 _FIRST_LINE = re.compile(r"([A-Z]+) (\S+) HTTP/1\.[01]\r\n", re.ASCII)
 
