@@ -47,7 +47,10 @@ REFUSED = (
     (show(GO, b"1.2.3"), "show control: GO: not a cue number: 1.2.3"),
     (show(TIMED_GO, SHORT), "show control: TIMED_GO: a time needs a cue too"),
     (show(TIMED_GO, SHORT[:4]), "show control: TIMED_GO: a time is cut off"),
-    (show(TIMED_GO, bytes([0x60 | 5, 0, 0, 0, 0]), b"1"), "show control: TIMED_GO: not a time: 18000.00"),
+    (
+        show(TIMED_GO, bytes([0x60 | 5, 0, 0, 0, 0]), b"1"),
+        "show control: TIMED_GO: not a time: 18000.00",
+    ),
 )
 NOTHING = (
     show(GO, device=1),

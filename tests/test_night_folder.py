@@ -170,7 +170,7 @@ class Goes(FolderNightTest):
         self.show.write_bytes(b"CUE 1\n")
         self.kill("spare")
         self.wait_for_reply("record: another show")
-        self.wait_for_reply("no spare stands by, by the lines above")
+        self.wait_for_reply("no spare stands by, as the lines above say")
         live = self.number("pid")
         self.assertNotIn("a spare stands by", self.asked("status").out)
         self.assertEqual(1, self.replies().count("record: another show"))

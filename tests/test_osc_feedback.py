@@ -105,7 +105,8 @@ class Subscribers(DeskTest):
             tablet.send("/cueplayer/subscribe")
             tablet.wait("/cueplayer/lost", 0)
         tablets[-1].send("/cueplayer/subscribe")
-        wait_for(lambda: any("too many are told already" in told for told in page.notices()), "that")
+        many = "there are too many subscribers already"
+        wait_for(lambda: any(many in told for told in page.notices()), many)
         page.command("go")
         for tablet in tablets[:-1]:
             tablet.wait("/cueplayer/next", "1.5", "half past")

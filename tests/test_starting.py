@@ -75,7 +75,7 @@ class Starting(CopiedLayout):
         self.assertEqual((3, "other words: look - 1\na show\n"), (status, out))
         self.assertStarts(more={"CUEPLAYER": str(self.top / "cueplayer")})
         for name in (self.top / "nothing", self.top, self.top / "crates.txt"):
-            self.assertFails("is no program", more={"CUEPLAYER": str(name)})
+            self.assertFails("is not a program", more={"CUEPLAYER": str(name)})
 
     def test_limit_on_files_is_no_signal(self):
         self.ship('#!/bin/sh\n[ "$1" = --help ] || grep SigIgn /proc/self/status\n')
@@ -107,7 +107,7 @@ class Starting(CopiedLayout):
     def test_folder_in_place_of_the_program(self):
         self.program.unlink()
         self.program.mkdir()
-        self.assertFails("is no file")
+        self.assertFails("is not a file")
 
     def test_truncated_program(self):
         for length in (0, 1, len(MADE) - 1):
@@ -288,10 +288,11 @@ class Shipped(unittest.TestCase):
     """What is in dist/ of this tree."""
 
     def test_version_is_said_once(self):
-        """The newest part of CHANGELOG is of the version that VERSION says, and so is PROVENANCE."""
+        """The newest version in CHANGELOG is the one that VERSION says, and so is PROVENANCE's."""
         top = Path(__file__).resolve().parent.parent
         version = (top / "VERSION").read_text().strip()
         self.assertRegex(version, r"^\d+\.\d+\.\d+$")
         changelog = (top / "CHANGELOG.md").read_text()
-        self.assertRegex(changelog.partition("\n## ")[2], rf"^{version} \(\d{{4}}-\d\d-\d\d\)\n")
+        released = changelog.replace("\n## Unreleased\n", "\n", 1).partition("\n## ")[2]
+        self.assertRegex(released, rf"^{version} \(\d{{4}}-\d\d-\d\d\)\n")
         self.assertIn(f"version: {version}\n", (top / "dist/PROVENANCE").read_text())
