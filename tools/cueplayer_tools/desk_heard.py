@@ -147,7 +147,7 @@ class HeardNight(ABC):
 
     def _take_answer(self, answer: Answer) -> None:
         asked = self.input.oldest()
-        if self.is_astray or asked in (None, WHERE):
+        if self.is_astray or asked is None or asked == WHERE:
             self._take_strange_answer(answer)
             return
         given = self.input.given()

@@ -171,7 +171,7 @@ class OscPort:
         except OSError:
             return 0.0
         seconds, microseconds = _TIME.unpack(arrival)
-        return time.time() - seconds - microseconds / 1e6
+        return time.time() - float(seconds) - float(microseconds) / 1e6
 
     def _end_second(self, now: float) -> None:
         self.second = now
@@ -180,13 +180,15 @@ class OscPort:
         lost = self._lost()
         if lost != self.lost:
             more = (lost - self.lost) % 2**32
-            self.tell(f"{more} datagrams lost, unread: too many came; press again what did nothing")
+            self.tell(
+                f"{more} datagrams lost, unread: too many came; press again what did nothing"
+            )
             self.lost = lost
 
     def _lost(self) -> int:
         """How many datagrams found no room; as before where the system does not say."""
         try:
             counts = self.socket.getsockopt(socket.SOL_SOCKET, _SO_MEMINFO, _COUNTS.size)
-            return _COUNTS.unpack(counts)[_DROPS]
+            return int(_COUNTS.unpack(counts)[_DROPS])
         except (OSError, struct.error):
             return self.lost

@@ -14,7 +14,7 @@ from dataclasses import dataclass
 
 from cueplayer_tools.addresses import port_number
 from cueplayer_tools.watch_feed import Feed
-from cueplayer_tools.watch_files import Kept, Record, Script
+from cueplayer_tools.watch_files import Record, Script
 from cueplayer_tools.watch_rates import Rates
 from cueplayer_tools.watch_screen import Screen
 from cueplayer_tools.watch_socket import PORT, Card, WatchSocket
@@ -32,7 +32,8 @@ MOST_AT_ONCE = 256
 
 
 def universes_of(words: list[str]) -> list[int]:
-    """The universes that words name, as `1` and `1-4`; Refused where they are none, or too many."""
+    """The universes that words name, as `1` and `1-4`; Refused where they are none, or too
+    many."""
     numbers: list[int] = []
     for word in words:
         found = re.fullmatch(r"(\d{1,5})(?:-(\d{1,5}))?", word, re.ASCII)
@@ -230,7 +231,10 @@ def parsed(words: list[str]) -> argparse.Namespace:
         "--port", type=port_number, default=PORT, help=f"the port of the datagrams ({PORT})"
     )
     parser.add_argument(
-        "--once", metavar="SECONDS", type=seconds, help="watch so long, print what is known, and end"
+        "--once",
+        metavar="SECONDS",
+        type=seconds,
+        help="watch so long, print what is known, and end",
     )
     parser.add_argument("--lines", action="store_true", help="print lines at a terminal, too")
     parser.add_argument("--record", metavar="FILE", help="keep what came, for cueplayer watch")
@@ -249,9 +253,10 @@ def opened(chosen: argparse.Namespace, universes: list[int], is_quiet: bool) -> 
     if receiver.lacking:
         complain(f"{receiver.lacking}; only unicast is heard: name a network card by --interface")
     kept: list[Record | Script] = []
-    for kind, name in ((Record, chosen.record), (Script, chosen.script)):
-        if name is not None:
-            kept.append(kind(name, universes, complain))
+    if chosen.record is not None:
+        kept.append(Record(chosen.record, universes, complain))
+    if chosen.script is not None:
+        kept.append(Script(chosen.script, universes, complain))
     every = SECOND if chosen.once is None else math.inf
     print_line = silent if is_quiet else print_out
     return Watch(receiver, Feed(universes), kept, Watched(universes), print_line, every)
