@@ -47,7 +47,10 @@ REFUSED = (
     (show(GO, b"1.2.3"), "show control: GO: no cue number: 1.2.3"),
     (show(TIMED_GO, SHORT), "show control: TIMED_GO: a time wants a cue too"),
     (show(TIMED_GO, SHORT[:4]), "show control: TIMED_GO: a time is cut off"),
-    (show(TIMED_GO, bytes([0x60 | 5, 0, 0, 0, 0]), b"1"), "show control: TIMED_GO: no time: 18000.00"),
+    (
+        show(TIMED_GO, bytes([0x60 | 5, 0, 0, 0, 0]), b"1"),
+        "show control: TIMED_GO: no time: 18000.00",
+    ),
 )
 NOTHING = (
     show(GO, device=1),
@@ -140,7 +143,9 @@ class Device(DeskTest):
     def test_played(self):
         """It plays the night beside the page, which tells what is refused."""
         path, device = self.device()
-        _, page = self.opened("--midi", path, "--midi-go", 60, "--midi-back", 59, "--midi-device", 7)
+        _, page = self.opened(
+            "--midi", path, "--midi-go", 60, "--midi-back", 59, "--midi-device", 7
+        )
         os.write(device, b"\x90\x3c\x40")
         page.wait(current="1")
         os.write(device, show(GO, b"2", device=7))
