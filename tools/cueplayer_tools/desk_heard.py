@@ -33,7 +33,10 @@ UNSURE = 1.0
 # What `live` says on standard error as it begins, in this order: no faults.
 RECORD = re.compile(r"record: .*")
 START_LINES = (
-    re.compile(r"show: \d+ cues?, .*?(?:; (?P<skipped>\d+ (?:lines? skipped|notes? of weight).*))?", re.ASCII),
+    re.compile(
+        r"show: \d+ cues?, .*?(?:; (?P<skipped>\d+ (?:lines? skipped|notes? of weight).*))?",
+        re.ASCII,
+    ),
     re.compile(r"sends: .*"),
     RECORD,
     re.compile(r"end ends the night.*"),
