@@ -30,7 +30,7 @@ class Python(unittest.TestCase):
         self.assertEqual([], [line for line in lines if not self.is_known(line)])
 
     def is_known(self, line):
-        """Whether a line tells of success, or of a line of the tree that says why it is as it is."""
+        """Whether a line tells of success, or of a line that says why it is as it is."""
         place = re.match(r"(.*?):(\d+):", line)
         source = open(place[1]).read().splitlines()[int(place[2]) - 1] if place else ""
         return line.startswith("Success: ") or "# noqa: " in source
