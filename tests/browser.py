@@ -27,7 +27,8 @@ class Browser:
         words.append(f"--user-data-dir={profile.name}")
         if os.geteuid() == 0:
             words.append("--no-sandbox")
-        # The browser reads at number 3 and writes at number 4. Not every sh copies a number from 10 on.
+        # The browser reads at number 3 and writes at number 4. Not every sh copies a number from
+        # 10 on.
         script = f'exec "$@" 3<&{theirs_in} 4>&{theirs_out}'
         self.process = subprocess.Popen(
             ["bash", "-c", script, "bash", *words],

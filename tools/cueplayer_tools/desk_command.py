@@ -53,8 +53,10 @@ OSC_EVERY = 0.002
 MOST_REPLIES = 100_000
 MOST_DOUBLE_GO = 10_000
 # Words of `live`, which a desk on another's night does not take.
-NIGHT_WORDS = ("show", "to", "interface", "any_route", "ttl", "name", "cid", "priority", "base")
-NIGHT_WORDS += ("record", "replies")
+NIGHT_WORDS = (
+    *("show", "to", "interface", "any_route", "ttl", "name", "cid", "priority", "base"),
+    *("record", "replies"),
+)
 
 
 def _parser() -> argparse.ArgumentParser:

@@ -182,7 +182,7 @@ class OscPort:
         except OSError:
             return 0.0
         seconds, microseconds = _TIME.unpack(arrival)
-        return time.time() - seconds - microseconds / 1e6
+        return time.time() - float(seconds) - float(microseconds) / 1e6
 
     def _end_second(self, now: float) -> None:
         self.second = now
@@ -200,6 +200,6 @@ class OscPort:
         """How many datagrams found no room; as before where the system does not say."""
         try:
             counts = self.socket.getsockopt(socket.SOL_SOCKET, _SO_MEMINFO, _COUNTS.size)
-            return _COUNTS.unpack(counts)[_DROPS]
+            return int(_COUNTS.unpack(counts)[_DROPS])
         except (OSError, struct.error):
             return self.lost
