@@ -9,7 +9,7 @@ pixel do not, so the boxes of the controls are kept beside the picture.
 import base64
 import json
 from pathlib import Path
-from typing import NamedTuple
+from typing import Any, NamedTuple
 
 from browser import Browser, BrowserPage
 
@@ -112,7 +112,7 @@ class Darkroom:
     def __init__(self, browser: Browser) -> None:
         self.page: BrowserPage = browser.opened("about:blank")
 
-    def _value(self, call: str) -> object:
+    def _value(self, call: str) -> Any:
         answer = self.page.call(
             "Runtime.evaluate",
             expression=f"(async () => {{ {SCRIPTS} return {call}; }})()",

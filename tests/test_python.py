@@ -15,12 +15,18 @@ WRITERS = [TOP / "dev/generators", TOP / "dev/pages"]
 TESTS = [TOP / "tests", TOP / "tests/run"]
 
 
+def is_python(path):
+    """Whether a file is Python, by its name or its first line."""
+    if not path.is_file() or path.suffix not in ("", ".py"):
+        return False
+    return path.suffix == ".py" or b"python3" in path.read_bytes()[:100].partition(b"\n")[0]
+
+
 def files():
     """All of it, file by file."""
     for path in (*TOOLS, *WRITERS, *TESTS, TOP / "bench"):
-        found = path.rglob("*.py") if path.is_dir() else [path]
-        yield from sorted(found)
-    yield from sorted((TOP / "bench").iterdir())
+        found = path.rglob("*") if path.is_dir() else [path]
+        yield from sorted(set(filter(is_python, found)))
 
 
 class Python(unittest.TestCase):

@@ -71,7 +71,8 @@ class Watch(ProgramTest):
         self.assertNotIn(b"1:9", out)
 
     def test_what_is_no_level(self):
-        """Packets of E1.31 that carry no levels, whole and cut, are named with their counts, and dim nothing."""
+        """Packets of E1.31 that carry no levels, whole and cut, are named with their counts, and
+        dim nothing."""
         cid = uuid.UUID(CID).bytes
         named = {
             "Discovery": discovery_packet(cid, list(range(1, 513))),
@@ -82,7 +83,8 @@ class Watch(ProgramTest):
         for each in named.values():
             lines += [f"10 {each[:length].hex()}" for length in (43, 44, len(each), len(each))]
         for number, start in enumerate((0xDD, 0xDD, 0x17, 0xCC, 0xCF), 1):
-            lines.append(f"20 {(lit[:111] + bytes([number]) + lit[112:125] + bytes([start]) + lit[126:]).hex()}")
+            sent = lit[:111] + bytes([number]) + lit[112:125] + bytes([start]) + lit[126:]
+            lines.append(f"20 {sent.hex()}")
         lines.append("1000")
         self.assertWatches(text(*lines), 1)
         out = run("watch", "1", stdin=text(*lines)).out.decode().splitlines()

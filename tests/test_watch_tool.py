@@ -198,7 +198,8 @@ class State(unittest.TestCase):
         self.assertTrue(universe.leads(CID))
 
     def test_sources_that_have_left(self):
-        """The last four are named, the latest first, until they come again; and so is a universe without any."""
+        """The last four are named, the latest first, until they come again; and so is a universe
+        without any."""
         watched = Watched([1, 2])
         cids = [f"{CID[:-1]}{n}" for n in range(6)]
         for n, cid in enumerate(cids):
@@ -213,7 +214,9 @@ class State(unittest.TestCase):
         )  # fmt: skip
         self.assertEqual("   nobody on 1 2", silent_text(watched))
         watched.take(f"3700000 1 source main 3 {cids[3]} priority 100")
-        self.assertNotIn(cids[3], " ".join(left_lines(watched.universes[1], Rates(), watched.moment)))
+        self.assertNotIn(
+            cids[3], " ".join(left_lines(watched.universes[1], Rates(), watched.moment))
+        )
         self.assertEqual("   nobody on 2", silent_text(watched))
         self.assertEqual(
             ["0 s", "59 s", "1 min", "59 min", "1 h"],
@@ -530,13 +533,19 @@ class Screen(TerminalTest):
         self.assertEqual(self.before, termios.tcgetattr(self.slave))
 
     def test_source_that_falls_silent(self):
-        """It stays on the screen, with how long it is gone, and universes without a source are named."""
+        """It stays on the screen, with how long it is gone, and universes without a source are
+        named."""
         self.begin("1", "2")
         self.wait_for("nobody on 1 2")
-        self.send(packet(1, {1: 64}, name="main"), packet(1, {1: 65}, priority=99, cid=OTHER, name="backup"))
+        self.send(
+            packet(1, {1: 64}, name="main"),
+            packet(1, {1: 65}, priority=99, cid=OTHER, name="backup"),
+        )
         self.wait_for("nobody on 2")
         self.send(packet(1, {1: 65}, 1, priority=99, cid=OTHER, name="backup", options=0x40))
-        self.assertRegex(self.wait_for("- backup"), rf"(?m)^- backup +99 ended \d s ago +\S+ +{OTHER}$")
+        self.assertRegex(
+            self.wait_for("- backup"), rf"(?m)^- backup +99 ended \d s ago +\S+ +{OTHER}$"
+        )
         self.assertRegex(self.wait_for("- main"), rf"(?m)^- main +100 gone \d s ago +\S+ +{CID}$")
         self.wait_for("nobody on 1 2")
         self.send(packet(1, {1: 64}, 1, name="main"))
@@ -550,7 +559,8 @@ class Screen(TerminalTest):
         self.wait_for("5*")
 
     def test_clock_goes_on(self):
-        """Where nothing changes, the time does, and the mark of a flash goes after three seconds."""
+        """Where nothing changes, the time does, and the mark of a flash goes after three
+        seconds."""
         self.begin("1")
         for number, level in enumerate((5, 255, 5)):
             self.send(packet(1, {3: level}, number))
