@@ -1,15 +1,15 @@
 #!/usr/bin/env python3
-"""A bad night at sixteen universes, by a seed: the desk and its readers stand still, the disk of the
-record stalls, pages open and close, floods come, slow connections are held, others send, and the
-link goes down and up.
+"""A bad night at sixteen universes, by a seed: the desk and its readers stand still, the disk of
+the record stalls, pages open and close, floods come, slow connections are held, others send, and
+the link goes down and up.
 
 usage: tests/bad_night.py [--seconds N] [--seed S]
 
 It makes a network of its own, where a desk plays multicast through a link that it can take down.
 What must hold: no tick is later than 60 ms, but for the time in which the machine stood still, no
 packet is off its place, no press is carried out late, and the night ends with its streams. It
-prints what was seen; the exit status is 1 where something was wrong, and 2 where something was late
-and nothing else was wrong.
+prints what was seen; the exit status is 1 where something was wrong, and 2 where something was
+late and nothing else was wrong.
 """
 
 import argparse
@@ -35,7 +35,12 @@ from pathlib import Path
 sys.dont_write_bytecode = True
 sys.path.insert(0, str(Path(__file__).resolve().parent))
 
-from machine import Late, Took, in_time, witness  # noqa: E402  (tests/ is on the path from here on)
+from machine import (
+    Late,
+    Took,
+    in_time,
+    witness,
+)  # noqa: E402  (tests/ is on the path from here on)
 from program import behind_head, packet  # noqa: E402
 from tooling import TOOLS  # noqa: E402
 from wire import OPTIONS, SEQUENCE, TERMINATED  # noqa: E402
@@ -133,8 +138,8 @@ class Desk:
         self.began = time.monotonic()
         words = [sys.executable, TOOLS / "desk", show, "--to", "239.255.0.0", "--cid", str(cid)]
         words += ["--record", self.record, "--replies", folder / "replies", "--osc", "0"]
-        pipes = {"stdout": subprocess.PIPE, "stderr": subprocess.PIPE}
-        self.process = subprocess.Popen(list(map(str, words)), text=True, **pipes)
+        pipe = subprocess.PIPE
+        self.process = subprocess.Popen([*map(str, words)], text=True, stdout=pipe, stderr=pipe)
         address = self.process.stdout.readline().split()[-1]
         self.host, self.path = re.fullmatch(r"http://([^/]+)(/.*/)", address).groups()
         live = int(re.search(r"process (\d+)", self.process.stderr.readline())[1])
@@ -327,7 +332,7 @@ def carried_out(lines: list[list[str]], made: list[tuple[float, int]]) -> list[T
 def late_in(lines: list[list[str]], presses: list[Took], began: float) -> list[str]:
     """What was later than it may be, of a night that began at this moment."""
     ticks = [int(moment) for moment, *words in lines if words == ["tick"]]
-    late = []
+    late: list[str] = []
     for before, after in zip(ticks, ticks[1:]):
         stretch = Took(after - before, began + before / 1000 - 1, began + after / 1000 + 1)
         with told(late):
@@ -337,8 +342,13 @@ def late_in(lines: list[list[str]], presses: list[Took], began: float) -> list[s
         with told(late):
             in_time(each, LATE + BEYOND, "a press")
     worst = max(after - before for before, after in zip(ticks, ticks[1:])) - TICK
-    stood = max((woke - due for each in witness().stalls.values() for due, woke in each), default=0)
-    print(f"{len(ticks)} ticks, the latest by {worst} ms; the machine stood still for {1000 * stood:.0f} ms")
+    stood = max(
+        (woke - due for each in witness().stalls.values() for due, woke in each), default=0
+    )
+    print(
+        f"{len(ticks)} ticks, the latest by {worst} ms; the machine stood still for "
+        f"{1000 * stood:.0f} ms"
+    )
     return late
 
 
@@ -357,7 +367,9 @@ def faults_of(desk: Desk, receiver: Receiver, presses: Presses) -> tuple[list[st
     moves = carried_out(lines, presses.made)
     late = late_in(lines, moves, desk.began)
     faults = receiver.wrong[:10]
-    print(f"{len(presses.made)} presses, {len(moves)} carried out; answers {dict(presses.answers)}")
+    print(
+        f"{len(presses.made)} presses, {len(moves)} carried out; answers {dict(presses.answers)}"
+    )
     print(f"{receiver.count} packets received, {receiver.ended} ended streams")
     if len(moves) < len(presses.made) // 3:
         faults.append("most presses were not carried out")

@@ -17,7 +17,8 @@ MISSING = "no Chromium: none of " + ", ".join(NAMES) + " is on PATH, and CHROMIU
 class Browser:
     """A browser with a profile of its own."""
 
-    def __init__(self, test):
+    def __init__(self, test, within=()):
+        """On another machine where there are words that run others there."""
         profile = tempfile.TemporaryDirectory(ignore_cleanup_errors=True)
         test.addCleanup(profile.cleanup)
         theirs_in, ours_out = os.pipe()
@@ -27,10 +28,11 @@ class Browser:
         words.append(f"--user-data-dir={profile.name}")
         if os.geteuid() == 0:
             words.append("--no-sandbox")
-        # The browser reads at number 3 and writes at number 4. Not every sh copies a number from 10 on.
+        # The browser reads at number 3 and writes at number 4. Not every sh copies a number from
+        # 10 on.
         script = f'exec "$@" 3<&{theirs_in} 4>&{theirs_out}'
         self.process = subprocess.Popen(
-            ["bash", "-c", script, "bash", *words],
+            [*within, "bash", "-c", script, "bash", *words],
             pass_fds=(theirs_in, theirs_out),
             stdin=subprocess.DEVNULL,
             stdout=subprocess.DEVNULL,
@@ -135,17 +137,27 @@ class BrowserPage:
         self.hold(expression, shift)
         self.let_go(shift)
 
-    def hold(self, expression, shift=False):
-        """Presses the mouse in the middle of an element, and holds it."""
+    def middle(self, expression):
+        """Where the middle of an element is, once it is in sight."""
         script = f"(() => {{ const at = ({expression}); at.scrollIntoView({{block: 'center'}});"
         script += "const box = at.getBoundingClientRect();"
         script += "return [box.x + box.width / 2, box.y + box.height / 2]; })()"
-        self.at = self.value(script)
+        return self.value(script)
+
+    def hold(self, expression, shift=False):
+        """Presses the mouse in the middle of an element, and holds it."""
+        self.at = self.middle(expression)
         self._mouse("mousePressed", shift)
 
     def let_go(self, shift=False):
         """Lets go the mouse where it was pressed."""
         self._mouse("mouseReleased", shift)
+
+    def tap(self, expression):
+        """Taps with a finger in the middle of an element."""
+        x, y = self.middle(expression)
+        self.call("Input.dispatchTouchEvent", type="touchStart", touchPoints=[{"x": x, "y": y}])
+        self.call("Input.dispatchTouchEvent", type="touchEnd", touchPoints=[])
 
     def _mouse(self, kind, shift):
         x, y = self.at

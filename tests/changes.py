@@ -3,8 +3,10 @@
 import re
 
 NUMBERS = (
-    b"0 1 22 23 99 100 101 200 201 255 256 512 513 2001 4096 4097 5999 6000 8192 8193 9999 10000 63999 64000"
-    b" 65535 65536 999999999 1000000000 281474976710655 281474976710656 999999999999999 1000000000000000"
+    b"0 1 22 23 99 100 101 200 201 255 256 512 513 2001 4096 4097 5999 6000 8192 8193 9999 "
+    b"10000 63999 64000"
+    b" 65535 65536 999999999 1000000000 281474976710655 281474976710656 999999999999999 "
+    b"1000000000000000"
     b" 18446744073709551615 18446744073709551616 00 0000000000 -1"
 ).split()
 SEPARATORS = [bytes([byte]) for byte in b" \t\r\x1a,;/<=>@!\n\0\x0b$"]
@@ -12,7 +14,11 @@ SEPARATORS = [bytes([byte]) for byte in b" \t\r\x1a,;/<=>@!\n\0\x0b$"]
 
 def turned_byte(r, data):
     place = r.randrange(len(data))
-    return data[:place] + bytes([data[place] ^ r.choice([1, 2, 16, 32, 128, 255])]) + data[place + 1 :]
+    return (
+        data[:place]
+        + bytes([data[place] ^ r.choice([1, 2, 16, 32, 128, 255])])
+        + data[place + 1 :]
+    )
 
 
 def other_byte(r, data):
@@ -110,7 +116,15 @@ def swapped_words(r, lines):
 
 
 OF_BYTES = (turned_byte, other_byte, cut, without, doubled, put_in)
-OF_LINES = (swapped_lines, doubled_line, cut_line, lost_line, other_ends, joined_lines, swapped_words)
+OF_LINES = (
+    swapped_lines,
+    doubled_line,
+    cut_line,
+    lost_line,
+    other_ends,
+    joined_lines,
+    swapped_words,
+)
 OF_TEXTS = OF_BYTES + OF_LINES + (other_separator, other_number, other_number, other_number)
 
 

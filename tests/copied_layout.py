@@ -55,7 +55,9 @@ class CopiedLayout(unittest.TestCase):
         folder = tempfile.TemporaryDirectory()
         self.addCleanup(folder.cleanup)
         self.above = Path(folder.name)
-        self.top = Path(os.fsdecode(os.path.join(os.fsencode(folder.name), os.fsencode(self.NAME))))
+        self.top = Path(
+            os.fsdecode(os.path.join(os.fsencode(folder.name), os.fsencode(self.NAME)))
+        )
         self.log = self.top / "log"
         self.built = self.top / "crates/cueplayer/out/cueplayer"
         self.program = self.top / "dist/cueplayer"
@@ -85,7 +87,9 @@ class CopiedLayout(unittest.TestCase):
 
     def sources(self) -> str:
         """The checksum of the copy's sources."""
-        done = subprocess.run([self.top / "dev/sources", "--sum"], capture_output=True, text=True, check=True)
+        done = subprocess.run(
+            [self.top / "dev/sources", "--sum"], capture_output=True, text=True, check=True
+        )
         return done.stdout.strip()
 
     def ship(self, content: str | bytes, **said: str) -> None:
@@ -125,7 +129,9 @@ class CopiedLayout(unittest.TestCase):
         self.addCleanup(started.kill)
         return started
 
-    def run_script(self, script: str | Path, *words: str | Path, **options) -> tuple[int, str, str]:
+    def run_script(
+        self, script: str | Path, *words: str | Path, **options
+    ) -> tuple[int, str, str]:
         started = self.start(script, *words, **options)
         out, err = started.communicate("a show\n", timeout=60)
         return started.returncode, out, err

@@ -36,7 +36,9 @@ class Burst:
 
     def __init__(self, made):
         """Takes each datagram with its host and port."""
-        self.kept = [(IoVector(datagram, len(datagram)), address_bytes(to)) for datagram, to in made]
+        self.kept = [
+            (IoVector(datagram, len(datagram)), address_bytes(to)) for datagram, to in made
+        ]
         self.headers = (Header * len(made))()
         for header, (vector, name) in zip(self.headers, self.kept):
             header.message = Message(name, len(name), ctypes.pointer(vector), 1, None, 0, 0)
@@ -59,4 +61,9 @@ class Burst:
 def address_bytes(to):
     """struct sockaddr_in of a host and a port."""
     host, port = to
-    return struct.pack("=H", socket.AF_INET) + struct.pack("!H", port) + socket.inet_aton(host) + bytes(8)
+    return (
+        struct.pack("=H", socket.AF_INET)
+        + struct.pack("!H", port)
+        + socket.inet_aton(host)
+        + bytes(8)
+    )

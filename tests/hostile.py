@@ -1,11 +1,13 @@
 #!/usr/bin/env python3
-"""Bad nights by chance: changed shows, lines, scripts and datagrams, each answer held against the pages.
+"""Bad nights by chance: changed shows, lines, scripts and datagrams, each answer held against the
+pages.
 
 usage: tests/hostile.py [--cases N] [--seed S]
 
-What the program must answer is worked out in `expected`, from docs/PROFILE.md and docs/FORMATS.md alone.
-A case is a changed show, input of `play`, script or datagram; it is the same for the same seed. Of the
-first that is answered otherwise the smallest that was found is printed, and the exit status is 1.
+What the program must answer is worked out in `expected`, from docs/PROFILE.md and docs/FORMATS.md
+alone. A case is a changed show, input of `play`, script or datagram; it is the same for the same
+seed. Of the first that is answered otherwise the smallest that was found is printed, and the exit
+status is 1.
 """
 
 import argparse
@@ -33,15 +35,18 @@ from wire import free_port  # noqa: E402
 
 HUNG = -999
 DATAGRAMS = 60  # of one run of `listen`
-# How often each comes: of `check`, `cues`, `look` and `slots` the show is changed, of others what is played too.
-JOBS = ["check"] * 3 + ["cues"] * 2 + ["look"] * 2 + ["slots"] * 2 + ["play"] * 6 + ["rehearse"] * 3
+# How often each comes: of `check`, `cues`, `look` and `slots` the show is changed, of others what
+# is played too.
+JOBS = (
+    ["check"] * 3 + ["cues"] * 2 + ["look"] * 2 + ["slots"] * 2 + ["play"] * 6 + ["rehearse"] * 3
+)
 JOBS += ["listen"] * 5
 
 
 @dataclass(frozen=True)
 class Case:
-    """A run: its job, the bytes that it is given, and the words that vary. `parts` has the show and the
-    input or the script, or the datagrams of `listen`."""
+    """A run: its job, the bytes that it is given, and the words that vary. `parts` has the show
+    and the input or the script, or the datagrams of `listen`."""
 
     job: str
     parts: tuple
@@ -69,7 +74,8 @@ class Case:
 
 
 class Runner:
-    """Runs cases. Files in memory stand for the streams, and one socket takes what `play` sends."""
+    """Runs cases. Files in memory stand for the streams, and one socket takes what `play`
+    sends."""
 
     def __init__(self):
         self.streams = [os.memfd_create(name) for name in ("in", "out", "err")]
@@ -128,7 +134,9 @@ class Runner:
         os.close(process)
         status = os.waitstatus_to_exitcode(os.waitpid(child, 0)[1])
         out, err = (os.pread(stream, os.fstat(stream).st_size, 0) for stream in self.streams[1:])
-        return runs.Answer(HUNG if hung else status, out, without_remark(err), tuple(self.received()))
+        return runs.Answer(
+            HUNG if hung else status, out, without_remark(err), tuple(self.received())
+        )
 
     def received(self):
         try:
@@ -154,7 +162,9 @@ def made(r, job):
     """A case by chance."""
     if job == "listen":
         datagrams = inputs.datagrams(r, DATAGRAMS)
-        return Case(job, tuple(changes.changed(r, each, changes.OF_BYTES, 1) for each in datagrams))
+        return Case(
+            job, tuple(changes.changed(r, each, changes.OF_BYTES, 1) for each in datagrams)
+        )
     base = r.choice([1] * 16 + [2, 63984, 63985, 63998, 63999])
     if job in ("check", "cues", "look", "slots"):
         show = changes.changed(r, inputs.show(r, odd=0.004), changes.OF_TEXTS, 3)
@@ -171,7 +181,8 @@ def made(r, job):
 
 
 def cases(count, seed):
-    """So many cases at least. Each datagram of `listen` is one, so that a run of it comes the more seldom."""
+    """So many cases at least. Each datagram of `listen` is one, so that a run of it comes the more
+    seldom."""
     r = random.Random(seed)
     while count > 0:
         job = r.choice(JOBS)
@@ -183,7 +194,8 @@ def cases(count, seed):
 
 
 def smaller(case):
-    """Cases with less in them: without a part of the lines or bytes of one text, or of the datagrams."""
+    """Cases with less in them: without a part of the lines or bytes of one text, or of the
+    datagrams."""
     if case.job == "listen":
         for kept in parts_left_out(case.parts):
             yield replace(case, parts=kept)
@@ -240,8 +252,8 @@ def differences(expected, answered):
 
 
 def first_failure(count, seed, seconds=20):
-    """The first case that the program answers otherwise, in words and as small as it gets in so many
-    seconds, or None; and how many cases and runs there were."""
+    """The first case that the program answers otherwise, in words and as small as it gets in so
+    many seconds, or None; and how many cases and runs there were."""
     runner = Runner()
     done = ran = 0
     try:

@@ -4,35 +4,78 @@ from program import CID, packet
 
 SEPARATORS = [" ", " ", " ", "  ", "\t", ",", ";", "/", "<", "=", ">", "@", "\r", "\x1a", " ,;"]
 CUES = ["1", "1", "2", "2", "1.5", ".25", "0.001", "9999.999", "3", "3.0", "010"]
-LEVELS = ["FL", "FF", "0", "1", "50", "50", "99", "100", "H0", "HF", "H80", "h8a", "HFF", "000000050"]
+LEVELS = [
+    "FL",
+    "FF",
+    "0",
+    "1",
+    "50",
+    "50",
+    "99",
+    "100",
+    "H0",
+    "HF",
+    "H80",
+    "h8a",
+    "HFF",
+    "000000050",
+]
 TIMES = "0 0 5 2.5 .5 1:30 0:00.03 99:59.99 5999.99 .01 1:5 000000002 0.2".split()
 CHANNELS = ["1", "1", "2", "3", "4", "5", "4096", "0002"]
 DIMMERS = ["1", "2", "3", "4", "5", "512", "513", "514", "1025", "8192", "7681"]
 ODD = [
-    "", "0", "-1", "+1", "x", "101", "501", "4097", "8193", "6000", "100:00", "1:60", "10000", "H", "HFFF",
-    "HG", "5.", ".", "..1", "1.0001", "1.234", "999999999", "1234567890", "0000000001", "FLL", "3:0", "1:2:3",
-    "1e3", "65536", "65535", "\x00", "\xff", "\xb2", "\xa0", "\x0b", "0x1", "1_0", "1 1", "5999.999",
+    "", "0", "-1", "+1", "x", "101", "501", "4097", "8193", "6000", "100:00", "1:60", "10000", "H",
+    "HFFF",
+    "HG", "5.", ".", "..1", "1.0001", "1.234", "999999999", "1234567890", "0000000001", "FLL",
+    "3:0", "1:2:3",
+    "1e3", "65536", "65535", "\x00", "\xff", "\xb2", "\xa0", "\x0b", "0x1", "1_0", "1 1",
+    "5999.999",
 ]  # fmt: skip
 FOLLOWS = "0 0 .01 .02 .03 .05 .05 .1 .1 .2 .2 .4 1".split()
-# What arrows, Home, F1, F5, F12 and keys of the Linux console send, ESC with a letter, and what has no end.
-KEYS = [b"\x1b[A", b"\x1b[D", b"\x1b[1~", b"\x1bOP", b"\x1b[15~", b"\x1b[24~", b"\x1b[1;5C", b"\x1b[[A", b"\x1bx"]
+# What arrows, Home, F1, F5, F12 and keys of the Linux console send, ESC with a letter, and what
+# has no end.
+KEYS = [
+    b"\x1b[A",
+    b"\x1b[D",
+    b"\x1b[1~",
+    b"\x1bOP",
+    b"\x1b[15~",
+    b"\x1b[24~",
+    b"\x1b[1;5C",
+    b"\x1b[[A",
+    b"\x1bx",
+]
 KEYS += [b"\x1b", b"\x1b[", b"\x1bO", b"\x1b[[", b"\x1b\x1b[A"]
 STEPS = [0, 0, 1, 22, 23, 24, 25, 25, 25, 25, 100, 199, 200, 775, 799, 800, 801, 2500, 5000, 60000]
 STARTS = [0] * 20 + [5] * 5 + [1000000] * 5 + [(1 << 48) - 3000, (1 << 48) - 1, 1 << 48]
 BEHIND = [1, 1, 1, 2, 3, 18, 19, 20, 21, 127, 128, 217, 235, 236, 237, 255, 0]
 PASSED = [0, 0, 1, 5, 22, 23, 25, 25, 50, 99, 100, 101, 800, 999, 1000, 2499, 2500]
-NAMES = [b"main", b"main", b"backup", b"", b"a\0b", b"\x1b[2J\x07", b"\xff" * 64, "M\u00fcller".encode(), b"a b !"]
+NAMES = [
+    b"main",
+    b"main",
+    b"backup",
+    b"",
+    b"a\0b",
+    b"\x1b[2J\x07",
+    b"\xff" * 64,
+    "M\u00fcller".encode(),
+    b"a b !",
+]
 OTHER_LINES = [
-    "IDENT 3:0", "IDENT 3:0 x", "SET CHANNELS 96", "CONSOLE x", "MANUFACTURER", "CLEAR GROUPS", "CLEAR CUES",
-    "CLEAR PATCH", "CLEAR SUB", "CLEAR CUE 2", "CLEAR x", "CLEAR", "$MAKER 9", "$", "$$FADE 7", "$$", "MACRO 7",
-    "TEXT x", "TEXT \"a b\" ", "LINK 2", "PART 1", "PATCH 2 x", "PATCH 1", "", "! comment", "\xef\xbb\xbfCUE 1", "CHAN", "DOWN 1 2",
+    "IDENT 3:0", "IDENT 3:0 x", "SET CHANNELS 96", "CONSOLE x", "MANUFACTURER", "CLEAR GROUPS",
+    "CLEAR CUES",
+    "CLEAR PATCH", "CLEAR SUB", "CLEAR CUE 2", "CLEAR x", "CLEAR", "$MAKER 9", "$", "$$FADE 7",
+    "$$", "MACRO 7",
+    "TEXT x", "TEXT \"a b\" ", "LINK 2", "PART 1", "PATCH 2 x", "PATCH 1", "", "! comment",
+    "\xef\xbb\xbfCUE 1", "CHAN", "DOWN 1 2",
 ]  # fmt: skip
 HARDER_LINES = ["UP x", "CHAN 1 x", "DOWN", "CLEAR ALL", "ENDDATA"]
 CIDS = [CID[:-1] + digit for digit in "123456"]
 
 
 def spelled(r, words, odd=0.01):
-    """A line of these words: other separators, letters of either case, comments, blanks at its ends."""
+    """A line of these words: other separators, letters of either case, comments, blanks at its
+    ends."""
     words = [r.choice(ODD) if r.random() < odd else word for word in words]
     if r.random() < 0.5:
         return " ".join(words)
@@ -109,7 +152,9 @@ def chained_show(r):
     cues = CUES + ["4", "5", "6.6", "7", "8"]
     for n in r.sample(cues, r.randrange(4, len(cues))):
         lines += [["CUE", n], ["FOLLOWON", r.choice(FOLLOWS)]]
-    return "".join(spelled(r, line, odd=0) + "\n" for line in lines).encode("latin-1") + show(r, odd=0)
+    return "".join(spelled(r, line, odd=0) + "\n" for line in lines).encode("latin-1") + show(
+        r, odd=0
+    )
 
 
 def command(r):
@@ -117,7 +162,8 @@ def command(r):
         [
             ["go"], ["go"], ["go"], ["back"], ["goto", r.choice(CUES)], ["goto", r.choice(CUES)],
             ["goto", r.choice(CUES), "in", r.choice(TIMES)],
-            ["sub", r.choice("1123"), r.choice(LEVELS)], ["sub", r.choice("1123"), r.choice(LEVELS)],
+            ["sub", r.choice("1123"), r.choice(LEVELS)],
+            ["sub", r.choice("1123"), r.choice(LEVELS)],
             ["group", r.choice("1123"), r.choice(LEVELS)], ["master", r.choice(LEVELS)],
             ["end"] if r.random() < 0.2 else ["go"],
         ]
@@ -151,7 +197,9 @@ def event(r, now, ticks):
     """An event of a script; `ticks` has those of each console so far."""
     console = r.randrange(len(ticks)) if r.random() < 0.98 else 4
     receiver = r.choice("0" * 12 + "11" + "9")
-    name = r.choice(["do", "tick", "tick", "tick", "deliver", "deliver", "deliver", "stray", "slots"])
+    name = r.choice(
+        ["do", "tick", "tick", "tick", "deliver", "deliver", "deliver", "stray", "slots"]
+    )
     if name == "tick" and console < len(ticks):
         ticks[console] += 1
     newest = ticks[console] if console < len(ticks) else 0
@@ -170,16 +218,22 @@ def script(r):
     priority = r.choice(["100", "100", "150", "200", "0"])
     lines = [["console", r.choice("111117"), priority, uuid_word(r, CIDS[0])]]
     if r.random() < 0.5:
-        lines.append(["console", "1", r.choice(["100", "150", "99"]), uuid_word(r, r.choice(CIDS))])
+        lines.append(
+            ["console", "1", r.choice(["100", "150", "99"]), uuid_word(r, r.choice(CIDS))]
+        )
     ticks = [0] * len(lines)
-    lines += [["receiver", universe] for universe in r.choice(["1", "1", "12", "21", "17", "1", "11"])]
+    lines += [
+        ["receiver", universe] for universe in r.choice(["1", "1", "12", "21", "17", "1", "11"])
+    ]
     for _, now in zip(range(r.randrange(10, 80)), moments(r)):
         lines.append(event(r, now, ticks))
     return text_of(r, [spelled(r, line, odd=0.0005) for line in lines])
 
 
 def uuid_word(r, cid):
-    return r.choice([cid, cid, cid.upper(), cid.replace("-", ""), "{" + cid + "}", "urn:uuid:" + cid])
+    return r.choice(
+        [cid, cid, cid.upper(), cid.replace("-", ""), "{" + cid + "}", "urn:uuid:" + cid]
+    )
 
 
 def short_packet(sent, slots):
@@ -206,7 +260,8 @@ def datagrams(r, count):
 
 
 def datagram(r, cid=CIDS[-1], sequence=None):
-    """A datagram: mostly of universe 1, mostly readable, its number by chance where none is given."""
+    """A datagram: mostly of universe 1, mostly readable, its number by chance where none is
+    given."""
     slots = {r.choice([1, 2, 3, 4, 511, 512]): r.choice([1, 64, 128, 255]) for _ in range(3)}
     universe = r.choice([1] * 12 + [2, 63999, 64000, 0])
     sequence = r.randrange(256) if sequence is None else sequence
@@ -231,7 +286,11 @@ def watch_lines(r, nights, universes):
         for _ in range(r.choice([5, 20, 60])):
             moment += r.choice(PASSED)
             behind = r.choice([1, 30, 3000]) if r.random() < 0.03 else 0
-            made = "" if r.random() < 0.3 else watched_datagram(r, r.choice(sources), numbers, universes).hex()
+            made = (
+                ""
+                if r.random() < 0.3
+                else watched_datagram(r, r.choice(sources), numbers, universes).hex()
+            )
             spelled_so = made.upper() if r.random() < 0.1 else made
             lines.append([padded(r, max(moment - behind, 0)), *filter(None, [spelled_so])])
         moment += r.choice([2499, 2500, 2501, 9000])
@@ -248,7 +307,9 @@ def watched_datagram(r, cid, numbers, universes):
     options = r.choice([0] * 16 + [0x40, 0x40, 0x80, 0xC0, 0x20])
     priority = r.choice([100] * 12 + [0, 99, 101, 200, 201])
     slots = {r.choice([1, 2, 8]): r.choice([1, 64, 255]) for _ in range(2)}
-    sent = bytearray(short_packet(packet(universe, slots, number, options, priority, cid), r.choice([0, 2, 8])))
+    sent = bytearray(
+        short_packet(packet(universe, slots, number, options, priority, cid), r.choice([0, 2, 8]))
+    )
     sent[44:108] = name.ljust(64, b"\0")[:64]
     if r.random() < 0.08:
         sent[125] = r.choice([0xDD, 0xDD, 0xCC, 1])
@@ -260,13 +321,20 @@ def watched_datagram(r, cid, numbers, universes):
 
 
 def target_word(r, universes, addresses):
-    """A word of `--to`: mostly of universes of the show, to one of these addresses; now and then none."""
+    """A word of `--to`: mostly of universes of the show, to one of these addresses; now and then
+    none."""
     host, port = r.choice(addresses)
     universe = r.choice(universes)
     other = r.choice([*universes, universe + 1])
-    named = r.choice(["", "", f"{universe}=", f"{universe}=", f"0{universe}=", f"{universe}-{other}="])
+    named = r.choice(
+        ["", "", f"{universe}=", f"{universe}=", f"0{universe}=", f"{universe}-{other}="]
+    )
     word = f"{named}{host}:{padded_port(r, port)}"
-    return r.choice(["", "1=", "x", f"0={host}", f"{word}x", f"={word}", f"{word}="]) if r.random() < 0.02 else word
+    return (
+        r.choice(["", "1=", "x", f"0={host}", f"{word}x", f"={word}", f"{word}="])
+        if r.random() < 0.02
+        else word
+    )
 
 
 def padded_port(r, port):

@@ -8,7 +8,8 @@ from program import run
 
 
 class Job(NamedTuple):
-    """The words of a job in their order, and its options, each with the name of its value: none of a flag."""
+    """The words of a job in their order, and its options, each with the name of its value: none of
+    a flag."""
 
     arguments: list
     options: dict

@@ -50,8 +50,8 @@ class Witness:
 
     def __init__(self) -> None:
         words = [sys.executable, "-B", os.path.abspath(__file__)]
-        pipes = {"stdin": subprocess.PIPE, "stdout": subprocess.PIPE}
-        self.process = subprocess.Popen(words, text=True, bufsize=1, **pipes)
+        pipe = subprocess.PIPE
+        self.process = subprocess.Popen(words, text=True, bufsize=1, stdin=pipe, stdout=pipe)
         # Of each processor the stretches in which the machine stood still.
         self.stalls: dict[str, list[tuple[float, float]]] = {}
         self.asking = threading.Lock()
@@ -62,7 +62,8 @@ class Witness:
         """Takes what was noted, up to now."""
         self.process.stdin.write("?\n")
         for processor, stalls in json.loads(self.process.stdout.readline()).items():
-            self.stalls.setdefault(processor, []).extend(map(tuple, stalls))
+            known = self.stalls.setdefault(processor, [])
+            known += [(since, until) for since, until in stalls]
 
     def _close(self) -> None:
         with contextlib.suppress(BrokenPipeError):

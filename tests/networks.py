@@ -40,8 +40,8 @@ Made = TypeVar("Made")
 
 
 class Came(NamedTuple):
-    """A datagram of streaming ACN that came by a cable: its addresses, what was left of its time to
-    live, and what it holds."""
+    """A datagram of streaming ACN that came by a cable: its addresses, what was left of its time
+    to live, and what it holds."""
 
     source: str
     to: str
@@ -56,7 +56,7 @@ class Machine:
         self.kept = kept
         self.name = f"cueplayer-{os.getpid()}-{next(NAMES)}"
         subprocess.run(["ip", "netns", "add", self.name], check=True, capture_output=True)
-        kept.callback(subprocess.run, ["ip", "netns", "del", self.name], check=True)
+        kept.callback(lambda: subprocess.run(["ip", "netns", "del", self.name], check=True))
         self.ip("link set lo up")
 
     def ip(self, *lines: str) -> None:
@@ -189,8 +189,8 @@ class Venue:
 
     def run(self, *words: object, stdin: bytes = b"") -> subprocess.CompletedProcess[bytes]:
         """A run of the program on the console's machine, to its end."""
-        words = self.console.words(PROGRAM, *words)
-        return subprocess.run(words, input=stdin, capture_output=True, timeout=60)
+        there = self.console.words(PROGRAM, *words)
+        return subprocess.run(there, input=stdin, capture_output=True, timeout=60)
 
 
 class Night:
@@ -201,8 +201,10 @@ class Night:
     ) -> None:
         cid = cid or str(uuid.uuid4())
         words = venue.console.words(PROGRAM, "live", show, "--cid", cid, *options)
-        pipes = dict.fromkeys(("stdin", "stdout", "stderr"), subprocess.PIPE)
-        self.process = subprocess.Popen(words, text=True, bufsize=1, **pipes)
+        pipe = subprocess.PIPE
+        self.process = subprocess.Popen(
+            words, text=True, bufsize=1, stdin=pipe, stdout=pipe, stderr=pipe
+        )
         kept.callback(self._leave)
         self.out, self.err = Lines(self.process.stdout), Lines(self.process.stderr)
         self.start = self._begin()

@@ -59,9 +59,10 @@ class Daemon:
         for each in (folder, *folder.iterdir()):
             os.chown(each, NOBODY, NOBODY)
         user = ["setpriv", f"--reuid={NOBODY}", f"--regid={NOBODY}", "--clear-groups"]
-        words = ["olad", "--config-dir", folder, "--http-port", str(PORT)]
-        quiet = dict.fromkeys(("stdout", "stderr"), subprocess.DEVNULL)
-        self.process = subprocess.Popen([*user, *words, "--no-register-with-dns-sd"], **quiet)
+        words = ["olad", "--config-dir", str(folder), "--http-port", str(PORT)]
+        words = [*user, *words, "--no-register-with-dns-sd"]
+        none = subprocess.DEVNULL
+        self.process = subprocess.Popen(words, stdout=none, stderr=none)
         self.looks: list[tuple[float, bytes]] = []
         self.is_over = False
         self._patch()

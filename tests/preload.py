@@ -1,4 +1,5 @@
-"""What stands between the program and the system's calls: a small library, built from C where that can be."""
+"""What stands between the program and the system's calls: a small library, built from C where that
+can be."""
 
 import os
 import shutil
@@ -16,7 +17,7 @@ COMPILER = shutil.which("cc")
 class PreloadTest(FolderTest):
     """With the library that is built from SOURCE."""
 
-    SOURCE = None
+    SOURCE: str | None = None
 
     @classmethod
     def setUpClass(cls):

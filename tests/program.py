@@ -25,7 +25,8 @@ DEVICE_FAULT = b"device fault\n"
 
 # The first line that tells of a fault; the line behind it is a remark, in words.
 FAULT = re.compile(
-    rb"(words refused|show(: | line \d+: )\w+|base: Universe|line \d+ refused|script: TooLong|setup: \w+"
+    rb"(words refused|show(: | line \d+: )\w+|base: Universe|line \d+ refused|script: "
+    rb"TooLong|setup: \w+"
     rb"|device fault|lost \d+)\n"
 )
 
@@ -40,7 +41,8 @@ START = re.compile(
 
 
 def told(err):
-    """Standard error without remarks, and without what `listen` and `live` tell before they begin."""
+    """Standard error without remarks, and without what `listen` and `live` tell before they
+    begin."""
     lines = START.sub(b"", err).splitlines(keepends=True)
     lines = [line for line in lines if not line.startswith(WAITING)]
     if len(lines) > 1 and FAULT.fullmatch(lines[-2]):
@@ -58,7 +60,9 @@ class Outcome(NamedTuple):
 
 def run(*words, stdin=b"", **options):
     """Runs the program with these words. A negative status is the signal that ended it."""
-    done = subprocess.run([PROGRAM, *words], input=stdin, capture_output=True, timeout=60, **options)
+    done = subprocess.run(
+        [PROGRAM, *words], input=stdin, capture_output=True, timeout=60, **options
+    )
     return Outcome(done.returncode, done.stdout, told(done.stderr))
 
 
@@ -81,7 +85,8 @@ def text(*lines):
 def counts(lines, cues=0, subs=0, groups=0, dimmers=0, skipped=0):
     """What `check` prints of a show with these counts."""
     return (
-        f"lines {lines} cues {cues} subs {subs} groups {groups} dimmers {dimmers} skipped {skipped}\n"
+        f"lines {lines} cues {cues} subs {subs} groups {groups} dimmers {dimmers} skipped "
+        f"{skipped}\n"
     ).encode()
 
 
@@ -106,7 +111,8 @@ def slots_line(slots):
 
 
 def packet(universe, slots, sequence=0, options=0, priority=100, cid=CID, name="cueplayer"):
-    """An E1.31 data packet of the program, field by field: `slots` has the slots that are not 0."""
+    """An E1.31 data packet of the program, field by field: `slots` has the slots that are not
+    0."""
     levels = bytearray(512)
     for slot, level in slots.items():
         levels[slot - 1] = level
@@ -127,7 +133,8 @@ def packet(universe, slots, sequence=0, options=0, priority=100, cid=CID, name="
 
 
 class ProgramTest(unittest.TestCase):
-    """Assertions on whole runs: the exit status, standard output and standard error, all three exact."""
+    """Assertions on whole runs: the exit status, standard output and standard error, all three
+    exact."""
 
     maxDiff = 2000
 
@@ -155,7 +162,9 @@ class ProgramTest(unittest.TestCase):
         err = b"" if universes else NO_PATCH
         out = text(*(packet(*universe).hex() for universe in universes.items()))
         self.assertRuns(["look", "-", cue, "--cid", CID], show, out=out, err=err)
-        shown = (f"universe {universe}\n{slots_line(slots)}" for universe, slots in universes.items())
+        shown = (
+            f"universe {universe}\n{slots_line(slots)}" for universe, slots in universes.items()
+        )
         self.assertRuns(["slots", "-", cue], show, out=text(*shown), err=err)
 
     def assertNoCue(self, show, cue):
@@ -167,14 +176,16 @@ class ProgramTest(unittest.TestCase):
         """A run whose output has no room ends with a device fault."""
         with open("/dev/full", "wb") as full:
             pipe = subprocess.PIPE
-            done = subprocess.run([PROGRAM, *words], input=stdin, stdout=full, stderr=pipe, timeout=60)
+            done = subprocess.run(
+                [PROGRAM, *words], input=stdin, stdout=full, stderr=pipe, timeout=60
+            )
         self.assertEqual((5, DEVICE_FAULT), (done.returncode, told(done.stderr)))
 
 
 class FolderTest(ProgramTest):
     """With a folder for each test; where the class names a SHOW, it is there as `self.show`."""
 
-    SHOW = None
+    SHOW: bytes | None = None
 
     def setUp(self):
         folder = tempfile.TemporaryDirectory()

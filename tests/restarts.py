@@ -200,10 +200,12 @@ class KilledNight:
 
     def _started(self, options: list[str], limit: int | None = None) -> subprocess.Popen:
         """Its outputs are pipes that have room for what it tells."""
-        pipe = dict.fromkeys(("stdin", "stdout", "stderr"), subprocess.PIPE)
+        pipe = subprocess.PIPE
         limited = None if limit is None else lambda: limit_files(limit)
-        words = [*self.words, *options]
-        return subprocess.Popen(words, bufsize=0, env=self.env, preexec_fn=limited, **pipe)
+        return subprocess.Popen(
+            [*self.words, *options], bufsize=0, env=self.env, preexec_fn=limited,
+            stdin=pipe, stdout=pipe, stderr=pipe,
+        )  # fmt: skip
 
     def stand_by(self, *options: str) -> subprocess.Popen:
         """Starts a spare."""
@@ -217,7 +219,8 @@ class KilledNight:
         return spare
 
     def _is_read_by(self, process: subprocess.Popen) -> bool:
-        """Whether a process has the record open for reading, as the script that starts it has not."""
+        """Whether a process has the record open for reading, as the script that starts it has
+        not."""
         # A file that is closed meanwhile is not there any more.
         with contextlib.suppress(OSError):
             for each in Path(f"/proc/{process.pid}/fd").iterdir():
@@ -250,7 +253,7 @@ class KilledNight:
         wanted = [b" " + line for line in lines.splitlines(keepends=True)]
         wait_until(
             lambda: all(line in self.record.read_bytes()[before:] for line in wanted),
-            f"the record has {lines}",
+            f"the record has {lines!r}",
         )
         ticks = len(moments(self.record.read_bytes()))
         wait_until(lambda: len(moments(self.record.read_bytes())) > ticks, "a tick comes")
@@ -285,7 +288,8 @@ class KilledNight:
         self.ear.settle()
 
     def is_at_rest(self) -> bool:
-        """Whether all that the record means was heard: no tick was recorded and not carried out."""
+        """Whether all that the record means was heard: no tick was recorded and not carried
+        out."""
         return len(list(sent_by(self.text, self.record.read_bytes()))) == len(self.ear.heard)
 
     def end(self, line: bytes = b"end\n") -> int:
@@ -305,10 +309,10 @@ class KilledNight:
         lines = self.lines.setdefault(night.pid, [])
         while not (lines and re.match(pattern, lines[-1])):
             if not select.select([night.stderr], [], [], PATIENCE)[0]:
-                raise Wrong(f"{pattern} is not told: {lines}")
+                raise Wrong(f"{pattern!r} is not told: {lines}")
             lines.append(night.stderr.readline())
             if not lines[-1]:
-                raise Wrong(f"{pattern} is not told: {lines}")
+                raise Wrong(f"{pattern!r} is not told: {lines}")
 
     def told(self) -> list[tuple[bytes, bytes]]:
         """What each process printed and told. None of them runs any more."""
@@ -373,7 +377,8 @@ class Judge:
     def lost(self) -> int:
         """How many packets were lost: at most one of a universe at a kill, and else none."""
         times = {place: each.at for each, place in zip(self.heard, self.places)}
-        latest, missing = {}, dict.fromkeys(self.universes, 0)
+        latest: dict = {}
+        missing = dict.fromkeys(self.universes, 0)
         lost = 0
         for place, sent in enumerate(self.sent[: self.places[-1] + 1]):
             universe, at = universe_of(sent.packet), times.get(place)

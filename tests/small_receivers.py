@@ -23,9 +23,10 @@ class Heard:
 class Small:
     """Keeps to the rules. What another breaks is one of these calls."""
 
-    # The rule that it breaks, and the cases that it is caught by: all of the rule where none are named.
-    rule = None
-    caught = ()
+    # The rule that it breaks, and the cases that it is caught by: all of the rule where none are
+    # named.
+    rule: str | None = None
+    caught: tuple[str, ...] = ()
     loss = 2500
 
     def __init__(self, universe):
@@ -43,7 +44,9 @@ class Small:
         if self.is_late(last, data[111]):
             return
         slots = self.slots_in(data, last)
-        self.sources[key] = Heard(moment, data[111], self.priority(data, last), slots, self.ends(data))
+        self.sources[key] = Heard(
+            moment, data[111], self.priority(data, last), slots, self.ends(data)
+        )
 
     def is_packet(self, data):
         return (
@@ -139,7 +142,12 @@ class DropsNumberZero(Small):
 
     def is_late(self, last, number):
         # As one that never saw 0: 1 after 255 is a step back.
-        return number == 1 and last is not None and last.number == 255 or super().is_late(last, number)
+        return (
+            number == 1
+            and last is not None
+            and last.number == 255
+            or super().is_late(last, number)
+        )
 
 
 class ComparesPlainBytes(Small):

@@ -20,8 +20,8 @@ class Heard(NamedTuple):
 
 
 def levels():
-    """When each packet is sent, its options and its level: moves, four packets of each last level, then
-    one each 0.8 s, and three that end the stream."""
+    """When each packet is sent, its options and its level: moves, four packets of each last level,
+    then one each 0.8 s, and three that end the stream."""
     found, moment, level = [], 0.0, 0
     for _ in range(MOVES):
         until = moment + MOVE
@@ -43,7 +43,12 @@ def levels():
 def heard(sent=None, universe=1, to="239.255.0.1", first=0, **fields):
     """The datagrams of such packets, numbered from the first on."""
     return [
-        Heard(moment, packet(universe, {1: level % 256}, (first + n) % 256, options, **fields), SENDER, to)
+        Heard(
+            moment,
+            packet(universe, {1: level % 256}, (first + n) % 256, options, **fields),
+            SENDER,
+            to,
+        )
         for n, (moment, options, level) in enumerate(sent or levels())
     ]
 

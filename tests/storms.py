@@ -19,8 +19,9 @@ STEP = 5
 
 
 class Judged(NamedTuple):
-    """What became of a universe: times, and the stretches that were other than meant, each with its
-    first moment, the moment behind it, how far a slot was off at most, and how long it was dark."""
+    """What became of a universe: times, and the stretches that were other than meant, each with
+    its first moment, the moment behind it, how far a slot was off at most, and how long it was
+    dark."""
 
     whole: int
     stretches: list

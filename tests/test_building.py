@@ -20,7 +20,10 @@ LAST = "dist/ has the program: ./cueplayer runs it"
 
 def proved(*crates: str) -> str:
     """What `rt ci` prints of crates that it proved, among lines of their own."""
-    return "".join(f"echo '== {name}'; echo 'fn {name}::f: proved'; echo 'rt: {name} proved'\n" for name in crates)
+    return "".join(
+        f"echo '== {name}'; echo 'fn {name}::f: proved'; echo 'rt: {name} proved'\n"
+        for name in crates
+    )
 
 
 def kept(crate: str) -> str:
@@ -90,7 +93,8 @@ class Building(CopiedLayout):
         return int(file.read_text().strip() or 0) if file.exists() else 0
 
     def test_builds(self):
-        """The program of dist/ is the one that was built, and PROVENANCE says what it was made of."""
+        """The program of dist/ is the one that was built, and PROVENANCE says what it was made
+        of."""
         self.assertBuilds()
         said = self.said()
         self.assertEqual(["version", "toolchain", "sources", "program", "built"], list(said))
@@ -103,18 +107,33 @@ class Building(CopiedLayout):
 
     def test_a_line_for_each_crate(self):
         """Proved or kept, as it comes, with the time so far."""
-        self.write("proving", proved("low") + kept("show_core") + "sleep 1.1\n" + proved("middle", "cueplayer"))
-        lines = ["   1 of 4  low", "   2 of 4  show_core", "   3 of 4  middle", "   4 of 4  cueplayer"]
+        self.write(
+            "proving",
+            proved("low") + kept("show_core") + "sleep 1.1\n" + proved("middle", "cueplayer"),
+        )
+        lines = [
+            "   1 of 4  low",
+            "   2 of 4  show_core",
+            "   3 of 4  middle",
+            "   4 of 4  cueplayer",
+        ]
         self.assertBuilds(*lines)
         _, _, err = self.run_script("build")
         self.assertRegex(err.splitlines()[3], r"^   3 of 4  middle, 0:0[1-9]$")
 
     def test_proves_its_own_crates_alone(self):
-        """On a copy, in which the crates of tests and the edits are not; and not as the gate does."""
+        """On a copy, in which the crates of tests and the edits are not; and not as the gate
+        does."""
         (self.top / "crates/low/must-fail").mkdir()
         (self.top / "crates/low/must-fail/x.edit").write_text("")
-        listing = 'find . -name "*.edit" -o -mindepth 2 -maxdepth 2 -path "./crates/*" | sort >"$PROVER_TOP/found"\n'
-        self.write("proving", listing + 'cp crates.txt "$PROVER_TOP/lines"\necho "${CI-no CI}" >"$PROVER_TOP/ci"\n')
+        listing = (
+            'find . -name "*.edit" -o -mindepth 2 -maxdepth 2 -path "./crates/*" |'
+            ' sort >"$PROVER_TOP/found"\n'
+        )
+        self.write(
+            "proving",
+            listing + 'cp crates.txt "$PROVER_TOP/lines"\necho "${CI-no CI}" >"$PROVER_TOP/ci"\n',
+        )
         status, _, err = self.run_script("build", more={"CI": "true"})
         self.assertEqual(0, status, err)
         found = (self.top / "found").read_text().split()
@@ -162,7 +181,9 @@ class Building(CopiedLayout):
         """Its lines are told, without those of what is proved."""
         faulty = "echo '== middle'; echo 'fn middle::g: proved'; echo 'fn middle::f: not proved'\n"
         self.write("proving", proved("low") + faulty + "echo 'rt: middle NOT PROVED'; exit 1\n")
-        err = self.assertFails("fn middle::f: not proved", "rt: middle NOT PROVED", "build: not proved, so")
+        err = self.assertFails(
+            "fn middle::f: not proved", "rt: middle NOT PROVED", "build: not proved, so"
+        )
         self.assertNotIn("fn middle::g: proved", err)
         self.assertNothingLeft()
 
@@ -171,7 +192,8 @@ class Building(CopiedLayout):
         self.assertFails("rt ci succeeded, but there is no program at")
 
     def test_interruptions(self):
-        """Neither half a program is left, nor a temporary file, nor the prover; and it can be done again."""
+        """Neither half a program is left, nor a temporary file, nor the prover; and it can be done
+        again."""
         self.write("proving", proved("low") + GOES_ON)
         for interruption in (signal.SIGTERM, signal.SIGINT, signal.SIGHUP):
             with self.subTest(interruption):
@@ -181,7 +203,10 @@ class Building(CopiedLayout):
 
     def test_builds_at_once(self):
         """One works, the others wait and tell so."""
-        self.write("proving", 'echo begin >>"$PROVER_TOP/turns"; sleep 0.5; echo end >>"$PROVER_TOP/turns"\n')
+        self.write(
+            "proving",
+            'echo begin >>"$PROVER_TOP/turns"; sleep 0.5; echo end >>"$PROVER_TOP/turns"\n',
+        )
         builds = [self.start("build") for _ in range(3)]
         told = [build.communicate(timeout=60)[1] for build in builds]
         self.assertEqual([0, 0, 0], [build.returncode for build in builds])
@@ -239,7 +264,9 @@ class Gate(CopiedLayout):
         self.assertCloses(1, "10 passed, 2 failed")
         self.write("tests/run", "#!/bin/sh\nexit 1\n")
         self.assertCloses(1, "8 passed, 1 failed")
-        self.write("bin/rt", PROVER.replace("7 passed, 0 failed", "6 passed, 1 failed") + "exit 1\n")
+        self.write(
+            "bin/rt", PROVER.replace("7 passed, 0 failed", "6 passed, 1 failed") + "exit 1\n"
+        )
         self.write("tests/run", "#!/bin/sh\necho '4 passed, 0 failed'\n")
         self.assertCloses(1, "11 passed, 1 failed")
 
@@ -257,7 +284,12 @@ class Gate(CopiedLayout):
             ("its program", self.program.unlink),
             ("program", lambda: shutil.copy(OTHER, self.top / "made")),
             ("sources", lambda: self.source.write_text("other")),
-            ("sources", lambda: self.provenance.write_text(re.sub("sources: .*", "sources: x", self.provenance.read_text()))),
+            (
+                "sources",
+                lambda: self.provenance.write_text(
+                    re.sub("sources: .*", "sources: x", self.provenance.read_text())
+                ),
+            ),
             ("toolchain", lambda: self.write("bin/rt", PROVER.replace("kit of", "newer kit of"))),
             ("version", lambda: (self.top / "VERSION").write_text("2.0.0\n")),
             ("version, toolchain, sources, program", self.provenance.unlink),
@@ -270,7 +302,8 @@ class Gate(CopiedLayout):
                 self.assertCloses(0, "12 passed, 0 failed")
 
     def test_tests_what_is_shipped(self):
-        """The tests run the program of dist/; where that is another, they run the one that was built."""
+        """The tests run the program of dist/; where that is another, they run the one that was
+        built."""
         self.write("tests/run", '#!/bin/sh\necho "${CUEPLAYER-dist}"\necho "4 passed, 0 failed"\n')
         self.assertIn("\ndist\n", self.run_script(".ci/run")[1])
         self.program.unlink()

@@ -1,9 +1,8 @@
-"""What a console keeps has one size from its opening to its end: in between the program calls its allocator
-not once, neither for a block nor to resize one or to give one back."""
+"""What a console keeps has one size from its opening to its end: in between the program calls its
+allocator not once, neither for a block nor to resize one or to give one back."""
 
 import subprocess
 import time
-from pathlib import Path
 from typing import NamedTuple
 
 from preload import COMPILER, PreloadTest
@@ -35,7 +34,8 @@ int main(int count, char **words) {
 
 
 class Note(NamedTuple):
-    """A read of standard input or a write to standard output, and how many calls were made before."""
+    """A read of standard input or a write to standard output, and how many calls were made
+    before."""
 
     file: int
     calls: int
@@ -61,7 +61,9 @@ class Capacities(PreloadTest):
         return notes
 
     def run_to_its_end(self, *words, **options):
-        done = subprocess.run(words, capture_output=True, timeout=60, env=self.environment(), **options)
+        done = subprocess.run(
+            words, capture_output=True, timeout=60, env=self.environment(), **options
+        )
         return done.returncode, done.stdout
 
     def test_what_is_counted(self):
@@ -90,12 +92,31 @@ class Capacities(PreloadTest):
         self.assertEqual({opened.calls}, {note.calls for note in notes})
 
     def test_live(self):
-        """From the first answer to the last: commands, questions, refused lines, keys, and the end."""
-        words = ["live", self.show, "--to", "127.0.0.1:9", "--cid", CID, "--record", self.folder / "night.play"]
+        """From the first answer to the last: commands, questions, refused lines, keys, and the
+        end."""
+        words = [
+            "live",
+            self.show,
+            "--to",
+            "127.0.0.1:9",
+            "--cid",
+            CID,
+            "--record",
+            self.folder / "night.play",
+        ]
         streams = dict.fromkeys(("stdin", "stdout", "stderr"), subprocess.PIPE)
         night = subprocess.Popen([PROGRAM, *words], bufsize=0, env=self.environment(), **streams)
         self.addCleanup(night.kill)
-        typed = (*COMMANDS, "goto 50", "where", "help", "jump", "x" * 300, "\x1b[Ago", "goto 51 in .2")
+        typed = (
+            *COMMANDS,
+            "goto 50",
+            "where",
+            "help",
+            "jump",
+            "x" * 300,
+            "\x1b[Ago",
+            "goto 51 in .2",
+        )
         for line in typed:
             night.stdin.write(text(line))
             time.sleep(0.05)
@@ -106,7 +127,8 @@ class Capacities(PreloadTest):
         self.assertEqual({answers[0]}, set(answers))
 
     def test_desks(self):
-        """By both faders: from the line that stands behind the opening to the one behind the end."""
+        """By both faders: from the line that stands behind the opening to the one behind the
+        end."""
         (place,) = built_programs(self, ["desk_tests::night"])
         for test in ("night_of_plain", "night_of_step"):
             with self.subTest(test):

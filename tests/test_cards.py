@@ -532,8 +532,8 @@ class Refusals(CardsTest):
             self.assertRefused(venue, told, "--to", MULTICAST, "--interface", word)
 
     def card_down(self, kept):
-        """The system tells that it has the address of a card that is down, and not which one it is:
-        the card is down, and no card has no address."""
+        """The system tells that it has the address of a card that is down, and not which one it
+        is: the card is down, and no card has no address."""
         venue = Venue(kept)
         venue.console.ip("link set lit down")
         there = f"there are eth0 ({EVERYDAY}), lo (127.0.0.1)"

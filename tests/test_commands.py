@@ -21,8 +21,23 @@ SPELLED = (
 NO_COMMANDS = (
     *("", "tick", "go now", "0 go", "goto", "goto 1.", "goto 10000", "master", "master H100"),
     *("sub 1", "sub 65536 1", "sub 1 101", "sub \u0661 1", "master \u0661"),
-    *("goto 1 in", "goto 1 in x", "goto 1 to 4", "goto 1 in 4 5", "goto 1 in 6000", "goto 1 in .", "goto 1 in 1:60"),
-    *("goto 0 in 1", "goto 1 in 100:00", "goto 1 in 1:005", "goto 1 in \u0661", "go in 4", "goto in 4"),
+    *(
+        "goto 1 in",
+        "goto 1 in x",
+        "goto 1 to 4",
+        "goto 1 in 4 5",
+        "goto 1 in 6000",
+        "goto 1 in .",
+        "goto 1 in 1:60",
+    ),
+    *(
+        "goto 0 in 1",
+        "goto 1 in 100:00",
+        "goto 1 in 1:005",
+        "goto 1 in \u0661",
+        "go in 4",
+        "goto in 4",
+    ),
 )
 
 

@@ -13,7 +13,8 @@ from program import TOP
 COMPLETION = TOP / "completion/cueplayer.bash"
 NIGHT = TOP / "completion/cueplayer-night.bash"
 
-# Sources the completion and calls its function for the words given, the last being the current one.
+# Sources the completion and calls its function for the words given, the last being the current
+# one.
 CALL = """
 set -u
 source "$1"
@@ -62,7 +63,8 @@ class Completion(CompletionTest):
         self.assertCompletes(["nonsense"])
 
     def test_options(self):
-        """Of each job those of its help, none but --to twice; before a job, the two that stand alone."""
+        """Of each job those of its help, none but --to twice; before a job, the two that stand
+        alone."""
         self.assertCompletes(["-"], "--help", "--version")
         for name, job in jobs().items():
             with self.subTest(name):
@@ -79,7 +81,9 @@ class Completion(CompletionTest):
             before = [name]
             for argument in job.arguments:
                 with self.subTest(f"{name} {argument}"):
-                    files = ["night.asc", "nine shows.asc"] if argument in ("SHOW", "SCRIPT") else []
+                    files = (
+                        ["night.asc", "nine shows.asc"] if argument in ("SHOW", "SCRIPT") else []
+                    )
                     self.assertCompletes([*before, "ni"], *files)
                     before.append("x")
             with self.subTest(f"{name}, all words given"):
@@ -117,8 +121,14 @@ class Completion(CompletionTest):
         """No job and no option stands in the completion that no help names."""
         text = re.sub(r"(?m)^\s*#.*$", "", COMPLETION.read_text())
         options = {option for job in jobs().values() for option in job.options}
-        self.assertEqual(options | {"--help", "--version"}, set(re.findall(r"(?<![\w-])--[a-z][a-z-]*", text)))
-        cases = {name for line in re.findall(r"(?m)^ +([a-z |]+)\) echo", text) for name in line.split(" | ")}
+        self.assertEqual(
+            options | {"--help", "--version"}, set(re.findall(r"(?<![\w-])--[a-z][a-z-]*", text))
+        )
+        cases = {
+            name
+            for line in re.findall(r"(?m)^ +([a-z |]+)\) echo", text)
+            for name in line.split(" | ")
+        }
         self.assertLessEqual(cases, set(jobs()))
 
 
@@ -150,5 +160,9 @@ class Night(CompletionTest):
         self.assertCompletes(["nights", "start", "x", "--to", ""], "239.255.0.0")
         self.assertCompletes(["nights", "start", "x", "--cid", "n"])
         self.assertCompletes(["nights", "start", "x", "--to", "y", "--"], *options)
-        self.assertCompletes(["nights", "start", "x", "--name", "y", "--"], *(options - {"--name"}))
-        self.assertCompletes(["nights", "start", "x", "--interface", ""], *os.listdir("/sys/class/net"))
+        self.assertCompletes(
+            ["nights", "start", "x", "--name", "y", "--"], *(options - {"--name"})
+        )
+        self.assertCompletes(
+            ["nights", "start", "x", "--interface", ""], *os.listdir("/sys/class/net")
+        )

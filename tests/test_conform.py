@@ -1,5 +1,5 @@
-"""`tools/conform`: small receivers and sources that break one rule each are caught by that rule, ours
-break none, and docs/CONFORMANCE.md is what the tool makes of its results."""
+"""`tools/conform`: small receivers and sources that break one rule each are caught by that rule,
+ours break none, and docs/CONFORMANCE.md is what the tool makes of its results."""
 
 import contextlib
 import io
@@ -108,7 +108,7 @@ class SecondReader(Receiver):
 class Holds(Small):
     """Keeps what it showed last when no source is left."""
 
-    last = {}
+    last: dict[int, int] = {}
 
     def take(self, moment, data, sender):
         super().take(moment, data, sender)
@@ -122,8 +122,8 @@ class Holds(Small):
 
 
 class ShowsTheNewest(Small):
-    """Of sources of one priority it shows the one that sent last, and of slots it keeps what no packet
-    brings."""
+    """Of sources of one priority it shows the one that sent last, and of slots it keeps what no
+    packet brings."""
 
     def take(self, moment, data, sender):
         before = dict(self.sources)
@@ -145,14 +145,16 @@ class ShowsTheNewest(Small):
 
 class Receivers(unittest.TestCase):
     def test_sound_ones(self):
-        """A small receiver that keeps to the rules breaks none, and the second reader makes our choices."""
+        """A small receiver that keeps to the rules breaks none, and the second reader makes our
+        choices."""
         self.assertEqual({}, broken(verdicts(Small)))
         found = verdicts(SecondReader)
         self.assertEqual({}, broken(found))
         self.assertEqual(OURS, choices(found))
 
     def test_broken_ones(self):
-        """Each is caught by cases of the rule that it breaks, and by no other; each case catches one."""
+        """Each is caught by cases of the rule that it breaks, and by no other; each case catches
+        one."""
         catching = {name: set() for name in CASES}
         for kind in small_receivers.BREAKING:
             with self.subTest(kind.__name__):
@@ -180,8 +182,8 @@ class Receivers(unittest.TestCase):
         self.assertEqual(kept, told["fewer slots than before"])
 
     def test_one_universe(self):
-        """One after the other, in one universe, by a receiver that is never begun anew: what one case
-        leaves behind does not touch the next one."""
+        """One after the other, in one universe, by a receiver that is never begun anew: what one
+        case leaves behind does not touch the next one."""
         for kind in (Small, Holds, ShowsTheNewest):
             kept = kind(7)
             found = verdicts(lambda _, one=kept: one, universes=(7,))
@@ -197,7 +199,9 @@ class Receivers(unittest.TestCase):
                     raise PeerFault("it has ended")
                 super().take(moment, data, sender)
 
-        rules = tuple(rule for rule in RULES if rule.name in ("cut datagrams", "preview", "START code"))
+        rules = tuple(
+            rule for rule in RULES if rule.name in ("cut datagrams", "preview", "START code")
+        )
         for universes in (range(1, 10), (1,)):
             found = verdicts(Ends, rules, universes=universes)
             self.assertEqual({"cut datagrams": {"in the header"}}, broken(found))
@@ -345,7 +349,9 @@ class Tool(FolderTest):
         done = run_tool("conform", "receiver", "cueplayer", "--rule", "CID", "--rule", "merge")
         self.assertEqual((0, ""), (done.returncode, done.stderr))
         lines = done.stdout.splitlines()
-        self.assertRegex(lines[0], r"^receiver: cueplayer listen \d+\.\d+\.\d+, \d{4}-\d\d-\d\d, by cueplayer")
+        self.assertRegex(
+            lines[0], r"^receiver: cueplayer listen \d+\.\d+\.\d+, \d{4}-\d\d-\d\d, by cueplayer"
+        )
         self.assertIn(" merge  6.2.3  choice: the highest level of each slot", lines)
         self.assertIn(" CID    5.6    kept", lines)
         self.assertEqual("2 rules: 1 kept, 1 choice", lines[-1])
@@ -361,7 +367,10 @@ class Tool(FolderTest):
             (("receiver", "--command", "true", "--to", "300.0.0.1"), "not an IPv4 address"),
             (("receiver", "--command", "true", "--universes", "5-2"), "not a universe"),
             (("receiver", "--command", "echo dark"), "no slots line"),
-            (("receiver", "--command", "echo slots", "--card", "192.0.2.1"), "no card has 192.0.2.1"),
+            (
+                ("receiver", "--command", "echo slots", "--card", "192.0.2.1"),
+                "no card has 192.0.2.1",
+            ),
             (("receiver", "--command", "no-such-command"), "No such file"),
             (("source", "--at", "192.0.2.1"), "192.0.2.1"),
             (("source", "--at", "127.0.0.1:0", "--seconds", "1"), "no data packet came"),
@@ -438,7 +447,9 @@ class SlotsLines(unittest.TestCase):
 
     def test_verdict_of_a_rule(self):
         """It is the worst of its cases."""
-        found = {each.rule: each.verdict for each in rules_found(verdicts(small_receivers.TakesRepeats))}
+        found = {
+            each.rule: each.verdict for each in rules_found(verdicts(small_receivers.TakesRepeats))
+        }
         self.assertEqual("broken", found["numbering"])
         self.assertEqual("kept", found["numbering wrap"])
         self.assertEqual("choice", found["merge"])

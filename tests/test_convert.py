@@ -1,5 +1,5 @@
-"""`tools/convert`: what it writes is always accepted, means what the export says as far as a show can
-say it, and whatever it changes is told."""
+"""`tools/convert`: what it writes is always accepted, means what the export says as far as a show
+can say it, and whatever it changes is told."""
 
 import io
 import os
@@ -40,7 +40,8 @@ PATCH = "PATCH 1 1<1@FL 2<2@FL 3<3@FL"
 
 class ConvertTest(FolderTest):
     def converted(self, *lines, **words):
-        """The conversion of these lines, accepted by the program, and the show by the second reader."""
+        """The conversion of these lines, accepted by the program, and the show by the second
+        reader."""
         content = lines[0] if isinstance(lines[0], bytes) else text(*lines)
         found = convert(content, **words)
         outcome = run("check", "-", stdin=found.show)
@@ -61,7 +62,8 @@ class Styles(ConvertTest):
                 self.assertEqual((style, "CONSOLE"), (found.style.name, found.told_by.first))
 
     def test_told_otherwise(self):
-        """By MANUFACTURER, and by a line of the maker's own where neither tells; and by nothing."""
+        """By MANUFACTURER, and by a line of the maker's own where neither tells; and by
+        nothing."""
         for lines, style in (
             (("MANUFACTURER Strand", "$$From Hog"), "Strand"),
             (("CONSOLE ours", "$$Software Obsession 5.2"), "Express and Obsession"),
@@ -77,8 +79,11 @@ class Examples(ConvertTest):
     """What stands in examples/exports, and beside each export what is told of it."""
 
     def test_reports(self):
-        """Each has the report that stands beside it. What the program explains is tested elsewhere."""
-        own = lambda report: [line for line in report.splitlines() if not line.startswith("explain: ")]
+        """Each has the report that stands beside it. What the program explains is tested
+        elsewhere."""
+        own = lambda report: [
+            line for line in report.splitlines() if not line.startswith("explain: ")
+        ]
         for file in sorted(EXPORTS.glob("*.asc")):
             with self.subTest(file.name):
                 done = run_tool("convert", file.relative_to(TOP), cwd=TOP)
@@ -89,8 +94,12 @@ class Examples(ConvertTest):
         """What the page for operators shows of a report stands in that report."""
         page = (TOP / "docs/OPERATING.md").read_text()
         part = page.partition("## A show from another console")[2].partition("\n## ")[0]
-        command, shown = (block.splitlines() for block in re.findall(r"(?ms)^```\n(.*?)^```$", part))
-        self.assertEqual(["tools/convert examples/exports/eos.asc >show.asc 2>show.report"], command)
+        command, shown = (
+            block.splitlines() for block in re.findall(r"(?ms)^```\n(.*?)^```$", part)
+        )
+        self.assertEqual(
+            ["tools/convert examples/exports/eos.asc >show.asc 2>show.report"], command
+        )
         self.assertEqual(3, len(shown))
         self.assertLessEqual(set(shown), set((EXPORTS / "eos.report").read_text().splitlines()))
 
@@ -150,7 +159,9 @@ class Examples(ConvertTest):
         show, looks = self.looks("magicq")
         expected = {1: {1: 128, 2: 128}, 2: {1: 255, 3: 255, 101: 127}, 3: {102: 255, 103: 255}}
         self.assertEqual(expected, looks)
-        self.assertEqual(((6130, 0), (3010, 0)), (show.cues[2000].rises(), show.cues[2000].falls()))
+        self.assertEqual(
+            ((6130, 0), (3010, 0)), (show.cues[2000].rises(), show.cues[2000].falls())
+        )
 
     def test_hog(self):
         _, looks = self.looks("hog")
@@ -185,7 +196,8 @@ class Encodings(ConvertTest):
     def test_utf_16(self):
         lines = "".join(line + "\r\n" for line in self.LINES)
         for encoding, mark in (
-            ("utf-16-le", b"\xff\xfe"), ("utf-16-be", b"\xfe\xff"), ("utf-16-le", b""), ("utf-16-be", b""),
+            ("utf-16-le", b"\xff\xfe"), ("utf-16-be", b"\xfe\xff"), ("utf-16-le", b""),
+            ("utf-16-be", b""),
         ):  # fmt: skip
             with self.subTest(encoding=encoding, mark=mark):
                 content = mark + lines.encode(encoding)
@@ -217,7 +229,8 @@ class Rules(ConvertTest):
     """Each rule by itself."""
 
     def assertLines(self, lines, levels, *told):
-        """Cue 1 has these levels, and this is told; line 1 opens it, line 2 and so on are given."""
+        """Cue 1 has these levels, and this is told; line 1 opens it, line 2 and so on are
+        given."""
         found, show = self.converted("CUE 1", *lines)
         self.assertEqual(levels, show.cues[1000].levels)
         self.assertTold(found, *told)
@@ -227,10 +240,13 @@ class Rules(ConvertTest):
             with self.subTest(word):
                 found, show = self.converted("CUE 1", f"CHAN 1@{word}")
                 self.assertEqual({1: byte}, show.cues[1000].levels)
-                self.assertTrue(found.report.lines()[0].startswith("respelled"), found.report.lines())
+                self.assertTrue(
+                    found.report.lines()[0].startswith("respelled"), found.report.lines()
+                )
 
     def test_other_scales(self):
-        """A level above 100, or with hex digits and no H: then all others may have been misread."""
+        """A level above 100, or with hex digits and no H: then all others may have been
+        misread."""
         scale = "in doubt: a level of another scale: if all are"
         for word, name in (("200", "from 0 to 255"), ("7f", "hexadecimal without an H")):
             lost = f"line 2: lost: CHAN 2@{word} cannot be read"
@@ -239,13 +255,17 @@ class Rules(ConvertTest):
             lost = f"line 2: lost: CHAN 2 {word} cannot be read"
             self.assertLines([f"CHAN 1 FL 2 {word}"], {1: 255}, lost, told)
         for word in ("256", "x", "7fa", "G0"):
-            self.assertLines([f"CHAN 1@FL 2@{word}"], {1: 255}, f"line 2: lost: CHAN 2@{word} cannot be read")
+            self.assertLines(
+                [f"CHAN 1@FL 2@{word}"], {1: 255}, f"line 2: lost: CHAN 2@{word} cannot be read"
+            )
 
     def test_pairs(self):
         one = {1: 255, 3: 128}
         self.assertLines(["CHAN 1@FL 2@ 3@50"], one, "line 2: lost: CHAN 2@ cannot be read")
         self.assertLines(["CHAN 1/FL,x/20,3/50"], one, "line 2: lost: CHAN x/20 cannot be read")
-        self.assertLines(["CHAN 1 @ FL 2@300 3@50"], one, "line 2: lost: CHAN 2@300 cannot be read")
+        self.assertLines(
+            ["CHAN 1 @ FL 2@300 3@50"], one, "line 2: lost: CHAN 2@300 cannot be read"
+        )
         self.assertLines(["CHAN 1 FL 2 x 3 50"], one, "line 2: lost: CHAN 2 x cannot be read")
         told = "line 2: lost: CHAN 1 FL 2: a word is missing, so all of it cannot be read"
         self.assertLines(["CHAN 1 FL 2"], {}, told)
@@ -256,7 +276,9 @@ class Rules(ConvertTest):
     def test_marks_that_say_otherwise(self):
         """Words that fall into place are read so, as the program does; and the marks are told."""
         told = "read word by word, though its marks group it differently"
-        self.assertLines(["CHAN 1@ 2@ 3@FL"], {1: 5, 3: 255}, f"line 2: in doubt: CHAN 1@ 2@ 3@FL: {told}")
+        self.assertLines(
+            ["CHAN 1@ 2@ 3@FL"], {1: 5, 3: 255}, f"line 2: in doubt: CHAN 1@ 2@ 3@FL: {told}"
+        )
         levels = {1: 255, 2: 128, 3: 51, 4: 77, 5: 102}
         self.assertLines(["CHAN 1=FL 2/50", "CHAN 3 20", "CHAN 4,30,5,40"], levels)
         patches = {"PATCH 1<1 2<2": {2: (1, 5)}, "PATCH 1 1<2 3<4 5<6": {2: (1, 8), 5: (4, 15)}}
@@ -268,7 +290,8 @@ class Rules(ConvertTest):
         self.assertTold(found)
 
     def test_continuation(self):
-        """Lines that begin with a number belong to the CHAN or PATCH line above, comments between."""
+        """Lines that begin with a number belong to the CHAN or PATCH line above, comments
+        between."""
         joined = "lines 3, 5: changed: joined to the CHAN line above"
         self.assertLines(["CHAN 1@FL", "2@50", "! comment", "3@H10 4@"], {1: 255, 2: 128, 3: 16},
                          "line 5: lost: CHAN 4@ cannot be read", joined)
@@ -285,9 +308,17 @@ class Rules(ConvertTest):
         for line, patch, told in (
             ("PATCH 1<1@FL 0<2@FL", {1: (1, 255)}, "changed: PATCH without a page: page 1"),
             ("PATCH 1 1<1 2<2@50", {1: (1, 255), 2: (2, 128)}, "changed: 1<1 has no level: full"),
-            ("PATCH 1 1<1@FL 2<9000@50", {1: (1, 255)}, "lost: there is no dimmer 9000, of channel 2"),
+            (
+                "PATCH 1 1<1@FL 2<9000@50",
+                {1: (1, 255)},
+                "lost: there is no dimmer 9000, of channel 2",
+            ),
             ("PATCH 1 1<1@FL 2<x@50", {1: (1, 255)}, "lost: PATCH 2<x@50 cannot be read"),
-            ("PATCH 1 1 1 FL 2", {}, "lost: PATCH 1 1 FL 2: a word is missing, so all of it cannot be read"),
+            (
+                "PATCH 1 1 1 FL 2",
+                {},
+                "lost: PATCH 1 1 FL 2: a word is missing, so all of it cannot be read",
+            ),
         ):
             with self.subTest(line):
                 found, show = self.converted("CUE 1", line)
@@ -302,7 +333,11 @@ class Rules(ConvertTest):
             ("UP 1:00:05", (3605000, 0), None),
             ("UP 1:75", (135000, 0), None),
             ("UP 5. 0.250", (5000, 250), None),
-            ("UP 6000", (5999990, 0), ["line 2: lost: UP 6000: 6000 to the longest time, 5999.99"]),
+            (
+                "UP 6000",
+                (5999990, 0),
+                ["line 2: lost: UP 6000: 6000 to the longest time, 5999.99"],
+            ),
             ("UP 1:39:59.99", (5999990, 0), None),
             ("UP M", (0, 0), ["line 2: lost: UP M: M is not a time"]),
             ("UP 3 M", (3000, 0), ["line 2: lost: UP 3 M: M is not a time"]),
@@ -321,7 +356,8 @@ class Rules(ConvertTest):
     def test_numbers(self):
         """Of groups, submasters and channels out of range: free ones, each told; of cues none."""
         found, show = self.converted(
-            "GROUP 2", "CHAN 1@FL", "GROUP 501", "CHAN 2@FL", "GROUP 0", "CHAN 3@FL", "SUB 100", "CHAN 1@FL",
+            "GROUP 2", "CHAN 1@FL", "GROUP 501", "CHAN 2@FL", "GROUP 0", "CHAN 3@FL", "SUB 100",
+            "CHAN 1@FL",
             "SUB 101", "CHAN 2@FL", "CUE 10000", "CHAN 1@FL", "CUE x", "CUE",
         )  # fmt: skip
         self.assertEqual({2: {1: 255}, 3: {3: 255}, 4: {2: 255}}, show.groups)
@@ -337,7 +373,8 @@ class Rules(ConvertTest):
         )
 
     def test_channels_above(self):
-        """They are mapped where they are patched or nothing is, and left out where no dimmer is theirs."""
+        """They are mapped where they are patched or nothing is, and left out where no dimmer is
+        theirs."""
         cue = ("CUE 1", "CHAN 3@FL 9001@50")
         found, show = self.converted(*cue)
         self.assertEqual({3: 255, 4: 128}, show.cues[1000].levels)
@@ -370,10 +407,14 @@ class Rules(ConvertTest):
         self.assertTold(found, f"lines 2-3: lost: {told}")
         found, show = self.converted("CUE 1", "UP 5", "CHAN 1@FL", "PART 2", "UP 9")
         self.assertEqual((5000, 0), show.cues[1000].rises())
-        self.assertTold(found, "line 1: changed: cue 1: the times of parts without channels are left out")
+        self.assertTold(
+            found, "line 1: changed: cue 1: the times of parts without channels are left out"
+        )
 
     def test_links(self):
-        found, _ = self.converted("CUE 1", "LINK 2", "CUE 2", "LINK 1", "CUE 3", "LINK 1", "CUE 2", "LINK x")
+        found, _ = self.converted(
+            "CUE 1", "LINK 2", "CUE 2", "LINK 1", "CUE 3", "LINK 1", "CUE 2", "LINK x"
+        )
         self.assertTold(
             found,
             "line 4: lost: LINK 1 of cue 2: GO goes to 3",
@@ -392,7 +433,9 @@ class Rules(ConvertTest):
         self.assertEqual({1000: {1: 26}}, {n: cue.levels for n, cue in show.cues.items()})
         self.assertTold(found, "lines 3-6: lost: cues of page 2")
         found, show = self.converted(*lines, cue_list=2)
-        self.assertEqual({1000: {1: 51}, 2000: {1: 77}}, {n: cue.levels for n, cue in show.cues.items()})
+        self.assertEqual(
+            {1000: {1: 51}, 2000: {1: 77}}, {n: cue.levels for n, cue in show.cues.items()}
+        )
         found, show = self.converted(*lines[2:])
         self.assertEqual([1000, 2000], sorted(show.cues))
         self.assertTold(found, "lines 1, 3: changed: page 2 of CUE to page 1")
@@ -401,7 +444,9 @@ class Rules(ConvertTest):
         lines = ("CUE 1", "CHAN 1@50 2@FL", "CUE 3", "CHAN 2@0", "CUE 2", "CHAN 3@10")
         _, show = self.converted(*lines, is_tracking=True)
         levels = [show.cues[n].levels for n in (1000, 2000, 3000)]
-        self.assertEqual([{1: 128, 2: 255}, {1: 128, 2: 255, 3: 26}, {1: 128, 2: 0, 3: 26}], levels)
+        self.assertEqual(
+            [{1: 128, 2: 255}, {1: 128, 2: 255, 3: 26}, {1: 128, 2: 0, 3: 26}], levels
+        )
 
     def test_names(self):
         found, show = self.converted('CUE 4 "Bahnhof; 2"', 'CUE 5 1 "x"', "CUE 6 y z")
@@ -410,9 +455,11 @@ class Rules(ConvertTest):
         self.assertIn("line 3: lost: words after CUE 6: y z", found.report.lines())
 
     def test_makers_records(self):
-        """They are left out, with all that stands in them; those of cues and the patch are lost."""
+        """They are left out, with all that stands in them; those of cues and the patch are
+        lost."""
         found, show = self.converted(
-            "$Effect 1", "CHAN 1@FL", "$$Step 1", "$Patch 1 1", "$$Note x", "Text y", "CUE 1", "$$Time 3",
+            "$Effect 1", "CHAN 1@FL", "$$Step 1", "$Patch 1 1", "$$Note x", "Text y", "CUE 1",
+            "$$Time 3",
         )  # fmt: skip
         self.assertEqual({}, show.patch)
         self.assertTold(
@@ -423,10 +470,15 @@ class Rules(ConvertTest):
         )
 
     def test_clear(self):
-        found, show = self.converted("CUE 1", "CLEAR CUE 1", "SUB 1", "CHAN 1@FL", "CLEAR CUES", "CUE 2")
+        found, show = self.converted(
+            "CUE 1", "CLEAR CUE 1", "SUB 1", "CHAN 1@FL", "CLEAR CUES", "CUE 2"
+        )
         self.assertEqual([2000], sorted(show.cues))
         self.assertEqual([1], sorted(show.subs))
-        told = ("line 2: left out: CLEAR CUE 1: clears no table", "line 5: left out: 1 cue above CLEAR CUES")
+        told = (
+            "line 2: left out: CLEAR CUE 1: clears no table",
+            "line 5: left out: 1 cue above CLEAR CUES",
+        )
         self.assertTold(found, *told)
 
     def test_other_lines(self):
@@ -464,7 +516,9 @@ class Forms(unittest.TestCase):
             self.assertEqual(shows.cue_number(word.encode()), export_forms.cue_number(word), word)
         for word in ("0", ".", "", "10000", "1.2345", "x", "1e3", "1.2.3"):
             self.assertIsNone(export_forms.cue_number(word), word)
-        self.assertEqual((1000, 1500), (export_forms.cue_number("1."), export_forms.cue_number("1.50000")))
+        self.assertEqual(
+            (1000, 1500), (export_forms.cue_number("1."), export_forms.cue_number("1.50000"))
+        )
 
     def test_free_numbers(self):
         self.assertEqual({900: 4, 901: 5}, free_numbers([901, 900], [1, 3], 5))
@@ -489,10 +543,14 @@ class Words(ConvertTest):
     def test_standard_input_and_output(self):
         """The show on standard output, byte for byte, and all that is told on standard error."""
         content = text("CUE 1", "TEXT \xe9", "UP 3.000")
-        done = subprocess.run([sys.executable, TOOLS / "convert", "-"], input=content, capture_output=True)
+        done = subprocess.run(
+            [sys.executable, TOOLS / "convert", "-"], input=content, capture_output=True
+        )
         self.assertEqual((0, convert(content).show), (done.returncode, done.stdout))
         told = done.stderr.decode().splitlines()
-        self.assertEqual("read: standard input: 3 lines of a console that it does not name", told[0])
+        self.assertEqual(
+            "read: standard input: 3 lines of a console that it does not name", told[0]
+        )
         self.assertIn("kept: 1 cue, 0 submasters, 0 groups, 0 patched dimmers", told)
         self.assertIn("explain: note: no dimmer is patched: no universe is sent", told)
         refused = "not compared: the program refuses the file as it stands: show line 3: BadTime"
@@ -504,8 +562,18 @@ class Words(ConvertTest):
         return [line for line in done.stderr.splitlines() if "compared" in line]
 
     def test_compared(self):
-        """The slots of each cue, as the program shows both files; a cue that goes on at once too."""
-        show = ("CUE 1", "CHAN 1@FL", "FOLLOWON 0", "CUE 2", "CHAN 2@50", "UP 5", "CUE 3", "FOLLOWON 0")
+        """The slots of each cue, as the program shows both files; a cue that goes on at once
+        too."""
+        show = (
+            "CUE 1",
+            "CHAN 1@FL",
+            "FOLLOWON 0",
+            "CUE 2",
+            "CHAN 2@50",
+            "UP 5",
+            "CUE 3",
+            "FOLLOWON 0",
+        )
         same = "compared: 3 cues, with the slots and times of the file as it stands"
         universes = "PATCH 1 " + " ".join(f"1<{512 * n + 1}@FL" for n in range(16))
         for more in ((PATCH,), (), (universes,)):
@@ -567,7 +635,9 @@ class Words(ConvertTest):
             with mock.patch("sys.stdout", out), mock.patch("sys.stderr", err):
                 self.assertEqual(1, convert_command.main([str(file)]))
         self.assertEqual("", out.getvalue())
-        self.assertIn("refused, which is a fault of this tool: show line 1: BadNumber", err.getvalue())
+        self.assertIn(
+            "refused, which is a fault of this tool: show line 1: BadNumber", err.getvalue()
+        )
 
     def test_long_report_is_cut(self):
         """Of a file of noise no end is told."""
@@ -579,11 +649,17 @@ class Words(ConvertTest):
 class Time(ConvertTest):
     def megabyte(self):
         r = random.Random(SEED)
-        lines = ["IDENT 3:0", "CONSOLE Eos", "PATCH 1 " + " ".join(f"{n}<{n}@FL" for n in range(1, 513))]
+        lines = [
+            "IDENT 3:0",
+            "CONSOLE Eos",
+            "PATCH 1 " + " ".join(f"{n}<{n}@FL" for n in range(1, 513)),
+        ]
         while sum(map(len, lines[-9:])) and len(lines) < 1650:
             lines += [f"CUE {len(lines)}", "UP 3.000", f"TEXT cue {len(lines)}"]
             levels = ("FL", "50", "H80", "33%")
-            lines += ["CHAN " + " ".join(f"{r.randrange(1, 600)}@{r.choice(levels)}" for _ in range(90))] * 3
+            lines += [
+                "CHAN " + " ".join(f"{r.randrange(1, 600)}@{r.choice(levels)}" for _ in range(90))
+            ] * 3
         return text(*lines)[: 1 << 20]
 
     def test_a_megabyte(self):
@@ -623,16 +699,21 @@ class Time(ConvertTest):
 # Lines that exports may have, and that a show file does not take as they stand.
 ODD = (
     b'Cue 5 "name"', b"Cue 1.2345", b"Cue 3 2", b"CUE", b"CUE 12000", b"Chan 1@", b"chan 4@FL x@5",
-    b"CHAN 1 FL 2", b"Part 3", b"PART", b"Link 9", b"LINK x", b"Patch 1<1", b"PATCH 1", b"PATCH 2 1<1@FL",
-    b"PATCH 1 9001<7@FL", b"$Cue 1", b"$$x y", b"Up 1:2:3", b"UP 3.000 .125", b"DOWN M", b"UP", b"7<9@FL",
-    b"  4@FL 5@50", b"Group 1.25", b"Group 900", b"Sub 0", b"SUB 101 2", b"Chan 4097@FL", b"FOLLOWON",
-    b"CHAN 9001@H80 0@5", b"FOLLOWON 99999", b"CLEAR CUES", b"CLEAR ALL", b"CLEAR x", b"TEXT x", b"TEXT",
+    b"CHAN 1 FL 2", b"Part 3", b"PART", b"Link 9", b"LINK x", b"Patch 1<1", b"PATCH 1",
+    b"PATCH 2 1<1@FL",
+    b"PATCH 1 9001<7@FL", b"$Cue 1", b"$$x y", b"Up 1:2:3", b"UP 3.000 .125", b"DOWN M", b"UP",
+    b"7<9@FL",
+    b"  4@FL 5@50", b"Group 1.25", b"Group 900", b"Sub 0", b"SUB 101 2", b"Chan 4097@FL",
+    b"FOLLOWON",
+    b"CHAN 9001@H80 0@5", b"FOLLOWON 99999", b"CLEAR CUES", b"CLEAR ALL", b"CLEAR x", b"TEXT x",
+    b"TEXT",
     b"IDENT 3.0", b"ENDDATA", b"CEU 7", b"UP 0,5",
 )  # fmt: skip
 
 
 class Hostile(ConvertTest):
-    """Changed files of each style. `CONVERT_CASES=5000 tests/run test_convert` takes so many of each."""
+    """Changed files of each style. `CONVERT_CASES=5000 tests/run test_convert` takes so many of
+    each."""
 
     def cases(self, base, count):
         r = random.Random(SEED)
@@ -640,12 +721,18 @@ class Hostile(ConvertTest):
             lines = base.split(b"\n")
             for _ in range(r.choice((0, 0, 1, 2, 5))):
                 lines.insert(r.randrange(len(lines)), r.choice(ODD))
-            yield changes.changed(r, b"\n".join(lines), changes.OF_TEXTS, r.choice((0, 1, 2, 8, 20)))
+            yield changes.changed(
+                r, b"\n".join(lines), changes.OF_TEXTS, r.choice((0, 1, 2, 8, 20))
+            )
 
     def meaning(self, show):
         """All that a show means, but for submasters and groups that hold nothing."""
-        cues = {n: (cue.levels, cue.rises(), cue.falls(), cue.follow) for n, cue in show.cues.items()}
-        masters = [{n: each for n, each in table.items() if each} for table in (show.subs, show.groups)]
+        cues = {
+            n: (cue.levels, cue.rises(), cue.falls(), cue.follow) for n, cue in show.cues.items()
+        }
+        masters = [
+            {n: each for n, each in table.items() if each} for table in (show.subs, show.groups)
+        ]
         return cues, show.patch, masters
 
     def labels(self, show):
@@ -653,8 +740,9 @@ class Hostile(ConvertTest):
         return {n: show.label("cues", n) for n in show.cues}
 
     def assertConverts(self, content):
-        """What is written is accepted, means what was read where nothing is told to be lost or changed, and
-        is converted to itself. Whether it was so compared, None where nothing was written."""
+        """What is written is accepted, means what was read where nothing is told to be lost or
+        changed, and is converted to itself. Whether it was so compared, None where nothing was
+        written."""
         try:
             found, show = self.converted(content)
         except Refused:
@@ -689,7 +777,9 @@ class Hostile(ConvertTest):
         """Bytes by chance: an answer or a refusal."""
         r = random.Random(SEED)
         for _ in range(CASES):
-            self.assertConverts(bytes(r.choices(b"CUE CHAN 1@FL<2 \n\r\0!$\xff.,:", k=r.randrange(200))))
+            self.assertConverts(
+                bytes(r.choices(b"CUE CHAN 1@FL<2 \n\r\0!$\xff.,:", k=r.randrange(200)))
+            )
 
 
 if __name__ == "__main__":

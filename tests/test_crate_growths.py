@@ -27,9 +27,11 @@ class Tested(NamedTuple):
     tests: tuple
 
 
-BUILDERS = ("open_cue", "open_sub", "open_group", "set_patch")
-BUILDERS += ("cue_level", "sub_level", "group_level")
-BUILDERS += ("cue_levels", "sub_levels", "group_levels", "set_patches")
+BUILDERS = (
+    *("open_cue", "open_sub", "open_group", "set_patch"),
+    *("cue_level", "sub_level", "group_level"),
+    *("cue_levels", "sub_levels", "group_levels", "set_patches"),
+)
 EACH = ("each_growth_refused",)
 TESTED = {
     "show_tests::show": Tested((*(f"Show::{name}" for name in BUILDERS), "Show::clone_in"), EACH),
@@ -76,11 +78,14 @@ IN_THE_PROGRAM = {
     "open": "test_refused_growths.RefusedGrowths.test_play",
     "read_words": "test_refused_growths.RefusedGrowths.test_words",
 }
-# Calls that take no memory once something is open: tests of them that ask for as much as one that only
-# opens it.
+# Calls that take no memory once something is open: tests of them that ask for as much as one that
+# only opens it.
 OPENED = {
     "desk_tests::desk": ("opened", ("goto_mid_fade", "goto_in_mid_fade", "submaster_and_grand")),
-    "stream_tests::receiver": ("every_law", ("four_sources", "source_loss", "stranger_termination")),
+    "stream_tests::receiver": (
+        "every_law",
+        ("four_sources", "source_loss", "stranger_termination"),
+    ),
 }
 # Which take long.
 LEFT_OUT = {

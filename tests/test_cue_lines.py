@@ -125,7 +125,8 @@ class CueLinesAsTheyCome(LiveTest):
         self.assertEqual(0, self.ended(night).status)
 
     def test_chain(self):
-        """Cues that follow one another at once: each has its line, soon, and no tick waits for them."""
+        """Cues that follow one another at once: each has its line, soon, and no tick waits for
+        them."""
         cues = range(1, CHAIN + 1)
         self.show.write_bytes(text(*(f"CUE {n}\nFOLLOWON 0" for n in cues)))
         record = self.folder / "night.play"
@@ -134,9 +135,13 @@ class CueLinesAsTheyCome(LiveTest):
         night.stdin.write(b"go\n")
         at = int(night.stdout.readline().removesuffix(b" ok\n"))
         with open(night.stdout.fileno(), "rb", closefd=False) as shown:
-            self.assertEqual([b"%d cue %d\n" % (at, n) for n in cues], [shown.readline() for _ in cues])
+            self.assertEqual(
+                [b"%d cue %d\n" % (at, n) for n in cues], [shown.readline() for _ in cues]
+            )
         in_time(took(typed), LATE, "a chain of moves")
         self.assertEqual(0, self.ended(night).status)
-        ticks = [int(line.split()[0]) for line in record.read_bytes().splitlines() if b" tick" in line]
+        ticks = [
+            int(line.split()[0]) for line in record.read_bytes().splitlines() if b" tick" in line
+        ]
         for before, after in zip(ticks, ticks[1:]):
             in_time(self.between(before, after), LATE, f"the tick behind {before}")

@@ -77,13 +77,13 @@ class Cues(ProgramTest):
     def test_json_text(self):
         """Byte for byte, once."""
         out = (
-            '{"cues":[\n{"number":"1","label":"a \\"b\\\\","up":0,"up_delay":0,"down":0,"down_delay":0,'
-            '"follow":1.5,"channels":1},\n{"number":"2","label":"","up":0,"up_delay":0,"down":0,'
-            '"down_delay":0,"follow":null,"channels":0}],\n"submasters":[\n'
+            '{"cues":[\n{"number":"1","label":"a \\"b\\\\","up":0,"up_delay":0,"down":0,'
+            '"down_delay":0,"follow":1.5,"channels":1},\n{"number":"2","label":"","up":0,'
+            '"up_delay":0,"down":0,"down_delay":0,"follow":null,"channels":0}],\n"submasters":[\n'
             '{"number":1,"label":"","channels":0}],\n"groups":[],\n"universes":[\n'
             '{"universe":1,"dimmers":1}],\n"patch":[\n{"dimmer":1,"channel":1,"level":255}]}\n'
         )
-        lines = ("PATCH 1 1<1@FL", "CUE 1 ! a \"b\\", "FOLLOWON 1.5", "CHAN 1@FL", "CUE 2", "SUB 1")
+        lines = ("PATCH 1 1<1@FL", 'CUE 1 ! a "b\\', "FOLLOWON 1.5", "CHAN 1@FL", "CUE 2", "SUB 1")
         self.assertRuns(["cues", "--json", "-"], text(*lines), out=out.encode())
 
     def assertExample(self, name):
@@ -131,7 +131,9 @@ class Cues(ProgramTest):
         started = time.monotonic()
         data = printed(show)
         self.assertLess(time.monotonic() - started, 1)
-        self.assertEqual([f"cue {n}" for n in range(1, 2001)], [cue["label"] for cue in data["cues"]])
+        self.assertEqual(
+            [f"cue {n}" for n in range(1, 2001)], [cue["label"] for cue in data["cues"]]
+        )
         self.assertLists(show)
 
     def test_faults(self):
@@ -163,5 +165,10 @@ class Cues(ProgramTest):
                 self.assertIn(telling, outcome.err)
         outcome = run("cues", "--help")
         self.assertEqual((0, b""), (outcome.status, outcome.err))
-        for part in (b"Usage: cueplayer cues", b"<SHOW>", b"--json", b"Example: cueplayer cues night"):
+        for part in (
+            b"Usage: cueplayer cues",
+            b"<SHOW>",
+            b"--json",
+            b"Example: cueplayer cues night",
+        ):
             self.assertIn(part, outcome.out)

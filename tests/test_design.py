@@ -1,4 +1,5 @@
-"""docs/DESIGN.md: its map has the crates that there are, and the files that it names for a change are there."""
+"""docs/DESIGN.md: its map has the crates that there are, and the files that it names for a change
+are there."""
 
 import re
 import unittest

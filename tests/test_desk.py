@@ -45,7 +45,11 @@ class Playback(DeskTest):
         cut, up, down = ({"time": time, "delay": delay} for time, delay in
                          ((0, 0), (2000, 1000), (1000, 0)))
         names = ("one", "half past", "two <b>s")
-        expected = [("1", names[0], cut, cut), ("1.5", names[1], up, down), ("2", names[2], cut, cut)]
+        expected = [
+            ("1", names[0], cut, cut),
+            ("1.5", names[1], up, down),
+            ("2", names[2], cut, cut),
+        ]
         self.assertEqual(expected, cues)
         faders = [{"line": "sub 1", "name": "all"}, {"line": "group 3", "name": ""}]
         self.assertEqual(faders, page.newest["show"]["faders"])
@@ -368,7 +372,9 @@ class Beside(DeskTest):
                                 (("--grid",), "Address already in use")):
             _, page = self.opened(*options)
             wait_for(lambda: page.newest.get("levels"), "levels")
-            self.assertEqual({"reasons": {"1": reason}, "slots": {}, "others": []}, page.newest["levels"])
+            self.assertEqual(
+                {"reasons": {"1": reason}, "slots": {}, "others": []}, page.newest["levels"]
+            )
             page.command("sub 1 FL")
             self.wait_for_level(255)
 
@@ -584,8 +590,18 @@ class Multicast(DeskTest):
     @unittest.skipUnless(watches(), NO_WATCH)
     def test_levels(self):
         """At `--to 239.255.0.0` the levels of each universe come to the grid by its own group."""
-        script = "ip link set lo up multicast on && ip route add 239.0.0.0/8 dev lo && exec \"$@\""
-        words = [*own_network(self), "sh", "-c", script, "sh", sys.executable, "-c", SEEN, TOOLS / "desk"]
+        script = 'ip link set lo up multicast on && ip route add 239.0.0.0/8 dev lo && exec "$@"'
+        words = [
+            *own_network(self),
+            "sh",
+            "-c",
+            script,
+            "sh",
+            sys.executable,
+            "-c",
+            SEEN,
+            TOOLS / "desk",
+        ]
         words += [self.show, "--to", "239.255.0.0", "--cid", str(uuid.uuid4()), "--base", "300"]
         done = subprocess.run(words, capture_output=True, text=True, timeout=2 * PATIENCE)
         levels = bytes([128]) + bytes(511)

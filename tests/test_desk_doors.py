@@ -134,7 +134,9 @@ class Guests(DoorTest):
         desk, page, door = self.opened()
         door.enter(door.play)
         kept, door.cookie = door.cookie, None
-        wrong = [pin for pin in map("{:06}".format, range(10)) if pin not in (door.play, door.watch)]
+        wrong = [
+            pin for pin in map("{:06}".format, range(10)) if pin not in (door.play, door.watch)
+        ]
         for pin in ("", "12345", "1234567", "x" * 6, "\N{SUPERSCRIPT TWO}"):
             self.assertEqual(403, door.enter(pin.encode())[0])
         status, told = door.enter(door.play)
@@ -229,7 +231,10 @@ class Guests(DoorTest):
             (("--listen", "0.0.0.0"), "--listen: no card of this machine has 0.0.0.0"),
             (("--listen", "stage"), "not an IPv4 address: 'stage'"),
             (("--listen", "127.0.0.1:x"), "not a port: 'x'"),
-            (("--certificate", "a", "--listen", "127.0.0.1"), "--certificate and --key go together"),
+            (
+                ("--certificate", "a", "--listen", "127.0.0.1"),
+                "--certificate and --key go together",
+            ),
             (("--certificate", "a", "--key", "b"), "--certificate and --host need --listen"),
             (("--host", "a"), "--certificate and --host need --listen"),
         ):
@@ -241,12 +246,16 @@ class Guests(DoorTest):
         done = run_tool("desk", *usual, *missing)
         self.assertEqual(1, done.returncode)
         self.assertIn("/nowhere: No such file or directory", done.stderr)
-        self.assertEqual([False, False, False, True],
-                         [is_public(each) for each in ("10.1.1.1", "127.0.0.1", "169.254.1.1", "9.9.9.9")])
+        self.assertEqual(
+            [False, False, False, True],
+            [is_public(each) for each in ("10.1.1.1", "127.0.0.1", "169.254.1.1", "9.9.9.9")],
+        )
 
     def test_markup(self):
         """Names of cues come as they are, without what moves a terminal or turns a line round."""
-        self.show.write_bytes('CUE 1 ! a <b>\x1b[2J\u202eb</b> & "q" c\nCHAN 1@FL\nPATCH 1 1<1@FL\n'.encode())
+        self.show.write_bytes(
+            'CUE 1 ! a <b>\x1b[2J\u202eb</b> & "q" c\nCHAN 1@FL\nPATCH 1 1<1@FL\n'.encode()
+        )
         _, page, _ = self.opened()
         name = page.newest["show"]["cues"][0]["name"]
         self.assertEqual('a <b> [2J b</b> & "q" c', name)
@@ -324,7 +333,9 @@ class InBrowser(DoorTest):
         for each in (played, watched):
             each.wait("document.getElementById('next').textContent === '1 one'")
         watched.wait("document.getElementById('role').textContent.startsWith('Watching')")
-        self.assertEqual("none", watched.value("getComputedStyle(document.querySelector('.buttons')).display"))
+        self.assertEqual(
+            "none", watched.value("getComputedStyle(document.querySelector('.buttons')).display")
+        )
         watched.press(" ", "Space", " ")
         watched.press("Backspace")
         played.press(" ", "Space", " ")
@@ -343,7 +354,9 @@ class InBrowser(DoorTest):
             _, address = self.begun("--listen", "127.0.0.1:0")
         browser = Browser(self)
         page = browser.opened(address)
-        page.wait("document.getElementById('modules').getAttribute('d') === 'M1 0h1v1h-1zM0 1h1v1h-1z'")
+        page.wait(
+            "document.getElementById('modules').getAttribute('d') === 'M1 0h1v1h-1zM0 1h1v1h-1z'"
+        )
         page.value("document.querySelector('[data-to=more]').click()")
         page.wait("document.getElementById('picture').getBoundingClientRect().width > 100")
         self.assertEqual([], browser.faults)
@@ -380,7 +393,9 @@ class PinsOfADesk(unittest.TestCase):
         self.assertEqual(Role.PLAY, pins.session(first, "10.0.0.1").role)
         self.assertIsNone(pins.session(first, "10.0.0.2"))
         watching = pins.enter(pins.pins[Role.WATCH], "10.0.0.1")
-        tokens = [pins.enter(pins.pins[Role.PLAY], "10.0.0.3") for _ in range(desk_pins.MOST_SESSIONS)]
+        tokens = [
+            pins.enter(pins.pins[Role.PLAY], "10.0.0.3") for _ in range(desk_pins.MOST_SESSIONS)
+        ]
         self.assertIsNone(pins.session(first, "10.0.0.1"))
         self.assertIsNotNone(pins.session(watching, "10.0.0.1"))
         self.assertIsNotNone(pins.session(tokens[0], "10.0.0.3"))
@@ -444,7 +459,9 @@ class PinsOfADesk(unittest.TestCase):
 class Warned(unittest.TestCase):
     def test_public_addresses(self):
         """An address that the internet reaches is warned of; one of a network of ours is not."""
-        words = argparse.Namespace(listen=("9.9.9.9", 8090), osc=("10.1.1.1", 8000), certificate="x")
+        words = argparse.Namespace(
+            listen=("9.9.9.9", 8090), osc=("10.1.1.1", 8000), certificate="x"
+        )
         (told,) = warnings(words)
         self.assertTrue(told.startswith("--listen: 9.9.9.9 faces the public internet"))
         words = argparse.Namespace(listen=None, osc=("9.9.9.9", 8000), certificate=None)
@@ -462,7 +479,8 @@ class Picture(unittest.TestCase):
         self.assertEqual(f"{upper}\n{lower}", desk_picture.text_of(["0", "1", "1"]))
 
     def test_modules(self):
-        """They come from python3-qrcode, with four light modules around; without it there are none."""
+        """They come from python3-qrcode, with four light modules around; without it there are
+        none."""
 
         class Code:
             def __init__(self, border):

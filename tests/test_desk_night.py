@@ -354,7 +354,8 @@ class Links(MessageTest):
         self.assertEqual(list(lines), list(self.night.state.troubles.values()))
 
     def test_start(self):
-        """By which cards it sends; which others there are is told on the page, and no more than that."""
+        """By which cards it sends; which others there are is told on the page, and no more than
+        that."""
         self.begun()
         others = "other cards: lit (10.101.2.10); --interface lit sends by it"
         ways = ["from 10.101.1.10 (eth0), the default route", "from 127.0.0.1 (lo)"]
@@ -375,7 +376,8 @@ class Links(MessageTest):
             ("lit is down: nodes get nothing; ip link set lit up", "link lit"),
             ("lit has lost 10.101.2.10: nodes get nothing", "lit has 10.101.2.10"),
             (
-                "the route to 10.0.0.7 leads by office: nodes get nothing; check ip route get 10.0.0.7",
+                "the route to 10.0.0.7 leads by office: nodes get nothing; check ip route get "
+                "10.0.0.7",
                 "the route to 10.0.0.7 leads by lit",
             ),
             (
@@ -398,8 +400,14 @@ class Links(MessageTest):
         """Each stands by itself. What a `where` tells again is no new one, and another of the same
         card takes the place of the one before."""
         self.begun()
-        self.hear("0:00:01 no link lit: a", "0:00:02 no link off: a", "0:00:03 lit has lost 10.0.0.1: b")
-        told = ["0:00:01 no link lit: a", "0:00:02 no link off: a", "0:00:03 lit has lost 10.0.0.1: b"]
+        self.hear(
+            "0:00:01 no link lit: a", "0:00:02 no link off: a", "0:00:03 lit has lost 10.0.0.1: b"
+        )
+        told = [
+            "0:00:01 no link lit: a",
+            "0:00:02 no link off: a",
+            "0:00:03 lit has lost 10.0.0.1: b",
+        ]
         self.assertTroubles(*told)
         self.hear("0:00:09 no link lit: a", "0:00:09 no link off: a")
         self.assertTroubles(*told)

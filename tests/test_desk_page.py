@@ -100,7 +100,8 @@ class DeskPage(DeskTest):
         self.assertNoFaults()
 
     def test_evening(self):
-        """An evening of the examples, from the first GO to End; its record, played, sends the same datagrams."""
+        """An evening of the examples, from the first GO to End; its record, played, sends the same
+        datagrams."""
         self.show.write_bytes((TOP / "examples/small-play.asc").read_bytes())
         record = self.folder / "evening.play"
         _, address = self.begun("--record", record)
@@ -221,8 +222,10 @@ class DeskPage(DeskTest):
         self.browser = Browser(self)
         page = self.browser.opened(address)
         page.wait("document.querySelectorAll('#cues button').length === 3")
-        told = [page.value(f"[...{self.cue(at)}.children].map((each) => each.textContent).join('|')")
-                for at in range(3)]
+        told = [
+            page.value(f"[...{self.cue(at)}.children].map((each) => each.textContent).join('|')")
+            for at in range(3)
+        ]
         first = "1||up 1:30 after 2.5 s, down 4 s|2 follows after 3 s"
         self.assertEqual([first, "2||up and down 5 s|", "3||up and down 0 s|"], told)
 
@@ -245,17 +248,22 @@ class DeskPage(DeskTest):
         self.assertNoFaults()
 
     def test_network(self):
-        """The page says by which card the night is sent; what keeps packets from nodes stands there until
-        it is over, also behind a move, and cannot be dismissed."""
+        """The page says by which card the night is sent; what keeps packets from nodes stands there
+        until it is over, also behind a move, and cannot be dismissed."""
         told = self.folder / "told"
         os.mkfifo(told)
         stub = self.file("stub", STUB.format(told=told, program=PROGRAM).encode())
         stub.chmod(0o755)
         # Held open to its end, so that what is written there comes in its order.
-        with mock.patch.dict(os.environ, CUEPLAYER=str(stub)), open(told, "r+b", buffering=0) as network:
+        with mock.patch.dict(os.environ, CUEPLAYER=str(stub)), open(
+            told, "r+b", buffering=0
+        ) as network:
             _, page, state = self.shown_page()
             page.wait("document.getElementById('ways').textContent === 'from 127.0.0.1 (lo)'")
-            lines = (b"0:12:05 no link lit: nodes get nothing; check the cable", b"0:12:05 no link off: x")
+            lines = (
+                b"0:12:05 no link lit: nodes get nothing; check the cable",
+                b"0:12:05 no link off: x",
+            )
             network.write(b"\n".join(lines) + b"\n")
             page.wait("document.querySelectorAll('#alarms .alarm').length === 2")
             page.press(" ", "Space", " ")
@@ -451,9 +459,11 @@ class DeskPage(DeskTest):
         state.wait(status=0)
 
     def test_sizes(self):
-        """At each size GO, the cues, the masters and the tail of the list are seen without scrolling,
-        and nothing lies beside the page, or behind another part."""
-        cues = [line for number in range(1, 31) for line in (f"CUE {number} ! scene {number}", "UP 3 1")]
+        """At each size GO, the cues, the masters and the tail of the list are seen without
+        scrolling, and nothing lies beside the page, or behind another part."""
+        cues = [
+            line for number in range(1, 31) for line in (f"CUE {number} ! scene {number}", "UP 3 1")
+        ]
         subs = [line for number in range(1, 9) for line in (f"SUB {number} ! sub", "CHAN 1@FL")]
         self.show.write_bytes(text(*cues, *subs, "PATCH 1 1<1@FL"))
         _, address = self.begun()
@@ -470,7 +480,9 @@ class DeskPage(DeskTest):
                 with self.subTest(view, width=width, height=height):
                     page.value(f"document.querySelector('[data-to={view}]').click()")
                     wide, tall = page.value(
-                        "[document.documentElement.scrollWidth, document.documentElement.scrollHeight]")
+                        "[document.documentElement.scrollWidth, "
+                        "document.documentElement.scrollHeight]"
+                    )
                     self.assertLessEqual((wide, tall), (width, height))
                     self.assertEqual([], page.value(HIDDEN.replace("VIEW", view)))
                     if view in ("play", "large"):
@@ -514,7 +526,9 @@ class DeskPage(DeskTest):
         reached = []
         page.value("document.querySelector('[data-to=play]').focus()")
         for _ in range(12):
-            reached.append(page.value("document.activeElement.id || document.activeElement.textContent"))
+            reached.append(
+                page.value("document.activeElement.id || document.activeElement.textContent")
+            )
             page.press("Tab")
         for name in ("Large", "More", "go", "back", "blackout", "master", "sub-1", "group-3"):
             self.assertIn(name, reached)

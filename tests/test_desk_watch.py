@@ -36,7 +36,10 @@ class Lines(unittest.TestCase):
             f"0 2 source b {OTHER} priority 150",
             f"5 1 source  {THIRD} priority 1",
         )
-        named = ["a source without a name, priority 1, universe 1", "b, priority 150, universes 1, 2"]
+        named = [
+            "a source without a name, priority 1, universe 1",
+            "b, priority 150, universes 1, 2",
+        ]
         self.assertEqual(named, self.watched.levels.others)
         self.hear(f"9 1 gone b {OTHER}", f"9 1 ended  {THIRD}", f"9 4 gone b {CID}")
         self.assertEqual(["b, priority 150, universe 2"], self.watched.levels.others)
@@ -45,7 +48,9 @@ class Lines(unittest.TestCase):
 
     def test_crowd(self):
         """More sources than are told apart are told for 2.5 seconds."""
-        self.assertEqual([True, False], self.hear("1000 1 ignored SourcesFull 3", "2000 1 ignored SourcesFull 1"))
+        self.assertEqual(
+            [True, False], self.hear("1000 1 ignored SourcesFull 3", "2000 1 ignored SourcesFull 1")
+        )
         told = ["more than are told apart, universe 1"]
         self.assertEqual((False, told), (self.watched.look(4_400), self.watched.levels.others))
         self.assertEqual((True, []), (self.watched.look(4_500), self.watched.levels.others))
@@ -58,7 +63,11 @@ class Lines(unittest.TestCase):
 
     def test_ended(self):
         """Without the program nothing is received, and nobody is heard."""
-        self.hear(f"0 1 source a {CID} priority 100", f"0 1 source b {OTHER} priority 100", "0 1 slots 1:1")
+        self.hear(
+            f"0 1 source a {CID} priority 100",
+            f"0 1 source b {OTHER} priority 100",
+            "0 1 slots 1:1",
+        )
         self.watched.fail("why", [1])
         levels = self.watched.levels
         self.assertEqual(({1: "why"}, {}, []), (levels.reasons, levels.slots, levels.others))

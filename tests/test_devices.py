@@ -9,7 +9,18 @@ import time
 import unittest
 from pathlib import Path
 
-from program import CID, DEVICE_FAULT, PROGRAM, FolderTest, ProgramTest, counts, packet, run, text, told
+from program import (
+    CID,
+    DEVICE_FAULT,
+    PROGRAM,
+    FolderTest,
+    ProgramTest,
+    counts,
+    packet,
+    run,
+    text,
+    told,
+)
 from restarts import moments, wait_until
 from tooling import stand_still
 from worked import LOOK_ONE as SHOW
@@ -58,12 +69,16 @@ class Files(FolderTest):
     def test_standard_input_that_fails(self):
         folder = os.open(self.folder, os.O_RDONLY)
         self.addCleanup(os.close, folder)
-        done = subprocess.run([PROGRAM, "check", "-"], stdin=folder, capture_output=True, timeout=60)
+        done = subprocess.run(
+            [PROGRAM, "check", "-"], stdin=folder, capture_output=True, timeout=60
+        )
         self.assertEqual((5, b"", DEVICE_FAULT), (done.returncode, done.stdout, told(done.stderr)))
 
     def test_input_in_pieces(self):
         """A pipe that gives a few bytes at a time gives the same show."""
-        with subprocess.Popen([PROGRAM, *LOOK], stdin=subprocess.PIPE, stdout=subprocess.PIPE) as child:
+        with subprocess.Popen(
+            [PROGRAM, *LOOK], stdin=subprocess.PIPE, stdout=subprocess.PIPE
+        ) as child:
             for first in range(0, len(SHOW), 7):
                 child.stdin.write(SHOW[first : first + 7])
                 child.stdin.flush()
@@ -118,7 +133,12 @@ class Floods(FolderTest):
             with self.subTest(line):
                 record = self.folder / f"{line}.play"
                 night = self.flooded(
-                    line, "live", "--record", record, stdout=subprocess.DEVNULL, stderr=subprocess.DEVNULL
+                    line,
+                    "live",
+                    "--record",
+                    record,
+                    stdout=subprocess.DEVNULL,
+                    stderr=subprocess.DEVNULL,
                 )
                 wait_until(lambda: len(ticks_of(record)) > 20, "ticks come")
                 night.kill()
@@ -127,9 +147,20 @@ class Floods(FolderTest):
                 self.assertGreaterEqual(min(b - a for a, b in zip(ticks, ticks[1:])), 23)
 
     def test_live_is_stopped(self):
-        """A night that the system holds for a second goes on: what it missed is not made up for."""
+        """A night that the system holds for a second goes on: what it missed is not made up
+        for."""
         record = self.folder / "night.play"
-        words = [PROGRAM, "live", self.show, "--to", "127.0.0.1:9", "--cid", CID, "--record", record]
+        words = [
+            PROGRAM,
+            "live",
+            self.show,
+            "--to",
+            "127.0.0.1:9",
+            "--cid",
+            CID,
+            "--record",
+            record,
+        ]
         words.append("--end-with-input")
         pipes = {"stdin": subprocess.PIPE, "stdout": subprocess.PIPE, "stderr": subprocess.DEVNULL}
         night = subprocess.Popen(words, **pipes)
@@ -219,7 +250,11 @@ class Outputs(ProgramTest):
         """The status tells it, and what is opened does not take its place."""
         *_, (words, stdin) = self.jobs()
         done = subprocess.run(
-            [PROGRAM, *words], input=stdin, capture_output=True, timeout=60, preexec_fn=lambda: os.close(2)
+            [PROGRAM, *words],
+            input=stdin,
+            capture_output=True,
+            timeout=60,
+            preexec_fn=lambda: os.close(2),
         )
         self.assertEqual((5, b"", b""), (done.returncode, done.stdout, done.stderr))
 

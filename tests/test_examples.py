@@ -57,7 +57,9 @@ class Examples(ProgramTest):
         with socket.socket(socket.AF_INET, socket.SOCK_DGRAM) as receiver:
             receiver.bind(("127.0.0.1", 0))
             receiver.settimeout(30)
-            words = [address_of(receiver) if word == "127.0.0.1" else word for word in words.split()]
+            words = [
+                address_of(receiver) if word == "127.0.0.1" else word for word in words.split()
+            ]
             outcome = run(*words, stdin=(TOP / lines).read_bytes(), cwd=TOP)
             self.assertEqual((0, printed.encode(), b""), outcome)
             for sequence, level in enumerate(levels):
@@ -77,7 +79,9 @@ class Examples(ProgramTest):
 def tests_in(suite):
     """The names of the tests of a suite and of the suites inside it."""
     for part in suite:
-        yield from tests_in(part) if isinstance(part, unittest.TestSuite) else [part.id().split(".")[-1]]
+        yield from tests_in(part) if isinstance(part, unittest.TestSuite) else [
+            part.id().split(".")[-1]
+        ]
 
 
 class Documents(ProgramTest):
@@ -92,7 +96,8 @@ class Documents(ProgramTest):
         self.assertRuns(["check", "-"], show.encode(), out=printed.encode())
 
     def test_profile_faults(self):
-        """Each example in the table of faults, TooLong aside, has that fault as a line below `CUE 1`."""
+        """Each example in the table of faults, TooLong aside, has that fault as a line below `CUE
+        1`."""
         page = (TOP / "docs/PROFILE.md").read_text()
         rows = re.findall(r"^\| \d \| (\w+) \|.*\| (.*) \|$", page, re.MULTILINE)
         self.assertEqual(8, len(rows))

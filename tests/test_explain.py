@@ -17,10 +17,13 @@ class Explain(ProgramTest):
         """It prints this: a line for each that `check` counts as skipped, and notes."""
         self.assertRuns(["explain", "-"], show, out=explained)
         counted = int(run("check", "-", stdin=show).out.split()[-1])
-        self.assertEqual(counted, sum(line.startswith(b"line ") for line in explained.splitlines()))
+        self.assertEqual(
+            counted, sum(line.startswith(b"line ") for line in explained.splitlines())
+        )
 
     def test_utf_16(self):
-        """With a mark in front and without one, of either order of bytes: its note is the first."""
+        """With a mark in front and without one, of either order of bytes: its note is the
+        first."""
         notes = ["note: the file is UTF-16, which is not read as text: save it as ASCII"]
         notes += ["note: no dimmer is patched: no universe is sent"]
         marks = ("utf-16-le", b"\xff\xfe"), ("utf-16-be", b"\xfe\xff")

@@ -1,4 +1,5 @@
-"""Calls of the system that fail: each send, read, write and receive in turn, and networks that are gone."""
+"""Calls of the system that fail: each send, read, write and receive in turn, and networks that are
+gone."""
 
 import errno
 import re
@@ -27,7 +28,8 @@ class FailingCalls(ReceiverTest, PreloadTest):
     SHOW, SOURCE = S1, "fail.c"
 
     def environment(self, *failures):
-        """`failures`: a call's name, the first and the last of its calls that fail, and the error."""
+        """`failures`: a call's name, the first and the last of its calls that fail, and the
+        error."""
         words = " ".join(f"{call} {first} {last} {error}" for call, first, last, error in failures)
         return self.preloaded(FAILS=words)
 
@@ -43,7 +45,8 @@ class FailingCalls(ReceiverTest, PreloadTest):
 
 class Play(FailingCalls):
     def kept_alive(self, *lost):
-        """What is printed of row `keep_alive`'s ticks where these packets are lost, and what comes."""
+        """What is printed of row `keep_alive`'s ticks where these packets are lost, and what
+        comes."""
         def item(sent):
             return (b"x" if int(sent[1]) in lost else b"s") + sent[1]
 
@@ -75,7 +78,8 @@ class Play(FailingCalls):
                     self.assertEqual((Outcome(0, FADE.out, b""), FADE.packets), (outcome, came))
 
     def test_each_device_fails(self):
-        """Row `five_second_fade`: what was printed and sent before the read or write that failed."""
+        """Row `five_second_fade`: what was printed and sent before the read or write that
+        failed."""
         outcome, came = self.plays(LINES[:4], ("read", 2, 2, errno.EIO))
         self.assertEqual(Outcome(5, text(*PRINTED[:4]), DEVICE_FAULT), outcome)
         self.assertEqual(FADE.packets[:3], came)
@@ -86,7 +90,9 @@ class Play(FailingCalls):
             for write in range(1, 6):
                 with self.subTest(errno.errorcode[error], write=write):
                     outcome, came = self.plays(LINES, ("write", write, write, error))
-                    self.assertEqual(Outcome(5, text(*PRINTED[: write - 1]), DEVICE_FAULT), outcome)
+                    self.assertEqual(
+                        Outcome(5, text(*PRINTED[: write - 1]), DEVICE_FAULT), outcome
+                    )
                     # The packets of the line that was not printed went out before it.
                     self.assertEqual(FADE.packets[: write - 1], came)
 
@@ -108,7 +114,9 @@ class Play(FailingCalls):
         ) as run:
             self.addCleanup(run.kill)
             run.stdin.write(b"0 go\n0 tick\n")
-            self.assertEqual([b"0 ok\n", b"0 live 1:s0\n"], [run.stdout.readline() for _ in range(2)])
+            self.assertEqual(
+                [b"0 ok\n", b"0 live 1:s0\n"], [run.stdout.readline() for _ in range(2)]
+            )
             run.stdout.close()
             run.stdin.write(b"2500 tick\n")
             self.assertEqual(DEVICE_FAULT, told(run.stderr.read()))
@@ -130,7 +138,9 @@ class Prints(FailingCalls):
 
     def assertEachWriteFails(self, words, stdin, whole):
         self.assertEqual(Outcome(0, whole, b""), self.failing(words, stdin))
-        self.assertEqual(Outcome(0, whole, b""), self.failing(words, stdin, ("write", 1, 3, errno.EINTR)))
+        self.assertEqual(
+            Outcome(0, whole, b""), self.failing(words, stdin, ("write", 1, 3, errno.EINTR))
+        )
         for write in range(1, 100):
             outcome = self.failing(words, stdin, ("write", write, write, errno.EIO))
             if outcome.status == 0:
@@ -144,7 +154,9 @@ class Prints(FailingCalls):
 
     def test_each_device_fails(self):
         """`check`, `look`, `slots`, and `rehearse`, which prints through a buffer."""
-        self.assertEqual(1, self.assertEachWriteFails(["check", self.show], b"", counts(12, 2, 1, 0, 2)))
+        self.assertEqual(
+            1, self.assertEachWriteFails(["check", self.show], b"", counts(12, 2, 1, 0, 2))
+        )
         one = LOOK_ONE
         line = packet(1, {1: 64}).hex().encode() + b"\n"
         self.assertEqual(1, self.assertEachWriteFails(["look", "-", "1", "--cid", CID], one, line))
@@ -249,7 +261,9 @@ class Live(FailingCalls):
                     status, out, err, came = self.lived(("sendto", k + 1, k + 1, error))
                     self.assertEqual((5, b"lost 1\n"), (status, err))
                     self.assertEqual(["ok"] * 3, [line for line in out if line == "ok"])
-                    self.assertEqual([f"1:x{k}"], [line.split()[-1] for line in out if line != "ok"])
+                    self.assertEqual(
+                        [f"1:x{k}"], [line.split()[-1] for line in out if line != "ok"]
+                    )
                     numbers = [each[SEQUENCE] for each in came]
                     self.assertEqual([n for n in range(numbers[-1] + 1) if n != k], numbers)
                     self.assertGreaterEqual(len(numbers), 3)
@@ -262,10 +276,13 @@ class Live(FailingCalls):
                 self.assertEqual([TERMINATED] * 3, [each[OPTIONS] for each in came[-3:]])
 
     def test_each_write_fails(self):
-        """A reply that cannot be written is told of once, no reply follows it, and the night goes on."""
+        """A reply that cannot be written is told of once, no reply follows it, and the night goes
+        on."""
         for write in (1, 2, 3):
             status, out, err, came = self.lived(("write", write, write, errno.EIO))
-            self.assertEqual((0, ["ok"] * (write - 1), b"replies: device fault\n"), (status, out, err))
+            self.assertEqual(
+                (0, ["ok"] * (write - 1), b"replies: device fault\n"), (status, out, err)
+            )
             self.assertEqual([TERMINATED] * 3, [each[OPTIONS] for each in came[-3:]])
 
     def test_reads_that_fail(self):
@@ -276,7 +293,8 @@ class Live(FailingCalls):
         self.assertEqual((0, ["ok"] * 2, b""), (status, out, err))
 
     def test_input_cut(self):
-        """In the middle of a line: what is there of it is a line, and the end of the night is given."""
+        """In the middle of a line: what is there of it is a line, and the end of the night is
+        given."""
         typed = b"sub 1 FL\n"
         for length in range(len(typed)):
             with self.subTest(typed[:length]):
@@ -289,11 +307,12 @@ class Live(FailingCalls):
                 self.assertEqual(3, len([each for each in came if each[OPTIONS] == TERMINATED]))
 
 
-# Runs in a network of its own, in which nothing is up: begins a night there, brings the network up, and
-# tells what came and what was printed.
+# Runs in a network of its own, in which nothing is up: begins a night there, brings the network
+# up, and tells what came and what was printed.
 WITHOUT_NETWORK = """
 import select, socket, subprocess, sys, time
-night = subprocess.Popen(sys.argv[1:], stdin=subprocess.PIPE, stdout=subprocess.PIPE, stderr=subprocess.PIPE)
+pipe = subprocess.PIPE
+night = subprocess.Popen(sys.argv[1:], stdin=pipe, stdout=pipe, stderr=pipe)
 lost = [night.stdout.readline() for _ in range(4)]
 receiver = socket.socket(socket.AF_INET, socket.SOCK_DGRAM)
 receiver.bind(("0.0.0.0", 5568))
@@ -313,7 +332,8 @@ print(max(each[126] for each in came), [each[112] for each in came[-3:]])
 
 class Network(FailingCalls):
     def test_no_network(self):
-        """The system itself says that the network cannot be reached: no packet that is lost ends the run."""
+        """The system itself says that the network cannot be reached: no packet that is lost ends
+        the run."""
         words = [*own_network(self), PROGRAM, "play", self.show, "--to", "192.0.2.1", "--cid", CID]
         done = subprocess.run(words, input=b"0 tick\n25 tick\n", capture_output=True, timeout=60)
         out = b"0 live 1:x0\n25 live 1:x1\n"
@@ -323,7 +343,9 @@ class Network(FailingCalls):
         """A night that begins without its network goes on once it is there."""
         words = [PROGRAM, "live", self.show, "--to", "127.0.0.1", "--cid", CID, "--end-with-input"]
         done = subprocess.run(
-            [*own_network(self), sys.executable, "-c", WITHOUT_NETWORK, *words], capture_output=True, timeout=60
+            [*own_network(self), sys.executable, "-c", WITHOUT_NETWORK, *words],
+            capture_output=True,
+            timeout=60,
         )
         *printed, levels = START.sub(b"", done.stdout).decode().splitlines()
         lost = [line for line in printed if re.fullmatch(r"\d+ live 1:x\d+", line)]

@@ -1,5 +1,5 @@
-"""`live --follow`: a backup carries out the lines of a main's record as they come, under its own CID,
-and goes on by itself when the main is silent."""
+"""`live --follow`: a backup carries out the lines of a main's record as they come, under its own
+CID, and goes on by itself when the main is silent."""
 
 import os
 import subprocess
@@ -58,7 +58,8 @@ class FollowTest(RestartTest):
         """The backup has carried out what the main had recorded, and sent its light."""
         recorded = len(moments(main.record.read_bytes(), rb"\w"))
         wait_until(
-            lambda: len(moments(backup.record.read_bytes(), rb"\w")) >= recorded, "the backup follows"
+            lambda: len(moments(backup.record.read_bytes(), rb"\w")) >= recorded,
+            "the backup follows",
         )
         backup.light(2)
 
@@ -124,7 +125,9 @@ class Leads(FollowTest):
         backup.ended()
         out, err = self.assertTold(backup)
         refused = [line for line in err.splitlines(True) if line.startswith(b"line refused: ")]
-        self.assertEqual([b"line refused: " + word + REFUSED for word in (b"go", b"end", b"take 2")], refused)
+        self.assertEqual(
+            [b"line refused: " + word + REFUSED for word in (b"go", b"end", b"take 2")], refused
+        )
         self.assertRegex(out, rb"(?m)^\d+ where cue 1 next 2 master 255$")
         self.assertIn(b"take: from now on this console leads", out)
         self.assertEqual(1, backup.record.read_bytes().count(b" go\n"))
@@ -216,7 +219,8 @@ class Killed(FollowTest):
         gap = by_clock(kill, backup.heard[after].at)
         print(f"    {gap.ms:.0f} ms from the kill to the backup's own light")
         in_time(gap, SILENCE + LATE, "from the kill to the backup's own light")
-        # The clock goes on: each packet comes at its moment, by the clock of those before the kill.
+        # The clock goes on: each packet comes at its moment, by the clock of those before the
+        # kill.
         zeros = [1000 * each.at - sent.moment for each, sent in zip(backup.heard, meant)]
         in_time(took(began - 1)._replace(ms=max(zeros) - min(zeros)), LATE, "packets are late")
         # Dimmer 1 of cue 1, in a fade of six seconds, never falls and never leaps.
@@ -227,7 +231,9 @@ class Killed(FollowTest):
         steps = [b - a for a, b in zip(levels, levels[1:])]
         self.assertLessEqual(0, min(steps))
         # A step in milliseconds of the fade.
-        in_time(gap._replace(ms=6000 * max(steps) / 255), SILENCE + LATE + 50, "a leap of the light")
+        in_time(
+            gap._replace(ms=6000 * max(steps) / 255), SILENCE + LATE + 50, "a leap of the light"
+        )
         out, err = self.assertTold(
             backup,
             rb"0:00:\d\d the main is silent: goes on by itself\n",
@@ -251,9 +257,13 @@ class Silent(FollowTest):
         main.type(b"master 50\n")
         backup.light(4)
         self.assertEqual(0, backup.end())
-        self.assertTold(backup, rb"line refused: back: ", rb"0:00:\d\d the following was ended: goes on")
+        self.assertTold(
+            backup, rb"line refused: back: ", rb"0:00:\d\d the following was ended: goes on"
+        )
         lines = backup.record.read_bytes()
-        self.assertEqual((2, 0, 0), tuple(map(lines.count, (b" go\n", b" back\n", b" master 50\n"))))
+        self.assertEqual(
+            (2, 0, 0), tuple(map(lines.count, (b" go\n", b" back\n", b" master 50\n")))
+        )
         self.assertStream(backup)
         self.assertEqual(0, main.end())
 
@@ -272,7 +282,8 @@ class Silent(FollowTest):
         self.assertRegex(out, rb"(?m)^\d+ cue 1$")
 
     def test_back_again(self):
-        """A main that is taken up later is not followed again: priority says whose light counts."""
+        """A main that is taken up later is not followed again: priority says whose light
+        counts."""
         main, backup = self.both(b"go\n", silence=SILENCE)
         main.kill()
         backup.tells(ALONE)
@@ -311,7 +322,9 @@ class Silent(FollowTest):
         main.kill()
         backup.tells(rb"input ended: the light holds")
         backup.kill()
-        self.assertTold(backup, rb"0:00:\d\d the main is silent: .*\n(.*\n)*input ended: the light holds")
+        self.assertTold(
+            backup, rb"0:00:\d\d the main is silent: .*\n(.*\n)*input ended: the light holds"
+        )
 
     def test_own_record(self):
         """Its record is taken up by --resume as any other."""
@@ -334,9 +347,20 @@ class Refused(FollowTest):
         """Nothing is sent, and no record is begun."""
         with receiving() as receiver:
             own = self.folder / "own.play"
-            words = ["live", self.show, "--to", address_of(receiver), "--cid", cid, "--record", own]
+            words = [
+                "live",
+                self.show,
+                "--to",
+                address_of(receiver),
+                "--cid",
+                cid,
+                "--record",
+                own,
+            ]
             words += ["--follow", record, "--patience", "200", *options]
-            done = subprocess.run([PROGRAM, *words], input=b"take\n", capture_output=True, timeout=PATIENCE)
+            done = subprocess.run(
+                [PROGRAM, *words], input=b"take\n", capture_output=True, timeout=PATIENCE
+            )
             self.assertEqual((status, b""), (done.returncode, done.stdout), done.stderr)
             self.assertRegex(done.stderr, rb"^" + fault)
             receiver.setblocking(False)
@@ -353,7 +377,10 @@ class Refused(FollowTest):
         for content, fault in (
             (head(SHOW + b"\n"), rb"record: another show\n.*SHA-256"),
             (head(SHOW, base=2), rb"record: another base\n.*give --base 2"),
-            (head(SHOW, cid=BACKUP), rb"record: the same cid as --cid: a backup has a CID of its own\n"),
+            (
+                head(SHOW, cid=BACKUP),
+                rb"record: the same cid as --cid: a backup has a CID of its own\n",
+            ),
             (b"0 tick\n", rb"record: no record of live\n"),
             (b"", rb"record: no record of live\n"),
             (head(SHOW)[:-1], rb"record: no record of live\n"),
@@ -361,7 +388,9 @@ class Refused(FollowTest):
             self.record.write_bytes(content)
             self.assertRefused(self.record, fault)
         self.assertRefused(self.folder, rb"record: no record of live\n")
-        self.assertRefused(self.folder / "none", rb"device fault\n.*none: there is no such file", status=5)
+        self.assertRefused(
+            self.folder / "none", rb"device fault\n.*none: there is no such file", status=5
+        )
 
     def test_same_cid_of_a_main_that_is_on(self):
         main = self.night()

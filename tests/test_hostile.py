@@ -50,17 +50,22 @@ class Hostile(unittest.TestCase):
         runner = Runner()
         self.addCleanup(runner.close)
         with mock.patch("hostile.PROGRAM", sys.executable):
-            self.assertEqual(-11, runner.run(["-c", "import os; os.kill(os.getpid(), 11)"], b"").status)
+            self.assertEqual(
+                -11, runner.run(["-c", "import os; os.kill(os.getpid(), 11)"], b"").status
+            )
 
 
 class HostileLive(unittest.TestCase):
     """A night by the clock, in which whatever is typed."""
 
     def typed(self, r):
-        """Lines by chance, with keys among them; none of them ends the night, or is too long for it."""
+        """Lines by chance, with keys among them; none of them ends the night, or is too long for
+        it."""
         while True:
             words = r.choice([inputs.command(r)] * 9 + [["where"], ["help"], ["?"]])
-            line = changes.changed(r, inputs.spelled(r, words).encode("latin-1"), changes.OF_TEXTS, 3)
+            line = changes.changed(
+                r, inputs.spelled(r, words).encode("latin-1"), changes.OF_TEXTS, 3
+            )
             if r.random() < 0.2:
                 place = r.randrange(len(line) + 1)
                 line = line[:place] + r.choice(inputs.KEYS) + line[place:]
@@ -70,7 +75,8 @@ class HostileLive(unittest.TestCase):
                     yield each
 
     def left(self, r, lines):
-        """What a night left in which these lines are typed in pieces, and the packets that came."""
+        """What a night left in which these lines are typed in pieces, and the packets that
+        came."""
         text = b"".join(line + b"\n" for line in lines)
         parts = []
         while text:
@@ -82,16 +88,22 @@ class HostileLive(unittest.TestCase):
             return left, tuple(received(socket))
 
     def test_cases(self):
-        """The record is the night: what is shown and sent is what the pages say of it. It has the lines
-        that are commands, in order, and why others are none is told."""
+        """The record is the night: what is shown and sent is what the pages say of it. It has the
+        lines that are commands, in order, and why others are none is told."""
         r = random.Random(SEED)
         lines = [line for line, _ in zip(self.typed(r), range(400))]
         left, came = self.left(r, lines)
         self.assertEqual(0, left.status)
         found = [each for each in (typed.asked(line, 0) for line in lines) if each]
-        orders = [each.text for each in found if isinstance(each, typed.Asked) and each.what == typed.ORDER]
+        orders = [
+            each.text
+            for each in found
+            if isinstance(each, typed.Asked) and each.what == typed.ORDER
+        ]
         given = [line.split(b" ", 1)[1] for line in left.record]
-        self.assertEqual([*orders, b"master 0", b"end"], [line for line in given if line != b"tick"])
+        self.assertEqual(
+            [*orders, b"master 0", b"end"], [line for line in given if line != b"tick"]
+        )
         shown, helps = nights.without_help(left.shown)
         self.assertEqual(nights.expected(S1, left.record, shown), shown)
         questions = [each.what for each in found if isinstance(each, typed.Asked)]

@@ -138,11 +138,17 @@ class Listen(ProgramTest):
         port = free_port()
         for address in (f"127.000.000.001:{port}", f"127.0.0.1:{port:09}"):
             with self.subTest(address):
-                self.assertHears(b"1 taken 0\nslots 1:64\n", [LOOK_ONE], port=port, address=address)
+                self.assertHears(
+                    b"1 taken 0\nslots 1:64\n", [LOOK_ONE], port=port, address=address
+                )
         if is_bound("127.0.0.5", 5568):
             self.skipTest("port 5568 is in use")
         self.assertHears(
-            b"1 taken 0\nslots 1:64\n", [LOOK_ONE], host="127.0.0.5", port=5568, address="127.0.0.5"
+            b"1 taken 0\nslots 1:64\n",
+            [LOOK_ONE],
+            host="127.0.0.5",
+            port=5568,
+            address="127.0.0.5",
         )
 
     def test_unfit_words(self):

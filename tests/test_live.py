@@ -46,7 +46,8 @@ class LiveTest(ReceiverTest):
         return ["live", self.show, "--to", to or self.to, "--cid", cid, *ends, *options]
 
     def started(self, *options, preexec_fn=None, cid=CID, to=None, holds=False, **pipes):
-        """A program that is to play a night; its input and its outputs are pipes, unless others are given."""
+        """A program that is to play a night; its input and its outputs are pipes, unless others
+        are given."""
         pipes = dict.fromkeys(("stdin", "stdout", "stderr"), subprocess.PIPE) | pipes
         self.at = time.monotonic()
         night = subprocess.Popen(
@@ -56,7 +57,9 @@ class LiveTest(ReceiverTest):
             preexec_fn=preexec_fn,
             **pipes,
         )
-        self.addCleanup(lambda: [each.close() for each in (night.stdin, night.stdout, night.stderr) if each])
+        self.addCleanup(
+            lambda: [each.close() for each in (night.stdin, night.stdout, night.stderr) if each]
+        )
         # Its lock is free for the next one when it is gone.
         self.addCleanup(night.wait)
         self.addCleanup(night.kill)
@@ -75,7 +78,8 @@ class LiveTest(ReceiverTest):
         in_time(self.between(0, ticks[-1])._replace(ms=missing), MISSED, "ticks that did not come")
 
     def begun(self, *options, **kept):
-        """A night that has begun; what it told at its start was read, where standard error is a pipe."""
+        """A night that has begun; what it told at its start was read, where standard error is a
+        pipe."""
         night = self.started(*options, **kept)
         if night.stderr:
             watch = threading.Timer(NEVER, night.kill)
@@ -94,7 +98,8 @@ class LiveTest(ReceiverTest):
             time.sleep(pause)
 
     def told(self, night, line, reply="ok", *others, pause=0.2):
-        """Types a line, and waits for its reply, what is shown behind it, and then for some ticks."""
+        """Types a line, and waits for its reply, what is shown behind it, and then for some
+        ticks."""
         night.stdin.write(line)
         for shown in (reply, *others):
             self.assertEqual([shown], without_moments(night.stdout.readline()))
@@ -107,8 +112,8 @@ class LiveTest(ReceiverTest):
         return Outcome(night.returncode, out, err)
 
     def assertTerminated(self, came, is_left=False):
-        """The last three datagrams, and no others, carry the end; four before them are dark, of levels
-        that are ordinary, unless the night was left."""
+        """The last three datagrams, and no others, carry the end; four before them are dark, of
+        levels that are ordinary, unless the night was left."""
         ends = [bool(each[OPTIONS] & TERMINATED) for each in came]
         self.assertEqual([False] * (len(came) - 3) + [True] * 3, ends)
         if not is_left:
@@ -133,7 +138,8 @@ class Live(LiveTest):
         self.assertEqual(packet(1, {}, came[-1][SEQUENCE], TERMINATED, name=LIVE_NAME), came[-1])
 
     def test_closed_input(self):
-        """With --end-with-input the end of the input is that of the night; a last line needs no LF."""
+        """With --end-with-input the end of the input is that of the night; a last line needs no
+        LF."""
         for typed, replies in (
             (b"", []),
             (b"go", ["ok", "cue 1"]),
@@ -193,8 +199,9 @@ class Live(LiveTest):
         self.came()
 
     def test_end_is_dark(self):
-        """`end` brings the light down as ordinary levels, four packets, and then ends the streams: so a
-        receiver that holds the last look of a stream that ended is dark. `leave` ends them alone."""
+        """`end` brings the light down as ordinary levels, four packets, and then ends the streams:
+        so a receiver that holds the last look of a stream that ended is dark. `leave` ends them
+        alone."""
         for word, is_left in ((b"end\n", False), (b"Leave ! to the backup\n", True)):
             with self.subTest(word):
                 night = self.begun()
@@ -209,12 +216,34 @@ class Live(LiveTest):
 
     def test_refused_lines(self):
         """A line that is no command ends nothing, and is told with what can be printed of it."""
-        lines = [b"jump", b"go now", b"tick", b"5 go", b"sub 1", b"goto 0", b"g\0o", b"caf\xc3\xa9", b"x" * 500]
+        lines = [
+            b"jump",
+            b"go now",
+            b"tick",
+            b"5 go",
+            b"sub 1",
+            b"goto 0",
+            b"g\0o",
+            b"caf\xc3\xa9",
+            b"x" * 500,
+        ]
         outcome = run(*self.words(), stdin=b"\n".join(lines) + b"\n  ! nothing\n\nGO ! now\n")
-        told = [b"jump", b"go now", b"tick", b"5 go", b"sub 1", b"goto 0", b"g?o", b"caf??", b"x" * 200]
+        told = [
+            b"jump",
+            b"go now",
+            b"tick",
+            b"5 go",
+            b"sub 1",
+            b"goto 0",
+            b"g?o",
+            b"caf??",
+            b"x" * 200,
+        ]
         found = [line.split(b": ")[:2] for line in outcome.err.splitlines()]
         self.assertEqual([[b"line refused", line] for line in told], found)
-        self.assertEqual((0, ["ok", "cue 1", "ok", "ok"]), (outcome.status, without_moments(outcome.out)))
+        self.assertEqual(
+            (0, ["ok", "cue 1", "ok", "ok"]), (outcome.status, without_moments(outcome.out))
+        )
 
     def test_bytes_one_by_one(self):
         night = self.begun()
@@ -246,7 +275,8 @@ class Live(LiveTest):
         in_time(stretch._replace(ms=stretch.ms - shown), 400, "the fade is behind")
 
     def test_pace(self):
-        """Ticks are 23 ms apart at least, and come on a grid of 25 ms as far as the machine lets them."""
+        """Ticks are 23 ms apart at least, and come on a grid of 25 ms as far as the machine lets
+        them."""
         record = self.folder / "night.play"
         night = self.begun("--record", record)
         time.sleep(2)
@@ -260,8 +290,8 @@ class Live(LiveTest):
         self.assertEqual(sorted(moments), moments)
 
     def test_long_commands(self):
-        """A tick that is due goes before commands that wait, however long each of them takes: here each
-        move makes 2,000 others."""
+        """A tick that is due goes before commands that wait, however long each of them takes: here
+        each move makes 2,000 others."""
         cues = "".join(f"CUE {n}\nFOLLOWON 0\nCHAN 1@{n % 100}\n" for n in range(1, 2001))
         self.show.write_bytes(b"PATCH 1 1<1@FL\n" + cues.encode())
         record, printed = self.folder / "night.play", self.folder / "replies"
@@ -286,8 +316,8 @@ class Live(LiveTest):
                 self.assertEqual(1, late, moment)
 
     def test_record_replayed(self):
-        """`play` of the record sends the same datagrams, byte for byte and in order, and prints the
-        same replies."""
+        """`play` of the record sends the same datagrams, byte for byte and in order, and prints
+        the same replies."""
         record = self.folder / "night.play"
         night = self.begun("--record", record, "--priority", "150", "--base", "7")
         self.typed(night, b"go\n", b"nonsense\nsub 1 30\n", b"  MASTER H80 ! down\n", b"back\n")
@@ -301,10 +331,16 @@ class Live(LiveTest):
         self.assertEqual((0, b""), (replay.status, replay.err))
         self.assertEqual(came, self.came())
         self.assertEqual(packet(7, {}, 0, priority=150, name=LIVE_NAME), came[0])
-        replies = [line for line in replay.out.splitlines() if b" live" not in line and b" ending" not in line]
+        replies = [
+            line
+            for line in replay.out.splitlines()
+            if b" live" not in line and b" ending" not in line
+        ]
         shown = outcome.out.splitlines()
         self.assertEqual([line for line in shown if b" cue " not in line], replies)
-        self.assertEqual(["cue 1"], without_moments(b"\n".join(line for line in shown if b" cue " in line)))
+        self.assertEqual(
+            ["cue 1"], without_moments(b"\n".join(line for line in shown if b" cue " in line))
+        )
 
     def test_record_of_another_night(self):
         """A record that is not empty is refused: no night is written over another."""
@@ -320,12 +356,15 @@ class Live(LiveTest):
     def test_record_on_a_full_disk(self):
         """It is told once, and the night goes on."""
         outcome = run(*self.words("--record", "/dev/full"), stdin=b"go\nend\n")
-        self.assertEqual((0, ["ok", "cue 1", "ok", "ok"]), (outcome.status, without_moments(outcome.out)))
+        self.assertEqual(
+            (0, ["ok", "cue 1", "ok", "ok"]), (outcome.status, without_moments(outcome.out))
+        )
         self.assertEqual(b"record: device fault\n", outcome.err)
         self.assertTerminated(self.came())
 
     def test_terminal(self):
-        """A terminal is read as a pipe is; its end of input, control-D, ends a night that ends so."""
+        """A terminal is read as a pipe is; its end of input, control-D, ends a night that ends
+        so."""
         ours, theirs = terminal(self)
         night = self.begun(stdin=theirs)
         os.close(theirs)
@@ -340,8 +379,8 @@ class Live(LiveTest):
         self.assertIn(128, [each[SLOT_1] for each in self.came()])
 
     def test_terminal_that_holds(self):
-        """Control-D is answered in words, each time, and the terminal is read on; where it is gone the
-        light holds."""
+        """Control-D is answered in words, each time, and the terminal is read on; where it is gone
+        the light holds."""
         for ends in (True, False):
             with self.subTest(ends=ends):
                 ours, theirs = terminal(self)
@@ -359,7 +398,9 @@ class Live(LiveTest):
                     self.assertEqual((0, b""), (outcome.status, outcome.err))
                 else:
                     os.close(ours)
-                    self.assertTrue(night.stderr.readline().startswith(b"input ended: the light holds; "))
+                    self.assertTrue(
+                        night.stderr.readline().startswith(b"input ended: the light holds; ")
+                    )
                     time.sleep(0.3)
                     self.assertIsNone(night.poll())
                     night.terminate()
@@ -384,12 +425,14 @@ class Live(LiveTest):
         self.assertEqual([b"ok"] * 3, re.findall(rb"ok$", outcome.out, re.MULTILINE))
 
     def test_socket_does_not_block(self):
-        """A packet that would have to wait is lost, and the night does not wait: so the system says of
-        each socket."""
+        """A packet that would have to wait is lost, and the night does not wait: so the system
+        says of each socket."""
         night = self.begun()
         self.told(night, b"back\n", "refused AtStart")
         descriptors = Path(f"/proc/{night.pid}/fd")
-        sockets = [each for each in descriptors.iterdir() if os.readlink(each).startswith("socket:")]
+        sockets = [
+            each for each in descriptors.iterdir() if os.readlink(each).startswith("socket:")
+        ]
         self.assertTrue(sockets)
         for each in sockets:
             told = Path(f"/proc/{night.pid}/fdinfo", each.name).read_text()
@@ -425,7 +468,9 @@ class Live(LiveTest):
     def test_two_consoles(self):
         """Two nights into one `listen`: the one of priority 150 leads."""
         pipe = subprocess.PIPE
-        listen = subprocess.Popen([PROGRAM, "listen", "127.0.0.1:0", "1", "20"], stdout=pipe, stderr=pipe)
+        listen = subprocess.Popen(
+            [PROGRAM, "listen", "127.0.0.1:0", "1", "20"], stdout=pipe, stderr=pipe
+        )
         self.addCleanup(listen.communicate)
         self.addCleanup(listen.kill)
         at = listen.stderr.readline().split()[2].decode()
@@ -449,7 +494,8 @@ class Lock(LiveTest):
     SPELLINGS = (CID, CID.upper(), CID.replace("-", ""), f"{{{CID}}}", f"urn:uuid:{CID}")
 
     def test_second_console(self):
-        """However the CID is spelled, it does not begin: nothing is sent, and no record is made."""
+        """However the CID is spelled, it does not begin: nothing is sent, and no record is
+        made."""
         first, record = self.begun(), self.folder / "night.play"
         self.told(first, b"back\n", "refused AtStart")
         self.came()
@@ -457,10 +503,14 @@ class Lock(LiveTest):
             for cid in self.SPELLINGS:
                 with self.subTest(cid):
                     words = self.words("--record", record, cid=cid, to=address_of(other))
-                    second = subprocess.run([PROGRAM, *words], input=b"", capture_output=True, timeout=30)
+                    second = subprocess.run(
+                        [PROGRAM, *words], input=b"", capture_output=True, timeout=30
+                    )
                     fault, remark = second.stderr.splitlines()
                     self.assertEqual((5, b"device fault"), (second.returncode, fault))
-                    self.assertTrue(remark.startswith(b"another console on this machine sends under this CID"))
+                    self.assertTrue(
+                        remark.startswith(b"another console on this machine sends under this CID")
+                    )
                     self.assertEqual([], received(other))
             self.assertFalse(record.exists())
             outcome = run(*self.words(cid=OTHER, to=address_of(other)), stdin=b"")
@@ -468,7 +518,8 @@ class Lock(LiveTest):
         self.assertEqual((0, b""), (self.ended(first).status, b""))
 
     def test_play(self):
-        """`play` holds it too, and does not begin beside another; one after the other, both play."""
+        """`play` holds it too, and does not begin beside another; one after the other, both
+        play."""
         words = ["play", self.show, "--to", self.to, "--cid", CID]
         first = self.begun()
         self.told(first, b"back\n", "refused AtStart")
@@ -481,7 +532,9 @@ class Lock(LiveTest):
             self.assertIn(b"another console on this machine sends under this CID", second.stderr)
             self.assertEqual([], received(other))
         self.assertEqual(0, self.ended(first).status)
-        playing = subprocess.Popen([PROGRAM, *words], stdin=subprocess.PIPE, stdout=subprocess.PIPE)
+        playing = subprocess.Popen(
+            [PROGRAM, *words], stdin=subprocess.PIPE, stdout=subprocess.PIPE
+        )
         self.addCleanup(playing.kill)
         playing.stdin.write(b"0 tick\n")
         playing.stdin.flush()

@@ -1,6 +1,8 @@
-"""`live`: a night of two minutes at sixteen universes, in which outputs stall, readers die and floods come.
+"""`live`: a night of two minutes at sixteen universes, in which outputs stall, readers die and
+floods come.
 
-SECONDS and SEED of the environment, as CUEPLAYER_NIGHT=600 and CUEPLAYER_SEED=7, make another night.
+SECONDS and SEED of the environment, as CUEPLAYER_NIGHT=600 and CUEPLAYER_SEED=7, make another
+night.
 """
 
 import hashlib
@@ -29,7 +31,8 @@ UNIVERSE, SLOT = 113, 126 + 511
 
 
 def show():
-    """Sixteen universes that all move for as long as the night; the last slot is submaster 1's alone."""
+    """Sixteen universes that all move for as long as the night; the last slot is submaster 1's
+    alone."""
     channels = " ".join(f"{n}@FL" for n in range(1, UNIVERSES + 1))
     moving = [f"PATCH 1 {n}<{512 * (n - 1) + 1}@FL" for n in range(1, UNIVERSES + 1)]
     return text(
@@ -60,7 +63,8 @@ class Reader(threading.Thread):
 
 
 class Receiver(threading.Thread):
-    """Takes every datagram: when it came, whose it is, its number and its last slot; and a digest of all."""
+    """Takes every datagram: when it came, whose it is, its number and its last slot; and a digest
+    of all."""
 
     def __init__(self, receiver):
         super().__init__(daemon=True)
@@ -113,7 +117,9 @@ class LongNight(LiveTest):
 
     def stall_record(self):
         self.writer.send_signal(signal.SIGSTOP)
-        threading.Timer(self.random.uniform(1, 8), lambda: self.writer.send_signal(signal.SIGCONT)).start()
+        threading.Timer(
+            self.random.uniform(1, 8), lambda: self.writer.send_signal(signal.SIGCONT)
+        ).start()
 
     def play(self):
         """What happens, by chance; towards the end both readers die."""
@@ -121,7 +127,9 @@ class LongNight(LiveTest):
         self.night.stdin.write(b"go\n")
         while (elapsed := time.monotonic() - start) < SECONDS:
             time.sleep(self.random.uniform(0.1, 0.6))
-            event = self.random.choice(("press", "press", "press", "flood", "out", "err", "record"))
+            event = self.random.choice(
+                ("press", "press", "press", "flood", "out", "err", "record")
+            )
             if event == "press":
                 self.press()
             elif event == "flood":
@@ -148,7 +156,9 @@ class LongNight(LiveTest):
     def shown_presses(self):
         """Of each press how long it took to the first datagram of the last universe that shows it,
         or one behind it, where the machine stood still from the one to the other."""
-        shown = [(at, slot) for at, universe, _, slot, _ in self.heard.came if universe == UNIVERSES]
+        shown = [
+            (at, slot) for at, universe, _, slot, _ in self.heard.came if universe == UNIVERSES
+        ]
         place = 0
         for number, (at, _) in enumerate(self.presses):
             levels = {level for _, level in self.presses[number : number + 100]}
@@ -188,13 +198,16 @@ class LongNight(LiveTest):
         self.play()
         self.end()
         lines = [line.split() for line in behind_head(self.kept.read_bytes())]
-        self.assertEqual([], [words for words in lines if words[0] == "!"], "the record lacks lines")
+        self.assertEqual(
+            [], [words for words in lines if words[0] == "!"], "the record lacks lines"
+        )
         ticks = [int(moment) for moment, *words in lines if words == ["tick"]]
         gaps = [b - a for a, b in zip(ticks, ticks[1:])]
         presses = list(self.shown_presses())
         latest = max(each.ms for each in presses)
         print(
-            f"    {len(ticks)} ticks at most {max(gaps)} ms apart, {len(presses)} presses at most {latest:.0f} ms,"
+            f"    {len(ticks)} ticks at most {max(gaps)} ms apart, {len(presses)} presses at "
+            f"most {latest:.0f} ms,"
             f" {len(self.heard.came)} datagrams"
         )
         self.assertGreaterEqual(min(gaps), 23)

@@ -1,5 +1,5 @@
-"""The manual pages, against the help of the program and of the tools, and against docs/FORMATS.md and
-docs/PROFILE.md."""
+"""The manual pages, against the help of the program and of the tools, and against docs/FORMATS.md
+and docs/PROFILE.md."""
 
 import hashlib
 import re
@@ -23,7 +23,8 @@ APACHE_2 = "cfc7749b96f63bd31c3c42b5c471bf756814053e847c10f3eb003417bc523d30"
 
 
 def shown(source):
-    """The text that a page's source shows, a line for each of its lines: no macros and no fonts."""
+    """The text that a page's source shows, a line for each of its lines: no macros and no
+    fonts."""
     lines = []
     for line in source.splitlines():
         macro, _, rest = line.partition(" ")
@@ -48,7 +49,9 @@ def parts(source, macro):
 def tags(source):
     """The tags of a source's paragraphs, as they are shown, each with its text."""
     found = re.split(r"(?m)^\.TP\n(.*)\n", source)[1:]
-    return {shown(tag): " ".join(shown(body).split()) for tag, body in zip(found[::2], found[1::2])}
+    return {
+        shown(tag): " ".join(shown(body).split()) for tag, body in zip(found[::2], found[1::2])
+    }
 
 
 def sections(name):
@@ -56,10 +59,13 @@ def sections(name):
 
 
 def rows(document, heading):
-    """The cells of the first table below a heading, without the table's own head and without marks."""
+    """The cells of the first table below a heading, without the table's own head and without
+    marks."""
     below = re.split(rf"(?m)^#+ {re.escape(heading)}\n", document)[1]
     table = re.search(r"(?m)(?:^\|.*\n)+", below)[0].splitlines()[2:]
-    return [[cell.strip().replace("`", "") for cell in row.strip("|").split(" | ")] for row in table]
+    return [
+        [cell.strip().replace("`", "") for cell in row.strip("|").split(" | ")] for row in table
+    ]
 
 
 def names_in(document):
@@ -94,10 +100,13 @@ class Manual(unittest.TestCase):
 
     @unittest.skipUnless(shutil.which("mandoc"), "mandoc is not on PATH")
     def test_mandoc_has_no_warning(self):
-        self.assertEqual([""] * len(PAGES), list(self.assertQuiet("mandoc", "-Tlint", "-Wwarning")))
+        self.assertEqual(
+            [""] * len(PAGES), list(self.assertQuiet("mandoc", "-Tlint", "-Wwarning"))
+        )
 
     def test_jobs_and_options(self):
-        """Each job of the help has its part, with exactly its options, each with the name of its value."""
+        """Each job of the help has its part, with exactly its options, each with the name of its
+        value."""
         found = parts(sections("cueplayer.1")["JOBS"], "SS")
         self.assertEqual(sorted(jobs()), sorted(found))
         for name, job in jobs().items():
@@ -111,13 +120,18 @@ class Manual(unittest.TestCase):
 
     def test_no_other_option(self):
         """No option stands anywhere in the page that no job has."""
-        known = {option for job in jobs().values() for option in job.options} | {"--help", "--version"}
+        known = {option for job in jobs().values() for option in job.options} | {
+            "--help",
+            "--version",
+        }
         page = shown(PAGES["cueplayer.1"].read_text())
         self.assertEqual(known, set(re.findall(r"(?<![\w-])--[a-z][a-z-]*", page)))
 
     def test_words(self):
         """Each word and each value of the help is explained, and no other."""
-        wanted = {word for job in jobs().values() for word in (*job.arguments, *job.options.values())} - {""}
+        wanted = {
+            word for job in jobs().values() for word in (*job.arguments, *job.options.values())
+        } - {""}
         self.assertEqual(wanted, set(tags(sections("cueplayer.1")["WORDS"])))
 
     def test_tools(self):
@@ -168,14 +182,17 @@ class Manual(unittest.TestCase):
         records = PROFILE.partition("## Records\n")[2].partition("\n## ")[0]
         records = re.findall(r"(?m)^### (.*)$", records)
         self.assertIn("CUE", records)
-        self.assertLessEqual(set(records), set(parts(sections("cueplayer-show.5")["RECORDS"], "SS")))
+        self.assertLessEqual(
+            set(records), set(parts(sections("cueplayer-show.5")["RECORDS"], "SS"))
+        )
         listed = re.search(r"(?m)^\*Primary\* keywords.*$", PROFILE)[0]
         keywords = set(re.findall(r"\b[A-Z]{2,}\b", listed))
         page = shown(PAGES["cueplayer-show.5"].read_text())
         self.assertLessEqual(keywords, set(re.findall(r"\b[A-Z]{2,}\b", page)))
 
     def test_synopsis_is_a_show(self):
-        """The show at the head of the page is that of the profile, but for a comment, and is checked."""
+        """The show at the head of the page is that of the profile, but for a comment, and is
+        checked."""
         lines = shown(sections("cueplayer-show.5")["SYNOPSIS"]).strip("\n").split("\n")
         profile = re.search(r"(?s)```\n(IDENT.*?)```", PROFILE)[1]
         wanted = [line.partition("!")[0].rstrip() for line in profile.splitlines()]

@@ -30,16 +30,22 @@ PATIENCE = b"a patience is a number of milliseconds from 1 to 60000"
 FOLLOWED = b"a night waits for the main that it follows: --follow FILE names its record"
 ALONE = b"a night that follows begins where its main is: leave out --resume and --start"
 INPUT_LINE = (
-    b"MOMENT and go, back, goto CUE, goto CUE in TIME, sub N LEVEL, group N LEVEL, master LEVEL, end or tick"
+    b"MOMENT and go, back, goto CUE, goto CUE in TIME, sub N LEVEL, group N LEVEL, "
+    b"master LEVEL, end or tick"
 )
 WATCH_LINE = b"MOMENT and a datagram in hex, or MOMENT alone, in at most 3072 bytes"
-SCRIPT_LINE = b"console BASE PRIORITY UUID, receiver UNIVERSE, or MOMENT and do, tick, deliver, stray or slots"
+SCRIPT_LINE = (
+    b"console BASE PRIORITY UUID, receiver UNIVERSE, or MOMENT and do, tick, "
+    b"deliver, stray or slots"
+)
 SHOW = text("CUE 1", "CHAN 1@FL", "PATCH 1 1<1@FL")
 
 
 def run(*words, stdin=b"", **options):
     """The status of a run, and the lines that it writes on standard error."""
-    done = subprocess.run([PROGRAM, *words], input=stdin, capture_output=True, timeout=60, **options)
+    done = subprocess.run(
+        [PROGRAM, *words], input=stdin, capture_output=True, timeout=60, **options
+    )
     return done.returncode, done.stderr.splitlines()
 
 
@@ -54,8 +60,16 @@ class Messages(unittest.TestCase):
             (b"CHAN x@FL", b"BadNumber", NUMBER),
             (b"CHAN 5000@FL", b"Limit", LIMIT),
             (b"CHAN 1@FL 2", b"HalfPair", b"CHAN takes pairs of a channel and a level"),
-            (b"PATCH 1 1<1", b"HalfTriple", b"PATCH takes a page, and triples of a channel, a dimmer and a level"),
-            (b"UP", b"MissingNumber", b"CUE, GROUP, SUB and PATCH need a number; UP, DOWN and FOLLOWON of a cue a time"),
+            (
+                b"PATCH 1 1<1",
+                b"HalfTriple",
+                b"PATCH takes a page, and triples of a channel, a dimmer and a level",
+            ),
+            (
+                b"UP",
+                b"MissingNumber",
+                b"CUE, GROUP, SUB and PATCH need a number; UP, DOWN and FOLLOWON of a cue a time",
+            ),
             (b"IDENT 2:0", b"Ident", b"IDENT names version 3:0"),
         ):
             told = [b"show line 2: " + fault, b"`" + line + b"`: " + rule]
@@ -81,7 +95,8 @@ class Messages(unittest.TestCase):
         self.assertEqual((2, told), run("slots", "-", "1", "--base", "63999", stdin=show))
 
     def test_words(self):
-        """The first argument, in the order of the line, that lacks its form; its text; and the form."""
+        """The first argument, in the order of the line, that lacks its form; its text; and the
+        form."""
         to = ("--to", "127.0.0.1")
         cid = ("--cid", CID)
         for words, argument, form in (
@@ -101,7 +116,11 @@ class Messages(unittest.TestCase):
             (("watch", "0", *map(str, range(1, 17))), b"UNIVERSE `16`", SIXTEEN),
             (("live", "a", *to, *cid, "--start", "0"), b"--start `0`", CUE),
             (("live", "a", *to, *cid, "--resume"), b"--resume", RECORDED),
-            (("live", "a", *to, *cid, "--follow", "b", "--patience", "0"), b"--patience `0`", PATIENCE),
+            (
+                ("live", "a", *to, *cid, "--follow", "b", "--patience", "0"),
+                b"--patience `0`",
+                PATIENCE,
+            ),
             (("live", "a", *to, *cid, "--patience", "100"), b"--patience `100`", FOLLOWED),
             (("live", "a", *to, *cid, "--follow", "b", "--start", "1"), b"--follow `b`", ALONE),
             (
@@ -114,21 +133,35 @@ class Messages(unittest.TestCase):
             (("look", "a", "x", "--cid", "c0ffee"), b"CUE `x`", CUE),
             (("look", "a", "--cid", "c0ffee", "x"), b"CUE `x`", CUE),
             (("play", "a", "--base", "0", "--cid", "c0ffee", "--to", "10"), b"--to `10`", TARGET),
-            (("live", "a", "--resume", "--start", "x", "--base", "0", *to, *cid), b"--base `0`", UNIVERSE),
+            (
+                ("live", "a", "--resume", "--start", "x", "--base", "0", *to, *cid),
+                b"--base `0`",
+                UNIVERSE,
+            ),
             (("live", "a", "--start", "x", "--resume", *to, *cid), b"--resume", RECORDED),
-            (("live", "a", "--patience", "0", "--start", "x", "--follow", "b", *to, *cid), b"--start `x`", CUE),
+            (
+                ("live", "a", "--patience", "0", "--start", "x", "--follow", "b", *to, *cid),
+                b"--start `x`",
+                CUE,
+            ),
             (("live", "a", "--patience", "0", *to, *cid), b"--patience `0`", FOLLOWED),
         ):
             self.assertEqual((2, [b"words refused", argument + b": " + form]), run(*words), words)
-        self.assertEqual((2, [b"words refused", b"the words are text in UTF-8"]), run("check", b"\xff"))
+        self.assertEqual(
+            (2, [b"words refused", b"the words are text in UTF-8"]), run("check", b"\xff")
+        )
 
     def test_lines(self):
         with tempfile.TemporaryDirectory() as name:
             show, script = Path(name) / "show", Path(name) / "script"
             show.write_bytes(SHOW)
             words = ("play", show, "--to", "127.0.0.1:9", "--cid", CID)
-            self.assertEqual((4, [b"line 2 refused", INPUT_LINE]), run(*words, stdin=b"0 tick\n1 jump\n"))
-            self.assertEqual((4, [b"line 2 refused", WATCH_LINE]), run("watch", "1", stdin=b"1\nx\n"))
+            self.assertEqual(
+                (4, [b"line 2 refused", INPUT_LINE]), run(*words, stdin=b"0 tick\n1 jump\n")
+            )
+            self.assertEqual(
+                (4, [b"line 2 refused", WATCH_LINE]), run("watch", "1", stdin=b"1\nx\n")
+            )
             script.write_bytes(b"console 1 100 " + CID.encode() + b"\n0 go 1\n")
             told = [b"line 2 refused", b"`0 go 1`: " + SCRIPT_LINE]
             self.assertEqual((4, told), run("rehearse", show, script))
@@ -159,7 +192,9 @@ class Messages(unittest.TestCase):
         told = [b"device fault", b"standard output: the disk is full"]
         with open("/dev/full", "wb") as full:
             words = [PROGRAM, "check", "-"]
-            done = subprocess.run(words, input=SHOW, stdout=full, stderr=subprocess.PIPE, timeout=60)
+            done = subprocess.run(
+                words, input=SHOW, stdout=full, stderr=subprocess.PIPE, timeout=60
+            )
         self.assertEqual((5, told), (done.returncode, done.stderr.splitlines()))
 
     def test_addresses(self):
@@ -191,7 +226,9 @@ class Messages(unittest.TestCase):
             with socket.socket(socket.AF_INET, socket.SOCK_DGRAM) as sender:
                 sender.sendto(b"", (host, int(port)))
             out, err = child.communicate(timeout=30)
-        self.assertEqual((0, b"1 ignored Unreadable Short\nslots\n", b""), (child.returncode, out, err))
+        self.assertEqual(
+            (0, b"1 ignored Unreadable Short\nslots\n", b""), (child.returncode, out, err)
+        )
 
     def test_multicast(self):
         """Once, that the group must have been joined; without that, nothing comes."""
@@ -200,4 +237,6 @@ class Messages(unittest.TestCase):
             first, second = child.stderr.readline(), child.stderr.readline()
             child.kill()
         self.assertTrue(first.startswith(b"listening at 239.255.0.1:"), first)
-        self.assertEqual(b"this machine hears a multicast group only where it has joined it\n", second)
+        self.assertEqual(
+            b"this machine hears a multicast group only where it has joined it\n", second
+        )

@@ -143,7 +143,9 @@ class Device(DeskTest):
     def test_played(self):
         """It plays the night beside the page, which tells what is refused."""
         path, device = self.device()
-        _, page = self.opened("--midi", path, "--midi-go", 60, "--midi-back", 59, "--midi-device", 7)
+        _, page = self.opened(
+            "--midi", path, "--midi-go", 60, "--midi-back", 59, "--midi-device", 7
+        )
         os.write(device, b"\x90\x3c\x40")
         page.wait(current="1")
         os.write(device, show(GO, b"2", device=7))

@@ -1,4 +1,5 @@
-"""`listen` on a network: what another machine sends to a multicast group, in two network namespaces."""
+"""`listen` on a network: what another machine sends to a multicast group, in two network
+namespaces."""
 
 import subprocess
 
@@ -7,8 +8,8 @@ from wire import own_network
 
 SHOW = text("CUE 1", "UP 0", "CHAN 1@H80", "PATCH 1 1<1@FL")
 
-# Two machines with a cable between them: this one joins the group of universe 1 as the operators' page has
-# it, and listens; the other plays to the groups.
+# Two machines with a cable between them: this one joins the group of universe 1 as the operators'
+# page has it, and listens; the other plays to the groups.
 TWO_MACHINES = """
 set -e
 program=$1 show=$2 cid=$3 at=$4
@@ -30,7 +31,8 @@ until ip link show veth0 | grep -q 'state UP'; do sleep 0.02; done
 timeout 30 "$program" listen "$at" 1 1 &
 listening=$!
 until grep -q ' [0-9A-F]*:15C0 ' /proc/net/udp; do sleep 0.02; done
-printf '0 goto 1\\n10 tick\\n' | there "$program" play "$show" --to 239.255.0.0 --cid "$cid" >/dev/null
+printf '0 goto 1\\n10 tick\\n' |
+    there "$program" play "$show" --to 239.255.0.0 --cid "$cid" >/dev/null
 wait $listening
 """
 
@@ -41,7 +43,17 @@ class Network(FolderTest):
     def listen(self, at):
         """What `listen` at this address prints of a console on the other machine."""
         namespace = own_network(self, "bash", "nsenter", "timeout")
-        words = [*namespace, "bash", "-c", TWO_MACHINES, "two-machines", PROGRAM, self.show, CID, at]
+        words = [
+            *namespace,
+            "bash",
+            "-c",
+            TWO_MACHINES,
+            "two-machines",
+            PROGRAM,
+            self.show,
+            CID,
+            at,
+        ]
         done = subprocess.run(words, capture_output=True, timeout=90)
         return done.returncode, done.stdout
 

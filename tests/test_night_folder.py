@@ -307,7 +307,9 @@ class Goes(FolderNightTest):
         status, out, err = self.asked("go")
         self.assertEqual((1, ""), (status, out))
         self.assertIn("no answer within a second", err)
-        self.wait_for_reply(rf"live \(process {live}\) has not read for a second; taken back: go; ")
+        self.wait_for_reply(
+            rf"live \(process {live}\) has not read for a second; taken back: go; "
+        )
         os.kill(live, signal.SIGCONT)
         self.assertEqual((0, ["where next 1 master 255"]), self.without_moments("where"))
 
@@ -336,7 +338,9 @@ class Goes(FolderNightTest):
     def test_terminal(self):
         """Lines may be typed where it runs; control-C, control-D, a closed window end nothing."""
         ours, its = terminal(self)
-        keeper = self.kept(*self.words, stdin=its, stdout=its, stderr=its, preexec_fn=take_terminal)
+        keeper = self.kept(
+            *self.words, stdin=its, stdout=its, stderr=its, preexec_fn=take_terminal
+        )
         os.close(its)
         shown = bytearray()
 
@@ -510,13 +514,15 @@ class Stubbed(FolderNightTest):
         self.assertEqual(4, self.began())
 
     def test_no_card(self):
-        """Where the network is not there yet, `start` alone waits for it; new words are refused."""
+        """Where the network is not there yet, `start` alone waits for it; new words are
+        refused."""
         self.file("status", b"2\n")
         for said in (
             "no card lit: there are lo (127.0.0.1)",
             "lit is down: ip link set lit up; there are lo (127.0.0.1)",
             "lit has no link and no address: check the cable; there are lo (127.0.0.1)",
-            "no card that is up is known to have 10.0.0.2: lit is down; ip link set lit up; there are lo",
+            "no card that is up is known to have 10.0.0.2: lit is down; ip link set lit up; "
+            "there are lo",
             "the route to 10.0.0.7 leads by off, and not by lit: --any-route sends by it",
         ):
             with self.subTest(said):

@@ -31,13 +31,29 @@ class Notes(unittest.TestCase):
     def test_encodings(self):
         """Before all others."""
         found = expected.notes(b"\xef\xbb\xbfx\nCEU 7\n" + text(PATCH))
-        mark = "note: the file begins with a byte order mark, read as part of its first word: save it as ASCII"
-        skipped = "note: line 2: CEU 7: CUE? It is skipped, and what stands below it belongs to no record"
+        mark = (
+            "note: the file begins with a byte order mark, read as part of its first word: "
+            "save it as ASCII"
+        )
+        skipped = (
+            "note: line 2: CEU 7: CUE? It is skipped, and what stands below it belongs "
+            "to no record"
+        )
         self.assertEqual([mark, skipped], found)
 
     def test_links(self):
         self.assertNotes(
-            ["CUE 1", "CHAN 1@1", "LINK 2", "LINK 3", "CUE 2", "LINK x", "CUE 3", "CHAN 1@3", "LINK 1 5"],
+            [
+                "CUE 1",
+                "CHAN 1@1",
+                "LINK 2",
+                "LINK 3",
+                "CUE 2",
+                "LINK x",
+                "CUE 3",
+                "CHAN 1@3",
+                "LINK 1 5",
+            ],
             "line 5: cue 1: LINK 3 is not followed: GO goes to 2",
             "line 7: cue 2: LINK without a cue number",
             "line 10: cue 3: LINK 1 is not followed: GO goes nowhere",
@@ -49,7 +65,9 @@ class Notes(unittest.TestCase):
         cue = ("CUE 4", "PART 1", "UP 5", "CHAN 1@50 2@50", "PART 2", "UP 60 10", "CHAN 3@70")
         self.assertNotes(cue, "line 3: cue 4, part 1: channels 1 2 take UP 60 10, not UP 5")
         # The cue's own times hold for a part without any, and agree with those of the other.
-        self.assertNotes(["CUE 4", "UP 5", "PART 1", "CHAN 1@50", "PART 2", "UP 5.00", "CHAN 2@FL"])
+        self.assertNotes(
+            ["CUE 4", "UP 5", "PART 1", "CHAN 1@50", "PART 2", "UP 5.00", "CHAN 2@FL"]
+        )
         self.assertNotes(
             ["CUE 4", "CHAN 1@FL", "PART 2", "DOWN 3", "CHAN 2@5", "PART 3", "UP 9"],
             "line 2: cue 4, before its parts: channel 1 takes UP 9, DOWN 3, not no time",
@@ -58,9 +76,18 @@ class Notes(unittest.TestCase):
 
     def test_commas(self):
         self.assertNotes(
-            ["CUE 1", "UP 0,5", "DOWN 1, 5", "FOLLOWON 2,5 ! 3,5", "CHAN 1@FL,2@FL", "DOWN 3 ! 1,2"],
-            "line 3: UP 0,5: the comma parts two words: time 0, delay 5; write a point for a decimal",
-            "line 5: FOLLOWON 2,5 ! 3,5: the comma parts two words: time 2; write a point for a decimal",
+            [
+                "CUE 1",
+                "UP 0,5",
+                "DOWN 1, 5",
+                "FOLLOWON 2,5 ! 3,5",
+                "CHAN 1@FL,2@FL",
+                "DOWN 3 ! 1,2",
+            ],
+            "line 3: UP 0,5: the comma parts two words: time 0, delay 5; write a point for a "
+            "decimal",
+            "line 5: FOLLOWON 2,5 ! 3,5: the comma parts two words: time 2; write a point for "
+            "a decimal",
         )
 
     def test_opened_again(self):
@@ -89,7 +116,9 @@ class Notes(unittest.TestCase):
             (b"CEU", b"CUE", 1), (b"CUE", b"CUE", 0), (b"", b"UP", 2), (b"CA", b"ABC", 3),
             (b"PACTH", b"PATCH", 1), (b"GRP", b"GROUP", 2), (b"MACRO", b"PATCH", 4),
         ):  # fmt: skip
-            self.assertEqual((steps, steps), (expected.distance(one, other), expected.distance(other, one)))
+            self.assertEqual(
+                (steps, steps), (expected.distance(one, other), expected.distance(other, one))
+            )
 
     def test_patched_again(self):
         self.assertNotes(
@@ -112,7 +141,9 @@ class Notes(unittest.TestCase):
         none = "no dimmer is patched: no universe is sent"
         self.assertNotes(["CUE 1"], none, patch=False)
         dark = "cues of which no channel is patched: 1"
-        self.assertNotes(["CUE 1", "CHAN 9@FL"], dark, "channels of cues that are patched nowhere: 9")
+        self.assertNotes(
+            ["CUE 1", "CHAN 9@FL"], dark, "channels of cues that are patched nowhere: 9"
+        )
 
     def test_long_fades(self):
         self.assertNotes(
@@ -122,7 +153,16 @@ class Notes(unittest.TestCase):
 
     def test_equal_cues(self):
         self.assertNotes(
-            ["CUE 1", "CHAN 1@FL", "CUE 3", "CHAN 1@100 2@0", "CUE 2", "CHAN 1@HFF", "CUE 4", "CUE 5"],
+            [
+                "CUE 1",
+                "CHAN 1@FL",
+                "CUE 3",
+                "CHAN 1@100 2@0",
+                "CUE 2",
+                "CHAN 1@HFF",
+                "CUE 4",
+                "CUE 5",
+            ],
             "cues that look as the one before: 2 3 5",
         )
 
@@ -134,7 +174,9 @@ class Notes(unittest.TestCase):
         while time.process_time() < until:
             content = changes.changed(r, r.choice(bases), changes.OF_TEXTS, 8)
             if len(content) <= shows.LONGEST:
-                self.assertEqual(isinstance(shows.read(content), str), expected.notes(content) is None)
+                self.assertEqual(
+                    isinstance(shows.read(content), str), expected.notes(content) is None
+                )
 
 
 if __name__ == "__main__":

@@ -18,7 +18,8 @@ SHOWS = int(os.environ.get("CUEPLAYER_SHOWS", "0"))
 
 
 def explained(content):
-    """What `explain` prints but for the lines about skipped lines: its notes, or the faulty lines."""
+    """What `explain` prints but for the lines about skipped lines: its notes, or the faulty
+    lines."""
     outcome = run("explain", "-", stdin=content)
     lines = outcome.out.decode("ascii").splitlines()
     if outcome.status == 3:
@@ -60,7 +61,15 @@ class Printed(ProgramTest):
 
     def test_all_faults(self):
         """Each of the faulty lines, with its word; and the one that is answered."""
-        show = text("CUE 4 \"Bahnhof\"", "UP 1:60", "SUB 101", "CHAN 1@FL 2", "PATCH 1 0<1@H", "IDENT", "CUE x 2")
+        show = text(
+            'CUE 4 "Bahnhof"',
+            "UP 1:60",
+            "SUB 101",
+            "CHAN 1@FL 2",
+            "PATCH 1 0<1@H",
+            "IDENT",
+            "CUE x 2",
+        )
         told = [
             "line 1: BadNumber at `\"Bahnhof\"`: CUE 4 \"Bahnhof\"",
             "line 2: BadTime at `1:60`: UP 1:60",

@@ -1,6 +1,8 @@
 """`tools/osc`: Open Sound Control datagrams, and the lines that they ask for."""
 
+import contextlib
 import math
+import queue
 import random
 import re
 import select
@@ -13,6 +15,7 @@ import tempfile
 import threading
 import time
 import unittest
+from unittest import mock
 
 from machine import in_time, took
 from program import CID, PROGRAM, ProgramTest
@@ -20,6 +23,7 @@ from tooling import PATIENCE, TOOLS, Started, run_tool, stand_still, wait_for
 from wire import SLOT_1, address_of, received, receiving
 from worked import S1
 
+from cueplayer_tools import osc_port
 from cueplayer_tools.addresses import bound_socket
 from cueplayer_tools.osc_lines import lines_of
 from cueplayer_tools.osc_port import OscPort
@@ -281,6 +285,24 @@ class Port(unittest.TestCase):
         self.assertLessEqual(len(self.told), seconds + 1)
         self.assertIn("go", self.lines)
 
+    def test_reading(self):
+        """However many send what takes long to read, it takes no more than its part of a second;
+        the rest is refused, and told, and in the next second presses come through again."""
+        long, now = bundle(*[message("/cueplayer/none")] * 2_000), [self.port.second]
+        with mock.patch.object(osc_port.time, "monotonic", lambda: now[0]):
+            while self.port.reading <= osc_port.MOST_READING:
+                self.sender().send(long)
+                self.take()
+            self.sender().send(GO)
+            self.take()
+            now[0] += 1.0
+            self.port.take(self.lines.append)
+            self.assertEqual([], self.lines)
+            self.assertIn("more came in a second than can be read", self.told[-1])
+            self.sender().send(GO)
+            self.take()
+        self.assertEqual(["go"], self.lines)
+
     def test_lost(self):
         """What found no room before it was read is counted, and told."""
         sender, sent = self.sender(), 40_000
@@ -371,9 +393,15 @@ class Tool(ProgramTest):
         send(GO)
         time.sleep(1.2)
         osc.process.send_signal(signal.SIGCONT)
-        self.assertRegex(osc.err.next(), r": go: it came \d\.\d s ago, too late$")
-        send(message("/cueplayer/back"))
-        self.assertEqual("back", osc.out.next())
+        self.assertRegex(osc.err.next(), r": go: it came \d+\.\d s ago, too late$")
+
+        def is_taken():
+            """Whether one more press is taken: on a busy machine it may be late too."""
+            send(message("/cueplayer/back"))
+            with contextlib.suppress(queue.Empty):
+                return osc.out.next(1) == "back"
+
+        wait_for(is_taken, "a press that is in time")
 
     def test_reader_that_stands_still(self):
         """A press that nobody takes does not wait for later: it is refused."""

@@ -68,7 +68,8 @@ class Subscribers(DeskTest):
     SHOW = SHOW.replace(b"! one", "! \N{LATIN SMALL LETTER O WITH DIAERESIS}ne".encode())
 
     def test_told(self):
-        """All of it at once, then each change, whoever made it; and nothing behind an unsubscribe."""
+        """All of it at once, then each change, whoever made it; and nothing behind an
+        unsubscribe."""
         _, page = self.opened("--osc", 0)
         page.command("sub 1 FL")
         page.wait(masters={"sub 1": 255})
@@ -95,10 +96,13 @@ class Subscribers(DeskTest):
         page.command("go")
         page.wait(current="1.5")
         tablet.look()
-        self.assertEqual(((1.0,), "1"), (tablet.has["/cueplayer/sub/1"], tablet.has["/cueplayer/cue"][0]))
+        self.assertEqual(
+            ((1.0,), "1"), (tablet.has["/cueplayer/sub/1"], tablet.has["/cueplayer/cue"][0])
+        )
 
     def test_many(self):
-        """There is room for 32; the next is told on the page. One of them asks, and all are told."""
+        """There is room for 32; the next is told on the page. One of them asks, and all are
+        told."""
         _, page = self.opened("--osc", 0)
         tablets = [Tablet(self, page) for _ in range(33)]
         for tablet in tablets[:-1]:
@@ -132,8 +136,14 @@ class Subscribers(DeskTest):
 class Packets(unittest.TestCase):
     def test_packed(self):
         """What is packed is read again, here and by the reader of datagrams."""
-        for words in ((), ("",), ("abc",), ("abcd", 0.5), (7, "\N{LATIN SMALL LETTER O WITH DIAERESIS}"),
-                      (2**40,)):
+        for words in (
+            (),
+            ("",),
+            ("abc",),
+            ("abcd", 0.5),
+            (7, "\N{LATIN SMALL LETTER O WITH DIAERESIS}"),
+            (2**40,),
+        ):
             datagram = packed("/a/bc", *words)
             self.assertEqual(0, len(datagram) % 4)
             read_again = read(datagram)

@@ -1,5 +1,5 @@
-"""Standard output and standard error that are files go through writers of their own, as a record does:
-`./cueplayer live` starts them. A disk that stalls is a writer that is stopped."""
+"""Standard output and standard error that are files go through writers of their own, as a record
+does: `./cueplayer live` starts them. A disk that stalls is a writer that is stopped."""
 
 import os
 import re
@@ -63,7 +63,8 @@ class OutputWriter(WriterTest):
                         self.ends(each)
 
     def test_disk_that_stalls(self):
-        """The light goes on, without a late tick; when the disk goes on, the files have all of it."""
+        """The light goes on, without a late tick; when the disk goes on, the files have all of
+        it."""
         night = self.begun_in_files("--record", self.record)
         self.light(night, b"sub 1 FL\n", 128)
         writers = [self.writer(night, self.out), self.writer(night, self.err)]
@@ -83,7 +84,8 @@ class OutputWriter(WriterTest):
         self.assertEqual(WRONG * 600, told(self.err.read_bytes()))
 
     def test_more_than_there_is_room(self):
-        """What a disk that stalls for long leaves no room for is dropped, and counted in its place."""
+        """What a disk that stalls for long leaves no room for is dropped, and counted in its
+        place."""
         with open(self.out, "wb") as out:
             night = self.begun("--record", self.record, stdout=out)
         self.light(night, b"sub 1 FL\n", 128)
@@ -118,7 +120,9 @@ class OutputWriter(WriterTest):
                 printed = told(self.out.read_bytes())
                 self.assertEqual(before, printed[: len(before)])
                 printed = re.sub(rb"(?m)^\d+ ", b"", printed[len(before) :])
-                self.assertEqual(b"ok\n" + (WRONG + b"refused AtStart\n") * 300 + b"ok\n" * 3, printed)
+                self.assertEqual(
+                    b"ok\n" + (WRONG + b"refused AtStart\n") * 300 + b"ok\n" * 3, printed
+                )
 
     def test_one_of_them(self):
         """Where one of them is no file, only the other has a writer."""
@@ -209,7 +213,8 @@ class OutputWriter(WriterTest):
         self.assertEqual(["ok"] * 4, without_moments(self.out.read_bytes()))
 
     def test_refused(self):
-        """Why a night does not begin is in the file of standard error when the program has ended."""
+        """Why a night does not begin is in the file of standard error when the program has
+        ended."""
         for words, status, wanted in (
             (("live", self.show), 2, b""),
             (("live", self.folder, "--to", self.to, "--cid", "1"), 2, b"words refused\n"),

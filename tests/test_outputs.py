@@ -1,4 +1,5 @@
-"""`live`: nothing that is printed or recorded holds up the light, and a night survives all its outputs."""
+"""`live`: nothing that is printed or recorded holds up the light, and a night survives all its
+outputs."""
 
 import fcntl
 import os
@@ -11,7 +12,7 @@ import time
 from machine import in_time
 from program import PROGRAM, behind_head, run
 from test_live import NEVER, LiveTest, without_moments
-from wire import OPTIONS, SEQUENCE, SLOT_1, TERMINATED, terminal
+from wire import SEQUENCE, SLOT_1, terminal
 
 # From one tick to the next at most, in milliseconds; what holds up the light does for seconds.
 LATE = 400
@@ -128,7 +129,9 @@ class Outputs(OutputsTest):
         self.assertEqual(count + 4, dropped + len(printed) - 1)
         place = printed.index(notices[0])
         self.assertGreater(len(b"\n".join(printed[:place])), ROOM)
-        self.assertEqual({b"refused AtStart"}, {each.split(b" ", 1)[1] for each in printed[:place]})
+        self.assertEqual(
+            {b"refused AtStart"}, {each.split(b" ", 1)[1] for each in printed[:place]}
+        )
         self.assertEqual(["ok", "ok"], without_moments(b"\n".join(printed[-2:])))
         self.assertTicks(record)
 
@@ -186,8 +189,8 @@ class Outputs(OutputsTest):
         self.assertEqual("tick", behind_head(copy.read_bytes())[0].split()[1])
 
     def test_record_that_is_late(self):
-        """A FIFO whose reader stalls: it is told once, and again when all is read; then it is whole, and
-        `play` of it sends what the night sent."""
+        """A FIFO whose reader stalls: it is told once, and again when all is read; then it is
+        whole, and `play` of it sends what the night sent."""
         fifo = self.folder / "record"
         os.mkfifo(fifo)
         reader = os.open(fifo, os.O_RDONLY | os.O_NONBLOCK)
@@ -215,7 +218,8 @@ class Outputs(OutputsTest):
         self.assertTerminated(self.came()[-7:])
 
     def test_record_with_a_gap(self):
-        """Where a record lacks lines, a comment in it says how many, and standard error that they do."""
+        """Where a record lacks lines, a comment in it says how many, and standard error that they
+        do."""
         fifo = self.folder / "record"
         os.mkfifo(fifo)
         reader = os.open(fifo, os.O_RDONLY | os.O_NONBLOCK)

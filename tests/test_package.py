@@ -1,4 +1,5 @@
-"""`dev/package`: the packages of this tree's dist/, unpacked, installed, played from, and removed."""
+"""`dev/package`: the packages of this tree's dist/, unpacked, installed, played from, and
+removed."""
 
 import gzip
 import hashlib
@@ -14,14 +15,19 @@ from program import CID, SHIPPED, TOP
 
 TOOLS = ("conform", "convert", "desk", "osc", "picture", "sheet", "storm", "watch")
 # What the package is made of besides dist/.
-PARTS = ("cueplayer", "cueplayer-night", "install", "VERSION", "README.md", "CHANGELOG.md", "LICENSE", "HANDLES", "crates.txt")
+PARTS = (
+    *("cueplayer", "cueplayer-night", "install", "manifest", "VERSION", "HANDLES", "crates.txt"),
+    *("README.md", "CHANGELOG.md", "LICENSE"),
+)
 FOLDERS = ("dist", "dev", "tools", "man", "completion", "docs", "examples")
 LINTIAN = shutil.which("lintian")
 ROOT = os.geteuid() == 0
 
 
 def run(*words, **options):
-    done = subprocess.run(words, capture_output=True, text=True, timeout=120, check=False, **options)
+    done = subprocess.run(
+        words, capture_output=True, text=True, timeout=120, check=False, **options
+    )
     return done.returncode, done.stdout, done.stderr
 
 
@@ -37,7 +43,11 @@ def is_packable() -> str | None:
     if not SHIPPED.is_file() or SHIPPED.read_bytes()[:4] != b"\x7fELF":
         return "dist/ has no program"
     told = run(TOP / "cueplayer", "--version", env={"PATH": os.environ["PATH"]})[1]
-    return None if "\nsources: those of the program\n" in told else "dist/ is not what these sources make"
+    return (
+        None
+        if "\nsources: those of the program\n" in told
+        else "dist/ is not what these sources make"
+    )
 
 
 class Package(unittest.TestCase):
@@ -59,7 +69,8 @@ class Package(unittest.TestCase):
         return made
 
     def copy(self, name: str) -> Path:
-        """The tree elsewhere, without git, with other times and, as by another umask, other modes."""
+        """The tree elsewhere, without git, with other times and, as by another umask, other
+        modes."""
         top = self.folder / name
         top.mkdir()
         for part in PARTS:
@@ -84,9 +95,11 @@ class Package(unittest.TestCase):
 @unittest.skipIf(is_packable(), is_packable())
 class Made(Package):
     def test_same_bytes(self):
-        """Whoever makes them of the same tree, elsewhere and at another time, gets the same; each has the
-        sum that SHA256SUMS says."""
-        one, other = self.make(self.copy("one"), "made"), self.make(self.copy("a second one"), "made again")
+        """Whoever makes them of the same tree, elsewhere and at another time, gets the same; each
+        has the sum that SHA256SUMS says."""
+        one, other = self.make(self.copy("one"), "made"), self.make(
+            self.copy("a second one"), "made again"
+        )
         self.assertEqual(3, len(files(one)))
         self.assertEqual(files(one), files(other))
         for name in files(one):
@@ -146,27 +159,44 @@ class Made(Package):
         self.assertFalse((root / "usr").exists())
 
     def test_contents(self):
-        """A manual page for each program, completion, documents, examples and the unit of systemd."""
+        """A manual page for each program, completion, documents, examples and the unit of
+        systemd."""
         (package,) = self.make(TOP, "made").glob("*.deb")
         root = self.folder / "root"
         self.assertRuns("dpkg-deb", "--extract", package, root)
         found = files(root)
         names = ["cueplayer", *(f"cueplayer-{tool}" for tool in ("night", *TOOLS))]
-        wanted = {f"usr/bin/{name}" for name in names} | {f"usr/share/man/man1/{name}.1.gz" for name in names}
-        wanted |= {f"usr/share/doc/cueplayer/{name}" for name in ("README.md", "copyright", "changelog.gz")}
+        wanted = {f"usr/bin/{name}" for name in names} | {
+            f"usr/share/man/man1/{name}.1.gz" for name in names
+        }
+        wanted |= {
+            f"usr/share/doc/cueplayer/{name}"
+            for name in ("README.md", "copyright", "changelog.gz")
+        }
         wanted |= {f"usr/share/doc/cueplayer/examples/{name}" for name in files(TOP / "examples")}
-        wanted |= {f"usr/share/doc/cueplayer/docs/{path.name}" for path in (TOP / "docs").iterdir()}
-        wanted |= {f"usr/share/bash-completion/completions/cueplayer{part}" for part in ("", "-night")}
-        wanted |= {f"usr/lib/systemd/system/{unit}@.service" for unit in ("sacn-join", "cueplayer-night")}
+        wanted |= {
+            f"usr/share/doc/cueplayer/docs/{path.name}" for path in (TOP / "docs").iterdir()
+        }
+        wanted |= {
+            f"usr/share/bash-completion/completions/cueplayer{part}" for part in ("", "-night")
+        }
+        wanted |= {
+            f"usr/lib/systemd/system/{unit}@.service" for unit in ("sacn-join", "cueplayer-night")
+        }
         wanted |= {"usr/share/man/man5/cueplayer-show.5.gz"}
         self.assertEqual(set(), wanted - found)
-        self.assertEqual(SHIPPED.read_bytes(), (root / "usr/lib/cueplayer/dist/cueplayer").read_bytes())
+        self.assertEqual(
+            SHIPPED.read_bytes(), (root / "usr/lib/cueplayer/dist/cueplayer").read_bytes()
+        )
         for name in found:
             if name.endswith(".gz"):
                 gzip.decompress((root / name).read_bytes())
         control = self.assertRuns("dpkg-deb", "--field", package)
         self.assertRegex(control, r"(?m)^Depends: libc6 \(>= 2\.\d+\), python3")
-        self.assertEqual((TOP / "VERSION").read_text().strip() + "-1", re.search("(?m)^Version: (.*)$", control)[1])
+        self.assertEqual(
+            (TOP / "VERSION").read_text().strip() + "-1",
+            re.search("(?m)^Version: (.*)$", control)[1],
+        )
 
     @unittest.skipUnless(LINTIAN, "lintian is not on PATH")
     def test_lintian_finds_no_error(self):

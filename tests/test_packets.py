@@ -41,7 +41,12 @@ class Packets(FolderTest):
         lines, out = [f"console 1 100 {CID}", "receiver 1"], []
         for offset in range(len(LOOK_ONE)):
             reply = replies.get(offset, "taken 0")
-            lines += [f"{2500 * offset} stray 0 {turned(offset).hex()}", f"{2500 * offset} slots 0"]
+            lines += [
+                f"{2500 * offset} stray 0 {turned(offset).hex()}",
+                f"{2500 * offset} slots 0",
+            ]
             out += [f"{len(lines) - 1} {reply}", f"{len(lines)} {shown(offset, reply)}"]
         script = self.file("night.script", text(*lines))
-        self.assertEqual((0, text(*out, "end 0 slots 1:64 512:255"), b""), run("rehearse", "/dev/null", script))
+        self.assertEqual(
+            (0, text(*out, "end 0 slots 1:64 512:255"), b""), run("rehearse", "/dev/null", script)
+        )

@@ -1,4 +1,5 @@
-"""What `dev/pages` writes: no page is stale, and its table of the command line is the program's."""
+"""What `dev/pages` writes: no page is stale, and its table of the command line is the
+program's."""
 
 import re
 import sys

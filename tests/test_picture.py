@@ -57,8 +57,12 @@ class Levels(PictureTest):
             (play,) = plays(name)
             lines = play.stdin.decode().splitlines()
             found = self.night(lines, universes=[base], base=base)
-            self.assertEqual([int(line.split()[0]) for line in lines if "tick" in line], found.moments)
-            levels = {(base, slot): [sent[SLOT_1 + slot - 1] for sent in play.packets] for slot in slots}
+            self.assertEqual(
+                [int(line.split()[0]) for line in lines if "tick" in line], found.moments
+            )
+            levels = {
+                (base, slot): [sent[SLOT_1 + slot - 1] for sent in play.packets] for slot in slots
+            }
             self.assertEqual(levels, found.curves)
 
     def test_keep_alive(self):
@@ -274,11 +278,14 @@ class Pictures(PictureTest):
         self.assertEqual((1, "picture: no tick"), (done.returncode, done.stderr[:16]))
         kept.write_bytes(b"0 tick\n")
         done = run_tool("picture", "night", file, kept, "--channel", 9)
-        self.assertEqual((1, "picture: channel 9 runs no dimmer\n"), (done.returncode, done.stderr))
+        self.assertEqual(
+            (1, "picture: channel 9 runs no dimmer\n"), (done.returncode, done.stderr)
+        )
         file.write_bytes(text("CUE x"))
         done = run_tool("picture", "night", file, kept)
-        self.assertEqual((1, "picture: show line 1: BadNumber"), (done.returncode, done.stderr.splitlines()[0]))
-
+        self.assertEqual(
+            (1, "picture: show line 1: BadNumber"), (done.returncode, done.stderr.splitlines()[0])
+        )
 
     def test_other_replies(self):
         """Replies of another script are refused, and so is a script that the program refuses."""

@@ -1,4 +1,5 @@
-"""`play`: its lines, what it prints of them, and the datagrams that reach a socket on this machine."""
+"""`play`: its lines, what it prints of them, and the datagrams that reach a socket on this
+machine."""
 
 import os
 import select
@@ -19,9 +20,13 @@ class PlayTest(FolderTest):
     def assertPlays(self, play):
         """A run prints its lines, and sends its packets in this order."""
         with receiving() as receiver:
-            outcome = run(*self.words(play.show, *play.options, to=address_of(receiver)), stdin=play.stdin)
+            outcome = run(
+                *self.words(play.show, *play.options, to=address_of(receiver)), stdin=play.stdin
+            )
             self.assertEqual(Outcome(play.status, play.out, play.err), outcome)
-            self.assertEqual([p.hex() for p in play.packets], [d.hex() for d in received(receiver)])
+            self.assertEqual(
+                [p.hex() for p in play.packets], [d.hex() for d in received(receiver)]
+            )
 
 
 @with_examples("line", "printed", "slots")
@@ -57,7 +62,9 @@ class Ends(PlayTest):
             (b"!" * 1_048_577, [], 3, b"show: TooLong\n"),
         )
         for show, options, status, err in cases:
-            self.assertEqual((status, b"", err), run(*self.words(show, *options), stdin=b"5 jump\n"))
+            self.assertEqual(
+                (status, b"", err), run(*self.words(show, *options), stdin=b"5 jump\n")
+            )
 
     def test_files(self):
         device = (5, b"", DEVICE_FAULT)
@@ -71,7 +78,9 @@ class Ends(PlayTest):
     def test_devices_that_fail(self):
         folder = os.open(self.folder, os.O_RDONLY)
         self.addCleanup(os.close, folder)
-        done = subprocess.run([PROGRAM, *self.words(S1)], stdin=folder, capture_output=True, timeout=60)
+        done = subprocess.run(
+            [PROGRAM, *self.words(S1)], stdin=folder, capture_output=True, timeout=60
+        )
         self.assertEqual((5, DEVICE_FAULT, b""), (done.returncode, told(done.stderr), done.stdout))
         self.assertFullDisk(self.words(S1), b"0 go\n")
 
@@ -95,17 +104,23 @@ class Ends(PlayTest):
             words = self.words(S1, "--priority", "200", "--base", "63999", to=address_of(receiver))
             run(*words, stdin=b"0 tick\n")
             self.assertEqual([packet(63999, {}, priority=200)], received(receiver))
-        for option, value in (("--priority", "201"), ("--base", "0"), ("--base", "64000"), ("--to", "1.2.3")):
+        for option, value in (
+            ("--priority", "201"),
+            ("--base", "0"),
+            ("--base", "64000"),
+            ("--to", "1.2.3"),
+        ):
             words = ["play", "a", "--cid", CID, option, value]
             words += [] if option == "--to" else ["--to", "127.0.0.1"]
             self.assertEqual((2, b"", UNFIT), run(*words))
 
 
-# Runs in a network of its own: joins the multicast groups of two universes, plays to them, and tells what
-# each group got.
+# Runs in a network of its own: joins the multicast groups of two universes, plays to them, and
+# tells what each group got.
 IN_A_NETWORK = """
 import socket, subprocess, sys
-subprocess.run("ip link set lo up multicast on && ip route add 239.0.0.0/8 dev lo", shell=True, check=True)
+up = "ip link set lo up multicast on && ip route add 239.0.0.0/8 dev lo"
+subprocess.run(up, shell=True, check=True)
 groups = []
 for group in ("239.255.0.255", "239.255.1.0"):
     receiver = socket.socket(socket.AF_INET, socket.SOCK_DGRAM)
@@ -126,7 +141,10 @@ class Multicast(PlayTest):
         """Universes 255 and 256, in a network namespace where one can be made."""
         words = [PROGRAM, *self.words(TWO_UNIVERSES, "--base", "255", to="239.255.0.0")]
         done = subprocess.run(
-            [*own_network(self), sys.executable, "-c", IN_A_NETWORK, *words], capture_output=True, text=True, timeout=60
+            [*own_network(self), sys.executable, "-c", IN_A_NETWORK, *words],
+            capture_output=True,
+            text=True,
+            timeout=60,
         )
         out = "0 live 255:s0 256:s0\n" + "".join(packet(u, {}).hex() + "\n" for u in (255, 256))
         self.assertEqual(("", out), (done.stderr, done.stdout))

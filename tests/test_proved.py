@@ -1,6 +1,6 @@
 """docs/PROVED.md: it says of each crate what docs/ASSURANCE.md says of it, each call of its tables
-has a clause, and the tests that it names are there. `dev/pages` writes the tables; tests/test_pages.py
-tells where they are stale.
+has a clause, and the tests that it names are there. `dev/pages` writes the tables;
+tests/test_pages.py tells where they are stale.
 """
 
 import importlib
@@ -22,11 +22,13 @@ class Proved(unittest.TestCase):
     maxDiff = None
 
     def test_crates(self):
-        """docs/ASSURANCE.md and the page say the same of each crate: one sentence, and the calls that
-        carry it."""
+        """docs/ASSURANCE.md and the page say the same of each crate: one sentence, and the calls
+        that carry it."""
         assurance = (TOP / "docs/ASSURANCE.md").read_text().partition("\n## What is proved\n")[2]
         rows = re.findall(r"^\| ([a-z]\w+) \| (.*) \| (.*) \|$", assurance, re.MULTILINE)
-        told = re.findall(r"^- \*\*(\w+)\.\*\* (.*) \*By\* (.*)\.$", PAGE.read_text(), re.MULTILINE)
+        told = re.findall(
+            r"^- \*\*(\w+)\.\*\* (.*) \*By\* (.*)\.$", PAGE.read_text(), re.MULTILINE
+        )
         self.assertEqual(sorted(crates()), sorted(name for name, _, _ in rows))
         self.assertEqual(rows, told)
         for name, sentence, _ in rows:

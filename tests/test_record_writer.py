@@ -1,5 +1,5 @@
-"""A record that is a file goes through a writer of its own, which may wait for the disk: `./cueplayer`
-starts it. A disk that stalls is a writer that is stopped."""
+"""A record that is a file goes through a writer of its own, which may wait for the disk:
+`./cueplayer` starts it. A disk that stalls is a writer that is stopped."""
 
 import os
 import re
@@ -33,7 +33,9 @@ class WriterTest(OutputsTest):
     def writers(self, night):
         """The processes that write the files of a night."""
         children = Path(f"/proc/{night.pid}/task/{night.pid}/children").read_text().split()
-        return [int(each) for each in children if Path(f"/proc/{each}/comm").read_text() == "cat\n"]
+        return [
+            int(each) for each in children if Path(f"/proc/{each}/comm").read_text() == "cat\n"
+        ]
 
     def writer(self, night, file=None):
         """The process that writes a file of a night, the record where none is named."""
@@ -84,7 +86,8 @@ class RecordWriter(WriterTest):
                 self.record.unlink()
 
     def test_disk_that_stalls(self):
-        """The light goes on, without a late tick; it is told once, and again when all is written."""
+        """The light goes on, without a late tick; it is told once, and again when all is
+        written."""
         night = self.begun("--record", self.record, stdout=subprocess.DEVNULL)
         self.light(night, b"sub 1 FL\n", 128)
         writer = self.writer(night)
@@ -148,7 +151,10 @@ class RecordWriter(WriterTest):
         """A run that is refused leaves no file, and changes none."""
         for words in (("live", self.show), ("live", self.show, "--to", "x", "--cid", "1")):
             done = subprocess.run(
-                [self.PROGRAM, *words, "--record", self.record], env=self.env, capture_output=True, timeout=NEVER
+                [self.PROGRAM, *words, "--record", self.record],
+                env=self.env,
+                capture_output=True,
+                timeout=NEVER,
             )
             self.assertEqual(2, done.returncode)
             self.assertFalse(self.record.exists())

@@ -1,5 +1,5 @@
-"""Each growth of a run's memory refused in turn: the run then tells its want of memory and prints nothing,
-or ends as it does with all memory. And: once a run is open, it asks for no memory."""
+"""Each growth of a run's memory refused in turn: the run then tells its want of memory and prints
+nothing, or ends as it does with all memory. And: once a run is open, it asks for no memory."""
 
 import re
 import struct
@@ -14,7 +14,11 @@ MEMORY = Outcome(6, b"", b"memory\n")
 SHOW = text(
     "IDENT 3:0",
     *(f"PATCH 1 {channel}<{channel}@FL {channel}<{channel + 512}@H80" for channel in range(1, 41)),
-    *(f"{record} {number}\nCHAN 1@50 2@FL 3@H01" for record in ("SUB", "GROUP", "CUE") for number in range(1, 41)),
+    *(
+        f"{record} {number}\nCHAN 1@50 2@FL 3@H01"
+        for record in ("SUB", "GROUP", "CUE")
+        for number in range(1, 41)
+    ),
 )
 COMMANDS = ("go", "back", "goto 2", "sub 1 50", "group 3 FL", "master 50", "sub 200 1", "goto 999")
 
@@ -53,8 +57,9 @@ class RefusedGrowths(Growths):
                 outcome = self.run_without(growth, words, stdin)
                 self.assertIn(outcome, (MEMORY, whole))
                 refused += outcome == MEMORY
-        # A block that is made smaller may stay where it is; without memory for the name of a record that
-        # was made for nothing, that stays; and a remark that cannot be made is left out.
+        # A block that is made smaller may stay where it is; without memory for the name of a
+        # record that was made for nothing, that stays; and a remark that cannot be made is left
+        # out.
         self.assertTrue(has_remark or refused >= growths - 2)
         self.assertGreater(refused, 0)
         # And where the growth after the last would be refused, none is.
@@ -84,14 +89,18 @@ class RefusedGrowths(Growths):
 
     def test_live(self):
         """A night that is over after three ticks."""
-        self.assertEachRefused(["live", self.show, "--to", "127.0.0.1:9", "--cid", CID], b"go\nend\n")
+        self.assertEachRefused(
+            ["live", self.show, "--to", "127.0.0.1:9", "--cid", CID], b"go\nend\n"
+        )
 
     def test_rehearse(self):
         lines = [f"console 1 10{n} {CID[:-1]}{n}" for n in range(2)] + ["receiver 1", "receiver 2"]
         lines += ["0 do 0 go", "0 do 1 sub 1 50", "0 stray 0 00", "0 stray 1"]
         for k in range(12):
             lines += [f"{25 * k} do 0 sub 2 {k}", f"{25 * k} tick 0", f"{25 * k} tick 1"]
-            lines += [f"{25 * k} deliver {n} 0 {n + 1} {k}" for n in range(2)] + [f"{25 * k} slots 0"]
+            lines += [f"{25 * k} deliver {n} 0 {n + 1} {k}" for n in range(2)] + [
+                f"{25 * k} slots 0"
+            ]
         script = self.folder / "night.script"
         script.write_bytes(text(*lines))
         self.assertEachRefused(["rehearse", self.show, script], b"")
@@ -112,8 +121,15 @@ class RefusedGrowths(Growths):
                     self.assertTrue(whole.out.startswith(outcome.out) and outcome.out != whole.out)
 
     def test_words(self):
-        """Of each line, words that ask for help, that the parser refuses, and that lack their form."""
-        for words in (["--help"], ["look", "-"], ["check", "a", "b"], ["rehearse", "a"], ["explain"]):
+        """Of each line, words that ask for help, that the parser refuses, and that lack their
+        form."""
+        for words in (
+            ["--help"],
+            ["look", "-"],
+            ["check", "a", "b"],
+            ["rehearse", "a"],
+            ["explain"],
+        ):
             self.assertEachRefused(words, b"")
         night = ["a", "--to", "127.0.0.1", "--cid", CID, "--priority"]
         for words in (
@@ -128,13 +144,17 @@ class RefusedGrowths(Growths):
 
 
 def watched(n):
-    """A datagram of a night of `watch`, by its number: of seven sources, some of them strangers."""
+    """A datagram of a night of `watch`, by its number: of seven sources, some of them
+    strangers."""
     cid = f"{CID[:-1]}{n % 7}"
-    sent = packet(1 + n % 3, {1 + n % 512: 255}, 3 * n % 256, 0x40 * (n % 13 == 0), 100 + n % 2, cid)
+    sent = packet(
+        1 + n % 3, {1 + n % 512: 255}, 3 * n % 256, 0x40 * (n % 13 == 0), 100 + n % 2, cid
+    )
     return sent[: 638 if n % 5 else 30]
 
 
-# Of cue 50 two channels move, which a tick draws alone; of cue 51, which follows, too many for that.
+# Of cue 50 two channels move, which a tick draws alone; of cue 51, which follows, too many for
+# that.
 MOVING_SHOW = SHOW + text(
     *("CUE 50", "UP 1", "FOLLOWON 2", "CHAN 1@FL 40@FL", "CUE 51", "UP 1"),
     "CHAN " + " ".join(f"{channel}@H80" for channel in range(1, 801)),
@@ -142,8 +162,8 @@ MOVING_SHOW = SHOW + text(
 
 
 def every_line():
-    """Lines of `play` for that show: every command, refused ones, and the end, with ticks that draw all,
-    some and none of the levels. The last line is malformed."""
+    """Lines of `play` for that show: every command, refused ones, and the end, with ticks that
+    draw all, some and none of the levels. The last line is malformed."""
     lines = ["0 tick", "50 goto 50", *(f"{moment} tick" for moment in range(50, 3500, 50))]
     for n in range(35, 235):
         lines += [f"{100 * n} {COMMANDS[n % len(COMMANDS)]}"]
@@ -162,7 +182,8 @@ class NoGrowths(Growths):
         self.assertEqual(before, growths)
 
     def test_play(self):
-        """It asks for as much as a play that ends before its first line: so at its first tick for none."""
+        """It asks for as much as a play that ends before its first line: so at its first tick for
+        none."""
         words = ["play", self.show, "--to", "127.0.0.1:9", "--cid", CID]
         run(*words, stdin=b"", env=self.environment(0))
         opened, _ = self.growths()
@@ -202,7 +223,9 @@ class NoGrowths(Growths):
         self.addCleanup(listener.abandon)
         for n in range(100):
             cid = f"{CID[:-1]}{n % 7}"
-            sent = packet(1 + n % 11 // 10, {1 + n: 255}, 3 * n % 256, 0x40 * (n % 13 == 0), cid=cid)
+            sent = packet(
+                1 + n % 11 // 10, {1 + n: 255}, 3 * n % 256, 0x40 * (n % 13 == 0), cid=cid
+            )
             listener.send(sent[: 638 if n % 5 else 130])
             self.assertNotEqual(b"(no line)", listener.line())
         status, out, err = listener.close()

@@ -26,7 +26,17 @@ REASONS = (
     (LONG, "x" * 200, "go" + " " * 250, "x" * 5000),
 )
 # What arrows, Home, F1, F5, F12 and a key of the Linux console send, and ESC with a letter.
-SENT = ("\x1b[A", "\x1b[B", "\x1b[1~", "\x1bOP", "\x1b[15~", "\x1b[24~", "\x1b[1;5C", "\x1b[[A", "\x1bx")
+SENT = (
+    "\x1b[A",
+    "\x1b[B",
+    "\x1b[1~",
+    "\x1bOP",
+    "\x1b[15~",
+    "\x1b[24~",
+    "\x1b[1;5C",
+    "\x1b[[A",
+    "\x1bx",
+)
 
 
 class RefusedLines(LiveTest):
@@ -48,7 +58,10 @@ class RefusedLines(LiveTest):
     def test_after_the_end(self):
         for word in ("end", "leave"):
             _, refused = self.typed(word, "go", "go 4", "jump", "end")
-            self.assertEqual([f"line refused: {line}: {ENDING}" for line in ("go", "go 4", "jump", "end")], refused)
+            self.assertEqual(
+                [f"line refused: {line}: {ENDING}" for line in ("go", "go 4", "jump", "end")],
+                refused,
+            )
 
     def test_keys(self):
         """They are left out of the line, which is taken, and that is told once a line."""
@@ -56,7 +69,9 @@ class RefusedLines(LiveTest):
             for line in (f"{sent}go", f"go{sent}", f"g{sent}o", f"{sent}{sent} go {sent}"):
                 with self.subTest(line):
                     shown, keys = self.typed(line)
-                    self.assertEqual((["ok", "cue 1", "ok", "ok"], ["keys ignored"]), (shown, keys))
+                    self.assertEqual(
+                        (["ok", "cue 1", "ok", "ok"], ["keys ignored"]), (shown, keys)
+                    )
 
     def test_keys_before_requests(self):
         shown, keys = self.typed("\x1b[Awhere", "\x1b[Ahelp")

@@ -8,7 +8,9 @@ from worked import HEADER, S1, rehearsal_of, rehearsals, steps, table, tables, w
 
 OTHER = CID[:-1] + "2"
 LONGEST_SCRIPT = 16_777_216
-SIXTEEN = text("CUE 1", "CHAN 1@FL", "PATCH 1 " + " ".join(f"1<{512 * k + 1}@FL" for k in range(16)))
+SIXTEEN = text(
+    "CUE 1", "CHAN 1@FL", "PATCH 1 " + " ".join(f"1<{512 * k + 1}@FL" for k in range(16))
+)
 
 
 @with_examples("line", "reply")
@@ -19,9 +21,9 @@ class Rehearse(FolderTest):
         return ["rehearse", self.file("show.asc", show), self.file("night.script", script)]
 
     def assertExample(self, name):
-        for run in rehearsals(name):
-            with self.subTest(run.script[:80]):
-                self.assertRehearses(run)
+        for rehearsal in rehearsals(name):
+            with self.subTest(rehearsal.script[:80]):
+                self.assertRehearses(rehearsal)
 
     def assertRehearses(self, run):
         words = self.words(run.show, run.script)
@@ -32,7 +34,8 @@ class Rehearse(FolderTest):
         self.assertRehearses(rehearsal_of(S1, steps))
 
     def played(self, last):
-        """The lines of a submaster that moves at each tick, up to tick `last`, and their replies."""
+        """The lines of a submaster that moves at each tick, up to tick `last`, and their
+        replies."""
         for i in range(last + 1):
             yield text(f"{25 * i} do 0 sub 1 {i % 90}"), "ok"
             yield text(f"{25 * i} tick 0"), f"live 1:s{i % 256}"
@@ -55,12 +58,20 @@ class Rehearse(FolderTest):
     def test_strays(self):
         """A stray is whatever its digits spell: nothing, a packet, or one of another source."""
         short = "ignored Unreadable Short"
-        self.assertReplies((b"0 stray 0\n", short), (b"0 stray 0 00\n", short), (b"", "end 0 slots"))
+        self.assertReplies(
+            (b"0 stray 0\n", short), (b"0 stray 0 00\n", short), (b"", "end 0 slots")
+        )
         packet = run("look", "-", "1", "--cid", OTHER, stdin=S1).out.strip()
-        # 1,906 slots, more than a packet may have: were it cut as a datagram is, its lengths would not agree.
-        front = b"001000004153432d45312e313700000077e000000004%s77ca00000002" % CID.replace("-", "").encode()
+        # 1,906 slots, more than a packet may have: were it cut as a datagram is, its lengths would
+        # not agree.
+        front = (
+            b"001000004153432d45312e313700000077e000000004%s77ca00000002"
+            % CID.replace("-", "").encode()
+        )
         long = front + b"0" * 128 + b"64000000000001777d02a1000000010773" + b"0" * 3814
-        self.assertReplies((b"0 stray 0 %s\n" % long, "ignored Unreadable Count"), (b"", "end 0 slots"))
+        self.assertReplies(
+            (b"0 stray 0 %s\n" % long, "ignored Unreadable Count"), (b"", "end 0 slots")
+        )
         self.assertReplies(
             (b"0 stray 0 %s\n" % packet, "taken 0"),
             (b"0 STRAY 0 %s\n" % packet.upper(), "ignored OutOfSequence"),
@@ -70,8 +81,8 @@ class Rehearse(FolderTest):
         )
 
     def test_sixteen_universes(self):
-        """All of them in one tick, and a packet of the first and of the last; at both ends of what numbers
-        and priorities there are."""
+        """All of them in one tick, and a packet of the first and of the last; at both ends of what
+        numbers and priorities there are."""
         for base, priority in ((1, 0), (63984, 200)):
             sent = " ".join(f"{universe}:s0" for universe in range(base, base + 16))
             steps = [(f"console {base} {priority} {CID}", None)]
@@ -123,7 +134,8 @@ class Memory(FolderTest):
         return night.returncode
 
     def test_packets_delivered(self):
-        """Where the first packet comes once more at the end, all are kept, and memory is wanted."""
+        """Where the first packet comes once more at the end, all are kept, and memory is
+        wanted."""
         self.assertEqual(0, self.status_of(True))
         self.assertEqual(6, self.status_of(True, 0))
 

@@ -26,8 +26,8 @@ SHOW = text(
     "PATCH 1 1<513@60 2<514@FL 3<515@80 4<1024@FL",
 )  # fmt: skip
 SEED = int(os.environ.get("CUEPLAYER_SEED", 41))
-# In milliseconds, of a machine that gives the program its processor: from a kill to the next packet
-# at most, and how far moments may be off then.
+# In milliseconds, of a machine that gives the program its processor: from a kill to the next
+# packet at most, and how far moments may be off then.
 DARK, OFF = 500, 100
 # How often a night is killed until a kill fell between two ticks.
 TRIES = 20

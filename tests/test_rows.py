@@ -8,12 +8,14 @@ from worked import above, look_one, table, tables, with_examples
 @with_examples("show", "cue", "shown")
 class Rows(ProgramTest):
     def assertExample(self, name):
-        for table in tables(name):
-            for row in table.rows if "show" in table.columns else ():
+        for each in tables(name):
+            for row in each.rows if "show" in each.columns else ():
                 for show in row.texts("show"):
                     with self.subTest(show[:80]):
-                        if "cue" in table.columns:
-                            self.assertShown(above(name) + show, row.cells["cue"], row.words("shown"))
+                        if "cue" in each.columns:
+                            self.assertShown(
+                                above(name) + show, row.cells["cue"], row.words("shown")
+                            )
                         else:
                             self.assertAnswer(above(name) + show, row.cells["answer"])
 
@@ -36,7 +38,8 @@ class Rows(ProgramTest):
             self.assertLooks(show, cue, dict(zip(universes, map(slots_in, shown[1::2]))))
 
     def test_packet_of_look_one(self):
-        """The packet that stands in the page is the one that other tests put together by its fields."""
+        """The packet that stands in the page is the one that other tests put together by its
+        fields."""
         self.assertEqual(look_one(), packet(1, {1: 64}))
         show = table("look_one").rows[0].text("show")
         self.assertRuns(["look", "-", "1", "--cid", CID], show, out=text(look_one().hex()))

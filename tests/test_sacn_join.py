@@ -25,7 +25,9 @@ class SacnJoin(FolderTest):
         line = re.search(rf"(?m)^{word}=(.*)$", UNIT)[1]
         path = f"{self.folder}:{os.environ['PATH']}"
         words = shlex.split(expanded(line, instance))
-        done = subprocess.run(words, env={"PATH": path}, capture_output=True, text=True, check=True)
+        done = subprocess.run(
+            words, env={"PATH": path}, capture_output=True, text=True, check=True
+        )
         return done.stdout.strip()
 
     def test_instances(self):

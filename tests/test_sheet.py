@@ -1,4 +1,5 @@
-"""`tools/sheet`: a page that says what the show says, stands on its own, and prints on A4 and Letter."""
+"""`tools/sheet`: a page that says what the show says, stands on its own, and prints on A4 and
+Letter."""
 
 import base64
 import html.parser
@@ -70,7 +71,9 @@ class SheetTest(FolderTest):
 
     def rows(self, content, *words):
         """The texts of the cells, their lines parted by bars."""
-        cells = lambda row: [" | ".join(cell.replace("\xa0", " ").strip().split("\n")) for cell in row]
+        cells = lambda row: [
+            " | ".join(cell.replace("\xa0", " ").strip().split("\n")) for cell in row
+        ]
         return [cells(row) for row in self.sheet(content, *words).rows]
 
 
@@ -114,13 +117,17 @@ class Sheets(SheetTest):
 
     def test_names_of_any_bytes(self):
         label = bytes(byte for byte in range(1, 256) if byte not in b"\n!")
-        rows = self.rows(b"CUE 1\nTEXT " + label + b"\nCUE 2\nTEXT Caf\xc3\xa9\nCUE 3\nTEXT Caf\xe9\n")
+        rows = self.rows(
+            b"CUE 1\nTEXT " + label + b"\nCUE 2\nTEXT Caf\xc3\xa9\nCUE 3\nTEXT Caf\xe9\n"
+        )
         self.assertEqual(["Café", "Café"], [row[1] for row in rows[2:]])
 
     def test_nothing_patched(self):
         page = self.sheet(text("CUE 1", "CHAN 1@FL"))
         self.assertIn("nothing", page.rows[1][4])
-        self.assertTrue(any("No dimmer is patched: no cue lights anything." in part for part in page.texts))
+        self.assertTrue(
+            any("No dimmer is patched: no cue lights anything." in part for part in page.texts)
+        )
         self.assertEqual(1, len(self.sheet(b"").rows))
 
     def test_examples(self):
@@ -134,7 +141,10 @@ class Sheets(SheetTest):
                 self.assertEqual(labels, [row[1] for row in rows[: len(labels)]])
 
     def test_refused(self):
-        for content, told in ((text("CUE x"), "show line 1: BadNumber"), (b"!" * 1_048_577, "show: TooLong")):
+        for content, told in (
+            (text("CUE x"), "show line 1: BadNumber"),
+            (b"!" * 1_048_577, "show: TooLong"),
+        ):
             done = run_tool("sheet", self.file("night.asc", content))
             self.assertEqual((1, ""), (done.returncode, done.stdout))
             self.assertTrue(done.stderr.startswith(f"sheet: {told}"), done.stderr)
@@ -146,11 +156,14 @@ class Sheets(SheetTest):
 
 class Changes(unittest.TestCase):
     def test_rise_fall_and_out(self):
-        before, after = {1: 0, 2: 255, 3: 128, 4: 128, 5: 9}, {1: 26, 2: 128, 3: 0, 4: 128, 5: 26, 6: 0}
+        before = {1: 0, 2: 255, 3: 128, 4: 128, 5: 9}
+        after = {1: 26, 2: 128, 3: 0, 4: 128, 5: 26, 6: 0}
         expected = [Change("up", [1, 5], 26), Change("down", [2], 128), Change("out", [3], 0)]
         found = sheet_changes.changes(before, after)
         self.assertEqual(expected, found)
-        self.assertEqual(["1, 5 to\xa010", "2 to\xa050", "3"], [change.words() for change in found])
+        self.assertEqual(
+            ["1, 5 to\xa010", "2 to\xa050", "3"], [change.words() for change in found]
+        )
 
     def test_many(self):
         """Beyond twelve levels it is told how many channels more there are."""
@@ -172,7 +185,9 @@ class Looks(FolderTest):
         found = looks.looks_of(file, show)
         self.assertEqual(show.order, list(found))
         for cue, look in found.items():
-            lines = [line for n, slots in sorted(look.items()) for line in (f"universe {n}", slots)]
+            lines = [
+                line for n, slots in sorted(look.items()) for line in (f"universe {n}", slots)
+            ]
             self.assertEqual(runs.slots(content, cue, 1).out, text(*lines) if lines else b"")
 
     def test_sixteen_universes(self):
@@ -182,8 +197,19 @@ class Looks(FolderTest):
 
     def test_follow_ons(self):
         """A cue that goes on at once is shown by itself."""
-        cues = ("CUE 1", "FOLLOWON 0", "CHAN 1@10", "CUE 2", "FOLLOWON 0", "CHAN 1@20", "CUE 3", "CHAN 1@30")
-        self.assertLooks(text("PATCH 1 1<1@FL", *cues, "FOLLOWON 0.5", "CUE 4", "UP 100", "CHAN 1@FL"))
+        cues = (
+            "CUE 1",
+            "FOLLOWON 0",
+            "CHAN 1@10",
+            "CUE 2",
+            "FOLLOWON 0",
+            "CHAN 1@20",
+            "CUE 3",
+            "CHAN 1@30",
+        )
+        self.assertLooks(
+            text("PATCH 1 1<1@FL", *cues, "FOLLOWON 0.5", "CUE 4", "UP 100", "CHAN 1@FL")
+        )
 
     def test_shows_by_chance(self):
         r = random.Random(SEED)
@@ -203,13 +229,21 @@ class Printed(SheetTest):
         lines = ["PATCH 1 " + " ".join(f"{n}<{n}@FL" for n in range(1, 200))]
         r = random.Random(SEED)
         for n in range(1, 60):
-            lines += [f"CUE {n}", f"TEXT cue {n}, in which much goes on", "UP 1:30 10", "FOLLOWON 5"]
-            lines += ["CHAN " + " ".join(f"{r.randrange(1, 200)}@{r.choice('1379')}0" for _ in range(30))]
+            lines += [
+                f"CUE {n}",
+                f"TEXT cue {n}, in which much goes on",
+                "UP 1:30 10",
+                "FOLLOWON 5",
+            ]
+            lines += [
+                "CHAN " + " ".join(f"{r.randrange(1, 200)}@{r.choice('1379')}0" for _ in range(30))
+            ]
         lines += ["CUE 9999.999", "TEXT " + "W" * 80, "UP 99:59.99 99:59.99", "CHAN 4096@FL"]
         return text(*lines)
 
     def test_prints(self):
-        """On both papers nothing is cut off at the side, and the pages are as many as the rows need."""
+        """On both papers nothing is cut off at the side, and the pages are as many as the rows
+        need."""
         file = self.folder / "sheet.html"
         done = run_tool("sheet", self.file("night.asc", self.show()))
         file.write_text(done.stdout)

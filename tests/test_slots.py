@@ -75,7 +75,9 @@ class Slots(ProgramTest):
                 for line in looked.out.split():
                     packet = bytes.fromhex(line.decode())
                     lines.append(f"universe {int.from_bytes(packet[113:115], 'big')}")
-                    levels = (f" {slot}:{level}" for slot, level in enumerate(packet[126:], 1) if level)
+                    levels = (
+                        f" {slot}:{level}" for slot, level in enumerate(packet[126:], 1) if level
+                    )
                     lines.append("slots" + "".join(levels))
                 out = "".join(line + "\n" for line in lines).encode()
                 self.assertRuns(["slots", file, cue], b"", out=out)

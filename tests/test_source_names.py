@@ -24,7 +24,10 @@ def namespace():
     cannot be one."""
     alone = ["unshare", "--uts"]
     for words in (alone, ["unshare", "--user", "--map-root-user", "--uts"]):
-        if shutil.which("unshare") and subprocess.run([*words, "true"], capture_output=True).returncode == 0:
+        if (
+            shutil.which("unshare")
+            and subprocess.run([*words, "true"], capture_output=True).returncode == 0
+        ):
             return words
     return None
 
@@ -104,7 +107,9 @@ class SourceNames(NamesTest):
         self.assertEqual(0, run_of_night[0])
         night = self.came()
         lines = self.record.read_bytes()
-        self.assertEqual((0, ""), self.on("attic", "--name", "cueplayer booth", job="play", stdin=lines))
+        self.assertEqual(
+            (0, ""), self.on("attic", "--name", "cueplayer booth", job="play", stdin=lines)
+        )
         self.assertEqual(night, self.came())
 
     def test_taken_up(self):
@@ -135,7 +140,9 @@ class SourceNames(NamesTest):
                 self.record.unlink(missing_ok=True)
                 if content is not None:
                     self.record.write_bytes(content)
-                self.assertSends("cueplayer spare", self.on("spare", "--record", self.record, "--resume"))
+                self.assertSends(
+                    "cueplayer spare", self.on("spare", "--record", self.record, "--resume")
+                )
 
     def test_backup(self):
         """A backup has the name of its own machine, and not that of the main."""

@@ -116,8 +116,8 @@ def arrivals(r: random.Random, count: int) -> list:
 
 
 def in_window(numbers: list) -> list:
-    """Of these arrivals those that the window allows; where too many in a row are lost, one of them
-    arrives."""
+    """Of these arrivals those that the window allows; where too many in a row are lost, one of
+    them arrives."""
     newest, found = numbers[0], []
     for k in numbers:
         while k > newest + AHEAD:
@@ -166,7 +166,12 @@ def universe_of(datagram: bytes) -> int:
 
 def strangers(r: random.Random, universe: int, others: list) -> list:
     """Datagrams not heard on a universe: no packets, packets of other universes, previews."""
-    kinds = [b"", b"\1\2", packet(universe + 1, {1: 255}), packet(universe, {1: 255}, options=0x80)]
+    kinds = [
+        b"",
+        b"\1\2",
+        packet(universe + 1, {1: 255}),
+        packet(universe, {1: 255}, options=0x80),
+    ]
     return r.choices(kinds + others, k=r.randrange(6))
 
 
@@ -273,7 +278,8 @@ class StageLight(FolderTest):
         self.assertLessEqual({(2, 2), (2, 1), (1, 1), (0, 0)}, priorities)
 
     def test_window(self):
-        """The network of these tests loses, repeats and reorders, in the window up to its edges."""
+        """The network of these tests loses, repeats and reorders, in the window up to its
+        edges."""
         for count in (1, 2, 40, 700):
             tally = Tally()
             for seed in range(100):

@@ -79,20 +79,28 @@ class StartLines(LiveTest):
     def test_no_universe(self):
         self.show.write_bytes(text("CUE 1"))
         told = self.lines()[1]
-        self.assertEqual(f"sends: no universe, since no dimmer is patched, to {self.to}, {SENDS}", told)
+        self.assertEqual(
+            f"sends: no universe, since no dimmer is patched, to {self.to}, {SENDS}", told
+        )
 
     def test_source(self):
         """The priority, and the CID however it was spelled."""
         for priority in ("0", "200"):
             for cid in (CID.upper(), CID.replace("-", ""), f"{{{CID}}}"):
                 told = self.lines("--priority", priority, cid=cid)[1]
-                self.assertEqual(f"sends: universe 1 to {self.to}, priority {priority}, CID {CID}, name {LIVE_NAME}", told)
+                self.assertEqual(
+                    f"sends: universe 1 to {self.to}, priority {priority}, CID {CID}, name "
+                    f"{LIVE_NAME}",
+                    told,
+                )
 
     def test_name(self):
         """As it is in each packet, in UTF-8."""
         for name in ("the backup", "M\u00e4in, 2", "n" * 63):
             told = self.lines("--name", name)[1]
-            self.assertEqual(f"sends: universe 1 to {self.to}, priority 100, CID {CID}, name {name}", told)
+            self.assertEqual(
+                f"sends: universe 1 to {self.to}, priority 100, CID {CID}, name {name}", told
+            )
 
     def test_targets(self):
         """Several targets, or one for some universes alone, have a line each, in their order."""
@@ -111,11 +119,17 @@ class StartLines(LiveTest):
             told[2:-2],
         )
         told = self.lines(to="1-3=127.0.0.1")
-        self.assertEqual((f"sends: universes 1 2 3 to 1 target, {SENDS}", "target: universes 1-3 to 127.0.0.1:5568"),
-                         tuple(told[1:3]))
+        self.assertEqual(
+            (
+                f"sends: universes 1 2 3 to 1 target, {SENDS}",
+                "target: universes 1-3 to 127.0.0.1:5568",
+            ),
+            tuple(told[1:3]),
+        )
 
     def test_multicast(self):
-        """Each universe to its own group, and all to one address: only the first is told as multicast."""
+        """Each universe to its own group, and all to one address: only the first is told as
+        multicast."""
         network = own_network(self)
         for to, told in (
             ("239.255.0.0", "239.255.0.0:5568 (multicast)"),
@@ -123,10 +137,13 @@ class StartLines(LiveTest):
             ("239.255.0.1", "239.255.0.1:5568"),
             ("127.0.0.1", "127.0.0.1:5568"),
         ):
-            self.assertEqual(f"sends: universe 1 to {told}, {SENDS}", self.lines(before=network, to=to)[1])
+            self.assertEqual(
+                f"sends: universe 1 to {told}, {SENDS}", self.lines(before=network, to=to)[1]
+            )
 
     def test_record(self):
-        """By its name, of which 200 characters are shown, each that is no printable ASCII as `?`."""
+        """By its name, of which 200 characters are shown, each that is no printable ASCII as
+        `?`."""
         for name, shown in (
             ("night of May.play", "night of May.play"),
             ("n\u00e4cht\x1b[31m\n.play", "n?cht?[31m?.play"),
@@ -134,7 +151,9 @@ class StartLines(LiveTest):
         ):
             with self.subTest(name):
                 record = self.folder / name
-                self.assertEqual(f"record: {self.folder / shown}"[:208], self.lines("--record", record)[-2])
+                self.assertEqual(
+                    f"record: {self.folder / shown}"[:208], self.lines("--record", record)[-2]
+                )
 
     def test_ends(self):
         """That control-C does nothing is told where it is so."""

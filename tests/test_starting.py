@@ -50,7 +50,8 @@ class Starting(CopiedLayout):
         self.assertStarts("start", path=f"{self.top}:{os.environ['PATH']}")
 
     def test_starts_at_once(self):
-        """The script takes less than 30 ms; the best of some runs, since others use the machine too."""
+        """The script takes less than 30 ms; the best of some runs, since others use the machine
+        too."""
         self.ship("#!/bin/sh\n")
         runs = []
         for _ in range(20):
@@ -69,7 +70,8 @@ class Starting(CopiedLayout):
                 self.assertEqual(SHOWN, found)
 
     def test_named_program(self):
-        """CUEPLAYER names another; where it names the script itself, that runs the one of dist/."""
+        """CUEPLAYER names another; where it names the script itself, that runs the one of
+        dist/."""
         other = self.write("other", MADE.replace("words", "other words"))
         status, out, _ = self.run_script("cueplayer", *WORDS, more={"CUEPLAYER": str(other)})
         self.assertEqual((3, "other words: look - 1\na show\n"), (status, out))
@@ -100,7 +102,9 @@ class Starting(CopiedLayout):
 
     def test_no_program(self):
         self.program.unlink()
-        self.assertFails(f"there is no program at {self.program}: git checkout dist brings it back")
+        self.assertFails(
+            f"there is no program at {self.program}: git checkout dist brings it back"
+        )
         shutil.rmtree(self.top / "dist")
         self.assertFails("there is no program at")
 
@@ -147,7 +151,9 @@ class Starting(CopiedLayout):
         for library in ("glibc 2.31", "glibc 2.9", "glibc 2.33"):
             with self.subTest(library):
                 self.replace("getconf", f"echo {library}")
-                self.assertFails(f"this machine has {library}: the program needs glibc 2.34 or newer")
+                self.assertFails(
+                    f"this machine has {library}: the program needs glibc 2.34 or newer"
+                )
         self.replace("getconf", "exit 1")
         self.assertFails("this machine has no glibc: the program needs glibc 2.34 or newer")
 
@@ -200,7 +206,8 @@ class Version(CopiedLayout):
         return done.stdout.strip()
 
     def test_whole(self):
-        """Its version, commit, toolchain, date and checksum, and whether the sources are the program's."""
+        """Its version, commit, toolchain, date and checksum, and whether the sources are the
+        program's."""
         wanted = [
             "cueplayer 1.0.0",
             "commit: unknown",
@@ -213,10 +220,13 @@ class Version(CopiedLayout):
         self.assertEqual([], self.asked())
 
     def test_only_alone(self):
-        self.assertEqual((3, "words: --version x\na show\n", ""), self.run_script("cueplayer", "--version", "x"))
+        self.assertEqual(
+            (3, "words: --version x\na show\n", ""), self.run_script("cueplayer", "--version", "x")
+        )
 
     def test_changed_sources(self):
-        """In the program's crates, or in the lines of crates.txt that name them, and nowhere else."""
+        """In the program's crates, or in the lines of crates.txt that name them, and nowhere
+        else."""
         told = "sources: changed since the program was built; ./build builds it from them"
         for name, content, is_changed in (
             ("crates/aside/src/lib.rt", "other", False),
@@ -230,7 +240,9 @@ class Version(CopiedLayout):
             with self.subTest(name):
                 self.ship(MADE)
                 self.write(name, content)
-                self.assertEqual(told if is_changed else "sources: those of the program", self.version()[5])
+                self.assertEqual(
+                    told if is_changed else "sources: those of the program", self.version()[5]
+                )
 
     def test_without_sources(self):
         shutil.rmtree(self.top / "crates")
@@ -238,13 +250,18 @@ class Version(CopiedLayout):
 
     def test_damage(self):
         self.program.write_text(MADE + "#")
-        self.assertEqual("program: damaged: its checksum is not the one in dist/PROVENANCE", self.version()[4])
+        self.assertEqual(
+            "program: damaged: its checksum is not the one in dist/PROVENANCE", self.version()[4]
+        )
         self.provenance.unlink()
         version, _, toolchain, _, program, sources = self.version()
-        self.assertEqual("cueplayer of an unknown version: dist/PROVENANCE is missing or damaged", version)
+        self.assertEqual(
+            "cueplayer of an unknown version: dist/PROVENANCE is missing or damaged", version
+        )
         self.assertEqual("toolchain: unknown", toolchain)
         self.assertEqual(
-            f"program: sha256 {sum_of(self.program.read_bytes())}: dist/PROVENANCE does not say what it should be",
+            f"program: sha256 {sum_of(self.program.read_bytes())}: dist/PROVENANCE does not "
+            f"say what it should be",
             program,
         )
         self.assertEqual("sources: unknown whether they are those of the program", sources)

@@ -238,7 +238,8 @@ class Words(StormTest):
         return self.file("show.asc", content), self.file("night.play", lines)
 
     def test_repeats_and_keep_alive(self):
-        """A cut whose packets are lost is wrong until the next one: 25 ms, or to the keep-alive."""
+        """A cut whose packets are lost is wrong until the next one: 25 ms, or to the
+        keep-alive."""
         lengths = (25, 50, 75, 100, 500, 1000, 2500)
         for until, wrong in ((1, 25), (26, 50), (76, 875), (876, 1675), (1676, 2475)):
             found = self.data(*self.night(), "--switch", f"0-{until}")

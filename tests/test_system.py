@@ -128,7 +128,9 @@ class Many(ReceiverTest):
             play.stdin.write("".join(moves).encode())
             play.stdin.flush()
             shown = [play.stdout.readline() for _ in range(2 * PART)]
-            self.assertEqual([b"%d live 1:s%d\n" % (25 * k, k % 256) for k in numbers], shown[1::2])
+            self.assertEqual(
+                [b"%d live 1:s%d\n" % (25 * k, k % 256) for k in numbers], shown[1::2]
+            )
             came = [(each[111], each[112:]) for each in received(self.receiver, 0)]
             self.assertEqual([(k % 256, looks[k % 2]) for k in numbers], came)
 
@@ -172,8 +174,8 @@ class Long(FolderTest):
             self.assertIsNone(listener.child.poll())
 
 
-# Runs in a network of its own: listens at the groups and ports that are named, plays, and tells what
-# came to each, and nothing else.
+# Runs in a network of its own: listens at the groups and ports that are named, plays, and tells
+# what came to each, and nothing else.
 IN_A_NETWORK = """
 import json, select, socket, subprocess, sys
 link = "ip link set lo up multicast on && ip route add 239.0.0.0/8 dev lo"
@@ -225,7 +227,8 @@ class Places(FolderTest):
 
 
 class Processor(FollowTest):
-    """A program that waits takes next to nothing of a processor, and a night goes on with its ticks."""
+    """A program that waits takes next to nothing of a processor, and a night goes on with its
+    ticks."""
 
     def taken(self, *processes):
         """What share of a processor each took for some seconds."""

@@ -49,7 +49,13 @@ class Words(TargetTest):
             *("", "=", "1=", "=127.0.0.1", "0=127.0.0.1", "64000=127.0.0.1", "1=2=127.0.0.1", "x"),
             *(f"{n}=127.0.0.1" for n in ("2-1", "0-1", "1-64000", "1-", "-1", "1-2-3", "1,2")),
             *("1 =127.0.0.1", "1= 127.0.0.1", "1=127.0.0.1:", "1=127.0.0.1:65536", "1=127.0.0"),
-            *("1=localhost", "1=256.0.0.1", "0000000001=127.0.0.1", "127.0.0.1=1", "1=127.0.0.1/8"),
+            *(
+                "1=localhost",
+                "1=256.0.0.1",
+                "0000000001=127.0.0.1",
+                "127.0.0.1=1",
+                "1=127.0.0.1/8",
+            ),
         ):
             with self.subTest(word):
                 self.assertIsNone(expected.target(word))
@@ -159,6 +165,8 @@ class Chance(TargetTest):
         self.assertEqual((0, text("0 ok", shown), b""), tuple(out))
         for receiver, at in zip(self.receivers, self.ports):
             addresses = {n: expected.addresses(n, named) for n in on_wire}
-            here = [n for n in on_wire for to in addresses[n] if to.spelled() == "{}:{}".format(*at)]
+            here = [
+                n for n in on_wire for to in addresses[n] if to.spelled() == "{}:{}".format(*at)
+            ]
             self.assertEqual([packet(n, {1: 128}) for n in here], received(receiver, 0))
         return True

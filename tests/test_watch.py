@@ -50,7 +50,8 @@ class Watch(ProgramTest):
         before = b"0 00\n1000\n! a comment\n\n2000 ,\r\n"
         longest = b"2000" + b" " * (LONGEST_LINE - 4)
         for line in (
-            b"x", b"-1", b"1.5", b"1234567890123456", b"1 0", b"1 0g", b"1 00 00", b"1 00 !" + b"x" * 3072,
+            b"x", b"-1", b"1.5", b"1234567890123456", b"1 0", b"1 0g", b"1 00 00",
+            b"1 00 !" + b"x" * 3072,
             longest + b" ", b"\xff", b"0x1", b"1 \xe9\xe9",
         ):  # fmt: skip
             with self.subTest(line[:20]):
@@ -61,7 +62,9 @@ class Watch(ProgramTest):
 
     def test_moment_that_falls(self):
         """It is skipped, told by its name, and changes nothing."""
-        lines = text(f"1000 {packet(1, {1: 5}).hex()}", f"999 {packet(1, {1: 9}, 1).hex()}", "1100", "2000")
+        lines = text(
+            f"1000 {packet(1, {1: 5}).hex()}", f"999 {packet(1, {1: 9}, 1).hex()}", "1100", "2000"
+        )
         self.assertWatches(lines, 1)
         out = run("watch", "1", stdin=lines).out
         self.assertIn(b"2000 0 ignored Backwards 1\n", out)
@@ -91,7 +94,9 @@ class Watch(ProgramTest):
 
     def test_line_by_line(self):
         """What a line changes is printed before the next one is read."""
-        child = subprocess.Popen([PROGRAM, "watch", "1"], stdin=subprocess.PIPE, stdout=subprocess.PIPE)
+        child = subprocess.Popen(
+            [PROGRAM, "watch", "1"], stdin=subprocess.PIPE, stdout=subprocess.PIPE
+        )
         self.addCleanup(child.kill)
         with child:
             child.stdin.write(f"100 {packet(1, {1: 5}).hex()}\n".encode())
@@ -106,7 +111,8 @@ class Watch(ProgramTest):
 
     def test_unfit_universes(self):
         many = [str(universe) for universe in range(1, 18)]
-        for words in (["0"], ["64000"], ["1", "01"], ["1", "x"], ["1", "2", "1"], ["-"], [""], many,
+        for words in (["0"], ["64000"], ["1", "01"], ["1", "x"], ["1", "2", "1"], ["-"], [""],
+        many,
                       ["1.0"], ["+1"], ["4294967297"]):  # fmt: skip
             with self.subTest(words):
                 self.assertRuns(["watch", *words], b"0 00\n", status=2, err=UNFIT)
@@ -130,4 +136,6 @@ class Watch(ProgramTest):
         self.addCleanup(os.close, folder)
         for options in ({"stdin": folder}, {"preexec_fn": lambda: os.close(0)}):
             done = subprocess.run(words, capture_output=True, timeout=60, **options)
-            self.assertEqual((5, b"", DEVICE_FAULT), (done.returncode, done.stdout, told(done.stderr)))
+            self.assertEqual(
+                (5, b"", DEVICE_FAULT), (done.returncode, done.stdout, told(done.stderr))
+            )

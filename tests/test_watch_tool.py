@@ -30,7 +30,9 @@ from program import CID, TOP, FolderTest, packet, run, text
 from tooling import PATIENCE, TOOLS, Lines, run_tool, stand_still, wait_for
 from wire import own_network, terminal
 
-from cueplayer_tools.watch_command import universes_of  # noqa: E402  (tooling has its folder on the path)
+from cueplayer_tools.watch_command import (
+    universes_of,
+)  # noqa: E402  (tooling has its folder on the path)
 from cueplayer_tools.watch_files import Record, Script  # noqa: E402
 from cueplayer_tools.watch_rates import Rates  # noqa: E402
 from cueplayer_tools.watch_state import Watched  # noqa: E402
@@ -52,7 +54,17 @@ class Universes(unittest.TestCase):
         self.assertEqual([1], universes_of(["1"]))
         self.assertEqual([3, 4, 5, 1], universes_of(["3-5", "1"]))
         self.assertEqual(list(range(1, 17)), universes_of(["1-16"]))
-        for words in (["0"], ["64000"], ["1-17"], ["1", "1"], ["2-1"], ["x"], ["1-63999"], ["-1"], ["²"]):
+        for words in (
+            ["0"],
+            ["64000"],
+            ["1-17"],
+            ["1", "1"],
+            ["2-1"],
+            ["x"],
+            ["1-63999"],
+            ["-1"],
+            ["²"],
+        ):
             with self.subTest(words), self.assertRaises(Refused):
                 universes_of(words)
 
@@ -75,7 +87,8 @@ class Kept(FolderTest):
         return moment + 2_600
 
     def rehearsed(self, script):
-        """What each receiver answered, by its universe: its slots at each look, and what it ignored."""
+        """What each receiver answered, by its universe: its slots at each look, and what it
+        ignored."""
         lines = script.decode().splitlines()
         done = run("rehearse", self.file("a.asc", text("CUE 1")), self.file("a.script", script))
         self.assertEqual((0, b""), (done.status, done.err))
@@ -108,7 +121,9 @@ class Kept(FolderTest):
                 self.assertEqual(slots[moment, number], universe.slots_line(), (moment, number))
         for number, universe in watched.universes.items():
             for reason in ("OutOfSequence", "SourcesFull", "Preview"):
-                self.assertEqual(ignored[number, reason], universe.ignored[reason], (number, reason))
+                self.assertEqual(
+                    ignored[number, reason], universe.ignored[reason], (number, reason)
+                )
 
     def test_script_answers_as_the_watch(self):
         r = random.Random(SEED)
@@ -154,10 +169,12 @@ class State(unittest.TestCase):
     """What is known, by lines of `watch`."""
 
     def test_flash(self):
-        """A slot that changes and comes back within a second; one that comes back later is none."""
+        """A slot that changes and comes back within a second; one that comes back later is
+        none."""
         watched = Watched([1])
         told = [watched.take(f"{moment} 1 slots{slots}") for moment, slots in (
-            (100, " 1:5 2:9"), (1000, " 1:255 2:9"), (2000, " 1:5 2:9"), (3000, " 1:5"), (4001, " 1:5 2:9"),
+            (100, " 1:5 2:9"), (1000, " 1:255 2:9"), (2000, " 1:5 2:9"), (3000, " 1:5"),
+            (4001, " 1:5 2:9"),
         )]  # fmt: skip
         self.assertEqual([[], [], ["2000 1 flash 1"], [], []], told)
         self.assertTrue(watched.universes[1].has_flashed(1, 4999))
@@ -173,7 +190,9 @@ class State(unittest.TestCase):
         universe = watched.universes[1]
         self.assertEqual(("main a", 100, 7), tuple(vars(universe.sources[CID]).values()))
         self.assertEqual([False, True], [universe.leads(cid) for cid in (CID, OTHER)])
-        self.assertEqual((2, 5), (watched.ignored["Unreadable Short"], universe.ignored["OutOfSequence"]))
+        self.assertEqual(
+            (2, 5), (watched.ignored["Unreadable Short"], universe.ignored["OutOfSequence"])
+        )
         watched.take(f"9 1 ended  {OTHER}")
         self.assertEqual([CID], list(universe.sources))
         self.assertTrue(universe.leads(CID))
@@ -221,7 +240,10 @@ class ToolTest(NetworkTest, FolderTest):
         child = subprocess.Popen(words, **options)
         self.addCleanup(child.wait)
         self.addCleanup(child.kill)
-        wait_for(lambda: sockets(machine) > before or child.poll() is not None, "the tool has its socket")
+        wait_for(
+            lambda: sockets(machine) > before or child.poll() is not None,
+            "the tool has its socket",
+        )
         return child
 
     def lines(self, *words, **options):
@@ -265,11 +287,15 @@ class InLines(ToolTest):
         child.send_signal(signal.SIGINT)
         rest = out.rest()
         self.assertEqual((0, []), (child.wait(PATIENCE), err.rest()))
-        self.assertEqual(["1 slots 1:64", "2 slots 5:9"], [line.partition(" ")[2] for line in rest[-2:]])
+        self.assertEqual(
+            ["1 slots 1:64", "2 slots 5:9"], [line.partition(" ")[2] for line in rest[-2:]]
+        )
 
     def test_other_groups(self):
         """A group that another program of the machine has joined is not meant."""
-        with self.machine.within(lambda: socket.socket(socket.AF_INET, socket.SOCK_DGRAM)) as other:
+        with self.machine.within(
+            lambda: socket.socket(socket.AF_INET, socket.SOCK_DGRAM)
+        ) as other:
             group = socket.inet_aton("239.255.0.3") + socket.inet_aton("127.0.0.1")
             other.setsockopt(socket.IPPROTO_IP, socket.IP_ADD_MEMBERSHIP, group)
             child, out, _ = self.lines("1", "--interface", "lo")
@@ -301,7 +327,8 @@ class InLines(ToolTest):
             line = out.find(r"\d+ (\d+ ignored .*) (\d+)$")
             found[line[1]] = found.get(line[1], 0) + int(line[2])
         self.assertEqual({
-            "1 ignored PerAddressPriority": 1, "0 ignored Synchronization": 1, "0 ignored Discovery": 2,
+            "1 ignored PerAddressPriority": 1, "0 ignored Synchronization": 1,
+            "0 ignored Discovery": 2,
             "0 ignored Unreadable Short": 2,
         }, found)  # fmt: skip
 
@@ -364,7 +391,10 @@ class InLines(ToolTest):
     def test_what_cannot_be_watched(self):
         for words, told in (
             (["1", "--interface", "none9"], "watch: no network card none9: there are lo"),
-            (["1", "--interface", "192.0.2.1"], "watch: no network card has the address 192.0.2.1"),
+            (
+                ["1", "--interface", "192.0.2.1"],
+                "watch: no network card has the address 192.0.2.1",
+            ),
             (["0"], "watch: a universe is a number from 1 to 63999: 0"),
         ):
             with self.subTest(words):
@@ -375,16 +405,20 @@ class InLines(ToolTest):
                 self.assertEqual((2, told + "\n"), (done.returncode, done.stderr))
 
     def test_no_card(self):
-        """Where no route leads to the groups, what is sent to the machine is watched all the same."""
+        """Where no route leads to the groups, what is sent to the machine is watched all the
+        same."""
         with ExitStack() as kept:
             machine = Machine(kept)
             child = self.start(machine, "1", stdout=subprocess.PIPE, stderr=subprocess.PIPE)
-            with machine.within(lambda: socket.socket(socket.AF_INET, socket.SOCK_DGRAM)) as sender:
+            with machine.within(
+                lambda: socket.socket(socket.AF_INET, socket.SOCK_DGRAM)
+            ) as sender:
                 sender.sendto(packet(1, {1: 7}), ("127.0.0.1", PORT))
             interrupt(machine, child)
             out, err = child.communicate(timeout=PATIENCE)
         self.assertEqual(
-            "watch: cannot join 239.255.0.1: No such device; only unicast is heard: name a network card by "
+            "watch: cannot join 239.255.0.1: No such device; only unicast is heard: name a "
+            "network card by "
             "--interface\n", err.decode())  # fmt: skip
         self.assertIn("slots 1:7", out.decode())
 
@@ -421,7 +455,9 @@ class TerminalTest(ToolTest):
         self.shown = ""
 
     def begin(self, *words):
-        child = self.start(self.machine, *words, stdin=self.slave, stdout=self.slave, stderr=self.slave)
+        child = self.start(
+            self.machine, *words, stdin=self.slave, stdout=self.slave, stderr=self.slave
+        )
         self.wait_for("q: quit")
         return child
 
@@ -435,7 +471,9 @@ class TerminalTest(ToolTest):
         return re.sub(r"\x1b\[[?0-9]*[a-zA-Z]|\r", "", whole)
 
     def wait_for(self, text):
-        return wait_for(lambda: text in (picture := self.look()) and picture, f"the screen shows {text!r}")
+        return wait_for(
+            lambda: text in (picture := self.look()) and picture, f"the screen shows {text!r}"
+        )
 
     def key(self, *keys):
         for key in keys:
@@ -443,7 +481,10 @@ class TerminalTest(ToolTest):
 
     def wait_for_end(self, text):
         """Waits until this stands behind the last picture."""
-        wait_for(lambda: self.look() is not None and text in self.shown.rpartition("\x1b[?1049l")[2], text)
+        wait_for(
+            lambda: self.look() is not None and text in self.shown.rpartition("\x1b[?1049l")[2],
+            text,
+        )
 
 
 def seconds_shown(picture):
@@ -457,7 +498,9 @@ class Screen(TerminalTest):
     def test_screen(self):
         child = self.begin("1", "2")
         self.assertIn("universe 1 (1 of 2)", self.look())
-        self.send(packet(1, {1: 64, 20: 255}, name="main"), packet(2, {512: 7}, cid=OTHER, priority=150))
+        self.send(
+            packet(1, {1: 64, 20: 255}, name="main"), packet(2, {512: 7}, cid=OTHER, priority=150)
+        )
         picture = self.wait_for("64")
         self.assertRegex(picture, rf"(?m)^> main +100 .* {CID}")
         self.assertRegex(picture, r"(?m)^  1  64 +\. .* 255 *$")
@@ -545,7 +588,9 @@ class Screen(TerminalTest):
         """Whatever size the terminal has, a line is no longer than it."""
         for rows, columns in ((24, 80), (5, 20), (60, 300), (1, 1)):
             ioctl(self.slave, termios.TIOCSWINSZ, struct.pack("4H", rows, columns, 0, 0))
-            child = self.start(self.machine, "1", stdin=self.slave, stdout=self.slave, stderr=self.slave)
+            child = self.start(
+                self.machine, "1", stdin=self.slave, stdout=self.slave, stderr=self.slave
+            )
             self.key("n", "\x1b[B", "9", "m")
             self.wait_for("u")
             self.key("q")
@@ -593,7 +638,8 @@ class OnTheStage(ToolTest):
     """A console and nodes, each a machine of its own with cables between them."""
 
     def test_card_of_the_nodes(self):
-        """What `play` sends to the groups by a card is seen behind that card, and not elsewhere."""
+        """What `play` sends to the groups by a card is seen behind that card, and not
+        elsewhere."""
         with ExitStack() as kept:
             venue = Venue(kept)
             for node in (venue.stage, venue.office):
@@ -602,9 +648,20 @@ class OnTheStage(ToolTest):
             pipes = dict.fromkeys(("stdout", "stderr"), subprocess.PIPE)
             words = ["1", "--interface", "port", "--once", "600"]
             stage, office = (
-                self.start(node, *words, text=True, **pipes) for node in (venue.stage, venue.office)
+                self.start(node, *words, text=True, **pipes)
+                for node in (venue.stage, venue.office)
             )
-            play = ["play", show, "--to", "239.255.0.0", "--cid", CID, "--interface", "lit", "--any-route"]
+            play = [
+                "play",
+                show,
+                "--to",
+                "239.255.0.0",
+                "--cid",
+                CID,
+                "--interface",
+                "lit",
+                "--any-route",
+            ]
             lines = b"0 go\n" + b"".join(b"%d tick\n" % moment for moment in range(0, 200, 25))
             self.assertEqual(0, venue.run(*play, stdin=lines).returncode)
             for node, child in ((venue.stage, stage), (venue.office, office)):
@@ -637,5 +694,7 @@ class Others(unittest.TestCase):
 
     def test_qlcplus(self):
         source, slots = self.seen("qlcplus", "qlcplus")
-        self.assertRegex(source, r"^\d+ 1001 source Q Light Controller.* [0-9a-f-]{36} priority 100$")
+        self.assertRegex(
+            source, r"^\d+ 1001 source Q Light Controller.* [0-9a-f-]{36} priority 100$"
+        )
         self.assertRegex(slots, r"^\d+ 1001 slots 1:200$")

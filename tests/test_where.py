@@ -1,4 +1,5 @@
-"""`live`: `where` tells all that the commands before it have set, and `help` lists the commands."""
+"""`live`: `where` tells all that the commands before it have set, and `help` lists the
+commands."""
 
 import random
 
@@ -40,7 +41,8 @@ def a_command(r, masters):
 
 
 def asking_night(r):
-    """A night of a thousand commands with `where` behind most of them, and the order of the two."""
+    """A night of a thousand commands with `where` behind most of them, and the order of the
+    two."""
     masters = some_masters(r)
     parts, kinds = [], []
     for _ in range(COMMANDS):
@@ -57,7 +59,9 @@ def asking_night(r):
 
 
 class Where(LiveTest):
-    SHOW = text("CUE 1", "FOLLOWON .2", "CUE 4.5", "SUB 3", "GROUP 1", "GROUP 12", "PATCH 1 1<1@FL")
+    SHOW = text(
+        "CUE 1", "FOLLOWON .2", "CUE 4.5", "SUB 3", "GROUP 1", "GROUP 12", "PATCH 1 1<1@FL"
+    )
 
     def asked(self, night, word=b"where\n"):
         """What `where` tells, without its moment."""

@@ -99,7 +99,9 @@ class Words(ProgramTest):
                 self.assertRefused(*words, telling=[b"error: ", b"Usage: ", b"'--help'", telling])
 
     def test_option_without_a_value(self):
-        self.assertRefused("look", "-", "1", "--cid", telling=[b"error: ", b"'--cid <UUID>'", b"'--help'"])
+        self.assertRefused(
+            "look", "-", "1", "--cid", telling=[b"error: ", b"'--cid <UUID>'", b"'--help'"]
+        )
 
     def test_option_given_twice(self):
         self.assertRefused("look", "-", "1", "--cid", CID, "--cid", CID)
@@ -110,7 +112,11 @@ class Words(ProgramTest):
         self.assertRefused("look", "-", "x", "--cid", "x", "--bogus")
 
     def test_words_not_utf_8(self):
-        for words in ([b"\xff"], [b"check", b"\xff"], [b"look", b"-", b"1", b"--cid", b"\xff\xfe"]):
+        for words in (
+            [b"\xff"],
+            [b"check", b"\xff"],
+            [b"look", b"-", b"1", b"--cid", b"\xff\xfe"],
+        ):
             with self.subTest(words):
                 outcome = run(*words, stdin=SHOW)
                 self.assertEqual((2, b""), (outcome.status, outcome.out))
@@ -122,7 +128,9 @@ class Words(ProgramTest):
             copy = os.path.join(os.fsencode(folder), b"b\xfchne", b"cueplayer")
             os.mkdir(os.path.dirname(copy))
             shutil.copy(PROGRAM, copy)
-            done = subprocess.run([copy, b"check", b"-"], input=SHOW, capture_output=True, timeout=60)
+            done = subprocess.run(
+                [copy, b"check", b"-"], input=SHOW, capture_output=True, timeout=60
+            )
             self.assertEqual((0, b""), (done.returncode, done.stderr))
             done = subprocess.run([copy, b"check", b"\xfc"], capture_output=True, timeout=60)
             self.assertEqual(2, done.returncode)

@@ -1,6 +1,6 @@
 #!/usr/bin/env python3
-"""The screen of `tools/watch` as a picture: a main and its backup light a stage, another console is
-in the way, and a cue has just come. Run alone it writes docs/watch.svg."""
+"""The screen of `tools/watch` as a picture: a main and its backup light a stage, another console
+is in the way, and a cue has just come. Run alone it writes docs/watch.svg."""
 
 import sys
 from pathlib import Path
@@ -29,7 +29,8 @@ SOURCES = (
 
 
 def came() -> list[tuple[int, bytes, str]]:
-    """Moment, datagram and address of what comes in two seconds, each source at its 44 a second."""
+    """Moment, datagram and address of what comes in two seconds, each source at its 44 a
+    second."""
     datagrams = []
     for tick in range(88):
         for cid, (name, priority, address, slots) in zip(CIDS, SOURCES):
@@ -77,7 +78,9 @@ def svg(screen: Picture) -> str:
         y = EDGE + LINE * place + 12
         length = f'textLength="{LETTER * len(line.rstrip()):.1f}" xml:space="preserve"'
         if line.strip():
-            parts.append(f'<text x="{EDGE}" y="{y}" class="{kind}" {length}>{escape(line.rstrip())}</text>')
+            parts.append(
+                f'<text x="{EDGE}" y="{y}" class="{kind}" {length}>{escape(line.rstrip())}</text>'
+            )
     return "\n".join([*parts, "</svg>", ""])
 
 

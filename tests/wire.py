@@ -58,11 +58,19 @@ def terminal(test):
 
 
 def own_network(test, *tools):
-    """The words that run others in a network of their own; where there cannot be one the test is skipped."""
+    """The words that run others in a network of their own; where there cannot be one the test is
+    skipped."""
     if not all(map(shutil.which, ("unshare", "ip", *tools))):
         test.skipTest("no tools to make a network namespace")
-    words = ["unshare", "--net"] if os.geteuid() == 0 else ["unshare", "--user", "--map-root-user", "--net"]
-    if subprocess.run([*words, "ip", "link", "set", "lo", "up"], capture_output=True).returncode != 0:
+    words = (
+        ["unshare", "--net"]
+        if os.geteuid() == 0
+        else ["unshare", "--user", "--map-root-user", "--net"]
+    )
+    if (
+        subprocess.run([*words, "ip", "link", "set", "lo", "up"], capture_output=True).returncode
+        != 0
+    ):
         test.skipTest("no network namespace can be made")
     return words
 

@@ -1,4 +1,5 @@
-"""The worked examples of tests/examples/, which docs/EXAMPLES.md shows: their runs, by their names."""
+"""The worked examples of tests/examples/, which docs/EXAMPLES.md shows: their runs, by their
+names."""
 
 import re
 import sys

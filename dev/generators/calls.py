@@ -1,7 +1,7 @@
 """The tables of docs/PROVED.md: each public call of the crates, with the clauses of its contract.
 
-Of a call whose documentation has no word on errors, the cell on refusals is written by hand, and so
-is the last cell of each row: these are kept.
+Of a call whose documentation has no word on errors, the cell on refusals is written by hand, and
+so is the last cell of each row: these are kept.
 """
 
 import re
@@ -120,7 +120,12 @@ def exported(crate: Path) -> set[str]:
     inside = {name for _, *some in uses for name in re.findall(r"\w+", " ".join(some))}
     if "pub mod memory" in library:
         memory = [crate / "src/memory.rt", *(crate / "src/memory").glob("*.rt")]
-        inside |= {name for file in memory if file.exists() for name in re.findall(r"pub struct (\w+)", file.read_text())}
+        inside |= {
+            name
+            for file in memory
+            if file.exists()
+            for name in re.findall(r"pub struct (\w+)", file.read_text())
+        }
     return inside
 
 

@@ -1,17 +1,18 @@
 """The worked examples as they stand below tests/examples/, a folder each.
 
-A folder has `example.json`, and beside it what the example needs: `text.md`, which stands above its
-tables on the page, `after.md`, which stands below, and `show.asc`, the show of its runs, where that is not
-S1.asc. `page.md` has the chapters of the page, and the examples in their order.
+A folder has `example.json`, and beside it what the example needs: `text.md`, which stands above
+its tables on the page, `after.md`, which stands below, and `show.asc`, the show of its runs, where
+that is not S1.asc. `page.md` has the chapters of the page, and the examples in their order.
 
-example.json has `tables`, and `above` where lines stand above each show or script. A table has `rows`, and
-may have a `note` above it, the `options` of its runs, and `begins` with the example that it begins as. The
-names of a row's values are the columns; a value of a plural name, as `shows`, has several texts.
+example.json has `tables`, and `above` where lines stand above each show or script. A table has
+`rows`, and may have a `note` above it, the `options` of its runs, and `begins` with the example
+that it begins as. The names of a row's values are the columns; a value of a plural name, as
+`shows`, has several texts.
 
-A text is a line without its LF, or a list of pieces: such a line; `bytes` as they are, `times` over where
-that is given; or the lines from `first` to `last`, which end in a number. A character stands for the byte
-of its number. A datagram is a text, or the packet of an example: `of`, `with` other bytes, in hex, at
-these offsets, `cut` to so many bytes, and a text `behind` it.
+A text is a line without its LF, or a list of pieces: such a line; `bytes` as they are, `times`
+over where that is given; or the lines from `first` to `last`, which end in a number. A character
+stands for the byte of its number. A datagram is a text, or the packet of an example: `of`, `with`
+other bytes, in hex, at these offsets, `cut` to so many bytes, and a text `behind` it.
 """
 
 import json
@@ -26,7 +27,8 @@ PLURALS = {"shows": "show", "lines": "line", "scripts": "script"}
 
 
 class Row(NamedTuple):
-    """The cells of a row by their columns; those of which there are several texts are in `several`."""
+    """The cells of a row by their columns; those of which there are several texts are in
+    `several`."""
 
     cells: dict[str, Any]
     several: set[str]

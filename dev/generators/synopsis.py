@@ -11,7 +11,8 @@ DOES_AT, README_COLUMNS, MANUAL_COLUMNS, SCRIPT_COLUMNS = 42, 100, 80, 96
 # What stands beside the jobs; the script answers --version.
 BESIDE = {
     "--help": "",
-    "--version": "the version, the commit, the toolchain, and whether the sources are the program's",
+    "--version": "the version, the commit, the toolchain, and whether the sources are the"
+    " program's",
 }
 # The options of `live` that the folder of a night gives.
 OF_THE_FOLDER = {"--record", "--resume", "--spare", "--follow", "--patience"}

@@ -73,7 +73,9 @@ def masters(show, name):
 def data(show):
     """What the JSON of a show says."""
     return {
-        "cues": [cue_object(n, cue, show.label("cues", n)) for n, cue in sorted(show.cues.items())],
+        "cues": [
+            cue_object(n, cue, show.label("cues", n)) for n, cue in sorted(show.cues.items())
+        ],
         "submasters": masters(show, "subs"),
         "groups": masters(show, "groups"),
         "universes": [{"universe": n, "dimmers": dimmers} for n, dimmers in universes(show)],

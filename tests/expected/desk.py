@@ -1,4 +1,5 @@
-"""A console: its commands, fades, masters and frames (PROFILE.md, FORMATS.md "The lines of play")."""
+"""A console: its commands, fades, masters and frames (PROFILE.md, FORMATS.md "The lines of
+play")."""
 
 from .follow_on import due_moves, next_cue
 from .stream import Stream
@@ -66,8 +67,8 @@ class Desk:
         self.streams = {base + k: (k, Stream()) for k in show.universes()}
 
     def move(self, cue, moment, length=None):
-        """Every channel starts from where it is, and goes to the cue's level: in the cue's times, or over
-        this length without delay."""
+        """Every channel starts from where it is, and goes to the cue's level: in the cue's times,
+        or over this length without delay."""
         looked = self.show.cues[cue]
         channels = set(self.fading) | set(looked.levels)
         fading = {}
@@ -149,7 +150,9 @@ class Desk:
             return (None, asked[1]) if asked[1] in self.show.cues else ("NoCue", None)
         if name in ("sub", "group"):
             table = self.show.subs if name == "sub" else self.show.groups
-            return (None if asked[1] in table else {"sub": "NoSub", "group": "NoGroup"}[name]), None
+            return (
+                None if asked[1] in table else {"sub": "NoSub", "group": "NoGroup"}[name]
+            ), None
         return None, None
 
     def tick(self, moment):
@@ -164,7 +167,9 @@ class Desk:
         self.last = self.ticked = moment
         if self.endings is not None:
             self.endings += 1
-            return self.endings, [(u, stream.end()) for u, (_, stream) in sorted(self.streams.items())]
+            return self.endings, [
+                (u, stream.end()) for u, (_, stream) in sorted(self.streams.items())
+            ]
         offers = []
         for universe, (k, stream) in sorted(self.streams.items()):
             offers.append((universe, stream.offer(moment, self.frame(k, moment))))

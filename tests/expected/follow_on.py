@@ -1,8 +1,9 @@
-"""FOLLOWON lines, in one place: with `HAS_FOLLOW_ONS` they have an effect, without it they have none.
+"""FOLLOWON lines, in one place: with `HAS_FOLLOW_ONS` they have an effect, without it they have
+none.
 
-`FOLLOWON T` of a cue makes the next cue go at the moment of that cue's move and T later, where no other
-move was made first. A due move comes before a call of its own moment, several may come in a chain, and
-after `end` none is due.
+`FOLLOWON T` of a cue makes the next cue go at the moment of that cue's move and T later, where no
+other move was made first. A due move comes before a call of its own moment, several may come in a
+chain, and after `end` none is due.
 """
 
 HAS_FOLLOW_ONS = True

@@ -51,15 +51,17 @@ class Night:
         said += [] if after is None else [f"next {spelled(after)}"]
         said += [f"master {desk.grand}"]
         for kind in ("sub", "group"):
-            said += [f"{kind} {n}:{byte}" for n, byte in sorted(desk.masters[kind].items()) if byte]
+            said += [
+                f"{kind} {n}:{byte}" for n, byte in sorted(desk.masters[kind].items()) if byte
+            ]
         return " ".join(said)
 
 
 def shown(show, record, asked=(), base=1):
     """All that a night shows, beside `help` and lost packets.
 
-    The record does not say when `where` was asked. So `asked` has of each, in order, how many other
-    lines stand above its own, and its moment.
+    The record does not say when `where` was asked. So `asked` has of each, in order, how many
+    other lines stand above its own, and its moment.
     """
     night, lines, others, asked = Night(show, base), [], 0, list(asked)
     for line in (*record, None):

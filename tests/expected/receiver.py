@@ -95,7 +95,9 @@ class Receiver:
             return "ignored Preview"
         if data.start and not data.options & TERMINATED:
             return "ignored AltStart"
-        self.records = {cid: record for cid, record in self.records.items() if record.is_there(moment)}
+        self.records = {
+            cid: record for cid, record in self.records.items() if record.is_there(moment)
+        }
         known = self.records.get(data.cid)
         if known and not 1 <= (data.sequence - known.data.sequence) % 256 <= 236:
             return "ignored OutOfSequence"

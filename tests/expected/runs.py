@@ -34,7 +34,9 @@ def printed_text(lines):
 def wire(universe, sent, console):
     """A packet's bytes."""
     cid = console.cid.hex()
-    return packet(universe, sent.slots, sent.k % 256, sent.options, console.priority, cid, console.name)
+    return packet(
+        universe, sent.slots, sent.k % 256, sent.options, console.priority, cid, console.name
+    )
 
 
 def check(text):
@@ -43,7 +45,8 @@ def check(text):
         return refused(3, show)
     tables = f"cues {len(show.cues)} subs {len(show.subs)} groups {len(show.groups)}"
     return Answer(
-        0, f"lines {show.lines} {tables} dimmers {len(show.patch)} skipped {show.skipped}\n".encode()
+        0,
+        f"lines {show.lines} {tables} dimmers {len(show.patch)} skipped {show.skipped}\n".encode(),
     )
 
 
@@ -53,8 +56,8 @@ def cues(text):
 
 
 def full(text, cue):
-    """The universes of a cue at full, each with its slots that are not 0, or what is answered in their
-    place; `cue` is in thousandths."""
+    """The universes of a cue at full, each with its slots that are not 0, or what is answered in
+    their place; `cue` is in thousandths."""
     show = shows.read(text)
     if isinstance(show, str):
         return refused(3, show)
@@ -94,7 +97,8 @@ def slots(text, cue, base=1):
 
 
 def play_line(desk, line):
-    """What is printed of a line of `play`, and the packets that it sends; None where it is malformed."""
+    """What is printed of a line of `play`, and the packets that it sends; None where it is
+    malformed."""
     words = words_of(line)
     if not words:
         return "", ()

@@ -10,7 +10,8 @@ PRIMARY = set(b"CLEAR CONSOLE CUE ENDDATA GROUP IDENT MANUFACTURER PATCH SET SUB
 SECONDARY = set(b"CHAN DOWN FOLLOWON LINK PART TEXT UP".split())
 # The faults of a line, the one that is answered first where a line has several.
 FAULTS = (
-    "Ident", "MissingNumber", "BadNumber", "BadLevel", "BadTime", "HalfPair", "HalfTriple", "Limit",
+    "Ident", "MissingNumber", "BadNumber", "BadLevel", "BadTime", "HalfPair", "HalfTriple",
+    "Limit",
 )  # fmt: skip
 MAKER, NOBODY = "maker", "nobody"
 # No label begins or ends with one of these.
@@ -30,9 +31,9 @@ class LineFault(Exception):
 @dataclass
 class Cue:
     levels: dict = field(default_factory=dict)
-    up: tuple = None
-    down: tuple = None
-    follow: int = None
+    up: tuple | None = None
+    down: tuple | None = None
+    follow: int | None = None
 
     def rises(self):
         """Time and delay of what rises."""
@@ -142,7 +143,9 @@ class Reader:
         LineFault.check([] if page is not None else ["BadNumber"])
         if page != 1:
             return False
-        triples = self.values(words[2:], (number, number, level), "HalfTriple", (range(4097), range(1, 8193)))
+        triples = self.values(
+            words[2:], (number, number, level), "HalfTriple", (range(4097), range(1, 8193))
+        )
         for channel, dimmer, byte in triples:
             if channel:
                 self.show.patch[dimmer] = (channel, byte)

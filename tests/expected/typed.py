@@ -1,4 +1,5 @@
-"""What a line that is typed to `live` asks for, or why it is refused (FORMATS.md, "The lines of live")."""
+"""What a line that is typed to `live` asks for, or why it is refused (FORMATS.md, "The lines of
+live")."""
 
 import re
 from typing import NamedTuple
@@ -7,8 +8,8 @@ from .desk import command
 from .words import words_of
 
 LONGEST, SHOWN = 200, 200
-# What a key sends: `ESC [` up to a byte of 64 to 126, and one more where that is a `[`; `ESC O` and one
-# byte; else ESC and a byte that is no ESC. What has no end goes on to the end of the line.
+# What a key sends: `ESC [` up to a byte of 64 to 126, and one more where that is a `[`; `ESC O`
+# and one byte; else ESC and a byte that is no ESC. What has no end goes on to the end of the line.
 KEY = re.compile(rb"(?s)\x1b(?:\[[^@-~]*(?:\[.?|[@-~])?|O.?|[^\x1b]|(?=\x1b)|$)")
 MOMENT = re.compile(rb"[0-9]{1,15}")
 ALONE = (b"back", b"end", b"leave", b"where", b"help", b"?")

@@ -42,7 +42,11 @@ class Source(NamedTuple):
 
 def extended(datagram):
     """What an extended packet is, or None."""
-    if len(datagram) < 44 or datagram[4:16] != b"ASC-E1.17\0\0\0" or datagram[18:22] != bytes([0, 0, 0, 8]):
+    if (
+        len(datagram) < 44
+        or datagram[4:16] != b"ASC-E1.17\0\0\0"
+        or datagram[18:22] != bytes([0, 0, 0, 8])
+    ):
         return None
     return {2: "Discovery", 1: "Synchronization"}.get(int.from_bytes(datagram[40:44], "big"))
 
@@ -135,7 +139,9 @@ class Watch:
         lines = [f"{moment} 0 {line}" for line in (self.strays.lines() if tells else [])]
         to = data.universe if isinstance(data, Data) else 0
         if datagram and to not in [universe.number for universe in self.universes]:
-            self.strays.add(extended(datagram) or ("OtherUniverse" if to else f"Unreadable {data}"))
+            self.strays.add(
+                extended(datagram) or ("OtherUniverse" if to else f"Unreadable {data}")
+            )
         for universe in self.universes:
             told = universe.counts.lines() if tells else []
             told += universe.wait(moment)
@@ -173,7 +179,8 @@ def read(line, number):
 
 
 def watch(text, numbers):
-    """The lines that are printed of an input, and the number of the line that is refused, or None."""
+    """The lines that are printed of an input, and the number of the line that is refused, or
+    None."""
     universes = Watch(numbers)
     lines = text.split(b"\n")
     told = []

@@ -1,4 +1,5 @@
-"""Lines, words and the forms of words (PROFILE.md, "Lines and words" and "Numbers, levels and times")."""
+"""Lines, words and the forms of words (PROFILE.md, "Lines and words" and "Numbers, levels and
+times")."""
 
 import re
 
@@ -13,7 +14,8 @@ PLAIN_UUID = re.compile(rb"[0-9a-f]{32}")
 
 
 def lines_of(text):
-    """The lines of a text, without their LF: what is behind the last LF is a line where it has bytes."""
+    """The lines of a text, without their LF: what is behind the last LF is a line where it has
+    bytes."""
     lines = text.split(b"\n")
     return lines if lines[-1] else lines[:-1]
 

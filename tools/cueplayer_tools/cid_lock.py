@@ -42,7 +42,8 @@ def _holder_now(cid: uuid.UUID) -> int | None:
         return None
     place = f"{os.major(found.st_dev):02x}:{os.minor(found.st_dev):02x}:{found.st_ino}"
     for line in locks:
-        # Its number, FLOCK, ADVISORY, WRITE, the process, the file. Who waits for one has an arrow.
+        # Its number, FLOCK, ADVISORY, WRITE, the process, the file. Who waits for one has an
+        # arrow.
         words = line.split()
         if words[1] == "FLOCK" and words[5] == place and int(words[4]) > 0:
             return int(words[4])

@@ -113,7 +113,8 @@ def receiver_result(words: argparse.Namespace) -> Result:
         if words.peer:
             peer = PEERS[words.peer]()
         else:
-            sockets = Sockets(*words.to, source=words.card or "")
+            host, port = words.to
+            sockets = Sockets(host, port, words.card or "")
             peer = CommandPeer(words.command, words.universes, sockets)
             if not known:
                 _tell_how_long(rules, len(peer.universes))

@@ -93,8 +93,7 @@ def _new_channels(export: Export, report: Report) -> dict[int, int]:
     """The number in the show of each channel above its range; none of one that is left out."""
     patched = {each.channel for each in export.patch.values()}
     used = set(patched)
-    for records in (export.cues, export.subs, export.groups):
-        used.update(*(record.levels for record in records.values()))
+    used.update(*(record.levels for record in export.records()))
     wanted = [each for each in export.high if each in used]
     wanted = [each for each in wanted if each in patched or not export.has_patch]
     found = free_numbers(wanted, (n for n in used if n <= MOST_CHANNELS), MOST_CHANNELS)
@@ -113,13 +112,12 @@ def _renumber(export: Export, report: Report) -> None:
     if not export.high:
         return
     new = _new_channels(export, report)
-    for records in (export.cues, export.subs, export.groups):
-        for record in records.values():
-            record.levels = {
-                new.get(channel, channel): byte
-                for channel, byte in record.levels.items()
-                if channel <= MOST_CHANNELS or channel in new
-            }
+    for record in export.records():
+        record.levels = {
+            new.get(channel, channel): byte
+            for channel, byte in record.levels.items()
+            if channel <= MOST_CHANNELS or channel in new
+        }
     for dimmer, each in list(export.patch.items()):
         if each.channel in new:
             each.channel = new[each.channel]

@@ -51,14 +51,14 @@ def _differences(before: str, after: str) -> list[str]:
         return ["not compared: the program finds no cue in the file as it stands"]
     new = read_show(after)
     both = [cue for cue in old.order if cue in new.cues]
-    told = []
+    lines: list[str] = []
     for numbers, where in (
         ([cue for cue in new.order if cue not in old.cues], "only in the converted show"),
         ([cue for cue in old.order if cue not in new.cues], "only in the file as it stands"),
     ):
         if numbers:
-            told.append(f"compared: {where}: {_cues(numbers)}")
-    return told + _other_looks(before, old, after, new, both)
+            lines.append(f"compared: {where}: {_cues(numbers)}")
+    return lines + _other_looks(before, old, after, new, both)
 
 
 def _other_looks(before: str, old: Show, after: str, new: Show, both: list[int]) -> list[str]:

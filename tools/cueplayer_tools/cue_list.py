@@ -101,12 +101,12 @@ def _milliseconds(seconds: float) -> int:
 
 
 def _cue(given: dict[str, Any]) -> Cue:
-    rates = [
+    rise, fall = (
         Rate(_milliseconds(given[name]), _milliseconds(given[f"{name}_delay"]))
         for name in ("up", "down")
-    ]
-    follow = given["follow"]
-    return Cue(name_in(given["label"]), *rates, None if follow is None else _milliseconds(follow))
+    )
+    follow = None if given["follow"] is None else _milliseconds(given["follow"])
+    return Cue(name_in(given["label"]), rise, fall, follow)
 
 
 def _records(given: list[dict[str, Any]]) -> dict[int, Record]:
@@ -125,8 +125,8 @@ def show_in(text: str) -> Show:
 
 
 def read_show(file: str, given: bytes = b"") -> Show:
-    """The show in a file, or on standard input by the name `-`; Refused with the program's own words
-    where it has a fault."""
+    """The show in a file, or on standard input by the name `-`; Refused with the program's own
+    words where it has a fault."""
     printed = run("cues", "--json", "--", file, given=given)
     if printed.status:
         raise Refused(printed.told.strip() or f"cues ended with status {printed.status}")

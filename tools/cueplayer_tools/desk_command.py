@@ -46,12 +46,17 @@ from cueplayer_tools.words import Refused
 SECOND_PRESS = 3.0
 END_PATIENCE = 10.0
 WATCH_EVERY = 0.05
+SWITCH_EVERY = 0.0005
+# Between two looks at what came by Open Sound Control: a flood leaves the pages their time.
+OSC_EVERY = 0.002
 # Of what `live` prints: hours of it, where its disk stands still.
 MOST_REPLIES = 100_000
 MOST_DOUBLE_GO = 10_000
 # Words of `live`, which a desk on another's night does not take.
-NIGHT_WORDS = ("show", "to", "interface", "any_route", "ttl", "name", "cid", "priority", "base")
-NIGHT_WORDS += ("record", "replies")
+NIGHT_WORDS = (
+    *("show", "to", "interface", "any_route", "ttl", "name", "cid", "priority", "base"),
+    *("record", "replies"),
+)
 
 
 def _parser() -> argparse.ArgumentParser:
@@ -169,6 +174,7 @@ def _take_osc(night: HeardNight, receiver: socket.socket) -> None:
         patience = port.patience()
         poll.poll(None if patience is None else 1 + int(patience * 1000))
         port.take(night.give)
+        time.sleep(OSC_EVERY)
 
 
 def _take_others(night: HeardNight, receiver: socket.socket | None, midi: MidiPort | None) -> None:
@@ -311,6 +317,8 @@ def run_desk(words: argparse.Namespace, tell: Teller, tell_address: Teller) -> i
 def main(words: list[str]) -> int:
     """Runs the tool with these words, and answers its exit status."""
     chosen = _read_words(words)
+    # A thread that reads what attackers send hands the interpreter on this soon, not after 5 ms.
+    sys.setswitchinterval(SWITCH_EVERY)
     tell, tell_address = Teller(sys.stderr, "desk: "), Teller(sys.stdout)
     status = 1
     try:

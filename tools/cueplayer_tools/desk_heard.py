@@ -33,7 +33,10 @@ UNSURE = 1.0
 # What `live` says on standard error as it begins, in this order: no faults.
 RECORD = re.compile(r"record: .*")
 START_LINES = (
-    re.compile(r"show: \d+ cues?, .*?(?:; (?P<skipped>\d+ (?:lines? skipped|notes? of weight).*))?", re.ASCII),
+    re.compile(
+        r"show: \d+ cues?, .*?(?:; (?P<skipped>\d+ (?:lines? skipped|notes? of weight).*))?",
+        re.ASCII,
+    ),
     re.compile(r"sends: .*"),
     RECORD,
     re.compile(r"end ends the night.*"),
@@ -147,7 +150,7 @@ class HeardNight(ABC):
 
     def _take_answer(self, answer: Answer) -> None:
         asked = self.input.oldest()
-        if self.is_astray or asked in (None, WHERE):
+        if self.is_astray or asked is None or asked == WHERE:
             self._take_strange_answer(answer)
             return
         given = self.input.given()

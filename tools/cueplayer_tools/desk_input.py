@@ -6,7 +6,7 @@ what `live` has not read within a second is read back, and the operator is told.
 
 import fcntl
 import os
-import struct
+import sys
 import termios
 import time
 from collections import deque
@@ -99,7 +99,7 @@ class LiveInput(Waiting):
 
     def _unread(self) -> int:
         """How many bytes `live` has not read yet."""
-        return struct.unpack("@i", fcntl.ioctl(self.back, termios.FIONREAD, bytes(4)))[0]
+        return int.from_bytes(fcntl.ioctl(self.back, termios.FIONREAD, bytes(4)), sys.byteorder)
 
     def _is_unread_late(self) -> bool:
         """Whether the oldest line that was not read yet has waited for too long."""

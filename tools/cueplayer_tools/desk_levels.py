@@ -117,11 +117,13 @@ class LevelReader:
             self._fail(changed)
             return
         threading.Thread(target=self._hear, args=(process, changed), daemon=True).start()
+        assert process.stdin is not None
         with process.stdin as lines:
             os.set_blocking(lines.fileno(), False)
             self._feed(lines.fileno(), changed)
 
     def _hear(self, process: subprocess.Popen[bytes], changed: Callable[[], None]) -> None:
+        assert process.stdout is not None
         for line in process.stdout:
             if self.watched.hear(line.decode("latin-1").rstrip("\n")):
                 changed()
@@ -148,6 +150,7 @@ class LevelReader:
                 continue
             for key, _ in self.selector.select(rest):
                 count += 1
+                assert isinstance(key.fileobj, socket.socket)
                 self._take(lines, key.fileobj, round((time.monotonic() - began) * 1000))
 
     def _take(self, lines: int, receiver: socket.socket, moment: int) -> None:

@@ -77,7 +77,8 @@ class _OpenPage:
 
     def send(self) -> None:
         """Sends events until the page is closed."""
-        show = {**self.server.view, "role": self.visit.role.value, "here": self.visit.is_here}
+        role = self.visit.role
+        show = {**self.server.view, "role": role and role.value, "here": self.visit.is_here}
         try:
             with self.connection:
                 self.connection.sendall(head(HTTPStatus.OK, "text/event-stream", {}))

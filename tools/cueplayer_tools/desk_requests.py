@@ -24,7 +24,7 @@ DEADLINE = 2.0
 MOST_CONNECTIONS = 128
 # Of one address from elsewhere.
 MOST_OF_ONE = 32
-MOST_AT_ONCE = 32
+MOST_AT_ONCE = 8
 HEAD_END = b"\r\n\r\n"
 _FIRST_LINE = re.compile(r"([A-Z]+) (\S+) HTTP/1\.[01]\r\n", re.ASCII)
 
@@ -56,7 +56,7 @@ def _head_in(head: bytes) -> tuple[str, str, http.client.HTTPMessage]:
         headers = http.client.parse_headers(io.BytesIO(head[first.end() :]))
     except http.client.HTTPException as fault:
         raise Unreadable(HTTPStatus.REQUEST_HEADER_FIELDS_TOO_LARGE) from fault
-    lengths = headers.get_all("Content-Length", [])
+    lengths: list[str] = headers.get_all("Content-Length", [])
     if len(lengths) > 1 or headers["Transfer-Encoding"] is not None:
         raise Unreadable(HTTPStatus.BAD_REQUEST)
     return first[1], first[2], headers
@@ -96,7 +96,7 @@ class _Arrival:
     def read(self) -> bool:
         """Reads what is there; whether all has come, as far as the other side says."""
         try:
-            if self.is_shaking:
+            if self.is_shaking and isinstance(self.connection, ssl.SSLSocket):
                 self.connection.do_handshake()
                 self.is_shaking = False
             while more := self.connection.recv(LONGEST_HEAD + LONGEST_BODY):
@@ -143,7 +143,9 @@ class Entrance:
             for key, _ in ready:
                 if key.fileobj is self.listener:
                     self._accept()
-                elif (arrival := self.arrivals.get(key.fileobj)) is not None:
+                    continue
+                assert isinstance(key.fileobj, socket.socket)
+                if (arrival := self.arrivals.get(key.fileobj)) is not None:
                     self._read(arrival)
             self._close_late()
 

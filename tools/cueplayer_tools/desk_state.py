@@ -140,9 +140,11 @@ class State:
 
     def _follow_from(self, moment: int | None) -> None:
         """Takes when the current cue was come to; None where that is not known."""
+        follow = None
         cue = None if self.current is None else self.show.cues.get(self.current)
-        has_follow = cue is not None and cue.follow is not None and self.following is not None
-        self.follow = Span(moment, cue.follow) if has_follow else None
+        if cue is not None and cue.follow is not None and self.following is not None:
+            follow = Span(moment, cue.follow)
+        self.follow = follow
 
     def place(self, place: Place) -> None:
         """Takes the whole state anew."""

@@ -4,7 +4,7 @@ What is read is what the profile of show files reads, in its words; more freely 
 that other consoles are known to write otherwise. What cannot be read is told, and left out."""
 
 import re
-from collections.abc import Callable
+from collections.abc import Callable, Iterator
 from dataclasses import dataclass, field
 
 from cueplayer_tools import export_forms as forms
@@ -94,6 +94,12 @@ class Export:
     high: dict[int, list[int]] = field(default_factory=dict)
     has_patch: bool = False
 
+    def records(self) -> Iterator[Record]:
+        """The cues, the submasters and the groups."""
+        yield from self.cues.values()
+        yield from self.subs.values()
+        yield from self.groups.values()
+
 
 @dataclass(frozen=True, slots=True)
 class Skipped:
@@ -158,10 +164,10 @@ class Reader:
             self.report.add(LEFT_OUT, line.numbers, text)
         elif first not in SECONDARY:
             self._unknown(line)
-        elif self.owner is None:
-            self.report.add(LOST, line.numbers, f"{first} lines that belong to no record")
-        else:
+        elif isinstance(self.owner, Record):
             self.secondary[first](line, self.owner)
+        else:
+            self.report.add(LOST, line.numbers, f"{first} lines that belong to no record")
 
     def _maker(self, line: Line) -> None:
         """A line that opens a record of the maker's own."""
@@ -217,11 +223,11 @@ class Reader:
             self.report.add(DOUBT, [table[key].number, line.number], text)
         else:
             table[key] = (Cue if kind == "cue" else Record)(key, line.number)
-        self.owner = table[key]
-        self.owner.comment = label_in(line.comment) or self.owner.comment
-        self._name(line, self.owner)
-        if isinstance(self.owner, Cue) and len(self.owner.parts) > 1:
-            self.owner.parts.append(Part(""))
+        owner = self.owner = table[key]
+        owner.comment = label_in(line.comment) or owner.comment
+        self._name(line, owner)
+        if isinstance(owner, Cue) and len(owner.parts) > 1:
+            owner.parts.append(Part(""))
 
     def _name(self, line: Line, owner: Record) -> None:
         """What stands behind the number and the page: a name in quotation marks, or lost words."""

@@ -53,9 +53,9 @@ def _style_in(said: str) -> Style | None:
 def style_of(lines: list[Line]) -> tuple[Style, Line | None]:
     """The style of an export, and the line that tells it: CONSOLE before MANUFACTURER, and those
     before a line of the maker's own."""
-    for wanted in (lambda word: word == "CONSOLE", lambda word: word == "MANUFACTURER"):
+    for wanted in ("CONSOLE", "MANUFACTURER"):
         for line in lines:
-            if wanted(line.first) and (style := _style_in(" ".join(line.words[1:]))):
+            if line.first == wanted and (style := _style_in(" ".join(line.words[1:]))):
                 return style, line
     for line in lines:
         if line.first.startswith("$$") and (style := _style_in(" ".join(line.words[1:]))):

@@ -5,6 +5,7 @@ between the words tell what belongs together, and what does not fit is left out 
 
 import re
 from collections.abc import Callable, Iterator
+from typing import Any
 
 from cueplayer_tools import export_forms as forms
 from cueplayer_tools.conversion_report import CHANGED, DOUBT, LOST, Report, said
@@ -112,7 +113,7 @@ class Values:
             told = f"{said(line.said)}: read word by word, though its marks group it differently"
             self.report.add(DOUBT, line.numbers, told)
 
-    def _by_marks(self, line: Line, read: Read, size: int, chunks: list[Chunk]) -> list:
+    def _by_marks(self, line: Line, read: Read, size: int, chunks: list[Chunk]) -> list[Any]:
         words = [_WITHIN.split(chunk.strip("@<>/=")) for _, chunk in chunks]
         if all(len(each) == 1 for each in words):
             return self._in_turn(line, read, size, chunks)
@@ -128,7 +129,7 @@ class Values:
                 found.append(value)
         return found
 
-    def _in_turn(self, line: Line, read: Read, size: int, chunks: list[Chunk]) -> list:
+    def _in_turn(self, line: Line, read: Read, size: int, chunks: list[Chunk]) -> list[Any]:
         """Words with blanks alone between them: so many at a time, none where one is missing."""
         words = [chunk.strip("@<>/=") for _, chunk in chunks]
         if len(words) % size:
@@ -147,10 +148,12 @@ class Values:
 
 def _plain_pairs(words: list[str]) -> list[Pair] | None:
     """The pairs of words where all are spelled as a show file spells them; else None."""
-    channels = list(map(_CHANNELS.get, words[1::2]))
-    levels = list(map(forms.PLAIN_LEVELS.get, words[2::2]))
-    if None not in channels and None not in levels:
-        return list(zip(channels, levels))
+    plain = zip(map(_CHANNELS.get, words[1::2]), map(forms.PLAIN_LEVELS.get, words[2::2]))
+    pairs = [
+        (channel, byte) for channel, byte in plain if channel is not None and byte is not None
+    ]
+    if len(pairs) == len(words) // 2:
+        return pairs
     found = []
     for at in range(1, len(words), 2):
         channel, byte = words[at], forms.level(words[at + 1])

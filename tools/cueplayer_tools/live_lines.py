@@ -23,8 +23,8 @@ FULL = 255
 
 @dataclass(frozen=True)
 class Answer:
-    """The answer to a command: None is `ok`, else the name of the refusal. Moments, here and below,
-    are in milliseconds since the start of the night."""
+    """The answer to a command: None is `ok`, else the name of the refusal. Moments, here and
+    below, are in milliseconds since the start of the night."""
 
     moment: int
     refusal: str | None

@@ -62,6 +62,8 @@ class MidiPort:
 
     def take(self, give: Callable[[str], None]) -> None:
         """Hands on what has come."""
+        if self.device is None:
+            return
         now = time.monotonic()
         is_late, self.looked_at = now - self.looked_at > LATE, now
         try:
@@ -99,7 +101,8 @@ class MidiPort:
         self.tell(f"MIDI: {text}{more}")
 
     def _lose(self) -> None:
-        os.close(self.device)
+        if self.device is not None:
+            os.close(self.device)
         self.device = None
         self.reader.forget()
         self.tell(f"MIDI: {self.path} has gone: plug it in again")

@@ -1,7 +1,7 @@
 """The folder of a night that `cueplayer-night` keeps going: its words, its FIFO and its replies.
 
-The FIFO has a reader as long as `live` plays. It is opened for each line and never waited for, so a
-line is handed on now or never, and whole: one write.
+The FIFO has a reader as long as `live` plays. It is opened for each line and never waited for, so
+a line is handed on now or never, and whole: one write.
 """
 
 import argparse
@@ -59,9 +59,10 @@ class NightFolder:
             options = _options_in(words)
             (cid,) = map(uuid.UUID, options["--cid"])
             (base,) = map(int, options.get("--base", ["1"]))
-            (card,) = options.get("--interface", [None])
-            way = {"to": options["--to"], "interface": card}
-            return argparse.Namespace(show=show, cid=cid, base=base, **way)
+            cards: list[str | None] = [*options.get("--interface", [])]
+            (card,) = cards or [None]
+            to = options["--to"]
+            return argparse.Namespace(show=show, cid=cid, base=base, to=to, interface=card)
         except OSError as fault:
             raise Refused(f"no night in {self.path}: {fault.strerror}") from fault
         except (KeyError, ValueError) as fault:

@@ -5,7 +5,6 @@ import fcntl
 import os
 import select
 import stat
-import struct
 import sys
 import termios
 import time
@@ -50,7 +49,7 @@ class Output:
     def _unread(self) -> int:
         if not self.is_pipe:
             return 0
-        return struct.unpack("@i", fcntl.ioctl(self.file, termios.FIONREAD, bytes(4)))[0]
+        return int.from_bytes(fcntl.ioctl(self.file, termios.FIONREAD, bytes(4)), sys.byteorder)
 
 
 def serve(port: OscPort, output: Output | NightFolder) -> None:

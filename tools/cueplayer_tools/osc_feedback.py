@@ -1,7 +1,7 @@
 """What senders of Open Sound Control are told back: the cues, the masters and the packets lost.
 
-Who sends `/cueplayer/subscribe` is told all of it at once, and then each change for a minute. It is
-told to the address and port that the datagram came from, and to no other.
+Who sends `/cueplayer/subscribe` is told all of it at once, and then each change for a minute. It
+is told to the address and port that the datagram came from, and to no other.
 """
 
 import socket
@@ -53,7 +53,7 @@ class _Subscriber:
 
     def __init__(self, until: float) -> None:
         self.until = until
-        self.has = Told()
+        self.has: Told = {}
         self.all_at = 0.0
 
 

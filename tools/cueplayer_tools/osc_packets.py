@@ -56,7 +56,7 @@ class _Reader:
         form = _NUMBERS[tag]
         if self.at + form.size > len(self.data):
             raise Refused("an argument is cut off")
-        (value,) = form.unpack_from(self.data, self.at)
+        value: int | float = form.unpack_from(self.data, self.at)[0]
         self.at += form.size
         return value
 

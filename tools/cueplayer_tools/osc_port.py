@@ -26,6 +26,9 @@ ROOM = 4 << 20
 MOST_OF_ONE = 1_000
 PART = 256
 MOST_SENDERS = 4_096
+# Seconds of a processor in which datagrams are read, whoever sends them: of a second, and before
+# the caller looks at anything else.
+MOST_READING, MOST_READING_AT_ONCE = 0.1, 0.002
 # Datagrams that are taken before the caller looks at anything else.
 MOST_AT_ONCE = 256
 # Seconds after which a press is none any more, and between two lines of what is refused.
@@ -95,6 +98,7 @@ class OscPort:
         self.tell = tell
         self.refusals = Refusals(tell)
         self.spent: dict[Address, int] = {}
+        self.reading = 0.0
         self.second = time.monotonic()
         self.lost = 0
         # Asked once, the system notes the arrival of each datagram.
@@ -115,7 +119,10 @@ class OscPort:
         now = time.monotonic()
         if now - self.second >= EVERY:
             self._end_second(now)
+        until = self.reading + MOST_READING_AT_ONCE
         for _ in range(MOST_AT_ONCE):
+            if self.reading > until:
+                return
             try:
                 datagram, sender = self.socket.recvfrom(LONGEST_DATAGRAM)
             except OSError:
@@ -125,6 +132,8 @@ class OscPort:
                 self.refusals.add(sender, datagram)
             elif self._has_spent(sender, datagram):
                 self.refusals.add(sender, f"more than {MOST_OF_ONE} datagrams in a second")
+            elif self.reading > MOST_READING:
+                self.refusals.add(sender, "more came in a second than can be read")
             else:
                 self._hand_on(datagram, sender, give)
 
@@ -152,7 +161,9 @@ class OscPort:
     def _hand_on(self, datagram: bytes, sender: Address, give: Give) -> None:
         if self._asks(datagram, sender):
             return
+        began = time.thread_time()
         lines, refused = read(datagram)
+        self.reading += time.thread_time() - began
         age = self._age() if lines else 0.0
         for line in lines:
             try:
@@ -171,11 +182,12 @@ class OscPort:
         except OSError:
             return 0.0
         seconds, microseconds = _TIME.unpack(arrival)
-        return time.time() - seconds - microseconds / 1e6
+        return time.time() - float(seconds) - float(microseconds) / 1e6
 
     def _end_second(self, now: float) -> None:
         self.second = now
         self.spent.clear()
+        self.reading = 0.0
         self.refusals.flush()
         lost = self._lost()
         if lost != self.lost:
@@ -188,6 +200,6 @@ class OscPort:
         """How many datagrams found no room; as before where the system does not say."""
         try:
             counts = self.socket.getsockopt(socket.SOL_SOCKET, _SO_MEMINFO, _COUNTS.size)
-            return _COUNTS.unpack(counts)[_DROPS]
+            return int(_COUNTS.unpack(counts)[_DROPS])
         except (OSError, struct.error):
             return self.lost

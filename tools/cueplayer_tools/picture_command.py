@@ -15,8 +15,13 @@ from cueplayer_tools.picture_storm import Panel, brightest, draw_storms, draw_sw
 from cueplayer_tools.record import lost_in, read_record, words_of
 from cueplayer_tools.rehearsal import rehearse, with_questions, with_replies
 from cueplayer_tools.storm_command import (
-    add_storm, consoles_of, losses, network_of, planned, sweep_of,
-)  # fmt: skip
+    add_storm,
+    consoles_of,
+    losses,
+    network_of,
+    planned,
+    sweep_of,
+)
 from cueplayer_tools.storm_report import network_words
 from cueplayer_tools.storm_sweep import blown
 from cueplayer_tools.words import Refused

@@ -71,12 +71,12 @@ def _with_replies(script: str, printed: str) -> Rehearsal:
     replies: dict[int, tuple[str, ...]] = {}
     rehearsal = Rehearsal()
     for line in printed.splitlines():
-        number, *words = line.split()
-        if number == "end":
+        place, *words = line.split()
+        if place == "end":
             pairs = (pair.split(":") for pair in words[2:])
             rehearsal.last.append({int(slot): int(level) for slot, level in pairs})
         else:
-            replies[int(number)] = tuple(words)
+            replies[int(place)] = tuple(words)
     for number, line in enumerate(script.split("\n"), 1):
         words = words_of(line)
         if not words:
@@ -108,7 +108,7 @@ def with_questions(script: str, moments: list[int]) -> str:
     receivers = sum(words_of(line)[:1] == ["receiver"] for line in script.lower().split("\n"))
     asked: list[str] = []
     waiting = list(moments)
-    latest = None
+    latest: int | None = None
     for line in script.split("\n"):
         words = words_of(line)
         if words and words[0].isdecimal():

@@ -95,7 +95,8 @@ def _what(sheet: Sheet, number: int, before: dict[int, int]) -> tuple[str, dict[
 
 
 def _cues(sheet: Sheet) -> list[str]:
-    followed, before, rows = _followed(sheet), {}, []
+    followed, rows = _followed(sheet), []
+    before: dict[int, int] = {}
     for number in sheet.show.order:
         what, before = _what(sheet, number, before)
         rows.append(_row(number, sheet.show.cues[number], followed.get(number), what))

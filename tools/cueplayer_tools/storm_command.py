@@ -4,6 +4,7 @@ import argparse
 import json
 import re
 import sys
+from collections.abc import Callable
 from itertools import count
 from pathlib import Path
 
@@ -11,13 +12,26 @@ from cueplayer_tools.cue_list import read_show
 from cueplayer_tools.record import read_record
 from cueplayer_tools.storm_network import HELD_BACK, Network, Outage
 from cueplayer_tools.storm_night import (
-    GRID, MOST_CONSOLES, RECORD_HEAD, Console, Plan, part_of, plan_of, ticked,
-)  # fmt: skip
+    GRID,
+    MOST_CONSOLES,
+    RECORD_HEAD,
+    Console,
+    Plan,
+    part_of,
+    plan_of,
+    ticked,
+)
 from cueplayer_tools.storm_report import data, fault_words, report
 from cueplayer_tools.storm_seen import Keep
 from cueplayer_tools.storm_sweep import (
-    Found, Rate, Sweep, blown, sweep_data, sweep_table, swept,
-)  # fmt: skip
+    Found,
+    Rate,
+    Sweep,
+    blown,
+    sweep_data,
+    sweep_table,
+    swept,
+)
 from cueplayer_tools.words import Refused
 
 BROKEN = 1
@@ -122,10 +136,14 @@ def _add_network(parser: argparse.ArgumentParser) -> None:
     add("--delay", metavar="MS[-MS]", type=delay_of, default=(0, 0), help="how long a packet takes")
     add("--reorder", metavar="PERCENT[:MS]", type=held_of, default=(0.0, HELD_BACK),
         help=f"packets that are held back, and how long; {HELD_BACK} ms")  # fmt: skip
-    outage = {"action": "append", "default": [], "dest": "outages"}
-    add("--cable", metavar="C:MS-MS", type=cable_of, help="console C's cable is out", **outage)
-    add("--node", metavar="U:MS-MS", type=node_of, help="universe U's cable is out", **outage)
-    add("--switch", metavar="MS-MS", type=switch_of, help="the switch is out", **outage)
+    outages: tuple[tuple[str, str, Callable[[str], Outage], str], ...] = (
+        ("--cable", "C:MS-MS", cable_of, "console C's cable is out"),
+        ("--node", "U:MS-MS", node_of, "universe U's cable is out"),
+        ("--switch", "MS-MS", switch_of, "the switch is out"),
+    )
+    for name, form, outage_of, text in outages:
+        add(name, metavar=form, action="append", default=[], dest="outages", help=text,
+            type=outage_of)  # fmt: skip
 
 
 def add_storm(parser: argparse.ArgumentParser) -> None:
@@ -150,8 +168,10 @@ def network_of(words: argparse.Namespace, plan: Plan) -> Network:
             raise Refused(f"no console {each.console}: the last one is {consoles - 1}")
         if each.universe is not None and each.universe not in plan.sent:
             raise Refused(f"universe {each.universe} is not sent")
+    least, most = words.delay
+    share, held = words.reorder
     return Network(
-        words.seed, words.loss, words.burst, words.repeat, *words.delay, *words.reorder,
+        words.seed, words.loss, words.burst, words.repeat, least, most, share, held,
         tuple(words.outages),
     )  # fmt: skip
 

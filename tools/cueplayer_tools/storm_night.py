@@ -49,7 +49,9 @@ class Looks:
 
     def of_line(self, line: str) -> int:
         """The look that a slots line shows."""
-        key = line if len(line) <= LONGEST_KEY else blake2b(line.encode(), digest_size=16).digest()
+        key: str | bytes = line
+        if len(line) > LONGEST_KEY:
+            key = blake2b(line.encode(), digest_size=16).digest()
         known = self._by_line.get(key)
         if known is None:
             known = self._by_line[key] = self.of_levels(_levels_in(line))
@@ -210,7 +212,8 @@ def _listen(plan: Plan, told: list[str], universes: list[int], most: int) -> Non
     packets = dict.fromkeys(universes, 0)
     at = 0
     while at < len(before):
-        start, lines, asked = at, before[:at], []
+        start, lines = at, before[:at]
+        asked: list[tuple[int, int | None, str]] = []
         while at < len(before) and len(asked) < most:
             moment = before[at][0]
             # Ticks that send nothing are left away. Then those that are left answer as before.

@@ -10,7 +10,7 @@ MOST_WORST = 10
 Row = Sequence[str]
 
 
-def table(head: Row, rows: list[Row]) -> list[str]:
+def table(head: Row, rows: Sequence[Row]) -> list[str]:
     """Columns, each as wide as its widest cell."""
     wide = [max(map(len, column)) for column in zip(head, *rows)]
     return ["  ".join(cell.rjust(size) for cell, size in zip(row, wide)) for row in (head, *rows)]

@@ -16,8 +16,17 @@ from typing import NamedTuple
 from cueplayer_tools.rehearsal import LONGEST_SCRIPT
 from cueplayer_tools.storm_network import Traffic
 from cueplayer_tools.storm_night import (
-    MOST_PRINTED, Change, Console, Line, Plan, answers_of, groups_of, head_of, line_of, text_of,
-)  # fmt: skip
+    MOST_PRINTED,
+    Change,
+    Console,
+    Line,
+    Plan,
+    answers_of,
+    groups_of,
+    head_of,
+    line_of,
+    text_of,
+)
 from cueplayer_tools.words import Refused
 
 SILENCE = 2500

@@ -8,7 +8,6 @@ from cueplayer_tools.storm_report import lasting, percent, share, table
 from cueplayer_tools.storm_seen import Keep
 from cueplayer_tools.storm_verdict import LENGTHS, Fault, Storm, storm_of
 
-
 # A fault of the program, and the storm that it was found in.
 Found = tuple[Storm, Fault]
 
@@ -84,7 +83,17 @@ def swept(
 
 def sweep_table(rates: list[Rate]) -> str:
     lengths = [f">= {lasting(length)}" for length in LENGTHS]
-    head = ("loss", "time", "wrong", "share", "longest", "most off", "dark", "dark times", *lengths)
+    head = (
+        "loss",
+        "time",
+        "wrong",
+        "share",
+        "longest",
+        "most off",
+        "dark",
+        "dark times",
+        *lengths,
+    )
     rows = [
         [
             percent(each.loss), lasting(each.time), lasting(each.wrong),

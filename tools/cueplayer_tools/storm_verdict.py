@@ -9,7 +9,7 @@ from typing import Any
 from cueplayer_tools.storm_network import Network, Traffic
 from cueplayer_tools.storm_night import DARK, Change, Console, Looks, Plan
 from cueplayer_tools.storm_premises import Premises, premises_of, together
-from cueplayer_tools.storm_seen import SILENCE, Keep, Seen, watch
+from cueplayer_tools.storm_seen import Keep, Seen, watch
 
 # Stretches are counted by how long they are at least.
 LENGTHS = (25, 50, 75, 100, 500, 1000, 2500)
@@ -105,7 +105,8 @@ class Storm:
 
     def meant(self, universe: int) -> list[Change]:
         """What the show means, by all consoles, from moment to moment."""
-        moments, changes = _Moments(self, universe), []
+        moments = _Moments(self, universe)
+        changes: list[Change] = []
         for first, _ in moments.spans():
             if not changes or changes[-1][1] != moments.meant:
                 changes.append((first, moments.meant))

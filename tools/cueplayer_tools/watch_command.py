@@ -32,7 +32,8 @@ MOST_AT_ONCE = 256
 
 
 def universes_of(words: list[str]) -> list[int]:
-    """The universes that words name, as `1` and `1-4`; Refused where they are none, or too many."""
+    """The universes that words name, as `1` and `1-4`; Refused where they are none, or too
+    many."""
     numbers: list[int] = []
     for word in words:
         found = re.fullmatch(r"(\d{1,5})(?:-(\d{1,5}))?", word, re.ASCII)

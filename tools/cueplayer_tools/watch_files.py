@@ -5,7 +5,8 @@ from typing import BinaryIO
 
 from cueplayer_tools.words import Refused, printable
 
-# A script has at most so many receivers, and so many bytes (FORMATS.md, "The scripts of rehearse").
+# A script has at most so many receivers, and so many bytes (FORMATS.md, "The scripts of
+# rehearse").
 MOST_RECEIVERS = 8
 LONGEST_SCRIPT = 16_777_216
 _UNIVERSE = slice(113, 115)

@@ -11,7 +11,14 @@ from cueplayer_tools.watch_view import Cell, Picture
 _ALTERNATE, _NORMAL = "\x1b[?1049h\x1b[?25l", "\x1b[?25h\x1b[?1049l"
 _HOME, _TO_LINE_END, _TO_SCREEN_END = "\x1b[H", "\x1b[K", "\x1b[J"
 _INVERSE, _BOLD, _PLAIN = "\x1b[7m", "\x1b[1m", "\x1b[0m"
-_NAMED = {b"\x1b[A": "up", b"\x1b[B": "down", b"\x1b[C": "n", b"\x1b[D": "p", b"\t": "n", b" ": "f"}
+_NAMED = {
+    b"\x1b[A": "up",
+    b"\x1b[B": "down",
+    b"\x1b[C": "n",
+    b"\x1b[D": "p",
+    b"\t": "n",
+    b" ": "f",
+}
 
 
 def keys_in(typed: bytes) -> list[str]:

@@ -116,7 +116,8 @@ class WatchSocket:
             return None
 
     def newly_dropped(self) -> int:
-        """How many datagrams found no room since the last look; 0 where the system does not say."""
+        """How many datagrams found no room since the last look; 0 where the system does not
+        say."""
         try:
             counts = self.socket.getsockopt(socket.SOL_SOCKET, _SO_MEMINFO, _COUNTS.size)
             dropped: int = _COUNTS.unpack(counts)[_DROPS]

@@ -120,7 +120,9 @@ class Watched:
         elif universe := self.universes.get(number):
             if word == "slots":
                 flashed = universe.show(moment, levels_in(rest))
-                return [f"{moment} {number} flash {' '.join(map(str, flashed))}"] if flashed else []
+                return (
+                    [f"{moment} {number} flash {' '.join(map(str, flashed))}"] if flashed else []
+                )
             self._change(universe, word, rest, moment)
         return []
 

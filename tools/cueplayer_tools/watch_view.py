@@ -70,7 +70,8 @@ class Cell:
 
 @dataclass
 class Picture:
-    """The lines of a screen: those of text, and behind them rows of slots, each with its number."""
+    """The lines of a screen: those of text, and behind them rows of slots, each with its
+    number."""
 
     lines: list[str]
     rows: list[tuple[int, list[Cell]]]

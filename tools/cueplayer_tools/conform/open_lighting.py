@@ -39,14 +39,14 @@ class Daemon:
         for each in (folder, *folder.iterdir()):
             os.chown(each, NOBODY, NOBODY)
         user = ["setpriv", f"--reuid={NOBODY}", f"--regid={NOBODY}", "--clear-groups"]
-        words = ["olad", "--config-dir", folder, "--http-port", str(PAGES)]
+        words = ["olad", "--config-dir", str(folder), "--http-port", str(PAGES)]
         self.program.start(*user, *words, "--no-register-with-dns-sd")
         self.device = str(wait_for(self._device, "olad does not start"))
 
     def _device(self) -> str | None:
         self.program.check()
         found = re.search(r"(?m)^Device (\d+): E1\.31", told_by("ola_dev_info"))
-        return found and found[1]
+        return found[1] if found else None
 
     def patch(self, port: int, universe: int, *more: str) -> None:
         """Ties a port to a universe; `-i` is a port that receives, `-r` unties it."""

@@ -1,6 +1,7 @@
 """The bytes of E1.31 packets, field by field, so that a case can spoil one of them."""
 
 from dataclasses import dataclass, replace
+from typing import Any
 
 IDENTIFIER = b"ASC-E1.17\0\0\0"
 PREVIEW, TERMINATED, FORCED = 0x80, 0x40, 0x20
@@ -35,8 +36,8 @@ class DataPacket:
     dmp_length: int | None = None
     count: int | None = None
 
-    def but(self, **fields: object) -> "DataPacket":
-        return replace(self, **fields)  # type: ignore[arg-type]
+    def but(self, **fields: Any) -> "DataPacket":
+        return replace(self, **fields)
 
     def to_bytes(self) -> bytes:
         count = len(self.slots) + 1

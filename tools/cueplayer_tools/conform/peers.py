@@ -173,8 +173,8 @@ class OwnPeer:
     def look(self, universe: int) -> Slots:
         came = self.came[universe]
         words = [program(), "listen", "127.0.0.1:0", str(universe), str(len(came))]
-        pipes = {"stdout": subprocess.PIPE, "stderr": subprocess.PIPE}
-        with subprocess.Popen(words, text=True, **pipes) as child:
+        pipe = subprocess.PIPE
+        with subprocess.Popen(words, text=True, stdout=pipe, stderr=pipe) as child:
             assert child.stderr is not None
             told = child.stderr.readline()
             if not told.startswith("listening at "):

@@ -52,7 +52,7 @@ class QlcPlus:
         self.program = Program("qlcplus")
         workspace = self.program.folder / "conform.qxw"
         write_workspace(workspace, lanes)
-        words = ["qlcplus", "--open", workspace, "--operate", "--nowm", "--nogui"]
+        words = ["qlcplus", "--open", str(workspace), "--operate", "--nowm", "--nogui"]
         self.program.start(*words, QT_QPA_PLATFORM="offscreen")
 
     def close(self) -> None:

@@ -2,6 +2,7 @@
 
 from collections.abc import Iterable
 from dataclasses import dataclass, field
+from typing import Any
 
 from cueplayer_tools.conform.trial import BROKEN, CHOICE, KEPT, NOT_TRIED, SEEN, Verdict
 from cueplayer_tools.rehearsal import Slots
@@ -138,7 +139,7 @@ def as_json(result: Result) -> dict[str, object]:
     }
 
 
-def from_json(said: dict) -> Result:  # type: ignore[type-arg]
+def from_json(said: dict[str, Any]) -> Result:
     """The result that `as_json` made an object of."""
     rules = tuple(
         RuleFound(
@@ -150,8 +151,9 @@ def from_json(said: dict) -> Result:  # type: ignore[type-arg]
         )
         for rule in said["rules"]
     )
-    named = (said[key] for key in ("kind", "peer", "version", "date", "by"))
-    return Result(*named, rules)
+    return Result(
+        said["kind"], said["peer"], said["version"], said["date"], said["by"], rules
+    )  # fmt: skip
 
 
 def table(result: Result) -> str:

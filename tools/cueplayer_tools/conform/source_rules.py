@@ -10,7 +10,6 @@ from cueplayer_tools.conform.streams import (
     DISCOVERY,
     SYNCHRONIZATION,
     Listening,
-    Packet,
     Stream,
     is_extended,
     two,

@@ -72,9 +72,9 @@ class OwnSource:
         show = Path(self.folder.name, "show.asc")
         show.write_text(SHOW)
         to = "{}:{}".format(*self.listener.getsockname())
-        words = [program(), "live", show, "--to", to, "--cid", OWN_CID]
-        quiet = {"stdout": subprocess.DEVNULL, "stderr": subprocess.DEVNULL}
-        self.process = subprocess.Popen(words, stdin=subprocess.PIPE, text=True, **quiet)
+        words = [program(), "live", str(show), "--to", to, "--cid", OWN_CID]
+        pipe, none = subprocess.PIPE, subprocess.DEVNULL
+        self.process = subprocess.Popen(words, stdin=pipe, stdout=none, stderr=none, text=True)
 
     def _type(self, line: str) -> None:
         assert self.process.stdin is not None

@@ -58,9 +58,11 @@ class Program:
         self.process: subprocess.Popen[bytes] | None = None
 
     def start(self, *words: str | Path, **environment: str) -> None:
-        quiet = dict.fromkeys(("stdin", "stdout", "stderr"), subprocess.DEVNULL)
+        none = subprocess.DEVNULL
         known = dict(os.environ, HOME=str(self.folder), XDG_RUNTIME_DIR=str(self.folder))
-        self.process = subprocess.Popen([*words], env=known | environment, **quiet)
+        self.process = subprocess.Popen(
+            words, env=known | environment, stdin=none, stdout=none, stderr=none
+        )
 
     def check(self) -> None:
         """Refuses to go on where the process has ended."""

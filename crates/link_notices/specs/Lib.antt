@@ -1,0 +1,6 @@
+pub mod Sources
+pub mod Paths
+pub mod Offers
+pub mod Same
+pub mod Told
+pub mod Nights

@@ -1,0 +1,29 @@
+-- How a packet is offered to the system.
+use Rattle.std.specs.Prelude.{Bool, true, false, ◌||◌, Option, Some, None, if◌then◌else◌}
+use Rattle.std.specs.declared.io.ErrorKind.TheVariants as kind
+use Rattle.link_notices.specs.declared.path.PathState.{PathState}
+use Rattle.link_notices.specs.declared.path.PathState.TheVariants.{Elsewhere, Leads, Nowhere}
+use Rattle.link_notices.specs.declared.sending.Sending.{Sending}
+use Rattle.link_notices.specs.declared.sending.Sending.TheVariants.{Bound, BoundAndLost, Lost, Unbound}
+use Rattle.link_notices.specs.declared.source.SourceState.{SourceState}
+use Rattle.link_notices.specs.declared.source.SourceState.TheVariants as source
+
+-- the route leads by the card of the source
+abbrev pub leads : PathState → Bool
+leads Leads = true
+leads (Elsewhere card) = false
+leads Nowhere = false
+
+-- by the socket of an address: what a card without a link takes is lost, and to a card that is
+-- down, or for an address that is gone, nothing is offered
+abbrev pub sending_by : SourceState → Sending
+sending_by source.Sends = Bound
+sending_by source.NoLink = BoundAndLost kind.NetworkDown
+sending_by source.Down = Lost kind.NetworkDown
+sending_by source.Lost = Lost kind.AddrNotAvailable
+
+-- a packet that has an address to be sent from is offered to no other card, unless any will do
+abbrev pub sending : PathState → Option SourceState → Bool → Sending
+sending path None is_any_route = Unbound
+sending path (Some source) is_any_route =
+    if is_any_route || leads path then sending_by source else Lost kind.NetworkUnreachable

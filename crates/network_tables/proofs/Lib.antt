@@ -1,0 +1,3 @@
+pub mod FrontFields
+pub mod Widest
+pub mod Names

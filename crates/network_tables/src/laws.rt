@@ -1,0 +1,10 @@
+//! What holds of every table. A law does nothing: its contract is the law.
+
+ghost use Rattle.network_tables.specs.Best.{BestRouteLaw};
+
+/// Read one by one by [`better`](crate::better), the routes of a table give the first of those that
+/// lead to a host and look at most bits.
+#[tactic(auto, using(crate::proofs::Widest::best_route))]
+pub fn best_route_law()
+    ensures { BestRouteLaw }
+{}

@@ -1,0 +1,185 @@
+-- What lines stand for when bytes were looked at.
+use Rattle.std.proofs.Common.{◌≡◌, ℕ, ◌+◌, ◌-◌, ◌<◌, ◌≤◌, List, [], ◌∷◌, ◌++◌, map, length, take, drop}
+use Rattle.std.proofs.Common.{Bool, true, false, cond, leb, ◌^◌, subst, refl, sym, ap, ◌∙◌, arith, append_assoc, length-append}
+use Rattle.std.specs.List.{position_or_len, slice_range}
+use Rattle.std.proofs.lemmas.Bool.Decides.{nat_tests}
+use Rattle.std.proofs.lemmas.List.{append-nil, drop-drop, drop-take, length-take, length-take-le, take_min}
+use Rattle.memchr.specs.Find.{NoneBefore, Nowhere, Passes, is_byte}
+use Rattle.ascii_text.specs.Text.{is_newline}
+use Rattle.night_record.specs.Cut.{Cut, all_given, cut_of, front_of, whole_length, whole_of}
+use Rattle.night_record.specs.Coming.{HasLooked, Keeps, StandsFor, StandsForMore, kept_of}
+use Rattle.night_record.specs.Coming.{taken_in, unseen_in}
+use Rattle.night_record.specs.declared.lines.NightLines.{NightLines}
+use Rattle.night_record.proofs.Ends.{around, no_newline, none_before}
+use Rattle.night_record.proofs.Parting.{cut_line, cut_plain, cut_whole, front_more, length_whole}
+
+-- what is behind bytes that were looked at
+pub seen_all : (block : List ℕ) (came : ℕ) → slice_range block came came ≡ []
+seen_all block came =
+    let none : came - came ≡ 0 = omega arith in ap (λ n. take n (drop came block)) none
+
+pub seen_more : (block : List ℕ) (seen came k : ℕ) → k < length (slice_range block seen came)
+    → slice_range block (seen + (k + 1)) came ≡ drop (k + 1) (slice_range block seen came)
+seen_more block seen came k lt =
+    let left = came - (seen + (k + 1)) in
+    let size = length-take (came - seen) (drop seen block) in
+    let more : k + 1 + left ≡ came - seen = omega (arith, size, lt) in
+    ap (λ l. take left l) (sym (drop-drop (k + 1) seen block))
+    ∙ (sym (drop-take (k + 1) left (drop seen block))
+    ∙ ap (λ n. drop (k + 1) (take n (drop seen block))) more)
+
+-- no whole line is left: all that came was looked at
+pub none_left : (old new : NightLines) (text : List ℕ) (given : List (List ℕ))
+    → Nowhere (Passes (is_byte 10) (unseen_in old)) 0 (length (unseen_in old))
+    → unseen_in new ≡ [] → new.line.items ≡ front_of (old.line.items ++ unseen_in old)
+    → new.place + new.seen ≡ old.place + old.seen + length (unseen_in old)
+    → taken_in new ≡ taken_in old → StandsFor old text given
+    → StandsFor new text given × (given ≡ all_given text) × (unseen_in new ≡ [])
+none_left old new text given nowhere seen line place taken s =
+    let unseen = unseen_in old in
+    let cut = ap (λ t. cut_of t) s.came
+    ∙ cut_plain s.looked_at unseen (no_newline unseen nowhere) in
+    let lines : (cut_of text).lines ≡ (cut_of s.looked_at).lines = ap (λ (c : Cut). c.lines) cut in
+    let rest : (cut_of text).rest ≡ (cut_of s.looked_at).rest ++ unseen = ap (λ (c : Cut). c.rest) cut in
+    let gave : given ≡ all_given text = s.gave ∙ sym (ap (map front_of) lines) in
+    let size : length text ≡ length s.looked_at + length unseen
+    = ap length s.came ∙ length-append s.looked_at unseen in
+    let left : length (cut_of text).rest ≡ length (cut_of s.looked_at).rest + length unseen
+    = ap length rest ∙ length-append (cut_of s.looked_at).rest unseen in (
+      record {
+        looked_at = text;
+        came = sym (ap (λ u. text ++ u) seen ∙ append-nil text);
+        gave = gave;
+        begun = line ∙ (ap (λ l. front_of (l ++ unseen)) s.begun
+            ∙ (front_more (cut_of s.looked_at).rest unseen ∙ sym (ap front_of rest)));
+        place = place ∙ omega (arith, s.place);
+        taken = taken ∙ (s.taken ∙ omega arith);
+      },
+      gave,
+      seen,
+    )
+
+-- the next line
+pub next_given : (old new : NightLines) (k : ℕ) (text : List ℕ) (given : List (List ℕ))
+    (line : List ℕ)
+    → NoneBefore (Passes (is_byte 10) (unseen_in old)) 0 (length (unseen_in old)) k
+    × Passes (is_byte 10) (unseen_in old) k
+    → unseen_in new ≡ drop (k + 1) (unseen_in old)
+    → line ≡ front_of (old.line.items ++ take k (unseen_in old)) → new.line.items ≡ []
+    → new.place + new.seen ≡ old.place + old.seen + (k + 1)
+    → taken_in new ≡ new.place + new.seen → StandsFor old text given
+    → StandsFor new text (line ∷ given)
+next_given old new k text given line at unseen is begun place taken s =
+    let front = take k (unseen_in old) in
+    let seen = s.looked_at ++ (front ++ 10 ∷ []) in
+    let cut = cut_line s.looked_at front (none_before (unseen_in old) k at) in
+    let rest : (cut_of seen).rest ≡ [] = ap (λ (c : Cut). c.rest) cut in
+    let none : length (cut_of seen).rest ≡ 0 = ap length rest in
+    let few : length front ≡ k = length-take-le k (unseen_in old) (omega (arith, at.0.high)) in
+    let size : length seen ≡ length s.looked_at + (k + 1)
+    = length-append s.looked_at (front ++ 10 ∷ [])
+    ∙ ap (λ n. length s.looked_at + n) (length-append front (10 ∷ []) ∙ ap (λ n. n + 1) few) in
+    let at_place : new.place + new.seen ≡ length seen = place ∙ omega (arith, s.place) in
+    record {
+      looked_at = seen;
+      came = s.came ∙ (ap (λ u. s.looked_at ++ u) (around (unseen_in old) k at.0.high at.1)
+          ∙ (sym (append_assoc s.looked_at (front ++ 10 ∷ []) (drop (k + 1) (unseen_in old)))
+          ∙ ap (λ u. seen ++ u) (sym unseen)));
+      gave = ap (λ l. l ∷ given) (is ∙ (ap (λ l. front_of (l ++ front)) s.begun
+          ∙ front_more (cut_of s.looked_at).rest front))
+          ∙ (ap (λ g. front_of ((cut_of s.looked_at).rest ++ front) ∷ g) s.gave
+          ∙ sym (ap (λ (c : Cut). map front_of c.lines) cut));
+      begun = begun ∙ sym (ap front_of rest);
+      place = at_place;
+      taken = taken ∙ (at_place ∙ omega arith);
+    }
+
+-- what came of a line that began is forgotten
+pub forgotten : (old new : NightLines) (text : List ℕ) (given : List (List ℕ))
+    → unseen_in old ≡ [] → unseen_in new ≡ [] → new.line.items ≡ [] → new.place ≡ taken_in old
+    → new.seen ≡ 0 → taken_in new ≡ taken_in old → StandsFor old text given
+    → StandsFor new (whole_of text) given
+forgotten old new text given none none_now line place seen taken s =
+    let all : text ≡ s.looked_at = s.came
+    ∙ (ap (λ u. s.looked_at ++ u) none ∙ append-nil s.looked_at) in
+    let cut = cut_whole text in
+    let rest : (cut_of (whole_of text)).rest ≡ [] = ap (λ (c : Cut). c.rest) cut in
+    let size = length_whole text in
+    let was : taken_in old ≡ whole_length text = s.taken ∙ ap whole_length (sym all) in
+    let left : length (cut_of (whole_of text)).rest ≡ 0 = ap length rest in
+    record {
+      looked_at = whole_of text;
+      came = sym (ap (λ u. whole_of text ++ u) none_now ∙ append-nil (whole_of text));
+      gave = s.gave ∙ (ap all_given (sym all) ∙ sym (ap (λ (c : Cut). map front_of c.lines) cut));
+      begun = line ∙ sym (ap front_of rest);
+      place = omega (arith, place, seen, was, size);
+      taken = taken ∙ (was ∙ omega (arith, size, left));
+    }
+
+within : (m n : ℕ) → m ≤ n → leb m n ≡ true
+within m n h = grind (arith, nat_tests)
+
+beyond : (m n : ℕ) → n < m → leb m n ≡ false
+beyond m n h = grind (arith, nat_tests)
+
+-- whether what came is kept whole, by the line that began
+pub keeps_whole : (old new : NightLines) → unseen_in old ≡ []
+    → ((text : List ℕ) (given : List (List ℕ)) → length text < 2 ^ 64 → StandsFor old text given
+    → StandsFor new (whole_of text) given)
+    → length old.line.items ≤ 200 → Keeps true old new
+keeps_whole old new none h few text given small s =
+    let all : text ≡ s.looked_at = s.came
+    ∙ (ap (λ u. s.looked_at ++ u) none ∙ append-nil s.looked_at) in
+    let rest = ap (λ t. length (cut_of t).rest) all in
+    let front = ap length s.begun ∙ length-take 201 (cut_of s.looked_at).rest in
+    let is : leb (length (cut_of text).rest) 200 ≡ true
+    = within (length (cut_of text).rest) 200 (omega (arith, rest, front)) in
+    subst (λ b. StandsFor new (cond b (whole_of text) text) given) (sym is) (h text given small s)
+
+pub keeps_long : (old new : NightLines) → unseen_in old ≡ [] → Keeps false old new
+    → 201 ≤ length old.line.items → Keeps true old new
+keeps_long old new none h long text given small s =
+    let all : text ≡ s.looked_at = s.came
+    ∙ (ap (λ u. s.looked_at ++ u) none ∙ append-nil s.looked_at) in
+    let rest = ap (λ t. length (cut_of t).rest) all in
+    let front = ap length s.begun ∙ length-take 201 (cut_of s.looked_at).rest in
+    let is : leb (length (cut_of text).rest) 200 ≡ false
+    = beyond (length (cut_of text).rest) 200 (omega (arith, rest, front)) in
+    subst (λ b. StandsFor new (cond b (whole_of text) text) given) (sym is) (h text given small s)
+
+-- at the front of a block
+pub from_front : (block : List ℕ) (seen came : ℕ) → seen ≡ 0
+    → slice_range block seen came ≡ take came block
+from_front block seen came none =
+    let all : came - 0 ≡ came = omega arith in
+    ap (λ n. take (came - n) (drop n block)) none ∙ ap (λ n. take n block) all
+
+-- bytes of a record came
+pub has_looked : (is_file : Bool) (old mid new : NightLines) (record_text : List ℕ)
+    → Keeps is_file old mid → unseen_in mid ≡ [] → mid.seen ≡ 0
+    → unseen_in new ≡ take new.came (drop mid.place record_text)
+    → new.line ≡ mid.line → new.place ≡ mid.place → new.seen ≡ mid.seen
+    → taken_in new ≡ taken_in mid → HasLooked is_file old new record_text
+has_looked is_file old mid new record_text h none front bytes line place seen taken text given few
+    s =
+    let m = h text given few s in
+    let kept = kept_of is_file text in
+    let all : kept ≡ m.looked_at = m.came
+    ∙ (ap (λ u. m.looked_at ++ u) none ∙ append-nil m.looked_at) in
+    let at : mid.place ≡ length kept = omega (arith, m.place, front, ap length all) in
+    let rest = drop mid.place record_text in
+    let some : take new.came rest ≡ take (length (unseen_in new)) rest
+    = sym (ap (λ n. take n rest) (ap length bytes ∙ length-take new.came rest)
+    ∙ take_min new.came rest) in (
+      unseen_in new,
+      bytes ∙ (some
+          ∙ ap (λ n. take (length (unseen_in new)) (drop n record_text)) at),
+      record {
+        looked_at = m.looked_at;
+        came = ap (λ t. t ++ unseen_in new) all;
+        gave = m.gave;
+        begun = ap (λ l. l.items) line ∙ m.begun;
+        place = omega (arith, place, seen, m.place);
+        taken = taken ∙ m.taken;
+      },
+    )

@@ -1,0 +1,4 @@
+mod Ends
+mod Parting
+mod Coming
+mod Heads
