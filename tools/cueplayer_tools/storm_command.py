@@ -1,4 +1,4 @@
-"""`tools/storm`: what the audience sees of a night in a network that loses, repeats and delays."""
+"""`tools/storm`: shows what the audience sees of a night in a network that loses packets."""
 
 import argparse
 import json
