@@ -245,11 +245,14 @@ class Guests(DoorTest):
                          [is_public(each) for each in ("10.1.1.1", "127.0.0.1", "169.254.1.1", "9.9.9.9")])
 
     def test_markup(self):
-        """Names of cues come as they are, without what moves a terminal or turns a line round."""
+        """Names of cues, and of the show's file, come as they are, without what moves a terminal or
+        turns a line round."""
+        self.show = self.show.rename(self.folder / "a \x1b[2J\u202e<b> \xe4.asc")
         self.show.write_bytes('CUE 1 ! a <b>\x1b[2J\u202eb</b> & "q" c\nCHAN 1@FL\nPATCH 1 1<1@FL\n'.encode())
         _, page, _ = self.opened()
         name = page.newest["show"]["cues"][0]["name"]
         self.assertEqual('a <b> [2J b</b> & "q" c', name)
+        self.assertEqual("a ?[2J?<b> \xe4.asc", page.newest["show"]["title"])
 
 
 @unittest.skipUnless(shutil.which("openssl"), "no openssl is on PATH")
