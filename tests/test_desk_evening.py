@@ -1,5 +1,5 @@
-"""An evening of the examples, played from a tablet on another machine by the PIN; its record, played
-again, sends the same datagrams."""
+"""An evening of the examples, played from a tablet on another machine by the PIN; its record,
+played again, sends the same datagrams."""
 
 import unittest
 import uuid

@@ -1,5 +1,6 @@
 """What the desk's page looks like: each view at five sizes, against the pictures that are kept in
-tests/pictures, and the two pictures of the desk in docs. `tests/desk_pictures.py` takes them anew."""
+tests/pictures, and the two pictures of the desk in docs. `tests/desk_pictures.py` takes them.
+"""
 
 import unittest
 
