@@ -175,7 +175,7 @@ class Examples(ConvertTest):
         self.assertEqual((meant.cues, meant.patch), (show.cues, show.patch))
         told = "\n".join(found.report.lines())
         for part in (
-            "line 4: in doubt: dimmer 3: of channel 3, and then of 2",
+            "line 4: in doubt: dimmer 3: patched to channel 3, and then to 2",
             f"line 7: in doubt: UP 0,5 {COMMA}",
             "lines 6, 10: in doubt: cue 5 is opened again: its lines count together",
             "line 16: in doubt: CEU 7: left out (CUE?); the lines after it went to cue 6",
@@ -247,7 +247,7 @@ class Rules(ConvertTest):
     def test_other_scales(self):
         """A level above 100, or with hex digits and no H: then all others may have been
         misread."""
-        scale = "in doubt: a level of another scale: where all are"
+        scale = "in doubt: a level of another scale: if all are"
         for word, name in (("200", "from 0 to 255"), ("7f", "hexadecimal without an H")):
             lost = f"line 2: lost: CHAN 2@{word} cannot be read"
             told = f"line 2: {scale} {name}, they were misread as percent"
@@ -269,7 +269,7 @@ class Rules(ConvertTest):
         self.assertLines(["CHAN 1 FL 2 x 3 50"], one, "line 2: lost: CHAN 2 x cannot be read")
         told = "line 2: lost: CHAN 1 FL 2: a word is missing, so all of it cannot be read"
         self.assertLines(["CHAN 1 FL 2"], {}, told)
-        self.assertLines(["CHAN 0@FL 1@FL 3@50"], one, "line 2: lost: channel 0: there is none")
+        self.assertLines(["CHAN 0@FL 1@FL 3@50"], one, "line 2: lost: there is no channel 0")
         self.assertLines(["CHAN 1@FL", "CHAN 3@50"], one)
         self.assertLines(["CHAN"], {})
 
@@ -311,7 +311,7 @@ class Rules(ConvertTest):
             (
                 "PATCH 1 1<1@FL 2<9000@50",
                 {1: (1, 255)},
-                "lost: dimmer 9000 of channel 2: there is none",
+                "lost: there is no dimmer 9000, of channel 2",
             ),
             ("PATCH 1 1<1@FL 2<x@50", {1: (1, 255)}, "lost: PATCH 2<x@50 cannot be read"),
             (
@@ -339,8 +339,8 @@ class Rules(ConvertTest):
                 ["line 2: lost: UP 6000: 6000 to the longest time, 5999.99"],
             ),
             ("UP 1:39:59.99", (5999990, 0), None),
-            ("UP M", (0, 0), ["line 2: lost: UP M: M is no time"]),
-            ("UP 3 M", (3000, 0), ["line 2: lost: UP 3 M: M is no time"]),
+            ("UP M", (0, 0), ["line 2: lost: UP M: M is not a time"]),
+            ("UP 3 M", (3000, 0), ["line 2: lost: UP 3 M: M is not a time"]),
             ("UP", (0, 0), ["line 2: lost: UP without a time"]),
             ("UP 3 4 DOWN 5", (3000, 4000), ["line 2: lost: words after UP: DOWN 5"]),
             ("UP 0,5", (0, 5000), [f"line 2: in doubt: UP 0,5 {COMMA}"]),
@@ -364,9 +364,9 @@ class Rules(ConvertTest):
         self.assertEqual({1: {2: 255}, 100: {1: 255}}, show.subs)
         self.assertTold(
             found,
-            "lines 11-12: lost: CUE 10000: no number of a cue",
-            "line 13: lost: CUE x: no number of a cue",
-            "line 14: lost: CUE: no number of a cue",
+            "lines 11-12: lost: CUE 10000: not a cue number",
+            "line 13: lost: CUE x: not a cue number",
+            "line 14: lost: CUE: not a cue number",
             "line 3: changed: group 501 to group 4",
             "line 5: changed: group 0 to group 3",
             "line 9: changed: submaster 101 to submaster 1",
@@ -381,7 +381,7 @@ class Rules(ConvertTest):
         self.assertTold(found, "line 2: changed: channel 9001 to channel 4")
         found, show = self.converted(*cue, PATCH)
         self.assertEqual({3: 255}, show.cues[1000].levels)
-        self.assertTold(found, "line 2: left out: channel 9001, which no dimmer is patched to")
+        self.assertTold(found, "line 2: left out: channel 9001, to which no dimmer is patched")
         found, show = self.converted(*cue, PATCH, "PATCH 1 9001<7@FL")
         self.assertEqual({3: 255, 4: 128}, show.cues[1000].levels)
         self.assertEqual((4, 255), show.patch[7])

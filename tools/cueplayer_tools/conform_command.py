@@ -1,4 +1,4 @@
-"""`tools/conform`: receivers and sources of E1.31, held against the rules of the standard."""
+"""`tools/conform`: tries receivers and sources of E1.31 by the rules of the standard."""
 
 import argparse
 import contextlib

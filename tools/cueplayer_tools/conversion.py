@@ -103,7 +103,7 @@ def _new_channels(export: Export, report: Report) -> dict[int, int]:
         elif channel in wanted:
             report.add(LOST, numbers, f"channel {channel}: no number is free")
         else:
-            report.add(LEFT_OUT, numbers, f"channel {channel}, which no dimmer is patched to")
+            report.add(LEFT_OUT, numbers, f"channel {channel}, to which no dimmer is patched")
     return found
 
 

@@ -1,4 +1,4 @@
-"""`tools/convert`: an export of another console as a show file, and a report of it."""
+"""`tools/convert`: makes a show file of another console's export, and reports what became of it."""
 
 import argparse
 import sys

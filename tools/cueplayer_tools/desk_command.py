@@ -1,5 +1,4 @@
-"""`tools/desk`: runs `live`, or takes hold of a night that is played, and serves one page on this
-machine to play it from."""
+"""`tools/desk`: runs `live`, or plays a night that is kept, and serves a page to play it from."""
 
 import argparse
 import os

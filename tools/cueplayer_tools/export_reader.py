@@ -211,7 +211,7 @@ class Reader:
         read = forms.cue_number if kind == "cue" else forms.thousandths
         key = read(line.words[1]) if len(line.words) > 1 else None
         if key is None:
-            self._skip(line, LOST, f"{said(line.said)}: no number of a {kind}")
+            self._skip(line, LOST, f"{said(line.said)}: not a {kind} number")
             return
         page = page_of(line)
         if page != self.pages[line.first]:
@@ -264,7 +264,8 @@ class Reader:
             return
         before = self.export.patch.get(dimmer)
         if before is not None and before.channel != patched.channel:
-            text = f"dimmer {dimmer}: of channel {before.channel}, and then of {patched.channel}"
+            first, last = before.channel, patched.channel
+            text = f"dimmer {dimmer}: patched to channel {first}, and then to {last}"
             self.report.add(DOUBT, [before.number, line.number], text)
         self.export.patch[dimmer] = patched
         self._note_high(line, patched.channel)
@@ -289,14 +290,14 @@ class Reader:
             for channel in channels:
                 self._note_high(line, channel)
             if 0 in channels:
-                self.report.add(LOST, line.numbers, "channel 0: there is none")
+                self.report.add(LOST, line.numbers, "there is no channel 0")
                 del owner.levels[0]
 
     def _time(self, line: Line, word: str) -> int | None:
         """A time of a cue, or None where the word is none, which is told."""
         found = forms.time(word)
         if found is None:
-            text = f"{said(line.said)}: {printable(word)} is no time"
+            text = f"{said(line.said)}: {printable(word)} is not a time"
             self.report.add(LOST, line.numbers, text)
             return None
         anew = time_word(found.value)

@@ -19,7 +19,7 @@ class Style:
 
 
 _TRACKING = (
-    "a cue is a whole look here: if this export lists changes alone, what a cue leaves as it was"
+    "a cue is a whole look here: if this export lists only changes, what a cue leaves as it was"
     " goes dark; then convert it with --tracking"
 )
 STYLES = (

@@ -75,7 +75,7 @@ class Values:
         self.report.add(LOST, number, f"{line.first} {said(what)} cannot be read")
         scale = _other_scale(what)
         if scale:
-            text = f"a level of another scale: where all are {scale}, they were misread as percent"
+            text = f"a level of another scale: if all are {scale}, they were misread as percent"
             self.report.add(DOUBT, number, text)
 
     def pairs(self, line: Line) -> list[Pair]:
@@ -101,7 +101,7 @@ class Values:
             if 1 <= triple[1] <= HIGHEST_DIMMER:
                 good.append(triple)
             else:
-                told = f"dimmer {triple[1]} of channel {triple[0]}: there is none"
+                told = f"there is no dimmer {triple[1]}, of channel {triple[0]}"
                 self.report.add(LOST, line.number, told)
         return good
 

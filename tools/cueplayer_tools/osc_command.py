@@ -1,4 +1,4 @@
-"""`tools/osc`: Open Sound Control datagrams in, lines for `live` out, or into a night's FIFO."""
+"""`tools/osc`: turns Open Sound Control into lines for `live`, or plays a night's folder."""
 
 import argparse
 import fcntl

@@ -1,4 +1,4 @@
-"""`tools/picture`: a night, a rehearsal or a storm as scalable vector graphics, printed."""
+"""`tools/picture`: draws a night, a rehearsal or a storm as scalable vector graphics."""
 
 import argparse
 import re

@@ -1,4 +1,4 @@
-"""`tools/sheet`: a cue sheet for the stage manager's book, as one HTML page that prints well."""
+"""`tools/sheet`: makes a cue sheet for the stage manager's book, one HTML page to print."""
 
 import argparse
 import hashlib

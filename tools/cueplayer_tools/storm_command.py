@@ -1,4 +1,4 @@
-"""`tools/storm`: what the audience sees of a night in a network that loses, repeats and delays."""
+"""`tools/storm`: shows what the audience sees of a night in a network that loses packets."""
 
 import argparse
 import json
@@ -133,7 +133,7 @@ def _add_network(parser: argparse.ArgumentParser) -> None:
     add("--burst", metavar="MS", type=whole, default=0,
         help="lose packets in bursts of this mean length, not one by one")  # fmt: skip
     add("--repeat", metavar="PERCENT", type=percents, default=0.0, help="packets that come twice")
-    add("--delay", metavar="MS[-MS]", type=delay_of, default=(0, 0), help="how long one takes")
+    add("--delay", metavar="MS[-MS]", type=delay_of, default=(0, 0), help="how long a packet takes")
     add("--reorder", metavar="PERCENT[:MS]", type=held_of, default=(0.0, HELD_BACK),
         help=f"packets that are held back, and how long; {HELD_BACK} ms")  # fmt: skip
     outages: tuple[tuple[str, str, Callable[[str], Outage], str], ...] = (
@@ -257,8 +257,8 @@ def _run(words: argparse.Namespace) -> int:
 def _parser() -> argparse.ArgumentParser:
     parser = argparse.ArgumentParser(prog="storm", description=__doc__)
     add_storm(parser)
-    parser.add_argument("--scripts", metavar="FOLDER", help="keeps the scripts of the rehearsals")
-    parser.add_argument("--json", action="store_true", help="prints data")
+    parser.add_argument("--scripts", metavar="FOLDER", help="keep the scripts of the rehearsals")
+    parser.add_argument("--json", action="store_true", help="print data")
     return parser
 
 

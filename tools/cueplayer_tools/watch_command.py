@@ -1,4 +1,4 @@
-"""`tools/watch`: who sends what to universes, as the proved receiver sees it."""
+"""`tools/watch`: shows who sends what on which universe, as the proved receiver sees it."""
 
 import argparse
 import copy
