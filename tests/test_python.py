@@ -22,11 +22,15 @@ def is_python(path):
     return path.suffix == ".py" or b"python3" in path.read_bytes()[:100].partition(b"\n")[0]
 
 
+def files_of(*paths):
+    """The Python files of these paths."""
+    for path in paths:
+        yield from sorted(filter(is_python, path.rglob("*") if path.is_dir() else [path]))
+
+
 def files():
     """All of it, file by file."""
-    for path in (*TOOLS, *WRITERS, *TESTS, TOP / "bench"):
-        found = path.rglob("*") if path.is_dir() else [path]
-        yield from sorted(set(filter(is_python, found)))
+    return list(files_of(*TOOLS, *WRITERS, *TESTS, TOP / "bench"))
 
 
 class Python(unittest.TestCase):
@@ -41,9 +45,11 @@ class Python(unittest.TestCase):
         source = open(place[1]).read().splitlines()[int(place[2]) - 1] if place else ""
         return line.startswith("Success: ") or "# noqa: " in source
 
-    def assertTyped(self, *words):
+    def assertTyped(self, strictness, *groups):
+        """Each group by itself, since scripts of several folders have one name."""
         with tempfile.TemporaryDirectory() as cache:
-            self.assertQuiet("mypy", "--cache-dir", cache, *words)
+            for group in groups:
+                self.assertQuiet("mypy", "--cache-dir", cache, strictness, *group)
 
     def test_lines(self):
         """None is longer than pyproject.toml says."""
@@ -58,13 +64,14 @@ class Python(unittest.TestCase):
 
     @unittest.skipUnless(shutil.which("mypy"), "mypy is not on PATH")
     def test_tools_are_typed(self):
-        self.assertTyped("--strict", *TOOLS, *WRITERS)
+        self.assertTyped("--strict", [*TOOLS, *WRITERS])
 
     @unittest.skipUnless(shutil.which("mypy"), "mypy is not on PATH")
-    def test_types_of_tests(self):
-        """A test that meets None where it wants a value fails; so they need not say that it is
+    def test_types_of_tests_and_benches(self):
+        """One that meets None where it wants a value fails; so they need not say that it is
         there."""
-        self.assertTyped("--no-strict-optional", *TESTS)
+        benches = list(files_of(TOP / "bench"))
+        self.assertTyped("--no-strict-optional", TESTS, benches)
 
     @unittest.skipUnless(shutil.which("pyflakes3"), "pyflakes3 is not on PATH")
     def test_no_name_is_left_over(self):
