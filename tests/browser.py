@@ -153,11 +153,19 @@ class BrowserPage:
         """Lets go the mouse where it was pressed."""
         self._mouse("mouseReleased", shift)
 
-    def tap(self, expression):
-        """Taps with a finger in the middle of an element."""
+    def touch(self, expression):
+        """Puts a finger on the middle of an element."""
         x, y = self.middle(expression)
         self.call("Input.dispatchTouchEvent", type="touchStart", touchPoints=[{"x": x, "y": y}])
+
+    def lift(self):
+        """Lifts the finger."""
         self.call("Input.dispatchTouchEvent", type="touchEnd", touchPoints=[])
+
+    def tap(self, expression):
+        """Taps with a finger in the middle of an element."""
+        self.touch(expression)
+        self.lift()
 
     def _mouse(self, kind, shift):
         x, y = self.at

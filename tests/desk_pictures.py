@@ -140,8 +140,8 @@ class PicturesTest(DoorTest):
         page.close()
 
     def small_play(self) -> tuple[BrowserPage, Page]:
-        """The page of an evening of the examples, and what is heard of it; what the desk sends comes
-        to this machine."""
+        """The page of an evening of the examples, and what is heard of it; what the desk sends
+        comes to this machine."""
         self.show.write_bytes(SMALL_PLAY.read_bytes())
         play = self.show.rename(self.folder / SMALL_PLAY.name)
         self.show = play

@@ -8,7 +8,7 @@ import uuid
 
 from desks import SHOW, Page, watches
 from folders import NIGHT
-from networks import LIT, OFFICE, PORT, STAGE, NetworkTest, Venue
+from networks import EVERYDAY, LIT, OFFICE, PORT, STAGE, NetworkTest, Venue
 from program import CID, FolderTest, packet
 from test_desk_doors import Door
 from test_osc import message
@@ -194,7 +194,7 @@ class NightCards(DeskCardsTest):
     """The same of a night that `cueplayer-night` keeps going."""
 
     def test_nights(self):
-        self.side_by_side(self.cable, self.card_that_is_late)
+        self.side_by_side(self.cable, self.card_that_is_late, self.two_desks)
 
     def night(self, kept, name):
         """A network, and what runs the script over a night there."""
@@ -221,6 +221,35 @@ class NightCards(DeskCardsTest):
         venue.stage.ip("link set port up")
         page.wait(troubles=[])
         self.assertNotIn(f"from {LIT}", asked("status").stdout)
+
+    def two_desks(self, kept):
+        """Two desks of one night, each open on another machine, show the same, whoever presses."""
+        venue, asked = self.night(kept, "of two")
+        words = ("--to", MULTICAST, "--interface", "lit", "--cid", uuid.uuid4())
+        self.assertEqual(0, asked("start", self.show, *words, "--background").returncode)
+        guests = []
+        for node, address in ((venue.stage, LIT), (venue.office, EVERYDAY)):
+            listen = ("--listen", f"{address}:8090", "--double-go", 0)
+            out, _ = self.begun(kept, venue, "--night", self.folder / "of two", *map(str, listen))
+            out.next()
+            door = Door(out.next())
+            self.assertEqual(204, node.within(lambda: door.enter(door.play)[0]))
+            guest = node.within(lambda: Page(self, f"{door.origin}/", door.cookie))
+            guest.wait(placed=True)
+            guests.append((node, guest))
+
+        def press(at, line, **shown):
+            node, guest = guests[at]
+            self.assertEqual(204, node.within(lambda: guest.command(line)))
+            for _, each in guests:
+                each.wait(**shown)
+
+        press(0, "go", current="1", next="1.5")
+        press(1, "go", current="1.5", next="2")
+        press(1, "sub 1 50", masters={"sub 1": 128}, current="1.5")
+        press(0, "back", current="1", next="1.5", masters={"sub 1": 128})
+        press(1, "master H00", grand=0, lit_grand=255)
+        press(0, "master HFF", grand=255)
 
     def card_that_is_late(self, kept):
         """A night that begins with its machine waits for its card."""

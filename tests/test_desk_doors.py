@@ -252,13 +252,16 @@ class Guests(DoorTest):
         )
 
     def test_markup(self):
-        """Names of cues come as they are, without what moves a terminal or turns a line round."""
+        """Names of cues, and of the show's file, come as they are, without what moves a terminal or
+        turns a line round."""
+        self.show = self.show.rename(self.folder / "a \x1b[2J\u202e<b> \xe4.asc")
         self.show.write_bytes(
             'CUE 1 ! a <b>\x1b[2J\u202eb</b> & "q" c\nCHAN 1@FL\nPATCH 1 1<1@FL\n'.encode()
         )
         _, page, _ = self.opened()
         name = page.newest["show"]["cues"][0]["name"]
         self.assertEqual('a <b> [2J b</b> & "q" c', name)
+        self.assertEqual("a ?[2J?<b> \xe4.asc", page.newest["show"]["title"])
 
 
 @unittest.skipUnless(shutil.which("openssl"), "no openssl is on PATH")
@@ -303,8 +306,66 @@ class Encrypted(DoorTest):
         return "\n".join(desk.err.rest())
 
 
+class Relay:
+    """A network before a door, at another address of this machine: it holds back what comes."""
+
+    def __init__(self, test, door, host):
+        self.door, self.seconds = (door.host, int(door.port)), 0.0
+        self.listener = socket.create_server((host, int(door.port)))
+        # That ends the thread, and closing alone would not.
+        test.addCleanup(self.listener.close)
+        test.addCleanup(self.listener.shutdown, socket.SHUT_RDWR)
+        threading.Thread(target=self._serve, daemon=True).start()
+
+    def _serve(self):
+        with contextlib.suppress(OSError):
+            while True:
+                theirs, _ = self.listener.accept()
+                ours = socket.create_connection(self.door)
+                for way in ((theirs, ours, True), (ours, theirs, False)):
+                    threading.Thread(target=self._carry, args=way, daemon=True).start()
+
+    def _carry(self, source, to, is_held):
+        with source, contextlib.suppress(OSError):
+            while data := source.recv(65_536):
+                if is_held:
+                    time.sleep(self.seconds)
+                to.sendall(data)
+            to.shutdown(socket.SHUT_WR)
+
+
 @unittest.skipUnless(CHROMIUM, MISSING)
 class InBrowser(DoorTest):
+    def test_held_back(self):
+        """What the network holds back for too long is told, and does nothing, then or later; of two
+        presses that it holds back for less one counts."""
+        _, page, door = self.opened("--host", "127.0.0.2")
+        relay = Relay(self, door, "127.0.0.2")
+        door.origin = f"http://127.0.0.2:{door.port}"
+        browser = Browser(self)
+        played = self.entered(browser, door, door.play)
+        played.wait("document.getElementById('next').textContent === '1 one'")
+        played.wait("!document.body.classList.contains('is-dead')")
+        relay.seconds = 0.9
+        played.press(" ", "Space", " ")
+        played.wait("document.getElementById('alarms').innerText.includes('nothing was sent')")
+        relay.seconds = 0.0
+        page.command("sub 1 FL")
+        self.assertIsNone(page.wait(masters={"sub 1": 255})["current"])
+
+        def goes():
+            """Presses twice; whether one of them counted, and came in time for that."""
+            relay.seconds = 0.3
+            for _ in range(2):
+                played.press(" ", "Space", " ")
+            time.sleep(1.1)
+            relay.seconds = 0.0
+            return page.state["current"]
+
+        self.assertEqual("1", wait_for(goes, "a press that is in time"))
+        page.command("sub 1 50")
+        self.assertEqual("1", page.wait(masters={"sub 1": 128})["current"])
+
     def entered(self, browser, door, pin):
         """The page of who has typed this PIN."""
         page = browser.opened(f"{door.origin}/")

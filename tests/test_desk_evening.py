@@ -1,5 +1,5 @@
-"""An evening of the examples, played from a tablet on another machine by the PIN; its record, played
-again, sends the same datagrams."""
+"""An evening of the examples, played from a tablet on another machine by the PIN; its record,
+played again, sends the same datagrams."""
 
 import unittest
 import uuid
@@ -68,13 +68,19 @@ class Evening(DeskCardsTest):
         self.wait_for_cue(number)
 
     def play(self):
-        """GO, a fader, a cue that is chosen, BACK, BLACKOUT, and GO to the end."""
+        """GO, a fader, a cue that is chosen, one at once by a finger that stays, BACK, BLACKOUT, and
+        GO to the end."""
         for number in ("0.5", "1", "1.5"):
             self.go(number)
         self.page.value(f"{part('sub-1')}.focus()")
         for _ in range(5):
             self.page.press("ArrowRight")
         self.page.wait("page.state.masters['sub 1'] === 5")
+        self.page.tap(cue(5))
+        self.page.wait(f"{part('goto')}.textContent.startsWith('Go to 4 ')")
+        self.page.touch(part("goto"))
+        self.wait_for_cue("4")
+        self.page.lift()
         self.page.tap(cue(4))
         self.page.wait(f"{part('goto')}.textContent.startsWith('Go to 3 ')")
         self.page.tap(part("goto"))
@@ -104,6 +110,8 @@ class Evening(DeskCardsTest):
             faults = [each for each in self.browser.faults if "Opener-Policy" not in str(each)]
             self.assertEqual([], faults)
             record = self.record.read_bytes()
+            for line in (b" goto 4 in 0\n", b" goto 3\n", b" back\n", b" master H00\n"):
+                self.assertEqual(1, record.count(line), line)
             again = self.venue.run("play", self.show, *self.way, "--name", LIVE_NAME, stdin=record)
             self.assertEqual(0, again.returncode, again.stderr)
             came = self.venue.stage.came()

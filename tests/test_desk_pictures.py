@@ -1,13 +1,14 @@
 """What the desk's page looks like: each view at five sizes, against the pictures that are kept in
-tests/pictures, and the two pictures of the desk in docs. `tests/desk_pictures.py` takes them anew."""
+tests/pictures, and the two pictures of the desk in docs. `tests/desk_pictures.py` takes them.
+"""
 
 import unittest
 
-from browser import CHROMIUM, MISSING
-from desk_pictures import PicturesTest, resize
-from desks import NO_WATCH, watches
+from browser import CHROMIUM, MISSING, Browser
+from desk_pictures import SIZES, PicturesTest, resize
+from desks import NO_WATCH, Page, watches
 from pictures import PICTURES, Taken, kept_boxes
-from program import TOP
+from program import TOP, text
 from test_desk_page import HIDDEN
 
 # What a hand may break, and what has to be told of it; each is undone by an empty value.
@@ -59,6 +60,30 @@ class DeskPictures(PicturesTest):
             resize(self.page, width, height)
             self.page.wait(f"innerWidth === {width}")
             self.page.wait(f"{HIDDEN.replace('VIEW', 'play')}.length === 0")
+
+    def test_long_names(self):
+        """Names of two lines and more, and the countdown of a follow-on, hide no control: GO, the
+        current cue and the next one are seen at each size, in the list and in large type."""
+        name = "in which all come back, and the king dies slowly, for the third time (spot 3)"
+        cues = [line for number in range(1, 31)
+                for line in (f"CUE {number}.125 ! {number} {name}", "FOLLOWON 1000")]
+        self.show.write_bytes(text(*cues, f"SUB 1 ! {name}", "CHAN 1@FL", "PATCH 1 1<1@FL"))
+        _, address = self.begun()
+        heard = Page(self, address)
+        heard.wait(placed=True)
+        heard.command("goto 27.125 in 0")
+        page = Browser(self).opened(address)
+        page.wait("document.getElementById('follow').textContent !== ''")
+        for width, height in SIZES:
+            resize(page, width, height)
+            page.wait(f"innerWidth === {width}")
+            for view in ("play", "large"):
+                with self.subTest(view, width=width, height=height):
+                    page.value(f"document.querySelector('[data-to={view}]').click()")
+                    self.assertEqual([], page.value(HIDDEN.replace("VIEW", view)))
+                    tall = "document.querySelector('main').scrollHeight"
+                    self.assertEqual(page.value("document.querySelector('main').clientHeight"),
+                                     page.value(tall))
 
     @unittest.skipUnless(watches(), NO_WATCH)
     def test_docs(self):

@@ -74,7 +74,8 @@ class QrCode(DoorTest):
                 line = "".join("01"[LETTERS[letter][half] == "0"] * SIDE for letter in row)
                 lines += [" ".join(line)] * SIDE
         size = f"P1\n{len(code[0]) * SIDE} {len(lines)}\n"
-        self.assertEqual(address, self.decoded("code.pbm", f"{size}{chr(10).join(lines)}\n".encode()))
+        picture = size + "\n".join(lines) + "\n"
+        self.assertEqual(address, self.decoded("code.pbm", picture.encode()))
 
     @unittest.skipUnless(CHROMIUM, MISSING)
     def test_page(self):

@@ -287,21 +287,24 @@ class Port(unittest.TestCase):
 
     def test_reading(self):
         """However many send what takes long to read, it takes no more than its part of a second;
-        the rest is refused, and told, and in the next second presses come through again."""
+        the rest is refused, and told. Short ones are read all the while."""
         long, now = bundle(*[message("/cueplayer/none")] * 2_000), [self.port.second]
+        press = bundle(*[message("/cueplayer/sub/1", 0.5)] * 20)
+        self.assertGreater(len(press), osc_port.PART)
         with mock.patch.object(osc_port.time, "monotonic", lambda: now[0]):
             while self.port.reading <= osc_port.MOST_READING:
                 self.sender().send(long)
                 self.take()
-            self.sender().send(GO)
-            self.take()
+            for datagram in (press, GO):
+                self.sender().send(datagram)
+                self.take()
+            self.assertEqual(["go"], self.lines)
             now[0] += 1.0
             self.port.take(self.lines.append)
-            self.assertEqual([], self.lines)
-            self.assertIn("more came in a second than can be read", self.told[-1])
-            self.sender().send(GO)
+            self.assertIn("more long datagrams in a second than can be read", self.told[-1])
+            self.sender().send(press)
             self.take()
-        self.assertEqual(["go"], self.lines)
+        self.assertEqual(21, len(self.lines))
 
     def test_lost(self):
         """What found no room before it was read is counted, and told."""

@@ -27,7 +27,9 @@ def show_view(show: Show, title: str, base: int, osc: str | None) -> dict[str, A
     ]
     faders = _records("sub", show.subs) + _records("group", show.groups)
     universes = show.universes(base)
-    return {"title": title, "cues": cues, "faders": faders, "universes": universes, "osc": osc}
+    # A file's name may hold what turns a line round, or is no letter.
+    shown = "".join(letter if letter.isprintable() else "?" for letter in title)
+    return {"title": shown, "cues": cues, "faders": faders, "universes": universes, "osc": osc}
 
 
 def _spelled(cue: int | None) -> str | None:

@@ -26,9 +26,9 @@ ROOM = 4 << 20
 MOST_OF_ONE = 1_000
 PART = 256
 MOST_SENDERS = 4_096
-# Seconds of a processor in which datagrams are read, whoever sends them: of a second, and before
-# the caller looks at anything else.
-MOST_READING, MOST_READING_AT_ONCE = 0.1, 0.002
+# Seconds of a processor: of a second those in which datagrams of more than a part are read,
+# whoever sends them; and those before the caller looks at anything else.
+MOST_READING, MOST_AT_A_STRETCH = 0.1, 0.002
 # Datagrams that are taken before the caller looks at anything else.
 MOST_AT_ONCE = 256
 # Seconds after which a press is none any more, and between two lines of what is refused.
@@ -119,9 +119,9 @@ class OscPort:
         now = time.monotonic()
         if now - self.second >= EVERY:
             self._end_second(now)
-        until = self.reading + MOST_READING_AT_ONCE
+        until = time.thread_time() + MOST_AT_A_STRETCH
         for _ in range(MOST_AT_ONCE):
-            if self.reading > until:
+            if time.thread_time() > until:
                 return
             try:
                 datagram, sender = self.socket.recvfrom(LONGEST_DATAGRAM)
@@ -132,8 +132,8 @@ class OscPort:
                 self.refusals.add(sender, datagram)
             elif self._has_spent(sender, datagram):
                 self.refusals.add(sender, f"more than {MOST_OF_ONE} datagrams in a second")
-            elif self.reading > MOST_READING:
-                self.refusals.add(sender, "more came in a second than can be read")
+            elif len(datagram) > PART and self.reading > MOST_READING:
+                self.refusals.add(sender, "more long datagrams in a second than can be read")
             else:
                 self._hand_on(datagram, sender, give)
 
@@ -163,7 +163,8 @@ class OscPort:
             return
         began = time.thread_time()
         lines, refused = read(datagram)
-        self.reading += time.thread_time() - began
+        if len(datagram) > PART:
+            self.reading += time.thread_time() - began
         age = self._age() if lines else 0.0
         for line in lines:
             try:

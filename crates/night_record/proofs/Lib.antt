@@ -2,3 +2,4 @@ mod Ends
 mod Parting
 mod Coming
 mod Heads
+mod Rows

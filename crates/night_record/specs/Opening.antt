@@ -7,8 +7,8 @@ use Rattle.ascii_text.specs.Text.{is_newline}
 use Rattle.record_head.specs.Head.{head_text}
 use Rattle.record_head.specs.declared.head.RecordHead.{RecordHead}
 use Rattle.night_record.specs.Cut.{whole_length}
-use Rattle.night_record.specs.declared.opening.Opening.{Opening}
-use Rattle.night_record.specs.declared.opening.Opening.TheVariants.{Begins, GoesOn}
+use Rattle.night_record.specs.declared.opening.RecordOpening.{RecordOpening}
+use Rattle.night_record.specs.declared.opening.RecordOpening.TheVariants.{Begins, GoesOn}
 use Rattle.night_record.specs.declared.unfit.Unfit.{Unfit}
 use Rattle.night_record.specs.declared.unfit.Unfit.TheVariants.{NoRecord}
 use Rattle.night_record.specs.Unfit.{IsOwn}
@@ -32,7 +32,7 @@ is_part_of_head night text =
 -- what becomes of the night of a head by what stands in its record. It goes on where two lines are
 -- its head, behind the last LF: what stands there is a line that was cut. It begins where no two
 -- lines are whole, and what stands there is a part of its head
-abbrev pub IsOpening : RecordHead → List ℕ → Result Opening Unfit → Type 0
+abbrev pub IsOpening : RecordHead → List ℕ → Result RecordOpening Unfit → Type 0
 IsOpening night text (Ok Begins) = (head_in text ≡ None) × (is_part_of_head night text ≡ true)
 IsOpening night text (Ok (GoesOn lines)) = (line : List ℕ) × (head : RecordHead)
     × (head_in text ≡ Some line) × IsOwn night line (Ok head)

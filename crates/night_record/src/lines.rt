@@ -148,19 +148,19 @@ impl NightLines {
     /// # Errors
     ///
     /// The system's reason where the record cannot be read.
-    pub fn look<G: Growth>(&mut self, record: &mut G) -> Result<(), ErrorKind>
-        ensures told { G.tells record.new → G.tells record.old }
+    pub fn look<G: Growth>(&mut self, written: &mut G) -> Result<(), ErrorKind>
+        ensures told { G.tells written.new → G.tells written.old }
         ensures first { 1 ≤ length (unseen_in self.old)
-            → IsOk result × (self.new ≡ self.old) × (record.new ≡ record.old) }
-        ensures ok { OnOk result (unseen_in self.old ≡ [] → G.tells record.new
-            → HasLooked (G.is_file record.old) self.old self.new (G.text record.new)) }
-        ensures err { OnErr result (Keeps (G.is_file record.old) self.old self.new) }
+            → IsOk result × (self.new ≡ self.old) × (written.new ≡ written.old) }
+        ensures ok { OnOk result (unseen_in self.old ≡ [] → G.tells written.new
+            → HasLooked (G.is_file written.old) self.old self.new (G.text written.new)) }
+        ensures err { OnErr result (Keeps (G.is_file written.old) self.old self.new) }
     {
         if self.seen < self.came {
             return Ok(());
         }
-        self.make_room(record.is_file());
-        match record.read(self.place, &mut self.block) {
+        self.make_room(written.is_file());
+        match written.read(self.place, &mut self.block) {
             Ok(count) => {
                 self.came = count;
                 Ok(())

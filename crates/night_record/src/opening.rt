@@ -21,31 +21,31 @@ pub struct TakenUp {
 
 /// How a night begins or goes on by what stands in its record.
 #[derive(Clone, Copy, Debug, PartialEq, Eq)]
-pub enum Opening {
+pub enum RecordOpening {
     /// The record has no line, or a part of a head: a night begins in it.
     Begins,
     /// A night goes on behind these lines.
     GoesOn(TakenUp),
 }
 
-impl Opening {
+impl RecordOpening {
     /// How the night of this head begins or goes on by the text of its record.
     ///
     /// # Errors
     ///
     /// Where that is of another night, or of none.
-    pub fn of(night: &RecordHead, text: &[u8]) -> Result<Opening, Unfit>
+    pub fn of(night: &RecordHead, text: &[u8]) -> Result<RecordOpening, Unfit>
         ensures { IsOpening night.now text.now result }
     {
         let Some(line) = head_in(text) else {
             return if is_part_of_head(night, text) {
-                Ok(Opening::Begins)
+                Ok(RecordOpening::Begins)
             } else {
                 Err(Unfit::NoRecord)
             };
         };
         match own_head(night, line) {
-            Ok(_) => Ok(Opening::GoesOn(TakenUp {
+            Ok(_) => Ok(RecordOpening::GoesOn(TakenUp {
                 from: line.len() + 1,
                 to: whole_length(text),
             })),

@@ -124,12 +124,16 @@ function showCues(state, before) {
   if (before?.current !== state.current || before?.next !== state.next) scrollCues(state);
 }
 
-// The current cue stands near the top of the list, so that the tail of the list is seen.
+// The current cue stands near the top of the list, so that the tail of the list is seen. One cue
+// before it is seen too, where the next one has room then.
 function scrollCues(state) {
   const row = page.cues.get(state.current ?? state.next)?.button.parentNode;
   if (!row) return;
-  // One cue before it is seen too.
-  byId("cues").scrollTop = row.offsetTop - row.offsetHeight;
+  const list = byId("cues");
+  const before = row.previousElementSibling ?? row;
+  const last = page.cues.get(state.next)?.button.parentNode ?? row;
+  const hasRoom = last.offsetTop + last.offsetHeight - before.offsetTop <= list.clientHeight;
+  list.scrollTop = (hasRoom ? before : row).offsetTop;
   const shown = page.cues.get(state.next ?? state.current)?.button;
   const buttons = [...page.cues.values()].map((cue) => cue.button);
   if (shown && !buttons.includes(document.activeElement)) focusable(buttons, shown);

@@ -8,7 +8,7 @@ returns-in-Ok-clause-ok g c none tells =
     let block = c.read.new.block in
     let count = c.in-Ok.count in
     let front = from_front block c.make_room.new.self.seen count c.make_room.ensures.front.0 in
-    has_looked (g.G.Growth.is_file c.args.record.now) c.args.self.now c.make_room.new.self _ _
+    has_looked (g.G.Growth.is_file c.args.written.now) c.args.self.now c.make_room.new.self _ _
     (subst (λ b. Keeps b c.args.self.now c.make_room.new.self) c.is_file.ensures
     c.make_room.ensures.keeps) c.make_room.ensures.none c.make_room.ensures.front.0
     (front ∙ c.in-Ok.ensures.bytes tells)
