@@ -1,5 +1,4 @@
-"""The links between the pages: each leads to a file of this tree, and to a heading that is
-there."""
+"""The links between the pages: each leads to a file of this tree, and to a heading on it."""
 
 import re
 import unittest
