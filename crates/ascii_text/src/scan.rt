@@ -49,35 +49,10 @@ fn entry(table: &[bool; 256], byte: u8) -> bool
     table[usize::from(byte)]
 }
 
-// The same without the `!`: between two words there is mostly one such byte, so each is looked up
-// once.
-const SEPARATORS: [bool; 256] = [
-    false, false, false, false, false, false, false, false, false, true, false, false, false, true,
-    false, false, false, false, false, false, false, false, false, false, false, false, true,
-    false, false, false, false, false, true, false, false, false, false, false, false, false,
-    false, false, false, false, true, false, false, true, false, false, false, false, false, false,
-    false, false, false, false, false, true, true, true, true, false, true, false, false, false,
-    false, false, false, false, false, false, false, false, false, false, false, false, false,
-    false, false, false, false, false, false, false, false, false, false, false, false, false,
-    false, false, false, false, false, false, false, false, false, false, false, false, false,
-    false, false, false, false, false, false, false, false, false, false, false, false, false,
-    false, false, false, false, false, false, false, false, false, false, false, false, false,
-    false, false, false, false, false, false, false, false, false, false, false, false, false,
-    false, false, false, false, false, false, false, false, false, false, false, false, false,
-    false, false, false, false, false, false, false, false, false, false, false, false, false,
-    false, false, false, false, false, false, false, false, false, false, false, false, false,
-    false, false, false, false, false, false, false, false, false, false, false, false, false,
-    false, false, false, false, false, false, false, false, false, false, false, false, false,
-    false, false, false, false, false, false, false, false, false, false, false, false, false,
-    false, false, false, false, false, false, false, false, false, false, false, false, false,
-    false, false, false, false, false, false, false, false, false, false, false, false, false,
-    false, false, false, false, false, false,
-];
-
 fn is_separator(byte: u8) -> bool
     ensures { result ≡ is_separator byte }
 {
-    entry(&SEPARATORS, byte)
+    is_word_end(byte) && byte != b'!'
 }
 
 // How many separators stand first.
