@@ -17,7 +17,7 @@ import time
 import unittest
 from unittest import mock
 
-from machine import in_time, took
+from machine import Late, in_time, took
 from program import CID, PROGRAM, ProgramTest
 from tooling import PATIENCE, TOOLS, Started, run_tool, stand_still, wait_for
 from wire import SLOT_1, address_of, received, receiving
@@ -442,7 +442,11 @@ class Tool(ProgramTest):
                 for number in range(1, 9):
                     pressed = time.monotonic()
                     send(message("/cueplayer/goto", number))
-                    self.assertEqual(f"goto {number}", osc.out.next())
+                    try:
+                        self.assertEqual(f"goto {number}", osc.out.next(5))
+                    except queue.Empty:
+                        # A tool that has no processor loses what finds no room in the system.
+                        raise Late("a press was lost in the flood") from None
                     in_time(took(pressed), 1000, "a press")
                     time.sleep(0.2)
                 self.assertGreater(flood.end(), 1_000)

@@ -27,7 +27,7 @@ MOST_OF_ONE = 1_000
 PART = 256
 MOST_SENDERS = 4_096
 # Seconds of a processor: of a second those for reading, whoever sends, of datagrams of up to a part
-# and of longer ones; and those before the caller looks at anything else.
+# and of longer ones; and those for reading before the caller looks at anything else.
 MOST_READING = {"short": 0.3, "long": 0.1}
 MOST_AT_A_STRETCH = 0.002
 # Datagrams that are taken before the caller looks at anything else.
@@ -125,10 +125,8 @@ class OscPort:
         now = time.monotonic()
         if now - self.second >= EVERY:
             self._end_second(now)
-        until = time.thread_time() + MOST_AT_A_STRETCH
+        until = sum(self.reading.values()) + MOST_AT_A_STRETCH
         for _ in range(MOST_AT_ONCE):
-            if time.thread_time() > until:
-                return
             try:
                 datagram, sender = self.socket.recvfrom(LONGEST_DATAGRAM)
             except OSError:
@@ -143,6 +141,8 @@ class OscPort:
                 self.refusals.add(sender, told)
             else:
                 self._hand_on(datagram, sender, give)
+                if sum(self.reading.values()) > until:
+                    return
 
     def _has_spent(self, sender: Address, datagram: bytes) -> bool:
         if len(self.spent) >= MOST_SENDERS:
