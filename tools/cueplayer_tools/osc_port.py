@@ -26,9 +26,10 @@ ROOM = 4 << 20
 MOST_OF_ONE = 1_000
 PART = 256
 MOST_SENDERS = 4_096
-# Seconds of a processor: of a second those in which datagrams of more than a part are read,
-# whoever sends them; and those before the caller looks at anything else.
-MOST_READING, MOST_AT_A_STRETCH = 0.1, 0.002
+# Seconds of a processor: of a second those for reading, whoever sends, of datagrams of up to a part
+# and of longer ones; and those for reading before the caller looks at anything else.
+MOST_READING = {"short": 0.3, "long": 0.1}
+MOST_AT_A_STRETCH = 0.002
 # Datagrams that are taken before the caller looks at anything else.
 MOST_AT_ONCE = 256
 # Seconds after which a press is none any more, and between two lines of what is refused.
@@ -85,6 +86,11 @@ def reason_of(datagram: bytes) -> str:
     return next(iter(read(datagram)[1]), "no such address")
 
 
+def _kind(datagram: bytes) -> str:
+    """Whether a datagram is long to read."""
+    return "long" if len(datagram) > PART else "short"
+
+
 class OscPort:
     """A port of this machine; what comes there is handed on as lines, in its order."""
 
@@ -98,7 +104,7 @@ class OscPort:
         self.tell = tell
         self.refusals = Refusals(tell)
         self.spent: dict[Address, int] = {}
-        self.reading = 0.0
+        self.reading = dict.fromkeys(MOST_READING, 0.0)
         self.second = time.monotonic()
         self.lost = 0
         # Asked once, the system notes the arrival of each datagram.
@@ -119,10 +125,8 @@ class OscPort:
         now = time.monotonic()
         if now - self.second >= EVERY:
             self._end_second(now)
-        until = time.thread_time() + MOST_AT_A_STRETCH
+        until = sum(self.reading.values()) + MOST_AT_A_STRETCH
         for _ in range(MOST_AT_ONCE):
-            if time.thread_time() > until:
-                return
             try:
                 datagram, sender = self.socket.recvfrom(LONGEST_DATAGRAM)
             except OSError:
@@ -132,10 +136,13 @@ class OscPort:
                 self.refusals.add(sender, datagram)
             elif self._has_spent(sender, datagram):
                 self.refusals.add(sender, f"more than {MOST_OF_ONE} datagrams in a second")
-            elif len(datagram) > PART and self.reading > MOST_READING:
-                self.refusals.add(sender, "more long datagrams in a second than can be read")
+            elif self.reading[_kind(datagram)] > MOST_READING[_kind(datagram)]:
+                told = f"more {_kind(datagram)} datagrams in a second than can be read"
+                self.refusals.add(sender, told)
             else:
                 self._hand_on(datagram, sender, give)
+                if sum(self.reading.values()) > until:
+                    return
 
     def _has_spent(self, sender: Address, datagram: bytes) -> bool:
         if len(self.spent) >= MOST_SENDERS:
@@ -163,8 +170,7 @@ class OscPort:
             return
         began = time.thread_time()
         lines, refused = read(datagram)
-        if len(datagram) > PART:
-            self.reading += time.thread_time() - began
+        self.reading[_kind(datagram)] += time.thread_time() - began
         age = self._age() if lines else 0.0
         for line in lines:
             try:
@@ -188,7 +194,7 @@ class OscPort:
     def _end_second(self, now: float) -> None:
         self.second = now
         self.spent.clear()
-        self.reading = 0.0
+        self.reading = dict.fromkeys(MOST_READING, 0.0)
         self.refusals.flush()
         lost = self._lost()
         if lost != self.lost:
