@@ -155,28 +155,26 @@ from_front block seen came none =
     ap (λ n. take (came - n) (drop n block)) none ∙ ap (λ n. take n block) all
 
 -- bytes of a record came
-pub has_looked : (is_file : Bool) (old mid new : NightLines) (record_text : List ℕ)
-    → Keeps is_file old mid → unseen_in mid ≡ [] → mid.seen ≡ 0
-    → unseen_in new ≡ take new.came (drop mid.place record_text)
+pub has_looked : (is_file : Bool) (old mid new : NightLines) (more record_text : List ℕ)
+    → Keeps is_file old mid → unseen_in mid ≡ [] → mid.seen ≡ 0 → unseen_in new ≡ more
+    → more ≡ take new.came (drop mid.place record_text)
     → new.line ≡ mid.line → new.place ≡ mid.place → new.seen ≡ mid.seen
-    → taken_in new ≡ taken_in mid → HasLooked is_file old new record_text
-has_looked is_file old mid new record_text h none front bytes line place seen taken text given few
-    s =
+    → taken_in new ≡ taken_in mid → HasLooked is_file old new more record_text
+has_looked is_file old mid new more record_text h none front unseen bytes line place seen taken
+    text given few s =
     let m = h text given few s in
     let kept = kept_of is_file text in
     let all : kept ≡ m.looked_at = m.came
     ∙ (ap (λ u. m.looked_at ++ u) none ∙ append-nil m.looked_at) in
     let at : mid.place ≡ length kept = omega (arith, m.place, front, ap length all) in
     let rest = drop mid.place record_text in
-    let some : take new.came rest ≡ take (length (unseen_in new)) rest
+    let some : take new.came rest ≡ take (length more) rest
     = sym (ap (λ n. take n rest) (ap length bytes ∙ length-take new.came rest)
     ∙ take_min new.came rest) in (
-      unseen_in new,
-      bytes ∙ (some
-          ∙ ap (λ n. take (length (unseen_in new)) (drop n record_text)) at),
+      bytes ∙ (some ∙ ap (λ n. take (length more) (drop n record_text)) at),
       record {
         looked_at = m.looked_at;
-        came = ap (λ t. t ++ unseen_in new) all;
+        came = ap (λ t. t ++ more) all ∙ ap (λ u. m.looked_at ++ u) (sym unseen);
         gave = m.gave;
         begun = ap (λ l. l.items) line ∙ m.begun;
         place = omega (arith, place, seen, m.place);

@@ -153,7 +153,8 @@ impl NightLines {
         ensures first { 1 ≤ length (unseen_in self.old)
             → IsOk result × (self.new ≡ self.old) × (written.new ≡ written.old) }
         ensures ok { OnOk result (unseen_in self.old ≡ [] → G.tells written.new
-            → HasLooked (G.is_file written.old) self.old self.new (G.text written.new)) }
+            → HasLooked (G.is_file written.old) self.old self.new (G.latest written.new)
+            (G.text written.new)) }
         ensures err { OnErr result (Keeps (G.is_file written.old) self.old self.new) }
     {
         if self.seen < self.came {
