@@ -1,9 +1,12 @@
 -- What lines stand for when bytes were looked at.
-use Rattle.std.proofs.Common.{◌≡◌, ℕ, ◌+◌, ◌-◌, ◌<◌, ◌≤◌, List, [], ◌∷◌, ◌++◌, map, length, take, drop}
-use Rattle.std.proofs.Common.{Bool, true, false, cond, leb, ◌^◌, subst, refl, sym, ap, ◌∙◌, arith, append_assoc, length-append}
+use Rattle.std.proofs.Common.{◌≡◌, ℕ, ◌+◌, ◌-◌, ◌<◌, ◌≤◌, List}
+use Rattle.std.proofs.Common.{[], ◌∷◌, ◌++◌, map, length, take, drop}
+use Rattle.std.proofs.Common.{Bool, true, false, cond, leb, ◌^◌, subst}
+use Rattle.std.proofs.Common.{refl, sym, ap, ◌∙◌, arith, append_assoc, length-append}
 use Rattle.std.specs.List.{position_or_len, slice_range}
 use Rattle.std.proofs.lemmas.Bool.Decides.{nat_tests}
-use Rattle.std.proofs.lemmas.List.{append-nil, drop-drop, drop-take, length-take, length-take-le, take_min}
+use Rattle.std.proofs.lemmas.List.{append-nil, drop-drop, drop-take}
+use Rattle.std.proofs.lemmas.List.{length-take, length-take-le, take_min}
 use Rattle.memchr.specs.Find.{NoneBefore, Nowhere, Passes, is_byte}
 use Rattle.ascii_text.specs.Text.{is_newline}
 use Rattle.night_record.specs.Cut.{Cut, all_given, cut_of, front_of, whole_length, whole_of}
@@ -40,7 +43,8 @@ none_left old new text given nowhere seen line place taken s =
     let cut = ap (λ t. cut_of t) s.came
     ∙ cut_plain s.looked_at unseen (no_newline unseen nowhere) in
     let lines : (cut_of text).lines ≡ (cut_of s.looked_at).lines = ap (λ (c : Cut). c.lines) cut in
-    let rest : (cut_of text).rest ≡ (cut_of s.looked_at).rest ++ unseen = ap (λ (c : Cut). c.rest) cut in
+    let rest : (cut_of text).rest ≡ (cut_of s.looked_at).rest ++ unseen
+    = ap (λ (c : Cut). c.rest) cut in
     let gave : given ≡ all_given text = s.gave ∙ sym (ap (map front_of) lines) in
     let size : length text ≡ length s.looked_at + length unseen
     = ap length s.came ∙ length-append s.looked_at unseen in
