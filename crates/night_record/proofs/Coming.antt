@@ -2,15 +2,14 @@
 use Rattle.std.proofs.Common.{◌≡◌, ℕ, ◌+◌, ◌-◌, ◌<◌, ◌≤◌, List}
 use Rattle.std.proofs.Common.{[], ◌∷◌, ◌++◌, map, length, take, drop}
 use Rattle.std.proofs.Common.{Bool, true, false, cond, leb, ◌^◌, subst}
-use Rattle.std.proofs.Common.{refl, sym, ap, ◌∙◌, arith, append_assoc, length-append}
-use Rattle.std.specs.List.{position_or_len, slice_range}
+use Rattle.std.proofs.Common.{sym, ap, ◌∙◌, arith, append_assoc, length-append}
+use Rattle.std.specs.List.{slice_range}
 use Rattle.std.proofs.lemmas.Bool.Decides.{nat_tests}
 use Rattle.std.proofs.lemmas.List.{append-nil, drop-drop, drop-take}
 use Rattle.std.proofs.lemmas.List.{length-take, length-take-le, take_min}
 use Rattle.memchr.specs.Find.{NoneBefore, Nowhere, Passes, is_byte}
-use Rattle.ascii_text.specs.Text.{is_newline}
 use Rattle.night_record.specs.Cut.{Cut, all_given, cut_of, front_of, whole_length, whole_of}
-use Rattle.night_record.specs.Coming.{HasLooked, Keeps, StandsFor, StandsForMore, kept_of}
+use Rattle.night_record.specs.Coming.{HasLooked, Keeps, StandsFor, kept_of}
 use Rattle.night_record.specs.Coming.{taken_in, unseen_in}
 use Rattle.night_record.specs.declared.lines.NightLines.{NightLines}
 use Rattle.night_record.proofs.Ends.{around, no_newline, none_before}

@@ -1,4 +1,4 @@
-use Rattle.std.proofs.Common.{◌≡◌, ap, ◌∙◌, arith, refl, length, subst, sym}
+use Rattle.std.proofs.Common.{◌∙◌, refl, subst, sym}
 use Rattle.night_record.specs.Coming.{Keeps}
 use Rattle.night_record.proofs.Coming.{from_front, has_looked}
 use Rattle.night_record.proofs.lines.NightLines.look.Goals as goal

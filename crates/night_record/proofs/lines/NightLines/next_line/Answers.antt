@@ -1,5 +1,5 @@
-use Rattle.std.proofs.Common.{◌≡◌, ◌-◌, ◌+◌, ◌++◌, ap, ◌∙◌, sym}
-use Rattle.std.proofs.Common.{refl, length, take, drop, min, arith, length-append}
+use Rattle.std.proofs.Common.{◌≡◌, ◌+◌, ◌++◌, ap, ◌∙◌}
+use Rattle.std.proofs.Common.{refl, length, take, min, arith, length-append}
 use Rattle.night_record.specs.Cut.{front_of}
 use Rattle.night_record.specs.Coming.{unseen_in}
 use Rattle.night_record.proofs.Coming.{next_given, none_left, seen_all, seen_more}

@@ -1,4 +1,4 @@
-use Rattle.std.proofs.Common.{◌≡◌, ◌++◌, [], ap, ◌∙◌, take}
+use Rattle.std.proofs.Common.{◌≡◌, ◌++◌, ap, ◌∙◌, take}
 use Rattle.night_record.specs.Coming.{unseen_in}
 use Rattle.night_record.proofs.Parting.{front_more_at}
 use Rattle.night_record.proofs.lines.NightLines.rest.Goals as goal
