@@ -1,13 +1,15 @@
 -- What lines stand for when bytes were looked at.
-use Rattle.std.proofs.Common.{◌≡◌, ℕ, ◌+◌, ◌-◌, ◌<◌, ◌≤◌, List, [], ◌∷◌, ◌++◌, map, length, take, drop}
-use Rattle.std.proofs.Common.{Bool, true, false, cond, leb, ◌^◌, subst, refl, sym, ap, ◌∙◌, arith, append_assoc, length-append}
-use Rattle.std.specs.List.{position_or_len, slice_range}
+use Rattle.std.proofs.Common.{◌≡◌, ℕ, ◌+◌, ◌-◌, ◌<◌, ◌≤◌, List}
+use Rattle.std.proofs.Common.{[], ◌∷◌, ◌++◌, map, length, take, drop}
+use Rattle.std.proofs.Common.{Bool, true, false, cond, leb, ◌^◌, subst}
+use Rattle.std.proofs.Common.{sym, ap, ◌∙◌, arith, append_assoc, length-append}
+use Rattle.std.specs.List.{slice_range}
 use Rattle.std.proofs.lemmas.Bool.Decides.{nat_tests}
-use Rattle.std.proofs.lemmas.List.{append-nil, drop-drop, drop-take, length-take, length-take-le, take_min}
+use Rattle.std.proofs.lemmas.List.{append-nil, drop-drop, drop-take}
+use Rattle.std.proofs.lemmas.List.{length-take, length-take-le, take_min}
 use Rattle.memchr.specs.Find.{NoneBefore, Nowhere, Passes, is_byte}
-use Rattle.ascii_text.specs.Text.{is_newline}
 use Rattle.night_record.specs.Cut.{Cut, all_given, cut_of, front_of, whole_length, whole_of}
-use Rattle.night_record.specs.Coming.{HasLooked, Keeps, StandsFor, StandsForMore, kept_of}
+use Rattle.night_record.specs.Coming.{HasLooked, Keeps, StandsFor, kept_of}
 use Rattle.night_record.specs.Coming.{taken_in, unseen_in}
 use Rattle.night_record.specs.declared.lines.NightLines.{NightLines}
 use Rattle.night_record.proofs.Ends.{around, no_newline, none_before}
@@ -40,7 +42,8 @@ none_left old new text given nowhere seen line place taken s =
     let cut = ap (λ t. cut_of t) s.came
     ∙ cut_plain s.looked_at unseen (no_newline unseen nowhere) in
     let lines : (cut_of text).lines ≡ (cut_of s.looked_at).lines = ap (λ (c : Cut). c.lines) cut in
-    let rest : (cut_of text).rest ≡ (cut_of s.looked_at).rest ++ unseen = ap (λ (c : Cut). c.rest) cut in
+    let rest : (cut_of text).rest ≡ (cut_of s.looked_at).rest ++ unseen
+    = ap (λ (c : Cut). c.rest) cut in
     let gave : given ≡ all_given text = s.gave ∙ sym (ap (map front_of) lines) in
     let size : length text ≡ length s.looked_at + length unseen
     = ap length s.came ∙ length-append s.looked_at unseen in
@@ -155,28 +158,26 @@ from_front block seen came none =
     ap (λ n. take (came - n) (drop n block)) none ∙ ap (λ n. take n block) all
 
 -- bytes of a record came
-pub has_looked : (is_file : Bool) (old mid new : NightLines) (record_text : List ℕ)
-    → Keeps is_file old mid → unseen_in mid ≡ [] → mid.seen ≡ 0
-    → unseen_in new ≡ take new.came (drop mid.place record_text)
+pub has_looked : (is_file : Bool) (old mid new : NightLines) (more record_text : List ℕ)
+    → Keeps is_file old mid → unseen_in mid ≡ [] → mid.seen ≡ 0 → unseen_in new ≡ more
+    → more ≡ take new.came (drop mid.place record_text)
     → new.line ≡ mid.line → new.place ≡ mid.place → new.seen ≡ mid.seen
-    → taken_in new ≡ taken_in mid → HasLooked is_file old new record_text
-has_looked is_file old mid new record_text h none front bytes line place seen taken text given few
-    s =
+    → taken_in new ≡ taken_in mid → HasLooked is_file old new more record_text
+has_looked is_file old mid new more record_text h none front unseen bytes line place seen taken
+    text given few s =
     let m = h text given few s in
     let kept = kept_of is_file text in
     let all : kept ≡ m.looked_at = m.came
     ∙ (ap (λ u. m.looked_at ++ u) none ∙ append-nil m.looked_at) in
     let at : mid.place ≡ length kept = omega (arith, m.place, front, ap length all) in
     let rest = drop mid.place record_text in
-    let some : take new.came rest ≡ take (length (unseen_in new)) rest
+    let some : take new.came rest ≡ take (length more) rest
     = sym (ap (λ n. take n rest) (ap length bytes ∙ length-take new.came rest)
     ∙ take_min new.came rest) in (
-      unseen_in new,
-      bytes ∙ (some
-          ∙ ap (λ n. take (length (unseen_in new)) (drop n record_text)) at),
+      bytes ∙ (some ∙ ap (λ n. take (length more) (drop n record_text)) at),
       record {
         looked_at = m.looked_at;
-        came = ap (λ t. t ++ unseen_in new) all;
+        came = ap (λ t. t ++ more) all ∙ ap (λ u. m.looked_at ++ u) (sym unseen);
         gave = m.gave;
         begun = ap (λ l. l.items) line ∙ m.begun;
         place = omega (arith, place, seen, m.place);

@@ -1,7 +1,9 @@
 -- The head in a text.
-use Rattle.std.proofs.Common.{◌≡◌, ℕ, ◌+◌, ◌-◌, ◌<◌, ◌≤◌, Bool, true, false, cond, ltb, List, [], ◌∷◌, ◌++◌}
-use Rattle.std.proofs.Common.{length, take, drop, refl, sym, ap, ◌∙◌, arith, length-append, length-drop}
-use Rattle.std.specs.Prelude.{◌||◌, ◌&&◌, Option, Some, None}
+use Rattle.std.proofs.Common.{◌≡◌, ℕ, ◌+◌, ◌-◌, ◌<◌, ◌≤◌, Bool}
+use Rattle.std.proofs.Common.{true, false, cond, ltb, List, [], ◌∷◌, ◌++◌}
+use Rattle.std.proofs.Common.{length, take, drop, refl, sym}
+use Rattle.std.proofs.Common.{ap, ◌∙◌, arith, length-append, length-drop}
+use Rattle.std.specs.Prelude.{◌||◌, ◌&&◌, Some, None}
 use Rattle.std.specs.List.{position_or_len}
 use Rattle.std.proofs.lemmas.Bool.Decides.{nat_tests}
 use Rattle.std.proofs.lemmas.List.{take-append-le}
@@ -16,9 +18,11 @@ head_by : (text : List ℕ) (first second : ℕ) → position_or_len is_newline 
     → head_in text ≡ cond (ltb (first + 1 + second) (length text))
     (Some (take (first + 1 + second) text)) None
 head_by text first second a b =
-    ap (λ (f : ℕ). (λ (s : ℕ). cond (ltb (f + 1 + s) (length text)) (Some (take (f + 1 + s) text)) None)
+    ap (λ (f : ℕ). (λ (s : ℕ). cond (ltb (f + 1 + s) (length text)) (Some (take (f + 1 + s)
+    text)) None)
     (position_or_len is_newline (drop (f + 1) text))) a
-    ∙ ap (λ (s : ℕ). cond (ltb (first + 1 + s) (length text)) (Some (take (first + 1 + s) text)) None) b
+    ∙ ap (λ (s : ℕ). cond (ltb (first + 1 + s) (length text)) (Some (take (first + 1 + s) text))
+    None) b
 
 below : (m n : ℕ) → m < n → ltb m n ≡ true
 below m n h = grind (arith, nat_tests)
@@ -63,7 +67,7 @@ pub size_is : (lines head : List ℕ) → lines ≡ head ++ 10 ∷ [] → length
 size_is lines head is = ap length is ∙ length-append head (10 ∷ [])
 
 -- all but the moment of a head's lines
-pub front_is : (lines head : List ℕ) → lines ≡ head ++ 10 ∷ []
+front_is : (lines head : List ℕ) → lines ≡ head ++ 10 ∷ []
     → take (length lines - 25) lines ≡ take (length head - 24) head
 front_is lines head is =
     let size = size_is lines head is in
@@ -71,6 +75,11 @@ front_is lines head is =
     ap (λ l. take (length lines - 25) l) is
     ∙ (ap (λ n. take n (head ++ 10 ∷ [])) few
     ∙ take-append-le (length head - 24) head (10 ∷ []) (omega arith))
+
+pub front_seen : (seen lines head : List ℕ) (size : ℕ) → seen ≡ lines → size ≡ length lines - 25
+    → lines ≡ head ++ 10 ∷ [] → take size seen ≡ take (length head - 24) head
+front_seen seen lines head size same few is = ap (λ n. take n seen) few
+    ∙ (ap (λ l. take (length lines - 25) l) same ∙ front_is lines head is)
 
 pub at_first : (a b r : Bool) → r ≡ a → r ≡ true → r ≡ (a || b)
 at_first a b r is first = first ∙ sym (ap (λ t. t || b) (sym is ∙ first))

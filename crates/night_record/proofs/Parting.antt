@@ -1,15 +1,17 @@
 -- Bytes as lines: more of them, and where LF stands.
-use Rattle.std.proofs.Common.{⊎_elim, ◌≡◌, ℕ, ◌+◌, ◌-◌, ◌<◌, ◌≤◌, min, Bool, true, false, not, cond, eqb, List, [], ◌∷◌, ◌++◌}
-use Rattle.std.proofs.Common.{length, take, drop, get_or, subst, refl, sym, ap, ◌∙◌, arith, append_assoc, length-append, length-take}
-use Rattle.std.specs.Prelude.{◌==◌, fold, Option, Some, None}
+use Rattle.std.proofs.Common.{⊎_elim, ◌≡◌, ℕ, ◌+◌, ◌<◌, ◌≤◌, min, Bool}
+use Rattle.std.proofs.Common.{true, false, not, cond, eqb, List, [], ◌∷◌, ◌++◌}
+use Rattle.std.proofs.Common.{length, take, subst, refl}
+use Rattle.std.proofs.Common.{sym, ap, ◌∙◌, arith, append_assoc, length-append}
+use Rattle.std.specs.Prelude.{fold}
 use Rattle.std.specs.List.{position_or_len}
 use Rattle.std.proofs.lemmas.Bool.{cases_lt}
-use Rattle.std.proofs.lemmas.Grind.{common_steps}
 use Rattle.std.proofs.lemmas.List.{append-nil, length-take-le, take-append-le, take_all, take_min}
 use Rattle.std.proofs.lemmas.List.Sums.{fold-append}
 use Rattle.std.proofs.Math.Seq.{take-append-add, take-append_seam}
 use Rattle.ascii_text.specs.Text.{is_newline}
-use Rattle.night_record.specs.Cut.{Cut, cut_of, front_of, no_bytes, with_byte, whole_length, whole_of}
+use Rattle.night_record.specs.Cut.{Cut, cut_of, front_of}
+use Rattle.night_record.specs.Cut.{no_bytes, with_byte, whole_length, whole_of}
 
 -- bytes without an LF go behind those of the line
 plain : (xs : List ℕ) (lines : List (List ℕ)) (rest : List ℕ)
@@ -45,7 +47,8 @@ cut_line seen xs h = ap cut_of (sym (append_assoc seen xs (10 ∷ [])))
     ∙ ap (λ (c : Cut). with_byte c 10) (cut_plain seen xs h)
 
 -- of a front and more bytes, the front is that of all
-pub front_more_at : (n : ℕ) (line more : List ℕ) → take n (take n line ++ more) ≡ take n (line ++ more)
+pub front_more_at : (n : ℕ) (line more : List ℕ) → take n (take n line ++ more)
+    ≡ take n (line ++ more)
 front_more_at n line more = ⊎_elim
     (λ (lt : n < length line).
     let le : n ≤ length (take n line) = omega (arith, length-take-le n line (omega arith)) in
@@ -74,7 +77,11 @@ abbrev Parted : List ℕ → Type 0
 Parted text = (front : List ℕ) × IsParted text front
 
 parted_at : (text : List ℕ) (byte : ℕ) (b : Bool) → eqb byte 10 ≡ b → Parted text
-    → cut_of (text ++ byte ∷ []) ≡ cond b (record { lines = (cut_of text).rest ∷ (cut_of text).lines; rest = [] })
+    → cut_of (text ++ byte ∷ []) ≡ cond b (record {
+      lines
+          = (cut_of text).rest ∷ (cut_of text).lines;
+      rest = [];
+    })
     (record { lines = (cut_of text).lines; rest = (cut_of text).rest ++ byte ∷ [] })
     → Parted (text ++ byte ∷ [])
 parted_at text byte true e p cut =

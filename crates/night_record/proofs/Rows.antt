@@ -1,6 +1,6 @@
 -- Worked records, evaluated.
-use Rattle.std.proofs.Common.{◌≡◌, List, [], ◌∷◌, refl}
-use Rattle.std.specs.Prelude.{Option, Some, None, codes}
+use Rattle.std.proofs.Common.{◌≡◌, [], ◌∷◌, refl}
+use Rattle.std.specs.Prelude.{Some, None, codes}
 use Rattle.ascii_text.specs.Text.{words_of}
 use Rattle.night_record.specs.Asked.{asked_by}
 use Rattle.night_record.specs.Coming.{kept_of}

@@ -51,9 +51,10 @@ abbrev pub Keeps : Bool → NightLines → NightLines → Type 0
 Keeps is_file old new = (text : List ℕ) (given : List (List ℕ)) → length text < 2 ^ 64
     → StandsFor old text given → StandsFor new (kept_of is_file text) given
 
--- whatever came before, these bytes of a record came behind what of it counts: they stand there
-abbrev pub HasLooked : Bool → NightLines → NightLines → List ℕ → Type 0
-HasLooked is_file old new record_text = (text : List ℕ) (given : List (List ℕ))
-    → length text < 2 ^ 64 → StandsFor old text given → (more : List ℕ)
-    × (more ≡ take (length more) (drop (length (kept_of is_file text)) record_text))
+-- whatever came before, these bytes came behind what of it counts, and they stand there in the
+-- record
+abbrev pub HasLooked : Bool → NightLines → NightLines → List ℕ → List ℕ → Type 0
+HasLooked is_file old new more record_text = (text : List ℕ) (given : List (List ℕ))
+    → length text < 2 ^ 64 → StandsFor old text given
+    → (more ≡ take (length more) (drop (length (kept_of is_file text)) record_text))
     × StandsFor new (kept_of is_file text ++ more) given

@@ -1,5 +1,5 @@
 -- How long a main is silent.
-use Rattle.std.specs.Prelude.{ℕ, Bool, ◌+◌, ◌*◌, ◌/◌, min, nat_le}
+use Rattle.std.specs.Prelude.{ℕ, Bool, ◌+◌, ◌/◌, min, nat_le}
 
 -- the whole milliseconds of so many nanoseconds
 abbrev pub silence_of : ℕ → ℕ

@@ -13,6 +13,9 @@ pub trait Growth {
     /// What stands in a file; of a FIFO what came so far.
     ghost text: { Self → List ℕ };
 
+    /// The bytes that the latest read gave.
+    ghost latest: { Self → List ℕ };
+
     /// What stands in it can be read again.
     ghost is_file: { Self → Bool };
 
@@ -31,5 +34,7 @@ pub trait Growth {
         ensures same { is_file self.new ≡ is_file self.old }
         ensures within { IfOk result (λ count. count ≤ 4096) }
         ensures bytes { IfOk result (λ count. tells self.new
-            → take count block.new ≡ take count (drop place (text self.new))) };
+            → take count block.new ≡ take count (drop place (text self.new))) }
+        ensures latest { IfOk result (λ count. tells self.new
+            → latest self.new ≡ take count block.new) };
 }

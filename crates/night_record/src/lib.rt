@@ -2,9 +2,9 @@
 //! by what stands in it.
 //!
 //! [`NightLines`] parts what comes, of a record that another process writes ([`Growth`]) or of what
-//! is typed, in lines. [`RecordOpening`] says whether a night begins in a record or goes on behind it,
-//! and what of it is kept; [`own_head`] and [`main_head`] whether it may be taken up or followed;
-//! [`Asked`] what is typed meanwhile; and [`is_silent`] when a main is followed no more.
+//! is typed, in lines. [`RecordOpening`] says whether a night begins in a record or goes on behind
+//! it, and what of it is kept; [`own_head`] and [`main_head`] whether it may be taken up or
+//! followed; [`Asked`] what is typed meanwhile; and [`is_silent`] when a main is followed no more.
 //!
 //! ```
 //! let mut lines = NightLines::new();

@@ -30,13 +30,14 @@ pub struct NightLines {
 }
 
 impl NightLines {
-    ghost use Rattle.std.specs.Prelude.{◌<◌, ◌∷◌, ◌^◌, ℕ, List, [], true, false, IfSome, IsNone, IfOk, OnErr, OnOk, IsOk, Ok};
+    ghost use Rattle.std.specs.Prelude.{◌<◌, ◌∷◌, ◌^◌, ℕ, List, [], true, false, Ok};
+    ghost use Rattle.std.specs.Prelude.{IfSome, IsNone, IfOk, OnErr, OnOk, IsOk};
     ghost use Rattle.std.specs.List.{list_any};
     ghost use Rattle.ascii_text.specs.Text.{is_newline};
     ghost use Rattle.live_machine.specs.Input.{brought_by, fault};
     ghost use Rattle.live_machine.specs.declared.input.Came.TheVariants.{Nothing};
-    ghost use Rattle.night_record.specs.Coming.{StandsFor, StandsForMore, rest_in, taken_in, typed_in};
-    ghost use Rattle.night_record.specs.Coming.{HasLooked, Keeps, unseen_in};
+    ghost use Rattle.night_record.specs.Coming.{HasLooked, Keeps, StandsFor, StandsForMore};
+    ghost use Rattle.night_record.specs.Coming.{rest_in, taken_in, typed_in, unseen_in};
     ghost use Rattle.night_record.specs.Cut.{all_given, whole_of};
 
     /// No byte has come yet.
@@ -153,7 +154,8 @@ impl NightLines {
         ensures first { 1 ≤ length (unseen_in self.old)
             → IsOk result × (self.new ≡ self.old) × (written.new ≡ written.old) }
         ensures ok { OnOk result (unseen_in self.old ≡ [] → G.tells written.new
-            → HasLooked (G.is_file written.old) self.old self.new (G.text written.new)) }
+            → HasLooked (G.is_file written.old) self.old self.new (G.latest written.new)
+            (G.text written.new)) }
         ensures err { OnErr result (Keeps (G.is_file written.old) self.old self.new) }
     {
         if self.seen < self.came {

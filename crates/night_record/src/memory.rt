@@ -17,6 +17,10 @@ pub struct MemoryRecord<'a> {
     /// So many more are written before each read.
     pub step: usize,
     pub is_file: bool,
+    /// The latest read gave so many bytes
+    pub count: usize,
+    /// behind so many.
+    pub place: usize,
     pub faults: Faults,
 }
 
@@ -32,6 +36,8 @@ impl<'a> MemoryRecord<'a> {
             written: 0,
             step,
             is_file,
+            count: 0,
+            place: 0,
             faults,
         }
     }
@@ -41,6 +47,8 @@ impl Growth for MemoryRecord<'_> {
     ghost tells = { λ _. Unit {0} };
 
     ghost text = { λ m. take m.written m.bytes.now };
+
+    ghost latest = { λ m. take m.count (drop m.place (take m.written m.bytes.now)) };
 
     ghost is_file = { λ m. m.is_file };
 
@@ -59,6 +67,9 @@ impl Growth for MemoryRecord<'_> {
         ensures within { IfOk result (λ count. count ≤ 4096) }
         ensures bytes { IfOk result (λ count. Unit {0} → take count block.new
             ≡ take count (drop place (take self.new.written self.new.bytes.now))) }
+        ensures latest { IfOk result (λ count. Unit {0} → take self.new.count
+            (drop self.new.place (take self.new.written self.new.bytes.now))
+            ≡ take count block.new) }
     {
         self.written = self.written.saturating_add(self.step).min(self.bytes.len());
         if self.faults.count().is_err() {
@@ -68,6 +79,8 @@ impl Growth for MemoryRecord<'_> {
         let from = text.len().min(place as usize);
         let count = (text.len() - from).min(4096);
         block[..count].copy_from_slice(&text[from..from + count]);
+        self.place = from;
+        self.count = count;
         Ok(count)
     }
 }

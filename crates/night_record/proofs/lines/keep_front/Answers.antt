@@ -1,4 +1,4 @@
-use Rattle.std.proofs.Common.{◌≡◌, ◌++◌, ap, ◌∙◌, take}
+use Rattle.std.proofs.Common.{◌++◌, ap, ◌∙◌, take}
 use Rattle.night_record.proofs.Parting.{front_room}
 use Rattle.night_record.proofs.lines.keep_front.Goals as goal
 

@@ -1,4 +1,3 @@
-use Rattle.std.proofs.Common.{◌≡◌}
 use Rattle.night_record.proofs.Ends.{whole_at, whole_none}
 use Rattle.night_record.proofs.opening.whole_length.Goals as goal
 

@@ -4,4 +4,5 @@ use Rattle.night_record.proofs.Ends.{has_newline}
 use Rattle.night_record.proofs.lines.NightLines.has_line.Goals as goal
 
 pub returns : goal.returns
-returns c = c.is_some.ensures ∙ has_newline (unseen_in c.args.self.now) c.memchr.result c.memchr.ensures
+returns c = c.is_some.ensures
+    ∙ has_newline (unseen_in c.args.self.now) c.memchr.result c.memchr.ensures

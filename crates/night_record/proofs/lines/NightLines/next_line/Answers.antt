@@ -1,4 +1,5 @@
-use Rattle.std.proofs.Common.{◌≡◌, ◌-◌, ◌+◌, ◌++◌, ap, ◌∙◌, sym, refl, length, take, drop, min, arith, length-append}
+use Rattle.std.proofs.Common.{◌≡◌, ◌+◌, ◌++◌, ap, ◌∙◌}
+use Rattle.std.proofs.Common.{refl, length, take, min, arith, length-append}
 use Rattle.night_record.specs.Cut.{front_of}
 use Rattle.night_record.specs.Coming.{unseen_in}
 use Rattle.night_record.proofs.Coming.{next_given, none_left, seen_all, seen_more}
@@ -20,5 +21,6 @@ returns-clause-line c text given few s =
     = omega (arith, size, s.place, few, c.in-Some.ensures.0.high) in
     next_given old _ c.in-Some.length text given _ c.in-Some.ensures
     (seen_more old.block old.seen old.came c.in-Some.length c.in-Some.ensures.0.high)
-    (c.keep_front-2.ensures ∙ ap (λ l. front_of (l.items ++ take c.in-Some.length (unseen_in old))) c.take-line.ensures.value)
+    (c.keep_front-2.ensures
+    ∙ ap (λ l. front_of (l.items ++ take c.in-Some.length (unseen_in old))) c.take-line.ensures.value)
     c.take-line.ensures.after (omega arith) (c.saturating_add-self.ensures ∙ fits) s
