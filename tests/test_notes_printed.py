@@ -18,21 +18,22 @@ SHOWS = int(os.environ.get("CUEPLAYER_SHOWS", "0"))
 
 
 def explained(content):
-    """What `explain` prints but for the lines about skipped lines: its notes, or the faulty lines."""
+    """The status of `explain`, and the lines that it prints."""
     outcome = run("explain", "-", stdin=content)
-    lines = outcome.out.decode("ascii").splitlines()
-    if outcome.status == 3:
-        return 3, lines
-    return outcome.status, [line for line in lines if line.startswith("note: ")]
+    return outcome.status, outcome.out.decode("ascii").splitlines()
+
+
+def expected(content):
+    """The same by the second readers: skipped lines and notes, or the faulty lines."""
+    lines = notes.explanation(content)
+    return (3, faults.faults(content)) if lines is None else (0, lines)
 
 
 class Printed(ProgramTest):
     maxDiff = 3000
 
     def assertExplained(self, content):
-        found = notes.notes(content)
-        expected = (3, faults.faults(content)) if found is None else (0, found)
-        self.assertEqual(expected, explained(content), content)
+        self.assertEqual(expected(content), explained(content), content)
 
     def assertStrict(self, content):
         """A strict check refuses exactly what has weight."""
@@ -75,13 +76,13 @@ class Printed(ProgramTest):
         self.assertEqual(told, faults.faults(show))
 
     def test_examples_of_slips(self):
-        """What stands beside each example is printed, and is what the second readers say."""
+        """What stands beside each example is what the second readers say, and is printed."""
         for file in sorted((TOP / "examples/slips").glob("*.asc")):
             with self.subTest(file.name):
                 content = file.read_bytes()
+                told = file.with_suffix(".explained").read_text().splitlines()
+                self.assertEqual(told, expected(content)[1])
                 self.assertExplained(content)
-                printed = run("explain", "-", stdin=content).out
-                self.assertEqual(file.with_suffix(".explained").read_bytes(), printed)
                 self.assertEqual(3, run("check", "--strict", "-", stdin=content).status)
 
     def test_too_many_cues(self):

@@ -1,4 +1,8 @@
-"""The faulty lines of a show text, each with the name of its fault and the word that has it."""
+"""The faulty lines of a show text, each with the name of its fault and the word that has it: what
+`explain` prints of such a text, and `python3 -m expected.faults FILE`, run in tests/."""
+
+import sys
+from pathlib import Path
 
 from .notes import shown
 from .show import NOBODY, PRIMARY, Cue, LineFault, Reader, read
@@ -83,3 +87,7 @@ def faults(text):
             reader.owner = owner_below(words) if words[0].upper() in PRIMARY else above
             reader.named = "cues", 1
     return [*told, f"check answers {decides.removeprefix('show ')}"]
+
+
+if __name__ == "__main__":
+    print("\n".join(faults(Path(sys.argv[1]).read_bytes())))
