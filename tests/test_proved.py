@@ -32,8 +32,6 @@ CLAUSE = re.compile(r"\s*(?://[^\n]*\n\s*)*(requires|ensures)\*?(?: (\w+))? \{")
 DOC = re.compile(r"((?:^ *///[^\n]*\n)+)(?: *#\[[^\n]*\n)*\Z", re.M)
 ERRORS = re.compile(r"^# Errors\n\n(.*?)(?:\n\n|\Z)", re.M | re.S)
 LAWS = ("laws.rt", "law.rt")
-# Calls whose answers are advice: what they are, is tested.
-ADVICE = ("weigh",)
 TITLE = "| Call | Under | Clauses | Memory | Refuses | Only tested |"
 RULE = "|---|---|---|---|---|---|"
 
@@ -228,7 +226,7 @@ class Proved(unittest.TestCase):
         for crate, calls in all_calls().items():
             for call in calls:
                 with self.subTest(crate=crate, call=call.said):
-                    self.assertTrue(call.clauses or call.name() in ADVICE)
+                    self.assertTrue(call.clauses)
                     self.assertEqual(call.can_refuse(), bool(told.get((crate, call.said))))
 
     def test_tests(self):

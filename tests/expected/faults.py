@@ -4,7 +4,7 @@
 import sys
 from pathlib import Path
 
-from .notes import shown
+from .notes import on_encoding, shown
 from .show import NOBODY, PRIMARY, Cue, LineFault, Reader, read
 from .words import cue_number, level, lines_of, number, time, words_of
 
@@ -86,7 +86,7 @@ def faults(text):
             told.append(faulty_line(n, line, words, str(fault)))
             reader.owner = owner_below(words) if words[0].upper() in PRIMARY else above
             reader.named = "cues", 1
-    return [*told, f"check answers {decides.removeprefix('show ')}"]
+    return [*on_encoding(text), *told, f"check answers {decides.removeprefix('show ')}"]
 
 
 if __name__ == "__main__":
