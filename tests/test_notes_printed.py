@@ -18,22 +18,22 @@ SHOWS = int(os.environ.get("CUEPLAYER_SHOWS", "0"))
 
 
 def explained(content):
-    """What `explain` prints but for the lines about skipped lines: its notes, or the faulty
-    lines."""
+    """The status of `explain`, and the lines that it prints."""
     outcome = run("explain", "-", stdin=content)
-    lines = outcome.out.decode("ascii").splitlines()
-    if outcome.status == 3:
-        return 3, lines
-    return outcome.status, [line for line in lines if line.startswith("note: ")]
+    return outcome.status, outcome.out.decode("ascii").splitlines()
+
+
+def expected(content):
+    """The same by the second readers: skipped lines and notes, or the faulty lines."""
+    lines = notes.explanation(content)
+    return (3, faults.faults(content)) if lines is None else (0, lines)
 
 
 class Printed(ProgramTest):
     maxDiff = 3000
 
     def assertExplained(self, content):
-        found = notes.notes(content)
-        expected = (3, faults.faults(content)) if found is None else (0, found)
-        self.assertEqual(expected, explained(content), content)
+        self.assertEqual(expected(content), explained(content), content)
 
     def assertStrict(self, content):
         """A strict check refuses exactly what has weight."""
@@ -84,14 +84,22 @@ class Printed(ProgramTest):
         self.assertEqual(told, faults.faults(show))
 
     def test_examples_of_slips(self):
-        """What stands beside each example is printed, and is what the second readers say."""
+        """What stands beside each example is what the second readers say, and is printed."""
         for file in sorted((TOP / "examples/slips").glob("*.asc")):
             with self.subTest(file.name):
                 content = file.read_bytes()
+                told = file.with_suffix(".explained").read_text().splitlines()
+                self.assertEqual(told, expected(content)[1])
                 self.assertExplained(content)
-                printed = run("explain", "-", stdin=content).out
-                self.assertEqual(file.with_suffix(".explained").read_bytes(), printed)
                 self.assertEqual(3, run("check", "--strict", "-", stdin=content).status)
+
+    def test_faults_of_an_encoding(self):
+        """A file whose lines end in CR alone is one faulty line; the note says why."""
+        show = text("PATCH 1 1<1@FL", "CUE 1", "CHAN 1@FL").replace(b"\n", b"\r")
+        note = "note: the file's lines end in CR alone, so that it is one line: save it with LF or CR LF"
+        told = [note, "line 1: BadNumber at `CUE`: PATCH 1 1<1@FL CUE 1 CHAN 1@FL ", "check answers line 1: BadNumber"]
+        self.assertEqual((3, told), explained(show))
+        self.assertEqual(told, faults.faults(show))
 
     def test_too_many_cues(self):
         show = text(*(f"CUE {n}" for n in range(1, 2002)), "CHAN x")

@@ -1,6 +1,10 @@
-"""The faulty lines of a show text, each with the name of its fault and the word that has it."""
+"""The faulty lines of a show text, each with the name of its fault and the word that has it: what
+`explain` prints of such a text, and `python3 -m expected.faults FILE`, run in tests/."""
 
-from .notes import shown
+import sys
+from pathlib import Path
+
+from .notes import on_encoding, shown
 from .show import NOBODY, PRIMARY, Cue, LineFault, Reader, read
 from .words import cue_number, level, lines_of, number, time, words_of
 
@@ -82,4 +86,8 @@ def faults(text):
             told.append(faulty_line(n, line, words, str(fault)))
             reader.owner = owner_below(words) if words[0].upper() in PRIMARY else above
             reader.named = "cues", 1
-    return [*told, f"check answers {decides.removeprefix('show ')}"]
+    return [*on_encoding(text), *told, f"check answers {decides.removeprefix('show ')}"]
+
+
+if __name__ == "__main__":
+    print("\n".join(faults(Path(sys.argv[1]).read_bytes())))

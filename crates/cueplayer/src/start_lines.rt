@@ -105,26 +105,26 @@ fn show_line(loaded: &Loaded, weight: Weight) -> Line {
     } = loaded.show.counts();
     let mut line = Line::new();
     let _ = line.try_push_str("show: ");
-    push_count(&mut line, cues, "cue");
+    push_count(&mut line, u64::from(cues), "cue");
     let _ = line.try_push_str(", ");
-    push_count(&mut line, subs, "submaster");
+    push_count(&mut line, u64::from(subs), "submaster");
     let _ = line.try_push_str(", ");
-    push_count(&mut line, groups, "group");
+    push_count(&mut line, u64::from(groups), "group");
     let _ = line.try_push_str(", ");
-    push_count(&mut line, dimmers, "dimmer");
+    push_count(&mut line, u64::from(dimmers), "dimmer");
     push_doubts(&mut line, loaded.skipped, weight.notes);
     let _ = line.try_push_str("\n");
     line
 }
 
 // How many lines of a show are skipped, and how many notes of weight there are on it.
-fn push_doubts(line: &mut Line, skipped: u32, notes: u32) {
+fn push_doubts(line: &mut Line, skipped: u32, notes: u64) {
     if skipped == 0 && notes == 0 {
         return;
     }
     let _ = line.try_push_str("; ");
     if skipped > 0 {
-        push_count(line, skipped, "line");
+        push_count(line, u64::from(skipped), "line");
         let _ = line.try_push_str(" skipped");
     }
     if skipped > 0 && notes > 0 {
@@ -138,7 +138,7 @@ fn push_doubts(line: &mut Line, skipped: u32, notes: u32) {
 }
 
 // So many of what has this name.
-fn push_count(line: &mut Line, count: u32, name: &str) {
+fn push_count(line: &mut Line, count: u64, name: &str) {
     let ending = if count == 1 { "" } else { "s" };
     let _ = write!(line, "{count} {name}{ending}");
 }

@@ -1,4 +1,3 @@
-pub mod Ascending
 pub mod Items
 pub mod Labelling
 pub mod OneShow

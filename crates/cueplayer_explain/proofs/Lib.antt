@@ -1,6 +1,8 @@
+pub mod Ascending
 pub mod Commas
 pub mod Lines
 pub mod NoteLines
 pub mod OneLine
+pub mod Pieces
 pub mod Told
 mod Rows

@@ -1,6 +1,6 @@
 -- The notes on the lines of a text, one line after the other.
 use Rattle.std.proofs.Common.{◌≡◌, ◌∙◌, ℕ, ◌+◌, ◌++◌, ◌≤◌, Bool, true, false, cond, List, [], ◌∷◌}
-use Rattle.std.proofs.Common.{length, reverse, take, refl, sym, ap, subst, Option, Some, None}
+use Rattle.std.proofs.Common.{length, reverse, take, refl, sym, ap, subst, Option, Some, None, arith}
 use Rattle.std.proofs.lemmas.List.{append-nil}
 use mathlib.Core.List.{reverse_aux}
 use Rattle.ascii_text.specs.Text.{lines_of, numbered_from, words_of}
@@ -26,9 +26,13 @@ use Rattle.cueplayer_explain.specs.LineNotes.{told_of, said_by, link_told, link_
 use Rattle.cueplayer_explain.specs.LineNotes.{comma_told, comma_note, hour_by, hour_note, again_by}
 use Rattle.cueplayer_explain.specs.LineNotes.{openings, openings_after}
 use Rattle.cueplayer_explain.specs.NotesOf.{AreMore, AreNotesOf, AreOpeningsOf, IsTaken}
+use Rattle.cueplayer_explain.specs.NotesOf.{is_unknown, unknown_count, unknown_in}
+use Rattle.cueplayer_explain.specs.PatchNotes.{ArePatchNotesOf, IsPatchTaken, patch_told}
+use Rattle.cueplayer_explain.specs.PatchNotes.{sheet_after, sheet_below}
+use Rattle.cueplayer_explain.specs.declared.patch_notes.PatchNotes.{PatchNotes}
 use Rattle.cueplayer_explain.specs.Skipped.{words_in}
 use Rattle.cueplayer_explain.proofs.Lines.{all_that_are_read, all_that_are_there, keyword_is}
-use Rattle.cueplayer_explain.proofs.Lines.{none_left, said_is}
+use Rattle.cueplayer_explain.proofs.Lines.{none_left, reading_is, said_is}
 
 -- ---- what is read of a line
 
@@ -88,25 +92,43 @@ module _ (lines : List (List ℕ)) (bytes : List ℕ) (number : ℕ) (says : Sta
         ∙ ap (λ s. again_by table (length lines + 1) s (openings table lines)) is);
   }
 
+  patches_more : {old new : PatchNotes} → ArePatchNotesOf lines old
+      → IsPatchTaken number says old new → ArePatchNotesOf (bytes ∷ lines) new
+  patches_more was taken = record {
+    sheet =
+        taken.sheet ∙ ap (sheet_after number says) was.sheet
+        ∙ ap (λ n. sheet_after n says (sheet_below lines)) numbered
+        ∙ ap (λ s. sheet_after (length lines + 1) s (sheet_below lines)) is;
+    notes =
+        taken.notes ∙ more was.notes
+        (ap (patch_told number says) was.sheet
+        ∙ ap (λ n. patch_told n says (sheet_below lines)) numbered
+        ∙ ap (λ s. patch_told (length lines + 1) s (sheet_below lines)) is);
+  }
+
   -- a line adds its notes
   module _ (show : Tables) (old new : LineNotes) (was : AreNotesOf show lines old)
       (added : AreMore show number says bytes old new) (above : Heading)
-      (heads : above ≡ heading_below (words_in (bytes ∷ lines))) where
+      (heads : above ≡ heading_below (words_in (bytes ∷ lines))) (unknown : ℕ)
+      (counts : unknown ≡ unknown_count (bytes ∷ lines)) where
     link_more : new.links.items ≡ told_of (link_note show) (bytes ∷ lines)
     link_more =
         added.links ∙ more was.links
         (ap (λ n. link_told show n old.above (words_of bytes)) numbered
         ∙ ap (λ h. link_told show (length lines + 1) h (words_of bytes)) was.heads)
 
-    pub notes_more : AreNotesOf show (bytes ∷ lines) (record new { above = above })
+    pub notes_more : AreNotesOf show (bytes ∷ lines)
+        (record new { above = above; unknown_lines = unknown })
     notes_more = record {
       heads = heads;
+      patches = patches_more was.patches added.patches;
       links = link_more;
       commas = comma_more was.commas added.commas;
       cues = openings_more Cues was.cues added.cues;
       subs = openings_more Subs was.subs added.subs;
       groups = openings_more Groups was.groups added.groups;
       hours = hour_more was.hours added.hours;
+      unknown_lines = counts;
     }
 
 -- what heads the line below a line that was read
@@ -126,32 +148,30 @@ heading_more lines bytes above heads reading read =
     ∙ ap (λ b. cond b (heading_of (keyword_in (words_of bytes)) (said_by lines bytes))
     (heading_below (words_in lines))) (sym (owns_is (words_of bytes)))
 
--- ---- a line without words
+-- ---- lines of unknown keywords
 
--- it adds nothing
-pub adds_nothing : (show : Tables) (number : ℕ) (bytes : List ℕ) (notes : LineNotes)
-    → words_of bytes ≡ [] → AreMore show number Quiet bytes notes notes
-adds_nothing show number bytes notes none = record {
-  above = refl;
-  links =
-      sym (append-nil notes.links.items)
-      ∙ ap (λ t. notes.links.items ++ t) (sym (no_link show number notes.above)
-      ∙ ap (link_told show number notes.above) (sym none));
-  commas = sym (append-nil notes.commas.items);
-  cues = record { of_table = refl; list = refl; notes = sym (append-nil notes.cues.notes.items) };
-  subs = record { of_table = refl; list = refl; notes = sym (append-nil notes.subs.notes.items) };
-  groups =
-      record { of_table = refl; list = refl; notes = sym (append-nil notes.groups.notes.items) };
-  hours = sym (append-nil notes.hours.items);
-}
+-- no more of them than lines
+pub few_unknown : (lines : List (List ℕ)) → unknown_count lines ≤ length lines
+few_unknown [] = omega arith
+few_unknown (line ∷ above) =
+    omega (arith, few_unknown above, one (heading_below (words_in above)) (words_of line))
+  where
+    one : (h : Heading) (l : Words) → unknown_in h l ≤ 1
+    one h [] = omega arith
+    one h (word ∷ words) =
+        elim (is_unknown h (keyword_of word)) as (λ b. cond b 1 0 ≤ 1) [
+          | true ↦ omega arith
+          | false ↦ omega arith
+        ]
 
-pub nothing_said : (lines : List (List ℕ)) (bytes : List ℕ) → words_of bytes ≡ []
-    → Quiet ≡ said_by lines bytes
-nothing_said lines bytes none = ap (statement_below desk_limits (words_in lines)) (sym none)
-
-pub heading_same : (lines : List (List ℕ)) (bytes : List ℕ) → words_of bytes ≡ []
-    → heading_below (words_in lines) ≡ heading_below (words_in (bytes ∷ lines))
-heading_same lines bytes none = ap (λ l. heading_below (l ∷ words_in lines)) (sym none)
+-- a line that was read counts by its keyword
+pub unknown_is : (owner : Option Record) (h : Heading) (l : Words) (reading : Reading)
+    → Some reading ≡ reading_of desk_limits owner l
+    → unknown_in h l ≡ cond (is_unknown h reading.keyword) 1 0
+unknown_is owner h [] reading e = cc
+unknown_is owner h (word ∷ words) reading e =
+    ap (λ k. cond (is_unknown h k) 1 0)
+    (sym (reading_is owner (word ∷ words) reading e).keyword)
 
 -- ---- all lines
 

@@ -9,7 +9,9 @@ use Rattle.show_reader.specs.Reading.{lines_read}
 use Rattle.show_reader.specs.Shows.{IsShowOf}
 use Rattle.show_reader.specs.Text.{statements_of}
 use Rattle.cueplayer_explain.specs.Explained.{IsExplanationOf, IsOneLine, IsTextOf, note_line}
+use Rattle.cueplayer_explain.specs.Encoding.{encoding_notes}
 use Rattle.cueplayer_explain.specs.NotesOf.{line_notes}
+use Rattle.cueplayer_explain.specs.ShowNotes.{show_notes}
 use Rattle.cueplayer_explain.specs.Skipped.{explained, shown}
 use Rattle.cueplayer_explain.proofs.OneLine.{one_line_each}
 
@@ -28,45 +30,23 @@ adds text_of notes e = record {
   is = e;
 }
 
--- the same of a text that was empty
-pub adds_first : {X : Type 0} (text_of : X → List ℕ) (notes : List X) {old new : List ℕ} → old ≡ []
-    → new ≡ old ++ flat_map note_line (map (λ note. shown (text_of note)) notes)
-    → AddsNotes [] new
-adds_first text_of notes none e =
-    adds text_of notes
-    (e ∙ ap (λ t. t ++ flat_map note_line (map (λ note. shown (text_of note)) notes)) none)
-
 module _ (text : List ℕ) (count : ℕ) (show : Tables) {a b c d e skipped : List ℕ}
-    (first : AddsNotes [] a) (lines : b ≡ a ++ skipped)
+    (first : a ≡ encoding_notes text) (lines : b ≡ a ++ skipped)
     (skips : skipped ≡ explained (reverse (take count (lines_of text)))) (second : AddsNotes b c)
     (on_lines : d ≡ c ++ line_notes show (reverse (take count (lines_of text))))
-    (third : AddsNotes d e) where
-  abbrev n1 : List ℕ
-  n1 = flat_map note_line first.notes
-
-  abbrev n2 : List ℕ
-  n2 = flat_map note_line second.notes
-
-  abbrev n3 : List ℕ
-  n3 = flat_map note_line third.notes
-
+    (on_show : e ≡ d ++ show_notes show) where
   abbrev s : List ℕ
   s = explained (reverse (take count (lines_of text)))
 
-  abbrev l : List ℕ
-  l = line_notes show (reverse (take count (lines_of text)))
-
   pub told_whole : IsTextOf text count show e
   told_whole = record {
-    encoding = first.notes;
     doubts = second.notes;
-    of_show = third.notes;
-    encoding_in_lines = first.in_lines;
     doubts_in_lines = second.in_lines;
-    of_show_in_lines = third.in_lines;
     text_is =
-        third.is ∙ ap (λ t. t ++ n3) (on_lines ∙ ap (λ t. t ++ l) (second.is
-        ∙ ap (λ t. t ++ n2) (lines ∙ ap (λ t. a ++ t) skips ∙ ap (λ t. t ++ s) first.is)));
+        on_show ∙ ap (λ t. t ++ show_notes show) (on_lines
+        ∙ ap (λ t. t ++ line_notes show (reverse (take count (lines_of text)))) (second.is
+        ∙ ap (λ t. t ++ flat_map note_line second.notes)
+        (lines ∙ ap (λ t. a ++ t) skips ∙ ap (λ t. t ++ s) first)));
   }
 
 -- a text of the show that was read is the one of the show that the text means

@@ -3,5 +3,9 @@ pub mod Reasons
 pub mod Skipped
 pub mod Decimals
 pub mod LineNotes
+pub mod PatchNotes
 pub mod NotesOf
+pub mod Encoding
+pub mod ShowNotes
 pub mod Explained
+pub mod Weights

@@ -2,19 +2,21 @@ ghost use Rattle.std.specs.Prelude.{◌≡◌, ◌<◌, ◌^◌, ◌++◌, ℕ, 
 ghost use Rattle.std.specs.Prelude.{IfOk, OnOk};
 ghost use Rattle.show_core.specs.Tables.{Tables};
 ghost use Rattle.cueplayer_runs.specs.Faults.{CheckFails, ReadsFirst};
-ghost use Rattle.cueplayer_explain.specs.Explained.{AreLines, Explains, IsTextOf, ListsFaults};
+ghost use Rattle.cueplayer_explain.specs.Explained.{AreFaultLines, Explains, IsTextOf, ListsFaults};
 ghost use Rattle.cueplayer_explain.specs.Explained.{note_line, text_line};
 ghost use Rattle.cueplayer_explain.specs.NotesOf.{AreNotesOf, line_notes};
 ghost use Rattle.cueplayer_explain.specs.Skipped.{shown};
 
+use crate::encoding::push_encoding;
 use crate::faulty::faulty_lines;
 use crate::misspelt::push_misspelt;
 use crate::note_lines::LineNotes;
-use crate::notes::{Notes, encoding_notes, show_notes};
+use crate::notes::Notes;
 use crate::numbered::push_numbered;
 use crate::parts::push_parts;
-use crate::patched::push_patched;
+use crate::show_notes::push_show_notes;
 use crate::skipped::{push_shown, skipped_lines};
+use crate::weight::push_weighty;
 use cueplayer_faults::RunFault;
 use devices::Output;
 use show_reader::{LONGEST_TEXT, Loaded, ShowFault, read_show};
@@ -28,7 +30,8 @@ use std::alloc::{AllocError, Global};
 /// a tab and a CR as a space, and each other byte as `?`, so that neither begins a line of its own.
 /// All of the text goes out by one write, and only after all memory was taken.
 ///
-/// Of a text with a fault the faulty lines are printed in place of all that.
+/// Of a text with a fault the notes on its encoding and its faulty lines are printed in place of all
+/// that.
 ///
 /// # Errors
 ///
@@ -55,7 +58,7 @@ pub fn explain<W: Output>(alloc: Global, show: &[u8], out: &mut W) -> Result<(),
 // Prints the faulty lines of a text that is not too long, where there is memory for them.
 fn write_faults<W: Output>(alloc: Global, show: &[u8], fault: ShowFault, out: &mut W)
     ensures told { W.tells out.new → W.tells out.old }
-    ensures lists { W.tells out.new → ListsFaults (W.tape out.old) (W.tape out.new) }
+    ensures lists { W.tells out.new → ListsFaults show.now (W.tape out.old) (W.tape out.new) }
 {
     if show.len() > LONGEST_TEXT {
         return;
@@ -67,9 +70,10 @@ fn write_faults<W: Output>(alloc: Global, show: &[u8], fault: ShowFault, out: &m
 
 fn faults_text(alloc: Global, show: &[u8], fault: ShowFault) -> Result<Vec<u8>, AllocError>
     requires { length show.now < 2 ^ 32 }
-    ensures { IfOk result (λ text. AreLines text.items) }
+    ensures { IfOk result (λ text. AreFaultLines show.now text.items) }
 {
     let mut text = Vec::new(alloc);
+    push_encoding(&mut text, show)?;
     push_lines(&mut text, faulty_lines(alloc, show, fault)?.as_slice())?;
     Ok(text)
 }
@@ -97,13 +101,13 @@ fn explanation(alloc: Global, show: &[u8], loaded: &Loaded) -> Result<Vec<u8>, A
     ensures { IfOk result (λ text. IsTextOf show.now loaded.now.lines loaded.now.show text.items) }
 {
     let mut text = Vec::new(alloc);
-    push_notes(&mut text, encoding_notes(alloc, show)?.as_slice())?;
+    push_encoding(&mut text, show)?;
     let skipped = skipped_lines(alloc, show, loaded.lines)?;
     text.extend_from_slice(skipped.as_slice())?;
     push_notes(&mut text, doubts(alloc, show, loaded)?.as_slice())?;
     let notes = LineNotes::read(alloc, show, loaded.lines, &loaded.show)?;
     push_line_notes(&mut text, &notes)?;
-    push_notes(&mut text, show_notes(alloc, &loaded.show)?.as_slice())?;
+    push_show_notes(alloc, &mut text, &loaded.show)?;
     Ok(text)
 }
 
@@ -115,7 +119,6 @@ fn doubts(alloc: Global, show: &[u8], loaded: &Loaded) -> Result<Notes, AllocErr
     push_numbered(alloc, &mut notes, show, loaded.lines)?;
     push_misspelt(alloc, &mut notes, show, loaded.lines)?;
     push_parts(alloc, &mut notes, show, loaded.lines, &loaded.show)?;
-    push_patched(alloc, &mut notes, show, loaded.lines)?;
     Ok(notes)
 }
 
@@ -123,15 +126,13 @@ fn push_line_notes(text: &mut Vec<u8>, notes: &LineNotes) -> Result<(), AllocErr
     ensures { OnOk result ((show : Tables) (lines : List (List ℕ)) → AreNotesOf show lines notes.now
         → text.new.items ≡ text.old.items ++ line_notes show lines) }
 {
-    text.extend_from_slice(notes.links.as_slice())?;
-    text.extend_from_slice(notes.commas.as_slice())?;
-    text.extend_from_slice(notes.cues.notes.as_slice())?;
-    text.extend_from_slice(notes.subs.notes.as_slice())?;
-    text.extend_from_slice(notes.groups.notes.as_slice())?;
-    text.extend_from_slice(notes.hours.as_slice())
+    push_weighty(text, notes)?;
+    text.extend_from_slice(notes.hours.as_slice())?;
+    Ok(())
 }
 
-fn push_notes(text: &mut Vec<u8>, notes: &[Vec<u8>]) -> Result<(), AllocError>
+/// Appends notes.
+pub fn push_notes(text: &mut Vec<u8>, notes: &[Vec<u8>]) -> Result<(), AllocError>
     ensures { OnOk result (text.new.items
         ≡ text.old.items ++ flat_map note_line (map (λ note. shown note.items)
         notes.now)) }

@@ -2,8 +2,9 @@
 //! author.
 //!
 //! Each skipped line gets a line with its number, the reason and its text, and lines that begin
-//! with `note: ` follow. The lines are proved to be those that `check` counts as skipped; the notes
-//! are advice.
+//! with `note: ` follow. The lines are proved to be those that `check` counts as skipped; and each
+//! note is proved to be printed exactly where it holds, but for those on lines that begin with a
+//! number, on misspelt keywords and on parts of cues, which are tested.
 //!
 //! ```
 //! let mut out = MemoryOutput::new(rt.alloc(), 0, 0);
@@ -13,8 +14,10 @@
 #![tactic(auto)]
 
 mod blame;
+mod channels;
 mod decimal;
 mod distance;
+mod encoding;
 mod explanation;
 mod faulty;
 mod heading;
@@ -25,9 +28,10 @@ mod notes;
 mod numbered;
 mod openings;
 mod parts;
-mod patched;
+mod patch_notes;
 mod reason;
 mod seeming;
+mod show_notes;
 mod skipped;
 mod weight;
 

@@ -108,7 +108,8 @@ fn is_in(which: Record, table: Table) -> bool
     )
 }
 
-fn is_emptied(what: Cleared, table: Table) -> bool
+/// Whether a CLEAR empties a table.
+pub fn is_emptied(what: Cleared, table: Table) -> bool
     ensures { result ≡ empties what table }
 {
     match what {

@@ -1,9 +1,10 @@
 ghost use Rattle.std.specs.Prelude.{◌<◌, ◌^◌, length};
 
+use crate::channels::{is_marked, mark, no_channels};
 use crate::decimal::{push_decimal, push_number};
 use crate::heading::Heading;
 use crate::line_notes::push_rate;
-use crate::notes::{Channels, Notes, is_marked, mark, push_channel};
+use crate::notes::Notes;
 use crate::skipped::{first_bytes, operands};
 use ascii_text::{Lines, Words, same_word};
 use show_core::{CHANNELS, Rate, Show};
@@ -210,15 +211,18 @@ fn is_same(one: Option<Rate>, other: Option<Rate>) -> bool {
 
 // The channels that take times, in their order.
 fn push_channels(note: &mut Vec<u8>, channels: &[u16]) -> Result<(), AllocError> {
-    let mut marked: Channels = [false; 4097];
+    let mut marked = no_channels();
     for channel in channels {
-        mark(&mut marked, *channel);
+        if *channel <= CHANNELS {
+            mark(&mut marked, *channel);
+        }
     }
     let is_one = marked.iter().filter(|is_marked| **is_marked).count() == 1;
     note.extend_from_slice(if is_one { b"channel" } else { b"channels" })?;
     for channel in 1..=CHANNELS {
         if is_marked(&marked, channel) {
-            push_channel(note, channel)?;
+            note.push(b' ')?;
+            push_number(note, u64::from(channel))?;
         }
     }
     note.extend_from_slice(if is_one { b" takes " } else { b" take " })

@@ -4,7 +4,7 @@ use Rattle.std.specs.FinMap as maps
 use Rattle.std.proofs.lemmas.List.{map-append}
 use Rattle.show_core.specs.declared.cue.CueData.{CueData}
 use Rattle.cueplayer_cues.specs.Rows.{cue_row}
-use Rattle.cueplayer_cues.proofs.Ascending.{all_done, first_above_0, next_cue, none_next}
+use Rattle.cueplayer_explain.proofs.Ascending.{all_done, first_above_0, next_cue, none_next}
 use Rattle.cueplayer_cues.proofs.cue_rows.cue_rows.Goals as goal
 
 pub loop-row-init : goal.loop-row-init

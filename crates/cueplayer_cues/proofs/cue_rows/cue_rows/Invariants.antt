@@ -2,7 +2,7 @@ use Rattle.std.proofs.Common.{◌≡◌, ℕ, ◌++◌, List, length, map}
 use Rattle.std.specs.FinMap as maps
 use Rattle.show_core.specs.declared.cue.CueData.{CueData}
 use Rattle.cueplayer_cues.specs.Rows.{cue_row}
-use Rattle.cueplayer_cues.proofs.Ascending.{first_key}
+use Rattle.cueplayer_explain.proofs.Ascending.{first_key}
 use Rattle.cueplayer_cues.proofs.cue_rows.cue_rows.Given as goal
 
 -- the entries are those that have rows, and those that are left

@@ -1,11 +1,11 @@
-use Rattle.std.proofs.Common.{◌≡◌, ◌∙◌, ◌∷◌, cond, Some, ap}
+use Rattle.std.proofs.Common.{◌≡◌, ◌∙◌, ◌∷◌, Some, ap, sym, arith}
 use Rattle.ascii_text.specs.Text.{words_of}
-use Rattle.show_line.specs.Keywords.{may_own}
 use Rattle.show_line.specs.Said.{desk_limits, reading_of}
-use Rattle.cueplayer_explain.specs.Headings.{heading_below, heading_of, owner_of}
+use Rattle.cueplayer_explain.specs.Headings.{heading_below, owner_of}
+use Rattle.cueplayer_explain.specs.NotesOf.{unknown_count, unknown_in}
 use Rattle.cueplayer_explain.specs.Skipped.{words_in}
 use Rattle.cueplayer_explain.proofs.Lines.{said_is}
-use Rattle.cueplayer_explain.proofs.NoteLines.{heading_more, notes_more}
+use Rattle.cueplayer_explain.proofs.NoteLines.{few_unknown, heading_more, notes_more, unknown_is}
 use Rattle.cueplayer_explain.proofs.note_lines.LineNotes.take_line.Goals as goal
 
 pub returns : goal.returns
@@ -16,10 +16,24 @@ returns c = λ lines was numbered.
     let added = c.in_ok-note.ensures in
     let read : Some reading ≡ reading_of desk_limits (owner_of above) (words_of bytes) =
     c.in-Some.ensures.means ∙ ap (λ o. reading_of desk_limits o (words_of bytes)) c.owner.ensures in
-    let heads : c.below-self.result ≡ heading_below (words_in (bytes ∷ lines)) =
-    c.below-self.ensures
-    ∙ ap (cond (may_own reading.keyword) (heading_of reading.keyword reading.statement)) added.above
-    ∙ heading_more lines bytes above was.heads reading read in
+    let heads : c.below-below.result ≡ heading_below (words_in (bytes ∷ lines)) =
+    c.below-below.ensures ∙ heading_more lines bytes above was.heads reading read in
+    let one
+    : c.unknown_in-unknown.result ≡ unknown_in (heading_below (words_in lines)) (words_of bytes) =
+    c.unknown_in-unknown.ensures
+    ∙ sym (unknown_is (owner_of above) above (words_of bytes) reading read)
+    ∙ ap (λ h. unknown_in h (words_of bytes)) was.heads in
+    let unknown : c.saturating_add-self.result ≡ unknown_count (bytes ∷ lines) =
+    omega (
+      arith,
+      c.saturating_add-self.ensures,
+      one,
+      few_unknown (bytes ∷ lines),
+      was.unknown_lines,
+      added.unknown_lines,
+      numbered,
+      c.ranges.line,
+    ) in
     notes_more lines bytes c.args.line.number reading.statement numbered
     (said_is lines bytes above was.heads reading read) c.args.show.now c.args.self.now
-    c.note.new.self was added c.below-self.result heads
+    c.note.new.self was added c.below-below.result heads c.saturating_add-self.result unknown
