@@ -663,7 +663,8 @@ class Time(ConvertTest):
         return text(*lines)[: 1 << 20]
 
     def test_a_megabyte(self):
-        """It is converted within a second where nothing else runs, and in three of a slow machine."""
+        """It is converted within a second where nothing else runs, and in three of a slow
+        machine."""
         content = self.megabyte()
         self.assertEqual(1 << 20, len(content))
         began = time.process_time()

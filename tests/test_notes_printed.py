@@ -96,8 +96,15 @@ class Printed(ProgramTest):
     def test_faults_of_an_encoding(self):
         """A file whose lines end in CR alone is one faulty line; the note says why."""
         show = text("PATCH 1 1<1@FL", "CUE 1", "CHAN 1@FL").replace(b"\n", b"\r")
-        note = "note: the file's lines end in CR alone, so that it is one line: save it with LF or CR LF"
-        told = [note, "line 1: BadNumber at `CUE`: PATCH 1 1<1@FL CUE 1 CHAN 1@FL ", "check answers line 1: BadNumber"]
+        note = (
+            "note: the file's lines end in CR alone, so that it is one line: save it with LF "
+            "or CR LF"
+        )
+        told = [
+            note,
+            "line 1: BadNumber at `CUE`: PATCH 1 1<1@FL CUE 1 CHAN 1@FL ",
+            "check answers line 1: BadNumber",
+        ]
         self.assertEqual((3, told), explained(show))
         self.assertEqual(told, faults.faults(show))
 
