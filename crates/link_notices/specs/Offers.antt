@@ -4,7 +4,8 @@ use Rattle.std.specs.declared.io.ErrorKind.TheVariants as kind
 use Rattle.link_notices.specs.declared.path.PathState.{PathState}
 use Rattle.link_notices.specs.declared.path.PathState.TheVariants.{Elsewhere, Leads, Nowhere}
 use Rattle.link_notices.specs.declared.sending.Sending.{Sending}
-use Rattle.link_notices.specs.declared.sending.Sending.TheVariants.{Bound, BoundAndLost, Lost, Unbound}
+use Rattle.link_notices.specs.declared.sending.Sending.TheVariants.{Bound, BoundAndLost, Lost}
+use Rattle.link_notices.specs.declared.sending.Sending.TheVariants.{Unbound}
 use Rattle.link_notices.specs.declared.source.SourceState.{SourceState}
 use Rattle.link_notices.specs.declared.source.SourceState.TheVariants as source
 

@@ -18,8 +18,8 @@ pub enum Sending {
 }
 
 impl Sending {
-    /// Decides how a packet is offered to the system: by how its host is reached, how the address is
-    /// that it is sent from, if it has one, and whether any card will do.
+    /// Decides how a packet is offered to the system: by how its host is reached, how the address
+    /// is that it is sent from, if it has one, and whether any card will do.
     pub fn choose(path: &PathState, source: Option<SourceState>, is_any_route: bool) -> Sending
         ensures { result ≡ sending path.now source is_any_route }
     {

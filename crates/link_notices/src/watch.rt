@@ -1,5 +1,6 @@
 ghost use Rattle.std.specs.Prelude.{◌≡◌};
-ghost use Rattle.link_notices.specs.Told.{again_of_path, again_of_source, news_of_path, news_of_source};
+ghost use Rattle.link_notices.specs.Told.{again_of_path, again_of_source};
+ghost use Rattle.link_notices.specs.Told.{news_of_path, news_of_source};
 ghost use Rattle.link_notices.specs.Told.{told_of_path};
 
 use crate::{PathNotice, SourceNotice, SourceState, Trouble};

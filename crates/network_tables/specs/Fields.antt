@@ -1,5 +1,6 @@
 -- The fields of a line of one of the system's tables.
-use Rattle.std.specs.Prelude.{ℕ, Bool, true, false, ◌&&◌, List, [], ◌∷◌, ◌==◌, length, filter, take, drop, codes, bytes_eq}
+use Rattle.std.specs.Prelude.{ℕ, Bool, true, false, ◌&&◌, List, [], ◌∷◌, ◌==◌, length, filter}
+use Rattle.std.specs.Prelude.{take, drop, codes, bytes_eq}
 use Rattle.std.specs.Prelude.{nat_le, slice_index_or, Option, Some, None, if◌then◌else◌}
 use Rattle.std.specs.List.{list_all, slice_split}
 use Rattle.std.specs.Char.{is_ascii_hexdigit}
