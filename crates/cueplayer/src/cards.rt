@@ -3,10 +3,12 @@ use crate::remark::{Remark, of_name, push_shown};
 use arrayvec::{ArrayString, ArrayVec};
 use cueplayer_faults::RunFault;
 use cueplayer_words::{Name, Night};
+use link_notices::PathState;
+use network_tables::CardState;
 use show_reader::read_show;
 use std::fmt::Write;
 use std::net::Ipv4Addr;
-use system_devices::{Card, CardState, Cards, Leaving, Network, PathState, card_state};
+use system_devices::{Card, Cards, Leaving, Network, card_state};
 use targets::{TargetMisfit, Targets};
 
 /// An address and its card, or the part of a message that names one.

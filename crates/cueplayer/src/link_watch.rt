@@ -2,26 +2,16 @@ use crate::cards::host_text;
 use crate::network_lines::{NetworkLine, push_no_route, push_route, push_source};
 use crate::screen::Screen;
 use crate::start_lines::clock_text;
+use link_notices::{
+    PathLook, PathNotice, PathState, PathWatch, SourceNotice, SourceState, SourceWatch, Trouble,
+    trouble_of,
+};
 use live_machine::TURN;
 use std::cell::RefCell;
 use std::fmt::Write;
 use std::time::Instant;
-use system_devices::{MOST_SOURCES, Network, Path, PathState, Source, SourceState};
+use system_devices::{MOST_SOURCES, Network, Path, Source};
 use targets::MOST_TARGETS;
-
-// What is wrong with the way to a host.
-#[derive(Clone, Copy, Debug, Default, PartialEq, Eq)]
-enum Trouble {
-    #[default]
-    None,
-    // There was no route so far.
-    NoRouteYet,
-    NoRoute,
-    // The route leads by another card.
-    OtherCard,
-    // Nobody answers there.
-    NoAnswer,
-}
 
 /// Watches the cards, addresses and routes of a night, and tells what changes: so that an operator
 /// knows when nodes get nothing. A look takes microseconds, and waits for nothing.
@@ -30,25 +20,25 @@ pub struct LinkWatch<'a> {
     network: &'a RefCell<Network>,
     last: Option<Instant>,
     // What was told of each source and of each path.
-    sources: [SourceState; MOST_SOURCES],
-    paths: [Trouble; MOST_TARGETS],
+    sources: [SourceWatch; MOST_SOURCES],
+    paths: [PathWatch; MOST_TARGETS],
 }
 
 impl<'a> LinkWatch<'a> {
     /// To which hosts there is no route was told at the start.
     pub fn new(network: &'a RefCell<Network>) -> LinkWatch<'a> {
-        let mut paths = [Trouble::None; MOST_TARGETS];
+        let mut paths = [PathWatch::default(); MOST_TARGETS];
         if let Ok(network) = network.try_borrow() {
-            for (told, path) in paths.iter_mut().zip(network.paths()) {
+            for (watch, path) in paths.iter_mut().zip(network.paths()) {
                 if path.is_without_route() {
-                    *told = trouble_of(path);
+                    watch.told = trouble(path);
                 }
             }
         }
         LinkWatch {
             network,
             last: None,
-            sources: [SourceState::Sends; MOST_SOURCES],
+            sources: [SourceWatch::default(); MOST_SOURCES],
             paths,
         }
     }
@@ -62,20 +52,18 @@ impl<'a> LinkWatch<'a> {
             return;
         };
         network.look(rt);
-        for (told, source) in self.sources.iter_mut().zip(network.sources()) {
-            if *told != source.state {
-                tell_source(moment, source, *told, screen);
-                *told = source.state;
+        for (watch, source) in self.sources.iter_mut().zip(network.sources()) {
+            if let Some(notice) = watch.look(source.state) {
+                tell_source(moment, source, notice, screen);
             }
         }
-        for (told, path) in self.paths.iter_mut().zip(network.paths()) {
-            if !has_link(&network, path) {
-                continue;
-            }
-            let trouble = trouble_of(path);
-            if *told != trouble {
-                tell_path(rt, moment, (&network, path), (*told, trouble), screen);
-                *told = trouble;
+        for (watch, path) in self.paths.iter_mut().zip(network.paths()) {
+            let found = PathLook {
+                has_link: has_link(&network, path),
+                trouble: trouble(path),
+            };
+            if let Some(notice) = watch.look(found) {
+                tell_path(rt, moment, (&network, path), notice, screen);
             }
         }
     }
@@ -99,14 +87,14 @@ impl<'a> LinkWatch<'a> {
         let Ok(network) = self.network.try_borrow() else {
             return;
         };
-        for (told, source) in self.sources.iter().zip(network.sources()) {
-            if *told != SourceState::Sends {
-                tell_source(moment, source, *told, screen);
+        for (watch, source) in self.sources.iter().zip(network.sources()) {
+            if let Some(notice) = watch.again() {
+                tell_source(moment, source, notice, screen);
             }
         }
-        for (told, path) in self.paths.iter().zip(network.paths()) {
-            if *told != Trouble::None && has_link(&network, path) {
-                tell_path(rt, moment, (&network, path), (*told, *told), screen);
+        for (watch, path) in self.paths.iter().zip(network.paths()) {
+            if let Some(notice) = watch.again(has_link(&network, path)) {
+                tell_path(rt, moment, (&network, path), notice, screen);
             }
         }
     }
@@ -120,14 +108,8 @@ fn has_link(network: &Network, path: &Path) -> bool {
     }
 }
 
-fn trouble_of(path: &Path) -> Trouble {
-    match path.state {
-        PathState::Nowhere if path.source.is_none() => Trouble::NoRouteYet,
-        PathState::Nowhere => Trouble::NoRoute,
-        PathState::Elsewhere(_) => Trouble::OtherCard,
-        PathState::Leads if path.is_silent() => Trouble::NoAnswer,
-        PathState::Leads => Trouble::None,
-    }
+fn trouble(path: &Path) -> Trouble {
+    trouble_of(&path.state, path.source.is_some(), path.silence)
 }
 
 fn line_at(moment: u64) -> NetworkLine {
@@ -142,19 +124,22 @@ fn tell(mut line: NetworkLine, screen: &mut Screen) {
 }
 
 // Tells how a source is, behind how it was.
-fn tell_source(moment: u64, source: &Source, was: SourceState, screen: &mut Screen) {
+fn tell_source(moment: u64, source: &Source, notice: SourceNotice, screen: &mut Screen) {
     let card = source.card.as_str();
     let address = host_text(source.address);
     let address = address.as_str();
     let mut line = line_at(moment);
-    let _ = match source.state {
+    let _ = match notice.is {
         SourceState::NoLink => write!(line, "no link {card}: nodes get nothing; check the cable"),
         SourceState::Down => write!(
             line,
             "{card} is down: nodes get nothing; ip link set {card} up"
         ),
         SourceState::Lost => write!(line, "{card} has lost {address}: nodes get nothing"),
-        SourceState::Sends if was == SourceState::Lost => write!(line, "{card} has {address}"),
+        SourceState::Sends if notice.was == SourceState::Lost => write!(
+            line,
+            "{card} has {address}"
+        ),
         SourceState::Sends => write!(line, "link {card}"),
     };
     tell(line, screen);
@@ -165,12 +150,12 @@ fn tell_path(
     rt: &HostRuntime,
     moment: u64,
     (network, path): (&Network, &Path),
-    (was, is): (Trouble, Trouble),
+    notice: PathNotice,
     screen: &mut Screen,
 ) {
     let mut line = line_at(moment);
-    match is {
-        Trouble::None => push_mended(rt, &mut line, (network, path), was),
+    match notice.is {
+        Trouble::None => push_mended(rt, &mut line, (network, path), notice.was),
         Trouble::NoRouteYet | Trouble::NoRoute => push_no_route(&mut line, path),
         Trouble::OtherCard => push_other_card(&mut line, path),
         Trouble::NoAnswer => push_no_answer(&mut line, path),

@@ -1,6 +1,7 @@
-use crate::routes::{Route, Routes, route_to, source_to};
-use crate::system_lines::{SystemLines, first_line, hex_number};
+use crate::routes::{Routes, route_to, source_to};
+use crate::system_lines::{SystemLine, SystemLines, first_line};
 use arrayvec::{ArrayString, ArrayVec};
+use network_tables::{CardName, CardState, Route};
 use std::fmt::Write;
 use std::net::Ipv4Addr;
 
@@ -14,14 +15,8 @@ const OWN: &str = "/32 host LOCAL";
 // Of more cards and addresses the first are known.
 const MOST: usize = 64;
 
-// Set in a card's flags where it is up.
-const IS_UP: u32 = 0x1;
-
 // In the place of a name.
 const UNKNOWN: &str = "?";
-
-/// The name of a network card; `?` where it is not known.
-pub type CardName = ArrayString<15>;
 
 /// A network card with an IPv4 address, or without one.
 #[derive(Clone, Copy, Debug, Default)]
@@ -40,17 +35,6 @@ impl Card {
     pub fn is_known(&self) -> bool {
         self.name.as_str() != UNKNOWN
     }
-}
-
-/// How a card is.
-#[derive(Clone, Copy, Debug, PartialEq, Eq)]
-pub enum CardState {
-    /// It is up, and has a link, or tells none.
-    Up,
-    /// It is up, and has no link.
-    NoLink,
-    /// It is down.
-    Down,
 }
 
 /// The network cards of this machine: a row for each address of one, or one without an address.
@@ -218,34 +202,22 @@ pub fn card_to(rt: &HostRuntime, address: [u8; 4], host: [u8; 4]) -> CardName {
     }
 }
 
-/// How the card of this name is, by the system's files. What these do not tell is well.
+/// How the card of this name is, by the system's files.
 pub fn card_state(rt: &HostRuntime, name: &str) -> CardState {
-    let mut path = ArrayString::<64>::new();
-    let _ = write!(path, "/sys/class/net/{name}/flags");
-    if let Some(flags) = first_line(rt, path.as_str())
-        && let Some(digits) = flags.as_str().strip_prefix("0x")
-        && let Some(flags) = hex_number(digits)
-        && flags & IS_UP == 0
-    {
-        return CardState::Down;
-    }
-    path.clear();
-    let _ = write!(path, "/sys/class/net/{name}/operstate");
-    match first_line(rt, path.as_str()) {
-        Some(state) if is_without_link(state.as_str()) => CardState::NoLink,
-        _ => CardState::Up,
-    }
+    let flags = card_line(rt, name, "flags");
+    let state = card_line(rt, name, "operstate");
+    network_tables::card_state(flags.as_bytes(), state.as_bytes())
 }
 
 /// The number that the system gives the card of this name. A card that is plugged in anew has
 /// another one.
 pub fn card_index(rt: &HostRuntime, name: &str) -> Option<u32> {
-    let mut path = ArrayString::<64>::new();
-    let _ = write!(path, "/sys/class/net/{name}/ifindex");
-    first_line(rt, path.as_str())?.as_str().parse::<u32>().ok()
+    card_line(rt, name, "ifindex").as_str().parse::<u32>().ok()
 }
 
-// `carrier` says the same, but waits while a card is being changed.
-fn is_without_link(state: &str) -> bool {
-    matches!(state, "down" | "lowerlayerdown" | "dormant" | "notpresent")
+// The first line of a file of a card; empty where there is none.
+fn card_line(rt: &HostRuntime, name: &str, file: &str) -> SystemLine {
+    let mut path = ArrayString::<64>::new();
+    let _ = write!(path, "/sys/class/net/{name}/{file}");
+    first_line(rt, path.as_str()).unwrap_or_default()
 }

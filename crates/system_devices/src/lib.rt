@@ -34,21 +34,19 @@ mod writers;
 pub use appended_lines::AppendedLines;
 pub use bounded_output::{BoundedOutput, Names};
 pub use card_sender::CardSender;
-pub use cards::{Card, CardName, CardState, Cards, card_state};
+pub use cards::{Card, Cards, card_state};
 pub use cid_lock::{CidLock, LockFault, PathText};
 pub use fault::DeviceFault;
 pub use host_name::machine_name;
 pub use input::SystemInput;
 pub use machine::{Keyboard, SystemClock};
 pub use messages::Messages;
-pub use network::{
-    GROUPS, Leaving, MOST_SOURCES, Network, Path, PathState, Source, SourceState, is_multicast,
-};
+pub use network::{GROUPS, Leaving, MOST_SOURCES, Network, Path, Source, is_multicast};
 pub use output::SystemOutput;
 pub use record::Record;
 pub use record_file::{Pause, RecordFault, RecordFile};
 pub use record_lock::remove_unused_record;
-pub use routes::{Route, route_to};
+pub use routes::route_to;
 pub use socket::{AddressText, ReceivingSocket, SocketFault};
 pub use typed_input::TypedInput;
 pub use watched_output::WatchedOutput;

@@ -1,32 +1,13 @@
-use crate::network::{Path, SILENCE};
-use crate::system_lines::{SystemLines, hex_number};
-use std::net::Ipv4Addr;
+use crate::network::Path;
+use crate::system_lines::SystemLines;
+use network_tables::{Neighbor, silence_after};
 
 const NEIGHBORS: &str = "/proc/net/arp";
-
-// Set in the flags of a neighbor whose card's address is known.
-const ANSWERED: u32 = 0x2;
 
 /// The machines at the networks of this one's cards that packets went to lately.
 #[derive(Drop)]
 pub struct Neighbors {
     lines: SystemLines,
-}
-
-// One of them, and whether it answered.
-#[derive(Clone, Copy)]
-struct Neighbor {
-    address: Ipv4Addr,
-    has_answered: bool,
-}
-
-impl Neighbor {
-    fn takes_on(&self, path: &Path) -> bool {
-        match path.neighbor {
-            Some(host) => self.address.octets() == host,
-            None => false,
-        }
-    }
 }
 
 impl Neighbors {
@@ -39,7 +20,7 @@ impl Neighbors {
     fn next_neighbor(&mut self) -> Option<Neighbor> {
         for _ in 0..u64::MAX {
             let line = self.lines.next_line()?;
-            if let Some(found) = neighbor_in(line.as_str()) {
+            if let Some(found) = Neighbor::read(line.as_bytes()) {
                 return Some(found);
             }
         }
@@ -53,26 +34,10 @@ impl Neighbors {
                 return;
             };
             for path in &mut *paths {
-                if neighbor.takes_on(path) {
-                    path.silence = if neighbor.has_answered {
-                        0
-                    } else {
-                        path.silence.saturating_add(1).min(SILENCE)
-                    };
+                if path.neighbor == Some(neighbor.address.octets()) {
+                    path.silence = silence_after(path.silence, neighbor.has_answered);
                 }
             }
         }
     }
-}
-
-// Of a line: the address, the kind of card, and the flags.
-fn neighbor_in(line: &str) -> Option<Neighbor> {
-    let mut words = line.split_ascii_whitespace();
-    let address = words.next()?.parse::<Ipv4Addr>().ok()?;
-    let _kind = words.next()?;
-    let flags = hex_number(words.next()?.strip_prefix("0x")?)?;
-    Some(Neighbor {
-        address,
-        has_answered: flags & ANSWERED != 0,
-    })
 }

@@ -1,10 +1,12 @@
-use crate::cards::{CardName, CardState, card_index, card_state, card_to};
+use crate::cards::{card_index, card_state, card_to};
 use crate::neighbors::Neighbors;
 use crate::routes::{is_of_this_machine, route_to, source_to};
 use crate::socket::{AddressText, SocketFault, bind, send_whole, text_of};
 use crate::tied_socket::TiedSocket;
 use arrayvec::ArrayVec;
 use devices::LinkFault;
+use link_notices::{PathState, Sending, SourceState, source_state};
+use network_tables::CardName;
 use std::io::ErrorKind;
 use std::net::{IpAddr, SocketAddr, UdpSocket};
 use std::time::Instant;
@@ -15,9 +17,6 @@ pub const MOST_SOURCES: usize = 8;
 
 /// The host that stands for the multicast groups of all universes.
 pub const GROUPS: [u8; 4] = [239, 255, 0, 0];
-
-/// A neighbor is silent where it did not answer at so many looks one behind the other.
-pub const SILENCE: u8 = 2;
 
 // A look at the route to a host counts for so many milliseconds: so the packets of a tick have one,
 // and not one each.
@@ -38,20 +37,6 @@ pub struct Leaving {
 
     /// A packet that would have to wait is lost.
     pub never_waits: bool,
-}
-
-/// How an address of this machine is.
-#[derive(Clone, Copy, Debug, Default, PartialEq, Eq)]
-pub enum SourceState {
-    /// Packets leave by its card.
-    #[default]
-    Sends,
-    /// Its card has no link.
-    NoLink,
-    /// Its card is down.
-    Down,
-    /// The machine does not have it.
-    Lost,
 }
 
 /// An address of this machine that packets come from, and its card.
@@ -92,18 +77,6 @@ fn socket_address(to: Address) -> SocketAddr {
     SocketAddr::new(IpAddr::from(to.host), to.port)
 }
 
-/// How a host is reached.
-#[derive(Clone, Copy, Debug, Default)]
-pub enum PathState {
-    /// By the card of its source, or by any.
-    Leads,
-    /// The system's route leads by this other card.
-    Elsewhere(CardName),
-    /// There is no route.
-    #[default]
-    Nowhere,
-}
-
 /// A host that packets go to.
 #[derive(Clone, Copy, Debug, Default)]
 pub struct Path {
@@ -132,16 +105,6 @@ impl Path {
     /// Whether no route leads to the host.
     pub fn is_without_route(&self) -> bool {
         matches!(self.state, PathState::Nowhere)
-    }
-
-    // Whether the route leads there by the card of its source, or by any.
-    fn leads(&self) -> bool {
-        matches!(self.state, PathState::Leads)
-    }
-
-    /// Whether nobody answers there.
-    pub fn is_silent(&self) -> bool {
-        self.silence >= SILENCE
     }
 }
 
@@ -394,21 +357,20 @@ impl Network {
 
     fn offer(&self, to: Address, bytes: &[u8]) -> Result<(), ErrorKind> {
         let path = self.path_of(to.host);
-        let Some(source) = path.and_then(|path| self.source_of(path)) else {
-            return send_whole(&self.unbound, bytes, socket_address(to));
-        };
-        // Without a route the system would ask who has the address at the card's network.
-        if !self.leaving.is_any_route && !path.is_some_and(Path::leads) {
-            return Err(ErrorKind::NetworkUnreachable);
-        }
-        match source.state {
-            SourceState::Sends => source.send(&self.unbound, bytes, to),
-            SourceState::NoLink => {
+        let source = path.and_then(|path| self.source_of(path));
+        let (state, card) = (
+            path.map_or(PathState::Nowhere, |path| path.state),
+            source.map(|source| source.state),
+        );
+        let sending = Sending::choose(&state, card, self.leaving.is_any_route);
+        match (sending, source) {
+            (Sending::Lost(kind), _) => Err(kind),
+            (Sending::Bound, Some(source)) => source.send(&self.unbound, bytes, to),
+            (Sending::BoundAndLost(kind), Some(source)) => {
                 source.send(&self.unbound, bytes, to)?;
-                Err(ErrorKind::NetworkDown)
+                Err(kind)
             }
-            SourceState::Down => Err(ErrorKind::NetworkDown),
-            SourceState::Lost => Err(ErrorKind::AddrNotAvailable),
+            _ => send_whole(&self.unbound, bytes, socket_address(to)),
         }
     }
 }
@@ -451,10 +413,8 @@ fn neighbor_to(rt: &HostRuntime, host: [u8; 4], address: [u8; 4]) -> Option<[u8;
 }
 
 fn state_of(rt: &HostRuntime, source: &Source) -> SourceState {
-    match card_state(rt, source.card.as_str()) {
-        CardState::Down => SourceState::Down,
-        _ if !is_of_this_machine(rt, source.address) => SourceState::Lost,
-        CardState::NoLink => SourceState::NoLink,
-        CardState::Up => SourceState::Sends,
-    }
+    source_state(
+        card_state(rt, source.card.as_str()),
+        is_of_this_machine(rt, source.address),
+    )
 }

@@ -65,15 +65,3 @@ impl SystemLines {
 pub fn first_line(rt: &HostRuntime, name: &str) -> Option<SystemLine> {
     SystemLines::open(rt, name).next_line()
 }
-
-/// The number that hex digits spell.
-pub fn hex_number(digits: &str) -> Option<u32> {
-    if digits.is_empty() || digits.len() > 8 {
-        return None;
-    }
-    let mut number = 0_u32;
-    for digit in digits.chars() {
-        number = number.checked_mul(16)?.checked_add(digit.to_digit(16)?)?;
-    }
-    Some(number)
-}
