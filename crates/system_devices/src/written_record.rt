@@ -79,6 +79,8 @@ impl Growth for WrittenRecord {
 
     ghost text = { λ _. [] };
 
+    ghost latest = { λ _. [] };
+
     ghost is_file = { λ r. r.is_file };
 
     fn is_file(&self) -> bool {
