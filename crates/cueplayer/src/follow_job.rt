@@ -16,7 +16,8 @@ use cueplayer_faults::RunFault;
 use cueplayer_live::{Night, Pause, Silent};
 use fade_core::{Fader, StepFader};
 use live_machine::NightInput;
-use record_head::{Difference, RecordHead};
+use night_record::{UnfitMain, main_head};
+use record_head::RecordHead;
 use sacn_source::Identity;
 use std::cell::RefCell;
 use std::time::Instant;
@@ -125,24 +126,21 @@ fn open_main(
         }
         Err(DeviceFault::Memory) => return Err(JobFault::Run(Failure::from(RunFault::Memory))),
     };
-    let Some(head) = lines
-        .first_two(rt, main.patience.into())
-        .and_then(|head| RecordHead::read(head))
-    else {
+    let Some(first) = lines.first_two(rt, main.patience.into()) else {
         return Err(JobFault::Record(Refusal::no_main()));
     };
-    if head.show != night.show {
-        let refusal = Refusal::other(Difference::Show, &head, &night);
-        return Err(JobFault::Record(refusal));
+    match main_head(&night, first.as_slice()) {
+        Ok(head) => Ok((lines, head)),
+        Err(unfit) => Err(JobFault::Record(refusal_of(&unfit, &night))),
     }
-    if head.base != night.base {
-        let refusal = Refusal::other(Difference::Base, &head, &night);
-        return Err(JobFault::Record(refusal));
+}
+
+fn refusal_of(unfit: &UnfitMain, night: &RecordHead) -> Refusal {
+    match unfit {
+        UnfitMain::NoRecord => Refusal::no_main(),
+        UnfitMain::Other(difference, record) => Refusal::other(*difference, record, night),
+        UnfitMain::SameCid => Refusal::same_cid(),
     }
-    if head.cid == night.cid {
-        return Err(JobFault::Record(Refusal::same_cid()));
-    }
-    Ok((lines, head))
 }
 
 // Where the operator of the night is, with its record begun; and its sockets, and the lock of its

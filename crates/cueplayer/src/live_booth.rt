@@ -8,7 +8,8 @@ use ascii_text::{Words, moment};
 use cueplayer_live::{Booth, Heard};
 use devices::{Link, LinkFault};
 use live_input::Reason;
-use live_machine::{Came, MachineInput, NightClock, NightInput};
+use live_machine::{Came, NightClock, NightInput};
+use night_record::NightLines;
 use std::time::Instant;
 use system_devices::{Keyboard, Record, SystemClock};
 
@@ -89,11 +90,11 @@ impl<'a> LiveBooth<'a> {
     pub fn wait_led(
         &mut self,
         milliseconds: u64,
-        block: &mut [u8; 4096],
+        typed: &mut NightLines,
     ) -> Result<Came, LinkFault> {
         self.look(self.clock.start);
         self.screen.hand_on();
-        self.input.input.wait(milliseconds, block)
+        typed.hear(&mut self.input.input, milliseconds)
     }
 
     /// Tells that a line which was typed while the night follows a main is not carried out.

@@ -45,6 +45,6 @@ fn name_in(rt: &HostRuntime, record: OldRecord<'_>) -> Option<HeadName> {
     }
     let mut lines = AppendedLines::open(rt, record.file).ok()??;
     let patience = if record.is_played { PATIENCE } else { 0 };
-    let head = RecordHead::read(lines.first_two(rt, patience)?)?;
+    let head = RecordHead::read(lines.first_two(rt, patience)?.as_slice())?;
     Some(head.name)
 }

@@ -21,7 +21,6 @@ mod screen;
 mod source_name;
 mod spare_job;
 mod start_lines;
-mod typed_lines;
 mod words;
 
 use clap::Error;

@@ -3,12 +3,11 @@ ghost use Rattle.std.specs.Prelude.{[]};
 use crate::live_booth::LiveBooth;
 use crate::live_job::MainWords;
 use crate::start_lines::clock_text;
-use crate::typed_lines::{TypedLine, TypedLines};
 use arrayvec::{ArrayString, ArrayVec};
-use ascii_text::{Words, same_word};
 use cueplayer_live::{Led, MainConsole};
 use live_input::InputLine;
 use live_machine::Came;
+use night_record::{Asked, NightLines, is_silent, leading_moment, silence_of};
 use std::fmt::Write;
 use std::time::Instant;
 use system_devices::AppendedLines;
@@ -24,9 +23,6 @@ const TYPED_END: &[u8] = b"the main leads; take ends the following\n";
 
 const MISSING: &[u8] =
     b"the main's record: lines are missing, so its look and this one may differ: ";
-
-// Of a silence so many milliseconds count for the clock: as many as of a gap behind a record.
-const LONGEST_SILENCE: u64 = 10_000;
 
 /// Why a night follows its main no more.
 #[derive(Clone, Copy, Debug, PartialEq, Eq)]
@@ -51,7 +47,7 @@ pub struct MainRecord<'a> {
     last: Instant,
     // Behind the lines that stood there at the start.
     is_on: bool,
-    typed: TypedLines,
+    typed: NightLines,
     input_ended: bool,
     ending: Ending,
 }
@@ -74,7 +70,7 @@ impl<'a> MainRecord<'a> {
             number: 2,
             last: now,
             is_on: false,
-            typed: TypedLines::new(),
+            typed: NightLines::new(),
             input_ended: false,
             ending: Ending::Silent,
         }
@@ -99,18 +95,13 @@ impl<'a> MainRecord<'a> {
     /// Tells at this moment of the night that it goes on by itself, and answers how long the newest
     /// line has been there, in milliseconds.
     pub fn lead(&mut self, moment: u64, now: Instant) -> u64 {
-        let passed = now.duration_since(self.last).as_millis();
-        let passed = u64::try_from(passed).unwrap_or(u64::MAX);
+        let passed = silence_of(now.duration_since(self.last));
         let why = match self.ending {
             Ending::Taken => "the following was ended",
             Ending::Silent => "the main is silent",
             Ending::Gone => "the main's record is gone",
         };
-        self.tell_at(
-            moment.saturating_add(passed.min(LONGEST_SILENCE)),
-            why,
-            ": goes on by itself",
-        );
+        self.tell_at(leading_moment(moment, passed), why, ": goes on by itself");
         let rest = self.typed.rest();
         self.booth.lead(now, rest, self.input_ended);
         passed
@@ -130,14 +121,6 @@ impl<'a> MainRecord<'a> {
     fn end(&mut self, ending: Ending) -> Option<Led> {
         self.ending = ending;
         Some(Led::End)
-    }
-
-    // The next line of what has come of the record: as many bytes as show that one is too long.
-    fn next_line(&mut self) -> Option<InputLine> {
-        let line = self.lines.next_line()?;
-        let mut text = InputLine::new();
-        let _ = text.try_extend_from_slice(&line[..line.len().min(201)]);
-        Some(text)
     }
 
     // A line of the record, unless it is a comment.
@@ -183,37 +166,28 @@ impl<'a> MainRecord<'a> {
     // A clock that cannot be read ends the following, and then the night.
     fn is_silent(&self) -> bool {
         match self.last.elapsed(self.rt) {
-            Ok(passed) => passed.as_millis() >= u128::from(self.words.patience),
+            Ok(passed) => is_silent(passed, self.words.patience),
             Err(_) => true,
         }
     }
 
     fn wait_typed(&mut self) -> Option<Led> {
-        match self.booth.wait_led(TURN, self.typed.block()) {
-            Ok(Came::Bytes(count)) => self.typed.take_bytes(count),
+        match self.booth.wait_led(TURN, &mut self.typed) {
+            Ok(Came::Bytes(_) | Came::Nothing) => {}
             Ok(Came::TypedEnd) => self.booth.screen().tell(TYPED_END),
             Ok(Came::End) => self.input_ended = true,
-            Ok(Came::Nothing) => {}
             Err(_) => return self.end(Ending::Gone),
         }
         None
     }
 
     // What a typed line asks for. None moves the light.
-    fn led_by_typed(&mut self, line: &TypedLine) -> Option<Led> {
-        let mut words = Words::new(line.as_slice());
-        let word = words.next()?;
-        let is_alone = words.next().is_none();
-        if is_alone && same_word(word, b"take") {
-            return self.end(Ending::Taken);
-        }
-        if is_alone && same_word(word, b"where") {
-            return Some(Led::Where);
-        }
-        if is_alone && (same_word(word, b"help") || same_word(word, b"?")) {
-            self.booth.screen().show(HELP);
-        } else {
-            self.booth.refuse_led(line.as_slice());
+    fn led_by_typed(&mut self, line: &[u8]) -> Option<Led> {
+        match Asked::of(line)? {
+            Asked::Take => return self.end(Ending::Taken),
+            Asked::Where => return Some(Led::Where),
+            Asked::Help => self.booth.screen().show(HELP),
+            Asked::Other => self.booth.refuse_led(line),
         }
         None
     }
@@ -229,8 +203,8 @@ impl MainConsole for MainRecord<'_> {
         // One turn a nanosecond would last for 584 years.
         for _turn in 0..u64::MAX {
             let led = if let Some(line) = self.typed.next_line() {
-                self.led_by_typed(&line)
-            } else if let Some(line) = self.next_line() {
+                self.led_by_typed(line.as_slice())
+            } else if let Some(line) = self.lines.next_line() {
                 self.led_by(line)
             } else {
                 self.led_by_none()

@@ -13,14 +13,11 @@ use cueplayer_faults::RunFault;
 use cueplayer_live::{Night, Silent};
 use fade_core::Fader;
 use jiff::Timestamp;
-use memchr::{memchr, memrchr};
+use night_record::{RecordOpening, TakenUp, Unfit};
 use record_head::{HeadLines, HeadName, RecordHead};
 use sacn_source::Identity;
 use sha2::{Digest, Sha256};
 use std::fmt::Write;
-
-// A head ends with a moment of so many bytes, its LF included.
-const STARTED: usize = 25;
 
 // So many lines of a record are its head.
 const HEAD_LINES: u64 = 2;
@@ -67,38 +64,18 @@ impl Opening {
         text: &[u8],
     ) -> Result<Opening, JobFault> {
         let night = head_of(rt, words, show)?;
-        let Some(head) = head_in(text) else {
-            return Opening::begins(&night, text);
-        };
-        let Some(record) = RecordHead::read(head) else {
-            return Err(JobFault::Record(Refusal::no_record()));
-        };
-        if let Some(difference) = record.differs_from(&night) {
-            let refusal = Refusal::other(difference, &record, &night);
-            return Err(JobFault::Record(refusal));
-        }
-        Ok(Opening {
-            head: None,
-            from: head.len().saturating_add(1),
-            to: memrchr(b'\n', text).map_or(0, |last| last.saturating_add(1)),
-        })
-    }
-
-    // Behind nothing, or behind a part of a head: a night of which no line was written whole.
-    fn begins(night: &RecordHead, text: &[u8]) -> Result<Opening, JobFault> {
-        let head = night.lines();
-        let front = head.as_slice();
-        let front = front
-            .get(..head.len().saturating_sub(STARTED))
-            .unwrap_or(front);
-        if front.starts_with(text) || (text.starts_with(front) && text.len() < head.len()) {
-            Ok(Opening {
-                head: Some(head),
+        match RecordOpening::of(&night, text) {
+            Ok(RecordOpening::Begins) => Ok(Opening {
+                head: Some(night.lines()),
                 from: 0,
                 to: 0,
-            })
-        } else {
-            Err(JobFault::Record(Refusal::no_record()))
+            }),
+            Ok(RecordOpening::GoesOn(TakenUp { from, to })) => Ok(Opening {
+                head: None,
+                from,
+                to,
+            }),
+            Err(unfit) => Err(JobFault::Record(refusal_of(&unfit, &night))),
         }
     }
 
@@ -113,11 +90,12 @@ impl Opening {
     }
 }
 
-// The first two lines of a text without the last LF, where it has two that are whole.
-fn head_in(text: &[u8]) -> Option<&[u8]> {
-    let first = memchr(b'\n', text)?.saturating_add(1);
-    let second = memchr(b'\n', text.get(first..)?)?;
-    text.get(..first.saturating_add(second))
+/// Why a night does not go on in its record.
+pub fn refusal_of(unfit: &Unfit, night: &RecordHead) -> Refusal {
+    match unfit {
+        Unfit::NoRecord => Refusal::no_record(),
+        Unfit::Other(difference, record) => Refusal::other(*difference, record, night),
+    }
 }
 
 /// Opens the night over a show, behind the lines of a record's text where it goes on.

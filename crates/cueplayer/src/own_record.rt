@@ -70,13 +70,10 @@ impl<'a> OwnRecord<'a> {
         }
     }
 
-    // The next line of what has come: as many bytes as show that one is too long.
     fn next_line(&mut self) -> Option<InputLine> {
         let line = self.lines.next_line()?;
-        let mut text = InputLine::new();
-        let _ = text.try_extend_from_slice(&line[..line.len().min(201)]);
         self.number = self.number.saturating_add(1);
-        Some(text)
+        Some(line)
     }
 
     // Looks for lines, and where none has come, whether the night is still played. What its writer

@@ -5,13 +5,13 @@ use crate::cards::check_targets;
 use crate::device_failure::of_record;
 use crate::failure::{Failure, JobFault};
 use crate::live_job::{LiveDevices, LiveWords, Playbill, Standard, lead};
-use crate::opening::{Opening, head_of, new_night};
+use crate::opening::{Opening, head_of, new_night, refusal_of};
 use crate::own_record::OwnRecord;
 use crate::reading::file_text;
 use crate::refusal::Refusal;
 use cueplayer_live::{Night, Pause, Silent};
 use fade_core::{Fader, StepFader};
-use record_head::RecordHead;
+use night_record::own_head;
 use sacn_source::Identity;
 use system_devices::{AppendedLines, DeviceFault, RecordFault, RecordFile};
 
@@ -103,18 +103,12 @@ fn open_lines(
         Err(DeviceFault::Device(_, kind)) => return Err(of_record(name, RecordFault::File(kind))),
         Err(DeviceFault::Memory) => return Err(of_record(name, RecordFault::Memory)),
     };
-    let Some(head) = lines
-        .first_two(rt, PATIENCE)
-        .and_then(|head| RecordHead::read(head))
-    else {
+    let Some(first) = lines.first_two(rt, PATIENCE) else {
         return Err(JobFault::Record(Refusal::no_record()));
     };
-    match head.differs_from(&night) {
-        Some(difference) => {
-            let refusal = Refusal::other(difference, &head, &night);
-            Err(JobFault::Record(refusal))
-        }
-        None => Ok(lines),
+    match own_head(&night, first.as_slice()) {
+        Ok(_) => Ok(lines),
+        Err(unfit) => Err(JobFault::Record(refusal_of(&unfit, &night))),
     }
 }
 

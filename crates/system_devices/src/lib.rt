@@ -30,6 +30,7 @@ mod typed_input;
 mod watched_output;
 mod way;
 mod writers;
+mod written_record;
 
 pub use appended_lines::AppendedLines;
 pub use bounded_output::{BoundedOutput, Names};
