@@ -11,7 +11,7 @@ use Rattle.console.specs.Streams.{Production}
 use Rattle.devices.specs.Send.{Send}
 use Rattle.console.specs.Offering.{AreOffered}
 use Rattle.console_text.specs.Spelling.{reading_of}
-use Rattle.cueplayer_play.specs.Lines.{Cut, cut_of, no_bytes, with_byte}
+use Rattle.input_lines.specs.Lines.{Cut, cut_of, no_bytes, with_byte}
 use Rattle.cueplayer_play.specs.Run.{due_after, history_from, history_of, lines_in, sends_of}
 use Rattle.live_input.specs.Night.{Happening}
 use Rattle.live_input.specs.Recall.{AreRecalled, IsRecalled, recall_of, recalled}

@@ -13,7 +13,7 @@ use Rattle.console.specs.Streams.{Production}
 use Rattle.console_text.specs.CueLine.{cue_text}
 use Rattle.cueplayer_faults.specs.declared.fault.RunFault.{RunFault}
 use Rattle.cueplayer_faults.specs.declared.fault.RunFault.TheVariants as run
-use Rattle.cueplayer_play.specs.Lines.{cut_of}
+use Rattle.input_lines.specs.Lines.{cut_of}
 use Rattle.cueplayer_play.specs.Run.{Carried, IsRunFrom, due_after, history_of, lines_in, sends_of}
 use Rattle.desk_core.specs.Played.{Act}
 use Rattle.devices.specs.Send.{Send}

@@ -3,7 +3,7 @@ ghost use Rattle.std.specs.Prelude.{Err, IfOk, IfErr, OnOk, OnErr};
 ghost use Rattle.show_reader.specs.Reading.{longest_text};
 ghost use Rattle.show_reader.specs.declared.fault.ShowFault.TheVariants as show_fault;
 ghost use Rattle.console.specs.Streams.{Production};
-ghost use Rattle.cueplayer_play.specs.Lines.{cut_of};
+ghost use Rattle.input_lines.specs.Lines.{cut_of};
 ghost use Rattle.cueplayer_play.specs.Opened.{Refuses};
 ghost use Rattle.live_input.specs.Night.{Happening, answers, is_over, now};
 ghost use Rattle.live_input.specs.Recall.{AreRecalled, IsRecalled, recall_of, recalled};

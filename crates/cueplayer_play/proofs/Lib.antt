@@ -2,7 +2,6 @@ pub mod Carrying
 pub mod Running
 pub mod Faults
 pub mod Taking
-pub mod InputLines
 pub mod Playing
 pub mod Beginning
 pub mod Moved

@@ -9,7 +9,7 @@ use Rattle.devices.proofs.Tapes.{with_more-none, with_more-twice}
 use Rattle.console.specs.Streams.{Production}
 use Rattle.cueplayer_play.specs.declared.fault.PlayFault.{PlayFault}
 use Rattle.cueplayer_play.specs.declared.stage.Stage.{Stage}
-use Rattle.cueplayer_play.specs.Lines.{closed, cut_of, no_bytes}
+use Rattle.input_lines.specs.Lines.{closed, cut_of, no_bytes}
 use Rattle.cueplayer_play.specs.Play.{EndsEarly, PlaysAll}
 use Rattle.cueplayer_play.specs.Run.{Emitted, Ran}
 use Rattle.cueplayer_play.specs.Stage.{HasEnded, HasTaken, StandsFor}

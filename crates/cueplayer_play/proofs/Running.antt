@@ -11,7 +11,8 @@ use Rattle.console.specs.Offering.{AreOffered}
 use Rattle.console.specs.Streams.{Production}
 use Rattle.console_text.specs.Spelling.{reading_of}
 use Rattle.cueplayer_play.specs.declared.fault.PlayFault.{PlayFault}
-use Rattle.cueplayer_play.specs.Lines.{AreFine, Cut, with_byte}
+use Rattle.input_lines.specs.Lines.{Cut, with_byte}
+use Rattle.cueplayer_play.specs.Lines.{AreFine}
 use Rattle.cueplayer_play.specs.Run.{Carried, CarriesOut, Emitted, Ran, due_after}
 use Rattle.cueplayer_play.specs.Run.{history_of, line_text, lines_in, sends_of, text_of}
 use Rattle.cueplayer_play.specs.declared.fault.PlayFault.TheVariants.{Device, Line}

@@ -7,7 +7,7 @@ use Rattle.fade_core.specs.Level.{Start}
 use Rattle.console.specs.Streams.{Production}
 use Rattle.cueplayer_play.specs.declared.fault.PlayFault.{PlayFault}
 use Rattle.cueplayer_play.specs.declared.stage.Stage.{Stage}
-use Rattle.cueplayer_play.specs.Lines.{Cut, with_byte}
+use Rattle.input_lines.specs.Lines.{Cut, with_byte}
 use Rattle.cueplayer_play.specs.Run.{Emitted, Ran}
 use Rattle.cueplayer_play.specs.Stage.{Ends, HasEnded, HasTaken, Leaves, StandsFor}
 

@@ -1,7 +1,6 @@
 -- A play over a whole input.
 use Rattle.std.specs.Prelude.{◌≡◌, ◌⊎◌, ◌≤◌, ◌++◌, ◌∷◌, ℕ, Bool, true, false, List, Result, Ok}
 use Rattle.std.specs.Prelude.{Err, Some, None, IsTrue, IsFalse}
-use Rattle.ascii_text.specs.Text.{lines_of}
 use Rattle.devices.specs.Tape.{Tape, with_failure, with_more}
 use Rattle.show_line.specs.Said.{desk_limits}
 use Rattle.show_reader.specs.Reading.{fault_of}
@@ -13,13 +12,10 @@ use Rattle.cueplayer_faults.specs.declared.fault.RunFault.{RunFault}
 use Rattle.cueplayer_faults.specs.declared.fault.RunFault.TheVariants as run
 use Rattle.cueplayer_play.specs.declared.fault.PlayFault.{PlayFault}
 use Rattle.cueplayer_play.specs.declared.fault.PlayFault.TheVariants as early
-use Rattle.cueplayer_play.specs.Lines.{AreFine, closed, cut_of, in_order}
+use Rattle.input_lines.specs.Lines.{closed, cut_of}
+use Rattle.cueplayer_play.specs.Lines.{AreFine}
 use Rattle.cueplayer_play.specs.Run.{Emitted, Ran}
 use Rattle.cueplayer_play.specs.Stage.{Ends, Leaves}
-
--- the lines of a whole input, in their order, are its lines
-abbrev pub LinesAreOfInput : List ℕ → Type 0
-LinesAreOfInput bytes = in_order (cut_of (closed bytes)).lines ≡ lines_of bytes
 
 -- the input was read to its end without a failed read, each of its lines was carried out, and so
 -- many packets were lost

@@ -11,7 +11,8 @@ use Rattle.console_text.specs.Spelling.{is_malformed, reading_of}
 use Rattle.cueplayer_play.specs.declared.stage.Stage.{Stage}
 use Rattle.cueplayer_play.specs.declared.fault.PlayFault.{PlayFault}
 use Rattle.cueplayer_play.specs.declared.fault.PlayFault.TheVariants.{Line, Device}
-use Rattle.cueplayer_play.specs.Lines.{AreFine, Cut, with_byte}
+use Rattle.input_lines.specs.Lines.{Cut, with_byte}
+use Rattle.cueplayer_play.specs.Lines.{AreFine}
 use Rattle.cueplayer_play.specs.Run.{Emitted, FailsToPrint, Ran, history_of}
 
 -- ---- one line

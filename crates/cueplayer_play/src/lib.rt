@@ -17,7 +17,6 @@
 
 mod carry;
 mod fault;
-pub mod laws;
 mod line;
 mod lines;
 mod performance;

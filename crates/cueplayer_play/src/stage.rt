@@ -27,7 +27,7 @@ pub struct Stage<F: Fader> {
 impl<F: Fader> Stage<F> {
     ghost use Rattle.std.specs.Prelude.{◌≡◌, [], ◌∷◌, OnOk, IfOk, IfErr};
     ghost use Rattle.console.specs.Streams.{Production};
-    ghost use Rattle.cueplayer_play.specs.Lines.{Cut, no_bytes};
+    ghost use Rattle.input_lines.specs.Lines.{Cut, no_bytes};
     ghost use Rattle.cueplayer_play.specs.Play.{EndsEarly, PlaysAll};
     ghost use Rattle.cueplayer_play.specs.Run.{emitted};
     ghost use Rattle.cueplayer_play.specs.Stage.{HasEnded, HasTaken, StandsFor};

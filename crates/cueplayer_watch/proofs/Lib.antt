@@ -4,7 +4,6 @@ pub mod Lists
 pub mod Results
 pub mod Stood
 pub mod Taking
-pub mod InputLines
 pub mod Faults
 pub mod Whole
 pub mod Passing

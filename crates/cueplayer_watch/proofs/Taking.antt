@@ -1,15 +1,16 @@
 -- A stage that takes bytes.
 use Rattle.std.proofs.Common.{◌≡◌, ◌≢◌, ◌<◌, ◌≤◌, ◌+◌, ℕ, List, [], ◌∷◌, ◌++◌, refl, ap, ◌∙◌, arith}
-use Rattle.std.proofs.Common.{true, false, append_assoc, length, length-append}
+use Rattle.std.proofs.Common.{true, append_assoc, length, length-append}
 use Rattle.std.specs.Prelude.{◌==◌}
-use Rattle.std.proofs.lemmas.List.Elements.{All-cons, All-nil}
+use Rattle.std.proofs.lemmas.List.Elements.{All-cons}
 use Rattle.std.proofs.lemmas.List.Sums.{fold-append}
 use Rattle.devices.specs.Tape.{Tape, with_more}
 use Rattle.devices.proofs.Tapes.{with_more-twice}
 use Rattle.cueplayer_watch.specs.declared.fault.WatchFault.{WatchFault}
 use Rattle.cueplayer_watch.specs.declared.fault.WatchFault.TheVariants.{Device, Line, Memory}
 use Rattle.cueplayer_watch.specs.declared.stage.Stage.{Stage}
-use Rattle.cueplayer_watch.specs.Lines.{AreFine, Cut, with_byte}
+use Rattle.input_lines.specs.Lines.{Cut, with_byte}
+use Rattle.cueplayer_watch.specs.Lines.{AreFine}
 use Rattle.cueplayer_watch.specs.Reading.{malformed, spelled_in}
 use Rattle.cueplayer_watch.specs.Runs.{Ends, Leaves, malformed_line}
 use Rattle.cueplayer_watch.specs.Stage.{EndsAt, HasEnded, HasTaken, LeftBy, StandsAt, Told}
@@ -71,9 +72,6 @@ ended_behind {xs = xs} zs all is told first then =
     }
 
 -- ---- a line
-
-pub fine_none : AreFine []
-fine_none = record { none_malformed = All-nil _; none_long = All-nil _; few = omega arith }
 
 pub fine_more : (line : List ℕ) (older : List (List ℕ)) → spelled_in line ≢ malformed
     → length line ≤ 3072 → length older < 4000000000 → AreFine older → AreFine (line ∷ older)
@@ -138,7 +136,3 @@ ends_line Device us cut b line old e is s few ends = (
 pub rest_none : {a : Stage} {t : Type 0} {e : Tape ℕ} (pending : List ℕ)
     → (length pending == 0) ≡ true → HasTaken (closing pending) a a t e e
 rest_none pending is = rw is taken_none
-
-pub rest_some : (P : List ℕ → Type 0) (pending : List ℕ) → (length pending == 0) ≡ false
-    → P (10 ∷ []) → P (closing pending)
-rest_some P pending is holds = rw is holds

@@ -9,7 +9,7 @@ use Rattle.devices.proofs.Tapes.{with_more-none, with_more-twice}
 use Rattle.cueplayer_watch.specs.declared.fault.WatchFault.{WatchFault}
 use Rattle.cueplayer_watch.specs.declared.fault.WatchFault.TheVariants as early
 use Rattle.cueplayer_watch.specs.declared.stage.Stage.{Stage}
-use Rattle.cueplayer_watch.specs.Lines.{closed, cut_of, no_bytes}
+use Rattle.input_lines.specs.Lines.{closed, cut_of, no_bytes}
 use Rattle.cueplayer_watch.specs.Runs.{EndsEarly, WatchesAll}
 use Rattle.cueplayer_watch.specs.Stage.{HasEnded, HasTaken, LastTold, LeftBy, StandsAt, Told}
 use Rattle.cueplayer_watch.specs.Stage.{closing}

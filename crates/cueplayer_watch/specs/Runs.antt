@@ -1,19 +1,15 @@
 -- A watch over a whole input: what it reads, and what its output takes.
 use Rattle.std.specs.Prelude.{◌≡◌, ◌≢◌, ◌⊎◌, ◌≤◌, ◌<◌, ◌+◌, ◌++◌, ◌∷◌, ℕ, List, length, Result, Ok}
 use Rattle.std.specs.Prelude.{Err}
-use Rattle.ascii_text.specs.Text.{lines_of}
 use Rattle.devices.specs.Tape.{Tape, with_failure, with_more}
 use Rattle.cueplayer_faults.specs.declared.fault.RunFault.{RunFault}
 use Rattle.cueplayer_faults.specs.declared.fault.RunFault.TheVariants as run
 use Rattle.cueplayer_watch.specs.declared.fault.WatchFault.{WatchFault}
 use Rattle.cueplayer_watch.specs.declared.fault.WatchFault.TheVariants as early
-use Rattle.cueplayer_watch.specs.Lines.{AreFine, Cut, closed, cut_of, in_order}
+use Rattle.input_lines.specs.Lines.{Cut, closed, cut_of}
+use Rattle.cueplayer_watch.specs.Lines.{AreFine}
 use Rattle.cueplayer_watch.specs.Reading.{malformed, spelled_in}
 use Rattle.cueplayer_watch.specs.Watching.{told_at, watch_text}
-
--- the lines of a whole input, in their order, are its lines
-abbrev pub LinesAreOfInput : List ℕ → Type 0
-LinesAreOfInput bytes = in_order (cut_of (closed bytes)).lines ≡ lines_of bytes
 
 -- the next line is refused at this byte: it is line 4,000,000,001; it is longer than 3,072 bytes;
 -- or the byte ends it, and it is malformed

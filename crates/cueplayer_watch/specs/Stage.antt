@@ -6,7 +6,8 @@ use Rattle.devices.specs.Tape.{Tape, with_failure, with_more}
 use Rattle.cueplayer_watch.specs.declared.fault.WatchFault.{WatchFault}
 use Rattle.cueplayer_watch.specs.declared.fault.WatchFault.TheVariants as early
 use Rattle.cueplayer_watch.specs.declared.stage.Stage.{Stage}
-use Rattle.cueplayer_watch.specs.Lines.{AreFine, Cut, with_byte}
+use Rattle.input_lines.specs.Lines.{Cut, with_byte}
+use Rattle.cueplayer_watch.specs.Lines.{AreFine}
 use Rattle.cueplayer_watch.specs.Reading.{Spelled, malformed}
 use Rattle.cueplayer_watch.specs.Runs.{Ends, Leaves}
 use Rattle.cueplayer_watch.specs.Stands.{AllStand}

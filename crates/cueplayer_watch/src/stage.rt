@@ -24,7 +24,7 @@ pub struct Stage {
 
 impl Stage {
     ghost use Rattle.std.specs.Prelude.{◌≡◌, ℕ, List, [], ◌∷◌, OnOk, IfErr};
-    ghost use Rattle.cueplayer_watch.specs.Lines.{no_bytes};
+    ghost use Rattle.input_lines.specs.Lines.{no_bytes};
     ghost use Rattle.cueplayer_watch.specs.Runs.{EndsEarly, WatchesAll};
     ghost use Rattle.cueplayer_watch.specs.Stage.{HasEnded, HasTaken, LastTold, StandsAt, closing};
 

@@ -9,7 +9,7 @@ use Rattle.console_text.specs.Spelling.{reading_of}
 use Rattle.cueplayer_faults.specs.declared.fault.RunFault.TheVariants as fault
 use Rattle.cueplayer_play.specs.declared.fault.PlayFault.TheVariants as early
 use Rattle.cueplayer_play.specs.declared.fault.PlayFault.{PlayFault}
-use Rattle.cueplayer_play.specs.Lines.{Cut}
+use Rattle.input_lines.specs.Lines.{Cut}
 use Rattle.cueplayer_play.specs.Play.{EndsEarly}
 use Rattle.cueplayer_play.specs.Run.{Carried, Emitted, Ran, due_after, history_of, sends_of}
 use Rattle.cueplayer_play.specs.Stage.{Leaves}

@@ -8,7 +8,7 @@ use Rattle.receiver_text.specs.Replies.{slots_line}
 use Rattle.show_core.specs.Tables.{Tables}
 use Rattle.console.specs.Streams.{Production}
 use Rattle.cueplayer_faults.specs.declared.fault.RunFault.{RunFault}
-use Rattle.cueplayer_play.specs.Lines.{Cut}
+use Rattle.input_lines.specs.Lines.{Cut}
 use Rattle.cueplayer_play.specs.Play.{Plays}
 use Rattle.cueplayer_play.specs.Run.{Emitted, Ran, history_of}
 use Rattle.cueplayer_play.specs.Stage.{RunsDry}

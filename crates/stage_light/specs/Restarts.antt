@@ -11,7 +11,7 @@ use Rattle.console_text.specs.Spelling.{reading_of}
 use Rattle.cueplayer_faults.specs.declared.fault.RunFault.{RunFault}
 use Rattle.cueplayer_live.specs.Beginning.{IsFirstOther}
 use Rattle.cueplayer_live.specs.Night.{Lived, Seen, answers_since}
-use Rattle.cueplayer_play.specs.Lines.{cut_of}
+use Rattle.input_lines.specs.Lines.{cut_of}
 use Rattle.cueplayer_play.specs.Run.{Carried, IsRunFrom, due_after, history_from, history_of}
 use Rattle.cueplayer_play.specs.Run.{lines_in, sends_of}
 use Rattle.live_input.specs.Night.{Happening, answers, lines_given}

@@ -1,7 +1,7 @@
 use Rattle.std.proofs.Common.{◌∙◌, ◌++◌, [], take, refl, sym, ap, inl, inr}
 use Rattle.devices.specs.Tape.{with_failure}
 use Rattle.devices.proofs.Tapes.{with_more-none}
-use Rattle.cueplayer_play.specs.Lines.{no_bytes}
+use Rattle.input_lines.specs.Lines.{no_bytes}
 use Rattle.cueplayer_play.proofs.Faults.{handed_on}
 use Rattle.cueplayer_play.proofs.Playing.{closed_with, ends_behind, plays_all, ran_all}
 use Rattle.cueplayer_play.proofs.Playing.{read_end, read_more}

@@ -1,7 +1,7 @@
 use Rattle.std.proofs.Common.{◌∙◌, ◌++◌, [], take, refl, sym, ap, inl, inr}
 use Rattle.devices.specs.Tape.{with_failure}
 use Rattle.devices.proofs.Tapes.{with_more-none}
-use Rattle.cueplayer_watch.specs.Lines.{no_bytes}
+use Rattle.input_lines.specs.Lines.{no_bytes}
 use Rattle.cueplayer_watch.proofs.Faults.{handed_on}
 use Rattle.cueplayer_watch.proofs.Taking.{taken_more, taken_none}
 use Rattle.cueplayer_watch.proofs.Whole.{closed_by, ends_behind, last_all, last_ends, pending_of}

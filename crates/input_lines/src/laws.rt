@@ -1,9 +1,10 @@
 //! What holds of every input. A law does nothing: its contract is the law.
 
 ghost use Rattle.std.specs.Prelude.{ℕ, List};
-ghost use Rattle.cueplayer_play.specs.Play.{LinesAreOfInput};
+ghost use Rattle.input_lines.specs.Lines.{LinesAreOfInput};
 
-/// The lines that a play carries out are those of the whole input.
+/// The lines into which an input is cut byte by byte are those of its whole text, as `ascii_text`
+/// parts them.
 pub fn lines_are_of_input()
     ensures { (bytes : List ℕ) → LinesAreOfInput bytes }
 {}

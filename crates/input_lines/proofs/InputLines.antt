@@ -5,7 +5,7 @@ use Rattle.std.specs.List.{fold, onto_first}
 use Rattle.std.proofs.lemmas.Bool.Decides.{nat_tests}
 use Rattle.std.proofs.lemmas.List.Sums.{fold-append}
 use Rattle.ascii_text.specs.Text.{lines_of}
-use Rattle.cueplayer_play.specs.Lines.{Cut, closed, cut_of, in_order, no_bytes, with_byte}
+use Rattle.input_lines.specs.Lines.{Cut, closed, cut_of, in_order, no_bytes, with_byte}
 
 -- bytes in front of the first of some lines
 abbrev onto : List ℕ → List (List ℕ) → List (List ℕ)
