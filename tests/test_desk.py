@@ -246,7 +246,7 @@ class Ends(DeskTest):
             self.assertEqual((1, "desk: cannot begin: Address already in use\n"),
                              told(self.show, *usual, "--port", port))
         self.show.write_bytes(text("PATCH 1 1<513@FL"))
-        remark = "desk: live: the base, and the show's universes behind it, are 1 to 63999\n"
+        remark = "desk: live: the base, and the show's universes after it, are 1 to 63999\n"
         self.assertEqual((2, "desk: live: base: Universe\n" + remark + over),
                          told(self.show, *usual, "--base", 63999))
         self.show.write_bytes(text("CUE x"))

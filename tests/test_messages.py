@@ -90,7 +90,7 @@ class Messages(unittest.TestCase):
         told = [b"show: NoCue", b"the show has no cue of this number"]
         self.assertEqual((3, told), run("look", "-", "2", "--cid", CID, stdin=SHOW))
         self.assertEqual((3, told), run("slots", "-", "2", stdin=SHOW))
-        told = [b"base: Universe", b"the base, and the show's universes behind it, are 1 to 63999"]
+        told = [b"base: Universe", b"the base, and the show's universes after it, are 1 to 63999"]
         show = text("CUE 1", "PATCH 1 1<513@FL")
         self.assertEqual((2, told), run("slots", "-", "1", "--base", "63999", stdin=show))
 

@@ -55,7 +55,7 @@ impl Failure {
             (RunFault::Show(fault), _) => of_show(fault, show),
             (RunFault::NoCue, _) => plain("the show has no cue of this number"),
             (RunFault::Base, _) => {
-                plain("the base, and the show's universes behind it, are 1 to 63999")
+                plain("the base, and the show's universes after it, are 1 to 63999")
             }
             (RunFault::Line(_), _) => plain(INPUT_LINE),
             (RunFault::Device, Some(kind)) => of_device("standard output", kind),

@@ -192,7 +192,7 @@ pub fn of_setup(fault: Fault) -> Remark {
         Fault::Receivers =>
             "a script has at most eight receivers, each of its own universe, 1 to 63999",
         Fault::NoShow => "a console plays the show that is given",
-        Fault::Universe => "a base and the show's universes behind it are 1 to 63999",
+        Fault::Universe => "a base and the show's universes after it are 1 to 63999",
         Fault::Memory => "the system refused memory",
     };
     plain(rule)

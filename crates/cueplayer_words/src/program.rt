@@ -22,7 +22,7 @@ const CUE: Argument<'static> = Argument::Positional(
 const CID: Argument<'static> = Argument::Required(
     "cid",
     "UUID",
-    "The sender's CID, its own for good: 32 hex digits, as uuidgen prints them",
+    "The sender's own CID, which it keeps: 32 hex digits, as uuidgen prints them",
 );
 
 const TO: Argument<'static> = Argument::Repeated(
@@ -35,13 +35,13 @@ const TO: Argument<'static> = Argument::Repeated(
 const PRIORITY: Argument<'static> = Argument::Optional(
     "priority",
     "P",
-    "The priority, 0 to 200; 100 where it is absent",
+    "The priority, 0 to 200; 100 by default",
 );
 
 const BASE: Argument<'static> = Argument::Optional(
     "base",
     "U",
-    "The number of the first universe, 1 to 63999; 1 where it is absent",
+    "The number of the first universe, 1 to 63999; 1 by default",
 );
 
 const INTERFACE: Argument<'static> = Argument::Optional(
@@ -52,19 +52,19 @@ const INTERFACE: Argument<'static> = Argument::Optional(
 
 const ANY_ROUTE: Argument<'static> = Argument::Flag(
     "any-route",
-    "Sends also where the route to a target leads by another card; wants --interface",
+    "Sends even if the route to a target leads by another card; needs --interface",
 );
 
 const NAME: Argument<'static> = Argument::Optional(
     "name",
     "TEXT",
-    "The source's name on monitors, 1 to 63 bytes; else cueplayer, and of live the machine's too",
+    "The source's name on monitors, 1 to 63 bytes; by default cueplayer, for live with the machine's",
 );
 
 const TTL: Argument<'static> = Argument::Optional(
     "ttl",
     "HOPS",
-    "The TTL of multicast, 1 to 255, for routers on the way; 1 where it is absent",
+    "The TTL of multicast, 1 to 255, for routers on the way; 1 by default",
 );
 
 const RECORD: Argument<'static> = Argument::Optional(
@@ -75,12 +75,12 @@ const RECORD: Argument<'static> = Argument::Optional(
 
 const RESUME: Argument<'static> = Argument::Flag(
     "resume",
-    "Takes up the night of the record, and goes on in it; wants --record",
+    "Takes up the night of the record, and goes on in it; needs --record",
 );
 
 const SPARE: Argument<'static> = Argument::Flag(
     "spare",
-    "Stands by as a spare of the night that it takes up; wants --resume",
+    "Stands by as a spare of the night that it takes up; needs --resume",
 );
 
 const START: Argument<'static> = Argument::Optional(
@@ -98,17 +98,17 @@ const FOLLOW: Argument<'static> = Argument::Optional(
 const PATIENCE: Argument<'static> = Argument::Optional(
     "patience",
     "MS",
-    "How long a main may be silent, 1 to 60000 milliseconds; 1000 where it is absent",
+    "How long a main may be silent, 1 to 60000 milliseconds; 1000 by default",
 );
 
 const END_WITH_INPUT: Argument<'static> = Argument::Flag(
     "end-with-input",
-    "Ends the night where its input ends; without it the light holds",
+    "Ends the night when its input ends; without it the light holds",
 );
 
 const STRICT: Argument<'static> = Argument::Flag(
     "strict",
-    "Refuses a show that may mean something else than is played, as explain tells",
+    "Refuses a show that may mean something else than is played, as explain says",
 );
 
 const JSON: Argument<'static> = Argument::Flag("json", "Prints JSON, for tools");
@@ -142,7 +142,7 @@ const COUNT: Argument<'static> = Argument::Positional(
 const READERS: [Line<'static>; 5] = [
     Line {
         name: "check",
-        about: "Reads a show and prints its counts",
+        about: "Prints what is in a show, or its first fault and the line",
         example: "Example: cueplayer check night.asc --strict",
         arguments: &[SHOW, STRICT],
     },
@@ -154,19 +154,19 @@ const READERS: [Line<'static>; 5] = [
     },
     Line {
         name: "cues",
-        about: "Prints the cue list with its labels and times, and what else the show has",
+        about: "Prints the cue list with its labels and times, for people or for tools",
         example: "Example: cueplayer cues night.asc --json",
         arguments: &[SHOW, JSON],
     },
     Line {
         name: "look",
-        about: "Prints the packets of one cue at full",
+        about: "Prints the packets of one cue at full, in hex, one line a universe",
         example: "Example: cueplayer look night.asc 1.5 --cid c0ffee00-0000-4000-8000-00000000e131",
         arguments: &[SHOW, CUE, CID],
     },
     Line {
         name: "slots",
-        about: "Prints the levels of one cue at full, for people",
+        about: "Prints the levels of one cue at full, slot by slot",
         example: "Example: cueplayer slots night.asc 1.5 --base 1",
         arguments: &[SHOW, CUE, BASE],
     },
@@ -184,7 +184,7 @@ const PLAYERS: [Line<'static>; 2] = [
     },
     Line {
         name: "live",
-        about: "Plays what is typed to the network, by the clock",
+        about: "Plays what is typed to the network by the clock, and records it",
         example: "Example: cueplayer live night.asc --to 10.0.0.7 \
             --cid c0ffee00-0000-4000-8000-00000000e131",
         arguments: &[
@@ -211,7 +211,7 @@ const PLAYERS: [Line<'static>; 2] = [
 const TRIALS: [Line<'static>; 3] = [
     Line {
         name: "rehearse",
-        about: "Rehearses a script of consoles, receivers and a network in memory",
+        about: "Rehearses a night in memory: consoles, receivers, and what the network does",
         example: "Example: cueplayer rehearse night.asc backup.script",
         arguments: &[SHOW_FILE, SCRIPT],
     },
@@ -223,7 +223,7 @@ const TRIALS: [Line<'static>; 3] = [
     },
     Line {
         name: "watch",
-        about: "Prints what changes on universes, from the datagrams of standard input",
+        about: "Prints what changes on universes by the clock, from datagrams on standard input",
         example: "Example: cueplayer watch 1 2 <night.lines",
         arguments: &[UNIVERSES],
     },
