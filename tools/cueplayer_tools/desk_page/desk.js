@@ -220,7 +220,7 @@ function showState(state) {
 function linkWords() {
   if (page.isCrowded) return "One page too many";
   if (!page.heard) return "Waiting for the desk";
-  return isSilent() ? "No word from the desk" : "Desk is there";
+  return isSilent() ? "No word from the desk" : "Connected";
 }
 
 function watch() {
