@@ -243,7 +243,7 @@ class Ends(DeskTest):
         self.assertEqual((1, "desk: not an IPv4 address: 'x'\n"), told(self.show, "--to", "x"))
         with socket.create_server(("127.0.0.1", 0)) as taken:
             port = taken.getsockname()[1]
-            self.assertEqual((1, "desk: cannot begin: Address already in use\n"),
+            self.assertEqual((1, "desk: cannot start: Address already in use\n"),
                              told(self.show, *usual, "--port", port))
         self.show.write_bytes(text("PATCH 1 1<513@FL"))
         remark = "desk: live: the base, and the show's universes after it, are 1 to 63999\n"
