@@ -297,7 +297,7 @@ class TooMany(DeskTest):
         self.assertEqual(204, page.command("go"))
         page.wait(current="1.5", waiting=0)
         words = run_tool("desk", "--help").stdout
-        self.assertRegex(" ".join(words.split()), r"--double-go MS a second GO .* \(400\)")
+        self.assertRegex(" ".join(words.split()), r"--double-go MS refuse a second GO .* \(400\)")
         for word in ("-1", "x", "10001", "1.5"):
             done = run_tool("desk", self.show, "--to", self.to, f"--double-go={word}")
             self.assertEqual(2, done.returncode)
