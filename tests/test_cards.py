@@ -205,6 +205,7 @@ class Watch(CardsTest):
             self.no_network_yet,
             self.node_that_refuses,
             self.no_such_node,
+            self.no_such_gateway,
             self.one_of_two_cards,
             self.backup,
         )
@@ -375,6 +376,17 @@ class Watch(CardsTest):
         venue.stage.ip("addr add 10.101.2.77/24 dev port")
         night.told("10.101.2.77 answers")
         self.assertEqual({"10.101.2.77"}, hosts(venue.stage.wait()))
+
+    def no_such_gateway(self, kept):
+        """A node is behind a gateway whose address nobody has; then somebody has it."""
+        venue = Venue(kept)
+        venue.console.ip("route add 10.101.9.0/24 via 10.101.2.254 dev lit")
+        night = Night(kept, venue, self.show, "--to", "10.101.9.7")
+        nobody = "no answer from 10.101.2.254: nothing has that address"
+        with self.soon(night, f"{nobody}; check the gateway to 10.101.9.7"):
+            pass
+        venue.stage.ip("addr add 10.101.2.254/24 dev port")
+        night.told("10.101.9.7 answers")
 
     def backup(self, kept):
         """A night that follows another one watches its own card."""
