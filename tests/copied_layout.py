@@ -33,9 +33,9 @@ echo "7 passed, 0 failed"
 """
 
 CRATES = """# A comment: no crate.
-show_core: arrayvec
+show: arrayvec
 low: thiserror
-middle: low show_core
+middle: low show
 cueplayer: middle clap
 aside: low
 """
@@ -62,8 +62,8 @@ class CopiedLayout(unittest.TestCase):
         self.built = self.top / "crates/cueplayer/out/cueplayer"
         self.program = self.top / "dist/cueplayer"
         self.provenance = self.top / "dist/PROVENANCE"
-        self.source = self.top / "crates/show_core/src/lib.rt"
-        for crate in ("cueplayer", "middle", "show_core", "low", "aside"):
+        self.source = self.top / "crates/show/src/lib.rt"
+        for crate in ("cueplayer", "middle", "show", "low", "aside"):
             (self.top / "crates" / crate / "src").mkdir(parents=True)
             (self.top / "crates" / crate / "src/lib.rt").write_text(crate)
         (self.top / "crates.txt").write_text(CRATES)

@@ -13,7 +13,7 @@ from copied_layout import PROVER, CopiedLayout
 # What is built has to be a program of Linux: `strip` takes no script. These stand for two.
 ONE, OTHER = shutil.which("true"), shutil.which("cat")
 
-CRATES = ("cueplayer", "low", "middle", "show_core")
+CRATES = ("cueplayer", "low", "middle", "show")
 FIRST = "proving and building cueplayer: "
 LAST = "dist/ has the program: ./cueplayer runs it"
 
@@ -109,11 +109,11 @@ class Building(CopiedLayout):
         """Proved or kept, as it comes, with the time so far."""
         self.write(
             "proving",
-            proved("low") + kept("show_core") + "sleep 1.1\n" + proved("middle", "cueplayer"),
+            proved("low") + kept("show") + "sleep 1.1\n" + proved("middle", "cueplayer"),
         )
         lines = [
             "   1 of 4  low",
-            "   2 of 4  show_core",
+            "   2 of 4  show",
             "   3 of 4  middle",
             "   4 of 4  cueplayer",
         ]

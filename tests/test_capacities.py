@@ -129,7 +129,7 @@ class Capacities(PreloadTest):
     def test_desks(self):
         """By both faders: from the line that stands behind the opening to the one behind the
         end."""
-        (place,) = built_programs(self, ["desk_tests::night"])
+        (place,) = built_programs(self, ["test_desk::night"])
         for test in ("night_of_plain", "night_of_step"):
             with self.subTest(test):
                 status, out = self.run_to_its_end(program_of(place), f"tests::night::{test}")

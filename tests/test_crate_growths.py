@@ -34,39 +34,39 @@ BUILDERS = (
 )
 EACH = ("each_growth_refused",)
 TESTED = {
-    "show_tests::show": Tested((*(f"Show::{name}" for name in BUILDERS), "Show::clone_in"), EACH),
-    "show_tests::line": Tested(("Pairs::append_to",), ("pairs_appended",)),
-    "desk_tests::fade": Tested(
+    "test_show::shows": Tested((*(f"Show::{name}" for name in BUILDERS), "Show::clone_in"), EACH),
+    "test_show::line": Tested(("Pairs::append_to",), ("pairs_appended",)),
+    "test_desk::fades": Tested(
         ("Fader::new",),
         ("each_growth_of_plain_refused", "each_growth_of_step_refused"),
     ),
-    "desk_tests::patch": Tested(("Rig::new",), EACH),
-    "desk_tests::playback": Tested(("Playback::new",), EACH),
-    "stream_tests::source": Tested(("Sender::open",), EACH),
-    "stream_tests::queue": Tested(("LineQueue::new",), EACH),
-    "desk_tests::desk": Tested(("Desk::open",), EACH),
-    "console_tests::world": Tested(("rehearse",), EACH),
-    "show_tests::reader": Tested(
+    "test_desk::patches": Tested(("Rig::new",), EACH),
+    "test_desk::playbacks": Tested(("Playback::new",), EACH),
+    "test_stream::source": Tested(("Sender::open",), EACH),
+    "test_stream::queue": Tested(("LineQueue::new",), EACH),
+    "test_desk::desks": Tested(("Desk::open",), EACH),
+    "test_console::world": Tested(("rehearse",), EACH),
+    "test_show::reader": Tested(
         ("read_show",), ("any_order", "lines_between", "skipped_lines")
     ),
-    "console_tests::script": Tested(
+    "test_console::script": Tested(
         ("read_script",), ("first_malformed_line", "forms_at_their_limits", "strays")
     ),
-    "program_tests::runs": Tested(
+    "test_program::runs": Tested(
         ("check", "look", "slots"),
         (
             *("each_device_fails", "look_one", "listening::each_device_of_listen_fails"),
             "listening::listen_three",
         ),
     ),
-    "program_tests::watching": Tested(("watch",), ("watch_desk",)),
-    "program_tests::explain": Tested(("explain", "push_shown"), ("faults", "notes")),
-    "program_tests::cues": Tested(
+    "test_program::watching": Tested(("watch",), ("watch_desk",)),
+    "test_program::explain": Tested(("explain", "push_shown"), ("faults", "notes")),
+    "test_program::cues": Tested(
         ("cues", "cues_json", "push_decimal", "push_number"), ("faults", "lists")
     ),
-    "program_tests::play": Tested(("play", "Console::open"), ("rows::each_growth_refused",)),
-    "program_tests::live": Tested(("Night::open",), ("rows::each_growth_refused",)),
-    "program_tests::rehearsal": Tested(
+    "test_program::play": Tested(("play", "Console::open"), ("rows::each_growth_refused",)),
+    "test_program::live": Tested(("Night::open",), ("rows::each_growth_refused",)),
+    "test_program::rehearsing": Tested(
         ("rehearse_text",), ("devices_fail::each_device_fails", "rows::rehearse_basic")
     ),
 }
@@ -81,22 +81,22 @@ IN_THE_PROGRAM = {
 # Calls that take no memory once something is open: tests of them that ask for as much as one that
 # only opens it.
 OPENED = {
-    "desk_tests::desk": ("opened", ("goto_mid_fade", "goto_in_mid_fade", "submaster_and_grand")),
-    "stream_tests::receiver": (
+    "test_desk::desks": ("opened", ("goto_mid_fade", "goto_in_mid_fade", "submaster_and_grand")),
+    "test_stream::receiver": (
         "every_law",
         ("four_sources", "source_loss", "stranger_termination"),
     ),
 }
 # Which take long.
 LEFT_OUT = {
-    "program_tests::live": (
+    "test_program::live": (
         *("devices_fail::each_look_at_the_clock_fails", "devices_fail::each_wait_fails"),
         *("again::night_goes_on_behind_each_line", "long::more_lines_than_play_takes"),
     ),
-    "program_tests::play": ("devices_fail::each_send_fails",),
+    "test_program::play": ("devices_fail::each_send_fails",),
 }
 # Whose tests make what they hand in by growths of their own: want of memory is then their answer.
-HANDED_ON = {"program_tests::watching"}
+HANDED_ON = {"test_program::watching"}
 # How a test fails: by a failed assertion, or by an error that it answers.
 ABORTED, ANSWERED = -signal.SIGABRT, 101
 WANT_OF_MEMORY = re.compile(r"[Ee]rror: (AllocError|AllocFailed|Memory)\b")

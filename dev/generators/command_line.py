@@ -6,7 +6,7 @@ from typing import NamedTuple
 
 from generators.marks import TOP
 
-SOURCE = TOP / "crates/cueplayer_words/src/program.rt"
+SOURCE = TOP / "crates/cmd_words/src/program.rt"
 
 # A string of Rust: a backslash at the end of a line joins it to the next.
 STRING = r'"((?:[^"\\]|\\.|\\\n)*)"'

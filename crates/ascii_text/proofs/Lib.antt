@@ -3,3 +3,4 @@ pub mod Hex
 pub mod Marks
 pub mod Parts
 mod Rows
+pub mod InputLines

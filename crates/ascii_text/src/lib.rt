@@ -2,7 +2,8 @@
 //!
 //! [`Lines`] parts a text, and [`Words`] a line: the slices that they give are the text's own, so
 //! nothing is copied. A form such as [`level`] or [`time`] has a value exactly where its spelling
-//! has one. Which forms a line wants is not known here.
+//! has one. Which forms a line wants is not known here. The lines of an input that comes byte by
+//! byte are those of its whole text (`laws`).
 //!
 //! ```
 //! let line = Lines::new(b"CUE 1.5 ! the lamp\n").next().unwrap();
@@ -14,6 +15,7 @@
 #![tactic(auto)]
 
 mod forms;
+pub mod laws;
 mod scan;
 mod text;
 

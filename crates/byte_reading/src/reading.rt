@@ -11,7 +11,7 @@ const BLOCK: usize = 65536;
 pub enum Unread {
     /// A read failed, for the system's reason.
     Device(ErrorKind),
-    /// A growth was refused.
+    /// An allocation failed.
     Memory,
 }
 
@@ -31,7 +31,7 @@ impl From<AllocError> for Unread {
 ///
 /// # Errors
 ///
-/// `Device` where a read fails; `Memory` where a growth was refused.
+/// `Device` where a read fails; `Memory` if an allocation failed.
 pub fn first_bytes<R: Read>(alloc: Global, reader: &mut R, most: usize) -> Result<Vec<u8>, Unread>
     ensures most { IfOk result (λ bytes. length bytes.items ≤ most) }
     ensures first { IfOk result (λ bytes. IfSome (R.remaining reader.old)

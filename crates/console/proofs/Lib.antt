@@ -1,2 +1,4 @@
 pub mod Ticks
 pub mod Streams
+mod Numbers
+mod Rows

@@ -1,13 +1,13 @@
 ghost use Rattle.std.specs.Prelude.{◌≡◌, ◌↔◌, None, Some, Err, IsFalse, List, [], ◌∷◌, IfOk, OnOk};
 ghost use Rattle.std.specs.Prelude.{OnErr, MatchResult, is_some};
 ghost use Rattle.std.specs.Coded.{codes};
-ghost use Rattle.show_core.specs.contracts.show.Show as show_model;
-ghost use Rattle.patch_core.specs.Frame.{is_base};
-ghost use Rattle.patch_core.specs.declared.fault.RigFault.TheVariants.{Universe};
-ghost use Rattle.playback_core.specs.Placed.{IsAt};
-ghost use Rattle.playback_core.specs.Played.{current_after};
-ghost use Rattle.master_core.specs.Settings as masters_stand;
-ghost use Rattle.desk_core.specs.Played.{Act, ended, moves, outcome, refusal, settings, ticked};
+ghost use Rattle.show.specs.contracts.show.Show as show_model;
+ghost use Rattle.patch.specs.Frame.{is_base};
+ghost use Rattle.patch.specs.declared.fault.RigFault.TheVariants.{Universe};
+ghost use Rattle.playback.specs.Placed.{IsAt};
+ghost use Rattle.playback.specs.Played.{current_after};
+ghost use Rattle.masters.specs.Settings as masters_stand;
+ghost use Rattle.desk.specs.Played.{Act, ended, moves, outcome, refusal, settings, ticked};
 ghost use Rattle.console.specs.ConsoleState.{ConsoleState};
 ghost use Rattle.console.specs.Offering.{Offers as OffersTo};
 ghost use Rattle.console.specs.Stands.{StandsFor};
@@ -15,13 +15,13 @@ ghost use Rattle.console.specs.Streams.{Production, dues_at, order_at, tick_at};
 
 use crate::offers::Offers;
 use crate::tick::offer_all;
-use desk_core::{Command, Desk, Refused, Ticked};
-use fade_core::Fader;
-use master_core::Masters;
-use patch_core::RigFault;
-use playback_core::Place;
+use desk::{Command, Desk, Refused, Ticked};
+use fade::Fader;
+use masters::Masters;
+use patch::RigFault;
+use playback::Place;
 use sacn_source::{Identity, Link, Sender};
-use show_core::Show;
+use show::Show;
 use std::alloc::{AllocError, Global};
 use std::fmt;
 use std::marker::Model;
@@ -62,7 +62,7 @@ impl<F: Fader> Console<F> {
     /// # Errors
     ///
     /// `Universe` where `base`, or `base` plus an ordinal with a patched dimmer, is not 1 to 63999;
-    /// else `Memory` where a growth was refused.
+    /// else `Memory` if an allocation failed.
     pub fn open(alloc: Global, show: &Show, base: u16, source: Identity) -> Result<Self, RigFault>
         ensures stands { IfOk result (λ console. StandsFor F.stands_for
             (record { show = show.now; base = base; source = source }) console []) }

@@ -1,6 +1,6 @@
 ghost use Rattle.std.specs.Prelude.{◌≡◌, ◌≢◌, ℕ, List, ◌∷◌, Contains};
-ghost use Rattle.desk_core.specs.Meaning.{universe_numbers};
-ghost use Rattle.desk_core.specs.Played.{Act};
+ghost use Rattle.desk.specs.Meaning.{universe_numbers};
+ghost use Rattle.desk.specs.Played.{Act};
 ghost use Rattle.sacn_source.specs.Offering.{Offers as OffersOne};
 ghost use Rattle.sacn_source.specs.Stands.{lane_of, universes_of};
 ghost use Rattle.console.specs.Offering.{Offers as OffersTo};
@@ -8,8 +8,8 @@ ghost use Rattle.console.specs.Stands.{HasStream, HasStreams, IsTick};
 ghost use Rattle.console.specs.Streams.{Due, Production, due_at, dues_at, tick_at};
 
 use crate::offers::Offers;
-use desk_core::{Desk, Ticked};
-use fade_core::Fader;
+use desk::{Desk, Ticked};
+use fade::Fader;
 use sacn_source::{Link, Offered, Sender};
 
 // Offers each universe what is due on it, at a tick that the desk answered so.

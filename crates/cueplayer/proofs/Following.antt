@@ -1,12 +1,12 @@
 -- A night that has followed a main can follow on, and can be played.
 use Rattle.std.proofs.Common.{List, ◌++◌}
 use Rattle.devices.specs.Send.{Send}
-use Rattle.fade_core.specs.Level.{Start}
-use Rattle.cueplayer_live.specs.Beginning.{HasTakenUp}
-use Rattle.cueplayer_live.specs.Following.{Follows}
-use Rattle.cueplayer_live.specs.declared.follow.Pause.{Pause}
-use Rattle.cueplayer_live.specs.declared.main_console.Led.{Led}
-use Rattle.cueplayer_live.specs.declared.night.Night.{Night}
+use Rattle.fade.specs.Level.{Start}
+use Rattle.cmd_live.specs.Beginning.{HasTakenUp}
+use Rattle.cmd_live.specs.Following.{Follows}
+use Rattle.cmd_live.specs.declared.follow.Pause.{Pause}
+use Rattle.cmd_live.specs.declared.main_console.Led.{Led}
+use Rattle.cmd_live.specs.declared.night.Night.{Night}
 use Rattle.cueplayer.specs.Opening.{CanFollow, IsPlayable}
 use Rattle.live_input.specs.Recall.{recall_of}
 

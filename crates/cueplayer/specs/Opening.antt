@@ -1,11 +1,11 @@
 -- A night that was opened.
 use Rattle.std.specs.Prelude.{◌≡◌, List}
-use Rattle.fade_core.specs.Level.{Start}
+use Rattle.fade.specs.Level.{Start}
 use Rattle.console.specs.Streams.{Production}
 use Rattle.live_input.specs.Night.{Happening}
-use Rattle.cueplayer_live.specs.declared.night.Night.{Night}
-use Rattle.cueplayer_live.specs.Beginning.{HasTakenUp, IsReady}
-use Rattle.cueplayer_live.specs.Stands.{StandsFor}
+use Rattle.cmd_live.specs.declared.night.Night.{Night}
+use Rattle.cmd_live.specs.Beginning.{HasTakenUp, IsReady}
+use Rattle.cmd_live.specs.Stands.{StandsFor}
 
 -- it stands for what happened to it so far, and no packet was lost: so it can be played
 abbrev pub IsPlayable : {F : Type 0} → (F → List Start → Type 0) → Night F → Type 0

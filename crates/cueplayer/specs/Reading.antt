@@ -1,6 +1,6 @@
 -- What is read of files and of standard input.
 use Rattle.std.specs.Prelude.{◌≡◌, ◌⊎◌}
-use Rattle.cueplayer_faults.specs.declared.fault.RunFault.TheVariants as run
+use Rattle.cmd_faults.specs.declared.fault.RunFault.TheVariants as run
 use Rattle.cueplayer.specs.declared.failure.Failure.{Failure}
 
 -- a text could not be read whole: a device failed, or a growth was refused

@@ -1,8 +1,8 @@
 use crate::failure::{Failure, JobFault};
 use crate::remark::{Remark, of_name, push_shown};
 use arrayvec::{ArrayString, ArrayVec};
-use cueplayer_faults::RunFault;
-use cueplayer_words::{Name, Night};
+use cmd_faults::RunFault;
+use cmd_words::{Name, Night};
 use link_notices::PathState;
 use network_tables::CardState;
 use show_reader::read_show;

@@ -1,7 +1,7 @@
 use crate::failure::{Failure, JobFault};
 use crate::refusal::Refusal;
 use arrayvec::ArrayString;
-use cueplayer_faults::RunFault;
+use cmd_faults::RunFault;
 use std::fmt::Write;
 use std::io::ErrorKind;
 use system_devices::{DeviceFault, LockFault, RecordFault, SocketFault};

@@ -1,9 +1,9 @@
 ghost use Rattle.std.specs.Prelude.{◌≡◌};
-ghost use Rattle.cueplayer_faults.specs.declared.fault.RunFault.TheVariants as run;
+ghost use Rattle.cmd_faults.specs.declared.fault.RunFault.TheVariants as run;
 
 use crate::refusal::Refusal;
 use crate::remark::{Remark, of_device, of_line, of_setup, of_show, plain};
-use cueplayer_faults::RunFault;
+use cmd_faults::RunFault;
 use show_reader::ShowFault;
 use std::io::ErrorKind;
 

@@ -5,7 +5,7 @@ use crate::remark::{Remark, push_shown};
 use crate::screen::Screen;
 use arrayvec::ArrayVec;
 use ascii_text::{Words, moment};
-use cueplayer_live::{Booth, Heard};
+use cmd_live::{Booth, Heard};
 use devices::{Link, LinkFault};
 use live_input::Reason;
 use live_machine::{Came, NightClock, NightInput};

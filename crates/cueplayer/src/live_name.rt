@@ -1,6 +1,6 @@
 use crate::source_name::name_on;
-use cueplayer_words::Name;
-use record_head::{HeadName, RecordHead};
+use cmd_words::Name;
+use night_record::{HeadName, RecordHead};
 use std::alloc::AllocError;
 use std::fs::metadata;
 use std::str;

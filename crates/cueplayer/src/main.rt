@@ -24,8 +24,8 @@ mod start_lines;
 mod words;
 
 use clap::Error;
-use cueplayer_faults::{RunFault, exit_status};
-use cueplayer_words::{WordsFault, read_words};
+use cmd_faults::{RunFault, exit_status};
+use cmd_words::{WordsFault, read_words};
 use devices::Output;
 use failure::{Failure, JobFault};
 use jobs::run;

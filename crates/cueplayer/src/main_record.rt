@@ -4,7 +4,7 @@ use crate::live_booth::LiveBooth;
 use crate::live_job::MainWords;
 use crate::start_lines::clock_text;
 use arrayvec::{ArrayString, ArrayVec};
-use cueplayer_live::{Led, MainConsole};
+use cmd_live::{Led, MainConsole};
 use live_input::InputLine;
 use live_machine::Came;
 use night_record::{Asked, NightLines, is_silent, leading_moment, silence_of};

@@ -1,7 +1,7 @@
 use crate::cards::{card_text, host_text};
 use crate::screen::Screen;
 use arrayvec::ArrayString;
-use cueplayer_words::Night;
+use cmd_words::Night;
 use std::fmt::Write;
 use system_devices::{Cards, Network, Path, Source, is_multicast, route_to};
 use targets::{Target, Targets};

@@ -1,7 +1,7 @@
 ghost use Rattle.std.specs.Prelude.{IfOk, []};
 ghost use Rattle.console.specs.Streams.{Production};
-ghost use Rattle.cueplayer_live.specs.Beginning.{IsReady};
-ghost use Rattle.cueplayer_live.specs.Stands.{StandsFor};
+ghost use Rattle.cmd_live.specs.Beginning.{IsReady};
+ghost use Rattle.cmd_live.specs.Stands.{StandsFor};
 ghost use Rattle.cueplayer.specs.Opening.{CanFollow, IsPlayable};
 
 use crate::failure::{Failure, JobFault};
@@ -9,12 +9,11 @@ use crate::live_job::LiveWords;
 use crate::refusal::Refusal;
 use crate::source_name::source_name;
 use arrayvec::ArrayString;
-use cueplayer_faults::RunFault;
-use cueplayer_live::{Night, Silent};
-use fade_core::Fader;
+use cmd_faults::RunFault;
+use cmd_live::{Night, Silent};
+use fade::Fader;
 use jiff::Timestamp;
-use night_record::{RecordOpening, TakenUp, Unfit};
-use record_head::{HeadLines, HeadName, RecordHead};
+use night_record::{HeadLines, HeadName, RecordHead, RecordOpening, TakenUp, Unfit};
 use sacn_source::Identity;
 use sha2::{Digest, Sha256};
 use std::fmt::Write;

@@ -1,6 +1,6 @@
 ghost use Rattle.std.specs.Prelude.{[]};
 
-use cueplayer_live::{Led, MainConsole};
+use cmd_live::{Led, MainConsole};
 use live_input::InputLine;
 use std::io::ErrorKind;
 use std::thread::sleep;

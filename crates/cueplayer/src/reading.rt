@@ -3,8 +3,8 @@ ghost use Rattle.cueplayer.specs.Reading.{IsUnread};
 
 use crate::failure::Failure;
 use byte_reading::{Unread, first_bytes};
-use cueplayer_faults::RunFault;
-use cueplayer_rehearse::LONGEST_SCRIPT;
+use cmd_faults::RunFault;
+use cmd_rehearse::LONGEST_SCRIPT;
 use show_reader::LONGEST_TEXT;
 use std::fs::File;
 
@@ -35,7 +35,7 @@ pub fn show_text(rt: &HostRuntime, name: &str) -> Result<Vec<u8>, Failure>
 ///
 /// # Errors
 ///
-/// `Device` where the file cannot be opened or read; `Memory` where a growth was refused.
+/// `Device` where the file cannot be opened or read; `Memory` if an allocation failed.
 pub fn file_text(rt: &HostRuntime, name: &str) -> Result<Vec<u8>, Failure>
     ensures most { IfOk result (λ bytes. length bytes.items ≤ 1048577) }
     ensures fault { IfErr result IsUnread }

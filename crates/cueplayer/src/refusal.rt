@@ -1,6 +1,6 @@
 use crate::remark::{Remark, joined, of_line, of_name, plain};
 use arrayvec::ArrayString;
-use record_head::{Difference, RecordHead};
+use night_record::{Difference, RecordHead};
 use std::fmt::Write;
 use uuid::Uuid;
 

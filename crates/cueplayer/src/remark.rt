@@ -1,12 +1,12 @@
 use arrayvec::{ArrayString, ArrayVec};
 use ascii_text::Lines;
-use cueplayer_explain::Weight;
-use cueplayer_words::{Form, Misfit};
+use cmd_explain::Weight;
+use cmd_words::{Form, Misfit};
 use live_machine::reason;
+use rehearsal_faults::Fault;
 use show_reader::ShowFault;
 use std::fmt::Write;
 use std::io::ErrorKind;
-use wire_faults::Fault;
 
 // Of a file's text and of a name so many bytes are shown.
 const SHOWN: usize = 200;

@@ -2,7 +2,7 @@ ghost use Rattle.std.specs.Prelude.{◌≡◌, ◌≤◌, IfOk, filter, length, 
 ghost use Rattle.cueplayer.specs.Source.{behind_program, is_graphic, name_on, source_name};
 
 use arrayvec::ArrayVec;
-use cueplayer_words::Night;
+use cmd_words::Night;
 use std::alloc::{AllocError, Global};
 
 /// The name of who sends, for people to read.

@@ -47,7 +47,7 @@ impl<P: Pipe + Drop> LineQueue<P> {
     ///
     /// # Errors
     ///
-    /// Where a growth was refused.
+    /// If an allocation failed.
     pub fn new(alloc: Global, pipe: P, notice: Notice) -> Result<Self, AllocError>
         ensures stands { IfOk result (λ queue. P.tells queue.pipe → IsFresh (P.tape queue.pipe)
             → StandsFor queue (P.tape queue.pipe) []) }

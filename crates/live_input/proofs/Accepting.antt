@@ -5,12 +5,12 @@ use Rattle.std.specs.Prelude.{is_none}
 use Rattle.std.specs.Option.{option_map_or}
 use Rattle.std.proofs.lemmas.Bool.{cond_both}
 use Rattle.std.proofs.lemmas.Bool.Decides.{nat_tests}
-use Rattle.show_core.specs.Tables.{Tables}
-use Rattle.master_core.specs.Settings.{Setting}
-use Rattle.desk_core.specs.declared.command.Command.{Command}
-use Rattle.desk_core.specs.declared.command.Command.TheVariants.{End, Master}
-use Rattle.desk_core.specs.Played as desk
-use Rattle.desk_core.specs.Played.{Act, last_moment, last_tick, refusal}
+use Rattle.show.specs.Tables.{Tables}
+use Rattle.masters.specs.Settings.{Setting}
+use Rattle.desk.specs.declared.command.Command.{Command}
+use Rattle.desk.specs.declared.command.Command.TheVariants.{End, Master}
+use Rattle.desk.specs.Played as desk
+use Rattle.desk.specs.Played.{Act, last_moment, last_tick, refusal}
 use Rattle.live_input.specs.declared.progress.Stage.{Stage}
 use Rattle.live_input.specs.declared.progress.Stage.TheVariants.{On, Dark, Ended}
 use Rattle.live_input.specs.Laws.{IsDim, accepted, since_end, taken}

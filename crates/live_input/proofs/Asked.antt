@@ -3,9 +3,9 @@ use Rattle.std.proofs.Common.{◌≡◌, ◌≤◌, ℕ, Bool, true, false, refl
 use Rattle.std.specs.Prelude.{codes, nat_le}
 use Rattle.std.proofs.lemmas.Bool.{cond_both, leb-true}
 use Rattle.ascii_text.specs.Text.{words_of}
-use Rattle.desk_core.specs.declared.command.Command.{Command}
-use Rattle.desk_core.specs.declared.command.Command.TheVariants.{End}
-use Rattle.console_text.specs.Spelling.{command_of}
+use Rattle.desk.specs.declared.command.Command.{Command}
+use Rattle.desk.specs.declared.command.Command.TheVariants.{End}
+use Rattle.console.specs.Spelling.{command_of}
 use Rattle.live_input.specs.declared.request.Request.{Request}
 use Rattle.live_input.specs.declared.request.Request.TheVariants.{Leave, Finish, Order}
 use Rattle.live_input.specs.Keys.{without_keys}

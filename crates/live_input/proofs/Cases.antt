@@ -4,8 +4,8 @@ use Rattle.std.proofs.Common.{length, Some, None}
 use Rattle.std.specs.Prelude.{◌&&◌, nat_le, unwrap_or}
 use Rattle.std.proofs.lemmas.Bool.{and_parts, cond_both, le-leb, leb-true}
 use Rattle.ascii_text.specs.Text.{words_of}
-use Rattle.desk_core.specs.declared.command.Command.{Command}
-use Rattle.console_text.specs.Spelling.{command_of}
+use Rattle.desk.specs.declared.command.Command.{Command}
+use Rattle.console.specs.Spelling.{command_of}
 use Rattle.live_input.specs.Night.{Answer, Happening, answer_to, answers, asked, at_moment}
 use Rattle.live_input.specs.Laws.{IsOn}
 use Rattle.live_input.specs.Night.{before_lines, due, ends_with_input, goes_first}

@@ -14,9 +14,9 @@ use Rattle.std.proofs.lemmas.Fmt.{length-decimal-le}
 use Rattle.std.proofs.lemmas.List.Elements.{All-append, All-cons, All-drop, All-head, All-nil}
 use Rattle.std.proofs.lemmas.List.Elements.{All-push, All-tail, All-take, All-weaker}
 use Rattle.ascii_text.specs.Text.{lines_of, words_of}
-use Rattle.desk_core.specs.declared.command.Command.{Command}
-use Rattle.console_text.specs.Spelling as spelling
-use Rattle.console_text.specs.Spelling.{call_of, command_of, is_malformed, reading_of}
+use Rattle.desk.specs.declared.command.Command.{Command}
+use Rattle.console.specs.Spelling as spelling
+use Rattle.console.specs.Spelling.{call_of, command_of, is_malformed, reading_of}
 use Rattle.live_input.specs.Laws.{AreFine, IsSpelled, Spells, text_of}
 use Rattle.live_input.specs.Night.{Answer, Happening, answer_to, answers, asked, at_moment}
 use Rattle.live_input.specs.Night.{bytes_come, lines_given, lines_left}

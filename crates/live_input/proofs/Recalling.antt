@@ -3,14 +3,14 @@ use Rattle.std.proofs.Common.{◌≡◌, ℕ, ◌+◌, refl, ap, sym, ◌∙◌,
 use Rattle.std.proofs.Common.{drop, decimal, Bool, not, true, false, Option, Some, None}
 use Rattle.std.specs.Prelude.{IfNone, is_some, option_map}
 use Rattle.std.proofs.lemmas.List.{append_cancel_right}
-use Rattle.desk_core.specs.declared.command.Command.{Command}
-use Rattle.desk_core.specs.declared.command.Command.TheVariants.{Go, Back, Goto, GotoIn, Sub}
-use Rattle.desk_core.specs.declared.command.Command.TheVariants.{Group, Master, End}
-use Rattle.console_text.specs.declared.call.Call.{Call}
-use Rattle.console_text.specs.declared.call.Call.TheVariants.{Order, Tick}
-use Rattle.console_text.specs.declared.reading.Reading.{Reading}
-use Rattle.console_text.specs.declared.reading.Reading.TheVariants.{At, Blank, Malformed}
-use Rattle.console_text.specs.Spelling.{reading_of}
+use Rattle.desk.specs.declared.command.Command.{Command}
+use Rattle.desk.specs.declared.command.Command.TheVariants.{Go, Back, Goto, GotoIn, Sub}
+use Rattle.desk.specs.declared.command.Command.TheVariants.{Group, Master, End}
+use Rattle.console.specs.declared.call.Call.{Call}
+use Rattle.console.specs.declared.call.Call.TheVariants.{Order, Tick}
+use Rattle.console.specs.declared.reading.Reading.{Reading}
+use Rattle.console.specs.declared.reading.Reading.TheVariants.{At, Blank, Malformed}
+use Rattle.console.specs.Spelling.{reading_of}
 use Rattle.live_input.specs.declared.given.Given.{Given}
 use Rattle.live_input.specs.declared.given.GivenLine.{GivenLine}
 use Rattle.live_input.specs.declared.given.Given.TheVariants.{Help, Line, Over, Refused, Until}

@@ -7,10 +7,10 @@ use Rattle.std.proofs.lemmas.Bool.Decides.{nat_tests}
 use Rattle.std.proofs.lemmas.List.Elements.{All-head}
 use Rattle.std.proofs.Math.Seq.{drop-append-add, drop-append_seam, drop-length}
 use Rattle.ascii_text.specs.Text.{words_of}
-use Rattle.desk_core.specs.declared.command.Command.{Command}
-use Rattle.desk_core.specs.declared.command.Command.TheVariants.{End, Master}
-use Rattle.console_text.specs.declared.call.Call.TheVariants as call
-use Rattle.console_text.specs.Spelling.{command_of}
+use Rattle.desk.specs.declared.command.Command.{Command}
+use Rattle.desk.specs.declared.command.Command.TheVariants.{End, Master}
+use Rattle.console.specs.declared.call.Call.TheVariants as call
+use Rattle.console.specs.Spelling.{command_of}
 use Rattle.live_input.specs.declared.keys.Part.TheVariants.{Text}
 use Rattle.live_input.specs.declared.progress.Stage.{Stage}
 use Rattle.live_input.specs.declared.progress.Stage.TheVariants.{On, Dark, Ended}

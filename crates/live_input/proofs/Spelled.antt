@@ -18,10 +18,10 @@ use Rattle.std.proofs.lemmas.Slice.Eq.{bytes_eq-Decides}
 use Rattle.std.proofs.lemmas.Str.Parse.{IsNumeralModel, numerals_by_value}
 use Rattle.ascii_text.specs.Forms.{moment_of, same_word}
 use Rattle.ascii_text.specs.Text.{is_bang, is_separator, is_word, words_of}
-use Rattle.desk_core.specs.declared.command.Command.{Command}
-use Rattle.console_text.specs.declared.call.Call.TheVariants.{Order}
-use Rattle.console_text.specs.Spelling as spelling
-use Rattle.console_text.specs.Spelling.{call_of, command_of, command_with, reading_of}
+use Rattle.desk.specs.declared.command.Command.{Command}
+use Rattle.console.specs.declared.call.Call.TheVariants.{Order}
+use Rattle.console.specs.Spelling as spelling
+use Rattle.console.specs.Spelling.{call_of, command_of, command_with, reading_of}
 use Rattle.live_input.specs.Night.{at_moment}
 
 -- ---- the digits of a number

@@ -5,15 +5,15 @@ use Rattle.std.specs.Prelude.{None, All, length, codes, flat_map, reverse}
 use Rattle.std.specs.Prelude.{Bool, is_none, option_map, replicate, if◌then◌else◌}
 use Rattle.std.specs.List.{filter_map, list_any}
 use Rattle.ascii_text.specs.Text.{lines_of, words_of}
-use Rattle.show_core.specs.Tables.{Tables}
-use Rattle.master_core.specs.Settings.{Setting, grand_after}
-use Rattle.desk_core.specs.Played as desk
-use Rattle.desk_core.specs.Played.{Act, refusal}
-use Rattle.desk_core.specs.declared.command.Command.{Command}
-use Rattle.desk_core.specs.declared.command.Command.TheVariants.{End, Master}
-use Rattle.console_text.specs.declared.call.Call.TheVariants.{Order, Tick}
-use Rattle.console_text.specs.declared.reading.Reading.TheVariants.{At}
-use Rattle.console_text.specs.Spelling.{command_of, is_malformed, reading_of}
+use Rattle.show.specs.Tables.{Tables}
+use Rattle.masters.specs.Settings.{Setting, grand_after}
+use Rattle.desk.specs.Played as desk
+use Rattle.desk.specs.Played.{Act, refusal}
+use Rattle.desk.specs.declared.command.Command.{Command}
+use Rattle.desk.specs.declared.command.Command.TheVariants.{End, Master}
+use Rattle.console.specs.declared.call.Call.TheVariants.{Order, Tick}
+use Rattle.console.specs.declared.reading.Reading.TheVariants.{At}
+use Rattle.console.specs.Spelling.{command_of, is_malformed, reading_of}
 use Rattle.live_input.specs.Night.{Answer, Happening, answer_to, answers, at_moment, bytes_come}
 use Rattle.live_input.specs.Night.{ends_with_input, lines_answered, lines_given, stage}
 use Rattle.live_input.specs.Night.{asked, due, is_dark, is_over, lines_left, now, to_line}

@@ -1,11 +1,11 @@
 -- A record whose lines are given again. Lines, happenings and answers have the newest first.
 use Rattle.std.specs.Prelude.{◌≡◌, ◌≤◌, ℕ, ◌+◌, List, [], ◌∷◌, ◌++◌, codes, decimal, drop, length}
-use Rattle.desk_core.specs.declared.command.Command.TheVariants.{End}
-use Rattle.console_text.specs.declared.call.Call.{Call}
-use Rattle.console_text.specs.declared.call.Call.TheVariants.{Order, Tick}
-use Rattle.console_text.specs.declared.reading.Reading.{Reading}
-use Rattle.console_text.specs.declared.reading.Reading.TheVariants.{At}
-use Rattle.console_text.specs.Spelling.{reading_of}
+use Rattle.desk.specs.declared.command.Command.TheVariants.{End}
+use Rattle.console.specs.declared.call.Call.{Call}
+use Rattle.console.specs.declared.call.Call.TheVariants.{Order, Tick}
+use Rattle.console.specs.declared.reading.Reading.{Reading}
+use Rattle.console.specs.declared.reading.Reading.TheVariants.{At}
+use Rattle.console.specs.Spelling.{reading_of}
 use Rattle.live_input.specs.Night.{Happening, answers, asked, came, lines_given, lines_left}
 
 -- the words of a call are typed: what stands in its line behind the moment. An `end` is typed as

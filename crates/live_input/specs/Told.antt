@@ -1,7 +1,7 @@
 -- What is given of an answer, and what is kept of the answers so far.
 use Rattle.std.specs.Prelude.{◌≡◌, ◌<◌, ◌^◌, List, [], ◌∷◌, ◌++◌, ℕ, codes, Option, Some, None}
-use Rattle.console_text.specs.declared.reading.Reading.TheVariants.{At}
-use Rattle.console_text.specs.Spelling.{reading_of}
+use Rattle.console.specs.declared.reading.Reading.TheVariants.{At}
+use Rattle.console.specs.Spelling.{reading_of}
 use Rattle.live_input.specs.declared.given.Given.{Given}
 use Rattle.live_input.specs.declared.given.GivenLine.{GivenLine}
 use Rattle.live_input.specs.declared.given.Given.TheVariants.{Line, Where, Help, Refused, Until, Over}

@@ -1,13 +1,13 @@
 ghost use Rattle.std.specs.Prelude.{◌≡◌, ◌≤◌, ◌<◌, ◌^◌, [], ◌∷◌, ◌++◌, nat_le, length, Some};
 ghost use Rattle.ascii_text.specs.Text.{words_of};
-ghost use Rattle.console_text.specs.Spelling.{call_of};
+ghost use Rattle.console.specs.Spelling.{call_of};
 ghost use Rattle.live_input.specs.Night.{at_moment};
 ghost use Rattle.live_input.specs.Night as night;
 ghost use Rattle.live_input.specs.Told.{IsGiven};
 
 use crate::reason::Reason;
 use arrayvec::ArrayVec;
-use console_text::Call;
+use console::Call;
 use itoa::Buffer;
 
 /// The text of a line, with its LF: a moment and the words of a call.

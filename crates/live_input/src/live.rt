@@ -10,8 +10,8 @@ use crate::given::{Given, GivenLine, with_end};
 use crate::keys::has_keys;
 use crate::progress::Progress;
 use crate::typed::TypedLines;
-use console_text::{Call, Reading, read_call};
-use desk_core::{Command, MOMENTS};
+use console::{Call, Reading, read_call};
+use desk::{Command, MOMENTS};
 use itoa::Buffer;
 use std::marker::Model;
 

@@ -10,8 +10,8 @@ ghost use Rattle.live_input.specs.declared.given.Given.TheVariants.{Until};
 use crate::given::{Given, given_line, shown};
 use crate::keys::without_keys;
 use crate::request::{Request, request_of};
-use console_text::Call;
-use desk_core::{Command, ENDING_TICKS, SHORTEST_GAP};
+use console::Call;
+use desk::{Command, ENDING_TICKS, SHORTEST_GAP};
 
 // Ticks come on a grid, 40 a second.
 const GRID: u64 = 25;

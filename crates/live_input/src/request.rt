@@ -6,8 +6,8 @@ ghost use Rattle.live_input.specs.Night as night;
 use crate::given::fits;
 use crate::reason::{Reason, reason_of};
 use ascii_text::{Words, same_word};
-use console_text::command_in;
-use desk_core::Command;
+use console::command_in;
+use desk::Command;
 
 /// What a typed line asks for.
 #[derive(Clone, Copy, Debug)]

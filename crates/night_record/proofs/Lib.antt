@@ -3,3 +3,5 @@ mod Parting
 mod Coming
 mod Heads
 mod Rows
+mod ReadBack
+mod HeadRows

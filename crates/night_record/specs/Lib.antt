@@ -4,3 +4,6 @@ pub mod Unfit
 pub mod Opening
 pub mod Asked
 pub mod Silence
+pub mod Head
+pub mod Difference
+pub mod Reading

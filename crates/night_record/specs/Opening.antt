@@ -4,8 +4,8 @@ use Rattle.std.specs.Prelude.{take, drop, Option, Some, None, Result, Ok, Err, i
 use Rattle.std.specs.Prelude.{nat_eq, nat_lt}
 use Rattle.std.specs.List.{position_or_len, starts_with}
 use Rattle.ascii_text.specs.Text.{is_newline}
-use Rattle.record_head.specs.Head.{head_text}
-use Rattle.record_head.specs.declared.head.RecordHead.{RecordHead}
+use Rattle.night_record.specs.Head.{head_text}
+use Rattle.night_record.specs.declared.head.RecordHead.{RecordHead}
 use Rattle.night_record.specs.Cut.{whole_length}
 use Rattle.night_record.specs.declared.opening.RecordOpening.{RecordOpening}
 use Rattle.night_record.specs.declared.opening.RecordOpening.TheVariants.{Begins, GoesOn}

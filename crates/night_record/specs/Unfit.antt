@@ -1,9 +1,9 @@
 -- Whose night a record is, and whether it fits.
 use Rattle.std.specs.Prelude.{◌≡◌, ◌≢◌, List, ℕ, true, false, Some, None, Result, Ok, Err, bytes_eq}
-use Rattle.record_head.specs.Head.{HasForm, IsHead, head_text}
-use Rattle.record_head.specs.Difference.{difference}
-use Rattle.record_head.specs.declared.head.RecordHead.{RecordHead}
-use Rattle.record_head.specs.declared.difference.Difference.TheVariants as part
+use Rattle.night_record.specs.Head.{HasForm, IsHead, head_text}
+use Rattle.night_record.specs.Difference.{difference}
+use Rattle.night_record.specs.declared.head.RecordHead.{RecordHead}
+use Rattle.night_record.specs.declared.difference.Difference.TheVariants as part
 use Rattle.night_record.specs.declared.unfit.Unfit.{Unfit}
 use Rattle.night_record.specs.declared.unfit.Unfit.TheVariants as own
 use Rattle.night_record.specs.declared.unfit.UnfitMain.{UnfitMain}

@@ -6,6 +6,21 @@
 //! it, and what of it is kept; [`own_head`] and [`main_head`] whether it may be taken up or
 //! followed; [`Asked`] what is typed meanwhile; and [`is_silent`] when a main is followed no more.
 //!
+//! The head of a record are the first two lines of its file, which say whose night it is.
+//! [`RecordHead::lines`] writes them, each with its LF, and [`RecordHead::read`] reads them without
+//! the last one: what was written is read back, and no other text is read. Both are comments to
+//! `play`, which takes lines of at most 200 bytes.
+//!
+//! ```text
+//! ! cueplayer record 1: show SHA256HEX
+//! ! cid UUID, priority P, base U, name NAME, started MOMENT
+//! ```
+//!
+//! The checksum and the CID are in small letters, the UUID is hyphenated, and the numbers have no
+//! zeros in front. The name is what stands between `, name ` and the last 34 bytes, `, started `
+//! and the moment: so it may hold commas, and has at most 63 bytes. A name with an LF would make
+//! three lines of the head; what comes before that LF is read as no head.
+//!
 //! ```
 //! let mut lines = NightLines::new();
 //! lines.look(&mut record)?;
@@ -14,16 +29,23 @@
 #![tactic(auto)]
 
 mod asked;
+mod difference;
 mod growth;
+mod head;
 mod head_lines;
 mod lines;
 pub mod memory;
 mod opening;
+mod read;
 mod silence;
+#[cfg(test)]
+mod tests;
 mod unfit;
 
 pub use asked::Asked;
+pub use difference::Difference;
 pub use growth::Growth;
+pub use head::{HeadLines, HeadName, RecordHead};
 pub use head_lines::{FirstLines, first_lines, head_in};
 pub use lines::{LineFront, NightLines};
 pub use opening::{RecordOpening, TakenUp};

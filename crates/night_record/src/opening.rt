@@ -2,10 +2,10 @@ ghost use Rattle.std.specs.Prelude.{◌≡◌, length};
 ghost use Rattle.night_record.specs.Cut.{whole_length};
 ghost use Rattle.night_record.specs.Opening.{IsOpening, is_part_of_head};
 
+use crate::head::RecordHead;
 use crate::head_lines::head_in;
 use crate::unfit::{Unfit, own_head};
 use memchr::memrchr;
-use record_head::RecordHead;
 
 // A head ends with a moment of so many bytes, its LF included.
 const STARTED: usize = 25;

@@ -1,6 +1,7 @@
 ghost use Rattle.night_record.specs.Unfit.{IsMain, IsOwn};
 
-use record_head::{Difference, RecordHead};
+use crate::difference::Difference;
+use crate::head::RecordHead;
 
 /// Why a night does not go on by a record.
 #[derive(Debug, Drop)]

@@ -5,3 +5,6 @@ pub mod Taking
 pub mod Merging
 pub mod Independent
 pub mod Rows
+pub mod SlotsLines
+pub mod Digits
+mod TextRows

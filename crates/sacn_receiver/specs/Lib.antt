@@ -7,3 +7,4 @@ pub mod Records
 pub mod Shown
 pub mod Source
 pub mod Taking
+pub mod Replies

@@ -42,7 +42,7 @@ impl Sender {
     ///
     /// # Errors
     ///
-    /// `AllocError` where a growth was refused.
+    /// `AllocError` if an allocation failed.
     pub fn open(alloc: Global, who: Identity, universes: &[u16]) -> Result<Sender, AllocError>
         requires range { All (λ universe. (1 ≤ universe) × (universe ≤ 63999)) universes.now }
         ensures universes { IfOk result (λ sender. universes_of sender ≡ universes.now) }

@@ -15,7 +15,7 @@ use Rattle.ascii_text.specs.Forms.{is_run, digits_of, whole_of, is_point, is_col
 use Rattle.ascii_text.specs.Forms.{fraction_of}
 use Rattle.ascii_text.specs.Forms.{sum_of}
 use Rattle.ascii_text.specs.Forms.{scaled_of, cue_number_of, seconds_of, time_of}
-use Rattle.show_core.specs.Numbers.{is_cue_number, is_time}
+use Rattle.show.specs.Numbers.{is_cue_number, is_time}
 
 -- the number, if there is one, is at most this
 abbrev IsUpTo : ℕ → Option ℕ → Type 0

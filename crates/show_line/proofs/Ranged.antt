@@ -8,7 +8,7 @@ use Rattle.std.proofs.lemmas.Bool.Decides.{nat_tests}
 use Rattle.std.proofs.lemmas.List.Elements.{All-nil, All-cons, All-weaker}
 use Rattle.std.proofs.lemmas.Option.{none-some}
 use Rattle.ascii_text.specs.Forms.{same_word, number_of, level_of, time_of, cue_number_of}
-use Rattle.show_core.specs.Numbers.{is_within, is_time}
+use Rattle.show.specs.Numbers.{is_within, is_time}
 use Rattle.show_line.specs.declared.fault.LineFault.{LineFault}
 use Rattle.show_line.specs.declared.fault.LineFault.TheVariants.{BadNumber, BadTime}
 use Rattle.show_line.specs.declared.fault.LineFault.TheVariants.{Ident as BadIdent}

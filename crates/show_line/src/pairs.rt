@@ -8,7 +8,7 @@ ghost use Rattle.show_line.specs.Pairs.{desk_limits, pair_fault, pairs_in};
 use crate::fault::{LineFault, level_fault, lower, number_fault, number_in};
 use arrayvec::ArrayVec;
 use ascii_text::{Words, level, number};
-use show_core::CHANNELS;
+use show::CHANNELS;
 use std::alloc::AllocError;
 use std::marker::Model;
 
@@ -66,7 +66,7 @@ impl<'a> Pairs<'a> {
     ///
     /// # Errors
     ///
-    /// Where a growth was refused; then none of them stands there.
+    /// If an allocation failed; then none of them stands there.
     pub fn append_to(mut self, list: &mut Vec<(u16, u8)>) -> Result<(), AllocError>
         ensures ok { OnOk result (list.new.items ≡ list.old.items ++ self.entry) }
         ensures unchanged { OnErr result (list.new.items ≡ list.old.items) }

@@ -9,7 +9,7 @@ use Rattle.std.specs.FinMap as maps
 use Rattle.std.proofs.lemmas.Bool.Decides.{nat_tests}
 use Rattle.show_reader.specs.Terms.{PatchMap, Tables, Record, Cue, Statement, Levels, Patches}
 use Rattle.show_reader.specs.Terms.{Clears, All, Triple}
-use Rattle.show_core.specs.Builders.{patched_with, all_patched}
+use Rattle.show.specs.Builders.{patched_with, all_patched}
 use Rattle.show_reader.specs.Keys.{Key, There, Level, Dimmer, has_record, found}
 use Rattle.show_reader.specs.Meaning.{after, pair_says, triple_says, says, cue_count, is_there}
 use Rattle.show_reader.specs.Shows.{IsShowOf}

@@ -1,5 +1,5 @@
 ghost use Rattle.std.specs.Prelude.{◌≡◌, false, OnOk, IfErr, None};
-ghost use Rattle.show_core.specs.declared.fault.BuildFault.TheVariants as build_fault;
+ghost use Rattle.show.specs.declared.fault.BuildFault.TheVariants as build_fault;
 ghost use Rattle.show_line.specs.declared.fault.LineFault.TheVariants as line_fault;
 ghost use Rattle.show_line.specs.Sound.{IsSound};
 ghost use Rattle.show_reader.specs.declared.apply.Refusal.TheVariants as refusal;
@@ -8,7 +8,7 @@ ghost use Rattle.show_reader.specs.Applied.{applied, refused_by, with_record, wi
 ghost use Rattle.show_reader.specs.Reads.{meant, IsDraft, IsSettled, Explains};
 
 use crate::draft::Draft;
-use show_core::{BuildFault, Show};
+use show::{BuildFault, Show};
 use show_line::{Cleared, LineFault, Record, Statement, Table};
 use std::alloc::AllocError;
 

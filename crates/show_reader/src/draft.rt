@@ -8,13 +8,13 @@ ghost use Rattle.show_reader.specs.Reading.{grows};
 ghost use Rattle.show_reader.specs.Applied.{applied, with_pairs};
 ghost use Rattle.show_reader.specs.Reads.{meant, IsDraft, IsSettled};
 
-use show_core::{BuildFault, Show};
+use show::{BuildFault, Show};
 use show_line::{Pairs, Record, Triple, Triples};
 use std::alloc::{AllocError, Global};
 
 /// A show in the making. The levels of a record, and patches, are kept aside, so that the show
 /// takes many at once: whatever their order, it then makes room for them once. Their numbers are in
-/// their ranges, so that it refuses them for want of memory alone.
+/// their ranges, so that it refuses them only when memory runs out.
 #[derive(Drop)]
 pub struct Draft {
     pub show: Show,

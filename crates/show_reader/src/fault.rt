@@ -36,7 +36,7 @@ pub enum ShowFault {
     /// groups 1 to 500), or a CUE line would make the 2,001st cue.
     #[error("line {0}: beyond a limit")]
     Limit(u32),
-    /// A growth was refused; it may come before a later faulty line is seen.
+    /// An allocation failed; it may come before a later faulty line is seen.
     #[error("out of memory")]
     Memory,
 }

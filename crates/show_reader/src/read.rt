@@ -15,7 +15,7 @@ use crate::apply::{Refusal, apply};
 use crate::draft::Draft;
 use crate::fault::{LONGEST_TEXT, ShowFault};
 use ascii_text::{Line, Lines};
-use show_core::Show;
+use show::Show;
 use show_line::{Keyword, LineFault, Record, Statement, read_line};
 use std::alloc::Global;
 
@@ -150,7 +150,7 @@ fn read_lines(alloc: Global, text: &[u8]) -> Result<Reader, ShowFault>
 /// # Errors
 ///
 /// The fault of the first faulty line, as [`ShowFault`] lists them; `TooLong` before any line.
-/// `Memory` is answered only where a growth was refused. No clause sees the memory that is left,
+/// `Memory` is answered only if an allocation failed. No clause sees the memory that is left,
 /// but a text of which no line above its first faulty one opens a record, lists a channel or
 /// patches a dimmer is never answered so; that a reading at ample memory ends well is tested.
 pub fn read_show(alloc: Global, text: &[u8]) -> Result<Loaded, ShowFault>

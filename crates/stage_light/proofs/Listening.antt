@@ -6,9 +6,9 @@ use Rattle.devices.specs.Tape.{Tape, with_more}
 use Rattle.sacn_receiver.specs.Arrivals.{Arrival, heard_all, last_arrival, NeverFall}
 use Rattle.sacn_receiver.specs.Shown.{shown_slots}
 use Rattle.sacn_receiver.specs.Taking.{heard as heard_one}
-use Rattle.receiver_text.specs.Replies.{slots_line}
-use Rattle.cueplayer_play.specs.Run.{sends_of}
-use Rattle.cueplayer_runs.specs.Listening.{listen_text, replies, history}
+use Rattle.sacn_receiver.specs.Replies.{slots_line}
+use Rattle.cmd_play.specs.Run.{sends_of}
+use Rattle.cmd_listen.specs.Listening.{listen_text, replies, history}
 use Rattle.stage_light.specs.Plays.{Play, IsPlay}
 use Rattle.stage_light.specs.Traffic.{arrivals_in, datagrams_in}
 use Rattle.stage_light.specs.Programs.{ListenLaw, PlayToListen}

@@ -4,23 +4,23 @@ use Rattle.std.proofs.Common.{◌++◌, append-nil, Option, Some, None, Result, 
 use Rattle.std.specs.Prelude.{◌-◌, codes, is_none, option_map, if◌then◌else◌}
 use Rattle.std.proofs.lemmas.List.{append_cancel_left, append_cancel_right}
 use Rattle.ascii_text.specs.Text.{words_of}
-use Rattle.console_text.specs.declared.call.Call.{Call}
-use Rattle.console_text.specs.declared.call.Call.TheVariants.{Order, Tick}
-use Rattle.console_text.specs.declared.reading.Reading.TheVariants.{At}
-use Rattle.console_text.specs.Spelling.{act_of, command_of, reading_of}
-use Rattle.cueplayer_faults.specs.declared.fault.RunFault.TheVariants as run
-use Rattle.cueplayer_live.specs.Booth.{BoothState}
-use Rattle.cueplayer_faults.specs.declared.fault.RunFault.{RunFault}
-use Rattle.cueplayer_live.specs.Night.{LivedOn, Lives, Seen, answers_since, seen}
-use Rattle.cueplayer_live.proofs.Living.{history_joined, history_since}
-use Rattle.cueplayer_play.specs.Run.{history_of, sends_of, taken, taken_by}
+use Rattle.console.specs.declared.call.Call.{Call}
+use Rattle.console.specs.declared.call.Call.TheVariants.{Order, Tick}
+use Rattle.console.specs.declared.reading.Reading.TheVariants.{At}
+use Rattle.console.specs.Spelling.{act_of, command_of, reading_of}
+use Rattle.cmd_faults.specs.declared.fault.RunFault.TheVariants as run
+use Rattle.cmd_live.specs.Booth.{BoothState}
+use Rattle.cmd_faults.specs.declared.fault.RunFault.{RunFault}
+use Rattle.cmd_live.specs.Night.{LivedOn, Lives, Seen, answers_since, seen}
+use Rattle.cmd_live.proofs.Living.{history_joined, history_since}
+use Rattle.cmd_play.specs.Run.{history_of, sends_of, taken, taken_by}
 use Rattle.devices.specs.Send.{Send}
-use Rattle.desk_core.specs.declared.answer.Refused.{Refused}
-use Rattle.desk_core.specs.declared.command.Command.{Command}
-use Rattle.desk_core.specs.declared.command.Command.TheVariants.{End, Master}
-use Rattle.desk_core.specs.Meaning.{latest_frame}
-use Rattle.desk_core.specs.Played.{Act, order, refusal}
-use Rattle.show_core.specs.Tables.{Tables}
+use Rattle.desk.specs.declared.answer.Refused.{Refused}
+use Rattle.desk.specs.declared.command.Command.{Command}
+use Rattle.desk.specs.declared.command.Command.TheVariants.{End, Master}
+use Rattle.desk.specs.Meaning.{latest_frame}
+use Rattle.desk.specs.Played.{Act, order, refusal}
+use Rattle.show.specs.Tables.{Tables}
 use Rattle.live_input.specs.Keys.{without_keys}
 use Rattle.live_input.specs.Laws as live
 use Rattle.live_input.specs.Laws.{accepted}

@@ -8,10 +8,10 @@ use Rattle.std.specs.Ordering.{nat_cmp, eq_by_cmp}
 use Rattle.std.proofs.lemmas.Bool.Decides.{nat_tests}
 use Rattle.std.proofs.lemmas.List.{get_or-map, length-map}
 use Rattle.std.proofs.lemmas.List.Folds.{list_any_at, list_any_none}
-use Rattle.desk_core.specs.Meaning.{frame, universe_numbers}
-use Rattle.patch_core.proofs.Frames.{same_key}
-use Rattle.show_core.specs.Readers.{has_dimmer_in, ordinal_of}
-use Rattle.show_core.specs.Tables.{PatchMap, Tables}
+use Rattle.desk.specs.Meaning.{frame, universe_numbers}
+use Rattle.patch.proofs.Frames.{same_key}
+use Rattle.show.specs.Readers.{has_dimmer_in, ordinal_of}
+use Rattle.show.specs.Tables.{PatchMap, Tables}
 use Rattle.show_line.specs.Said.{desk_limits}
 use Rattle.show_reader.specs.Keys.{Dimmer}
 use Rattle.show_reader.specs.Reading.{fault_of}

@@ -5,14 +5,14 @@ use Rattle.devices.specs.Send.{Send}
 use Rattle.devices.specs.Tape.{Tape}
 use Rattle.console.specs.Offering.{AreOffered}
 use Rattle.console.specs.Streams.{Production}
-use Rattle.console_text.specs.Spelling.{reading_of}
-use Rattle.cueplayer_faults.specs.declared.fault.RunFault.TheVariants as fault
-use Rattle.cueplayer_play.specs.declared.fault.PlayFault.TheVariants as early
-use Rattle.cueplayer_play.specs.declared.fault.PlayFault.{PlayFault}
-use Rattle.input_lines.specs.Lines.{Cut}
-use Rattle.cueplayer_play.specs.Play.{EndsEarly}
-use Rattle.cueplayer_play.specs.Run.{Carried, Emitted, Ran, due_after, history_of, sends_of}
-use Rattle.cueplayer_play.specs.Stage.{Leaves}
+use Rattle.console.specs.Spelling.{reading_of}
+use Rattle.cmd_faults.specs.declared.fault.RunFault.TheVariants as fault
+use Rattle.cmd_play.specs.declared.fault.PlayFault.TheVariants as early
+use Rattle.cmd_play.specs.declared.fault.PlayFault.{PlayFault}
+use Rattle.ascii_text.specs.Lines.{Cut}
+use Rattle.cmd_play.specs.Play.{EndsEarly}
+use Rattle.cmd_play.specs.Run.{Carried, Emitted, Ran, due_after, history_of, sends_of}
+use Rattle.cmd_play.specs.Stage.{Leaves}
 use Rattle.stage_light.specs.Programs.{HasPlayed, RunsArePlays, DryRunsArePlays, PlaysArePlays}
 
 pub runs_plays : RunsArePlays

@@ -3,9 +3,9 @@ use Rattle.std.proofs.Common.{◌≡◌, ℕ, suc, refl, ap, sym, arith, List, [
 use Rattle.std.proofs.Common.{◌∙◌}
 use Rattle.std.specs.Prelude.{max}
 use Rattle.sacn_source.specs.Stream.{Packet}
-use Rattle.wire_world.specs.Delivery as wire
-use Rattle.wire_world.specs.Delivery.{Delivery}
-use Rattle.wire_world.specs.Laws.{IsFreshIn}
+use Rattle.rehearsal.specs.Delivery as wire
+use Rattle.rehearsal.specs.Delivery.{Delivery}
+use Rattle.rehearsal.specs.Laws.{IsFreshIn}
 use Rattle.stage_light.specs.Traffic.{Receipt, newest_of, IsInWindow, arrival_of_newest, IsFresh}
 use Rattle.stage_light.specs.Traffic.{is_silent}
 use Rattle.stage_light.proofs.Sources as sources

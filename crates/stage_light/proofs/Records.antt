@@ -3,7 +3,7 @@ use Rattle.std.proofs.Common.{◌≡◌, ℕ, ap, List, [], ◌∷◌, ◌++◌,
 use Rattle.std.specs.Prelude.{◌==◌}
 use Rattle.std.proofs.lemmas.Bool.{cond_both}
 use Rattle.std.proofs.lemmas.List.Sums.{fold-append}
-use Rattle.input_lines.specs.Lines.{Cut, cut_of, with_byte}
+use Rattle.ascii_text.specs.Lines.{Cut, cut_of, with_byte}
 use Rattle.live_input.specs.Recall.{AreRecalled, IsRecalled, recall_of}
 use Rattle.live_input.proofs.Records.{records_recalled}
 use Rattle.stage_light.specs.Restarts.{RecordsAreTakenUp}

@@ -11,10 +11,10 @@ use Rattle.std.proofs.lemmas.List.{drop-map, get_or-drop, length-drop}
 use Rattle.std.proofs.lemmas.List.Elements.{All-contains}
 use Rattle.std.proofs.lemmas.List.Kept.{AllPairs-from_increasing}
 use Rattle.devices.specs.Send.{Send}
-use Rattle.patch_core.specs.Frame.{is_universe}
-use Rattle.desk_core.specs.declared.answer.Refused.{Refused}
-use Rattle.desk_core.specs.Played.{Act, refusal}
-use Rattle.desk_core.proofs.Universes.{numbers_in, numbers_rise}
+use Rattle.patch.specs.Frame.{is_universe}
+use Rattle.desk.specs.declared.answer.Refused.{Refused}
+use Rattle.desk.specs.Played.{Act, refusal}
+use Rattle.desk.proofs.Universes.{numbers_in, numbers_rise}
 use Rattle.sacn_source.specs.Identity.{Identity}
 use Rattle.sacn_source.specs.Stream.{Packet}
 use Rattle.sacn_source.specs.declared.offered.Offered.{Offered}
@@ -25,19 +25,19 @@ use Rattle.sacn_receiver.proofs.Members.{In, by_test}
 use Rattle.console.specs.Offering.{AreOffered, none, quiet, sent}
 use Rattle.console.specs.Streams.{Due, Production, due_at, dues_at, universes_of}
 use Rattle.console.proofs.Streams as console
-use Rattle.console_text.specs.declared.call.Call.{Call}
-use Rattle.console_text.specs.declared.call.Call.TheVariants.{Order, Tick}
-use Rattle.console_text.specs.declared.reading.Reading.{Reading}
-use Rattle.console_text.specs.declared.reading.Reading.TheVariants.{At, Blank, Malformed}
-use Rattle.console_text.specs.Spelling.{act_of, reading_of}
-use Rattle.cueplayer_live.proofs.Living.{history_joined}
-use Rattle.cueplayer_play.specs.Run.{Carried, IsRun, IsRunFrom, due_after, due_by, history_from}
-use Rattle.cueplayer_play.specs.Run.{history_of, lines_in, sends_of}
-use Rattle.wire_world.specs.Datagrams.{packet_bytes}
-use Rattle.wire_world.specs.Sends.{numbered}
-use Rattle.wire_world.specs.World.{IsConsole, plays}
-use Rattle.wire_world.proofs.Linked.{sent_due}
-use Rattle.wire_world.proofs.Wire.{is_data, played_in}
+use Rattle.console.specs.declared.call.Call.{Call}
+use Rattle.console.specs.declared.call.Call.TheVariants.{Order, Tick}
+use Rattle.console.specs.declared.reading.Reading.{Reading}
+use Rattle.console.specs.declared.reading.Reading.TheVariants.{At, Blank, Malformed}
+use Rattle.console.specs.Spelling.{act_of, reading_of}
+use Rattle.cmd_live.proofs.Living.{history_joined}
+use Rattle.cmd_play.specs.Run.{Carried, IsRun, IsRunFrom, due_after, due_by, history_from}
+use Rattle.cmd_play.specs.Run.{history_of, lines_in, sends_of}
+use Rattle.rehearsal.specs.Datagrams.{packet_bytes}
+use Rattle.rehearsal.specs.Sends.{numbered}
+use Rattle.rehearsal.specs.World.{IsConsole, plays}
+use Rattle.rehearsal.proofs.Linked.{sent_due}
+use Rattle.rehearsal.proofs.Wire.{is_data, played_in}
 use Rattle.stage_light.specs.Plays.{IsPlay, history}
 use Rattle.stage_light.specs.Restarts.{AreFew, BreaksArePlays, PlaysGoOn, play_on}
 

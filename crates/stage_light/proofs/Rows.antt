@@ -5,10 +5,10 @@ use Rattle.std.proofs.Common.{◌≡◌, ℕ, zero, suc, ◌<◌, ◌≤◌, Lis
 use Rattle.std.proofs.Common.{replicate, refl, arith, ◌∙◌, sym, subst, false, inl, ap, ◌⊎◌}
 use Rattle.std.proofs.Common.{◌++◌}
 use Rattle.std.specs.Prelude.{codes, slice_index}
-use Rattle.desk_core.specs.declared.command.Command.TheVariants.{Go}
-use Rattle.desk_core.specs.Meaning.{dark}
-use Rattle.desk_core.proofs.Small.{small, cues, numbers, first_at, frame_1000}
-use Rattle.desk_core.proofs.Small.{frame_2000, no_move}
+use Rattle.desk.specs.declared.command.Command.TheVariants.{Go}
+use Rattle.desk.specs.Meaning.{dark}
+use Rattle.desk.proofs.Small.{small, cues, numbers, first_at, frame_1000}
+use Rattle.desk.proofs.Small.{frame_2000, no_move}
 use Rattle.devices.specs.Send.{Send}
 use Rattle.sacn_source.specs.declared.offered.Offered.TheVariants.{Sent}
 use Rattle.sacn_source.specs.Identity.{Identity}
@@ -17,18 +17,18 @@ use Rattle.sacn_source.specs.Stream.{Packet, live_packet}
 use Rattle.sacn_receiver.specs.Shown.{merged}
 use Rattle.console.specs.Offering.{AreOffered, none, sent}
 use Rattle.console.specs.Streams.{Production, Due}
-use Rattle.console_text.specs.declared.call.Call.TheVariants.{Order, Tick}
-use Rattle.console_text.specs.declared.reading.Reading.TheVariants.{At}
-use Rattle.console_text.specs.Spelling.{reading_of}
-use Rattle.cueplayer_play.specs.Run.{Carried, IsRun, due_after, history_of}
-use Rattle.wire_world.specs.Datagrams.{packet_bytes}
-use Rattle.wire_world.proofs.Wire.{is_data, IsSendable}
+use Rattle.console.specs.declared.call.Call.TheVariants.{Order, Tick}
+use Rattle.console.specs.declared.reading.Reading.TheVariants.{At}
+use Rattle.console.specs.Spelling.{reading_of}
+use Rattle.cmd_play.specs.Run.{Carried, IsRun, due_after, history_of}
+use Rattle.rehearsal.specs.Datagrams.{packet_bytes}
+use Rattle.rehearsal.proofs.Wire.{is_data, IsSendable}
 use Rattle.stage_light.specs.Plays.{Play, IsPlay, ArePlays, stream_for, frame_for}
 use Rattle.stage_light.specs.Traffic.{Traffic, TracedArrival, datagrams_in, receipts, receipts_of}
 use Rattle.stage_light.specs.Traffic.{IsInWindow, slots_at}
 use Rattle.stage_light.specs.Laws.{HearsOne, HearsAll, AreSettled, CidsDiffer, lights, IsOneOf}
-use Rattle.receiver_text.specs.Replies.{slots_line}
-use Rattle.cueplayer_runs.specs.Listening.{listen_text, replies}
+use Rattle.sacn_receiver.specs.Replies.{slots_line}
+use Rattle.cmd_listen.specs.Listening.{listen_text, replies}
 use Rattle.stage_light.proofs.Listening.{listen_law}
 use Rattle.stage_light.proofs.Showing.{headline, silence_dark, window_law, merge_law}
 

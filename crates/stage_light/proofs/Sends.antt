@@ -7,8 +7,8 @@ use Rattle.std.specs.Option.{option_map}
 use Rattle.std.proofs.lemmas.Bool.{eqb-true, cond_both, cond-true}
 use Rattle.std.proofs.lemmas.Option.{slice_get_within, get_or_from_slice_get, same_Some}
 use Rattle.devices.specs.Send.{Send}
-use Rattle.desk_core.specs.declared.answer.Refused.{Refused}
-use Rattle.desk_core.specs.Played.{Act, ended, refusal}
+use Rattle.desk.specs.declared.answer.Refused.{Refused}
+use Rattle.desk.specs.Played.{Act, ended, refusal}
 use Rattle.sacn_source.specs.declared.offered.Offered.{Offered}
 use Rattle.sacn_source.specs.Identify.{options_of}
 use Rattle.sacn_source.specs.Identity.{Identity}
@@ -18,21 +18,21 @@ use Rattle.sacn_receiver.proofs.Members.{by_test, In, in_from_place}
 use Rattle.console.specs.Offering.{AreOffered, none, quiet, sent}
 use Rattle.console.specs.Streams.{Production, due_at, dues_at, universes_of}
 use Rattle.console.proofs.Streams as console
-use Rattle.desk_core.specs.Meaning.{latest_frame}
-use Rattle.console_text.specs.declared.call.Call.{Call}
-use Rattle.console_text.specs.declared.call.Call.TheVariants.{Order, Tick}
-use Rattle.console_text.specs.declared.reading.Reading.{Reading}
-use Rattle.console_text.specs.declared.reading.Reading.TheVariants.{At, Blank, Malformed}
-use Rattle.console_text.specs.Spelling.{act_of, reading_of}
-use Rattle.cueplayer_play.specs.Run.{Carried, IsRun, history_of, lines_in, sends_of, taken_by}
-use Rattle.cueplayer_play.specs.Run.{taken, due_by, due_after}
-use Rattle.wire_world.specs.Datagrams.{packet_bytes}
-use Rattle.wire_world.specs.Happened.{packets_of}
-use Rattle.wire_world.specs.Laws.{is_live}
-use Rattle.wire_world.specs.World.{plays}
-use Rattle.wire_world.specs.Sends.{sent_to, numbered}
-use Rattle.wire_world.proofs.Wire.{IsSendable, source_of, unheard_there, bytes_are}
-use Rattle.wire_world.proofs.Linked.{sent_more, stream_ticked, numbered_at}
+use Rattle.desk.specs.Meaning.{latest_frame}
+use Rattle.console.specs.declared.call.Call.{Call}
+use Rattle.console.specs.declared.call.Call.TheVariants.{Order, Tick}
+use Rattle.console.specs.declared.reading.Reading.{Reading}
+use Rattle.console.specs.declared.reading.Reading.TheVariants.{At, Blank, Malformed}
+use Rattle.console.specs.Spelling.{act_of, reading_of}
+use Rattle.cmd_play.specs.Run.{Carried, IsRun, history_of, lines_in, sends_of, taken_by}
+use Rattle.cmd_play.specs.Run.{taken, due_by, due_after}
+use Rattle.rehearsal.specs.Datagrams.{packet_bytes}
+use Rattle.rehearsal.specs.Happened.{packets_of}
+use Rattle.rehearsal.specs.Laws.{is_live}
+use Rattle.rehearsal.specs.World.{plays}
+use Rattle.rehearsal.specs.Sends.{sent_to, numbered}
+use Rattle.rehearsal.proofs.Wire.{IsSendable, source_of, unheard_there, bytes_are}
+use Rattle.rehearsal.proofs.Linked.{sent_more, stream_ticked, numbered_at}
 use Rattle.stage_light.specs.Plays.{Play, IsPlay, history, stream_for, sends_for}
 use Rattle.stage_light.specs.Laws.{SendsAreTheStream, SendsAreAddressed}
 

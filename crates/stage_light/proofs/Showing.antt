@@ -21,15 +21,15 @@ use Rattle.sacn_receiver.specs.Shown.{shown, shown_slots, merged}
 use Rattle.sacn_receiver.specs.Taking.{entry_of}
 use Rattle.sacn_receiver.proofs.Independent.{heard_accepted}
 use Rattle.sacn_receiver.proofs.Members.{by_test, In, In_map, place_from_in}
-use Rattle.desk_core.specs.Meaning.{dark}
-use Rattle.desk_core.proofs.FrameSlots.{latest_full, unpatched_latest}
+use Rattle.desk.specs.Meaning.{dark}
+use Rattle.desk.proofs.FrameSlots.{latest_full, unpatched_latest}
 use Rattle.console.proofs.Streams.{latest}
-use Rattle.wire_world.specs.Delivery as wire
-use Rattle.wire_world.specs.Delivery.{Delivery}
-use Rattle.wire_world.specs.Laws.{is_live, IsFreshIn}
-use Rattle.wire_world.proofs.Wire.{heard_here, entry_is}
-use Rattle.wire_world.proofs.Came.{AreInTime, later_too, own, own_from}
-use Rattle.wire_world.proofs.Shown.{same_slots, dark_slots, one_light}
+use Rattle.rehearsal.specs.Delivery as wire
+use Rattle.rehearsal.specs.Delivery.{Delivery}
+use Rattle.rehearsal.specs.Laws.{is_live, IsFreshIn}
+use Rattle.rehearsal.proofs.Wire.{heard_here, entry_is}
+use Rattle.rehearsal.proofs.Came.{AreInTime, later_too, own, own_from}
+use Rattle.rehearsal.proofs.Shown.{same_slots, dark_slots, one_light}
 use Rattle.stage_light.specs.Plays.{Play, IsPlay, play_at, ArePlays, history, stream_for, sends_for}
 use Rattle.stage_light.specs.Plays.{frame_for}
 use Rattle.stage_light.specs.Traffic.{Traffic, TracedArrival, arrivals_in, IsOrigin, AreOrigins}
@@ -38,8 +38,8 @@ use Rattle.stage_light.specs.Traffic.{IsFresh, is_silent}
 use Rattle.stage_light.specs.Laws.{Headline, MergeLaw, light, lights, IsSend, IsSendOf}
 use Rattle.stage_light.specs.Laws.{AreSettled, HearsOne, HearsAll, UnpatchedSlotsAreZero}
 use Rattle.stage_light.specs.Laws.{SendsStay}
-use Rattle.wire_world.specs.Sends.{sent_to}
-use Rattle.wire_world.proofs.Linked.{sent_more}
+use Rattle.rehearsal.specs.Sends.{sent_to}
+use Rattle.rehearsal.proofs.Linked.{sent_more}
 use Rattle.stage_light.specs.Laws.{WindowLaw, SilenceIsDark, IsOneOf}
 use Rattle.stage_light.proofs.Sources as sources
 use Rattle.stage_light.proofs.Sources.{entry_at, shown_is, is_loud, near, IsNear}

@@ -23,13 +23,13 @@ use Rattle.sacn_receiver.specs.Shown.{Light, light_of, merged, shown}
 use Rattle.sacn_receiver.proofs.Independent.{sources_independent}
 use Rattle.sacn_receiver.proofs.Members.{by_test, In, In_mapped, in_from_get_or, in_from_place}
 use Rattle.sacn_receiver.proofs.Members.{place_from_in}
-use Rattle.wire_world.specs.Delivery.{Delivery, newest_of, IsInWindow}
-use Rattle.wire_world.specs.Laws.{IsFreshIn}
-use Rattle.wire_world.proofs.Wire.{entry}
-use Rattle.wire_world.proofs.Came.{AreInTime, In_accepted, Coming, own}
-use Rattle.wire_world.proofs.Came.{own_in_time, own_from}
-use Rattle.wire_world.proofs.Shown.{KeptOne, kept_of, history, lit_by, shown_lit, silent_at}
-use Rattle.wire_world.proofs.Shown.{fresh_parts, one_light}
+use Rattle.rehearsal.specs.Delivery.{Delivery, newest_of, IsInWindow}
+use Rattle.rehearsal.specs.Laws.{IsFreshIn}
+use Rattle.rehearsal.proofs.Wire.{entry}
+use Rattle.rehearsal.proofs.Came.{AreInTime, In_accepted, Coming, own}
+use Rattle.rehearsal.proofs.Came.{own_in_time, own_from}
+use Rattle.rehearsal.proofs.Shown.{KeptOne, kept_of, history, lit_by, shown_lit, silent_at}
+use Rattle.rehearsal.proofs.Shown.{fresh_parts, one_light}
 
 -- none of these came less than 2,500 ms before moment t
 abbrev pub is_silent : ℕ → List Delivery → Bool

@@ -5,7 +5,7 @@ use Rattle.std.specs.Prelude.{nat_eq, filter, slice_index}
 use Rattle.std.specs.List.{range_with_len}
 use Rattle.std.proofs.lemmas.Bool.{eq-eqb, cases_lt}
 use Rattle.std.proofs.lemmas.List.FromFn.{length-range_with_len, get_or-range_with_len}
-use Rattle.desk_core.specs.Meaning.{latest_frame}
+use Rattle.desk.specs.Meaning.{latest_frame}
 use Rattle.sacn_receiver.specs.Shown.{Light, greatest, leading, merged}
 use Rattle.sacn_receiver.proofs.Members.{In, In_filter, In_filtered, In_map, In_mapped}
 use Rattle.sacn_receiver.proofs.Members.{in_from_place, place_from_in}

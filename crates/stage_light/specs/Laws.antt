@@ -6,12 +6,12 @@ use Rattle.std.specs.List.{range_with_len}
 use Rattle.std.specs.FinMap as maps
 use Rattle.std.specs.Str.{bytes_eq}
 use Rattle.devices.specs.Send.{Send}
-use Rattle.desk_core.specs.Meaning.{dark}
+use Rattle.desk.specs.Meaning.{dark}
 use Rattle.sacn_source.specs.Stream.{Packet}
 use Rattle.sacn_receiver.specs.Arrivals.{not_heard}
 use Rattle.sacn_receiver.specs.Shown.{Light, merged}
-use Rattle.wire_world.specs.Laws.{is_live}
-use Rattle.wire_world.specs.Sends.{numbered}
+use Rattle.rehearsal.specs.Laws.{is_live}
+use Rattle.rehearsal.specs.Sends.{numbered}
 use Rattle.stage_light.specs.Plays.{Play, IsPlay, play_at, ArePlays, history, sends_for, stream_for}
 use Rattle.stage_light.specs.Plays.{frame_for}
 use Rattle.stage_light.specs.Traffic.{Traffic, AreOrigins, AreInOrder, slots_at, Receipt, receipts}

@@ -3,17 +3,17 @@
 use Rattle.std.specs.Prelude.{◌≡◌, ℕ, ◌-◌, ◌++◌, List, ◌∷◌, reverse, Result}
 use Rattle.devices.specs.Send.{Send}
 use Rattle.devices.specs.Tape.{Tape, with_more}
-use Rattle.desk_core.specs.Meaning.{latest_frame}
-use Rattle.receiver_text.specs.Replies.{slots_line}
-use Rattle.show_core.specs.Tables.{Tables}
+use Rattle.desk.specs.Meaning.{latest_frame}
+use Rattle.sacn_receiver.specs.Replies.{slots_line}
+use Rattle.show.specs.Tables.{Tables}
 use Rattle.console.specs.Streams.{Production}
-use Rattle.cueplayer_faults.specs.declared.fault.RunFault.{RunFault}
-use Rattle.input_lines.specs.Lines.{Cut}
-use Rattle.cueplayer_play.specs.Play.{Plays}
-use Rattle.cueplayer_play.specs.Run.{Emitted, Ran, history_of}
-use Rattle.cueplayer_play.specs.Stage.{RunsDry}
-use Rattle.cueplayer_runs.specs.Listening.{listen_text, replies, Listened}
-use Rattle.cueplayer_live.specs.Night.{Lived, Seen, answers_since}
+use Rattle.cmd_faults.specs.declared.fault.RunFault.{RunFault}
+use Rattle.ascii_text.specs.Lines.{Cut}
+use Rattle.cmd_play.specs.Play.{Plays}
+use Rattle.cmd_play.specs.Run.{Emitted, Ran, history_of}
+use Rattle.cmd_play.specs.Stage.{RunsDry}
+use Rattle.cmd_listen.specs.Listening.{listen_text, replies, Listened}
+use Rattle.cmd_live.specs.Night.{Lived, Seen, answers_since}
 use Rattle.live_input.specs.Laws.{accepted}
 use Rattle.live_input.specs.Night.{Happening, answers, lines_given}
 use Rattle.stage_light.specs.Plays.{Play, IsPlay, sends_for, frame_for}

@@ -3,21 +3,21 @@
 use Rattle.std.specs.Prelude.{◌≡◌, ◌≤◌, ◌<◌, ◌-◌, ◌++◌, ℕ, IsTrue, List, [], ◌∷◌, Result, length}
 use Rattle.std.specs.Prelude.{slice_index, take}
 use Rattle.devices.specs.Send.{Send}
-use Rattle.desk_core.specs.Meaning.{latest_frame}
+use Rattle.desk.specs.Meaning.{latest_frame}
 use Rattle.sacn_source.specs.declared.offered.Offered.{Offered}
 use Rattle.console.specs.Offering.{AreOffered}
 use Rattle.console.specs.Streams.{Production}
-use Rattle.console_text.specs.Spelling.{reading_of}
-use Rattle.cueplayer_faults.specs.declared.fault.RunFault.{RunFault}
-use Rattle.cueplayer_live.specs.Beginning.{IsFirstOther}
-use Rattle.cueplayer_live.specs.Night.{Lived, Seen, answers_since}
-use Rattle.input_lines.specs.Lines.{cut_of}
-use Rattle.cueplayer_play.specs.Run.{Carried, IsRunFrom, due_after, history_from, history_of}
-use Rattle.cueplayer_play.specs.Run.{lines_in, sends_of}
+use Rattle.console.specs.Spelling.{reading_of}
+use Rattle.cmd_faults.specs.declared.fault.RunFault.{RunFault}
+use Rattle.cmd_live.specs.Beginning.{IsFirstOther}
+use Rattle.cmd_live.specs.Night.{Lived, Seen, answers_since}
+use Rattle.ascii_text.specs.Lines.{cut_of}
+use Rattle.cmd_play.specs.Run.{Carried, IsRunFrom, due_after, history_from, history_of}
+use Rattle.cmd_play.specs.Run.{lines_in, sends_of}
 use Rattle.live_input.specs.Night.{Happening, answers, lines_given}
 use Rattle.live_input.specs.Recall.{AreRecalled, recall_of}
-use Rattle.wire_world.specs.Sends.{sent_to}
-use Rattle.wire_world.specs.World.{IsConsole}
+use Rattle.rehearsal.specs.Sends.{sent_to}
+use Rattle.rehearsal.specs.World.{IsConsole}
 use Rattle.stage_light.specs.Laws.{AreSettled, HearsAll, HearsOne, is_lit}
 use Rattle.stage_light.specs.Plays.{ArePlays, IsPlay, Play, frame_for, history, play_at, sends_for}
 use Rattle.stage_light.specs.Traffic.{IsFresh, Traffic, receipts, slots_at}

@@ -115,7 +115,7 @@ impl<W: Write + AsRawFd + Drop> BoundedOutput<W> {
     /// # Errors
     ///
     /// `Device` where the output cannot be asked whether it takes bytes, or the pipe to its writer
-    /// cannot be opened; `Memory` where a growth was refused.
+    /// cannot be opened; `Memory` if an allocation failed.
     pub fn new(rt: &HostRuntime, output: W, names: Names) -> Result<Self, DeviceFault> {
         let pipe = PolledWay::open(rt, output, names)?;
         match LineQueue::new(rt.alloc(), pipe, names.notice) {

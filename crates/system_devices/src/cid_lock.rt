@@ -22,7 +22,7 @@ pub type PathText = ArrayString<512>;
 pub enum LockFault {
     /// Another console holds it, by this file.
     Held(PathText),
-    /// A growth was refused.
+    /// An allocation failed.
     Memory,
 }
 
@@ -38,7 +38,7 @@ impl CidLock {
     ///
     /// # Errors
     ///
-    /// `Held` where another console holds it; `Memory` where a growth was refused.
+    /// `Held` where another console holds it; `Memory` if an allocation failed.
     pub fn take(rt: &HostRuntime, cid: [u8; 16]) -> Result<Option<Self>, LockFault> {
         let (path, file) = match open(rt, cid) {
             Ok(opened) => opened,

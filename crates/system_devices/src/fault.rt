@@ -5,6 +5,6 @@ use std::io::ErrorKind;
 pub enum DeviceFault {
     /// The one of this name failed, for the system's reason.
     Device(&'static str, ErrorKind),
-    /// A growth was refused.
+    /// An allocation failed.
     Memory,
 }

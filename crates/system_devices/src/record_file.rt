@@ -34,7 +34,7 @@ pub enum RecordFault {
     NoLocks,
     /// What its lines go through cannot be had.
     Way(DeviceFault),
-    /// A growth was refused.
+    /// An allocation failed.
     Memory,
 }
 

@@ -19,7 +19,7 @@ impl<W: AsRawFd + Drop> Way<W> {
     ///
     /// # Errors
     ///
-    /// The system's, where the pipe cannot be opened; `OutOfMemory` where a growth was refused.
+    /// The system's, where the pipe cannot be opened; `OutOfMemory` if an allocation failed.
     pub fn open(rt: &HostRuntime, output: W, variable: &str) -> IoResult<Self> {
         let pipe = match env::var(rt, variable) {
             Ok(name) if metadata_of(rt, &output)?.is_file() => Some(open_pipe(rt, name.as_str())?),

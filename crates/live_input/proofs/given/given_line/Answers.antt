@@ -1,5 +1,5 @@
 use Rattle.std.proofs.Common.{ap, ◌∙◌, Some}
-use Rattle.console_text.specs.Spelling as spelling
+use Rattle.console.specs.Spelling as spelling
 use Rattle.live_input.proofs.Spelled.{reading_is}
 use Rattle.live_input.proofs.given.given_line.Goals as goal
 

@@ -1,6 +1,6 @@
 use Rattle.std.proofs.Common.{◌-◌, ap, ◌∙◌, length, nat_eq, nat_lt}
 use Rattle.std.specs.List.{starts_with}
-use Rattle.record_head.specs.Head.{head_text}
+use Rattle.night_record.specs.Head.{head_text}
 use Rattle.night_record.proofs.Heads.{at_first, at_none, at_second, front_seen, size_is}
 use Rattle.night_record.proofs.opening.is_part_of_head.Goals as goal
 

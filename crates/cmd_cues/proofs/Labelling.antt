@@ -1,0 +1,137 @@
+-- What lines say of labels, one line after the other.
+use Rattle.std.proofs.Common.{◌≡◌, ℕ, ◌+◌, ◌≤◌, ◌&&◌, true, false, cond, List, [], ◌∷◌, ◌++◌}
+use Rattle.std.proofs.Common.{length, reverse, take, refl, sym, ap, subst, ◌∙◌, Option, Some}
+use Rattle.std.proofs.Common.{None}
+use Rattle.std.specs.Prelude.{option_to_list, unwrap_or}
+use Rattle.std.specs.Option.{option_or}
+use Rattle.std.proofs.lemmas.List.{append-nil}
+use Rattle.std.proofs.lemmas.List.Sums.{fold-append}
+use mathlib.Core.List.{reverse_aux}
+use Rattle.ascii_text.specs.Text.{is_word, lines_of, numbered_from, words_of}
+use Rattle.show_line.specs.declared.line.Reading.{Reading}
+use Rattle.show_line.specs.declared.statement.Record.{Record}
+use Rattle.show_line.specs.declared.statement.Statement.{Statement}
+use Rattle.show_line.specs.declared.statement.Statement.TheVariants.{Opens, Quiet}
+use Rattle.show_line.specs.Keywords.{may_own}
+use Rattle.show_line.specs.Said.{desk_limits, record_opened, reading_of}
+use Rattle.show_reader.specs.Meaning.{Is, Silent, after, same_record}
+use Rattle.show_reader.specs.Text.{Words, owner_after, owner_below, said_under}
+use Rattle.cmd_explain.specs.Headings.{keyword_in}
+use Rattle.cmd_explain.specs.Skipped.{words_in}
+use Rattle.cmd_explain.proofs.Lines.{all_that_are_read, all_that_are_there, none_left}
+use Rattle.cmd_explain.proofs.Lines.{reading_is}
+use Rattle.cmd_cues.specs.declared.label_line.LabelKind.{LabelKind}
+use Rattle.cmd_cues.specs.declared.label_line.LabelKind.TheVariants.{Text, Comment}
+use Rattle.cmd_cues.specs.declared.label_line.LabelLine.{LabelLine}
+use Rattle.cmd_cues.specs.Labels.{is_text, label_after, label_news_of, label_part}
+use Rattle.cmd_cues.specs.Labels.{last_label, names}
+use Rattle.cmd_cues.specs.LabelLines.{AreOf, label_by, label_if, last_label_by}
+use Rattle.cmd_cues.specs.LabelLines.{line_news, news_in}
+
+-- ---- one line
+
+-- one line more, that may say something
+one_more : (r : Record) (kind : LabelKind) (old : List LabelLine) (said : Option LabelLine)
+    → last_label_by r kind (old ++ option_to_list said)
+    ≡ after (news_in r kind said) (last_label_by r kind old)
+one_more r kind old None = ap (last_label_by r kind) (append-nil old)
+one_more r kind old (Some line) =
+    fold-append (λ before l. after (line_news r kind l) before) None old (line ∷ [])
+
+-- what a line says of labels, and the labels that it leaves
+pub next_labels : (above : List (List ℕ)) (line : List ℕ) (owner : Option Record) (s : Statement)
+    (said : Option LabelLine) (old : List LabelLine)
+    → owner ≡ owner_below desk_limits (words_in above)
+    → s ≡ said_under desk_limits owner (words_of line)
+    → ((r : Record) (kind : LabelKind) → news_in r kind said ≡ label_news_of r kind owner s line)
+    → AreOf above old → AreOf (line ∷ above) (old ++ option_to_list said)
+next_labels above line owner s said old owned says news are = λ r kind.
+    one_more r kind old said
+    ∙ ap (λ n. after n (last_label_by r kind old)) (news r kind)
+    ∙ ap (after (label_news_of r kind owner s line)) (are r kind)
+    ∙ ap (λ t. after (label_news_of r kind owner t line) (last_label r kind above)) says
+    ∙ ap (λ o. after (label_news_of r kind o (said_under desk_limits o (words_of line)) line)
+    (last_label r kind above)) owned
+
+-- a CUE, SUB or GROUP line labels the record that it opens, by its comment
+pub opened_news : (r q : Record) (kind : LabelKind) (owner : Option Record) (line : List ℕ)
+    → label_if (same_record r q) kind Comment (label_part Comment line)
+    ≡ label_news_of r kind owner (Opens q) line
+opened_news r q Text owner line = refl
+opened_news r q Comment owner line = refl
+
+-- a TEXT line labels its owner
+pub text_news : (r q : Record) (kind : LabelKind) (line : List ℕ)
+    → is_text (words_of line) ≡ true
+    → label_if (same_record r q) kind Text (label_part Text line)
+    ≡ label_news_of r kind (Some q) Quiet line
+text_news r q Comment line is = refl
+text_news r q Text line is =
+    ap (λ b. cond (names r (cond b (Some q) None) && is_word (label_part Text line))
+    (Is (label_part Text line)) Silent) (sym is)
+
+-- another line without effect labels nothing
+pub quiet_news : (r : Record) (kind : LabelKind) (owner : Option Record) (line : List ℕ)
+    → is_text (words_of line) ≡ false → news_in r kind None ≡ label_news_of r kind owner Quiet line
+quiet_news r Comment owner line is = refl
+quiet_news r Text owner line is =
+    ap (λ b. cond (names r (cond b owner None) && is_word (label_part Text line))
+    (Is (label_part Text line)) Silent) (sym is)
+
+-- a line without words says nothing of labels
+pub no_words : (r : Record) (kind : LabelKind) (owner : Option Record) (line : List ℕ)
+    → words_of line ≡ [] → news_in r kind None ≡ label_news_of r kind owner Quiet line
+no_words r Text (Some o) line none = rw none refl
+no_words r Text None line none = rw none refl
+no_words r Comment owner line none = refl
+
+-- what is not read has no words
+pub unread : (owner : Option Record) (l : Words) → None ≡ reading_of desk_limits owner l → l ≡ []
+unread owner [] e = refl
+unread owner (w ∷ l) e = cc
+
+-- the owner below a line that was read
+pub next_owner : (owner : Option Record) (l : Words) (reading : Reading)
+    → Some reading ≡ reading_of desk_limits owner l
+    → cond (may_own reading.keyword) (record_opened reading.statement) owner
+    ≡ owner_after desk_limits l owner
+next_owner owner [] reading e = cc
+next_owner owner (w ∷ l) reading e =
+    let read = reading_is owner (w ∷ l) reading e in
+    ap (λ k. cond (may_own k) (record_opened reading.statement) owner) read.keyword
+    ∙ ap (λ s. cond (may_own (keyword_in (w ∷ l))) (record_opened s) owner) read.statement
+
+-- ---- all lines
+
+-- the text's lines are these and those that are left, with their numbers; the labels are those that
+-- these give
+pub record StandsBehind (text : List ℕ) (count : ℕ) (lines left : List (List ℕ))
+    (ahead : List (ℕ × List ℕ)) (owner : Option Record) (said : List LabelLine) : Type 0 where
+  pub numbered : ahead ≡ numbered_from (length lines + 1) left
+  pub all : lines_of text ≡ reverse_aux lines left
+  pub within : length lines ≤ count
+  pub owned : owner ≡ owner_below desk_limits (words_in lines)
+  pub labels : AreOf lines said
+
+module _ {text : List ℕ} {count : ℕ} {lines left : List (List ℕ)} {ahead : List (ℕ × List ℕ)}
+    {owner : Option Record} {said : List LabelLine}
+    (h : StandsBehind text count lines left ahead owner said) where
+  -- so many lines are read
+  pub all_read : length lines ≡ count → AreOf (reverse (take count (lines_of text))) said
+  all_read is =
+      subst (λ ls. AreOf ls said) (all_that_are_read text count lines left h.all is) h.labels
+
+  -- the text has no line more
+  pub no_more : ahead ≡ [] → AreOf (reverse (take count (lines_of text))) said
+  no_more none =
+      let empty : left ≡ [] = none_left (length lines + 1) left (sym h.numbered ∙ none) in
+      subst (λ ls. AreOf ls said)
+      (all_that_are_there text count lines (h.all ∙ ap (reverse_aux lines) empty) h.within) h.labels
+
+-- ---- every record
+
+-- each record has the label that the lines give to it
+pub all_labels : (lines : List (List ℕ)) (said : List LabelLine) → AreOf lines said
+    → label_by said ≡ label_after lines
+all_labels lines said are = λ i r.
+    unwrap_or (option_or (are r Text i) (are r Comment i)) []

@@ -1,0 +1,10 @@
+use Rattle.std.proofs.Common.{◌≡◌, ◌++◌, codes, take}
+use Rattle.cmd_cues.specs.Json.{items_text, cue_text}
+use Rattle.cmd_cues.specs.LabelLines.{label_by}
+use Rattle.cmd_cues.proofs.json.push_cues.Given as goal
+
+abbrev pub invariant-loop-place : goal.invariant-loop-place
+invariant-loop-place l =
+    l.text.items
+    ≡ (l.fn.text.items ++ codes "[")
+    ++ items_text (cue_text (label_by l.labels.lines.items)) (take l.place l.cues)

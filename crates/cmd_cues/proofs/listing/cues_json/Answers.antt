@@ -1,0 +1,16 @@
+use Rattle.std.proofs.Common.{◌∙◌, rules}
+use Rattle.cmd_cues.proofs.OneShow.{json_of}
+use Rattle.cmd_cues.proofs.listing.cues_json.Goals as goal
+
+pub returns-clause-prints : goal.returns-clause-prints
+returns-clause-prints g c = record {
+  told = search rules;
+  text = λ tells.
+      let given = c.in_ok-loaded.ensures in (
+        c.as_slice.result.now,
+        json_of c.args.show.now c.as_slice.result.now c.in_ok-loaded.loaded.lines
+            c.in_ok-loaded.loaded.show given.show given.lines
+            (c.as_slice.ensures.value ∙ c.in_ok-text.ensures),
+        c.in_ok-write.ensures.ok tells,
+      );
+}

@@ -1,0 +1,10 @@
+use Rattle.std.proofs.Common.{◌≡◌, ◌++◌, flat_map, take}
+use Rattle.cmd_cues.specs.Table.{cue_line}
+use Rattle.cmd_cues.specs.LabelLines.{label_by}
+use Rattle.cmd_cues.proofs.table.push_cues.Given as goal
+
+abbrev pub invariant-loop-cue : goal.invariant-loop-cue
+invariant-loop-cue l =
+    l.text.items
+    ≡ l.fn.text.items
+    ++ flat_map (cue_line (label_by l.labels.lines.items)) (take l.cue-index l.cues)

@@ -1,0 +1,199 @@
+-- The notes on the lines of a text, one line after the other.
+use Rattle.std.proofs.Common.{◌≡◌, ◌∙◌, ℕ, ◌+◌, ◌++◌, ◌≤◌, Bool, true, false, cond, List, [], ◌∷◌}
+use Rattle.std.proofs.Common.{length, reverse, take, refl, sym, ap, subst, Option, Some, None, arith}
+use Rattle.std.proofs.lemmas.List.{append-nil}
+use mathlib.Core.List.{reverse_aux}
+use Rattle.ascii_text.specs.Text.{lines_of, numbered_from, words_of}
+use Rattle.show.specs.Tables.{Tables}
+use Rattle.show_line.specs.declared.keyword.Keyword.{Keyword}
+use Rattle.show_line.specs.declared.line.Reading.{Reading}
+use Rattle.show_line.specs.declared.statement.Record.{Record}
+use Rattle.show_line.specs.declared.statement.Record.TheVariants.{Cue, Group, Sub}
+use Rattle.show_line.specs.declared.statement.Statement.{Statement}
+use Rattle.show_line.specs.declared.statement.Statement.TheVariants.{Quiet}
+use Rattle.show_line.specs.declared.statement.Table.{Table}
+use Rattle.show_line.specs.declared.statement.Table.TheVariants.{Cues, Groups, Subs}
+use Rattle.show_line.specs.Keywords.{keyword_of, may_own}
+use Rattle.show_line.specs.Said.{desk_limits, reading_of}
+use Rattle.show_reader.specs.Text.{Words, owns, statement_below}
+use Rattle.cmd_explain.specs.declared.heading.Heading.{Heading}
+use Rattle.cmd_explain.specs.declared.heading.Heading.TheVariants as heading
+use Rattle.cmd_explain.specs.declared.note_lines.LineNotes.{LineNotes}
+use Rattle.cmd_explain.specs.declared.openings.Opening.{Opening}
+use Rattle.cmd_explain.specs.declared.openings.Openings.{Openings}
+use Rattle.cmd_explain.specs.Headings.{heading_below, heading_of, keyword_in, owner_of}
+use Rattle.cmd_explain.specs.LineNotes.{told_of, said_by, link_told, link_note, times_text}
+use Rattle.cmd_explain.specs.LineNotes.{comma_told, comma_note, hour_by, hour_note, again_by}
+use Rattle.cmd_explain.specs.LineNotes.{openings, openings_after}
+use Rattle.cmd_explain.specs.NotesOf.{AreMore, AreNotesOf, AreOpeningsOf, IsTaken}
+use Rattle.cmd_explain.specs.NotesOf.{is_unknown, unknown_count, unknown_in}
+use Rattle.cmd_explain.specs.PatchNotes.{ArePatchNotesOf, IsPatchTaken, patch_told}
+use Rattle.cmd_explain.specs.PatchNotes.{sheet_after, sheet_below}
+use Rattle.cmd_explain.specs.declared.patch_notes.PatchNotes.{PatchNotes}
+use Rattle.cmd_explain.specs.Skipped.{words_in}
+use Rattle.cmd_explain.proofs.Lines.{all_that_are_read, all_that_are_there, keyword_is}
+use Rattle.cmd_explain.proofs.Lines.{none_left, reading_is, said_is}
+
+-- ---- what is read of a line
+
+-- a line that may own has a keyword that may
+pub owns_is : (l : Words) → owns l ≡ may_own (keyword_in l)
+owns_is [] = refl
+owns_is (word ∷ words) = refl
+
+-- what has no words is read as nothing, and only that
+pub no_words : (owner : Option Record) (l : Words) → None ≡ reading_of desk_limits owner l → l ≡ []
+no_words owner [] e = refl
+no_words owner (word ∷ words) e = cc
+
+-- no note is on a line without words
+pub no_link : (show : Tables) (n : ℕ) (h : Heading) → link_told show n h [] ≡ []
+no_link show n (heading.Opened (Cue c)) = refl
+no_link show n (heading.Opened (Group g)) = refl
+no_link show n (heading.Opened (Sub s)) = refl
+no_link show n heading.Maker = refl
+no_link show n heading.OtherPage = refl
+no_link show n heading.Nothing = refl
+
+-- ---- a line more
+
+-- lists that are equal stay so with a line more
+more : {a b x y : List ℕ} → a ≡ b → x ≡ y → a ++ x ≡ b ++ y
+more {a} {b} {x} {y} e f = ap (λ l. l ++ x) e ∙ ap (λ l. b ++ l) f
+
+module _ (lines : List (List ℕ)) (bytes : List ℕ) (number : ℕ) (says : Statement)
+    (numbered : number ≡ length lines + 1) (is : says ≡ said_by lines bytes) where
+  comma_more : {old new : List ℕ} → old ≡ told_of comma_note lines
+      → new ≡ old ++ comma_told number (times_text says) bytes
+      → new ≡ told_of comma_note (bytes ∷ lines)
+  comma_more was e =
+      e ∙ more was (ap (λ n. comma_told n (times_text says) bytes) numbered
+      ∙ ap (λ s. comma_told (length lines + 1) (times_text s) bytes) is)
+
+  hour_more : {old new : List ℕ} → old ≡ told_of hour_note lines → new ≡ old ++ hour_by number says
+      → new ≡ told_of hour_note (bytes ∷ lines)
+  hour_more was e =
+      e ∙ more was (ap (λ n. hour_by n says) numbered ∙ ap (hour_by (length lines + 1)) is)
+
+  openings_more : (table : Table) {old new : Openings} → AreOpeningsOf table lines old
+      → IsTaken number says old new → AreOpeningsOf table (bytes ∷ lines) new
+  openings_more table {old} {new} was taken = record {
+    of_table = taken.of_table ∙ was.of_table;
+    list =
+        taken.list ∙ ap (λ t. openings_after t number says old.list.items) was.of_table
+        ∙ ap (openings_after table number says) was.list
+        ∙ ap (λ n. openings_after table n says (openings table lines)) numbered
+        ∙ ap (λ s. openings_after table (length lines + 1) s (openings table lines)) is;
+    notes =
+        taken.notes ∙ more was.notes
+        (ap (λ t. again_by t number says old.list.items) was.of_table
+        ∙ ap (again_by table number says) was.list
+        ∙ ap (λ n. again_by table n says (openings table lines)) numbered
+        ∙ ap (λ s. again_by table (length lines + 1) s (openings table lines)) is);
+  }
+
+  patches_more : {old new : PatchNotes} → ArePatchNotesOf lines old
+      → IsPatchTaken number says old new → ArePatchNotesOf (bytes ∷ lines) new
+  patches_more was taken = record {
+    sheet =
+        taken.sheet ∙ ap (sheet_after number says) was.sheet
+        ∙ ap (λ n. sheet_after n says (sheet_below lines)) numbered
+        ∙ ap (λ s. sheet_after (length lines + 1) s (sheet_below lines)) is;
+    notes =
+        taken.notes ∙ more was.notes
+        (ap (patch_told number says) was.sheet
+        ∙ ap (λ n. patch_told n says (sheet_below lines)) numbered
+        ∙ ap (λ s. patch_told (length lines + 1) s (sheet_below lines)) is);
+  }
+
+  -- a line adds its notes
+  module _ (show : Tables) (old new : LineNotes) (was : AreNotesOf show lines old)
+      (added : AreMore show number says bytes old new) (above : Heading)
+      (heads : above ≡ heading_below (words_in (bytes ∷ lines))) (unknown : ℕ)
+      (counts : unknown ≡ unknown_count (bytes ∷ lines)) where
+    link_more : new.links.items ≡ told_of (link_note show) (bytes ∷ lines)
+    link_more =
+        added.links ∙ more was.links
+        (ap (λ n. link_told show n old.above (words_of bytes)) numbered
+        ∙ ap (λ h. link_told show (length lines + 1) h (words_of bytes)) was.heads)
+
+    pub notes_more : AreNotesOf show (bytes ∷ lines)
+        (record new { above = above; unknown_lines = unknown })
+    notes_more = record {
+      heads = heads;
+      patches = patches_more was.patches added.patches;
+      links = link_more;
+      commas = comma_more was.commas added.commas;
+      cues = openings_more Cues was.cues added.cues;
+      subs = openings_more Subs was.subs added.subs;
+      groups = openings_more Groups was.groups added.groups;
+      hours = hour_more was.hours added.hours;
+      unknown_lines = counts;
+    }
+
+-- what heads the line below a line that was read
+pub heading_more : (lines : List (List ℕ)) (bytes : List ℕ) (above : Heading)
+    (heads : above ≡ heading_below (words_in lines)) (reading : Reading)
+    → Some reading ≡ reading_of desk_limits (owner_of above) (words_of bytes)
+    → cond (may_own reading.keyword) (heading_of reading.keyword reading.statement) above
+    ≡ heading_below (words_in (bytes ∷ lines))
+heading_more lines bytes above heads reading read =
+    let k = keyword_is lines bytes above heads reading read in
+    let s = said_is lines bytes above heads reading read in
+    ap (λ k'. cond (may_own k') (heading_of k' reading.statement) above) k
+    ∙ ap (λ s'. cond (may_own (keyword_in (words_of bytes)))
+    (heading_of (keyword_in (words_of bytes)) s') above) s
+    ∙ ap (λ h. cond (may_own (keyword_in (words_of bytes)))
+    (heading_of (keyword_in (words_of bytes)) (said_by lines bytes)) h) heads
+    ∙ ap (λ b. cond b (heading_of (keyword_in (words_of bytes)) (said_by lines bytes))
+    (heading_below (words_in lines))) (sym (owns_is (words_of bytes)))
+
+-- ---- lines of unknown keywords
+
+-- no more of them than lines
+pub few_unknown : (lines : List (List ℕ)) → unknown_count lines ≤ length lines
+few_unknown [] = omega arith
+few_unknown (line ∷ above) =
+    omega (arith, few_unknown above, one (heading_below (words_in above)) (words_of line))
+  where
+    one : (h : Heading) (l : Words) → unknown_in h l ≤ 1
+    one h [] = omega arith
+    one h (word ∷ words) =
+        elim (is_unknown h (keyword_of word)) as (λ b. cond b 1 0 ≤ 1) [
+          | true ↦ omega arith
+          | false ↦ omega arith
+        ]
+
+-- a line that was read counts by its keyword
+pub unknown_is : (owner : Option Record) (h : Heading) (l : Words) (reading : Reading)
+    → Some reading ≡ reading_of desk_limits owner l
+    → unknown_in h l ≡ cond (is_unknown h reading.keyword) 1 0
+unknown_is owner h [] reading e = cc
+unknown_is owner h (word ∷ words) reading e =
+    ap (λ k. cond (is_unknown h k) 1 0)
+    (sym (reading_is owner (word ∷ words) reading e).keyword)
+
+-- ---- all lines
+
+-- the text's lines are these and those that are left, with their numbers; the notes are on these
+pub record NotedBehind (show : Tables) (text : List ℕ) (count : ℕ) (lines left : List (List ℕ))
+    (ahead : List (ℕ × List ℕ)) (notes : LineNotes) : Type 0 where
+  pub numbered : ahead ≡ numbered_from (length lines + 1) left
+  pub all : lines_of text ≡ reverse_aux lines left
+  pub within : length lines ≤ count
+  pub noted : AreNotesOf show lines notes
+
+module _ {show : Tables} {text : List ℕ} {count : ℕ} {lines left : List (List ℕ)}
+    {ahead : List (ℕ × List ℕ)} {notes : LineNotes}
+    (h : NotedBehind show text count lines left ahead notes) where
+  -- so many lines are read
+  pub all_noted : length lines ≡ count → AreNotesOf show (reverse (take count (lines_of text))) notes
+  all_noted is = subst (λ ls. AreNotesOf show ls notes)
+      (all_that_are_read text count lines left h.all is) h.noted
+
+  -- the text has no line more
+  pub none_more : ahead ≡ [] → AreNotesOf show (reverse (take count (lines_of text))) notes
+  none_more none =
+      let empty : left ≡ [] = none_left (length lines + 1) left (sym h.numbered ∙ none) in
+      subst (λ ls. AreNotesOf show ls notes)
+      (all_that_are_there text count lines (h.all ∙ ap (reverse_aux lines) empty) h.within) h.noted

@@ -1,0 +1,14 @@
+use Rattle.std.proofs.Common.{◌≡◌, ◌∙◌, rules}
+use Rattle.cmd_explain.specs.Encoding.{encoding_notes}
+use Rattle.cmd_explain.proofs.Told.{adds, told_whole}
+use Rattle.cmd_explain.proofs.explanation.explanation.Goals as goal
+
+pub returns : goal.returns
+returns c =
+    let front : c.push_encoding.new.out.items ≡ encoding_notes c.args.show.now = search rules in
+    told_whole c.args.show.now c.args.loaded.now.lines c.args.loaded.now.show
+    front c.in_ok-extend_from_slice.ensures.items
+    (c.as_slice.ensures.value ∙ c.in_ok-skipped.ensures)
+    (adds (λ note. note.items) _ c.in_ok-push_notes.ensures)
+    (c.in_ok-push_line_notes.ensures c.args.loaded.now.show _ c.in_ok-notes.ensures)
+    c.in_ok-push_show_notes.ensures

@@ -1,0 +1,39 @@
+use Rattle.std.proofs.Common.{◌≡◌, ◌∙◌, ◌∷◌, Some, ap, sym, arith}
+use Rattle.ascii_text.specs.Text.{words_of}
+use Rattle.show_line.specs.Said.{desk_limits, reading_of}
+use Rattle.cmd_explain.specs.Headings.{heading_below, owner_of}
+use Rattle.cmd_explain.specs.NotesOf.{unknown_count, unknown_in}
+use Rattle.cmd_explain.specs.Skipped.{words_in}
+use Rattle.cmd_explain.proofs.Lines.{said_is}
+use Rattle.cmd_explain.proofs.NoteLines.{few_unknown, heading_more, notes_more, unknown_is}
+use Rattle.cmd_explain.proofs.note_lines.LineNotes.take_line.Goals as goal
+
+pub returns : goal.returns
+returns c = λ lines was numbered.
+    let bytes = c.args.line.bytes.now in
+    let above = c.args.self.now.above in
+    let reading = c.in-Some.reading in
+    let added = c.in_ok-note.ensures in
+    let read : Some reading ≡ reading_of desk_limits (owner_of above) (words_of bytes) =
+    c.in-Some.ensures.means ∙ ap (λ o. reading_of desk_limits o (words_of bytes)) c.owner.ensures in
+    let heads : c.below-below.result ≡ heading_below (words_in (bytes ∷ lines)) =
+    c.below-below.ensures ∙ heading_more lines bytes above was.heads reading read in
+    let one
+    : c.unknown_in-unknown.result ≡ unknown_in (heading_below (words_in lines)) (words_of bytes) =
+    c.unknown_in-unknown.ensures
+    ∙ sym (unknown_is (owner_of above) above (words_of bytes) reading read)
+    ∙ ap (λ h. unknown_in h (words_of bytes)) was.heads in
+    let unknown : c.saturating_add-self.result ≡ unknown_count (bytes ∷ lines) =
+    omega (
+      arith,
+      c.saturating_add-self.ensures,
+      one,
+      few_unknown (bytes ∷ lines),
+      was.unknown_lines,
+      added.unknown_lines,
+      numbered,
+      c.ranges.line,
+    ) in
+    notes_more lines bytes c.args.line.number reading.statement numbered
+    (said_is lines bytes above was.heads reading read) c.args.show.now c.args.self.now
+    c.note.new.self was added c.below-below.result heads c.saturating_add-self.result unknown

@@ -1,0 +1,9 @@
+use Rattle.std.proofs.Common.{◌∙◌, ap, length, take}
+use Rattle.std.proofs.lemmas.List.{take_min}
+use Rattle.std.proofs.Math.Nat.{min_comm}
+use Rattle.cmd_explain.proofs.seeming.first_bytes.Goals as goal
+
+pub returns : goal.returns
+returns c =
+    let text = c.args.text.now in
+    ap (λ n. take n text) (c.min.ensures ∙ min_comm (length text) 512) ∙ take_min 512 text

@@ -1,0 +1,89 @@
+-- The notes on the lines of a show text, by kinds.
+use Rattle.std.specs.Prelude.{◌≡◌, ◌+◌, ◌++◌, ℕ, List, [], ◌∷◌, Bool, true, false, if◌then◌else◌}
+use Rattle.ascii_text.specs.Text.{words_of}
+use Rattle.show.specs.Tables.{Tables}
+use Rattle.show_line.specs.declared.keyword.Keyword.{Keyword}
+use Rattle.show_line.specs.declared.keyword.Keyword.TheVariants as keyword
+use Rattle.show_line.specs.declared.statement.Statement.{Statement}
+use Rattle.show_line.specs.declared.statement.Table.{Table}
+use Rattle.show_line.specs.declared.statement.Table.TheVariants.{Cues, Groups, Subs}
+use Rattle.show_line.specs.Keywords.{keyword_of}
+use Rattle.show_reader.specs.Text.{Words}
+use Rattle.cmd_explain.specs.declared.heading.Heading.{Heading}
+use Rattle.cmd_explain.specs.declared.heading.Heading.TheVariants as heading
+use Rattle.cmd_explain.specs.declared.note_lines.LineNotes.{LineNotes}
+use Rattle.cmd_explain.specs.declared.openings.Openings.{Openings}
+use Rattle.cmd_explain.specs.Headings.{heading_below}
+use Rattle.cmd_explain.specs.LineNotes.{told_of, link_note, comma_note, again_note, hour_note}
+use Rattle.cmd_explain.specs.LineNotes.{openings, openings_after, again_by, link_told}
+use Rattle.cmd_explain.specs.LineNotes.{comma_told, times_text, hour_by}
+use Rattle.cmd_explain.specs.PatchNotes.{ArePatchNotesOf, IsPatchTaken, patch_note}
+use Rattle.cmd_explain.specs.Skipped.{words_in}
+
+-- the records of a table that lines opened, and the notes on those opened again
+pub record AreOpeningsOf (table : Table) (lines : List (List ℕ)) (those : Openings) : Type 0 where
+  pub of_table : those.table ≡ table
+  pub list : those.list.items ≡ openings table lines
+  pub notes : those.notes.items ≡ told_of (again_note table) lines
+
+-- what a line of this number adds, which says this
+pub record IsTaken (number : ℕ) (says : Statement) (old new : Openings) : Type 0 where
+  pub of_table : new.table ≡ old.table
+  pub list : new.list.items ≡ openings_after old.table number says old.list.items
+  pub notes : new.notes.items ≡ old.notes.items ++ again_by old.table number says old.list.items
+
+pub record AreMore (show : Tables) (number : ℕ) (says : Statement) (line : List ℕ)
+    (old new : LineNotes) : Type 0 where
+  pub above : new.above ≡ old.above
+  pub patches : IsPatchTaken number says old.patches new.patches
+  pub links : new.links.items
+      ≡ old.links.items ++ link_told show number old.above (words_of line)
+  pub commas : new.commas.items ≡ old.commas.items ++ comma_told number (times_text says) line
+  pub cues : IsTaken number says old.cues new.cues
+  pub subs : IsTaken number says old.subs new.subs
+  pub groups : IsTaken number says old.groups new.groups
+  pub hours : new.hours.items ≡ old.hours.items ++ hour_by number says
+  pub unknown_lines : new.unknown_lines ≡ old.unknown_lines
+
+-- ---- lines of unknown keywords
+
+-- a line of this keyword is skipped as one that is unknown: no maker's record heads it
+abbrev pub is_unknown : Heading → Keyword → Bool
+is_unknown heading.Maker k = false
+is_unknown h keyword.Unknown = true
+is_unknown h k = false
+
+abbrev pub unknown_in : Heading → Words → ℕ
+unknown_in h [] = 0
+unknown_in h (word ∷ words) = if is_unknown h (keyword_of word) then 1 else 0
+
+-- how many of some lines are
+abbrev pub unknown_count : List (List ℕ) → ℕ
+unknown_count [] = 0
+unknown_count (line ∷ above) =
+    unknown_count above + unknown_in (heading_below (words_in above)) (words_of line)
+
+-- ---- all notes on lines
+
+-- the notes on lines, the last line first, of a text that means this show
+pub record AreNotesOf (show : Tables) (lines : List (List ℕ)) (notes : LineNotes) : Type 0 where
+  pub heads : notes.above ≡ heading_below (words_in lines)
+  pub patches : ArePatchNotesOf lines notes.patches
+  pub links : notes.links.items ≡ told_of (link_note show) lines
+  pub commas : notes.commas.items ≡ told_of comma_note lines
+  pub cues : AreOpeningsOf Cues lines notes.cues
+  pub subs : AreOpeningsOf Subs lines notes.subs
+  pub groups : AreOpeningsOf Groups lines notes.groups
+  pub hours : notes.hours.items ≡ told_of hour_note lines
+  pub unknown_lines : notes.unknown_lines ≡ unknown_count lines
+
+-- those of weight, one kind behind the other
+abbrev pub weighty_line_notes : Tables → List (List ℕ) → List ℕ
+weighty_line_notes show lines =
+    told_of patch_note lines ++ told_of (link_note show) lines ++ told_of comma_note lines
+    ++ told_of (again_note Cues) lines ++ told_of (again_note Subs) lines
+    ++ told_of (again_note Groups) lines
+
+-- all notes on lines
+abbrev pub line_notes : Tables → List (List ℕ) → List ℕ
+line_notes show lines = weighty_line_notes show lines ++ told_of hour_note lines

@@ -1,0 +1,333 @@
+ghost use Rattle.std.specs.Prelude.{◌≡◌, ◌+◌, ◌++◌, codes, decimal, nat_lt, take, OnOk};
+ghost use Rattle.std.specs.Prelude.{Some};
+ghost use Rattle.ascii_text.specs.Text.{words_of};
+ghost use Rattle.cmd_explain.specs.Headings.{operands};
+ghost use Rattle.cmd_explain.specs.LineNotes.{is_link, linked, is_followed, way_text};
+ghost use Rattle.cmd_explain.specs.LineNotes.{link_by, cue_link_text, unfollowed_text};
+ghost use Rattle.cmd_explain.specs.LineNotes.{hour_text};
+ghost use Rattle.cmd_explain.specs.LineNotes.{link_text, link_told, has_decimal_comma};
+ghost use Rattle.cmd_explain.specs.LineNotes.{is_decimal, note_on};
+ghost use Rattle.cmd_explain.specs.LineNotes.{comma_text, comma_told, times_text, rate_times};
+ghost use Rattle.cmd_explain.specs.LineNotes.{follow_times, rate_text, hour_told, hour_by};
+ghost use Rattle.cmd_explain.specs.Skipped.{shown};
+
+use crate::decimal::{push_decimal, push_number};
+use crate::heading::Heading;
+use crate::skipped::{first_bytes, operands, push_shown};
+use ascii_text::{Words, cue_number, same_word};
+use show::{Rate, Show};
+use show_line::{Record, Statement};
+use std::alloc::AllocError;
+
+// An hour in milliseconds.
+const HOUR: u64 = 3_600_000;
+
+/// Appends the note on a LINK line that this heads, where it has one.
+pub fn push_link(
+    out: &mut Vec<u8>,
+    show: &Show,
+    number: u32,
+    above: Heading,
+    line: &[u8],
+) -> Result<(), AllocError>
+    ensures { OnOk result (out.new.items
+        ≡ out.old.items ++ link_told show.now number above (words_of line.now)) }
+{
+    let Heading::Opened(Record::Cue(cue)) = above else {
+        return Ok(());
+    };
+    if !is_link(line) || show.cue(cue).is_none() {
+        return Ok(());
+    }
+    push_link_by(out, number, cue, linked(line), show.next(cue))
+}
+
+fn push_link_by(
+    out: &mut Vec<u8>,
+    number: u32,
+    cue: u32,
+    to: Option<u32>,
+    next: Option<u32>,
+) -> Result<(), AllocError>
+    ensures { OnOk result (out.new.items ≡ out.old.items ++ link_by number cue to next) }
+{
+    if is_followed(to, next) {
+        return Ok(());
+    }
+    push_front(out, number)?;
+    push_cue_link(out, cue, to, next)?;
+    out.push(b'\n')?;
+    Ok(())
+}
+
+fn push_cue_link(
+    out: &mut Vec<u8>,
+    cue: u32,
+    to: Option<u32>,
+    next: Option<u32>,
+) -> Result<(), AllocError>
+    ensures { OnOk result (out.new.items ≡ out.old.items ++ cue_link_text cue to next) }
+{
+    out.extend_from_slice(b"cue ")?;
+    push_decimal(out, cue)?;
+    out.extend_from_slice(b": ")?;
+    push_link_text(out, to, next)?;
+    Ok(())
+}
+
+fn is_link(line: &[u8]) -> bool
+    ensures { result ≡ is_link (words_of line.now) }
+{
+    match Words::new(line).next() {
+        Some(word) => same_word(word, b"link"),
+        None => false,
+    }
+}
+
+// The cue that the second word of a line names.
+fn linked(line: &[u8]) -> Option<u32>
+    ensures { result ≡ linked (operands (words_of line.now)) }
+{
+    match operands(line).next() {
+        Some(word) => cue_number(word),
+        None => None,
+    }
+}
+
+fn is_followed(to: Option<u32>, next: Option<u32>) -> bool
+    ensures { result ≡ is_followed to next }
+{
+    match (to, next) {
+        (Some(to), Some(next)) => to == next,
+        _ => false,
+    }
+}
+
+fn push_link_text(out: &mut Vec<u8>, to: Option<u32>, next: Option<u32>) -> Result<(), AllocError>
+    ensures { OnOk result (out.new.items ≡ out.old.items ++ link_text to next) }
+{
+    match to {
+        Some(to) => {
+            push_unfollowed(out, to)?;
+            push_way(out, next)?;
+            Ok(())
+        }
+        None => out.extend_from_slice(b"LINK without a cue number"),
+    }
+}
+
+fn push_unfollowed(out: &mut Vec<u8>, to: u32) -> Result<(), AllocError>
+    ensures { OnOk result (out.new.items ≡ out.old.items ++ unfollowed_text to) }
+{
+    out.extend_from_slice(b"LINK ")?;
+    push_decimal(out, to)?;
+    out.extend_from_slice(b" is not followed: GO goes ")?;
+    Ok(())
+}
+
+fn push_way(out: &mut Vec<u8>, next: Option<u32>) -> Result<(), AllocError>
+    ensures { OnOk result (out.new.items ≡ out.old.items ++ way_text next) }
+{
+    match next {
+        Some(next) => {
+            out.extend_from_slice(b"to ")?;
+            push_decimal(out, next)
+        }
+        None => out.extend_from_slice(b"nowhere"),
+    }
+}
+
+/// Appends the note on a line of a cue that has times and a comma for a point.
+pub fn push_comma(
+    out: &mut Vec<u8>,
+    number: u32,
+    statement: &Statement<'_>,
+    line: &[u8],
+) -> Result<(), AllocError>
+    ensures { OnOk result (out.new.items
+        ≡ out.old.items ++ comma_told number (times_text statement.now) line.now) }
+{
+    match statement {
+        Statement::Rises(_, rate) => push_rate_comma(out, number, *rate, line),
+        Statement::Falls(_, rate) => push_rate_comma(out, number, *rate, line),
+        Statement::Follows(_, time) => push_follow_comma(out, number, *time, line),
+        _ => Ok(()),
+    }
+}
+
+fn push_rate_comma(
+    out: &mut Vec<u8>,
+    number: u32,
+    rate: Rate,
+    line: &[u8],
+) -> Result<(), AllocError>
+    ensures { OnOk result (out.new.items
+        ≡ out.old.items ++ comma_told number (Some (rate_times rate)) line.now) }
+{
+    if has_decimal_comma(line) {
+        push_rate_note(out, number, rate, line)?;
+    }
+    Ok(())
+}
+
+fn push_rate_note(out: &mut Vec<u8>, number: u32, rate: Rate, line: &[u8]) -> Result<(), AllocError>
+    ensures { OnOk result (out.new.items
+        ≡ out.old.items ++ note_on number (comma_text line.now (rate_times rate))) }
+{
+    push_front(out, number)?;
+    push_rate_comma_text(out, rate, line)?;
+    out.push(b'\n')?;
+    Ok(())
+}
+
+fn push_rate_comma_text(out: &mut Vec<u8>, rate: Rate, line: &[u8]) -> Result<(), AllocError>
+    ensures { OnOk result (out.new.items ≡ out.old.items ++ comma_text line.now (rate_times rate)) }
+{
+    push_comma_words(out, line)?;
+    push_rate_times(out, rate)?;
+    out.extend_from_slice(b"; write a point for a decimal")?;
+    Ok(())
+}
+
+fn push_rate_times(out: &mut Vec<u8>, rate: Rate) -> Result<(), AllocError>
+    ensures { OnOk result (out.new.items ≡ out.old.items ++ rate_times rate) }
+{
+    out.extend_from_slice(b"time ")?;
+    push_decimal(out, rate.time)?;
+    out.extend_from_slice(b", delay ")?;
+    push_decimal(out, rate.delay)?;
+    Ok(())
+}
+
+fn push_follow_comma(
+    out: &mut Vec<u8>,
+    number: u32,
+    time: u32,
+    line: &[u8],
+) -> Result<(), AllocError>
+    ensures { OnOk result (out.new.items
+        ≡ out.old.items ++ comma_told number (Some (follow_times time)) line.now) }
+{
+    if !has_decimal_comma(line) {
+        return Ok(());
+    }
+    push_front(out, number)?;
+    push_follow_comma_text(out, time, line)?;
+    out.push(b'\n')?;
+    Ok(())
+}
+
+fn push_follow_comma_text(out: &mut Vec<u8>, time: u32, line: &[u8]) -> Result<(), AllocError>
+    ensures { OnOk result (out.new.items
+        ≡ out.old.items ++ comma_text line.now (follow_times time)) }
+{
+    push_comma_words(out, line)?;
+    out.extend_from_slice(b"time ")?;
+    push_decimal(out, time)?;
+    out.extend_from_slice(b"; write a point for a decimal")?;
+    Ok(())
+}
+
+fn push_comma_words(out: &mut Vec<u8>, line: &[u8]) -> Result<(), AllocError>
+    ensures { OnOk result (out.new.items ≡ out.old.items ++ shown (take 200 line.now)
+        ++ codes ": the comma parts two words: ") }
+{
+    push_shown(out, first_bytes(line))?;
+    out.extend_from_slice(b": the comma parts two words: ")?;
+    Ok(())
+}
+
+// Whether a comma stands between two digits, before a comment.
+fn has_decimal_comma(line: &[u8]) -> bool
+    ensures { result ≡ has_decimal_comma line.now }
+{
+    for end in 2..line.len() {
+        let (first, middle, last) = (line[end - 2], line[end - 1], line[end]);
+        if first == b'!' {
+            return false;
+        }
+        if is_decimal(first, middle, last) {
+            return true;
+        }
+    }
+    false
+}
+
+fn is_decimal(first: u8, middle: u8, last: u8) -> bool
+    ensures { result ≡ is_decimal first middle last }
+{
+    first.is_ascii_digit() && middle == b',' && last.is_ascii_digit()
+}
+
+/// Appends the note on an UP or DOWN line of a cue that lasts more than an hour.
+pub fn push_hour(
+    out: &mut Vec<u8>,
+    number: u32,
+    statement: &Statement<'_>,
+) -> Result<(), AllocError>
+    ensures { OnOk result (out.new.items ≡ out.old.items ++ hour_by number statement.now) }
+{
+    match statement {
+        Statement::Rises(cue, rate) => push_long(out, number, *cue, b"UP ", *rate),
+        Statement::Falls(cue, rate) => push_long(out, number, *cue, b"DOWN ", *rate),
+        _ => Ok(()),
+    }
+}
+
+fn push_long(
+    out: &mut Vec<u8>,
+    number: u32,
+    cue: u32,
+    word: &[u8],
+    rate: Rate,
+) -> Result<(), AllocError>
+    ensures { OnOk result (out.new.items ≡ out.old.items ++ hour_told number cue word.now rate) }
+{
+    if !is_long(rate) {
+        return Ok(());
+    }
+    push_front(out, number)?;
+    push_hour_text(out, cue, word, rate)?;
+    out.push(b'\n')?;
+    Ok(())
+}
+
+fn push_hour_text(out: &mut Vec<u8>, cue: u32, word: &[u8], rate: Rate) -> Result<(), AllocError>
+    ensures { OnOk result (out.new.items ≡ out.old.items ++ hour_text cue word.now rate) }
+{
+    out.extend_from_slice(b"cue ")?;
+    push_decimal(out, cue)?;
+    out.extend_from_slice(b": ")?;
+    out.extend_from_slice(word)?;
+    push_rate(out, rate)?;
+    out.extend_from_slice(b" lasts more than an hour")?;
+    Ok(())
+}
+
+fn is_long(rate: Rate) -> bool
+    ensures { result ≡ nat_lt 3600000 (rate.time + rate.delay) }
+{
+    HOUR < u64::from(rate.time) + u64::from(rate.delay)
+}
+
+/// Appends the front of a note on a line.
+pub fn push_front(out: &mut Vec<u8>, number: u32) -> Result<(), AllocError>
+    ensures { OnOk result (out.new.items
+        ≡ out.old.items ++ codes "note: line " ++ decimal number ++ codes ": ") }
+{
+    out.extend_from_slice(b"note: line ")?;
+    push_number(out, u64::from(number))?;
+    out.extend_from_slice(b": ")
+}
+
+/// Appends a rate as UP and DOWN spell it, in seconds.
+pub fn push_rate(out: &mut Vec<u8>, rate: Rate) -> Result<(), AllocError>
+    ensures { OnOk result (out.new.items ≡ out.old.items ++ rate_text rate) }
+{
+    push_decimal(out, rate.time)?;
+    if rate.delay == 0 {
+        return Ok(());
+    }
+    out.push(b' ')?;
+    push_decimal(out, rate.delay)
+}

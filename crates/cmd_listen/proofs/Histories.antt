@@ -1,0 +1,22 @@
+-- The history of datagrams that came at moment 0.
+use Rattle.std.proofs.Common.{arith, ℕ, ◌≡◌, List, [], ◌∷◌, Option, refl}
+use Rattle.std.specs.Option.{option_map_or}
+use Rattle.sacn_packet.specs.Reading.{front_packet}
+use Rattle.sacn_receiver.specs.declared.answer.Ignored.{Ignored}
+use Rattle.sacn_receiver.specs.Source.{Entry, last_moment}
+use Rattle.sacn_receiver.specs.Taking.{entry_of, ignored}
+use Rattle.cmd_listen.specs.Listening.{history}
+
+moment_after : (reason : Option Ignored) (entry : Entry) (h : List Entry) → entry.moment ≡ 0
+    → last_moment h ≡ 0
+    → last_moment (option_map_or (λ _. h) reason (entry ∷ h)) ≡ 0
+moment_after reason entry h now was = grind (arith, now, was)
+
+-- all of them came at moment 0
+pub last_moment-history : (universe : ℕ) (datagrams : List (List ℕ))
+    → last_moment (history universe datagrams) ≡ 0
+last_moment-history universe [] = refl
+last_moment-history universe (datagram ∷ older) =
+    moment_after (ignored 4 universe (history universe older) 0 datagram)
+    (entry_of 0 (front_packet datagram))
+    (history universe older) refl (last_moment-history universe older)

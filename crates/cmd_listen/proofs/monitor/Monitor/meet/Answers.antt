@@ -1,0 +1,12 @@
+use Rattle.std.proofs.Common.{◌≡◌, ◌∙◌, true, arith}
+use Rattle.std.specs.Prelude.{◌==◌}
+use Rattle.std.proofs.lemmas.Bool.Decides.{nat_tests}
+use Rattle.std.proofs.lemmas.Result.{on_ok_weaker}
+use Rattle.cmd_listen.proofs.monitor.Monitor.meet.Goals as goal
+
+pub returns : goal.returns
+returns c = on_ok_weaker c.hand.result (λ handed k s.
+    let same : c.args.instant.to ≡ k.universe = c.if-instant-self.false ∙ s.universe_is in
+    let here : (c.args.instant.to == k.universe) ≡ true = grind (arith, nat_tests) in
+    rw here (handed k s))
+    c.hand.ensures

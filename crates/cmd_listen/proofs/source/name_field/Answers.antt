@@ -1,0 +1,8 @@
+use Rattle.std.proofs.Common.{refl}
+use Rattle.std.proofs.lemmas.List.{drop-replicate}
+use Rattle.cmd_listen.proofs.Lists.{take_min}
+use Rattle.cmd_listen.proofs.source.name_field.Goals as goal
+
+pub returns : goal.returns
+returns c = rw (c.copy_from_slice.ensures.after, c.min.ensures, drop-replicate)
+    (rw (take_min 64 c.args.name.now) refl)

@@ -1,0 +1,33 @@
+use Rattle.std.proofs.Common.{◌+◌, ◌++◌, ap, sym, ◌∙◌, take, drop, take-append-drop}
+use Rattle.std.proofs.lemmas.List.{drop_more, take_all, take_more}
+use Rattle.cmd_listen.proofs.Faults.{handed_on}
+use Rattle.cmd_listen.proofs.Taking.{ended_behind, taken_more}
+use Rattle.cmd_listen.proofs.stage.Stage.take_bytes.Goals as goal
+
+pub loop-byte-preserved : goal.loop-byte-preserved
+loop-byte-preserved g c =
+    let so_far = c.loop-byte.invariant in
+    let next = c.in_ok-take_byte.ensures in
+    record {
+      told = λ t. so_far.told (next.told t);
+      taken = rw (take_more c.args.bytes.now c.loop-byte.byte-index 0 c.loop-byte-test.true)
+          (taken_more next.told so_far.taken next.taken);
+    }
+
+pub returns-in_err-take_byte-clause-ended : goal.returns-in_err-take_byte-clause-ended
+returns-in_err-take_byte-clause-ended g c =
+    let xs = c.args.bytes.now in
+    let i = c.loop-byte.byte-index in
+    let next = c.in_err-take_byte.ensures in
+    let split = drop_more xs i 0 c.loop-byte-test.true in
+    handed_on _ _ c.from_residual.ensures.1 (ended_behind (drop (i + 1) xs) xs
+    (sym (take-append-drop i xs) ∙ ap (λ l. take i xs ++ l) split) next.told
+    c.loop-byte.invariant.taken next.ended)
+
+pub returns-clause-told : goal.returns-clause-told
+returns-clause-told _ c = c.loop-byte.invariant.told
+
+pub returns-clause-taken : goal.returns-clause-taken
+returns-clause-taken _ c =
+    rw (← take_all c.loop-byte.byte-index c.args.bytes.now c.loop-byte-test.false)
+    c.loop-byte.invariant.taken

@@ -1,0 +1,12 @@
+pub mod Sources
+pub mod Ignored
+pub mod Universe
+pub mod Reading
+pub mod Watching
+pub mod Lines
+pub mod Runs
+pub mod Spelled
+pub mod Stands
+pub mod Stage
+pub mod Laws
+pub mod Listening

@@ -1,0 +1,147 @@
+ghost use Rattle.std.specs.Prelude.{◌≡◌, ◌≤◌, ◌<◌, ◌^◌, ◌++◌, ℕ, Bool, List, Option};
+ghost use Rattle.playback.specs.Placed.{IsAt};
+ghost use Rattle.playback.specs.Played.{Move, moves_by};
+ghost use Rattle.desk.specs.Played.{Act, moved_to};
+ghost use Rattle.console.specs.Stands.{StandsFor};
+ghost use Rattle.console.specs.Streams.{Production};
+ghost use Rattle.console.specs.Spelling.{reading_of};
+ghost use Rattle.cmd_play.specs.Run.{taken};
+ghost use Rattle.live_input.specs.Told.{IsGiven};
+ghost use Rattle.cmd_live.specs.Night.{seen};
+ghost use Rattle.cmd_live.specs.Shown as shown;
+ghost use Rattle.cmd_live.specs.Shown.{cue_lines, made, shown_answer};
+ghost use Rattle.cmd_play.specs.Perform.{own_move};
+ghost use Rattle.cmd_live.specs.Stands.{CarriesOut, Shows, is_accepted};
+
+use crate::booth::Booth;
+use cmd_play::{Answer, perform};
+use console::{Call, Console, cue_line};
+use desk::Command;
+use devices::Link;
+use fade::Fader;
+use live_input::GivenLine;
+use playback::Place;
+use show::Show;
+
+// Records a line and carries it out, and shows its answer and the moves that came by it; how many
+// packets were lost.
+pub fn carry_out<F: Fader, B: Booth, L: Link>(
+    console: &mut Console<F>,
+    given: &GivenLine,
+    booth: &mut B,
+    link: &mut L,
+) -> usize
+    requires real { (p : Production) × (history : List Act)
+        × StandsFor F.stands_for p console.old history }
+    requires spelled { (line : List ℕ) × IsGiven given.now line }
+    ensures told_booth { B.tells booth.new → B.tells booth.old }
+    ensures told_link { L.tells link.new → L.tells link.old }
+    ensures few { result ≤ 16 }
+    ensures stands { (line : List ℕ) → IsGiven given.now line → (p : Production)
+        (history : List Act) → StandsFor F.stands_for p console.old history
+        → StandsFor F.stands_for p console.new (taken p.show (reading_of line) history) }
+    ensures carried_out { (line : List ℕ) → IsGiven given.now line → (p : Production)
+        (history : List Act) → StandsFor F.stands_for p console.old history
+        → B.tells booth.new → L.tells link.new
+        → CarriesOut p history line (seen (B.state booth.old) (L.offered link.old))
+        (seen (B.state booth.new) (L.offered link.new)) result }
+{
+    let _ = booth.keep(given.text.as_slice(), link);
+    let place = console.place();
+    let performed = perform(console, given.moment, given.call, link);
+    show_answer(&performed.answer, given.moment, booth, link);
+    if is_accepted(&performed.answer) {
+        let own = own_move(given.call, performed.current);
+        show_moves(
+            Moves { place, own },
+            console.show(),
+            given.moment,
+            booth,
+            link,
+        );
+    }
+    performed.answer.lost()
+}
+
+// Shows what a console answered, where the operator wants to see it.
+fn show_answer<B: Booth, L: Link>(answer: &Answer, moment: u64, booth: &mut B, link: &L)
+    ensures told { B.tells booth.new → B.tells booth.old }
+    ensures shows { B.tells booth.new → Shows (L.offered link.now) (B.state booth.old)
+        (B.state booth.new) (shown_answer moment answer.now) }
+{
+    if is_shown(answer) {
+        let _ = booth.show(answer.line(moment).as_str().as_bytes(), link);
+    }
+}
+
+fn is_accepted(answer: &Answer) -> bool
+    ensures { result ≡ is_accepted answer.now }
+{
+    match answer {
+        Answer::Refused(_) => false,
+        _ => true,
+    }
+}
+
+fn is_shown(answer: &Answer) -> bool
+    ensures { result ≡ shown.is_shown answer.now }
+{
+    match answer {
+        Answer::Ticked(_, _) => answer.lost() > 0,
+        _ => true,
+    }
+}
+
+// The cue to which an accepted call moved, where it is a move: the one that is current behind it.
+fn own_move(call: Call, current: Option<u32>) -> Option<u32>
+    ensures { result ≡ own_move call current }
+{
+    match call {
+        Call::Order(Command::Go | Command::Back | Command::Goto(_) | Command::GotoIn { .. }) =>
+            current,
+        _ => None,
+    }
+}
+
+// The moves that an accepted call makes: those that are due behind a place, and its own.
+#[derive(Clone, Copy)]
+struct Moves {
+    place: Place,
+    own: Option<u32>,
+}
+
+// Shows the moves that an accepted call made by its moment.
+fn show_moves<B: Booth, L: Link>(due: Moves, show: &Show, moment: u64, booth: &mut B, link: &L)
+    requires { moment < 2 ^ 48 }
+    ensures told { B.tells booth.new → B.tells booth.old }
+    ensures shows { (moves : List Move) (stopped : Bool) (time : Option ℕ)
+        → IsAt show.now due.place moves stopped → B.tells booth.new
+        → Shows (L.offered link.now) (B.state booth.old) (B.state booth.new) (cue_lines
+        (made moves (moved_to due.own moment time (moves_by show.now stopped moment moves)))) }
+{
+    show_follow_ons(due.place, show, moment, booth, link);
+    if let Some(cue) = due.own {
+        let _ = booth.show(cue_line(moment, cue).as_str().as_bytes(), link);
+    }
+}
+
+// Shows the moves that are due by this moment.
+fn show_follow_ons<B: Booth, L: Link>(
+    mut place: Place,
+    show: &Show,
+    moment: u64,
+    booth: &mut B,
+    link: &L,
+)
+    requires { moment < 2 ^ 48 }
+    ensures told { B.tells booth.new → B.tells booth.old }
+    ensures shows { (newer : List Move) × ((moves : List Move) (stopped : Bool)
+        → IsAt show.now place moves stopped
+        → moves_by show.now stopped moment moves ≡ newer ++ moves)
+        × (B.tells booth.new → Shows (L.offered link.now) (B.state booth.old)
+        (B.state booth.new) (cue_lines newer)) }
+{
+    while let Some((cue, at)) = place.follow(show, moment) {
+        let _ = booth.show(cue_line(at, cue).as_str().as_bytes(), link);
+    }
+}

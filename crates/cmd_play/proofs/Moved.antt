@@ -1,0 +1,78 @@
+-- The cue to which an accepted call moves.
+use Rattle.std.proofs.Common.{◌≡◌, ℕ, Bool, true, false, refl, ap, sym, List, ◌∷◌}
+use Rattle.std.proofs.Common.{Option, Some, None, arith, subst}
+use Rattle.std.specs.Prelude.{is_none, is_some, if◌then◌else◌}
+use Rattle.std.specs.Option.{option_or}
+use Rattle.show.specs.Tables.{Tables}
+use Rattle.playback.specs.Played.{Move, current_after, moves_by}
+use Rattle.desk.specs.declared.command.Command.{Command}
+use Rattle.desk.specs.declared.command.Command.TheVariants.{Go, Back, Goto, GotoIn, Sub}
+use Rattle.desk.specs.declared.command.Command.TheVariants.{Group, Master, End}
+use Rattle.desk.specs.declared.answer.Refused.{Refused}
+use Rattle.desk.specs.declared.answer.Refused.TheVariants.{AtEnd, AtStart, NoCue}
+use Rattle.desk.specs.Played as played
+use Rattle.desk.specs.Played.{Act, ended, is_over, is_soon, lacking, lacks, last_moment}
+use Rattle.desk.specs.Played.{last_tick, moved_to, moves, own_time, refusal, target, untimely}
+use Rattle.console.specs.declared.call.Call.{Call}
+use Rattle.console.specs.declared.call.Call.TheVariants.{Order, Tick}
+use Rattle.console.specs.Spelling.{act_of}
+use Rattle.cmd_play.specs.Perform.{own_move}
+
+both_none : (a b : Option Refused) → option_or a b ≡ None → (a ≡ None) × (b ≡ None)
+both_none None b e = (refl, e)
+both_none (Some r) b e = cc
+
+timely : (last moment : ℕ) (over soon : Bool) → untimely last moment over soon ≡ None
+    → over ≡ false
+timely last moment true soon e = grind (arith, e)
+timely last moment false soon e = refl
+
+not_over : (ticks : Option ℕ) (command : Command)
+    → is_over ticks (played.order command) ≡ false → ticks ≡ None
+not_over None command e = refl
+not_over (Some ticks) command e = cc
+
+-- where one reason alone may stand against it
+none_lacks : (lacks : Bool) (why : Refused) → (if lacks then Some why else None) ≡ None
+    → lacks ≡ false
+none_lacks true why e = cc
+none_lacks false why e = refl
+
+-- the cue that was found is current
+there : (found time : Option ℕ) (moment : ℕ) (made : List Move) → is_none found ≡ false
+    → found ≡ current_after (moved_to found moment time made)
+there None time moment made e = cc
+there (Some n) time moment made e = refl
+
+module _ (show : Tables) (history : List Act) (moment : ℕ) where
+  abbrev pub due_moves : List Move
+  due_moves = moves_by show (is_some (ended history)) moment (moves show history)
+
+  -- an accepted command lacks nothing
+  has_all : (command : Command) → refusal show history (act_of moment (Order command)) ≡ None
+      → lacking show (current_after due_moves) (played.order command) ≡ None
+  has_all command e =
+      let parts = both_none _ _ e in
+      let none : ended history ≡ None = not_over (ended history) command
+      (timely (last_moment history) moment _ _ parts.0) in
+      subst (λ (ticks : Option ℕ). lacking show
+      (current_after (moves_by show (is_some ticks) moment (moves show history)))
+      (played.order command) ≡ None) (sym none) parts.1
+
+  pub own_is : (call : Call) → refusal show history (act_of moment call) ≡ None
+      → moves show (act_of moment call ∷ history)
+      ≡ moved_to (own_move call (current_after (moves show (act_of moment call ∷ history)))) moment
+      (own_time (act_of moment call).call) due_moves
+  own_is Tick e = refl
+  own_is (Order (Sub n byte)) e = refl
+  own_is (Order (Group n byte)) e = refl
+  own_is (Order (Master byte)) e = refl
+  own_is (Order End) e = refl
+  own_is (Order Go) e = ap (λ cue. moved_to cue moment None due_moves)
+      (there _ None moment due_moves (none_lacks _ AtEnd (has_all Go e)))
+  own_is (Order Back) e = ap (λ cue. moved_to cue moment None due_moves)
+      (there _ None moment due_moves (none_lacks _ AtStart (has_all Back e)))
+  own_is (Order (Goto n)) e = ap (λ cue. moved_to cue moment None due_moves)
+      (there _ None moment due_moves (none_lacks _ NoCue (has_all (Goto n) e)))
+  own_is (Order (GotoIn n time)) e = ap (λ cue. moved_to cue moment (Some time) due_moves)
+      (there _ (Some time) moment due_moves (none_lacks _ NoCue (has_all (GotoIn n time) e)))

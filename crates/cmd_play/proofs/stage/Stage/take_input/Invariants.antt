@@ -1,0 +1,24 @@
+use Rattle.std.proofs.Common.{◌≡◌, ℕ, List}
+use Rattle.devices.specs.Tape.{with_more}
+use Rattle.cmd_play.specs.Run.{emitted}
+use Rattle.cmd_play.specs.Stage.{HasTaken, room_of}
+use Rattle.cmd_play.proofs.stage.Stage.take_input.Given as goal
+
+-- the bytes so far
+abbrev pub invariant-loop-count : goal.invariant-loop-count
+invariant-loop-count g l =
+    let R = g.R.Feed in
+    let L = g.L.Link in
+    let W = g.W.Output in
+    record {
+      told_input : R.tells l.input → R.tells l.fn.input;
+      told : (L.tells l.link → L.tells l.fn.link) × (W.tells l.out → W.tells l.fn.out);
+      bytes : List ℕ;
+      read : R.tells l.input → R.tape l.input ≡ with_more (R.tape l.fn.input) bytes;
+      taken : HasTaken g.F.Fader.stands_for bytes l.fn.self l.self
+          (L.tells l.link × W.tells l.out) (emitted (L.offered l.fn.link) (W.tape l.fn.out))
+          (emitted (L.offered l.link) (W.tape l.out));
+    }
+
+abbrev pub decreases-loop-count : goal.decreases-loop-count
+decreases-loop-count g l = room_of l.self.number l.self.pending.items

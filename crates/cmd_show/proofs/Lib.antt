@@ -1,0 +1,5 @@
+pub mod Shows
+pub mod Packets
+pub mod Universes
+pub mod Rows
+mod LookRows

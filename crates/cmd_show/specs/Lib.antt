@@ -1,0 +1,4 @@
+pub mod Texts
+pub mod Prints
+pub mod Faults
+pub mod Slots

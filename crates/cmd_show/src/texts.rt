@@ -1,0 +1,98 @@
+ghost use Rattle.std.specs.Prelude.{◌≡◌, ◌<◌, All, IfOk, IfSome, IsTrue, codes, string_bytes};
+ghost use Rattle.std.specs.FinMap as maps;
+ghost use Rattle.sacn_packet.specs.Wire.{IsData};
+ghost use Rattle.cmd_show.specs.Texts.{check_text, counts_line, look_fields, IsLinesOf};
+ghost use Rattle.cmd_show.specs.Texts.{IsLookText};
+
+use sacn_packet::{Header, SourceName, encode};
+use show::{Counts, Frame, Show};
+use show_reader::Loaded;
+use std::alloc::{AllocError, Global};
+
+/// The line that `check` prints.
+pub(crate) fn check_text(alloc: Global, loaded: &Loaded) -> Result<String, AllocError>
+    ensures { IfOk result (λ text. string_bytes text
+        ≡ check_text loaded.now.lines loaded.now.skipped loaded.now.show) }
+{
+    counts_line(alloc, loaded.lines, loaded.show.counts(), loaded.skipped)
+}
+
+fn counts_line(
+    alloc: Global,
+    lines: u32,
+    counts: Counts,
+    skipped: u32,
+) -> Result<String, AllocError>
+    ensures { IfOk result (λ text. string_bytes text
+        ≡ counts_line lines counts.cues counts.subs counts.groups counts.dimmers skipped) }
+{
+    let Counts {
+        cues,
+        subs,
+        groups,
+        dimmers,
+    } = counts;
+    format!(in alloc;
+        "lines {lines} cues {cues} subs {subs} groups {groups} dimmers {dimmers} \
+        skipped {skipped}\n"
+    )
+}
+
+/// The lines that `look` prints: the packets of the cue, in hex.
+pub(crate) fn look_text(
+    alloc: Global,
+    show: &Show,
+    cue: u32,
+    cid: [u8; 16],
+) -> Result<Vec<u8>, AllocError>
+    requires { IsTrue (maps.contains_key show.now.cues cue) }
+    ensures { IfOk result (λ text. IfSome (maps.get show.now.cues cue) (λ look.
+        IsLookText look.levels show.now.patch cid text.items)) }
+{
+    look_lines(alloc, show, cue, cid, show.universes().as_slice())
+}
+
+fn look_lines(
+    alloc: Global,
+    show: &Show,
+    cue: u32,
+    cid: [u8; 16],
+    ordinals: &[u16],
+) -> Result<Vec<u8>, AllocError>
+    requires there { IsTrue (maps.contains_key show.now.cues cue) }
+    requires range { All (λ ordinal. ordinal < 16) ordinals.now }
+    ensures { IfOk result (λ text. IfSome (maps.get show.now.cues cue) (λ look.
+        IsLinesOf look.levels show.now.patch cid ordinals.now text.items)) }
+{
+    let mut text = Vec::new(alloc);
+    for ordinal in ordinals {
+        let packet = look_packet(cid, *ordinal, &show.look_slots(cue, *ordinal));
+        let digits = hex::encode(alloc, packet)?;
+        text.extend_from_slice(digits.as_bytes())?;
+        text.push(b'\n')?;
+    }
+    Ok(text)
+}
+
+fn look_packet(cid: [u8; 16], ordinal: u16, slots: &Frame) -> [u8; 638]
+    requires { ordinal < 16 }
+    ensures { IsData result (look_fields cid ordinal) slots.now }
+{
+    let header = Header {
+        cid,
+        name: source_name(),
+        priority: 100,
+        sequence: 0,
+        options: 0,
+        universe: ordinal + 1,
+    };
+    let mut packet = [0; 638];
+    encode(&header, slots, &mut packet);
+    packet
+}
+
+fn source_name() -> SourceName
+    ensures { result ≡ codes "cueplayer" }
+{
+    SourceName::new("cueplayer").unwrap()
+}

@@ -1,0 +1,22 @@
+use Rattle.std.proofs.Common.{◌++◌, ◌∙◌, ap, codes, arith}
+use Rattle.masters.specs.Settings.{sub_after}
+use Rattle.console.specs.WhereLine.{master_text}
+use Rattle.console.proofs.Numbers.{all_subs, number_more}
+use Rattle.console.proofs.whereabouts.push_subs.Goals as goal
+
+pub loop-n-preserved : goal.loop-n-preserved
+loop-n-preserved c = record {
+  text = λ settings stands. number_more
+      (λ n. master_text (codes "sub") n (sub_after settings n)) c.args.line.now.bytes
+      c.loop-n.line.bytes c.push_master.new.line.bytes c.loop-n.n c.loop-n.auto.n
+      (c.loop-n.invariant.text settings stands)
+      (c.push_master.ensures.text ∙ ap
+      (λ byte. c.loop-n.line.bytes ++ master_text (codes "sub") c.loop-n.n byte)
+      (c.sub.ensures settings stands));
+  room = omega (arith, c.loop-n.invariant.room, c.push_master.ensures.room);
+}
+
+pub returns-clause-text : goal.returns-clause-text
+returns-clause-text c = λ settings stands. all_subs settings _ _ c.loop-n.n
+    (omega (arith, c.loop-n-test.false, c.loop-n.auto.n-end))
+    (c.loop-n.invariant.text settings stands)

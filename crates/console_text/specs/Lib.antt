@@ -1,4 +1,0 @@
-pub mod Spelling
-pub mod Texts
-pub mod CueLine
-pub mod WhereLine

@@ -1,6 +1,0 @@
-use Rattle.std.proofs.Common.{◌∙◌, ap, sym, length}
-use Rattle.std.specs.FinMap as maps
-use Rattle.cueplayer_cues.proofs.cue_rows.channel_count.Goals as goal
-
-pub returns : goal.returns
-returns c = ap length c.pairs.ensures.entries ∙ sym (maps.len-entries c.args.levels.now)

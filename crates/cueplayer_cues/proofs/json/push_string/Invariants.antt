@@ -1,8 +1,0 @@
-use Rattle.std.proofs.Common.{◌≡◌, ◌++◌, codes, flat_map, take}
-use Rattle.cueplayer_cues.specs.Json.{string_byte}
-use Rattle.cueplayer_cues.proofs.json.push_string.Given as goal
-
-abbrev pub invariant-loop-byte : goal.invariant-loop-byte
-invariant-loop-byte l =
-    l.text.items
-    ≡ (l.fn.text.items ++ codes "\"") ++ flat_map string_byte (take l.byte-index l.bytes)

@@ -1,9 +1,0 @@
-use Rattle.std.proofs.Common.{◌∙◌, ap, sym}
-use Rattle.cueplayer_cues.specs.Labels.{label_news_of}
-use Rattle.cueplayer_cues.proofs.Labelling.{opened_news}
-use Rattle.cueplayer_cues.proofs.label_line.label_line.Goals as goal
-
-pub returns-in-Opens : goal.returns-in-Opens
-returns-in-Opens c = λ r kind.
-    c.label.ensures r kind ∙ opened_news r c.in-Opens.opened kind c.args.owner c.args.line.now
-    ∙ ap (λ s. label_news_of r kind c.args.owner s c.args.line.now) (sym c.in-Opens.is)

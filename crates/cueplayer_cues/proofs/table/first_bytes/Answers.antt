@@ -1,9 +1,0 @@
-use Rattle.std.proofs.Common.{◌∙◌, ap, length, take}
-use Rattle.std.proofs.lemmas.List.{take_min}
-use Rattle.std.proofs.Math.Nat.{min_comm}
-use Rattle.cueplayer_cues.proofs.table.first_bytes.Goals as goal
-
-pub returns : goal.returns
-returns c =
-    let label = c.args.label.now in
-    ap (λ n. take n label) (c.min.ensures ∙ min_comm (length label) 80) ∙ take_min 80 label

@@ -1,8 +1,0 @@
-use Rattle.std.proofs.Common.{◌≡◌, ◌==◌, ℕ, take}
-use Rattle.std.specs.List.{list_any}
-use Rattle.cueplayer_explain.specs.ShowNotes.{is_marked}
-use Rattle.cueplayer_explain.proofs.channels.patched_channels.Given as goal
-
-abbrev pub invariant-loop-channel : goal.invariant-loop-channel
-invariant-loop-channel l = (channel : ℕ) → is_marked l.patched channel
-    ≡ list_any (λ e. e.1.0 == channel) (take l.channel-index l.channel-items)

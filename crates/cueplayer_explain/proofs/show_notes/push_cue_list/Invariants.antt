@@ -1,8 +1,0 @@
-use Rattle.std.proofs.Common.{◌≡◌, ◌++◌, codes, flat_map, take}
-use Rattle.cueplayer_explain.specs.Decimals.{decimal_text}
-use Rattle.cueplayer_explain.proofs.show_notes.push_cue_list.Given as goal
-
-abbrev pub invariant-loop-n : goal.invariant-loop-n
-invariant-loop-n l =
-    l.out.items
-    ≡ l.initial.out.items ++ flat_map (λ n. codes " " ++ decimal_text n) (take l.n-index l.cues)

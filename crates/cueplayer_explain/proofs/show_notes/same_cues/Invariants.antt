@@ -1,9 +1,0 @@
-use Rattle.std.proofs.Common.{◌≡◌, ◌++◌, None, drop}
-use Rattle.cueplayer_explain.specs.ShowNotes.{same_cues}
-use Rattle.cueplayer_explain.proofs.show_notes.same_cues.Given as goal
-
--- all are those that were found, and those among the cues that are left
-abbrev pub invariant-loop-n : goal.invariant-loop-n
-invariant-loop-n l =
-    same_cues l.show.cues None l.cues
-    ≡ l.same.items ++ same_cues l.show.cues l.before (drop l.n-index l.cues)

@@ -1,8 +1,0 @@
-use Rattle.std.proofs.Common.{ℕ, List}
-use Rattle.ascii_text.specs.LinesLeft.{lines_left}
-use Rattle.cueplayer_explain.proofs.Lines.{StandsBehind}
-use Rattle.cueplayer_explain.proofs.skipped.skipped_lines.Given as goal
-
-abbrev pub invariant-loop-line : goal.invariant-loop-line
-invariant-loop-line l = (lines : List (List ℕ)) × (left : List (List ℕ))
-    × StandsBehind l.text l.lines lines left (lines_left l.line-iterator) l.above l.out.items

@@ -1,5 +1,0 @@
-pub mod Texts
-pub mod Prints
-pub mod Faults
-pub mod Listening
-pub mod Slots

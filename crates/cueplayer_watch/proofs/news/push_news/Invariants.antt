@@ -1,8 +1,0 @@
-use Rattle.std.proofs.Common.{◌≡◌, ◌++◌, take, flat_map}
-use Rattle.cueplayer_watch.specs.Sources.{news}
-use Rattle.cueplayer_watch.proofs.news.push_news.Given as goal
-
--- the lines so far
-abbrev pub invariant-loop-source : goal.invariant-loop-source
-invariant-loop-source l = l.text.items
-    ≡ l.fn.text.items ++ flat_map (news l.head l.before l.after) (take l.source-index l.after)

@@ -1,8 +1,0 @@
-use Rattle.std.proofs.Common.{refl}
-use Rattle.std.proofs.lemmas.List.{drop-replicate}
-use Rattle.cueplayer_watch.proofs.Lists.{take_min}
-use Rattle.cueplayer_watch.proofs.source.name_field.Goals as goal
-
-pub returns : goal.returns
-returns c = rw (c.copy_from_slice.ensures.after, c.min.ensures, drop-replicate)
-    (rw (take_min 64 c.args.name.now) refl)

@@ -1,8 +1,0 @@
-use Rattle.std.proofs.Common.{◌≡◌, map, take}
-use Rattle.sacn_receiver.specs.Shown.{greatest}
-use Rattle.cueplayer_watch.proofs.sources.top.Given as goal
-
--- the greatest so far
-abbrev pub invariant-loop-source : goal.invariant-loop-source
-invariant-loop-source l =
-    l.top ≡ greatest (map (λ s. s.priority) (take l.source-index l.sources))

@@ -1,8 +1,0 @@
-use Rattle.std.proofs.Common.{◌≡◌, ◌++◌, take, flat_map}
-use Rattle.cueplayer_watch.specs.Sources.{shown_byte}
-use Rattle.cueplayer_watch.proofs.text.push_name.Given as goal
-
--- the bytes so far
-abbrev pub invariant-loop-byte : goal.invariant-loop-byte
-invariant-loop-byte l =
-    l.text.items ≡ l.fn.text.items ++ flat_map shown_byte (take l.byte-index l.field)

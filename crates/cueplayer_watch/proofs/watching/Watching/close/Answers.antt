@@ -1,9 +1,0 @@
-use Rattle.std.proofs.Common.{refl}
-use Rattle.std.proofs.lemmas.Result.{on_ok_weaker}
-use Rattle.cueplayer_watch.proofs.Passing.{closes}
-use Rattle.cueplayer_watch.proofs.watching.Watching.close.Goals as goal
-
-pub returns : goal.returns
-returns c = on_ok_weaker c.pass.result (λ pass w s.
-    closes _ c.args.self.now _ w c.args.text.now.items _ s refl (pass w))
-    c.pass.ensures

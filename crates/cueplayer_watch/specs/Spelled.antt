@@ -1,9 +1,0 @@
--- What was read of a line, as contracts see it.
-use Rattle.cueplayer_watch.specs.declared.line.Line.{Line}
-use Rattle.cueplayer_watch.specs.declared.line.Line.TheVariants.{Blank, Malformed, At}
-use Rattle.cueplayer_watch.specs.Reading.{Spelled, blank, malformed, at}
-
-abbrev pub spelled_of : Line → Spelled
-spelled_of Blank = blank
-spelled_of Malformed = malformed
-spelled_of (At moment datagram) = at moment datagram.items

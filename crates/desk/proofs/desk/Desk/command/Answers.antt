@@ -1,0 +1,21 @@
+use Rattle.std.proofs.Common.{rules, sym, ◌∙◌}
+use Rattle.desk.proofs.Drawn.{both, floors_same}
+use Rattle.desk.proofs.desk.Desk.command.Goals as goal
+
+pub returns-clause-stands : goal.returns-clause-stands
+returns-clause-stands g c = rw (← c.self.view_is) (λ show base history stands. record {
+  show_is = search rules;
+  base_is = search rules;
+  playback_stands = search rules;
+  masters_stand = search rules;
+  moment_is = search rules;
+  tick_is = search rules;
+  ended_is = search rules;
+  frames_are = search rules;
+  floors_are = λ kept channel is.
+      let parts = both c.self.inside.are_floors c.keeps_floors.result kept in
+      stands.floors_are parts.0 channel is
+      ∙ floors_same show history c.args.moment channel c.args.command (sym
+      c.keeps_floors.ensures ∙ parts.1);
+  kept = search rules;
+})

@@ -1,0 +1,27 @@
+use Rattle.std.proofs.Common.{◌≡◌, ℕ, IsTrue, ap, ◌∙◌, arith, rules}
+use Rattle.std.specs.Vec.{with_items}
+use Rattle.std.proofs.lemmas.List.{with_items_is}
+use Rattle.show.specs.Numbers.{is_channel}
+use Rattle.masters.specs.Merged.{merged_after}
+use Rattle.patch.specs.Frame.{listed_level}
+use Rattle.desk.specs.Played.{settings}
+use Rattle.desk.proofs.desk.Desk.keep_floors.Goals as goal
+
+pub returns-then-not-self-clause-stands : goal.returns-then-not-self-clause-stands
+returns-then-not-self-clause-stands g c =
+    rw (← c.self.view_is) (λ show base history stands.
+    let written : (with_items c.self.inside.floors c.write_floors.new.floors).items
+    ≡ c.write_floors.new.floors = with_items_is c.self.inside.floors c.write_floors.new.floors
+    (omega (
+      arith,
+      c.write_floors.auto.floors,
+      c.deref_mut.ensures.len,
+      c.self.inside.floors.ok.0,
+    )) in
+    let floors_are : (channel : ℕ) → IsTrue (is_channel channel)
+    → listed_level (with_items c.self.inside.floors c.write_floors.new.floors).items channel
+    ≡ merged_after show (settings history) channel 0 = λ channel is.
+    ap (λ fs. listed_level fs channel) written
+    ∙ c.write_floors.ensures.levels (settings history) stands.masters_stand channel is
+    ∙ ap (λ s. merged_after s (settings history) channel 0) stands.show_is in
+    search rules)

@@ -1,0 +1,17 @@
+use Rattle.std.proofs.Common.{◌≡◌, ◌<◌, ◌≤◌, ◌+◌, ℕ, Bool, List, get_or}
+use Rattle.std.specs.Prelude.{max}
+use Rattle.show.specs.Tables.{Tables}
+use Rattle.playback.specs.Played.{Move, playback_level}
+use Rattle.playback.specs.Stands as playback
+use Rattle.desk.proofs.frames.merge_levels.Given as goal
+
+-- the levels so far are merged, and in their range
+abbrev pub invariant-loop-channel : goal.invariant-loop-channel
+invariant-loop-channel g l = record {
+  merged : (show : Tables) (moves : List Move) (stopped : Bool)
+      → playback.StandsFor g.F.Fader.stands_for
+      show l.playback moves stopped → (place : ℕ) → place + 1 < l.channel
+      → get_or l.levels place 0 ≡ max (playback_level show moves (place + 1) (g.F.Fader.latest
+      l.playback.fader)) (get_or l.floors place 0);
+  full : (place : ℕ) → place + 1 < l.channel → get_or l.levels place 0 ≤ 65025;
+}

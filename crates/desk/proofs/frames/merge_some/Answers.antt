@@ -1,0 +1,6 @@
+use Rattle.std.proofs.Common.{arith}
+use Rattle.std.proofs.lemmas.Grind.{common_steps}
+use Rattle.desk.proofs.frames.merge_some.Goals as goal
+
+pub loop-channel-preserved : goal.loop-channel-preserved
+loop-channel-preserved g c = grind (arith, common_steps)

@@ -1,0 +1,44 @@
+-- What a desk keeps, against its history.
+use Rattle.std.specs.Prelude.{◌≡◌, ◌<◌, ℕ, Bool, true, false, IsTrue, List, Some, is_some}
+use Rattle.std.specs.Prelude.{slice_get}
+use Rattle.show.specs.Numbers.{is_channel}
+use Rattle.show.specs.Tables.{Tables}
+use Rattle.fade.specs.Level.{Start}
+use Rattle.playback.specs.Stands as playback
+use Rattle.masters.specs.Settings as masters
+use Rattle.masters.specs.Merged.{merged_after}
+use Rattle.masters.specs.Settings.{grand_after}
+use Rattle.patch.specs.Frame.{listed_level, AreDrawn}
+use Rattle.desk.specs.declared.command.Command.{Command}
+use Rattle.desk.specs.declared.command.Command.TheVariants.{Sub, Group}
+use Rattle.desk.specs.DeskState.{DeskState}
+use Rattle.desk.specs.Played.{Act, last_moment, last_tick, ended, moves, settings}
+use Rattle.desk.specs.Meaning.{channel_level, latest_frame}
+
+-- a command sets no submaster and no group, so that their levels stay
+abbrev pub keeps_floors : Command → Bool
+keeps_floors (Sub n byte) = false
+keeps_floors (Group n byte) = false
+keeps_floors _ = true
+
+-- a desk stands for a history of a show with a base: each part that it keeps is what the history
+-- leaves
+pub record StandsFor {F : Type 0} (fader_stands_for : F → List Start → Type 0) (show : Tables)
+    (base : ℕ) (desk : DeskState F) (history : List Act) : Type 0 where
+  pub show_is : desk.show ≡ show
+  pub base_is : desk.base ≡ base
+  pub playback_stands : playback.StandsFor fader_stands_for show desk.playback (moves show history)
+      (is_some (ended history))
+  pub masters_stand : masters.StandsFor desk.masters (settings history)
+  pub moment_is : desk.last_moment ≡ last_moment history
+  pub tick_is : desk.last_tick ≡ last_tick history
+  pub ended_is : desk.ended ≡ ended history
+  pub frames_are : (ordinal : ℕ) → ordinal < 16
+      → slice_get desk.frames ordinal ≡ Some (latest_frame show history ordinal)
+  -- the floors that are kept are the levels of the channels over a dark playback
+  pub floors_are : IsTrue desk.are_floors → (channel : ℕ) → IsTrue (is_channel channel)
+      → listed_level desk.floors channel ≡ merged_after show (settings history) channel 0
+  -- what is kept is what the show means at the moment of the last call
+  pub kept : IsTrue desk.is_kept
+      → AreDrawn show.patch (channel_level show history desk.last_moment)
+      (grand_after (settings history)) desk.frames

@@ -1,0 +1,185 @@
+ghost use Rattle.std.specs.Prelude.{◌≡◌, ◌<◌, ℕ, Bool, List, Some, All, EachIndex};
+ghost use Rattle.std.specs.Prelude.{IsTrue, IsFalse, IfOk, Contains};
+ghost use Rattle.std.specs.Prelude.{length, max, replicate, slice_get, slice_index};
+ghost use Rattle.std.specs.FinMap as maps;
+ghost use Rattle.show.specs.Numbers.{is_channel, AreLevels};
+ghost use Rattle.show.specs.Tables.{Tables};
+ghost use Rattle.playback.specs.Played.{Move, playback_level};
+ghost use Rattle.playback.specs.Stands as playback_stands;
+ghost use Rattle.patch.specs.Frame.{listed_level, AreDrawn};
+ghost use Rattle.desk.specs.Meaning.{dark};
+
+use fade::Fader;
+use patch::Rig;
+use playback::Playback;
+use show::{CHANNELS, Frame, UNIVERSES};
+use std::alloc::{AllocError, Global};
+
+// What a tick shows of each channel: the higher of its floor and of the playback's level at the
+// latest moment that the playback was given.
+#[derive(Drop)]
+pub struct Merged<'a, F: Fader> {
+    pub playback: &'a Playback<F>,
+    pub floors: &'a [u16],
+    // Where it is false, there is nothing to merge.
+    pub has_floors: bool,
+    ghost each_channel: { length floors.now ≡ 4096 },
+    ghost full: { AreLevels floors.now },
+    ghost none: { IsFalse has_floors → All (λ floor. floor ≡ 0) floors.now },
+}
+
+// A frame for each ordinal, with every slot at 0.
+pub fn dark_frames(alloc: Global) -> Result<Vec<Frame>, AllocError>
+    ensures { IfOk result (λ frames. frames.items ≡ replicate 16 dark) }
+{
+    let mut frames = Vec::with_capacity(alloc, usize::from(UNIVERSES))?;
+    for _ordinal in 0..UNIVERSES {
+        frames.push([0; 512])?;
+    }
+    Ok(frames)
+}
+
+// Whether a floor is above 0.
+pub fn has_floors(floors: &[u16]) -> bool
+    ensures { IsFalse result → All (λ floor. floor ≡ 0) floors.now }
+{
+    floors.iter().any(|floor| *floor > 0)
+}
+
+// Draws the frames of the merged levels.
+pub fn draw_merged<F: Fader>(
+    frames: &mut [Frame],
+    levels: &mut [u16],
+    rig: &Rig,
+    merged: &Merged<'_, F>,
+    grand: u8,
+)
+    requires each_ordinal { length frames.old ≡ 16 }
+    requires levels { length levels.old ≡ 4096 }
+    requires levels_full { AreLevels levels.old }
+    ensures drawn { (show : Tables) (moves : List Move) (stopped : Bool) (level : ℕ → ℕ)
+        → All (λ e. IsTrue (is_channel e.1.0)) (maps.entries rig.now.patch)
+        → playback_stands.StandsFor F.stands_for show merged.now.playback.now moves stopped
+        → ((channel : ℕ) → IsTrue (is_channel channel)
+        → max (playback_level show moves channel (F.latest merged.now.playback.now.fader))
+        (listed_level merged.now.floors.now channel) ≡ level channel)
+        → AreDrawn rig.now.patch level grand frames.new }
+    ensures full { AreLevels levels.new }
+{
+    match merged.playback.levels() {
+        Some(playing) if !merged.has_floors => rig.draw(frames, playing, grand),
+        _ => {
+            merge_levels(levels, merged.playback, merged.floors);
+            rig.draw(frames, levels, grand);
+        }
+    }
+}
+
+// Writes the level of each channel: the higher of its floor and of the playback's level at the
+// latest moment that the playback was given.
+fn merge_levels<F: Fader>(levels: &mut [u16], playback: &Playback<F>, floors: &[u16])
+    requires levels { length levels.old ≡ 4096 }
+    requires floors { length floors.now ≡ 4096 }
+    requires full { AreLevels floors.now }
+    ensures merged { (show : Tables) (moves : List Move) (stopped : Bool)
+        → playback_stands.StandsFor F.stands_for show playback.now moves stopped
+        → (channel : ℕ) → IsTrue (is_channel channel)
+        → listed_level levels.new channel
+        ≡ max (playback_level show moves channel (F.latest playback.now.fader))
+        (listed_level floors.now channel) }
+    ensures full { AreLevels levels.new }
+{
+    match playback.levels() {
+        Some(playing) => merge_all(levels, playing, floors),
+        None => {
+            for channel in 1..=CHANNELS {
+                let place = usize::from(channel) - 1;
+                levels[place] = floors[place].max(playback.level(channel) as u16);
+            }
+        }
+    }
+}
+
+// The higher of two levels at each place.
+fn merge_all(levels: &mut [u16], playing: &[u16], floors: &[u16])
+    requires levels { length levels.old ≡ 4096 }
+    requires playing { length playing.now ≡ 4096 }
+    requires floors { length floors.now ≡ 4096 }
+    requires playing_full { AreLevels playing.now }
+    requires floors_full { AreLevels floors.now }
+    ensures merged { EachIndex levels.new (λ place. slice_index levels.new place
+        ≡ max (slice_index playing.now place) (slice_index floors.now place)) }
+    ensures full { AreLevels levels.new }
+{
+    for place in 0..levels.len() {
+        levels[place] = playing[place].max(floors[place]);
+    }
+}
+
+// Draws these channels anew, at the merged levels.
+pub fn redraw_merged<F: Fader>(
+    frames: &mut [Frame],
+    levels: &mut [u16],
+    rig: &Rig,
+    channels: &[u16],
+    merged: &Merged<'_, F>,
+    grand: u8,
+)
+    requires each_ordinal { length frames.old ≡ 16 }
+    requires levels { length levels.old ≡ 4096 }
+    requires levels_full { AreLevels levels.old }
+    requires in_range { All (λ channel. IsTrue (is_channel channel)) channels.now }
+    ensures drawn { (show : Tables) (moves : List Move) (stopped : Bool) (before after : ℕ → ℕ)
+        → AreDrawn rig.now.patch before grand frames.old
+        → ((channel : ℕ) → IsTrue (is_channel channel) → ¬ Contains channels.now channel
+        → before channel ≡ after channel)
+        → playback_stands.StandsFor F.stands_for show merged.now.playback.now moves stopped
+        → All (λ channel.
+        max (playback_level show moves channel (F.latest merged.now.playback.now.fader))
+        (listed_level merged.now.floors.now channel) ≡ after channel) channels.now
+        → AreDrawn rig.now.patch after grand frames.new }
+    ensures full { AreLevels levels.new }
+{
+    match merged.playback.levels() {
+        Some(playing) if !merged.has_floors => rig.redraw(frames, channels, playing, grand),
+        _ => {
+            merge_some(levels, channels, merged.playback, merged.floors);
+            rig.redraw(frames, channels, levels, grand);
+        }
+    }
+}
+
+// Writes the levels of these channels, at the latest moment that the playback was given.
+fn merge_some<F: Fader>(
+    levels: &mut [u16],
+    channels: &[u16],
+    playback: &Playback<F>,
+    floors: &[u16],
+)
+    requires each_channel { length levels.old ≡ 4096 }
+    requires full { AreLevels levels.old }
+    requires in_range { All (λ channel. IsTrue (is_channel channel)) channels.now }
+    requires floors { length floors.now ≡ 4096 }
+    requires floors_full { AreLevels floors.now }
+    ensures merged { (show : Tables) (moves : List Move) (stopped : Bool)
+        → playback_stands.StandsFor F.stands_for show playback.now moves stopped
+        → All (λ channel. listed_level levels.new channel
+        ≡ max (playback_level show moves channel (F.latest playback.now.fader))
+        (listed_level floors.now channel)) channels.now }
+    ensures full { AreLevels levels.new }
+{
+    for channel in channels {
+        let place = usize::from(*channel) - 1;
+        levels[place] = floors[place].max(playback.level(*channel) as u16);
+    }
+}
+
+// Puts every slot at 0.
+pub fn darken(frames: &mut [Frame])
+    ensures { (ordinal : ℕ) → ordinal < length frames.old
+        → slice_get frames.new ordinal ≡ Some dark }
+{
+    for frame in frames.iter_mut() {
+        *frame = [0; 512];
+    }
+}

@@ -1,0 +1,22 @@
+ghost use Rattle.std.specs.Prelude.{◌≡◌, ◌+◌, ◌*◌, ◌≤◌};
+ghost use Rattle.std.specs.Prelude.{IsTrue, All, EachIndex, length, slice_index};
+ghost use Rattle.std.specs.Ordering.{nat_cmp};
+ghost use Rattle.std.specs.FinMap.{is_sorted};
+ghost use Rattle.show.specs.Numbers.{AreLevels};
+ghost use Rattle.fade.specs.Level.{byte_of};
+
+// Puts 255 times the byte of each channel in the look in its place.
+pub fn aim(to: &mut [u16], look: &[(u16, u8)])
+    requires ascending { IsTrue (is_sorted nat_cmp look.now) }
+    requires in_range { All (λ pair. (1 ≤ pair.0) × (pair.0 ≤ length to.old)) look.now }
+    ensures levels { EachIndex to.new (λ place.
+        slice_index to.new place ≡ 255 * byte_of look.now (place + 1)) }
+    ensures full { AreLevels to.new }
+{
+    for level in to.iter_mut() {
+        *level = 0;
+    }
+    for (channel, byte) in look {
+        to[usize::from(*channel) - 1] = 255 * u16::from(*byte);
+    }
+}

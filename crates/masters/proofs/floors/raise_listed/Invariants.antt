@@ -1,0 +1,18 @@
+use Rattle.std.proofs.Common.{◌≡◌, ℕ, ◌+◌, ◌*◌, ◌<◌, IsTrue, get_or, drop, length}
+use Rattle.std.specs.Prelude.{max}
+use Rattle.std.specs.Ordering.{nat_cmp}
+use Rattle.std.specs.FinMap.{is_sorted}
+use Rattle.show.specs.Numbers.{AreLevels}
+use Rattle.masters.proofs.Raised.{byte_in}
+use Rattle.masters.proofs.floors.raise_listed.Given as goal
+
+-- the pairs that are left raise the levels to what all pairs make of them
+abbrev pub invariant-loop-channel : goal.invariant-loop-channel
+invariant-loop-channel l = record {
+  sorted : IsTrue (is_sorted nat_cmp (drop l.channel-index l.pairs));
+  raised : (place : ℕ) → place < length l.floors
+      → max (get_or l.floors place 0) (byte_in (drop l.channel-index l.pairs) (place + 1) *
+      l.master)
+      ≡ max (get_or l.fn.floors place 0) (byte_in l.pairs (place + 1) * l.master);
+  full : AreLevels l.floors;
+}

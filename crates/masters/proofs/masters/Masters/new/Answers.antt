@@ -1,0 +1,11 @@
+use Rattle.std.proofs.Common.{refl, arith}
+use Rattle.std.proofs.lemmas.Bool.Decides.{nat_tests}
+use Rattle.std.proofs.lemmas.List.{get_or-replicate}
+use Rattle.masters.proofs.masters.Masters.new.Goals as goal
+
+pub returns : goal.returns
+returns c = record {
+  subs_are = λ n is. get_or-replicate 101 n 0 0 (grind (arith, nat_tests));
+  groups_are = λ n is. get_or-replicate 501 n 0 0 (grind (arith, nat_tests));
+  grand_is = refl;
+}

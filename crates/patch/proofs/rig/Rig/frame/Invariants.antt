@@ -1,0 +1,16 @@
+use Rattle.std.proofs.Common.{◌≡◌, ℕ, ◌+◌, ◌<◌, get_or, take, length}
+use Rattle.std.specs.Option.{option_map_or}
+use Rattle.std.specs.Ordering.{nat_cmp}
+use Rattle.std.specs.FinMap.{find}
+use Rattle.show.specs.Readers.{slot_of}
+use Rattle.patch.specs.Frame.{listed_level}
+use Rattle.patch.proofs.rig.Rig.frame.Given as goal
+
+-- each slot is that of its dimmer in the part of the patch that is done
+abbrev pub invariant-loop-i : goal.invariant-loop-i
+invariant-loop-i l = record {
+  size : length l.out ≡ 512;
+  so_far : (s : ℕ) → s < 512 → get_or l.out s 0
+      ≡ option_map_or (λ p. slot_of (listed_level l.levels p.0) l.grand p.1)
+      (find nat_cmp (l.first + s) (take l.i l.dimmers)) 0;
+}

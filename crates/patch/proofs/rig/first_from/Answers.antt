@@ -1,0 +1,18 @@
+use Rattle.std.proofs.Common.{rules, of_calls, ltb, arith}
+use Rattle.std.proofs.lemmas.Bool.Decides.{nat_tests}
+use Rattle.std.proofs.lemmas.Fn.{always_returns_same}
+use Rattle.std.proofs.lemmas.List.Sorted.{IsPartitionedBy-ltb}
+use Rattle.patch.proofs.Frames.{rising}
+use Rattle.patch.proofs.rig.first_from.Goals as goal
+
+pub returns : goal.returns
+returns c =
+    let parted = IsPartitionedBy-ltb (λ e. e.0) c.args.dimmers.now c.args.dimmer
+    (rising c.args.dimmers.now c.requires) in
+    let point = c.partition_point.ensures.partitioned (λ e. ltb e.0 c.args.dimmer)
+    (always_returns_same _ _ _ (λ a r f k. search (rules, of_calls))) parted in
+    record {
+      range = search rules;
+      below = λ k d low h. grind (arith, nat_tests, point.0 k d low h);
+      from_on = λ k d low h. grind (arith, nat_tests, point.1 k d low h);
+    }

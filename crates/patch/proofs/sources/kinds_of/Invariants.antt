@@ -1,0 +1,11 @@
+use Rattle.std.proofs.Common.{◌≡◌, ℕ, ◌*◌, ◌<◌, get_or, length}
+use Rattle.patch.specs.Sources.{AreOf}
+use Rattle.patch.specs.declared.sources.Bytes.TheVariants.{Mixed}
+use Rattle.patch.proofs.sources.kinds_of.Given as goal
+
+-- the kinds of the ordinals so far
+abbrev pub invariant-loop-ordinal : goal.invariant-loop-ordinal
+invariant-loop-ordinal l = record {
+  each : length l.kinds.items ≡ l.ordinal;
+  kinds : (k : ℕ) → k < l.ordinal → AreOf (get_or l.kinds.items k Mixed) l.bytes (512 * k);
+}

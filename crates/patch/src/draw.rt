@@ -1,0 +1,199 @@
+ghost use Rattle.std.specs.Prelude.{◌≡◌, ◌≢◌, ℕ, ◌+◌, ◌*◌, ◌<◌, ◌≤◌};
+ghost use Rattle.std.specs.Prelude.{length, slice_index, slice_index_or};
+ghost use Rattle.show.specs.Numbers.{AreLevels};
+ghost use Rattle.show.specs.Readers.{slot_of};
+ghost use Rattle.show.specs.Tables.{PatchMap};
+ghost use Rattle.patch.specs.Frame.{AreDrawn, listed_level};
+ghost use Rattle.patch.specs.Sources.{AreOf, AreSources};
+ghost use Rattle.patch.specs.declared.sources.Bytes.TheVariants.{Mixed};
+
+use crate::sources::Bytes;
+use show::{CHANNELS, Frame, SLOTS, slot};
+
+// Writes the slots of each ordinal, from the level at each dimmer's place and from its byte.
+pub fn draw_frames(
+    frames: &mut [Frame],
+    levels: &[u16],
+    sources: &[u16],
+    bytes: &[u8],
+    kinds: &[Bytes],
+    grand: u8,
+)
+    requires each_ordinal { length frames.old ≡ 16 }
+    requires each_channel { length levels.now ≡ 4096 }
+    requires full { AreLevels levels.now }
+    requires sources { length sources.now ≡ 8192 }
+    requires in_range { (p : ℕ) → slice_index sources.now p < 4096 }
+    requires bytes { length bytes.now ≡ 8192 }
+    requires each_kind { length kinds.now ≡ 16 }
+    requires kinds { (k : ℕ) → k < 16
+        → AreOf (slice_index_or kinds.now k Mixed) bytes.now (512 * k) }
+    ensures { (patch : PatchMap) → AreSources patch sources.now bytes.now
+        → AreDrawn patch (listed_level levels.now) grand frames.new }
+{
+    let mut slots = [0; 4096];
+    if grand == 255 {
+        fill_full(&mut slots, levels);
+    } else {
+        fill_dimmed(&mut slots, levels, grand);
+    }
+    for ordinal in 0..frames.len() {
+        let first = usize::from(SLOTS) * ordinal;
+        draw_frame(
+            &mut frames[ordinal],
+            levels,
+            &slots,
+            sources,
+            bytes,
+            kinds[ordinal],
+            first,
+            grand,
+        );
+    }
+}
+
+// The slot of each channel at a byte of 255, where the grand master is full: in sixteen bits, of
+// which a processor has more at a time.
+fn fill_full(slots: &mut [u8; 4096], levels: &[u16])
+    requires each_channel { length levels.now ≡ 4096 }
+    requires full { AreLevels levels.now }
+    ensures { (c : ℕ) → c < 4096
+        → slice_index slots.new c ≡ slot_of (slice_index levels.now c) 255 255 }
+{
+    for place in 0..usize::from(CHANNELS) {
+        slots[place] = full_slot(levels[place]);
+    }
+}
+
+// The same for any grand master.
+fn fill_dimmed(slots: &mut [u8; 4096], levels: &[u16], grand: u8)
+    requires each_channel { length levels.now ≡ 4096 }
+    requires full { AreLevels levels.now }
+    ensures { (c : ℕ) → c < 4096
+        → slice_index slots.new c ≡ slot_of (slice_index levels.now c) grand 255 }
+{
+    for place in 0..usize::from(CHANNELS) {
+        slots[place] = slot(u32::from(levels[place]), grand, 255);
+    }
+}
+
+// The slot of a channel at a full grand master and a full byte.
+fn full_slot(level: u16) -> u8
+    requires { level ≤ 65025 }
+    ensures { result ≡ slot_of level 255 255 }
+{
+    ((level + 127) / 255) as u8
+}
+
+// Writes the 512 slots of an ordinal, whose dimmers lie from `first` on.
+fn draw_frame(
+    out: &mut Frame,
+    levels: &[u16],
+    slots: &[u8; 4096],
+    sources: &[u16],
+    bytes: &[u8],
+    kind: Bytes,
+    first: usize,
+    grand: u8,
+)
+    requires each_channel { length levels.now ≡ 4096 }
+    requires full { AreLevels levels.now }
+    requires slots { (c : ℕ) → c < 4096
+        → slice_index slots.now c ≡ slot_of (slice_index levels.now c) grand 255 }
+    requires sources { first + 512 ≤ length sources.now }
+    requires in_range { (p : ℕ) → slice_index sources.now p < 4096 }
+    requires bytes { first + 512 ≤ length bytes.now }
+    requires kind { AreOf kind bytes.now first }
+    ensures size { length out.new ≡ 512 }
+    ensures slots { (s : ℕ) → s < 512 → slice_index out.new s
+        ≡ slot_of (slice_index levels.now (slice_index sources.now (first + s))) grand
+        (slice_index bytes.now (first + s)) }
+{
+    match kind {
+        Bytes::Dark => *out = [0; 512],
+        Bytes::Full => gather_slots(out, slots, sources, first),
+        Bytes::FullOrDark => {
+            gather_slots(out, slots, sources, first);
+            keep_patched(out, bytes, first);
+        }
+        Bytes::Mixed => {
+            let mut own = [0; 512];
+            gather_levels(&mut own, levels, sources, first);
+            fill_scaled(out, &own, bytes, first, grand);
+        }
+    }
+}
+
+// Brings the slot of the channel of each of 512 dimmers.
+fn gather_slots(out: &mut Frame, slots: &[u8; 4096], sources: &[u16], first: usize)
+    requires sources { first + 512 ≤ length sources.now }
+    requires in_range { (p : ℕ) → slice_index sources.now p < 4096 }
+    ensures size { length out.new ≡ 512 }
+    ensures slots { (s : ℕ) → s < 512 → slice_index out.new s
+        ≡ slice_index slots.now (slice_index sources.now (first + s)) }
+{
+    for group in 0..usize::from(SLOTS) / 8 {
+        let place = 8 * group;
+        let eight = eight_slots(slots, sources, first + place);
+        out[place..place + 8].copy_from_slice(&eight);
+    }
+}
+
+// The slots of eight dimmers: LLVM brings them into one number, which a processor writes at once.
+#[inline(always)]
+fn eight_slots(slots: &[u8; 4096], sources: &[u16], first: usize) -> [u8; 8]
+    requires sources { first + 8 ≤ length sources.now }
+    requires in_range { (p : ℕ) → slice_index sources.now p < 4096 }
+    ensures size { length result ≡ 8 }
+    ensures slots { (s : ℕ) → s < 8 → slice_index result s
+        ≡ slice_index slots.now (slice_index sources.now (first + s)) }
+{
+    let mut eight = [0; 8];
+    for place in 0..8 {
+        eight[place] = slots[usize::from(sources[first + place])];
+    }
+    eight
+}
+
+// Puts the slots of 512 dimmers at 0 where their byte is 0.
+fn keep_patched(out: &mut Frame, bytes: &[u8], first: usize)
+    requires bytes { first + 512 ≤ length bytes.now }
+    ensures size { length out.new ≡ 512 }
+    ensures dark { (s : ℕ) → s < 512 → slice_index bytes.now (first + s) ≡ 0
+        → slice_index out.new s ≡ 0 }
+    ensures kept { (s : ℕ) → s < 512 → slice_index bytes.now (first + s) ≢ 0
+        → slice_index out.new s ≡ slice_index out.old s }
+{
+    for place in 0..usize::from(SLOTS) {
+        let kept = out[place];
+        out[place] = if bytes[first + place] == 0 { 0 } else { kept };
+    }
+}
+
+// Brings the level of each of 512 dimmers.
+fn gather_levels(own: &mut [u16; 512], levels: &[u16], sources: &[u16], first: usize)
+    requires each_channel { length levels.now ≡ 4096 }
+    requires full { AreLevels levels.now }
+    requires sources { first + 512 ≤ length sources.now }
+    requires in_range { (p : ℕ) → slice_index sources.now p < 4096 }
+    ensures levels { (s : ℕ) → s < 512 → slice_index own.new s
+        ≡ slice_index levels.now (slice_index sources.now (first + s)) }
+    ensures full { (s : ℕ) → s < 512 → slice_index own.new s ≤ 65025 }
+{
+    for slot in 0..usize::from(SLOTS) {
+        own[slot] = levels[usize::from(sources[first + slot])];
+    }
+}
+
+// The slots of 512 dimmers whose bytes are any.
+fn fill_scaled(out: &mut Frame, own: &[u16; 512], bytes: &[u8], first: usize, grand: u8)
+    requires full { (s : ℕ) → s < 512 → slice_index own.now s ≤ 65025 }
+    requires bytes { first + 512 ≤ length bytes.now }
+    ensures size { length out.new ≡ 512 }
+    ensures slots { (s : ℕ) → s < 512 → slice_index out.new s
+        ≡ slot_of (slice_index own.now s) grand (slice_index bytes.now (first + s)) }
+{
+    for place in 0..usize::from(SLOTS) {
+        out[place] = slot(u32::from(own[place]), grand, bytes[first + place]);
+    }
+}

@@ -1,0 +1,53 @@
+-- The place in the cue list, as the moves that are due are made.
+use Rattle.std.proofs.Common.{◌≡◌, ℕ, ◌≤◌, Bool, true, false, List, [], ◌∷◌, Option, Some, None}
+use Rattle.std.proofs.Common.{refl, sym, ◌∙◌, arith}
+use Rattle.std.specs.Prelude.{unwrap_or, option_map}
+use Rattle.std.proofs.lemmas.Bool.Decides.{nat_tests}
+use Rattle.show.specs.Readers.{cue_above}
+use Rattle.show.specs.Tables.{Tables}
+use Rattle.playback.specs.declared.place.Place.{Place}
+use Rattle.playback.specs.Placed.{IsAt}
+use Rattle.playback.specs.Played.{Move, current_after, due, due_moment, with_due, moves_by}
+use Rattle.playback.specs.Played.{is_by}
+use Rattle.playback.proofs.Due.{with_due-due, with_due-none}
+
+abbrev pub move_to : ℕ → ℕ → Move
+move_to n moment = record { cue = n; moment = moment; time = None }
+
+-- what is due at a moment goes to the cue that was found
+due_is : (show : Tables) (moves : List Move) (n moment : ℕ)
+    → option_map (λ move. move.moment) (due show moves) ≡ Some moment
+    → cue_above show.cues (unwrap_or (current_after moves) 0) ≡ Some n
+    → due show moves ≡ Some (move_to n moment)
+due_is show [] n moment is found = cc
+due_is show (move ∷ older) n moment is found = grind arith
+
+module _ (show : Tables) (moment : ℕ) where
+  -- where a move is due and there is a cue, it is made
+  pub moved : (place after : Place) (n at : ℕ) → place.due ≡ Some at
+      → is_by place.due moment ≡ true → cue_above show.cues (unwrap_or place.current 0) ≡ Some n
+      → after.current ≡ Some n → after.due ≡ due_moment show false (move_to n at ∷ [])
+      → (moves : List Move) (stopped : Bool) → IsAt show place moves stopped
+      → IsAt show after (move_to n at ∷ moves) stopped
+      × (moves_by show stopped moment moves ≡ moves_by show stopped moment (move_to n at ∷ moves))
+  moved place after n at due_at by found current next moves true is = cc
+  moved place after n at due_at by found current next moves false is =
+      let first = due_is show moves n at (sym is.due ∙ due_at) (rw is.current at found) in
+      let by : at ≤ moment = grind (arith, nat_tests) in
+      (record { current = current; due = next }, with_due-due show moment moves _ first by)
+
+  -- where none is due, none is made
+  pub none_made : (next : Option ℕ) (moves : List Move) → next ≡ due_moment show false moves
+      → is_by next moment ≡ false → with_due show moment moves ≡ moves
+  none_made next moves is later = with_due-none show moment moves (grind (arith, nat_tests))
+
+  pub still : (place : Place) → is_by place.due moment ≡ false
+      → (moves : List Move) (stopped : Bool) → IsAt show place moves stopped
+      → moves_by show stopped moment moves ≡ moves
+  still place later moves true is = refl
+  still place later moves false is = none_made place.due moves is.due later
+
+-- what is not due by a moment is not due before
+pub is_by-before : (next : Option ℕ) (earlier moment : ℕ) → earlier ≤ moment
+    → is_by next moment ≡ false → is_by next earlier ≡ false
+is_by-before next earlier moment le later = grind (arith, nat_tests)

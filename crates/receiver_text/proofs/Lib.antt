@@ -1,3 +1,0 @@
-pub mod SlotsLines
-pub mod Digits
-mod Rows

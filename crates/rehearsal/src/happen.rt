@@ -1,0 +1,65 @@
+ghost use Rattle.rehearsal.specs.StageStands.{StageStands, Tells};
+ghost use Rattle.std.specs.Prelude.{◌≡◌, ℕ, List, length, IfOk, OnOk};
+ghost use Rattle.std.specs.Option.{option_map_or};
+ghost use Rattle.rehearsal.specs.declared.event.Event.{Event as EventData};
+ghost use Rattle.rehearsal.specs.declared.reply.Reply.TheVariants as reply;
+ghost use Rattle.rehearsal.specs.World.{World};
+ghost use Rattle.rehearsal.specs.Replies.{missing, replied};
+ghost use Rattle.rehearsal.specs.Stands.{AllStand, AllHear, AllTell, AllBy, IsWithin};
+ghost use Rattle.rehearsal.specs.Stands.{unless_skipped};
+ghost use Rattle.rehearsal.specs.Wanted.{Holds, span_at};
+
+use crate::stage::Stage;
+use crate::steps::{deliver_at, hear_at, order_at, show_at, tick_at};
+use crate::{Reply, What};
+use fade::Fader;
+use sacn_receiver::Receiver;
+use std::alloc::{AllocError, Global};
+
+// What happens at a moment that is not before the last.
+pub(crate) fn happen<F: Fader>(
+    alloc: Global,
+    stages: &mut [Stage<F>],
+    receivers: &mut [Receiver],
+    strays: &[u8],
+    moment: u64,
+    what: What,
+) -> Result<Reply, AllocError>
+    requires real { (w : World) × (past : List EventData)
+        × AllStand (StageStands F.stands_for) stages.old w past }
+    requires early { AllBy receivers.old moment }
+    requires within { IsWithin (length strays.now) what }
+    requires holds { Holds stages.old what }
+    ensures tell { OnOk result (AllTell Tells stages.old → AllTell Tells stages.new) }
+    ensures spans { OnOk result ((i u : ℕ) → span_at stages.new i u ≡ span_at stages.old i u) }
+    ensures reply { IfOk result (λ r. (w : World) (past : List EventData)
+        → w.strays ≡ strays.now → AllStand (StageStands F.stands_for) stages.old w past
+        → AllTell Tells stages.old → AllHear receivers.old w past
+        → r ≡ option_map_or reply.Skipped (missing w past what)
+        (replied w past moment what)) }
+    ensures stands { OnOk result ((w : World) (past : List EventData)
+        → AllStand (StageStands F.stands_for) stages.old w past
+        → AllStand (StageStands F.stands_for) stages.new w (unless_skipped (missing w past what)
+        (record { moment = moment; what = what }) past)) }
+    ensures hear { OnOk result ((w : World) (past : List EventData) → w.strays ≡ strays.now
+        → AllStand (StageStands F.stands_for) stages.old w past → AllTell Tells stages.old
+        → AllHear receivers.old w past
+        → AllHear receivers.new w (unless_skipped (missing w past what)
+        (record { moment = moment; what = what }) past)) }
+{
+    match what {
+        What::Order(console, command) => Ok(order_at(stages, console, moment, command)),
+        What::Tick(console) => tick_at(alloc, stages, console, moment),
+        What::Deliver {
+            receiver,
+            console,
+            universe,
+            k,
+        } => Ok(deliver_at(stages, receivers, receiver, console, universe, k, moment)),
+        What::Stray { receiver, from, to } => {
+            let bytes = &strays[from as usize..to as usize];
+            Ok(hear_at(receivers, receiver, moment, bytes))
+        }
+        What::Show(receiver) => show_at(alloc, receivers, receiver, moment),
+    }
+}

@@ -1,0 +1,59 @@
+//! The rehearsal of a list of events: consoles, receivers and the network between them, in memory;
+//! and what holds of every such list.
+//!
+//! [`rehearse`] answers a reply for each event, and each receiver's slots at the end. Its contract
+//! is the product's headline: in the window, the slots are the levels that the show means at the
+//! latest tick. The [`laws`] say so of the definitions alone, which know no link, no desk and no
+//! receiver's records; a law is called where its words are needed, and does nothing when it runs.
+//!
+//! ```
+//! let setup = Setup { show: 0, base: 1, identity };
+//! let events = [Event { moment: 0, what: What::Tick(0) }];
+//! let rehearsal = Rehearsal {
+//!     shows: &[show],
+//!     consoles: &[setup],
+//!     receivers: &[1],
+//!     events: &events,
+//!     strays: &[],
+//! };
+//! let report = rehearse::<StepFader>(rt.alloc(), rehearsal)?;
+//! // report.replies has the reply to each event; report.last each receiver's slots at the end.
+//! ```
+#![tactic(auto)]
+
+mod answers;
+mod event;
+mod few_offers;
+mod happen;
+pub mod laws;
+mod listening;
+mod lows;
+mod opening;
+mod packets;
+mod perform;
+mod queue;
+mod rehearsal;
+mod releasing;
+mod replay;
+mod reply;
+mod report;
+mod row;
+mod setup;
+mod shelf;
+mod shelves;
+mod showing;
+mod shown_slots;
+mod stage;
+mod step;
+mod steps;
+mod tick_offers;
+
+pub use console::Offers;
+pub use event::{Event, What};
+pub use rehearsal::{Rehearsal, rehearse};
+pub use rehearsal_faults::Fault;
+pub use reply::{Reply, Skip};
+pub use report::Report;
+pub use setup::Setup;
+pub use shown_slots::ShownSlots;
+pub use tick_offers::TickOffers;

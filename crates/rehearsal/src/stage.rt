@@ -1,0 +1,156 @@
+ghost use Rattle.std.specs.Prelude.{◌≡◌, ◌↔◌, ℕ, List, [], ◌∷◌, map, IfOk, OnOk, OnErr, Err};
+ghost use Rattle.std.specs.Prelude.{IsFalse, ◌+◌, ◌≤◌, ◌++◌, false, take};
+ghost use Rattle.std.specs.Option.{option_map};
+ghost use Rattle.patch.specs.Frame.{is_base};
+ghost use Rattle.patch.specs.declared.fault.RigFault.TheVariants.{Universe};
+ghost use Rattle.desk.specs.Played.{Act, ended, outcome, refusal, ticked};
+ghost use Rattle.console.specs.Streams.{Production, dues_at, order_at, tick_at};
+ghost use Rattle.rehearsal.specs.Happened.{bytes_of};
+ghost use Rattle.rehearsal.specs.Replies.{due_answer};
+ghost use Rattle.rehearsal.specs.Sends.{sends_of, sent_to};
+ghost use Rattle.rehearsal.specs.Shelves.{IsRest, KeepsFrom, gone_of, kept_of};
+
+use crate::Offers;
+use crate::packets::Packets;
+use crate::shelf::Shelf;
+use crate::shelves::{keep_all, packet, release};
+use console::Console;
+use desk::{Command, Refused, Ticked};
+use fade::Fader;
+use patch::RigFault;
+use sacn_source::Identity;
+use show::Show;
+use std::alloc::Global;
+
+// A console of a rehearsal, the packets of its latest tick, and those that an event to come may
+// deliver.
+#[derive(Drop)]
+pub struct Stage<F: Fader> {
+    pub console: Console<F>,
+    pub link: Packets,
+    // One for each universe of which a packet was sent.
+    pub shelves: Vec<Shelf>,
+    // No event delivers a packet behind this one of any universe.
+    pub last: u64,
+}
+
+// Moves the packets of a tick to their shelves.
+fn shelve(alloc: Global, shelves: &mut Vec<Shelf>, last: u64, link: &mut Packets)
+    ensures tells { link.new.full ≡ false → link.old.full ≡ false }
+    ensures rest { link.new.full ≡ false → (u : ℕ) (all : List (List ℕ))
+        → IsRest (gone_of shelves.old.items u) (kept_of shelves.old.items u) (take (last + 1) all)
+        → IsRest (gone_of shelves.new.items u) (kept_of shelves.new.items u)
+        (take (last + 1) (all ++ sent_to u (sends_of link.old))) }
+    ensures gone { link.new.full ≡ false → (u : ℕ)
+        → gone_of shelves.new.items u ≡ gone_of shelves.old.items u }
+    ensures empty { link.new.rows ≡ [] }
+{
+    if keep_all(alloc, shelves, last, &mut link.rows, &mut link.spare).is_err() {
+        link.full = true;
+    }
+}
+
+impl<F: Fader> Stage<F> {
+    ghost use Rattle.rehearsal.specs.StageStands.{StageStands, Tells};
+
+    // A console that has sent nothing yet, of whose universes no event delivers a packet behind
+    // packet `last`.
+    pub fn open(
+        alloc: Global,
+        show: &Show,
+        base: u16,
+        source: Identity,
+        last: u64,
+    ) -> Result<Self, RigFault>
+        ensures stands { IfOk result (λ stage. StageStands F.stands_for stage
+            (record { show = show.now; base = base; source = source }) []) }
+        ensures tells { IfOk result (λ stage. Tells stage) }
+        ensures last { IfOk result (λ stage. stage.last ≡ last) }
+        ensures universe { (result ≡ Err Universe) ↔ IsFalse (is_base show.now.patch base) }
+    {
+        let console = Console::open(alloc, show, base, source)?;
+        Ok(Stage {
+            console,
+            link: Packets::new(alloc),
+            shelves: Vec::new(alloc),
+            last,
+        })
+    }
+
+    // Carries out a command.
+    pub fn order(&mut self, moment: u64, command: Command) -> Result<(), Refused>
+        ensures still_tells { Tells self.old → Tells self.new }
+        ensures answer { (p : Production) (history : List Act)
+            → StageStands F.stands_for self.old p history
+            → result ≡ outcome (refusal p.show history (order_at moment command)) tt }
+        ensures stands { OnOk result ((p : Production) (history : List Act)
+            → StageStands F.stands_for self.old p history
+            → StageStands F.stands_for self.new p (order_at moment command ∷ history)) }
+        ensures gone { (u : ℕ)
+            → gone_of self.new.shelves.items u ≡ gone_of self.old.shelves.items u }
+        ensures last { self.new.last ≡ self.old.last }
+        ensures unchanged { OnErr result (self.new ≡ self.old) }
+    {
+        self.console.command(moment, command)
+    }
+
+    // Shows every universe anew, and sends what is due.
+    pub fn tick(&mut self, alloc: Global, moment: u64) -> Result<(Ticked, Offers), Refused>
+        requires real { (p : Production) × (history : List Act)
+            × StageStands F.stands_for self.old p history }
+        ensures answer { (p : Production) (history : List Act)
+            → StageStands F.stands_for self.old p history → Tells self.new
+            → result ≡ outcome (refusal p.show history (tick_at moment))
+            (ticked (ended history), map due_answer (dues_at p history moment)) }
+        ensures stands { OnOk result ((p : Production) (history : List Act)
+            → StageStands F.stands_for self.old p history
+            → StageStands F.stands_for self.new p (tick_at moment ∷ history)) }
+        ensures kept { OnErr result ((p : Production) (history : List Act)
+            → StageStands F.stands_for self.old p history
+            → StageStands F.stands_for self.new p history) }
+        ensures gone { Tells self.new → (u : ℕ)
+            → gone_of self.new.shelves.items u ≡ gone_of self.old.shelves.items u }
+        ensures last { self.new.last ≡ self.old.last }
+    {
+        let answer = self.console.tick(moment, &mut self.link);
+        shelve(alloc, &mut self.shelves, self.last, &mut self.link);
+        answer
+    }
+
+    // Memory for a packet was refused.
+    pub fn is_full(&self) -> bool
+        ensures { result ≡ self.now.link.full }
+    {
+        self.link.full
+    }
+
+    // Packet k of a universe, where it was sent.
+    pub fn datagram(&self, universe: u16, k: u64) -> Option<&[u8]>
+        requires here { gone_of self.now.shelves.items universe ≤ k }
+        requires wanted { k ≤ self.now.last }
+        ensures { (p : Production) (history : List Act)
+            → StageStands F.stands_for self.now p history → Tells self.now
+            → option_map (λ bytes. bytes.now) result ≡ bytes_of p history universe k }
+    {
+        packet(self.shelves.as_slice(), universe, k)
+    }
+
+    // Lets the packets of a universe go that are before packet `low`.
+    pub fn release(&mut self, universe: u16, low: u64)
+        ensures tells { Tells self.old → Tells self.new }
+        ensures stands { (p : Production) (history : List Act)
+            → StageStands F.stands_for self.old p history
+            → StageStands F.stands_for self.new p history }
+        ensures gone { (u k : ℕ) → gone_of self.old.shelves.items u ≤ k → (universe ≡ u → low ≤ k)
+            → gone_of self.new.shelves.items u ≤ k }
+        ensures left { KeepsFrom self.new.shelves.items universe low }
+        ensures last { self.new.last ≡ self.old.last }
+    {
+        release(
+            self.shelves.as_mut_slice(),
+            universe,
+            low,
+            &mut self.link.spare,
+        );
+    }
+}

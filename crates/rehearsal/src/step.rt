@@ -1,0 +1,57 @@
+ghost use Rattle.rehearsal.specs.StageStands.{StageStands, Tells};
+ghost use Rattle.std.specs.Prelude.{◌≡◌, ℕ, List, length, IfOk, OnOk, if◌then◌else◌};
+ghost use Rattle.rehearsal.specs.declared.event.Event.{Event as EventData};
+ghost use Rattle.rehearsal.specs.World.{World};
+ghost use Rattle.rehearsal.specs.Replies.{last_moment};
+ghost use Rattle.rehearsal.specs.Stands.{AllAre, AllStand, AllBy, IsStep, IsWithin, is_skip};
+ghost use Rattle.rehearsal.specs.Wanted.{Holds, span_at};
+
+use crate::happen::happen;
+use crate::stage::Stage;
+use crate::{Event, Reply, Skip};
+use desk::MOMENTS;
+use fade::Fader;
+use sacn_receiver::Receiver;
+use std::alloc::{AllocError, Global};
+
+fn later(last: u64, moment: u64, reply: &Reply) -> u64
+    ensures { result ≡ (if is_skip reply.now then last else moment) }
+{
+    match reply {
+        Reply::Skipped(_) => last,
+        _ => moment,
+    }
+}
+
+// One event.
+pub(crate) fn step<F: Fader>(
+    alloc: Global,
+    stages: &mut [Stage<F>],
+    receivers: &mut [Receiver],
+    strays: &[u8],
+    last: &mut u64,
+    event: &Event,
+) -> Result<Reply, AllocError>
+    requires real { (w : World) × (past : List EventData)
+        × AllStand (StageStands F.stands_for) stages.old w past }
+    requires early { AllBy receivers.old last.old }
+    requires within { IsWithin (length strays.now) event.now.what }
+    requires holds { Holds stages.old event.now.what }
+    ensures spans { OnOk result ((i u : ℕ) → span_at stages.new i u ≡ span_at stages.old i u) }
+    ensures step { IfOk result (λ r. (w : World) (past : List EventData) → w.strays ≡ strays.now
+        → last.old ≡ last_moment past
+        → AllAre (StageStands F.stands_for) Tells stages.old receivers.old w past
+        → IsStep (StageStands F.stands_for) Tells stages.new receivers.new last.new r
+        w past
+        event.now) }
+{
+    if event.moment < *last {
+        return Ok(Reply::Skipped(Skip::Backwards));
+    }
+    if event.moment >= MOMENTS {
+        return Ok(Reply::Skipped(Skip::TooLarge));
+    }
+    let reply = happen(alloc, stages, receivers, strays, event.moment, event.what)?;
+    *last = later(*last, event.moment, &reply);
+    Ok(reply)
+}

@@ -1,0 +1,158 @@
+ghost use Rattle.rehearsal.specs.StageStands.{StageStands, Tells};
+ghost use Rattle.std.specs.Prelude.{◌≡◌, ◌==◌, ℕ, List, IfOk, OnOk};
+ghost use Rattle.std.specs.Prelude.{if◌then◌else◌, Some, None};
+ghost use Rattle.std.specs.Option.{option_map_or};
+ghost use Rattle.rehearsal.specs.declared.event.Event.{Event as EventData};
+ghost use Rattle.rehearsal.specs.declared.event.What.TheVariants.{Order, Tick, Deliver, Show};
+ghost use Rattle.rehearsal.specs.declared.reply.Reply.TheVariants as reply;
+ghost use Rattle.rehearsal.specs.World.{World};
+ghost use Rattle.rehearsal.specs.Happened.{handed};
+ghost use Rattle.rehearsal.specs.Replies.{missing, no_receiver_at, replied, taken_by};
+ghost use Rattle.rehearsal.specs.Stands.{AllStand, AllHear, AllTell, AllBy, unless_skipped};
+ghost use Rattle.rehearsal.specs.Wanted.{Holds, span_at};
+
+use crate::answers::{ordered, taken, ticked};
+use crate::shown_slots::ShownSlots;
+use crate::stage::Stage;
+use crate::{Reply, Skip};
+use desk::Command;
+use fade::Fader;
+use sacn_receiver::Receiver;
+use std::alloc::{AllocError, Global};
+
+pub(crate) fn order_at<F: Fader>(
+    stages: &mut [Stage<F>],
+    console: u16,
+    moment: u64,
+    command: Command,
+) -> Reply
+    ensures tell { AllTell Tells stages.old → AllTell Tells stages.new }
+    ensures spans { (i u : ℕ) → span_at stages.new i u ≡ span_at stages.old i u }
+    ensures reply { (w : World) (past : List EventData) → AllStand
+        (StageStands F.stands_for) stages.old w past
+        → result ≡ option_map_or reply.Skipped (missing w past (Order console command))
+        (replied w past moment (Order console command)) }
+    ensures stands { (w : World) (past : List EventData) → AllStand
+        (StageStands F.stands_for) stages.old w past
+        → AllStand (StageStands F.stands_for) stages.new w (unless_skipped (missing w past
+        (Order console command)) (record { moment = moment; what = Order console command }) past) }
+{
+    let i = usize::from(console);
+    if i >= stages.len() {
+        return Reply::Skipped(Skip::NoConsole);
+    }
+    ordered(stages[i].order(moment, command))
+}
+
+pub(crate) fn tick_at<F: Fader>(
+    alloc: Global,
+    stages: &mut [Stage<F>],
+    console: u16,
+    moment: u64,
+) -> Result<Reply, AllocError>
+    requires real { (w : World) × (past : List EventData)
+        × AllStand (StageStands F.stands_for) stages.old w past }
+    ensures tell { OnOk result (AllTell Tells stages.old → AllTell Tells stages.new) }
+    ensures spans { OnOk result ((i u : ℕ) → span_at stages.new i u ≡ span_at stages.old i u) }
+    ensures reply { IfOk result (λ r. (w : World) (past : List EventData)
+        → AllStand (StageStands F.stands_for) stages.old w past
+        → r ≡ option_map_or reply.Skipped (missing w past (Tick console))
+        (replied w past moment (Tick console))) }
+    ensures stands { OnOk result ((w : World) (past : List EventData)
+        → AllStand (StageStands F.stands_for) stages.old w past
+        → AllStand (StageStands F.stands_for) stages.new w (unless_skipped (missing w past
+        (Tick console)) (record { moment = moment; what = Tick console }) past)) }
+{
+    let i = usize::from(console);
+    if i >= stages.len() {
+        return Ok(Reply::Skipped(Skip::NoConsole));
+    }
+    let stage = &mut stages[i];
+    let answer = stage.tick(alloc, moment);
+    if stage.is_full() {
+        return Err(AllocError);
+    }
+    ticked(alloc, answer)
+}
+
+// A datagram reaches a receiver.
+pub(crate) fn hear_at(
+    receivers: &mut [Receiver],
+    receiver: u16,
+    moment: u64,
+    datagram: &[u8],
+) -> Reply
+    ensures reply { (w : World) (past : List EventData) → AllHear receivers.old w past
+        → result ≡ option_map_or reply.Skipped (no_receiver_at w receiver)
+        (taken_by w receiver past moment datagram.now) }
+    ensures hear { (w : World) (past : List EventData) (e : EventData)
+        → AllHear receivers.old w past → e.moment ≡ moment
+        → ((r : ℕ) → handed w r past e.what ≡ (if receiver == r then Some datagram.now else None))
+        → AllHear receivers.new w (unless_skipped (no_receiver_at w receiver) e past) }
+{
+    let r = usize::from(receiver);
+    if r >= receivers.len() {
+        return Reply::Skipped(Skip::NoReceiver);
+    }
+    taken(receivers[r].take(moment, datagram))
+}
+
+// The slots of a receiver. It is called, so that no other event waits for its frame to be cleared.
+#[inline(never)]
+pub(crate) fn show_at(
+    alloc: Global,
+    receivers: &[Receiver],
+    receiver: u16,
+    moment: u64,
+) -> Result<Reply, AllocError>
+    requires { AllBy receivers.now moment }
+    ensures { IfOk result (λ r. (w : World) (past : List EventData) → AllHear receivers.now w past
+        → r ≡ option_map_or reply.Skipped (missing w past (Show receiver))
+        (replied w past moment (Show receiver))) }
+{
+    let r = usize::from(receiver);
+    if r >= receivers.len() {
+        return Ok(Reply::Skipped(Skip::NoReceiver));
+    }
+    let mut slots = [0; 512];
+    receivers[r].slots(moment, &mut slots);
+    let slots = ShownSlots::new(alloc, slots)?;
+    Ok(Reply::Shown(slots))
+}
+
+// A packet of a console reaches a receiver.
+pub(crate) fn deliver_at<F: Fader>(
+    stages: &[Stage<F>],
+    receivers: &mut [Receiver],
+    receiver: u16,
+    console: u16,
+    universe: u16,
+    k: u64,
+    moment: u64,
+) -> Reply
+    requires { Holds stages.now (Deliver receiver console universe k) }
+    ensures reply { (w : World) (past : List EventData) → AllStand
+        (StageStands F.stands_for) stages.now w past → AllTell Tells stages.now
+        → AllHear receivers.old w past
+        → result ≡ option_map_or reply.Skipped (missing w past
+        (Deliver receiver console universe k)) (replied w past moment
+        (Deliver receiver console universe k)) }
+    ensures hear { (w : World) (past : List EventData) → AllStand
+        (StageStands F.stands_for) stages.now w past → AllTell Tells stages.now
+        → AllHear receivers.old w past
+        → AllHear receivers.new w (unless_skipped (missing w past
+        (Deliver receiver console universe k))
+        (record { moment = moment; what = Deliver receiver console universe k }) past) }
+{
+    let i = usize::from(console);
+    if i >= stages.len() {
+        return Reply::Skipped(Skip::NoConsole);
+    }
+    if usize::from(receiver) >= receivers.len() {
+        return Reply::Skipped(Skip::NoReceiver);
+    }
+    match stages[i].datagram(universe, k) {
+        None => Reply::Skipped(Skip::NotSent),
+        Some(bytes) => hear_at(receivers, receiver, moment, bytes),
+    }
+}

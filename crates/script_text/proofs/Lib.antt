@@ -1,5 +1,0 @@
-pub mod Hex
-pub mod Sizes
-pub mod Strays
-pub mod Reading
-mod Rows

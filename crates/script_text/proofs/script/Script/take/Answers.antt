@@ -1,6 +1,0 @@
-use Rattle.script_text.proofs.Reading.{fits}
-use Rattle.script_text.proofs.script.Script.take.Goals as goal
-
-pub add-requires : goal.add-requires
-add-requires c = fits c.read_line-said.result _ c.args.line.bytes.now _ _ c.read_line-said.ensures
-    c.requires

@@ -1,0 +1,10 @@
+use Rattle.std.proofs.Common.{ap, ◌∙◌}
+use Rattle.std.specs.Prelude.{find, reverse, nat_lt, map as map_list}
+use Rattle.show.proofs.Sorted.{map-reverse}
+use Rattle.show.proofs.cue_table.CueTable.before.Goals as goal
+
+pub returns : goal.returns
+returns c =
+    c.last_below.ensures
+    ∙ ap (find (λ k. nat_lt k c.args.n)) (map-reverse (λ x. x.0) c.entries.result.now)
+    ∙ ap (λ es. find (λ k. nat_lt k c.args.n) (reverse (map_list (λ x. x.0) es))) c.entries.ensures

@@ -1,0 +1,6 @@
+use Rattle.std.proofs.Common.{take}
+use Rattle.show.specs.Many.{IsTableOf}
+use Rattle.show.proofs.many.fill.Given as goal
+
+abbrev pub invariant-loop-entry : goal.invariant-loop-entry
+invariant-loop-entry g l = IsTableOf l.table (take l.entry-index l.entries)

@@ -1,0 +1,14 @@
+use Rattle.std.proofs.Common.{IsTrue}
+use Rattle.std.specs.FinMap as map
+use Rattle.show.specs.Numbers.{is_group}
+use Rattle.show.specs.Tables.{LevelMap}
+use Rattle.show.specs.Inside.{show_view}
+use Rattle.show.proofs.Ranges.{none_in}
+use Rattle.show.proofs.InRange.{masters_in_range}
+use Rattle.show.proofs.show.Show.clear_groups.Goals as goal
+
+pub invariant_of-self : goal.invariant_of-self
+invariant_of-self c =
+    rw c.clear.ensures
+    (masters_in_range (show_view c.self.inside) c.self.invariant c.self.inside.subs map.empty
+    c.self.invariant.subs_in (none_in LevelMap (λ n. IsTrue (is_group n))))

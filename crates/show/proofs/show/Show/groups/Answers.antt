@@ -1,0 +1,11 @@
+use Rattle.std.proofs.Common.{IsTrue}
+use Rattle.std.specs.FinMap as map
+use Rattle.show.specs.Numbers.{is_group}
+use Rattle.show.proofs.Ranges.{entries_from_keys}
+use Rattle.show.proofs.show.Show.groups.Goals as goal
+
+pub returns-clause-range : goal.returns-clause-range
+returns-clause-range c =
+    rw c.entries.ensures.entries
+    (entries_from_keys (λ n. IsTrue (is_group n)) (map.entries c.self.inside.groups)
+    c.self.invariant.groups_in)

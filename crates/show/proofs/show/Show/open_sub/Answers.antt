@@ -1,0 +1,16 @@
+use Rattle.std.proofs.Common.{◌≡◌, true, IsTrue, arith}
+use Rattle.std.proofs.lemmas.Grind.{common_steps}
+use Rattle.show.specs.Numbers.{is_sub}
+use Rattle.show.specs.Builders.{opened_in}
+use Rattle.show.specs.Inside.{show_view}
+use Rattle.show.proofs.InRange.{masters_in_range, opened_in_range}
+use Rattle.show.proofs.show.Show.open_sub.Goals as goal
+
+pub invariant_of-self-2 : goal.invariant_of-self-2
+invariant_of-self-2 c =
+    let number : is_sub c.args.n ≡ true = grind (arith, common_steps) in
+    rw c.in_ok-open.ensures.opened
+    (masters_in_range (show_view c.self.inside) c.self.invariant
+    (opened_in c.self.inside.subs c.args.n) c.self.inside.groups
+    (opened_in_range (λ k. IsTrue (is_sub k)) c.self.inside.subs c.args.n
+    c.self.invariant.subs_in number) c.self.invariant.groups_in)

@@ -1,0 +1,11 @@
+use Rattle.std.proofs.Common.{IsTrue}
+use Rattle.std.specs.FinMap as map
+use Rattle.show.specs.Numbers.{is_sub}
+use Rattle.show.proofs.Ranges.{entries_from_keys}
+use Rattle.show.proofs.show.Show.subs.Goals as goal
+
+pub returns-clause-range : goal.returns-clause-range
+returns-clause-range c =
+    rw c.entries.ensures.entries
+    (entries_from_keys (λ n. IsTrue (is_sub n)) (map.entries c.self.inside.subs)
+    c.self.invariant.subs_in)

@@ -1,7 +1,0 @@
-use Rattle.std.proofs.Common.{IsTrue, ℕ}
-use Rattle.show_core.specs.Numbers.{is_channel}
-use Rattle.show_core.proofs.Ranges.{none_in}
-use Rattle.show_core.proofs.levels.Levels.new.Goals as goal
-
-pub invariant_of-result : goal.invariant_of-result
-invariant_of-result c = rw c.new.ensures (none_in ℕ (λ k. IsTrue (is_channel k)))

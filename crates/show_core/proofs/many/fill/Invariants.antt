@@ -1,6 +1,0 @@
-use Rattle.std.proofs.Common.{take}
-use Rattle.show_core.specs.Many.{IsTableOf}
-use Rattle.show_core.proofs.many.fill.Given as goal
-
-abbrev pub invariant-loop-entry : goal.invariant-loop-entry
-invariant-loop-entry g l = IsTableOf l.table (take l.entry-index l.entries)

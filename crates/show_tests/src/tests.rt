@@ -1,4 +1,0 @@
-mod line;
-mod reader;
-mod show;
-mod text;

@@ -1,0 +1,7 @@
+mod desks;
+mod fades;
+mod master_levels;
+mod night;
+mod patches;
+mod playbacks;
+mod shows;

@@ -1,0 +1,8 @@
+mod cues;
+mod explain;
+mod faults;
+mod live;
+mod play;
+mod rehearsing;
+mod runs;
+mod watching;

@@ -1,0 +1,4 @@
+mod line;
+mod reader;
+mod shows;
+mod text;

@@ -1,5 +1,0 @@
-use Rattle.wire_world.specs.Stands.{Listening}
-use Rattle.wire_world.proofs.listening.listen_all.Given as goal
-
-abbrev pub invariant-loop-i : goal.invariant-loop-i
-invariant-loop-i l = Listening l.receivers.items l.universes l.i

@@ -1,9 +1,0 @@
-use Rattle.std.proofs.Common.{◌≡◌}
-use Rattle.std.specs.Prelude.{All}
-use Rattle.wire_world.specs.Stands.{Opened}
-use Rattle.wire_world.specs.StageStands.{StageStands, Tells}
-use Rattle.wire_world.proofs.opening.open_all.Given as goal
-
-abbrev pub invariant-loop-i : goal.invariant-loop-i
-invariant-loop-i g l = (Opened (StageStands g.F.Fader.stands_for) Tells l.stages.items l.shows
-    l.setups l.i) × All (λ stage. stage.last ≡ l.last) l.stages.items
