@@ -4,7 +4,7 @@ ghost use Rattle.cmd_rehearse.specs.Printed.{PrintsLines};
 
 use crate::reply::print_reply;
 use devices::{LinkFault, Output};
-use night::{Reply, Report};
+use rehearsal::{Reply, Report};
 use sacn_packet::Slots;
 use sacn_receiver::end_line;
 

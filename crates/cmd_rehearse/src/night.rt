@@ -6,7 +6,7 @@ ghost use Rattle.cmd_rehearse.specs.Texts.{rehearsal_lines};
 use crate::script_input::script_in;
 use cmd_faults::RunFault;
 use fade::Fader;
-use night::{Rehearsal, Report, rehearse};
+use rehearsal::{Rehearsal, Report, rehearse};
 use show_reader::read_show;
 use std::alloc::Global;
 

@@ -7,7 +7,7 @@ ghost use Rattle.cmd_rehearse.specs.Texts.{event_line, skip_name, skipped_text};
 use console::{Offers, done_line, reason_line, refused_line, ticked_line};
 use desk::{Refused, Ticked};
 use devices::{LinkFault, Output};
-use night::{Reply, Skip};
+use rehearsal::{Reply, Skip};
 use sacn_packet::Slots;
 use sacn_receiver::{Ignored, SlotsLine, Taken, reply_line, write_numbered_slots};
 

@@ -2,8 +2,8 @@ ghost use Rattle.std.specs.Prelude.{◌≡◌, ◌≤◌, ◌+◌, ◌++◌, len
 ghost use Rattle.console.specs.Texts.{numbered, refused_name, done_text, refused_text};
 ghost use Rattle.console.specs.Texts.{outcome_text, pair_text, ticked_name, ticked_text};
 
+use crate::offers::Offers;
 use arrayvec::ArrayString;
-use console::Offers;
 use desk::{Refused, Ticked};
 use itoa::Buffer;
 use sacn_source::Offered;

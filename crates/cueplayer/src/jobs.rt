@@ -13,7 +13,7 @@ use crate::source_name::source_name;
 use cmd_cues::{cues, cues_json};
 use cmd_explain::{Weight, explain, seems, weigh};
 use cmd_faults::RunFault;
-use cmd_listen::watch;
+use cmd_listen::{listen, watch};
 use cmd_play::play;
 use cmd_rehearse::rehearse_text;
 use cmd_show::{check, look, slots};

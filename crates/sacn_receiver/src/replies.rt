@@ -3,10 +3,10 @@ ghost use Rattle.std.specs.Prelude.{if◌then◌else◌};
 ghost use Rattle.sacn_receiver.specs.declared.answer.Ignored.TheVariants as receiver;
 ghost use Rattle.sacn_receiver.specs.Replies.{ignored_name, reply_text};
 
+use crate::answer::{Ignored, Taken};
 use arrayvec::ArrayString;
 use itoa::Buffer;
 use sacn_packet::Unreadable;
-use sacn_receiver::{Ignored, Taken};
 
 /// A printed line of a reply.
 ///

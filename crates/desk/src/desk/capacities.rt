@@ -1,10 +1,10 @@
-use super::Desk;
 use crate::command::Command;
 use fade::{Fader, PlainFader, StepFader};
 use show::{BuildFault, Rate, Show};
 use std::alloc::Global;
 use std::process::Abort;
 use std::test::Fail;
+use super::Desk;
 
 // More channels than are drawn one by one.
 const MANY: u16 = 800;

@@ -2,9 +2,9 @@ ghost use Rattle.std.specs.Prelude.{◌≡◌};
 ghost use Rattle.rehearsal.specs.Refusing.{are_within as are_within_size};
 ghost use Rattle.rehearsal.specs.Refusing.{is_within as is_within_size};
 
-use super::are_printed;
 use desk::{Command, Refused, Ticked};
 use fade::PlainFader;
+use super::are_printed;
 use rehearsal::{
     Event, Fault, Offers, Rehearsal, Reply, Report, Setup, Skip, What, laws, rehearse,
 };

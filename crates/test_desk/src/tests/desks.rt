@@ -1,4 +1,3 @@
-use super::shows::{Part, TWO_CUES, show_of, show_with};
 use desk::{Command, Desk, Refused, Ticked};
 use fade::{Fader, PlainFader, StepFader};
 use patch::RigFault;
@@ -6,6 +5,7 @@ use show::{BuildFault, Show};
 use std::alloc::Global;
 use std::process::Abort;
 use std::test::Fail;
+use super::shows::{Part, TWO_CUES, show_of, show_with};
 
 const TOO_LARGE: u64 = 281_474_976_710_656;
 

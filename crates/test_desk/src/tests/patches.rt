@@ -1,12 +1,12 @@
 ghost use Rattle.std.specs.Prelude.{◌<◌, IsTrue, All};
 ghost use Rattle.show.specs.Numbers.{is_channel, AreLevels};
 
-use super::shows::{Part, show_of};
 use patch::{Rig, RigFault, has_numbers, max_into};
 use show::{BuildFault, Show};
 use std::alloc::Global;
 use std::process::Abort;
 use std::test::Fail;
+use super::shows::{Part, show_of};
 
 // Slots that rise by a step and start anew above 250.
 fn slots(step: usize) -> [u8; 512]

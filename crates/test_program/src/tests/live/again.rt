@@ -1,9 +1,6 @@
 ghost use Rattle.std.specs.Prelude.{IfOk};
 ghost use Rattle.test_program.specs.Nights.{IsPlayable};
 
-use super::booth::{Coming, MemoryBooth};
-use super::rows::{KEPT, TYPED, played};
-use super::{SMALL, identity, plain};
 use cmd_faults::RunFault;
 use cmd_live::{Night, Silent};
 use devices::memory::{MemoryLink, MemorySend};
@@ -11,6 +8,9 @@ use fade::{Fader, PlainFader};
 use sacn_source::Identity;
 use std::alloc::Global;
 use std::process::Abort;
+use super::booth::{Coming, MemoryBooth};
+use super::rows::{KEPT, TYPED, played};
+use super::{SMALL, identity, plain};
 
 // A night of the small show behind the lines of a record, or the number of the first that is none.
 fn behind<F: Fader>(alloc: Global, source: Identity, text: &[u8]) -> Result<Night<F>, u64>

@@ -1,6 +1,3 @@
-use super::booth::MemoryBooth;
-use super::rows::{KEPT, played};
-use super::{SMALL, identity, plain};
 use arrayvec::ArrayVec;
 use cmd_live::{Led, MainConsole, Night, Pause};
 use devices::memory::MemoryLink;
@@ -8,6 +5,9 @@ use fade::{Fader, PlainFader};
 use sacn_source::Identity;
 use std::alloc::Global;
 use std::process::Abort;
+use super::booth::MemoryBooth;
+use super::rows::{KEPT, played};
+use super::{SMALL, identity, plain};
 
 // The record of a main in memory: where it asks where the night is, and where it ends.
 #[derive(Drop)]

@@ -1,11 +1,11 @@
-use super::booth::Coming;
-use super::{Run, SMALL, Setting, identity, plain};
 use cmd_faults::RunFault;
 use cmd_play::play;
 use devices::memory::{MemoryFeed, MemoryLink, MemoryOutput};
 use fade::PlainFader;
 use std::alloc::Global;
 use std::process::Abort;
+use super::booth::Coming;
+use super::{Run, SMALL, Setting, identity, plain};
 
 // Behind an arrow key a GO is a GO; the first cue is followed; lines that are refused or ask for
 // something change nothing; then the light goes down, and the streams end.
