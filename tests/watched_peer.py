@@ -18,7 +18,7 @@ TESTS = Path(__file__).resolve().parent
 sys.dont_write_bytecode = True
 sys.path[:0] = [str(TESTS), str(TESTS.parent / "tools")]
 
-from cueplayer_tools.conform.network import HERE  # noqa: E402  (both are on the path from here on)
+from cueplayer_tools.conform.network import HERE, LINK  # noqa: E402  (both on the path from here on)
 from cueplayer_tools.conform.open_lighting import Daemon  # noqa: E402
 from cueplayer_tools.conform.packets import DataPacket, full_slots  # noqa: E402
 from cueplayer_tools.conform.peers import GROUPS, Sockets  # noqa: E402
@@ -26,14 +26,6 @@ from cueplayer_tools.conform.qlcplus import FURTHER, READ_AT, QlcPlus  # noqa: E
 from tooling import PATIENCE, TOOLS, Lines  # noqa: E402
 
 LEVEL = 200
-LINK = (
-    "link set lo up",
-    "link add stage type veth peer name hall",
-    "link set hall up",
-    f"addr add {HERE}/24 dev stage",
-    "link set stage up",
-    "route add 239.0.0.0/8 dev stage",
-)
 
 
 def make_link():

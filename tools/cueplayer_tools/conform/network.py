@@ -14,7 +14,7 @@ HERE = "10.77.0.1"
 MEMBERSHIPS = Path("/proc/sys/net/ipv4/igmp_max_memberships")
 MOST_GROUPS = 200
 _IS_INSIDE = "CUEPLAYER_CONFORM_NETWORK"
-_LINK = (
+LINK = (
     "link set lo up",
     "link add stage type veth peer name hall",
     "link set hall up",
@@ -47,7 +47,7 @@ def _make_link() -> None:
     shown = subprocess.run(["ip", "-o", "link"], capture_output=True, text=True, check=False)
     if len(shown.stdout.splitlines()) != 1:
         raise Refused(f"{_IS_INSIDE} is set, and this is no network of its own: unset it")
-    for words in _LINK:
+    for words in LINK:
         done = subprocess.run(["ip", *words.split()], capture_output=True, text=True, check=False)
         if done.returncode:
             raise Refused(f"ip {words}: {done.stderr.strip()}")
