@@ -18,7 +18,7 @@ TESTS = Path(__file__).resolve().parent
 sys.dont_write_bytecode = True
 sys.path[:0] = [str(TESTS), str(TESTS.parent / "tools")]
 
-from cueplayer_tools.conform.network import HERE, LINK  # noqa: E402  (both on the path from here on)
+from cueplayer_tools.conform.network import HERE, LINK  # noqa: E402  (both are on the path now)
 from cueplayer_tools.conform.open_lighting import Daemon  # noqa: E402
 from cueplayer_tools.conform.packets import DataPacket, full_slots  # noqa: E402
 from cueplayer_tools.conform.peers import GROUPS, Sockets  # noqa: E402
