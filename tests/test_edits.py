@@ -7,6 +7,12 @@ from pathlib import Path
 TOP = Path(__file__).resolve().parent.parent
 
 
+def edits(crate: str = "*") -> Iterator[Path]:
+    """Those that the gate tries, and those that dev/edits tries."""
+    for folder in ("must-fail", "more-edits"):
+        yield from TOP.glob(f"crates/{crate}/{folder}/*.edit")
+
+
 def pairs(edit: Path) -> Iterator[tuple[str, str, str]]:
     """Of each pair of an edit the file, the old text and the new one."""
     file = old = ""
@@ -22,7 +28,7 @@ def pairs(edit: Path) -> Iterator[tuple[str, str, str]]:
 
 class Edits(unittest.TestCase):
     def test_each_applies(self) -> None:
-        for edit in sorted(TOP.glob("crates/*/must-fail/**/*.edit")):
+        for edit in sorted(edits()):
             crate = edit.relative_to(TOP / "crates").parts[0]
             texts: dict[str, str] = {}
             with self.subTest(edit=str(edit.relative_to(TOP))):
@@ -35,13 +41,13 @@ class Edits(unittest.TestCase):
                     texts[file] = text.replace(old, new)
 
     def test_each_turns_code(self) -> None:
-        for edit in TOP.glob("crates/*/must-fail/**/*.edit"):
+        for edit in edits():
             with self.subTest(edit=str(edit.relative_to(TOP))):
                 self.assertTrue(all(file.startswith("src/") for file, _, _ in pairs(edit)))
 
     def test_no_name_stands_twice(self) -> None:
         for crate in TOP.glob("crates/*"):
-            names = [edit.name for edit in crate.glob("must-fail/**/*.edit")]
+            names = [edit.name for edit in edits(crate.name)]
             self.assertEqual(len(names), len(set(names)), crate.name)
 
 
