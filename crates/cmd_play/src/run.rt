@@ -17,9 +17,19 @@ use sacn_source::Identity;
 use show_reader::read_show;
 use std::alloc::Global;
 
-/// Plays the lines of an input with a show: reads the show, opens a console for it, with `base` as
-/// the universe number of ordinal 0 and `identity` as who sends, and then carries out each line as
-/// it comes, and prints its answer by one write behind its offers.
+/// The console of a play.
+#[derive(Clone, Copy, Debug)]
+pub struct Setup<'a> {
+    /// The text of its show.
+    pub show: &'a [u8],
+    /// Who sends its streams.
+    pub identity: Identity,
+    /// The number of its universe of ordinal 0: 1 to 63999.
+    pub base: u16,
+}
+
+/// Plays the lines of an input: opens the console, then carries out each line as it comes, and
+/// prints its answer by one write behind its offers.
 ///
 /// Only the show and the console take memory, the lines none.
 ///
@@ -31,20 +41,18 @@ use std::alloc::Global;
 /// packets were lost.
 pub fn play<F: Fader, R: Feed, L: Link, W: Output>(
     alloc: Global,
-    show: &[u8],
-    identity: Identity,
-    base: u16,
+    setup: Setup<'_>,
     input: &mut R,
     link: &mut L,
     out: &mut W,
 ) -> Result<(), RunFault>
-    ensures begins { Begins result show.now base }
-    ensures too_long { longest_text < length show.now → result ≡ Err
+    ensures begins { Begins result setup.entry.show.now setup.entry.base }
+    ensures too_long { longest_text < length setup.entry.show.now → result ≡ Err
         (RunFault.Show show_fault.TooLong) }
-    ensures plays { has_begun result ≡ true
+    ensures plays { let setup = setup.entry in has_begun result ≡ true
         → R.tells input.new → L.tells link.new → W.tells out.new
-        → OfItsShow show.now (λ s. Plays
-        (record { show = s; base = base; source = identity }) result
+        → OfItsShow setup.show.now (λ s. Plays
+        (record { show = s; base = setup.base; source = setup.identity }) result
         (R.ended input.new) (R.tape input.old) (R.tape input.new)
         (emitted (L.offered link.old) (W.tape out.old))
         (emitted (L.offered link.new) (W.tape out.new))) }
@@ -61,6 +69,11 @@ pub fn play<F: Fader, R: Feed, L: Link, W: Output>(
     ensures told_link { L.tells link.new → L.tells link.old }
     ensures told_output { W.tells out.new → W.tells out.old }
 {
+    let Setup {
+        show,
+        identity,
+        base,
+    } = setup;
     let console: Console<F> = open(alloc, show, identity, base)?;
     match play_lines(console, input, link, out) {
         Ok(0) => Ok(()),

@@ -12,6 +12,13 @@ use desk::{Desk, Ticked};
 use fade::Fader;
 use sacn_source::{Link, Offered, Sender};
 
+// An accepted tick, and what the desk answered to it.
+#[derive(Clone, Copy, Debug)]
+struct Tick {
+    moment: u64,
+    answer: Ticked,
+}
+
 // Offers each universe what is due on it, at a tick that the desk answered so.
 pub fn offer_all<F: Fader, L: Link>(
     desk: &Desk<F>,
@@ -37,7 +44,8 @@ pub fn offer_all<F: Fader, L: Link>(
     let universes = desk.universes();
     let mut offers = Offers::new();
     for universe in universes.as_slice() {
-        let offered = offer(desk, sender, moment, answer, *universe, link);
+        let tick = Tick { moment, answer };
+        let offered = offer(desk, sender, tick, *universe, link);
         offers.push(*universe, offered);
     }
     offers
@@ -47,33 +55,32 @@ pub fn offer_all<F: Fader, L: Link>(
 fn offer<F: Fader, L: Link>(
     desk: &Desk<F>,
     sender: &mut Sender,
-    moment: u64,
-    answer: Ticked,
+    tick: Tick,
     universe: u16,
     link: &mut L,
 ) -> Offered
     requires patched { Contains (universe_numbers desk.now.show.patch desk.now.base) universe }
     requires here { Contains (universes_of sender.old) universe }
     requires real { (production : Production) × (older : List Act)
-        × IsTick F.stands_for production desk.now older moment answer
+        × IsTick F.stands_for production desk.now older tick.moment tick.answer
         × HasStream production sender.old older universe }
     ensures universes { universes_of sender.new ≡ universes_of sender.old }
     ensures others { (other : ℕ) → other ≢ universe
         → lane_of sender.new other ≡ lane_of sender.old other }
     ensures stands { (production : Production) (older : List Act)
-        → IsTick F.stands_for production desk.now older moment answer
+        → IsTick F.stands_for production desk.now older tick.moment tick.answer
         → HasStream production sender.old older universe
-        → HasStream production sender.new (tick_at moment ∷ older) universe }
+        → HasStream production sender.new (tick_at tick.moment ∷ older) universe }
     ensures told { L.tells link.new → L.tells link.old }
     ensures offered { (production : Production) (older : List Act)
-        → IsTick F.stands_for production desk.now older moment answer
+        → IsTick F.stands_for production desk.now older tick.moment tick.answer
         → HasStream production sender.old older universe → L.tells link.new
-        → let due : Due = due_at production older moment universe in
+        → let due : Due = due_at production older tick.moment universe in
         OffersOne production.source universe due.place due.packet result
         (L.offered link.old) (L.offered link.new) }
 {
-    match answer {
-        Ticked::Live => sender.offer(moment, universe, desk.slots(universe), link),
+    match tick.answer {
+        Ticked::Live => sender.offer(tick.moment, universe, desk.slots(universe), link),
         Ticked::Ending(_) => sender.terminate(universe, link),
     }
 }

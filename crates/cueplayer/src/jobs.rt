@@ -14,7 +14,7 @@ use cmd_cues::{cues, cues_json};
 use cmd_explain::{Weight, explain, seems, weigh};
 use cmd_faults::RunFault;
 use cmd_listen::{listen, watch};
-use cmd_play::play;
+use cmd_play::{Setup, play};
 use cmd_rehearse::rehearse_text;
 use cmd_show::{check, look, slots};
 use cmd_words::{Job, Name, Night};
@@ -275,15 +275,12 @@ fn play_lines(rt: &HostRuntime, night: &Night, source: Identity) -> Result<(), J
     let mut link = TargetLink::new(CardSender::new(rt, &network), night.targets.copy());
     let mut input = SystemInput::new(rt.stdin());
     let mut out = SystemOutput::new(rt.stdout());
-    let answer = play::<StepFader, _, _, _>(
-        rt.alloc(),
-        text,
-        source,
-        night.base,
-        &mut input,
-        &mut link,
-        &mut out,
-    );
+    let setup = Setup {
+        show: text,
+        identity: source,
+        base: night.base,
+    };
+    let answer = play::<StepFader, _, _, _>(rt.alloc(), setup, &mut input, &mut link, &mut out);
     Ok(played(answer, text, &network, out.failure())?)
 }
 

@@ -9,7 +9,9 @@ ghost use Rattle.fade.specs.Fading.{Fading, Shows, level_at};
 
 use crate::divide::divide;
 use crate::share::Shares;
+use crate::target::Goal;
 use crate::walk::{bring, restart};
+use crate::ways::Ways;
 use show::Rate;
 use std::alloc::{AllocError, Global};
 use std::marker::Model;
@@ -65,14 +67,12 @@ impl Course {
         requires { self.old.latest ≤ moment }
         ensures { self.new ≡ record self.old { latest = moment } }
     {
-        divide(
-            &mut self.levels,
-            &self.from,
-            &self.to,
-            self.up,
-            self.down,
-            moment - self.began,
-        );
+        let ways = Ways {
+            from: &self.from,
+            to: &self.to,
+        };
+        let elapsed = moment - self.began;
+        divide(&mut self.levels, ways, self.up, self.down, elapsed);
         self.latest = moment;
     }
 
@@ -82,14 +82,11 @@ impl Course {
         ensures { self.new ≡ record self.old { latest = moment } }
     {
         let shares = Shares::at(self.up, self.down, moment - self.began);
-        bring(
-            &mut self.levels,
-            &self.from,
-            &self.to,
-            &self.moving,
-            self.count,
-            &shares,
-        );
+        let ways = Ways {
+            from: &self.from,
+            to: &self.to,
+        };
+        bring(&mut self.levels, ways, &self.moving, self.count, &shares);
         if shares.are_whole() {
             self.count = 0;
         }
@@ -115,9 +112,7 @@ impl Course {
             &mut self.to,
             &mut self.levels,
             &mut self.moving,
-            look,
-            up,
-            down,
+            Goal { look, up, down },
         );
         self.up = up;
         self.down = down;

@@ -1,15 +1,18 @@
 ghost use Rattle.std.specs.Prelude.{◌≡◌, EachIndex, length, slice_index};
 ghost use Rattle.fade.specs.Level.{split_fade};
 
+use crate::ways::Ways;
 use show::Rate;
 
 // Puts each channel at its level, so long after the start.
-pub fn divide(levels: &mut [u16], from: &[u16], to: &[u16], up: Rate, down: Rate, elapsed: u64)
-    requires from { length from.now ≡ length levels.old }
-    requires to { length to.now ≡ length levels.old }
-    ensures { EachIndex levels.new (λ place. slice_index levels.new place
-        ≡ split_fade (slice_index from.now place) (slice_index to.now place) up down elapsed) }
+pub fn divide(levels: &mut [u16], ways: Ways<'_>, up: Rate, down: Rate, elapsed: u64)
+    requires from { length ways.from.now ≡ length levels.old }
+    requires to { length ways.to.now ≡ length levels.old }
+    ensures { let ways = ways.entry in EachIndex levels.new (λ place.
+        slice_index levels.new place ≡ split_fade (slice_index ways.from.now place)
+        (slice_index ways.to.now place) up down elapsed) }
 {
+    let Ways { from, to } = ways;
     for place in 0..levels.len() {
         levels[place] = faded(from[place], to[place], up, down, elapsed);
     }

@@ -23,6 +23,7 @@ pub mod laws;
 mod share;
 mod target;
 mod walk;
+mod ways;
 
 pub use course_fader::{PlainFader, StepFader};
 pub use fader::Fader;

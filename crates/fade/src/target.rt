@@ -5,6 +5,17 @@ ghost use Rattle.std.specs.FinMap.{is_sorted};
 ghost use Rattle.show.specs.Numbers.{AreLevels};
 ghost use Rattle.fade.specs.Level.{byte_of};
 
+use show::Rate;
+
+// Where a fade takes the channels, and how fast: the look, the rate of those that rise, and that of
+// the others.
+#[derive(Clone, Copy, Debug)]
+pub struct Goal<'a> {
+    pub look: &'a [(u16, u8)],
+    pub up: Rate,
+    pub down: Rate,
+}
+
 // Puts 255 times the byte of each channel in the look in its place.
 pub fn aim(to: &mut [u16], look: &[(u16, u8)])
     requires ascending { IsTrue (is_sorted nat_cmp look.now) }

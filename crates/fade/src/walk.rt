@@ -10,30 +10,25 @@ ghost use Rattle.fade.specs.Stepping.{AreChannels, IsUnlisted};
 
 use crate::digits::Digits;
 use crate::share::Shares;
-use crate::target::aim;
-use show::Rate;
+use crate::target::{Goal, aim};
+use crate::ways::Ways;
 
 // Fewer channels are taken one by one; more are quicker all together.
 const FEW: usize = 1024;
 
 // Puts each channel at its level. Each that is not among the first `count` of the list is there.
-pub fn bring(
-    levels: &mut [u16],
-    from: &[u16],
-    to: &[u16],
-    moving: &[u16],
-    count: usize,
-    shares: &Shares,
-)
-    requires from { length from.now ≡ length levels.old }
-    requires to { length to.now ≡ length levels.old }
+pub fn bring(levels: &mut [u16], ways: Ways<'_>, moving: &[u16], count: usize, shares: &Shares)
+    requires from { length ways.from.now ≡ length levels.old }
+    requires to { length ways.to.now ≡ length levels.old }
     requires count { count ≤ length moving.now }
     requires listed { AreChannels moving.now count (length levels.old) }
     requires others { (place : ℕ) → place < length levels.old → IsUnlisted moving.now count place
-        → slice_index levels.old place ≡ moved (slice_index from.now place)
-        (slice_index to.now place) shares.now.rising shares.now.falling }
-    ensures { AreMoved from.now to.now levels.new shares.now.rising shares.now.falling }
+        → slice_index levels.old place ≡ moved (slice_index ways.from.now place)
+        (slice_index ways.to.now place) shares.now.rising shares.now.falling }
+    ensures { let ways = ways.entry in
+        AreMoved ways.from.now ways.to.now levels.new shares.now.rising shares.now.falling }
 {
+    let Ways { from, to } = ways;
     if count >= FEW {
         bring_all(levels, from, to, shares);
         return;
@@ -113,37 +108,38 @@ fn walk(levels: &mut [u16], from: &[u16], to: &[u16], rising: Digits, falling: D
     }
 }
 
-// Sends each channel from its level to the look, and answers how many have somewhere to go.
+// Sends each channel from its level to the goal, and answers how many have somewhere to go.
 pub fn restart(
     from: &mut [u16],
     to: &mut [u16],
     levels: &mut [u16],
     moving: &mut [u16],
-    look: &[(u16, u8)],
-    up: Rate,
-    down: Rate,
+    goal: Goal<'_>,
 ) -> usize
-    requires ascending { IsTrue (is_sorted nat_cmp look.now) }
-    requires in_range { All (λ pair. (1 ≤ pair.0) × (pair.0 ≤ length to.old)) look.now }
+    requires ascending { IsTrue (is_sorted nat_cmp goal.look.now) }
+    requires in_range { All (λ pair. (1 ≤ pair.0) × (pair.0 ≤ length to.old)) goal.look.now }
     requires few { length from.old < 2 ^ 16 }
     requires to { length to.old ≡ length from.old }
     requires levels { length levels.old ≡ length from.old }
     requires moving { length moving.old ≡ length from.old }
     ensures from { from.new ≡ levels.old }
     ensures to { EachIndex to.new (λ place.
-        slice_index to.new place ≡ 255 * byte_of look.now (place + 1)) }
+        slice_index to.new place ≡ 255 * byte_of goal.entry.look.now (place + 1)) }
     ensures full { AreLevels to.new }
-    ensures levels { EachIndex levels.new (λ place. slice_index levels.new place
-        ≡ split_fade (slice_index from.new place) (slice_index to.new place) up down 0) }
+    ensures levels { let goal = goal.entry in EachIndex levels.new (λ place.
+        slice_index levels.new place ≡ split_fade (slice_index from.new place)
+        (slice_index to.new place) goal.up goal.down 0) }
     ensures count { result ≤ length from.old }
     ensures listed { AreChannels moving.new result (length from.old) }
     ensures others { (place : ℕ) → place < length from.old → IsUnlisted moving.new result place
         → slice_index from.new place ≡ slice_index to.new place }
 {
+    let Goal { look, up, down } = goal;
     from.copy_from_slice(levels);
     aim(to, look);
     let count = list_moving(moving, from, to);
-    bring(levels, from, to, moving, count, &Shares::at(up, down, 0));
+    let shares = Shares::at(up, down, 0);
+    bring(levels, Ways { from, to }, moving, count, &shares);
     count
 }
 

@@ -15,6 +15,34 @@ use uuid::Uuid;
 // A moment's form: a digit stands for each zero.
 const FORM: [u8; 24] = *b"0000-00-00T00:00:00.000Z";
 
+// What the texts at the places of a head's parts spell.
+#[derive(Drop)]
+struct HeadParts {
+    show: Option<[u8; 32]>,
+    cid: Option<[u8; 16]>,
+    priority: Option<u8>,
+    base: Option<u16>,
+    name: Option<HeadName>,
+    started: Option<[u8; 24]>,
+}
+
+impl HeadParts {
+    // The head, where each part is there.
+    fn head(self) -> Option<RecordHead>
+        ensures { result ≡ head_with self.show self.cid self.priority self.base self.name
+            self.started }
+    {
+        Some(RecordHead {
+            show: self.show?,
+            cid: self.cid?,
+            priority: self.priority?,
+            base: self.base?,
+            name: self.name?,
+            started: self.started?,
+        })
+    }
+}
+
 impl RecordHead {
     /// The head that two lines without the last LF spell, or `None` where it spells none.
     pub fn read(line: &[u8]) -> Option<RecordHead>
@@ -52,34 +80,15 @@ fn laid_out(line: &[u8]) -> Option<RecordHead>
     let (base, line) = at_comma(line);
     let (name, line) = split(line, line.len().saturating_sub(34));
     let (_, started) = split(line, 10);
-    head_with(
-        show_in(show),
-        cid_in(cid),
-        priority_in(priority),
-        base_in(base),
-        HeadName::new(name),
-        started_in(started),
-    )
-}
-
-fn head_with(
-    show: Option<[u8; 32]>,
-    cid: Option<[u8; 16]>,
-    priority: Option<u8>,
-    base: Option<u16>,
-    name: Option<HeadName>,
-    started: Option<[u8; 24]>,
-) -> Option<RecordHead>
-    ensures { result ≡ head_with show cid priority base name started }
-{
-    Some(RecordHead {
-        show: show?,
-        cid: cid?,
-        priority: priority?,
-        base: base?,
-        name: name?,
-        started: started?,
-    })
+    let parts = HeadParts {
+        show: show_in(show),
+        cid: cid_in(cid),
+        priority: priority_in(priority),
+        base: base_in(base),
+        name: HeadName::new(name),
+        started: started_in(started),
+    };
+    parts.head()
 }
 
 // The first `count` bytes, and those behind them.

@@ -6,6 +6,7 @@ use Rattle.std.specs.Option.{option_map}
 use Rattle.rehearsal.specs.declared.event.Event.{Event}
 use Rattle.rehearsal.specs.declared.event.What.{What}
 use Rattle.rehearsal.specs.declared.event.What.TheVariants.{Deliver}
+use Rattle.rehearsal.specs.declared.handover.Handover.{Handover}
 use Rattle.rehearsal.specs.declared.stage.Stage.{Stage}
 use Rattle.rehearsal.specs.Shelves.{KeepsFrom, gone_of}
 
@@ -13,6 +14,10 @@ use Rattle.rehearsal.specs.Shelves.{KeepsFrom, gone_of}
 abbrev pub span_at : {F : Type 0} → List (Stage F) → ℕ → ℕ → Option (ℕ × ℕ)
 span_at stages console universe = option_map
     (λ stage. (gone_of stage.shelves.items universe, stage.last)) (slice_get stages console)
+
+-- what happens where a packet is handed over
+abbrev pub hands_over : Handover → What
+hands_over h = Deliver h.receiver h.console h.universe h.k
 
 -- a packet that an event delivers is not gone, and will be kept
 abbrev pub Holds : {F : Type 0} → List (Stage F) → What → Type 0

@@ -9,6 +9,8 @@ ghost use Rattle.rehearsal.specs.Stands.{AllStand, AllHear, AllTell, AllBy, IsWi
 ghost use Rattle.rehearsal.specs.Stands.{unless_skipped};
 ghost use Rattle.rehearsal.specs.Wanted.{Holds, span_at};
 
+use crate::handover::Handover;
+use crate::happening::Happening;
 use crate::stage::Stage;
 use crate::steps::{deliver_at, hear_at, order_at, show_at, tick_at};
 use crate::{Reply, What};
@@ -21,33 +23,35 @@ pub(crate) fn happen<F: Fader>(
     alloc: Global,
     stages: &mut [Stage<F>],
     receivers: &mut [Receiver],
-    strays: &[u8],
-    moment: u64,
-    what: What,
+    happening: Happening<'_>,
 ) -> Result<Reply, AllocError>
     requires real { (w : World) × (past : List EventData)
         × AllStand (StageStands F.stands_for) stages.old w past }
-    requires early { AllBy receivers.old moment }
-    requires within { IsWithin (length strays.now) what }
-    requires holds { Holds stages.old what }
+    requires early { AllBy receivers.old happening.event.moment }
+    requires within { IsWithin (length happening.strays.now) happening.event.what }
+    requires holds { Holds stages.old happening.event.what }
     ensures tell { OnOk result (AllTell Tells stages.old → AllTell Tells stages.new) }
     ensures spans { OnOk result ((i u : ℕ) → span_at stages.new i u ≡ span_at stages.old i u) }
-    ensures reply { IfOk result (λ r. (w : World) (past : List EventData)
-        → w.strays ≡ strays.now → AllStand (StageStands F.stands_for) stages.old w past
+    ensures reply { let h = happening.entry in
+        IfOk result (λ r. (w : World) (past : List EventData)
+        → w.strays ≡ h.strays.now → AllStand (StageStands F.stands_for) stages.old w past
         → AllTell Tells stages.old → AllHear receivers.old w past
-        → r ≡ option_map_or reply.Skipped (missing w past what)
-        (replied w past moment what)) }
-    ensures stands { OnOk result ((w : World) (past : List EventData)
+        → r ≡ option_map_or reply.Skipped (missing w past h.event.what)
+        (replied w past h.event.moment h.event.what)) }
+    ensures stands { let event = happening.entry.event in
+        OnOk result ((w : World) (past : List EventData)
         → AllStand (StageStands F.stands_for) stages.old w past
-        → AllStand (StageStands F.stands_for) stages.new w (unless_skipped (missing w past what)
-        (record { moment = moment; what = what }) past)) }
-    ensures hear { OnOk result ((w : World) (past : List EventData) → w.strays ≡ strays.now
+        → AllStand (StageStands F.stands_for) stages.new w
+        (unless_skipped (missing w past event.what) event past)) }
+    ensures hear { let h = happening.entry in
+        OnOk result ((w : World) (past : List EventData) → w.strays ≡ h.strays.now
         → AllStand (StageStands F.stands_for) stages.old w past → AllTell Tells stages.old
         → AllHear receivers.old w past
-        → AllHear receivers.new w (unless_skipped (missing w past what)
-        (record { moment = moment; what = what }) past)) }
+        → AllHear receivers.new w (unless_skipped (missing w past h.event.what) h.event past)) }
 {
-    match what {
+    let Happening { event, strays } = happening;
+    let moment = event.moment;
+    match event.what {
         What::Order(console, command) => Ok(order_at(stages, console, moment, command)),
         What::Tick(console) => tick_at(alloc, stages, console, moment),
         What::Deliver {
@@ -55,7 +59,15 @@ pub(crate) fn happen<F: Fader>(
             console,
             universe,
             k,
-        } => Ok(deliver_at(stages, receivers, receiver, console, universe, k, moment)),
+        } => {
+            let handover = Handover {
+                receiver,
+                console,
+                universe,
+                k,
+            };
+            Ok(deliver_at(stages, receivers, moment, handover))
+        }
         What::Stray { receiver, from, to } => {
             let bytes = &strays[from as usize..to as usize];
             Ok(hear_at(receivers, receiver, moment, bytes))

@@ -24,7 +24,9 @@
 mod answers;
 mod event;
 mod few_offers;
+mod handover;
 mod happen;
+mod happening;
 pub mod laws;
 mod listening;
 mod lows;

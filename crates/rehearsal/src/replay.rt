@@ -5,6 +5,7 @@ ghost use Rattle.rehearsal.specs.StageStands.{StageStands, Tells};
 ghost use Rattle.rehearsal.specs.Stands.{AllAre, IsWithin};
 ghost use Rattle.rehearsal.specs.Wanted.{AreUpTo};
 
+use crate::happening::Happening;
 use crate::lows::lows;
 use crate::releasing::release;
 use crate::showing::show_all;
@@ -36,7 +37,8 @@ pub(crate) fn run<F: Fader>(
     let mut last = 0;
     for i in 0..events.len() {
         let event = events[i];
-        let reply = step(alloc, stages, receivers, strays, &mut last, &event)?;
+        let happening = Happening { event, strays };
+        let reply = step(alloc, stages, receivers, &mut last, happening)?;
         release(stages, event.what, lows[i]);
         replies.push(reply)?;
     }

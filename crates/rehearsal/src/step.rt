@@ -7,8 +7,9 @@ ghost use Rattle.rehearsal.specs.Stands.{AllAre, AllStand, AllBy, IsStep, IsWith
 ghost use Rattle.rehearsal.specs.Wanted.{Holds, span_at};
 
 use crate::happen::happen;
+use crate::happening::Happening;
 use crate::stage::Stage;
-use crate::{Event, Reply, Skip};
+use crate::{Reply, Skip};
 use desk::MOMENTS;
 use fade::Fader;
 use sacn_receiver::Receiver;
@@ -28,30 +29,30 @@ pub(crate) fn step<F: Fader>(
     alloc: Global,
     stages: &mut [Stage<F>],
     receivers: &mut [Receiver],
-    strays: &[u8],
     last: &mut u64,
-    event: &Event,
+    happening: Happening<'_>,
 ) -> Result<Reply, AllocError>
     requires real { (w : World) × (past : List EventData)
         × AllStand (StageStands F.stands_for) stages.old w past }
     requires early { AllBy receivers.old last.old }
-    requires within { IsWithin (length strays.now) event.now.what }
-    requires holds { Holds stages.old event.now.what }
+    requires within { IsWithin (length happening.strays.now) happening.event.what }
+    requires holds { Holds stages.old happening.event.what }
     ensures spans { OnOk result ((i u : ℕ) → span_at stages.new i u ≡ span_at stages.old i u) }
-    ensures step { IfOk result (λ r. (w : World) (past : List EventData) → w.strays ≡ strays.now
+    ensures step { let h = happening.entry in
+        IfOk result (λ r. (w : World) (past : List EventData) → w.strays ≡ h.strays.now
         → last.old ≡ last_moment past
         → AllAre (StageStands F.stands_for) Tells stages.old receivers.old w past
         → IsStep (StageStands F.stands_for) Tells stages.new receivers.new last.new r
-        w past
-        event.now) }
+        w past h.event) }
 {
+    let event = happening.event;
     if event.moment < *last {
         return Ok(Reply::Skipped(Skip::Backwards));
     }
     if event.moment >= MOMENTS {
         return Ok(Reply::Skipped(Skip::TooLarge));
     }
-    let reply = happen(alloc, stages, receivers, strays, event.moment, event.what)?;
+    let reply = happen(alloc, stages, receivers, happening)?;
     *last = later(*last, event.moment, &reply);
     Ok(reply)
 }

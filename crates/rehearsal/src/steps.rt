@@ -3,15 +3,16 @@ ghost use Rattle.std.specs.Prelude.{◌≡◌, ◌==◌, ℕ, List, IfOk, OnOk};
 ghost use Rattle.std.specs.Prelude.{if◌then◌else◌, Some, None};
 ghost use Rattle.std.specs.Option.{option_map_or};
 ghost use Rattle.rehearsal.specs.declared.event.Event.{Event as EventData};
-ghost use Rattle.rehearsal.specs.declared.event.What.TheVariants.{Order, Tick, Deliver, Show};
+ghost use Rattle.rehearsal.specs.declared.event.What.TheVariants.{Order, Tick, Show};
 ghost use Rattle.rehearsal.specs.declared.reply.Reply.TheVariants as reply;
 ghost use Rattle.rehearsal.specs.World.{World};
 ghost use Rattle.rehearsal.specs.Happened.{handed};
 ghost use Rattle.rehearsal.specs.Replies.{missing, no_receiver_at, replied, taken_by};
 ghost use Rattle.rehearsal.specs.Stands.{AllStand, AllHear, AllTell, AllBy, unless_skipped};
-ghost use Rattle.rehearsal.specs.Wanted.{Holds, span_at};
+ghost use Rattle.rehearsal.specs.Wanted.{Holds, hands_over, span_at};
 
 use crate::answers::{ordered, taken, ticked};
+use crate::handover::Handover;
 use crate::shown_slots::ShownSlots;
 use crate::stage::Stage;
 use crate::{Reply, Skip};
@@ -124,35 +125,30 @@ pub(crate) fn show_at(
 pub(crate) fn deliver_at<F: Fader>(
     stages: &[Stage<F>],
     receivers: &mut [Receiver],
-    receiver: u16,
-    console: u16,
-    universe: u16,
-    k: u64,
     moment: u64,
+    handover: Handover,
 ) -> Reply
-    requires { Holds stages.now (Deliver receiver console universe k) }
+    requires { Holds stages.now (hands_over handover) }
     ensures reply { (w : World) (past : List EventData) → AllStand
         (StageStands F.stands_for) stages.now w past → AllTell Tells stages.now
         → AllHear receivers.old w past
-        → result ≡ option_map_or reply.Skipped (missing w past
-        (Deliver receiver console universe k)) (replied w past moment
-        (Deliver receiver console universe k)) }
+        → result ≡ option_map_or reply.Skipped (missing w past (hands_over handover))
+        (replied w past moment (hands_over handover)) }
     ensures hear { (w : World) (past : List EventData) → AllStand
         (StageStands F.stands_for) stages.now w past → AllTell Tells stages.now
         → AllHear receivers.old w past
-        → AllHear receivers.new w (unless_skipped (missing w past
-        (Deliver receiver console universe k))
-        (record { moment = moment; what = Deliver receiver console universe k }) past) }
+        → AllHear receivers.new w (unless_skipped (missing w past (hands_over handover))
+        (record { moment = moment; what = hands_over handover }) past) }
 {
-    let i = usize::from(console);
+    let i = usize::from(handover.console);
     if i >= stages.len() {
         return Reply::Skipped(Skip::NoConsole);
     }
-    if usize::from(receiver) >= receivers.len() {
+    if usize::from(handover.receiver) >= receivers.len() {
         return Reply::Skipped(Skip::NoReceiver);
     }
-    match stages[i].datagram(universe, k) {
+    match stages[i].datagram(handover.universe, handover.k) {
         None => Reply::Skipped(Skip::NotSent),
-        Some(bytes) => hear_at(receivers, receiver, moment, bytes),
+        Some(bytes) => hear_at(receivers, handover.receiver, moment, bytes),
     }
 }

@@ -9,7 +9,7 @@ offer-requires-clause-later g c =
     let r = c.requires.real in
     let live = live_by (ended r.1) (sym c.in-Live.is ∙ r.2.answer_is) in
     rw (earliest_is r.0.source c.args.sender.now c.args.universe _ _ r.3)
-    (offered_before r.0 c.args.universe c.args.moment r.1 r.2.accepted live)
+    (offered_before r.0 c.args.universe c.args.tick.moment r.1 r.2.accepted live)
 
 pub offer-requires-clause-live : goal.offer-requires-clause-live
 offer-requires-clause-live g c =
@@ -22,7 +22,7 @@ terminate-requires-clause-fewer g c =
     let r = c.requires.real in
     let e = ending_by (ended r.1) c.in-Ending.field-0 (sym c.in-Ending.is ∙ r.2.answer_is) in
     rw (ended_is r.0.source c.args.sender.now c.args.universe _ _ r.3, e.1)
-    (fewer_than_three r.0 c.args.moment e.0 r.1 r.2.accepted e.1)
+    (fewer_than_three r.0 c.args.tick.moment e.0 r.1 r.2.accepted e.1)
 
 pub returns-in-Live-clause-stands : goal.returns-in-Live-clause-stands
 returns-in-Live-clause-stands g c = λ p older tick had.

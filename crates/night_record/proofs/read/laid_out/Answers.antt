@@ -4,7 +4,7 @@ use Rattle.night_record.proofs.read.laid_out.Goals as goal
 pub returns : goal.returns
 returns c =
     rw (
-      c.head_with.ensures,
+      c.head.ensures,
       c.show_in.ensures,
       c.cid_in.ensures,
       c.priority_in.ensures,

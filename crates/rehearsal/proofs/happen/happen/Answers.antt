@@ -1,5 +1,5 @@
 use borrow.Author.Rules.{Fits-under}
-use Rattle.std.proofs.Common.{List, ℕ, ◌^◌, ap, refl, sym, ◌∙◌, Some, None, w64}
+use Rattle.std.proofs.Common.{arith, List, ℕ, ◌^◌, ap, refl, sym, ◌∙◌, Some, None, w64}
 use Rattle.std.specs.Prelude.{if◌then◌else◌, nat_eq, slice_range}
 use Rattle.std.specs.Option.{option_map_or}
 use Rattle.rehearsal.specs.declared.reply.Reply.TheVariants as reply
@@ -16,10 +16,16 @@ pub show_at-requires : goal.show_at-requires
 show_at-requires g c = c.requires.early
 
 pub overflow_cast-bytes : goal.overflow_cast-bytes
-overflow_cast-bytes g c = Fits-under w64 c.in-Stray.from (2 ^ 32) (assumption) tt
+overflow_cast-bytes g c =
+    let within = rw c.in-Stray.is at c.requires.within in
+    Fits-under w64 c.in-Stray.from (2 ^ 64)
+    (omega (arith, within.0, within.1, c.ranges.happening.0)) tt
 
 pub overflow_cast-bytes-in-Stray : goal.overflow_cast-bytes-in-Stray
-overflow_cast-bytes-in-Stray g c = Fits-under w64 c.in-Stray.to (2 ^ 32) (assumption) tt
+overflow_cast-bytes-in-Stray g c =
+    let within = rw c.in-Stray.is at c.requires.within in
+    Fits-under w64 c.in-Stray.to (2 ^ 64)
+    (omega (arith, within.0, within.1, c.ranges.happening.0)) tt
 
 pub slice_bounds-bytes-count : goal.slice_bounds-bytes-count
 slice_bounds-bytes-count g c = (rw c.in-Stray.is at c.requires.within).0
@@ -65,7 +71,7 @@ returns-in-Stray g c = record {
   spans = λ i u. refl;
   reply = λ w past same all tell hear. rw c.in-Stray.is (c.hear_at.ensures.reply w past hear
       ∙ ap (λ (s : List ℕ). option_map_or reply.Skipped (no_receiver_at w c.in-Stray.receiver)
-      (taken_by w c.in-Stray.receiver past c.args.moment
+      (taken_by w c.in-Stray.receiver past c.args.happening.event.moment
       (slice_range s c.in-Stray.from c.in-Stray.to))) (sym same));
   stands = λ w past all. rw c.in-Stray.is (stand_same (StageStands g.F.Fader.stands_for)
       c.args.stages.now w past _ _ (λ j. refl) all);

@@ -8,7 +8,7 @@ use Rattle.rehearsal.proofs.step.step.Goals as goal
 
 pub returns-clause-step : goal.returns-clause-step
 returns-clause-step g c = λ w past same l are.
-    let e : Event = c.args.event.now in
+    let e : Event = c.args.happening.event in
     step_done w past e c.in_ok-reply.reply c.args.last.now c.later.result
     (omega (arith, l, c.if-event-last.false)) (omega (arith, c.if-event-ge-MOMENTS.false)) l
     (c.in_ok-reply.ensures.reply w past same are.stand are.tell are.hear) c.later.ensures
@@ -17,13 +17,13 @@ returns-clause-step g c = λ w past same l are.
 
 pub returns-then-event-last-clause-step : goal.returns-then-event-last-clause-step
 returns-then-event-last-clause-step g c = λ w past same l are.
-    let e : Event = c.args.event.now in
+    let e : Event = c.args.happening.event in
     step_skipped w past e Backwards c.args.last.now
     (rw (lt-ltb e.moment (last_moment past) (omega (arith, l, c.if-event-last.true)))) l are
 
 pub returns-then-event-ge-MOMENTS-clause-step : goal.returns-then-event-ge-MOMENTS-clause-step
 returns-then-event-ge-MOMENTS-clause-step g c = λ w past same l are.
-    let e : Event = c.args.event.now in
+    let e : Event = c.args.happening.event in
     step_skipped w past e TooLarge c.args.last.now
     (rw (
       le-ltb e.moment (last_moment past) (omega (arith, l, c.if-event-last.false)),

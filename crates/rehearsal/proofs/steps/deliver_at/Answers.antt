@@ -3,7 +3,7 @@ use Rattle.std.proofs.lemmas.Bool.{le-ltb, lt-ltb}
 use Rattle.std.specs.Prelude.{length, nat_eq, if◌then◌else◌}
 use Rattle.std.specs.Option.{option_map}
 use Rattle.rehearsal.specs.declared.event.Event.{Event}
-use Rattle.rehearsal.specs.declared.event.What.TheVariants.{Deliver}
+use Rattle.rehearsal.specs.Wanted.{hands_over}
 use Rattle.rehearsal.specs.World.{World}
 use Rattle.rehearsal.proofs.Events.{absent, at_number, looked_up}
 use Rattle.rehearsal.specs.StageStands.{StageStands, Tells}
@@ -18,7 +18,8 @@ datagram-requires g c =
 pub returns-in-None : goal.returns-in-None
 returns-in-None g c =
     let is = looked_up (StageStands g.F.Fader.stands_for) Tells c.args.stages.now
-    c.args.receivers.now c.args.console c.args.receiver c.args.universe c.args.k _
+    c.args.receivers.now c.args.handover.console c.args.handover.receiver
+    c.args.handover.universe c.args.handover.k _
     (at_number c.args.stages.now _ _ _ c.from-i.ensures c.if-i-stages.false c.index-stages-i.is)
     (omega (arith, c.from.ensures, c.if-from-receivers.false)) None
     (λ p h s t. ap (option_map (λ b. b.now)) (sym c.in-None.is) ∙ c.datagram.ensures p h s t) in
@@ -30,7 +31,8 @@ returns-in-None g c =
 pub returns-in-Some : goal.returns-in-Some
 returns-in-Some g c =
     let is = looked_up (StageStands g.F.Fader.stands_for) Tells c.args.stages.now
-    c.args.receivers.now c.args.console c.args.receiver c.args.universe c.args.k _
+    c.args.receivers.now c.args.handover.console c.args.handover.receiver
+    c.args.handover.universe c.args.handover.k _
     (at_number c.args.stages.now _ _ _ c.from-i.ensures c.if-i-stages.false c.index-stages-i.is)
     (omega (arith, c.from.ensures, c.if-from-receivers.false)) (Some c.in-Some.bytes.now)
     (λ p h s t. ap (option_map (λ b. b.now)) (sym c.in-Some.is) ∙ c.datagram.ensures p h s t) in
@@ -40,15 +42,16 @@ returns-in-Some g c =
       hear = λ w past all tell hear. let i = is w past all tell hear in
           let e : Event = record {
             moment = c.args.moment;
-            what = Deliver c.args.receiver c.args.console c.args.universe c.args.k;
+            what = hands_over c.args.handover;
           } in
           rw i.2 (rw i.0 at (c.hear_at.ensures.hear w past e hear refl
-          (λ r. ap (λ o. if nat_eq c.args.receiver r then o else None) (sym i.1))));
+          (λ r. ap (λ o. if nat_eq c.args.handover.receiver r then o else None) (sym i.1))));
     }
 
 pub returns-then-i-stages : goal.returns-then-i-stages
 returns-then-i-stages g c =
-    let none = absent c.args.stages.now c.args.console _ c.from-i.ensures c.if-i-stages.true in
+    let none = absent c.args.stages.now c.args.handover.console _ c.from-i.ensures
+    c.if-i-stages.true in
     record {
       reply = λ w past all tell hear. rw (none w all.each) refl;
       hear = λ w past all tell hear. rw (none w all.each) hear;
@@ -57,10 +60,10 @@ returns-then-i-stages g c =
 pub returns-then-from-receivers : goal.returns-then-from-receivers
 returns-then-from-receivers g c =
     let here = λ (w : World) (same : length c.args.stages.now ≡ length w.consoles).
-    lt-ltb c.args.console (length w.consoles)
+    lt-ltb c.args.handover.console (length w.consoles)
     (omega (arith, same, c.from-i.ensures, c.if-i-stages.false)) in
     let none = λ (w : World) (same : length c.args.receivers.now ≡ length w.receivers).
-    le-ltb c.args.receiver (length w.receivers)
+    le-ltb c.args.handover.receiver (length w.receivers)
     (omega (arith, same, c.from.ensures, c.if-from-receivers.true)) in
     record {
       reply = λ w past all tell hear. rw (here w all.each, none w hear.each) refl;

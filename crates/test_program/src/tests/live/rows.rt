@@ -1,5 +1,5 @@
 use cmd_faults::RunFault;
-use cmd_play::play;
+use cmd_play::{Setup, play};
 use devices::memory::{MemoryFeed, MemoryLink, MemoryOutput};
 use fade::PlainFader;
 use std::alloc::Global;
@@ -54,15 +54,12 @@ pub fn played(rt: &impl Abort, alloc: Global, kept: &[u8]) -> MemoryLink {
     let mut feed = MemoryFeed::new(kept, 4096, 0, 0);
     let mut link = MemoryLink::new(alloc, 0, 0);
     let mut out = MemoryOutput::new(alloc, 0, 0);
-    let answer = play::<PlainFader, _, _, _>(
-        alloc,
-        SMALL,
-        identity(rt),
-        1,
-        &mut feed,
-        &mut link,
-        &mut out,
-    );
+    let setup = Setup {
+        show: SMALL,
+        identity: identity(rt),
+        base: 1,
+    };
+    let answer = play::<PlainFader, _, _, _>(alloc, setup, &mut feed, &mut link, &mut out);
     assert!(rt; answer == Ok(()));
     link
 }
