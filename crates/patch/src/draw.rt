@@ -5,50 +5,48 @@ ghost use Rattle.show.specs.Readers.{slot_of};
 ghost use Rattle.show.specs.Tables.{PatchMap};
 ghost use Rattle.patch.specs.Frame.{AreDrawn, listed_level};
 ghost use Rattle.patch.specs.Sources.{AreOf, AreSources};
-ghost use Rattle.patch.specs.declared.sources.Bytes.TheVariants.{Mixed};
+ghost use Rattle.patch.specs.declared.sources.Bytes.TheVariants.{Dark, Mixed};
 
 use crate::sources::Bytes;
 use show::{CHANNELS, Frame, SLOTS, slot};
 
+// What the frames are drawn from.
+#[derive(Drop)]
+pub struct Drawing<'a> {
+    // The level of each channel.
+    pub levels: &'a [u16],
+    // The place of each dimmer's channel among the levels.
+    pub sources: &'a [u16],
+    // The byte of each dimmer.
+    pub bytes: &'a [u8],
+    // What the bytes of each ordinal are.
+    pub kinds: &'a [Bytes],
+    pub grand: u8,
+    ghost each_channel: { length levels.now ≡ 4096 },
+    ghost full: { AreLevels levels.now },
+    ghost each_source: { length sources.now ≡ 8192 },
+    ghost in_range: { (p : ℕ) → slice_index sources.now p < 4096 },
+    ghost each_byte: { length bytes.now ≡ 8192 },
+    ghost each_kind: { length kinds.now ≡ 16 },
+}
+
 // Writes the slots of each ordinal, from the level at each dimmer's place and from its byte.
-pub fn draw_frames(
-    frames: &mut [Frame],
-    levels: &[u16],
-    sources: &[u16],
-    bytes: &[u8],
-    kinds: &[Bytes],
-    grand: u8,
-)
+pub fn draw_frames(frames: &mut [Frame], drawing: &Drawing<'_>)
     requires each_ordinal { length frames.old ≡ 16 }
-    requires each_channel { length levels.now ≡ 4096 }
-    requires full { AreLevels levels.now }
-    requires sources { length sources.now ≡ 8192 }
-    requires in_range { (p : ℕ) → slice_index sources.now p < 4096 }
-    requires bytes { length bytes.now ≡ 8192 }
-    requires each_kind { length kinds.now ≡ 16 }
     requires kinds { (k : ℕ) → k < 16
-        → AreOf (slice_index_or kinds.now k Mixed) bytes.now (512 * k) }
-    ensures { (patch : PatchMap) → AreSources patch sources.now bytes.now
-        → AreDrawn patch (listed_level levels.now) grand frames.new }
+        → AreOf (slice_index_or drawing.now.kinds.now k Mixed) drawing.now.bytes.now (512 * k) }
+    ensures { (patch : PatchMap)
+        → AreSources patch drawing.now.sources.now drawing.now.bytes.now
+        → AreDrawn patch (listed_level drawing.now.levels.now) drawing.now.grand frames.new }
 {
     let mut slots = [0; 4096];
-    if grand == 255 {
-        fill_full(&mut slots, levels);
+    if drawing.grand == 255 {
+        fill_full(&mut slots, drawing.levels);
     } else {
-        fill_dimmed(&mut slots, levels, grand);
+        fill_dimmed(&mut slots, drawing.levels, drawing.grand);
     }
     for ordinal in 0..frames.len() {
-        let first = usize::from(SLOTS) * ordinal;
-        draw_frame(
-            &mut frames[ordinal],
-            levels,
-            &slots,
-            sources,
-            bytes,
-            kinds[ordinal],
-            first,
-            grand,
-        );
+        draw_frame(&mut frames[ordinal], drawing, &slots, ordinal);
     }
 }
 
@@ -85,41 +83,31 @@ fn full_slot(level: u16) -> u8
     ((level + 127) / 255) as u8
 }
 
-// Writes the 512 slots of an ordinal, whose dimmers lie from `first` on.
-fn draw_frame(
-    out: &mut Frame,
-    levels: &[u16],
-    slots: &[u8; 4096],
-    sources: &[u16],
-    bytes: &[u8],
-    kind: Bytes,
-    first: usize,
-    grand: u8,
-)
-    requires each_channel { length levels.now ≡ 4096 }
-    requires full { AreLevels levels.now }
-    requires slots { (c : ℕ) → c < 4096
-        → slice_index slots.now c ≡ slot_of (slice_index levels.now c) grand 255 }
-    requires sources { first + 512 ≤ length sources.now }
-    requires in_range { (p : ℕ) → slice_index sources.now p < 4096 }
-    requires bytes { first + 512 ≤ length bytes.now }
-    requires kind { AreOf kind bytes.now first }
+// Writes the 512 slots of an ordinal: `slots` has that of each channel at a byte of 255.
+fn draw_frame(out: &mut Frame, drawing: &Drawing<'_>, slots: &[u8; 4096], ordinal: usize)
+    requires ordinal { ordinal < 16 }
+    requires kind { AreOf (slice_index_or drawing.now.kinds.now ordinal Dark)
+        drawing.now.bytes.now (512 * ordinal) }
+    requires slots { (c : ℕ) → c < 4096 → slice_index slots.now c
+        ≡ slot_of (slice_index drawing.now.levels.now c) drawing.now.grand 255 }
     ensures size { length out.new ≡ 512 }
     ensures slots { (s : ℕ) → s < 512 → slice_index out.new s
-        ≡ slot_of (slice_index levels.now (slice_index sources.now (first + s))) grand
-        (slice_index bytes.now (first + s)) }
+        ≡ slot_of (slice_index drawing.now.levels.now
+        (slice_index drawing.now.sources.now (512 * ordinal + s)))
+        drawing.now.grand (slice_index drawing.now.bytes.now (512 * ordinal + s)) }
 {
-    match kind {
+    let first = usize::from(SLOTS) * ordinal;
+    match drawing.kinds[ordinal] {
         Bytes::Dark => *out = [0; 512],
-        Bytes::Full => gather_slots(out, slots, sources, first),
+        Bytes::Full => gather_slots(out, slots, drawing.sources, first),
         Bytes::FullOrDark => {
-            gather_slots(out, slots, sources, first);
-            keep_patched(out, bytes, first);
+            gather_slots(out, slots, drawing.sources, first);
+            keep_patched(out, drawing.bytes, first);
         }
         Bytes::Mixed => {
             let mut own = [0; 512];
-            gather_levels(&mut own, levels, sources, first);
-            fill_scaled(out, &own, bytes, first, grand);
+            gather_levels(&mut own, drawing.levels, drawing.sources, first);
+            fill_scaled(out, &own, drawing.bytes, first, drawing.grand);
         }
     }
 }

@@ -8,9 +8,9 @@ ghost use Rattle.patch.specs.Frame.{is_universe, is_base, listed_level, frame_of
 ghost use Rattle.patch.specs.Frame.{AreDrawn};
 ghost use Rattle.patch.specs.declared.fault.RigFault.TheVariants.{Universe};
 
-use crate::draw::draw_frames;
+use crate::draw::{Drawing, draw_frames};
 use crate::fault::RigFault;
-use crate::index::{begins_of, sorted_by_channel};
+use crate::index::{ByChannel, begins_of, sorted_by_channel};
 use crate::slots::redraw_channels;
 use crate::sources::{Bytes, kinds_of, write_sources};
 use show::{DIMMERS, Frame, SLOTS, Show, slot};
@@ -127,11 +127,13 @@ impl Rig {
     {
         draw_frames(
             frames,
-            levels,
-            &self.sources,
-            &self.bytes,
-            &self.kinds,
-            grand,
+            &Drawing {
+                levels,
+                sources: &self.sources,
+                bytes: &self.bytes,
+                kinds: &self.kinds,
+                grand,
+            },
         );
     }
 
@@ -153,8 +155,10 @@ impl Rig {
     {
         redraw_channels(
             frames,
-            &self.by_channel,
-            &self.begins,
+            &ByChannel {
+                dimmers: &self.by_channel,
+                begins: &self.begins,
+            },
             channels,
             levels,
             grand,

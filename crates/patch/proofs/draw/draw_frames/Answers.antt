@@ -4,7 +4,7 @@ use Rattle.patch.specs.Frame.{listed_level, frame_of}
 use Rattle.patch.specs.declared.sources.Bytes.TheVariants.{Dark, Mixed}
 use Rattle.patch.proofs.Sourced.{frames_more, frame_from_sources}
 use Rattle.patch.proofs.draw.draw_frames.Goals as goal
-use Rattle.patch.proofs.draw.draw_frames.Goals.{then-grand-eq255, else-grand-eq255}
+use Rattle.patch.proofs.draw.draw_frames.Goals.{then-drawing, else-drawing}
 
 -- an element that is there is the same whatever else would be
 other_default : {X : Type 0} (xs : List X) (i : ℕ) (d e : X) → i < length xs
@@ -18,10 +18,11 @@ loop-ordinal-preserved c = λ patch are.
     let k : ℕ = c.loop-ordinal.ordinal in
     let out : List ℕ = c.draw_frame.new.out in
     let size : length out ≡ 512 = c.draw_frame.ensures.size in
-    frames_more (frame_of patch (listed_level c.args.levels.now) c.args.grand)
+    let drawing = c.args.drawing.now in
+    frames_more (frame_of patch (listed_level drawing.levels.now) drawing.grand)
     c.loop-ordinal.frames k out (omega arith)
-    (frame_from_sources patch c.args.sources.now c.args.bytes.now c.args.levels.now are
-    c.args.grand k (omega arith) out size (rw c.from.ensures at c.draw_frame.ensures.slots))
+    (frame_from_sources patch drawing.sources.now drawing.bytes.now drawing.levels.now are
+    drawing.grand k (omega arith) out size c.draw_frame.ensures.slots)
     (c.loop-ordinal.invariant patch are)
 
 pub returns : goal.returns
@@ -29,9 +30,9 @@ returns c = λ patch are k lt. c.loop-ordinal.invariant patch are k (omega arith
 
 pub draw_frame-requires-clause-slots : goal.draw_frame-requires-clause-slots
 draw_frame-requires-clause-slots c =
-    elim c.if-grand-eq255.branch [
-      | then-grand-eq255 w ↦ rw (w.if-grand-eq255.true, w.slots-is) w.fill_full.ensures
-      | else-grand-eq255 w ↦ rw w.slots-is w.fill_dimmed.ensures
+    elim c.if-drawing.branch [
+      | then-drawing w ↦ rw (w.if-drawing.true, w.slots-is) w.fill_full.ensures
+      | else-drawing w ↦ rw w.slots-is w.fill_dimmed.ensures
     ]
 
 pub offset_bounds-frames-ordinal : goal.offset_bounds-frames-ordinal
@@ -40,5 +41,6 @@ offset_bounds-frames-ordinal c = search scaled_Fits
 pub draw_frame-requires-clause-kind : goal.draw_frame-requires-clause-kind
 draw_frame-requires-clause-kind c =
     let k : ℕ = c.loop-ordinal.ordinal in
-    rw (c.from.ensures, other_default c.args.kinds.now k Dark Mixed (omega arith))
+    let kinds = c.args.drawing.now.kinds.now in
+    rw (other_default kinds k Dark Mixed (omega (arith, c.args.drawing.now.each_kind)))
     (c.requires.kinds k (omega arith))

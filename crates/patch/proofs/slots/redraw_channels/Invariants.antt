@@ -11,8 +11,8 @@ use Rattle.patch.proofs.slots.redraw_channels.Given as goal
 abbrev pub invariant-loop-channel : goal.invariant-loop-channel
 invariant-loop-channel l = record {
   frames : AreFrames l.frames;
-  slots : (patch : PatchMap) (before after : ℕ → ℕ) → IsIndex (map.entries patch) l.by_channel
-      l.begins
+  slots : (patch : PatchMap) (before after : ℕ → ℕ) → IsIndex (map.entries patch)
+      l.by_channel.dimmers.now l.by_channel.begins.now
       → All (λ e. IsTrue (is_channel e.1.0)) (map.entries patch)
       → ((dimmer : ℕ) → IsTrue (is_dimmer dimmer) → slot_at l.fn.frames dimmer
       ≡ dimmer_slot patch before l.grand dimmer)

@@ -30,7 +30,7 @@ loop-i-preserved c =
           c.from-ordinal.ensures c.from.ensures range.0 (dimmer_range dimmer is).0
           (c.slot.ensures ∙ drawn c.loop-i.i c.loop-i.auto.i c.loop-i-test.true)
           (λ other. c.loop-i.invariant.slots want kept drawn dimmer is
-          (λ p low high. behind c.args.dimmers.now c.loop-i.i p c.args.to dimmer other rest low
+          (λ p low high. behind c.args.dimmers.now c.loop-i.i p c.args.run.end dimmer other rest low
           high));
     }
 

@@ -10,11 +10,11 @@ invariant-loop-i l = record {
   frames : AreFrames l.frames;
   slots : (want : ℕ → ℕ)
       → ((dimmer : ℕ) → IsTrue (is_dimmer dimmer)
-      → ((p : ℕ) → l.from ≤ p → p < l.to → dimmer_at l.dimmers p ≢ dimmer)
+      → ((p : ℕ) → l.fn.run.start ≤ p → p < l.fn.run.end → dimmer_at l.dimmers p ≢ dimmer)
       → slot_at l.fn.frames dimmer ≡ want dimmer)
-      → ((p : ℕ) → l.from ≤ p → p < l.to
+      → ((p : ℕ) → l.fn.run.start ≤ p → p < l.fn.run.end
       → slot_of l.level l.grand (byte_at l.dimmers p) ≡ want (dimmer_at l.dimmers p))
       → (dimmer : ℕ) → IsTrue (is_dimmer dimmer)
-      → ((p : ℕ) → l.i ≤ p → p < l.to → dimmer_at l.dimmers p ≢ dimmer)
+      → ((p : ℕ) → l.i ≤ p → p < l.fn.run.end → dimmer_at l.dimmers p ≢ dimmer)
       → slot_at l.frames dimmer ≡ want dimmer;
 }

@@ -11,16 +11,22 @@ use Rattle.patch.proofs.Indexed.{begins_rise}
 use Rattle.patch.proofs.Redrawn.{slots_from_drawn, drawn_from_slots}
 use Rattle.patch.proofs.rig.Rig.redraw.Goals as goal
 
-pub redraw_channels-requires-clause-numbers : goal.redraw_channels-requires-clause-numbers
-redraw_channels-requires-clause-numbers c =
+pub invariant_of-redraw_channels-clause-numbers : goal.invariant_of-redraw_channels-clause-numbers
+invariant_of-redraw_channels-clause-numbers c =
     rw c.deref.ensures.value (All-permutation (λ e. IsTrue (is_dimmer e.0)) _ _
     c.self.invariant.index.same c.self.invariant.numbers_in)
 
-pub redraw_channels-requires-clause-bounds : goal.redraw_channels-requires-clause-bounds
-redraw_channels-requires-clause-bounds c =
+pub invariant_of-redraw_channels-clause-bounds : goal.invariant_of-redraw_channels-clause-bounds
+invariant_of-redraw_channels-clause-bounds c =
     rw c.deref-2.ensures.value
     (begins_rise c.self.inside.dimmers.items c.self.inside.by_channel.items
     c.self.inside.begins.items c.self.invariant.index)
+
+pub invariant_of-redraw_channels-clause-in_range :
+    goal.invariant_of-redraw_channels-clause-in_range
+invariant_of-redraw_channels-clause-in_range c =
+    rw (c.deref.ensures.value, c.deref-2.ensures.value)
+    (λ at lt. (c.self.invariant.index.places at lt).in_range)
 
 pub returns : goal.returns
 returns c = λ before after drawn agree listed.
