@@ -316,8 +316,8 @@ impl<F: Fader> Desk<F> {
                 playback: &self.playback,
                 floors: &self.floors,
                 has_floors: self.has_floors,
+                grand: self.masters.grand(),
             },
-            self.masters.grand(),
         );
         self.last_moment = moment;
         self.last_tick = Some(moment);
@@ -340,8 +340,8 @@ impl<F: Fader> Desk<F> {
                 playback: &self.playback,
                 floors: &self.floors,
                 has_floors: self.has_floors,
+                grand: self.masters.grand(),
             },
-            self.masters.grand(),
         );
         self.is_kept = true;
         self.last_moment = moment;

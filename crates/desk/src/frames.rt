@@ -15,14 +15,15 @@ use playback::Playback;
 use show::{CHANNELS, Frame, UNIVERSES};
 use std::alloc::{AllocError, Global};
 
-// What a tick shows of each channel: the higher of its floor and of the playback's level at the
-// latest moment that the playback was given.
+// What a tick shows: of each channel the higher of its floor and of the playback's level at the
+// latest moment that the playback was given, and all of it by the grand master.
 #[derive(Drop)]
 pub struct Merged<'a, F: Fader> {
     pub playback: &'a Playback<F>,
     pub floors: &'a [u16],
     // Where it is false, there is nothing to merge.
     pub has_floors: bool,
+    pub grand: u8,
     ghost each_channel: { length floors.now ≡ 4096 },
     ghost full: { AreLevels floors.now },
     ghost none: { IsFalse has_floors → All (λ floor. floor ≡ 0) floors.now },
@@ -52,7 +53,6 @@ pub fn draw_merged<F: Fader>(
     levels: &mut [u16],
     rig: &Rig,
     merged: &Merged<'_, F>,
-    grand: u8,
 )
     requires each_ordinal { length frames.old ≡ 16 }
     requires levels { length levels.old ≡ 4096 }
@@ -63,14 +63,14 @@ pub fn draw_merged<F: Fader>(
         → ((channel : ℕ) → IsTrue (is_channel channel)
         → max (playback_level show moves channel (F.latest merged.now.playback.now.fader))
         (listed_level merged.now.floors.now channel) ≡ level channel)
-        → AreDrawn rig.now.patch level grand frames.new }
+        → AreDrawn rig.now.patch level merged.now.grand frames.new }
     ensures full { AreLevels levels.new }
 {
     match merged.playback.levels() {
-        Some(playing) if !merged.has_floors => rig.draw(frames, playing, grand),
+        Some(playing) if !merged.has_floors => rig.draw(frames, playing, merged.grand),
         _ => {
             merge_levels(levels, merged.playback, merged.floors);
-            rig.draw(frames, levels, grand);
+            rig.draw(frames, levels, merged.grand);
         }
     }
 }
@@ -123,28 +123,29 @@ pub fn redraw_merged<F: Fader>(
     rig: &Rig,
     channels: &[u16],
     merged: &Merged<'_, F>,
-    grand: u8,
 )
     requires each_ordinal { length frames.old ≡ 16 }
     requires levels { length levels.old ≡ 4096 }
     requires levels_full { AreLevels levels.old }
     requires in_range { All (λ channel. IsTrue (is_channel channel)) channels.now }
     ensures drawn { (show : Tables) (moves : List Move) (stopped : Bool) (before after : ℕ → ℕ)
-        → AreDrawn rig.now.patch before grand frames.old
+        → AreDrawn rig.now.patch before merged.now.grand frames.old
         → ((channel : ℕ) → IsTrue (is_channel channel) → ¬ Contains channels.now channel
         → before channel ≡ after channel)
         → playback_stands.StandsFor F.stands_for show merged.now.playback.now moves stopped
         → All (λ channel.
         max (playback_level show moves channel (F.latest merged.now.playback.now.fader))
         (listed_level merged.now.floors.now channel) ≡ after channel) channels.now
-        → AreDrawn rig.now.patch after grand frames.new }
+        → AreDrawn rig.now.patch after merged.now.grand frames.new }
     ensures full { AreLevels levels.new }
 {
     match merged.playback.levels() {
-        Some(playing) if !merged.has_floors => rig.redraw(frames, channels, playing, grand),
+        Some(playing) if !merged.has_floors => {
+            rig.redraw(frames, channels, playing, merged.grand)
+        }
         _ => {
             merge_some(levels, channels, merged.playback, merged.floors);
-            rig.redraw(frames, channels, levels, grand);
+            rig.redraw(frames, channels, levels, merged.grand);
         }
     }
 }
