@@ -1,4 +1,4 @@
-use Rattle.std.proofs.Common.{refl, ◌≡◌, IsTrue, ◌∙◌}
+use Rattle.std.proofs.Common.{refl, ◌≡◌, IsTrue, ◌∙◌, arith}
 use Rattle.std.specs.FinMap as map
 use Rattle.std.specs.Ordering.{nat_cmp}
 use Rattle.std.proofs.lemmas.List.{get_or_default}
@@ -36,10 +36,10 @@ returns c = λ before after drawn agree listed.
     let index = rw (same, ← c.deref.ensures.value, ← c.deref-2.ensures.value)
     at c.self.invariant.index in
     let in_range = rw same at c.self.invariant.channels_in in
-    drawn_from_slots patch after c.args.grand c.redraw_channels.new.frames
-    c.redraw_channels.ensures.frames
-    (c.redraw_channels.ensures.slots patch before after index in_range
-    (slots_from_drawn patch before c.args.grand c.args.frames.now drawn)
+    drawn_from_slots patch after c.args.grand c.redraw_channels.new.slots
+    (omega (arith, c.requires.each_slot))
+    (c.redraw_channels.ensures patch before after index in_range
+    (slots_from_drawn patch before c.args.grand c.args.slots.now c.requires.each_slot drawn)
     (λ channel is unlisted. agree channel is
     (λ there. unlisted there.0 there.1
     (get_or_default c.args.channels.now there.0 0 channel there.1 ∙ there.2))) listed)
