@@ -8,10 +8,9 @@ use Rattle.desk.specs.Meaning.{universe_numbers}
 
 -- the fader is not ahead of the last call, the rig has the show's patch, the universes have
 -- numbers, which are at hand, the show's numbers are in their ranges, there is a level and a floor
--- in its range for each channel and a frame for each ordinal, and where there are no floors each is
--- 0
+-- in its range for each channel and a slot for each dimmer, and where there are no floors each is 0
 pub record IsDesk (fader_latest last_moment : ℕ) (rig : Rigging) (show : Tables)
-    (universes levels floors : List ℕ) (has_floors : Bool) (frames : List (List ℕ)) : Type 0 where
+    (universes levels floors : List ℕ) (has_floors : Bool) (slots : List ℕ) : Type 0 where
   pub not_ahead : fader_latest ≤ last_moment
   pub patch_is : rig.patch ≡ show.patch
   pub base_in : IsTrue (is_base show.patch rig.base)
@@ -22,4 +21,4 @@ pub record IsDesk (fader_latest last_moment : ℕ) (rig : Rigging) (show : Table
   pub each_floor : length floors ≡ 4096
   pub floors_full : AreLevels floors
   pub no_floors : IsFalse has_floors → All (λ floor. floor ≡ 0) floors
-  pub each_ordinal : length frames ≡ 16
+  pub each_slot : length slots ≡ 8192

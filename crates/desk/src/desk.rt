@@ -10,7 +10,7 @@ ghost use Rattle.playback.specs.Placed.{IsAt};
 ghost use Rattle.playback.specs.Played.{current_after, with_due};
 ghost use Rattle.playback.specs.Stands as playback_stands;
 ghost use Rattle.masters.specs.Settings as masters_stand;
-ghost use Rattle.patch.specs.Frame.{is_universe, is_base};
+ghost use Rattle.patch.specs.Frame.{is_universe, is_base, frames_in};
 ghost use Rattle.patch.specs.declared.fault.RigFault.TheVariants.{Universe};
 ghost use Rattle.desk.specs.Played.{Act, order, tick, ended, ended_by, moves, settings};
 ghost use Rattle.desk.specs.Played.{untimely, is_over, is_soon, lacking, refusal};
@@ -23,13 +23,13 @@ ghost use Rattle.desk.specs.Ticks.{Ticks, IsKeptBut};
 
 use crate::answer::{Refused, Ticked};
 use crate::command::Command;
-use crate::frames::{Merged, dark_frames, darken, draw_merged, has_floors, redraw_merged};
+use crate::frames::{Merged, darken, draw_merged, has_floors, redraw_merged};
 use arrayvec::ArrayVec;
 use fade::Fader;
 use masters::Masters;
 use patch::{Rig, RigFault};
 use playback::{Place, Playback};
-use show::{CHANNELS, Frame, Show};
+use show::{CHANNELS, DIMMERS, Frame, Show};
 use std::alloc::Global;
 use std::fmt;
 use std::marker::Model;
@@ -70,7 +70,8 @@ pub struct Desk<F: Fader> {
     are_floors: bool,
     // Whether a floor may be above 0.
     has_floors: bool,
-    frames: Vec<Frame>,
+    // The slots of all dimmers, in a row.
+    slots: Vec<u8>,
     is_kept: bool,
 }
 
@@ -89,12 +90,12 @@ impl<F: Fader> Model for Desk<F> {
       ended = d.ended;
       floors = d.floors.items;
       are_floors = d.are_floors;
-      frames = d.frames.items;
+      frames = frames_in d.slots.items;
       is_kept = d.is_kept;
     } };
 
     ghost invariant = { λ d. IsDesk (F.latest d.playback.fader) d.last_moment d.rig d.show
-        d.universes.items d.levels.items d.floors.items d.has_floors d.frames.items };
+        d.universes.items d.levels.items d.floors.items d.has_floors d.slots.items };
 }
 
 impl<F: Fader> fmt::Debug for Desk<F> {
@@ -125,7 +126,7 @@ impl<F: Fader> Desk<F> {
         let rig = Rig::new(alloc, show, base)?;
         let levels = vec![in alloc; 0; usize::from(CHANNELS)]?;
         let floors = vec![in alloc; 0; usize::from(CHANNELS)]?;
-        let frames = dark_frames(alloc)?;
+        let slots = vec![in alloc; 0; usize::from(DIMMERS)]?;
         let playback = Playback::new(alloc)?;
         let show = show.clone_in(alloc)?;
         let universes = universe_numbers(&show, rig.base());
@@ -142,7 +143,7 @@ impl<F: Fader> Desk<F> {
             floors,
             are_floors: false,
             has_floors: false,
-            frames,
+            slots,
             is_kept: false,
         })
     }
@@ -308,7 +309,7 @@ impl<F: Fader> Desk<F> {
     {
         self.playback.advance(&self.show, moment);
         redraw_merged(
-            &mut self.frames,
+            &mut self.slots,
             &mut self.levels,
             &self.rig,
             channels,
@@ -316,8 +317,8 @@ impl<F: Fader> Desk<F> {
                 playback: &self.playback,
                 floors: &self.floors,
                 has_floors: self.has_floors,
+                grand: self.masters.grand(),
             },
-            self.masters.grand(),
         );
         self.last_moment = moment;
         self.last_tick = Some(moment);
@@ -333,15 +334,15 @@ impl<F: Fader> Desk<F> {
     {
         self.playback.advance(&self.show, moment);
         draw_merged(
-            &mut self.frames,
+            &mut self.slots,
             &mut self.levels,
             &self.rig,
             &Merged {
                 playback: &self.playback,
                 floors: &self.floors,
                 has_floors: self.has_floors,
+                grand: self.masters.grand(),
             },
-            self.masters.grand(),
         );
         self.is_kept = true;
         self.last_moment = moment;
@@ -356,7 +357,7 @@ impl<F: Fader> Desk<F> {
         requires from_one { 1 ≤ ticks }
         ensures { Ticks F.stands_for self.old self.new moment }
     {
-        darken(&mut self.frames);
+        darken(&mut self.slots);
         self.is_kept = false;
         self.ended = Some(ticks);
         self.last_moment = moment;
@@ -382,7 +383,7 @@ impl<F: Fader> Desk<F> {
             → StandsFor F.stands_for show base self.now history
             → result.now ≡ latest_frame show history (universe - base) }
     {
-        &self.frames[usize::from(universe - self.rig.base())]
+        &self.slots.as_chunks().0[usize::from(universe - self.rig.base())]
     }
 
     /// The current cue, in thousandths: that of the latest move.

@@ -1,42 +1,31 @@
 ghost use Rattle.std.specs.Prelude.{◌≡◌, ◌<◌, ℕ, Bool, List, Some, All, EachIndex};
-ghost use Rattle.std.specs.Prelude.{IsTrue, IsFalse, IfOk, Contains};
-ghost use Rattle.std.specs.Prelude.{length, max, replicate, slice_get, slice_index};
+ghost use Rattle.std.specs.Prelude.{IsTrue, IsFalse, Contains};
+ghost use Rattle.std.specs.Prelude.{length, max, slice_get, slice_index};
 ghost use Rattle.std.specs.FinMap as maps;
 ghost use Rattle.show.specs.Numbers.{is_channel, AreLevels};
 ghost use Rattle.show.specs.Tables.{Tables};
 ghost use Rattle.playback.specs.Played.{Move, playback_level};
 ghost use Rattle.playback.specs.Stands as playback_stands;
-ghost use Rattle.patch.specs.Frame.{listed_level, AreDrawn};
+ghost use Rattle.patch.specs.Frame.{listed_level, frames_in, AreDrawn};
 ghost use Rattle.desk.specs.Meaning.{dark};
 
 use fade::Fader;
 use patch::Rig;
 use playback::Playback;
-use show::{CHANNELS, Frame, UNIVERSES};
-use std::alloc::{AllocError, Global};
+use show::CHANNELS;
 
-// What a tick shows of each channel: the higher of its floor and of the playback's level at the
-// latest moment that the playback was given.
+// What a tick shows: of each channel the higher of its floor and of the playback's level at the
+// latest moment that the playback was given, and all of it by the grand master.
 #[derive(Drop)]
 pub struct Merged<'a, F: Fader> {
     pub playback: &'a Playback<F>,
     pub floors: &'a [u16],
     // Where it is false, there is nothing to merge.
     pub has_floors: bool,
+    pub grand: u8,
     ghost each_channel: { length floors.now ≡ 4096 },
     ghost full: { AreLevels floors.now },
     ghost none: { IsFalse has_floors → All (λ floor. floor ≡ 0) floors.now },
-}
-
-// A frame for each ordinal, with every slot at 0.
-pub fn dark_frames(alloc: Global) -> Result<Vec<Frame>, AllocError>
-    ensures { IfOk result (λ frames. frames.items ≡ replicate 16 dark) }
-{
-    let mut frames = Vec::with_capacity(alloc, usize::from(UNIVERSES))?;
-    for _ordinal in 0..UNIVERSES {
-        frames.push([0; 512])?;
-    }
-    Ok(frames)
 }
 
 // Whether a floor is above 0.
@@ -48,13 +37,12 @@ pub fn has_floors(floors: &[u16]) -> bool
 
 // Draws the frames of the merged levels.
 pub fn draw_merged<F: Fader>(
-    frames: &mut [Frame],
+    slots: &mut [u8],
     levels: &mut [u16],
     rig: &Rig,
     merged: &Merged<'_, F>,
-    grand: u8,
 )
-    requires each_ordinal { length frames.old ≡ 16 }
+    requires each_slot { length slots.old ≡ 8192 }
     requires levels { length levels.old ≡ 4096 }
     requires levels_full { AreLevels levels.old }
     ensures drawn { (show : Tables) (moves : List Move) (stopped : Bool) (level : ℕ → ℕ)
@@ -63,14 +51,14 @@ pub fn draw_merged<F: Fader>(
         → ((channel : ℕ) → IsTrue (is_channel channel)
         → max (playback_level show moves channel (F.latest merged.now.playback.now.fader))
         (listed_level merged.now.floors.now channel) ≡ level channel)
-        → AreDrawn rig.now.patch level grand frames.new }
+        → AreDrawn rig.now.patch level merged.now.grand (frames_in slots.new) }
     ensures full { AreLevels levels.new }
 {
     match merged.playback.levels() {
-        Some(playing) if !merged.has_floors => rig.draw(frames, playing, grand),
+        Some(playing) if !merged.has_floors => rig.draw(slots, playing, merged.grand),
         _ => {
             merge_levels(levels, merged.playback, merged.floors);
-            rig.draw(frames, levels, grand);
+            rig.draw(slots, levels, merged.grand);
         }
     }
 }
@@ -118,33 +106,34 @@ fn merge_all(levels: &mut [u16], playing: &[u16], floors: &[u16])
 
 // Draws these channels anew, at the merged levels.
 pub fn redraw_merged<F: Fader>(
-    frames: &mut [Frame],
+    slots: &mut [u8],
     levels: &mut [u16],
     rig: &Rig,
     channels: &[u16],
     merged: &Merged<'_, F>,
-    grand: u8,
 )
-    requires each_ordinal { length frames.old ≡ 16 }
+    requires each_slot { length slots.old ≡ 8192 }
     requires levels { length levels.old ≡ 4096 }
     requires levels_full { AreLevels levels.old }
     requires in_range { All (λ channel. IsTrue (is_channel channel)) channels.now }
     ensures drawn { (show : Tables) (moves : List Move) (stopped : Bool) (before after : ℕ → ℕ)
-        → AreDrawn rig.now.patch before grand frames.old
+        → AreDrawn rig.now.patch before merged.now.grand (frames_in slots.old)
         → ((channel : ℕ) → IsTrue (is_channel channel) → ¬ Contains channels.now channel
         → before channel ≡ after channel)
         → playback_stands.StandsFor F.stands_for show merged.now.playback.now moves stopped
         → All (λ channel.
         max (playback_level show moves channel (F.latest merged.now.playback.now.fader))
         (listed_level merged.now.floors.now channel) ≡ after channel) channels.now
-        → AreDrawn rig.now.patch after grand frames.new }
+        → AreDrawn rig.now.patch after merged.now.grand (frames_in slots.new) }
     ensures full { AreLevels levels.new }
 {
     match merged.playback.levels() {
-        Some(playing) if !merged.has_floors => rig.redraw(frames, channels, playing, grand),
+        Some(playing) if !merged.has_floors => {
+            rig.redraw(slots, channels, playing, merged.grand)
+        }
         _ => {
             merge_some(levels, channels, merged.playback, merged.floors);
-            rig.redraw(frames, channels, levels, grand);
+            rig.redraw(slots, channels, levels, merged.grand);
         }
     }
 }
@@ -175,11 +164,10 @@ fn merge_some<F: Fader>(
 }
 
 // Puts every slot at 0.
-pub fn darken(frames: &mut [Frame])
-    ensures { (ordinal : ℕ) → ordinal < length frames.old
-        → slice_get frames.new ordinal ≡ Some dark }
+pub fn darken(slots: &mut [u8])
+    requires { length slots.old ≡ 8192 }
+    ensures { (ordinal : ℕ) → ordinal < 16
+        → slice_get (frames_in slots.new) ordinal ≡ Some dark }
 {
-    for frame in frames.iter_mut() {
-        *frame = [0; 512];
-    }
+    slots.fill(0);
 }

@@ -1,4 +1,5 @@
 pub mod Frames
+pub mod InARow
 pub mod Indexed
 pub mod Redrawn
 pub mod Sourced

@@ -1,23 +1,24 @@
 -- Slots are those of their dimmers again, once those of some channels are written.
 use Rattle.std.proofs.Common.{◌≡◌, ◌≢◌, ℕ, ◌+◌, ◌-◌, ◌/◌, ◌%◌, ◌<◌, ◌≤◌, inl, inr, nat_eq, IsTrue}
-use Rattle.std.proofs.Common.{List, [], length, get_or, set, Option, Some, None, refl, ◌∙◌, arith}
+use Rattle.std.proofs.Common.{List, [], length, get_or, set, Option, Some, None, refl, sym, ◌∙◌, arith}
 use Rattle.std.proofs.Common.{◌*◌, ap}
 use Rattle.std.specs.Prelude.{if◌then◌else◌, All}
 use Rattle.std.specs.FinMap as map
 use Rattle.std.proofs.lemmas.Bool.{cases_eq}
 use Rattle.std.proofs.lemmas.Bool.Decides.{nat_tests}
 use Rattle.std.proofs.lemmas.Grind.{get_or-set_at}
-use Rattle.std.proofs.lemmas.List.{get_or-set_other, length-set}
+use Rattle.std.proofs.lemmas.List.{get_or-set_other}
 use Rattle.show.specs.Numbers.{is_channel, is_dimmer}
 use Rattle.show.specs.Readers.{slot_of}
 use Rattle.show.specs.Tables.{PatchMap}
-use Rattle.patch.specs.Frame.{dimmer_slot, frame_of, AreDrawn}
+use Rattle.patch.specs.Frame.{dimmer_slot, frame_of, frames_in, AreDrawn}
 use Rattle.show.proofs.Ranges.{value_in}
-use Rattle.patch.specs.Index.{IsIndex, AreFrames, slot_at, dimmer_at, byte_at}
+use Rattle.patch.specs.Index.{IsIndex, slot_at, dimmer_at, byte_at}
 use Rattle.patch.proofs.Indexed.{entry, complete}
 use Rattle.std.proofs.lemmas.List.FromFn.{get_or-map-range_with_len}
-use Rattle.std.proofs.lemmas.Option.{slice_get-get_or, get_or_from_slice_get}
+use Rattle.std.proofs.lemmas.Option.{get_or_from_slice_get}
 use Rattle.patch.proofs.Frames.{frame_is}
+use Rattle.patch.proofs.InARow.{own, frame_in, own_size, own_slot}
 
 pub dimmer_range : (dimmer : ℕ) → IsTrue (is_dimmer dimmer) → (1 ≤ dimmer) × (dimmer ≤ 8192)
 dimmer_range dimmer is = (grind (arith, nat_tests), grind (arith, nat_tests))
@@ -25,44 +26,15 @@ dimmer_range dimmer is = (grind (arith, nat_tests), grind (arith, nat_tests))
 pub channel_range : (channel : ℕ) → IsTrue (is_channel channel) → (1 ≤ channel) × (channel ≤ 4096)
 channel_range channel is = (grind (arith, nat_tests), grind (arith, nat_tests))
 
-module _ (frames : List (List ℕ)) (are : AreFrames frames) (k s v : ℕ) (few : k < 16)
-    (short : s < 512) where
-  abbrev one : List ℕ
-  one = set (get_or frames k []) s v
-
-  abbrev both : List (List ℕ)
-  both = set frames k one
-
-  here : get_or both k [] ≡ one
-  here = get_or-set_at frames k k one [] refl (omega (arith, are.each_ordinal))
-
-  -- the frames have their sizes still
-  pub sizes : AreFrames both
-  sizes = record {
-    each_ordinal = length-set frames k one ∙ are.each_ordinal;
-    each_slot = λ j lt. grind (
-      arith,
-      here,
-      length-set (get_or frames k []) s v,
-      get_or-set_other frames k j one [],
-      are.each_slot k few,
-      are.each_slot j lt,
-    );
-  }
-
-  -- one slot is written
-  pub written : (at dimmer : ℕ) (want : ℕ → ℕ) → k ≡ (at - 1) / 512 → s ≡ (at - 1) % 512 → 1 ≤ at
-      → 1 ≤ dimmer
-      → v ≡ want at → (dimmer ≢ at → slot_at frames dimmer ≡ want dimmer)
-      → slot_at both dimmer ≡ want dimmer
-  written at dimmer want ordinal place at_one one_up value others = grind (
-    arith,
-    here,
-    get_or-set_at (get_or frames k []) s ((dimmer - 1) % 512) v 0,
-    get_or-set_other (get_or frames k []) s ((dimmer - 1) % 512) v 0,
-    get_or-set_other frames k ((dimmer - 1) / 512) one [],
-    are.each_slot k few,
-  )
+-- one slot is written
+pub written : (slots : List ℕ) (v at dimmer : ℕ) (want : ℕ → ℕ) → length slots ≡ 8192 → 1 ≤ at
+    → at ≤ 8192 → 1 ≤ dimmer → v ≡ want at → (dimmer ≢ at → slot_at slots dimmer ≡ want dimmer)
+    → slot_at (set slots (at - 1) v) dimmer ≡ want dimmer
+written slots v at dimmer want size at_one within one_up value others = grind (
+  arith,
+  get_or-set_at slots (at - 1) (dimmer - 1) v 0,
+  get_or-set_other slots (at - 1) (dimmer - 1) v 0,
+)
 
 -- a dimmer of the run is the one at i, or lies behind it
 pub behind : (dimmers : List (ℕ × (ℕ × ℕ))) (i p to dimmer : ℕ) → dimmer ≢ dimmer_at dimmers i
@@ -134,30 +106,34 @@ module _ (patch : PatchMap) {by_channel : List (ℕ × (ℕ × ℕ))} {begins : 
 
 -- ---- frames, and the slots of the dimmers in them
 
-module _ (patch : PatchMap) (level : ℕ → ℕ) (grand : ℕ) (frames : List (List ℕ)) where
+module _ (patch : PatchMap) (level : ℕ → ℕ) (grand : ℕ) (slots : List ℕ)
+    (size : length slots ≡ 8192) where
   abbrev slot : ℕ → ℕ
   slot = dimmer_slot patch level grand
 
-  pub slots_from_drawn : AreDrawn patch level grand frames → (dimmer : ℕ)
-      → IsTrue (is_dimmer dimmer) → slot_at frames dimmer ≡ slot dimmer
+  pub slots_from_drawn : AreDrawn patch level grand (frames_in slots) → (dimmer : ℕ)
+      → IsTrue (is_dimmer dimmer) → slot_at slots dimmer ≡ slot dimmer
   slots_from_drawn drawn dimmer is =
       let range = dimmer_range dimmer is in
       let k : ℕ = (dimmer - 1) / 512 in
       let i : ℕ = (dimmer - 1) % 512 in
       let few : k < 16 = omega (arith, range.1) in
       let short : i < 512 = omega arith in
-      let place : 512 * k + 1 + i ≡ dimmer = omega (arith, range.0) in
-      rw (get_or_from_slice_get frames k (frame_of patch level grand k) [] (drawn k few))
-      (get_or-map-range_with_len slot (512 * k + 1) 512 i dimmer 0 short place)
+      let place : 512 * k + i ≡ dimmer - 1 = omega arith in
+      let next : 512 * k + 1 + i ≡ dimmer = omega (arith, range.0, place) in
+      let frame : own slots k ≡ frame_of patch level grand k =
+      sym (get_or_from_slice_get (frames_in slots) k (own slots k) [] (frame_in slots k few))
+      ∙ get_or_from_slice_get (frames_in slots) k (frame_of patch level grand k) [] (drawn k few) in
+      ap (λ p. get_or slots p 0) (sym place) ∙ sym (own_slot slots k i short)
+      ∙ ap (λ f. get_or f i 0) frame
+      ∙ get_or-map-range_with_len slot (512 * k + 1) 512 i dimmer 0 short next
 
-  pub drawn_from_slots : AreFrames frames
-      → ((dimmer : ℕ) → IsTrue (is_dimmer dimmer) → slot_at frames dimmer ≡ slot dimmer)
-      → AreDrawn patch level grand frames
-  drawn_from_slots are slots k few =
-      rw (slice_get-get_or frames k [] (omega (arith, are.each_ordinal)))
-      (ap Some (frame_is slot (512 * k + 1) 512 (get_or frames k []) (are.each_slot k few) (λ i lt.
+  pub drawn_from_slots : ((dimmer : ℕ) → IsTrue (is_dimmer dimmer)
+      → slot_at slots dimmer ≡ slot dimmer) → AreDrawn patch level grand (frames_in slots)
+  drawn_from_slots each k few =
+      frame_in slots k few
+      ∙ ap Some (frame_is slot (512 * k + 1) 512 (own slots k) (own_size slots k few size) (λ i lt.
       let d : ℕ = 512 * k + 1 + i in
-      let ordinal : k ≡ (d - 1) / 512 = omega arith in
-      let place : i ≡ (d - 1) % 512 = omega arith in
+      let place : 512 * k + i ≡ d - 1 = omega arith in
       let is : IsTrue (is_dimmer d) = grind (arith, nat_tests) in
-      rw (← ordinal, ← place) at (slots d is))))
+      own_slot slots k i lt ∙ ap (λ p. get_or slots p 0) place ∙ each d is))

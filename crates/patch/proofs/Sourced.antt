@@ -1,17 +1,15 @@
 -- Each dimmer gets its source and its byte, and the slots that these make are its own.
 use Rattle.std.proofs.Common.{◌≡◌, ℕ, ◌+◌, ◌-◌, ◌*◌, ◌<◌, IsTrue, List, length, get_or, set, take}
-use Rattle.std.proofs.Common.{Some, refl, arith}
+use Rattle.std.proofs.Common.{refl, arith}
 use Rattle.std.specs.Option.{option_map_or}
 use Rattle.std.specs.Ordering.{nat_cmp}
 use Rattle.std.specs.FinMap.{find, is_sorted}
 use Rattle.std.proofs.lemmas.Grind.{get_or-set_at}
-use Rattle.std.specs.Prelude.{slice_get}
-use Rattle.std.proofs.lemmas.List.{get_or-set_other, length-set}
-use Rattle.std.proofs.lemmas.Option.{slice_get-get_or, get_or_from_slice_get}
+use Rattle.std.proofs.lemmas.List.{get_or-set_other}
 use Rattle.show.specs.Tables.{PatchMap}
 use Rattle.show.specs.Readers.{slot_of}
-use Rattle.patch.proofs.Frames.{other_key, same_key, find_more, frame_is}
-use Rattle.patch.specs.Frame.{dimmer_slot, frame_of, listed_level}
+use Rattle.patch.proofs.Frames.{other_key, same_key, find_more}
+use Rattle.patch.specs.Frame.{dimmer_slot, listed_level}
 use Rattle.patch.specs.Sources.{AreSources}
 
 -- a byte of 0 makes a dark slot
@@ -51,30 +49,11 @@ pub set_below : (bound : ℕ) (xs : List ℕ) (at x : ℕ) → at < length xs �
 set_below bound xs at x room lt below p =
     grind (arith, get_or-set_at xs at p x 0, get_or-set_other xs at p x 0, below p)
 
--- a frame whose slots are those of the sources is that of the patch
-pub frame_from_sources : (patch : PatchMap) (sources bytes levels : List ℕ)
-    → AreSources patch sources bytes → (grand k : ℕ) → k < 16 → (out : List ℕ) → length out ≡ 512
-    → ((s : ℕ) → s < 512 → get_or out s 0 ≡ slot_of (get_or levels (get_or sources (512 * k + s) 0)
-    0) grand (get_or bytes (512 * k + s) 0))
-    → out ≡ frame_of patch (listed_level levels) grand k
-frame_from_sources patch sources bytes levels are grand k few out size each =
-    frame_is (dimmer_slot patch (listed_level levels) grand) (512 * k + 1) 512 out size (λ s lt.
-    let p : ℕ = 512 * k + s in
-    let next : p + 1 ≡ 512 * k + 1 + s = omega arith in
+-- a slot that the sources make is that of the dimmer
+pub slot_from_sources : (patch : PatchMap) (sources bytes levels : List ℕ)
+    → AreSources patch sources bytes → (grand p : ℕ) → p < 8192
+    → slot_of (get_or levels (get_or sources p 0) 0) grand (get_or bytes p 0)
+    ≡ dimmer_slot patch (listed_level levels) grand (p + 1)
+slot_from_sources patch sources bytes levels are grand p lt =
     let back : get_or sources p 0 + 1 - 1 ≡ get_or sources p 0 = omega arith in
-    rw (each s lt, ← next, ← are.slots p (omega arith) (listed_level levels) grand, back) refl)
-
--- one frame more is written
-pub frames_more : (f : ℕ → List ℕ) (frames : List (List ℕ)) (next : ℕ) (frame : List ℕ)
-    → next < length frames → frame ≡ f next
-    → ((k : ℕ) → k < next → slice_get frames k ≡ Some (f k)) → (k : ℕ) → k < next + 1
-    → slice_get (set frames next frame) k ≡ Some (f k)
-frames_more f frames next frame within is so_far k lt = grind (
-  arith,
-  length-set frames next frame,
-  slice_get-get_or (set frames next frame) k frame,
-  get_or-set_at frames next k frame frame,
-  get_or-set_other frames next k frame frame,
-  get_or_from_slice_get frames k (f k) frame,
-  so_far k,
-)
+    rw (← are.slots p lt (listed_level levels) grand, back) refl

@@ -4,6 +4,7 @@ use Rattle.std.specs.Prelude.{slice_get, slice_index}
 use Rattle.std.specs.List.{list_all, range_with_len}
 use Rattle.std.specs.Option.{option_map_or}
 use Rattle.std.specs.FinMap as maps
+use Rattle.std.specs.Simd.{first_chunks}
 use Rattle.show.specs.Numbers.{is_within}
 use Rattle.show.specs.Readers.{slot_of, universes_of}
 use Rattle.show.specs.Tables.{PatchMap}
@@ -36,6 +37,10 @@ dimmer_slot patch level grand dimmer =
 abbrev pub frame_of : PatchMap → (ℕ → ℕ) → ℕ → ℕ → List ℕ
 frame_of patch level grand ordinal =
     map (dimmer_slot patch level grand) (range_with_len (512 * ordinal + 1) 512)
+
+-- the frames of the sixteen universes, whose slots stand in a row: each next 512 are a frame
+unfoldable pub frames_in : List ℕ → List (List ℕ)
+frames_in slots = first_chunks 512 16 slots
 
 -- the frames of the sixteen universes are those that these levels make
 abbrev pub AreDrawn : PatchMap → (ℕ → ℕ) → ℕ → List (List ℕ) → Type 0

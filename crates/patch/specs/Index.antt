@@ -1,6 +1,6 @@
 -- The patched dimmers by their channels, and the slots of frames by their dimmers.
 -- Of use inside the crate: what its public calls answer is said without these.
-use Rattle.std.specs.Prelude.{◌≡◌, ℕ, ◌+◌, ◌-◌, ◌/◌, ◌%◌, ◌<◌, ◌≤◌, List, [], length}
+use Rattle.std.specs.Prelude.{◌≡◌, ℕ, ◌+◌, ◌-◌, ◌<◌, ◌≤◌, List, length}
 use Rattle.std.specs.Prelude.{slice_index, slice_index_or}
 use Rattle.std.specs.List.{AllWithin}
 use Rattle.std.specs.List.Sorted.{IsPermutation}
@@ -28,12 +28,6 @@ channel_at dimmers p = (slice_index_or dimmers p (0, (0, 0))).1.0
 abbrev pub byte_at : List (ℕ × (ℕ × ℕ)) → ℕ → ℕ
 byte_at dimmers p = (slice_index_or dimmers p (0, (0, 0))).1.1
 
--- sixteen frames of 512 slots
-pub record AreFrames (frames : List (List ℕ)) : Type 0 where
-  pub each_ordinal : length frames ≡ 16
-  pub each_slot : (k : ℕ) → k < 16 → length (slice_index_or frames k []) ≡ 512
-
--- the slot of a dimmer in the frames of all ordinals, 512 in each
-abbrev pub slot_at : List (List ℕ) → ℕ → ℕ
-slot_at frames dimmer =
-    slice_index (slice_index_or frames ((dimmer - 1) / 512) []) ((dimmer - 1) % 512)
+-- the slot of a dimmer where those of all ordinals stand in a row
+abbrev pub slot_at : List ℕ → ℕ → ℕ
+slot_at slots dimmer = slice_index slots (dimmer - 1)

@@ -5,49 +5,53 @@ ghost use Rattle.show.specs.Readers.{slot_of};
 ghost use Rattle.show.specs.Tables.{PatchMap};
 ghost use Rattle.patch.specs.Frame.{AreDrawn, listed_level};
 ghost use Rattle.patch.specs.Sources.{AreOf, AreSources};
-ghost use Rattle.patch.specs.declared.sources.Bytes.TheVariants.{Mixed};
+ghost use Rattle.patch.specs.declared.sources.Bytes.TheVariants.{Dark, Mixed};
 
 use crate::sources::Bytes;
-use show::{CHANNELS, Frame, SLOTS, slot};
+use show::{CHANNELS, SLOTS, UNIVERSES, slot};
 
-// Writes the slots of each ordinal, from the level at each dimmer's place and from its byte.
-pub fn draw_frames(
-    frames: &mut [Frame],
-    levels: &[u16],
-    sources: &[u16],
-    bytes: &[u8],
-    kinds: &[Bytes],
-    grand: u8,
-)
-    requires each_ordinal { length frames.old ≡ 16 }
-    requires each_channel { length levels.now ≡ 4096 }
-    requires full { AreLevels levels.now }
-    requires sources { length sources.now ≡ 8192 }
-    requires in_range { (p : ℕ) → slice_index sources.now p < 4096 }
-    requires bytes { length bytes.now ≡ 8192 }
-    requires each_kind { length kinds.now ≡ 16 }
+// What the frames are drawn from.
+#[derive(Drop)]
+pub struct Drawing<'a> {
+    // The level of each channel.
+    pub levels: &'a [u16],
+    // The place of each dimmer's channel among the levels.
+    pub sources: &'a [u16],
+    // The byte of each dimmer.
+    pub bytes: &'a [u8],
+    // What the bytes of each ordinal are.
+    pub kinds: &'a [Bytes],
+    pub grand: u8,
+    ghost each_channel: { length levels.now ≡ 4096 },
+    ghost full: { AreLevels levels.now },
+    ghost each_source: { length sources.now ≡ 8192 },
+    ghost in_range: { (p : ℕ) → slice_index sources.now p < 4096 },
+    ghost each_byte: { length bytes.now ≡ 8192 },
+    ghost each_kind: { length kinds.now ≡ 16 },
+}
+
+// Writes the slot of each dimmer, from the level at its place and from its byte.
+pub fn draw_slots(out: &mut [u8], drawing: &Drawing<'_>)
+    requires each_slot { length out.old ≡ 8192 }
     requires kinds { (k : ℕ) → k < 16
-        → AreOf (slice_index_or kinds.now k Mixed) bytes.now (512 * k) }
-    ensures { (patch : PatchMap) → AreSources patch sources.now bytes.now
-        → AreDrawn patch (listed_level levels.now) grand frames.new }
+        → AreOf (slice_index_or drawing.now.kinds.now k Mixed) drawing.now.bytes.now (512 * k) }
+    ensures { (p : ℕ) → p < 8192 → slice_index out.new p
+        ≡ slot_of (slice_index drawing.now.levels.now (slice_index drawing.now.sources.now p))
+        drawing.now.grand (slice_index drawing.now.bytes.now p) }
 {
     let mut slots = [0; 4096];
-    if grand == 255 {
-        fill_full(&mut slots, levels);
+    if drawing.grand == 255 {
+        fill_full(&mut slots, drawing.levels);
     } else {
-        fill_dimmed(&mut slots, levels, grand);
+        fill_dimmed(&mut slots, drawing.levels, drawing.grand);
     }
-    for ordinal in 0..frames.len() {
+    for ordinal in 0..usize::from(UNIVERSES) {
         let first = usize::from(SLOTS) * ordinal;
         draw_frame(
-            &mut frames[ordinal],
-            levels,
+            &mut out[first..first + usize::from(SLOTS)],
+            drawing,
             &slots,
-            sources,
-            bytes,
-            kinds[ordinal],
-            first,
-            grand,
+            ordinal,
         );
     }
 }
@@ -85,51 +89,41 @@ fn full_slot(level: u16) -> u8
     ((level + 127) / 255) as u8
 }
 
-// Writes the 512 slots of an ordinal, whose dimmers lie from `first` on.
-fn draw_frame(
-    out: &mut Frame,
-    levels: &[u16],
-    slots: &[u8; 4096],
-    sources: &[u16],
-    bytes: &[u8],
-    kind: Bytes,
-    first: usize,
-    grand: u8,
-)
-    requires each_channel { length levels.now ≡ 4096 }
-    requires full { AreLevels levels.now }
-    requires slots { (c : ℕ) → c < 4096
-        → slice_index slots.now c ≡ slot_of (slice_index levels.now c) grand 255 }
-    requires sources { first + 512 ≤ length sources.now }
-    requires in_range { (p : ℕ) → slice_index sources.now p < 4096 }
-    requires bytes { first + 512 ≤ length bytes.now }
-    requires kind { AreOf kind bytes.now first }
-    ensures size { length out.new ≡ 512 }
-    ensures slots { (s : ℕ) → s < 512 → slice_index out.new s
-        ≡ slot_of (slice_index levels.now (slice_index sources.now (first + s))) grand
-        (slice_index bytes.now (first + s)) }
+// Writes the 512 slots of an ordinal: `slots` has that of each channel at a byte of 255.
+fn draw_frame(out: &mut [u8], drawing: &Drawing<'_>, slots: &[u8; 4096], ordinal: usize)
+    requires size { length out.old ≡ 512 }
+    requires ordinal { ordinal < 16 }
+    requires kind { AreOf (slice_index_or drawing.now.kinds.now ordinal Dark)
+        drawing.now.bytes.now (512 * ordinal) }
+    requires slots { (c : ℕ) → c < 4096 → slice_index slots.now c
+        ≡ slot_of (slice_index drawing.now.levels.now c) drawing.now.grand 255 }
+    ensures { (s : ℕ) → s < 512 → slice_index out.new s
+        ≡ slot_of (slice_index drawing.now.levels.now
+        (slice_index drawing.now.sources.now (512 * ordinal + s)))
+        drawing.now.grand (slice_index drawing.now.bytes.now (512 * ordinal + s)) }
 {
-    match kind {
-        Bytes::Dark => *out = [0; 512],
-        Bytes::Full => gather_slots(out, slots, sources, first),
+    let first = usize::from(SLOTS) * ordinal;
+    match drawing.kinds[ordinal] {
+        Bytes::Dark => out.fill(0),
+        Bytes::Full => gather_slots(out, slots, drawing.sources, first),
         Bytes::FullOrDark => {
-            gather_slots(out, slots, sources, first);
-            keep_patched(out, bytes, first);
+            gather_slots(out, slots, drawing.sources, first);
+            keep_patched(out, drawing.bytes, first);
         }
         Bytes::Mixed => {
             let mut own = [0; 512];
-            gather_levels(&mut own, levels, sources, first);
-            fill_scaled(out, &own, bytes, first, grand);
+            gather_levels(&mut own, drawing.levels, drawing.sources, first);
+            fill_scaled(out, &own, drawing.bytes, first, drawing.grand);
         }
     }
 }
 
 // Brings the slot of the channel of each of 512 dimmers.
-fn gather_slots(out: &mut Frame, slots: &[u8; 4096], sources: &[u16], first: usize)
+fn gather_slots(out: &mut [u8], slots: &[u8; 4096], sources: &[u16], first: usize)
+    requires size { length out.old ≡ 512 }
     requires sources { first + 512 ≤ length sources.now }
     requires in_range { (p : ℕ) → slice_index sources.now p < 4096 }
-    ensures size { length out.new ≡ 512 }
-    ensures slots { (s : ℕ) → s < 512 → slice_index out.new s
+    ensures { (s : ℕ) → s < 512 → slice_index out.new s
         ≡ slice_index slots.now (slice_index sources.now (first + s)) }
 {
     for group in 0..usize::from(SLOTS) / 8 {
@@ -156,9 +150,9 @@ fn eight_slots(slots: &[u8; 4096], sources: &[u16], first: usize) -> [u8; 8]
 }
 
 // Puts the slots of 512 dimmers at 0 where their byte is 0.
-fn keep_patched(out: &mut Frame, bytes: &[u8], first: usize)
+fn keep_patched(out: &mut [u8], bytes: &[u8], first: usize)
+    requires size { length out.old ≡ 512 }
     requires bytes { first + 512 ≤ length bytes.now }
-    ensures size { length out.new ≡ 512 }
     ensures dark { (s : ℕ) → s < 512 → slice_index bytes.now (first + s) ≡ 0
         → slice_index out.new s ≡ 0 }
     ensures kept { (s : ℕ) → s < 512 → slice_index bytes.now (first + s) ≢ 0
@@ -186,11 +180,11 @@ fn gather_levels(own: &mut [u16; 512], levels: &[u16], sources: &[u16], first: u
 }
 
 // The slots of 512 dimmers whose bytes are any.
-fn fill_scaled(out: &mut Frame, own: &[u16; 512], bytes: &[u8], first: usize, grand: u8)
+fn fill_scaled(out: &mut [u8], own: &[u16; 512], bytes: &[u8], first: usize, grand: u8)
+    requires size { length out.old ≡ 512 }
     requires full { (s : ℕ) → s < 512 → slice_index own.now s ≤ 65025 }
     requires bytes { first + 512 ≤ length bytes.now }
-    ensures size { length out.new ≡ 512 }
-    ensures slots { (s : ℕ) → s < 512 → slice_index out.new s
+    ensures { (s : ℕ) → s < 512 → slice_index out.new s
         ≡ slot_of (slice_index own.now s) grand (slice_index bytes.now (first + s)) }
 {
     for place in 0..usize::from(SLOTS) {

@@ -1,9 +1,25 @@
-ghost use Rattle.std.specs.Prelude.{◌≡◌, ℕ, ◌+◌, ◌<◌, ◌≤◌, IfOk, length, slice_index};
+ghost use Rattle.std.specs.Prelude.{◌≡◌, ℕ, ◌+◌, ◌<◌, ◌≤◌, IsTrue, IfOk, All};
+ghost use Rattle.std.specs.Prelude.{length, slice_index};
 ghost use Rattle.std.specs.List.Sorted.{IsPermutation, IsNonDecreasingBy};
+ghost use Rattle.show.specs.Numbers.{is_dimmer};
 ghost use Rattle.patch.specs.Index.{IsBegin};
 
 use show::CHANNELS;
 use std::alloc::{AllocError, Global};
+
+// The dimmers of a rig by their channels.
+#[derive(Drop)]
+pub struct ByChannel<'a> {
+    // In the order of their channels.
+    pub dimmers: &'a [(u16, (u16, u8))],
+    // For each channel from 0 to 4096, the place where the dimmers of the channels above it begin.
+    pub begins: &'a [u16],
+    ghost numbers: { All (λ e. IsTrue (is_dimmer e.0)) dimmers.now },
+    ghost each_begin: { length begins.now ≡ 4097 },
+    ghost bounds: { (c : ℕ) → c < 4096
+        → slice_index begins.now c ≤ slice_index begins.now (c + 1) },
+    ghost in_range: { (c : ℕ) → c < 4097 → slice_index begins.now c ≤ length dimmers.now },
+}
 
 // The dimmers in the order of their channels.
 pub fn sorted_by_channel(

@@ -5,12 +5,12 @@ ghost use Rattle.std.specs.Ordering.{nat_cmp};
 ghost use Rattle.std.specs.FinMap as map;
 ghost use Rattle.show.specs.Numbers.{is_channel, AreLevels};
 ghost use Rattle.patch.specs.Frame.{is_universe, is_base, listed_level, frame_of};
-ghost use Rattle.patch.specs.Frame.{AreDrawn};
+ghost use Rattle.patch.specs.Frame.{AreDrawn, frames_in};
 ghost use Rattle.patch.specs.declared.fault.RigFault.TheVariants.{Universe};
 
-use crate::draw::draw_frames;
+use crate::draw::{Drawing, draw_slots};
 use crate::fault::RigFault;
-use crate::index::{begins_of, sorted_by_channel};
+use crate::index::{ByChannel, begins_of, sorted_by_channel};
 use crate::slots::redraw_channels;
 use crate::sources::{Bytes, kinds_of, write_sources};
 use show::{DIMMERS, Frame, SLOTS, Show, slot};
@@ -116,45 +116,52 @@ impl Rig {
         }
     }
 
-    /// Writes the frames of all ordinals, as `frame` writes each.
+    /// Writes the slots of all dimmers, those of an ordinal as `frame` writes them. They stand in a
+    /// row, from dimmer 1 to dimmer 8192.
     ///
     /// `levels` has a level for each channel, from 0 to 65025, beginning with channel 1.
-    pub fn draw(&self, frames: &mut [Frame], levels: &[u16], grand: u8)
-        requires each_ordinal { length frames.old ≡ 16 }
+    pub fn draw(&self, slots: &mut [u8], levels: &[u16], grand: u8)
+        requires each_slot { length slots.old ≡ 8192 }
         requires each_channel { length levels.now ≡ 4096 }
         requires full { AreLevels levels.now }
-        ensures { AreDrawn self.now.patch (listed_level levels.now) grand frames.new }
+        ensures { AreDrawn self.now.patch (listed_level levels.now) grand (frames_in slots.new) }
     {
-        draw_frames(
-            frames,
-            levels,
-            &self.sources,
-            &self.bytes,
-            &self.kinds,
-            grand,
+        draw_slots(
+            slots,
+            &Drawing {
+                levels,
+                sources: &self.sources,
+                bytes: &self.bytes,
+                kinds: &self.kinds,
+                grand,
+            },
         );
     }
 
-    /// Writes the slots of some channels anew, each 1 to 4096, into the frames of all ordinals. The
-    /// frames were those of levels that are equal at each other channel, at the same grand master.
+    /// Writes the slots of the dimmers of some channels anew, each channel 1 to 4096. The slots of
+    /// all dimmers, in a row, were those of levels that are equal at each other channel, at the
+    /// same grand master.
     ///
     /// `levels` has a level for each channel, from 0 to 65025, beginning with channel 1; those of
     /// other channels are not read.
-    pub fn redraw(&self, frames: &mut [Frame], channels: &[u16], levels: &[u16], grand: u8)
-        requires each_ordinal { length frames.old ≡ 16 }
+    pub fn redraw(&self, slots: &mut [u8], channels: &[u16], levels: &[u16], grand: u8)
+        requires each_slot { length slots.old ≡ 8192 }
         requires channels { All (λ channel. IsTrue (is_channel channel)) channels.now }
         requires each_channel { length levels.now ≡ 4096 }
         requires full { AreLevels levels.now }
-        ensures { (before after : ℕ → ℕ) → AreDrawn self.now.patch before grand frames.old
+        ensures { (before after : ℕ → ℕ)
+            → AreDrawn self.now.patch before grand (frames_in slots.old)
             → ((channel : ℕ) → IsTrue (is_channel channel) → ¬ Contains channels.now channel
             → before channel ≡ after channel)
             → All (λ channel. listed_level levels.now channel ≡ after channel) channels.now
-            → AreDrawn self.now.patch after grand frames.new }
+            → AreDrawn self.now.patch after grand (frames_in slots.new) }
     {
         redraw_channels(
-            frames,
-            &self.by_channel,
-            &self.begins,
+            slots,
+            &ByChannel {
+                dimmers: &self.by_channel,
+                begins: &self.begins,
+            },
             channels,
             levels,
             grand,

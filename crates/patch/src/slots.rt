@@ -4,77 +4,68 @@ ghost use Rattle.show.specs.Numbers.{is_channel, is_dimmer, AreLevels};
 ghost use Rattle.show.specs.Readers.{slot_of};
 ghost use Rattle.show.specs.Tables.{PatchMap};
 ghost use Rattle.patch.specs.Frame.{listed_level, dimmer_slot};
-ghost use Rattle.patch.specs.Index.{IsIndex, AreFrames, slot_at, dimmer_at, byte_at};
+ghost use Rattle.patch.specs.Index.{IsIndex, slot_at, dimmer_at, byte_at};
 
-use show::{Frame, SLOTS, slot};
+use crate::index::ByChannel;
+use show::slot;
+use std::ops::Range;
 
-// Writes the slots of some channels anew: the dimmers of each lie between two of `begins`.
+// Writes the slots of some channels anew.
 pub fn redraw_channels(
-    frames: &mut [Frame],
-    by_channel: &[(u16, (u16, u8))],
-    begins: &[u16],
+    slots: &mut [u8],
+    by_channel: &ByChannel<'_>,
     channels: &[u16],
     levels: &[u16],
     grand: u8,
 )
-    requires frames { AreFrames frames.old }
+    requires each_slot { length slots.old ≡ 8192 }
     requires channels { All (λ channel. IsTrue (is_channel channel)) channels.now }
     requires each_channel { length levels.now ≡ 4096 }
     requires full { AreLevels levels.now }
-    requires numbers { All (λ e. IsTrue (is_dimmer e.0)) by_channel.now }
-    requires begins { length begins.now ≡ 4097 }
-    requires bounds { (c : ℕ) → c < 4096
-        → slice_index begins.now c ≤ slice_index begins.now (c + 1) }
-    requires in_range { (c : ℕ) → c < 4097 → slice_index begins.now c ≤ length by_channel.now }
-    ensures frames { AreFrames frames.new }
-    ensures slots { (patch : PatchMap) (before after : ℕ → ℕ)
-        → IsIndex (map.entries patch) by_channel.now begins.now
+    ensures { (patch : PatchMap) (before after : ℕ → ℕ)
+        → IsIndex (map.entries patch) by_channel.now.dimmers.now by_channel.now.begins.now
         → All (λ e. IsTrue (is_channel e.1.0)) (map.entries patch)
         → ((dimmer : ℕ) → IsTrue (is_dimmer dimmer)
-        → slot_at frames.old dimmer ≡ dimmer_slot patch before grand dimmer)
+        → slot_at slots.old dimmer ≡ dimmer_slot patch before grand dimmer)
         → ((channel : ℕ) → IsTrue (is_channel channel)
         → ((m : ℕ) → m < length channels.now → slice_index channels.now m ≢ channel)
         → before channel ≡ after channel)
         → All (λ channel. listed_level levels.now channel ≡ after channel) channels.now
         → (dimmer : ℕ) → IsTrue (is_dimmer dimmer)
-        → slot_at frames.new dimmer ≡ dimmer_slot patch after grand dimmer }
+        → slot_at slots.new dimmer ≡ dimmer_slot patch after grand dimmer }
 {
     for channel in channels {
         let place = usize::from(*channel);
-        let from = usize::from(begins[place - 1]);
-        let to = usize::from(begins[place]);
+        let from = usize::from(by_channel.begins[place - 1]);
+        let to = usize::from(by_channel.begins[place]);
         let level = u32::from(levels[place - 1]);
-        redraw_run(frames, by_channel, from, to, level, grand);
+        redraw_run(slots, by_channel.dimmers, from..to, level, grand);
     }
 }
 
 // Writes the slots of a run of dimmers for one level.
 fn redraw_run(
-    frames: &mut [Frame],
+    slots: &mut [u8],
     dimmers: &[(u16, (u16, u8))],
-    from: usize,
-    to: usize,
+    run: Range<usize>,
     level: u32,
     grand: u8,
 )
-    requires frames { AreFrames frames.old }
-    requires order { from ≤ to }
-    requires within { to ≤ length dimmers.now }
+    requires each_slot { length slots.old ≡ 8192 }
+    requires order { run.start ≤ run.end }
+    requires within { run.end ≤ length dimmers.now }
     requires full { level ≤ 65025 }
     requires numbers { All (λ e. IsTrue (is_dimmer e.0)) dimmers.now }
-    ensures frames { AreFrames frames.new }
-    ensures slots { (want : ℕ → ℕ)
+    ensures { (want : ℕ → ℕ)
         → ((dimmer : ℕ) → IsTrue (is_dimmer dimmer)
-        → ((p : ℕ) → from ≤ p → p < to → dimmer_at dimmers.now p ≢ dimmer)
-        → slot_at frames.old dimmer ≡ want dimmer)
-        → ((p : ℕ) → from ≤ p → p < to
+        → ((p : ℕ) → run.start ≤ p → p < run.end → dimmer_at dimmers.now p ≢ dimmer)
+        → slot_at slots.old dimmer ≡ want dimmer)
+        → ((p : ℕ) → run.start ≤ p → p < run.end
         → slot_of level grand (byte_at dimmers.now p) ≡ want (dimmer_at dimmers.now p))
-        → (dimmer : ℕ) → IsTrue (is_dimmer dimmer) → slot_at frames.new dimmer ≡ want dimmer }
+        → (dimmer : ℕ) → IsTrue (is_dimmer dimmer) → slot_at slots.new dimmer ≡ want dimmer }
 {
-    for i in from..to {
+    for i in run.start..run.end {
         let (dimmer, (_channel, byte)) = dimmers[i];
-        let place = dimmer - 1;
-        let ordinal = usize::from(place / SLOTS);
-        frames[ordinal][usize::from(place % SLOTS)] = slot(level, grand, byte);
+        slots[usize::from(dimmer) - 1] = slot(level, grand, byte);
     }
 }

@@ -1,10 +1,10 @@
+use super::Desk;
 use crate::command::Command;
 use fade::{Fader, PlainFader, StepFader};
 use show::{BuildFault, Rate, Show};
 use std::alloc::Global;
 use std::process::Abort;
 use std::test::Fail;
-use super::Desk;
 
 // More channels than are drawn one by one.
 const MANY: u16 = 800;
@@ -39,7 +39,7 @@ const COMMANDS: &[Command] = &[
 struct Capacities {
     levels: usize,
     floors: usize,
-    frames: usize,
+    slots: usize,
 }
 
 fn add_cue(show: &mut Show, n: u32) -> Result<(), BuildFault> {
@@ -81,7 +81,7 @@ fn capacities_of<F: Fader>(desk: &Desk<F>) -> Capacities {
     Capacities {
         levels: desk.levels.capacity(),
         floors: desk.floors.capacity(),
-        frames: desk.frames.capacity(),
+        slots: desk.slots.capacity(),
     }
 }
 

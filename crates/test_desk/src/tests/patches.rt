@@ -103,12 +103,12 @@ fn frame_of(rt: &impl Abort, rig: &Rig, k: u16, levels: &[u16; 4096], grand: u8)
     frame
 }
 
-// The frames of all ordinals, over what was there.
-fn drawn(rt: &impl Abort, rig: &Rig, levels: &[u16; 4096], grand: u8) -> [[u8; 512]; 16] {
+// The slots of all dimmers, over what was there.
+fn drawn(rt: &impl Abort, rig: &Rig, levels: &[u16; 4096], grand: u8) -> [u8; 8192] {
     assert!(rt; are_levels(levels));
-    let mut frames = [[99; 512]; 16];
-    rig.draw(&mut frames, levels, grand);
-    frames
+    let mut slots = [99; 8192];
+    rig.draw(&mut slots, levels, grand);
+    slots
 }
 
 // The slots at some places, each of the frame of an ordinal at a grand master, are these: where
@@ -122,7 +122,7 @@ fn slots_are(rt: &impl Abort, rig: &Rig, levels: &[u16; 4096], rows: &[(u16, u8,
             "place {place} of {k} at {grand}"
         );
         assert!(rt;
-            together.get(usize::from(*k)) == Some(&alone),
+            together.as_chunks().0.get(usize::from(*k)) == Some(&alone),
             "{k} at {grand}"
         );
     }
@@ -165,20 +165,20 @@ fn put(levels: &mut [u16; 4096], channels: &[u16], level: u16) {
     }
 }
 
-// Puts some channels to a level, and tells whether the frames that are drawn anew for them alone
-// are those that are drawn as a whole.
+// Puts some channels to a level, and tells whether the slots that are drawn anew for them alone are
+// those that are drawn as a whole.
 fn redraws(
     rt: &impl Abort,
     rig: &Rig,
-    frames: &mut [[u8; 512]; 16],
+    slots: &mut [u8; 8192],
     levels: &mut [u16; 4096],
     channels: &[u16],
     level: u16,
 ) -> bool {
     put(levels, channels, level);
     assert!(rt; are_levels(levels) && are_channels(channels));
-    rig.redraw(frames, channels, levels, 200);
-    *frames == drawn(rt, rig, levels, 200)
+    rig.redraw(slots, channels, levels, 200);
+    *slots == drawn(rt, rig, levels, 200)
 }
 
 // Channel 7 has dimmers in two universes, channels 3 and 5 have none, and 4096 has the last one.
@@ -186,7 +186,7 @@ fn redraws(
 fn redraw_of_some_channels(rt: HostRuntime) -> Result<(), Fail> {
     let rig = rig_of(rt.alloc(), small_show(rt.alloc()))?;
     let mut levels = [0; 4096];
-    let mut frames = [[0; 512]; 16];
+    let mut slots = [0; 8192];
     let rows: &[(&[u16], u16)] = &[
         (&[7, 3, 7], 65025),
         (&[4096, 1, 2], 255),
@@ -195,7 +195,7 @@ fn redraw_of_some_channels(rt: HostRuntime) -> Result<(), Fail> {
     ];
     for (channels, level) in rows {
         assert!(rt;
-            redraws(&rt, &rig, &mut frames, &mut levels, channels, *level),
+            redraws(&rt, &rig, &mut slots, &mut levels, channels, *level),
             "to {level}"
         );
     }

@@ -1,6 +1,6 @@
 use Rattle.std.proofs.Common.{◌≡◌, ◌∙◌, ◌-◌, arith}
 use Rattle.std.proofs.lemmas.List.Elements.{All-get_or}
-use Rattle.patch.specs.Frame.{listed_level}
+use Rattle.patch.specs.Frame.{listed_level, frames_in}
 use Rattle.patch.proofs.Redrawn.{channel_range}
 use Rattle.desk.proofs.Drawn.{drawn_alike}
 use Rattle.desk.proofs.frames.draw_merged.Goals as goal
@@ -14,11 +14,11 @@ returns-in-Some-clause-drawn g c = λ show moves stopped level channels stands s
     (omega (arith, channel_range channel is, c.args.merged.now.each_channel))
     (c.args.merged.now.none c.if-not-merged.true) in
     let playing = c.in-Some.ensures.levels show moves stopped channel stands is in
-    omega (arith, none, playing, same channel is)) c.args.grand c.draw.new.frames c.draw.ensures
+    omega (arith, none, playing, same channel is)) c.args.merged.now.grand (frames_in c.draw.new.slots) c.draw.ensures
 
 pub returns-in_default-clause-drawn : goal.returns-in_default-clause-drawn
 returns-in_default-clause-drawn g c = λ show moves stopped level channels stands same.
     drawn_alike c.args.rig.now.patch channels (listed_level c.merge_levels.new.levels) level
     (λ channel is. c.merge_levels.ensures.merged show moves stopped stands channel is
     ∙ same channel is)
-    c.args.grand c.draw-in_default.new.frames c.draw-in_default.ensures
+    c.args.merged.now.grand (frames_in c.draw-in_default.new.slots) c.draw-in_default.ensures

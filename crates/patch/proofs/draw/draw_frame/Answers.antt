@@ -1,10 +1,15 @@
-use Rattle.std.proofs.Common.{refl, ℕ, ◌+◌, get_or}
+use Rattle.std.proofs.Common.{refl, ap, ◌∙◌, ℕ, ◌≡◌, ◌+◌, ◌*◌, get_or, arith}
 use Rattle.std.proofs.lemmas.List.{get_or-replicate}
 use Rattle.patch.proofs.Sourced.{slot_dark}
 use Rattle.patch.proofs.draw.draw_frame.Goals as goal
 
-pub returns-in-Dark-clause-slots : goal.returns-in-Dark-clause-slots
-returns-in-Dark-clause-slots c = λ s lt.
-    let level : ℕ = get_or c.args.levels.now (get_or c.args.sources.now (c.args.first + s) 0) 0 in
+pub returns-in-Dark : goal.returns-in-Dark
+returns-in-Dark c = λ s lt.
+    let drawing = c.args.drawing.now in
+    let source : ℕ = get_or drawing.sources.now (512 * c.args.ordinal + s) 0 in
+    let level : ℕ = get_or drawing.levels.now source 0 in
     let dark = rw c.in-Dark.is at c.requires.kind in
-    rw (get_or-replicate {A = ℕ} 512 s 0 0 lt, dark s lt, slot_dark level c.args.grand) refl
+    let filled : get_or c.fill.new.self s 0 ≡ 0 =
+    ap (λ f. get_or f s 0) (c.fill.ensures.after (λ y is. is))
+    ∙ get_or-replicate {A = ℕ} _ s 0 0 (omega (arith, lt, c.requires.size)) in
+    rw (filled, dark s lt, slot_dark level drawing.grand) refl

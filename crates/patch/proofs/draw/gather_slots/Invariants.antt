@@ -1,10 +1,7 @@
-use Rattle.std.proofs.Common.{◌≡◌, ℕ, ◌+◌, ◌*◌, ◌<◌, get_or, length}
+use Rattle.std.proofs.Common.{◌≡◌, ℕ, ◌+◌, ◌*◌, ◌<◌, get_or}
 use Rattle.patch.proofs.draw.gather_slots.Given as goal
 
 -- the slots so far are those of their channels
 abbrev pub invariant-loop-group : goal.invariant-loop-group
-invariant-loop-group l = record {
-  size : length l.out ≡ 512;
-  slots : (s : ℕ) → s < 8 * l.group
-      → get_or l.out s 0 ≡ get_or l.slots (get_or l.sources (l.first + s) 0) 0;
-}
+invariant-loop-group l = (s : ℕ) → s < 8 * l.group
+    → get_or l.out s 0 ≡ get_or l.slots (get_or l.sources (l.first + s) 0) 0

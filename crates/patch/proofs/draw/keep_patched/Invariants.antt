@@ -1,10 +1,9 @@
-use Rattle.std.proofs.Common.{◌≡◌, ◌≢◌, ℕ, ◌+◌, ◌<◌, ◌≤◌, get_or, length}
+use Rattle.std.proofs.Common.{◌≡◌, ◌≢◌, ℕ, ◌+◌, ◌<◌, ◌≤◌, get_or}
 use Rattle.patch.proofs.draw.keep_patched.Given as goal
 
 -- below the place 0 or as it was, from it on as it was
 abbrev pub invariant-loop-place : goal.invariant-loop-place
 invariant-loop-place l = record {
-  size : length l.out ≡ 512;
   dark : (s : ℕ) → s < l.place → get_or l.bytes (l.first + s) 0 ≡ 0 → get_or l.out s 0 ≡ 0;
   kept : (s : ℕ) → s < l.place → get_or l.bytes (l.first + s) 0 ≢ 0
       → get_or l.out s 0 ≡ get_or l.fn.out s 0;

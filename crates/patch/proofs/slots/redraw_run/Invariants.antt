@@ -1,20 +1,17 @@
 use Rattle.std.proofs.Common.{◌≡◌, ◌≢◌, ℕ, ◌<◌, ◌≤◌, IsTrue}
 use Rattle.show.specs.Numbers.{is_dimmer}
 use Rattle.show.specs.Readers.{slot_of}
-use Rattle.patch.specs.Index.{AreFrames, slot_at, dimmer_at, byte_at}
+use Rattle.patch.specs.Index.{slot_at, dimmer_at, byte_at}
 use Rattle.patch.proofs.slots.redraw_run.Given as goal
 
 -- each slot is what is wanted, but for those of the dimmers from i on
 abbrev pub invariant-loop-i : goal.invariant-loop-i
-invariant-loop-i l = record {
-  frames : AreFrames l.frames;
-  slots : (want : ℕ → ℕ)
-      → ((dimmer : ℕ) → IsTrue (is_dimmer dimmer)
-      → ((p : ℕ) → l.from ≤ p → p < l.to → dimmer_at l.dimmers p ≢ dimmer)
-      → slot_at l.fn.frames dimmer ≡ want dimmer)
-      → ((p : ℕ) → l.from ≤ p → p < l.to
-      → slot_of l.level l.grand (byte_at l.dimmers p) ≡ want (dimmer_at l.dimmers p))
-      → (dimmer : ℕ) → IsTrue (is_dimmer dimmer)
-      → ((p : ℕ) → l.i ≤ p → p < l.to → dimmer_at l.dimmers p ≢ dimmer)
-      → slot_at l.frames dimmer ≡ want dimmer;
-}
+invariant-loop-i l = (want : ℕ → ℕ)
+    → ((dimmer : ℕ) → IsTrue (is_dimmer dimmer)
+    → ((p : ℕ) → l.fn.run.start ≤ p → p < l.fn.run.end → dimmer_at l.dimmers p ≢ dimmer)
+    → slot_at l.fn.slots dimmer ≡ want dimmer)
+    → ((p : ℕ) → l.fn.run.start ≤ p → p < l.fn.run.end
+    → slot_of l.level l.grand (byte_at l.dimmers p) ≡ want (dimmer_at l.dimmers p))
+    → (dimmer : ℕ) → IsTrue (is_dimmer dimmer)
+    → ((p : ℕ) → l.i ≤ p → p < l.fn.run.end → dimmer_at l.dimmers p ≢ dimmer)
+    → slot_at l.slots dimmer ≡ want dimmer

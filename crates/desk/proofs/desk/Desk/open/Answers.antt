@@ -1,6 +1,7 @@
 use Rattle.std.proofs.Common.{refl, ap, ◌∙◌}
 use Rattle.std.specs.Prelude.{slice_get}
-use Rattle.desk.proofs.Drawn.{dark_at}
+use Rattle.patch.specs.Frame.{frames_in}
+use Rattle.patch.proofs.InARow.{dark_in_a_row}
 use Rattle.desk.proofs.desk.Desk.open.Goals as goal
 
 pub returns-clause-stands : goal.returns-clause-stands
@@ -12,8 +13,10 @@ returns-clause-stands g c = record {
   moment_is = refl;
   tick_is = refl;
   ended_is = refl;
-  frames_are = λ ordinal lt. ap (λ fs. slice_get fs ordinal) c.in_ok-frames.ensures
-      ∙ dark_at 16 ordinal lt;
+  frames_are = λ ordinal lt.
+      ap (λ slots. slice_get (frames_in slots) ordinal)
+      (c.in_ok-slots.ensures.items_if_clones_equal (λ y is. is))
+      ∙ dark_in_a_row c.from-3.result ordinal c.from-3.ensures lt;
   floors_are = λ kept. cc;
   kept = λ kept. cc;
 }

@@ -1,8 +1,9 @@
-use Rattle.std.proofs.Common.{◌≡◌, false, IsTrue, length, arith}
+use Rattle.std.proofs.Common.{◌≡◌, false, ap, IsTrue, length, arith}
 use Rattle.std.specs.Prelude.{All}
 use Rattle.std.specs.FinMap as maps
 use Rattle.std.proofs.lemmas.List.{with_items_is}
 use Rattle.show.specs.Numbers.{is_channel}
+use Rattle.patch.specs.Frame.{frames_in}
 use Rattle.desk.specs.Meaning.{channel_level}
 use Rattle.desk.proofs.LiveTick.{redrawn}
 use Rattle.desk.proofs.desk.Desk.tick_all.Goals as goal
@@ -11,12 +12,12 @@ pub returns : goal.returns
 returns g c = rw (← c.self.view_is) (λ show base history stands.
     let inside = c.self.inside in
     let required = rw (← c.self.view_is) at c.requires in
-    let size : length c.draw_merged.new.frames ≡ inside.frames.len =
-    omega (arith, c.draw_merged.auto.frames, c.deref_mut.ensures.len, inside.frames.ok.0) in
+    let size : length c.draw_merged.new.slots ≡ inside.slots.len =
+    omega (arith, c.draw_merged.auto.slots, c.deref_mut.ensures.len, inside.slots.ok.0) in
     let channels : All (λ e. IsTrue (is_channel e.1.0)) (maps.entries inside.rig.patch) =
     rw c.self.invariant.patch_is c.self.invariant.in_range.patch_channels in
     redrawn c.args.moment stands required.live g.F.Fader.latest _ required.floors
     c.advance.ensures.stands c.advance.ensures.latest_is c.deref.ensures.value
     c.self.invariant.patch_is c.grand.ensures
-    (with_items_is inside.frames c.draw_merged.new.frames size)
+    (ap frames_in (with_items_is inside.slots c.draw_merged.new.slots size))
     (c.draw_merged.ensures.drawn show _ false (channel_level show history c.args.moment) channels))

@@ -1,7 +1,7 @@
 use Rattle.std.proofs.Common.{◌≡◌, ℕ, false, sym, ap, ◌∙◌, length, get_or, arith}
 use Rattle.std.proofs.lemmas.List.{with_items_is}
 use Rattle.masters.specs.Settings.{grand_after}
-use Rattle.patch.specs.Frame.{AreDrawn}
+use Rattle.patch.specs.Frame.{AreDrawn, frames_in}
 use Rattle.desk.specs.Played.{settings}
 use Rattle.desk.specs.Meaning.{channel_level}
 use Rattle.desk.proofs.Drawn.{drawn_same}
@@ -14,18 +14,18 @@ returns g c = rw (← c.self.view_is) (λ show base history stands.
     let moment = c.args.moment in
     let required = rw (← c.self.view_is) at c.requires in
     let before : ℕ → ℕ = channel_level show history inside.last_moment in
-    let old : AreDrawn inside.rig.patch before c.grand.result c.deref_mut.result.now =
+    let old : AreDrawn inside.rig.patch before c.grand.result (frames_in c.deref_mut.result.now) =
     drawn_same show.patch inside.rig.patch before (grand_after (settings history))
-    c.grand.result inside.frames.items c.deref_mut.result.now
+    c.grand.result (frames_in inside.slots.items) (frames_in c.deref_mut.result.now)
     (sym (c.self.invariant.patch_is ∙ ap (λ s. s.patch) stands.show_is))
     (sym (c.grand.ensures (settings history) stands.masters_stand))
-    (sym c.deref_mut.ensures.value) (stands.kept required.kept.kept) in
-    let size : length c.redraw_merged.new.frames ≡ inside.frames.len =
-    omega (arith, c.redraw_merged.auto.frames, c.deref_mut.ensures.len, inside.frames.ok.0) in
+    (ap frames_in (sym c.deref_mut.ensures.value)) (stands.kept required.kept.kept) in
+    let size : length c.redraw_merged.new.slots ≡ inside.slots.len =
+    omega (arith, c.redraw_merged.auto.slots, c.deref_mut.ensures.len, inside.slots.ok.0) in
     redrawn moment stands required.live g.F.Fader.latest _ required.floors
     c.advance.ensures.stands c.advance.ensures.latest_is c.deref.ensures.value
     c.self.invariant.patch_is c.grand.ensures
-    (with_items_is inside.frames c.redraw_merged.new.frames size) (λ moved merged.
+    (ap frames_in (with_items_is inside.slots c.redraw_merged.new.slots size)) (λ moved merged.
     c.redraw_merged.ensures.drawn show _ false before (channel_level show history moment) old
     (others_stay moment stands required.live required.kept c.self.invariant.not_ahead
     required.not_before) moved (λ k d lt.

@@ -1,6 +1,7 @@
 use Rattle.std.proofs.Common.{subst, rules}
 use Rattle.show.specs.Readers.{IsInRange}
 use Rattle.masters.specs.Settings.{grand_after}
+use Rattle.patch.specs.Frame.{frames_in}
 use Rattle.desk.specs.Played.{settings}
 use Rattle.desk.specs.Meaning.{channel_level}
 use Rattle.desk.proofs.Drawn.{drawn_alike}
@@ -14,11 +15,11 @@ returns g c = rw (← c.self.view_is) (λ show base history stands.
     let required = rw (← c.self.view_is) at c.requires in
     let not_ahead = c.self.invariant.not_ahead in
     let in_range : IsInRange show = subst IsInRange stands.show_is c.self.invariant.in_range in
-    ticked moment stands required.live inside.playback inside.frames.items inside.is_kept
+    ticked moment stands required.live inside.playback (frames_in inside.slots.items) inside.is_kept
     (rw (none_made_now moment stands required.live required.kept not_ahead required.not_before)
     (not_stopped moment stands required.live))
     (drawn_alike show.patch in_range.patch_channels (channel_level show history inside.last_moment)
     (channel_level show history moment) (λ channel is.
     others_stay moment stands required.live required.kept not_ahead required.not_before channel is
-    (λ has. search rules)) (grand_after (settings history)) inside.frames.items
+    (λ has. search rules)) (grand_after (settings history)) (frames_in inside.slots.items)
     (stands.kept required.kept.kept)))

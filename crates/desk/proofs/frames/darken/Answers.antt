@@ -1,0 +1,10 @@
+use Rattle.std.proofs.Common.{◌∙◌, ap}
+use Rattle.std.specs.Prelude.{slice_get}
+use Rattle.patch.specs.Frame.{frames_in}
+use Rattle.patch.proofs.InARow.{dark_in_a_row}
+use Rattle.desk.proofs.frames.darken.Goals as goal
+
+pub returns : goal.returns
+returns c = λ ordinal few.
+    ap (λ slots. slice_get (frames_in slots) ordinal) (c.fill.ensures.after (λ y is. is))
+    ∙ dark_in_a_row _ ordinal c.requires few
