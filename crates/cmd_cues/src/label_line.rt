@@ -31,7 +31,7 @@ pub enum LabelLine<'a> {
 
 /// The labels of both kinds that lines have given to a record so far.
 #[derive(Clone, Copy)]
-pub struct Found<'a> {
+pub struct Candidates<'a> {
     pub text: Option<&'a [u8]>,
     pub comment: Option<&'a [u8]>,
 }
@@ -92,22 +92,22 @@ fn is_text(line: &[u8]) -> bool
 
 impl<'a> LabelLine<'a> {
     /// Changes the labels of a record by what the line says of them.
-    pub fn apply(&self, of: Record, found: &mut Found<'a>)
-        ensures text { option_map (λ b. b.now) found.new.text ≡ after
-            (line_news of Text self.now) (option_map (λ b. b.now) found.old.text) }
-        ensures comment { option_map (λ b. b.now) found.new.comment ≡ after
-            (line_news of Comment self.now) (option_map (λ b. b.now) found.old.comment) }
+    pub fn apply(&self, of: Record, candidates: &mut Candidates<'a>)
+        ensures text { option_map (λ b. b.now) candidates.new.text ≡ after
+            (line_news of Text self.now) (option_map (λ b. b.now) candidates.old.text) }
+        ensures comment { option_map (λ b. b.now) candidates.new.comment ≡ after
+            (line_news of Comment self.now) (option_map (λ b. b.now) candidates.old.comment) }
     {
         match *self {
             LabelLine::Label(named, LabelKind::Text, bytes) if same_record(of, named) => {
-                found.text = Some(bytes);
+                candidates.text = Some(bytes);
             }
             LabelLine::Label(named, LabelKind::Comment, bytes) if same_record(of, named) => {
-                found.comment = Some(bytes);
+                candidates.comment = Some(bytes);
             }
             LabelLine::Clear(what) if is_empty_after(what, of) => {
-                found.text = None;
-                found.comment = None;
+                candidates.text = None;
+                candidates.comment = None;
             }
             _ => {}
         }

@@ -8,7 +8,7 @@ ghost use Rattle.cmd_explain.specs.Skipped.{words_in};
 ghost use Rattle.cmd_cues.specs.declared.label_line.LabelKind.TheVariants.{Text, Comment};
 ghost use Rattle.cmd_cues.specs.LabelLines.{AreOf, label_by, last_label_by};
 
-use crate::label_line::{Found, LabelLine, label_line};
+use crate::label_line::{Candidates, LabelLine, label_line};
 use ascii_text::Lines;
 use show_line::{Reading, Record, read_line};
 use std::alloc::{AllocError, Global};
@@ -86,23 +86,23 @@ impl<'a> Labels<'a> {
     pub fn label(&self, of: Record) -> &'a [u8]
         ensures { result.now ≡ label_by self.now.lines.items of }
     {
-        let found = self.found(of);
-        found.text.or(found.comment).unwrap_or(&[])
+        let candidates = self.candidates(of);
+        candidates.text.or(candidates.comment).unwrap_or(&[])
     }
 
-    fn found(&self, of: Record) -> Found<'a>
+    fn candidates(&self, of: Record) -> Candidates<'a>
         ensures text { option_map (λ b. b.now) result.text
             ≡ last_label_by of Text self.now.lines.items }
         ensures comment { option_map (λ b. b.now) result.comment
             ≡ last_label_by of Comment self.now.lines.items }
     {
-        let mut found = Found {
+        let mut candidates = Candidates {
             text: None,
             comment: None,
         };
         for line in &self.lines {
-            line.apply(of, &mut found);
+            line.apply(of, &mut candidates);
         }
-        found
+        candidates
     }
 }

@@ -21,12 +21,16 @@ use Rattle.cmd_explain.specs.declared.heading.Heading.TheVariants as heading
 use Rattle.cmd_explain.specs.declared.note_lines.LineNotes.{LineNotes}
 use Rattle.cmd_explain.specs.declared.openings.Opening.{Opening}
 use Rattle.cmd_explain.specs.declared.openings.Openings.{Openings}
-use Rattle.cmd_explain.specs.Headings.{heading_below, heading_of, keyword_in, owner_of}
+use Rattle.cmd_explain.specs.Headings.{heading_below, heading_of, is_unknown, keyword_in, owner_of}
 use Rattle.cmd_explain.specs.LineNotes.{told_of, said_by, link_told, link_note, times_text}
 use Rattle.cmd_explain.specs.LineNotes.{comma_told, comma_note, hour_by, hour_note, again_by}
 use Rattle.cmd_explain.specs.LineNotes.{openings, openings_after}
 use Rattle.cmd_explain.specs.NotesOf.{AreMore, AreNotesOf, AreOpeningsOf, IsTaken}
-use Rattle.cmd_explain.specs.NotesOf.{is_unknown, unknown_count, unknown_in}
+use Rattle.cmd_explain.specs.NotesOf.{unknown_count, unknown_in}
+use Rattle.cmd_explain.specs.NumberedLines.{AreNumberedOf, IsNumberedTaken, is_blank, list_above}
+use Rattle.cmd_explain.specs.NumberedLines.{list_after, numbers_above, numbers_after, run_by}
+use Rattle.cmd_explain.specs.NumberedLines.{run_note}
+use Rattle.cmd_explain.specs.declared.numbered_lines.NumberedLines.{NumberedLines}
 use Rattle.cmd_explain.specs.PatchNotes.{ArePatchNotesOf, IsPatchTaken, patch_told}
 use Rattle.cmd_explain.specs.PatchNotes.{sheet_after, sheet_below}
 use Rattle.cmd_explain.specs.declared.patch_notes.PatchNotes.{PatchNotes}
@@ -45,6 +49,12 @@ owns_is (word ∷ words) = refl
 pub no_words : (owner : Option Record) (l : Words) → None ≡ reading_of desk_limits owner l → l ≡ []
 no_words owner [] e = refl
 no_words owner (word ∷ words) e = cc
+
+-- what is read of a line has words
+pub has_words : (owner : Option Record) (l : Words) (reading : Reading)
+    → Some reading ≡ reading_of desk_limits owner l → is_blank l ≡ false
+has_words owner [] reading e = cc
+has_words owner (word ∷ words) reading e = refl
 
 -- no note is on a line without words
 pub no_link : (show : Tables) (n : ℕ) (h : Heading) → link_told show n h [] ≡ []
@@ -106,9 +116,45 @@ module _ (lines : List (List ℕ)) (bytes : List ℕ) (number : ℕ) (says : Sta
         ∙ ap (λ s. patch_told (length lines + 1) s (sheet_below lines)) is);
   }
 
+  numbered_more : {above : Heading} {k : Keyword} {old new : NumberedLines}
+      → above ≡ heading_below (words_in lines) → k ≡ keyword_in (words_of bytes)
+      → is_blank (words_of bytes) ≡ false → AreNumberedOf lines old
+      → IsNumberedTaken above number k says (words_of bytes) old new
+      → AreNumberedOf (bytes ∷ lines) new
+  numbered_more {above} {k} {old} {new} heads keyed words was taken =
+      let l = words_of bytes in
+      let h = heading_below (words_in lines) in
+      record {
+        list =
+            taken.list ∙ ap (list_after above number k says l) was.list
+            ∙ ap (λ a. list_after a number k says l (list_above lines)) heads
+            ∙ ap (λ n. list_after h n k says l (list_above lines)) numbered
+            ∙ ap (λ k'. list_after h (length lines + 1) k' says l (list_above lines)) keyed
+            ∙ ap (λ s. list_after h (length lines + 1) (keyword_in l) s l (list_above lines)) is
+            ∙ ap (λ b. cond b (list_above lines) (list_after h (length lines + 1) (keyword_in l)
+            (said_by lines bytes) l (list_above lines))) (sym words);
+        numbers =
+            taken.numbers ∙ ap (numbers_after above number k l) was.numbers
+            ∙ ap (λ a. numbers_after a number k l (numbers_above lines)) heads
+            ∙ ap (λ n. numbers_after h n k l (numbers_above lines)) numbered
+            ∙ ap (λ k'. numbers_after h (length lines + 1) k' l (numbers_above lines)) keyed
+            ∙ ap (λ b. cond b (numbers_above lines) (numbers_after h (length lines + 1)
+            (keyword_in l) l (numbers_above lines))) (sym words);
+        notes =
+            taken.notes ∙ more was.notes
+            (ap (λ x. run_by above k l x old.numbers.items) was.list
+            ∙ ap (run_by above k l (list_above lines)) was.numbers
+            ∙ ap (λ a. run_by a k l (list_above lines) (numbers_above lines)) heads
+            ∙ ap (λ k'. run_by h k' l (list_above lines) (numbers_above lines)) keyed
+            ∙ ap (λ b. cond b [] (run_by h (keyword_in l) l (list_above lines)
+            (numbers_above lines))) (sym words));
+      }
+
   -- a line adds its notes
-  module _ (show : Tables) (old new : LineNotes) (was : AreNotesOf show lines old)
-      (added : AreMore show number says bytes old new) (above : Heading)
+  module _ (show : Tables) (k : Keyword) (keyed : k ≡ keyword_in (words_of bytes))
+      (words : is_blank (words_of bytes) ≡ false) (old new : LineNotes)
+      (was : AreNotesOf show lines old) (added : AreMore show number k says bytes old new)
+      (above : Heading)
       (heads : above ≡ heading_below (words_in (bytes ∷ lines))) (unknown : ℕ)
       (counts : unknown ≡ unknown_count (bytes ∷ lines)) where
     link_more : new.links.items ≡ told_of (link_note show) (bytes ∷ lines)
@@ -121,6 +167,7 @@ module _ (lines : List (List ℕ)) (bytes : List ℕ) (number : ℕ) (says : Sta
         (record new { above = above; unknown_lines = unknown })
     notes_more = record {
       heads = heads;
+      numbered = numbered_more was.heads keyed words was.numbered added.numbered;
       patches = patches_more was.patches added.patches;
       links = link_more;
       commas = comma_more was.commas added.commas;

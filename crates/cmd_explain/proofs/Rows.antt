@@ -2,6 +2,7 @@
 use Rattle.std.specs.Prelude.{◌≡◌, refl, codes, [], ◌∷◌, ◌++◌, length, replicate}
 use Rattle.std.specs.Fmt.{digits}
 use Rattle.cmd_explain.specs.declared.reason.Reason.TheVariants as reason
+use Rattle.cmd_explain.specs.NumberedLines.{numbered_notes}
 use Rattle.cmd_explain.specs.Skipped.{explained, shown, skipped_line}
 
 -- the last line stands first
@@ -16,6 +17,11 @@ pages : explained (codes "CHAN 1@FL" ∷ codes "CUE 2 2" ∷ codes "WHAT" ∷ co
     ++ codes "line 3: of page 2: CUE 2 2\nline 4: of a record that is skipped: CHAN 1@FL\n"
 unfolding digits
 pages = refl
+
+numbered : numbered_notes (codes "4 50" ∷ codes "3 50" ∷ codes "CHAN 1 50" ∷ codes "CUE 1" ∷ [])
+    ≡ codes "note: lines 3 4: skipped, as they begin with a number: join them to the CHAN line 2\n"
+unfolding digits
+numbered = refl
 
 text : (skipped_line 12 reason.UnknownClear (codes "CLEAR x" ++ 13 ∷ [])
     ≡ codes "line 12: an unknown CLEAR: CLEAR x \n")

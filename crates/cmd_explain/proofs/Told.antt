@@ -11,6 +11,7 @@ use Rattle.show_reader.specs.Text.{statements_of}
 use Rattle.cmd_explain.specs.Explained.{IsExplanationOf, IsOneLine, IsTextOf, note_line}
 use Rattle.cmd_explain.specs.Encoding.{encoding_notes}
 use Rattle.cmd_explain.specs.NotesOf.{line_notes}
+use Rattle.cmd_explain.specs.NumberedLines.{numbered_notes}
 use Rattle.cmd_explain.specs.ShowNotes.{show_notes}
 use Rattle.cmd_explain.specs.Skipped.{explained, shown}
 use Rattle.cmd_explain.proofs.OneLine.{one_line_each}
@@ -30,10 +31,11 @@ adds text_of notes e = record {
   is = e;
 }
 
-module _ (text : List ℕ) (count : ℕ) (show : Tables) {a b c d e skipped : List ℕ}
+module _ (text : List ℕ) (count : ℕ) (show : Tables) {a b n c d e skipped : List ℕ}
     (first : a ≡ encoding_notes text) (lines : b ≡ a ++ skipped)
-    (skips : skipped ≡ explained (reverse (take count (lines_of text)))) (second : AddsNotes b c)
-    (on_lines : d ≡ c ++ line_notes show (reverse (take count (lines_of text))))
+    (skips : skipped ≡ explained (reverse (take count (lines_of text))))
+    (numbered : n ≡ b ++ numbered_notes (reverse (take count (lines_of text))))
+    (second : AddsNotes n c) (on_lines : d ≡ c ++ line_notes show (reverse (take count (lines_of text))))
     (on_show : e ≡ d ++ show_notes show) where
   abbrev s : List ℕ
   s = explained (reverse (take count (lines_of text)))
@@ -45,8 +47,9 @@ module _ (text : List ℕ) (count : ℕ) (show : Tables) {a b c d e skipped : Li
     text_is =
         on_show ∙ ap (λ t. t ++ show_notes show) (on_lines
         ∙ ap (λ t. t ++ line_notes show (reverse (take count (lines_of text)))) (second.is
-        ∙ ap (λ t. t ++ flat_map note_line second.notes)
-        (lines ∙ ap (λ t. a ++ t) skips ∙ ap (λ t. t ++ s) first)));
+        ∙ ap (λ t. t ++ flat_map note_line second.notes) (numbered
+        ∙ ap (λ t. t ++ numbered_notes (reverse (take count (lines_of text))))
+        (lines ∙ ap (λ t. a ++ t) skips ∙ ap (λ t. t ++ s) first))));
   }
 
 -- a text of the show that was read is the one of the show that the text means

@@ -11,6 +11,7 @@ use Rattle.show_reader.specs.ItsShow.{OfItsShow}
 use Rattle.show_reader.specs.Reading.{lines_read}
 use Rattle.cmd_explain.specs.Encoding.{encoding_notes}
 use Rattle.cmd_explain.specs.NotesOf.{line_notes}
+use Rattle.cmd_explain.specs.NumberedLines.{numbered_notes}
 use Rattle.cmd_explain.specs.ShowNotes.{show_notes}
 use Rattle.cmd_explain.specs.Skipped.{explained}
 
@@ -33,13 +34,14 @@ AreFaultLines show text =
     × (text ≡ encoding_notes show ++ flat_map text_line lines)
 
 -- of so many lines of a text, which means this show: the notes on how the text is encoded; the
--- lines about the skipped lines; notes of one line each on what may be meant otherwise, the notes
--- on lines, and the notes on the show
+-- lines about the skipped lines; the notes on lines that begin with a number; notes of one line each
+-- on what may be meant otherwise; the other notes on lines, and the notes on the show
 pub record IsTextOf (text : List ℕ) (count : ℕ) (show : Tables) (told : List ℕ) : Type 0 where
   pub doubts : List (List ℕ)
   pub doubts_in_lines : All IsOneLine doubts
   pub text_is : told ≡ encoding_notes text
       ++ explained (reverse (take count (lines_of text)))
+      ++ numbered_notes (reverse (take count (lines_of text)))
       ++ flat_map note_line doubts
       ++ line_notes show (reverse (take count (lines_of text)))
       ++ show_notes show

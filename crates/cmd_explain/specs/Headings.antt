@@ -30,6 +30,12 @@ abbrev pub is_clear : Keyword → Bool
 is_clear keyword.Clear = true
 is_clear _ = false
 
+-- a line of this keyword is skipped as one that is unknown: no maker's record heads it
+abbrev pub is_unknown : Heading → Keyword → Bool
+is_unknown heading.Maker k = false
+is_unknown h keyword.Unknown = true
+is_unknown h k = false
+
 -- a skipped line that may own: it opens a maker's record, or is a CLEAR, or of another page
 abbrev pub heading_skipped : Keyword → Heading
 heading_skipped k =

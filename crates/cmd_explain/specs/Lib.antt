@@ -3,6 +3,7 @@ pub mod Reasons
 pub mod Skipped
 pub mod Decimals
 pub mod LineNotes
+pub mod NumberedLines
 pub mod PatchNotes
 pub mod NotesOf
 pub mod Encoding

@@ -1,22 +1,21 @@
 -- The notes on the lines of a show text, by kinds.
-use Rattle.std.specs.Prelude.{◌≡◌, ◌+◌, ◌++◌, ℕ, List, [], ◌∷◌, Bool, true, false, if◌then◌else◌}
+use Rattle.std.specs.Prelude.{◌≡◌, ◌+◌, ◌++◌, ℕ, List, [], ◌∷◌, if◌then◌else◌}
 use Rattle.ascii_text.specs.Text.{words_of}
 use Rattle.show.specs.Tables.{Tables}
 use Rattle.show_line.specs.declared.keyword.Keyword.{Keyword}
-use Rattle.show_line.specs.declared.keyword.Keyword.TheVariants as keyword
 use Rattle.show_line.specs.declared.statement.Statement.{Statement}
 use Rattle.show_line.specs.declared.statement.Table.{Table}
 use Rattle.show_line.specs.declared.statement.Table.TheVariants.{Cues, Groups, Subs}
 use Rattle.show_line.specs.Keywords.{keyword_of}
 use Rattle.show_reader.specs.Text.{Words}
 use Rattle.cmd_explain.specs.declared.heading.Heading.{Heading}
-use Rattle.cmd_explain.specs.declared.heading.Heading.TheVariants as heading
 use Rattle.cmd_explain.specs.declared.note_lines.LineNotes.{LineNotes}
 use Rattle.cmd_explain.specs.declared.openings.Openings.{Openings}
-use Rattle.cmd_explain.specs.Headings.{heading_below}
+use Rattle.cmd_explain.specs.Headings.{heading_below, is_unknown}
 use Rattle.cmd_explain.specs.LineNotes.{told_of, link_note, comma_note, again_note, hour_note}
 use Rattle.cmd_explain.specs.LineNotes.{openings, openings_after, again_by, link_told}
 use Rattle.cmd_explain.specs.LineNotes.{comma_told, times_text, hour_by}
+use Rattle.cmd_explain.specs.NumberedLines.{AreNumberedOf, IsNumberedTaken}
 use Rattle.cmd_explain.specs.PatchNotes.{ArePatchNotesOf, IsPatchTaken, patch_note}
 use Rattle.cmd_explain.specs.Skipped.{words_in}
 
@@ -32,9 +31,12 @@ pub record IsTaken (number : ℕ) (says : Statement) (old new : Openings) : Type
   pub list : new.list.items ≡ openings_after old.table number says old.list.items
   pub notes : new.notes.items ≡ old.notes.items ++ again_by old.table number says old.list.items
 
-pub record AreMore (show : Tables) (number : ℕ) (says : Statement) (line : List ℕ)
+-- what a line of this number adds, with this keyword, which says this
+pub record AreMore (show : Tables) (number : ℕ) (k : Keyword) (says : Statement) (line : List ℕ)
     (old new : LineNotes) : Type 0 where
   pub above : new.above ≡ old.above
+  pub numbered
+      : IsNumberedTaken old.above number k says (words_of line) old.numbered new.numbered
   pub patches : IsPatchTaken number says old.patches new.patches
   pub links : new.links.items
       ≡ old.links.items ++ link_told show number old.above (words_of line)
@@ -46,12 +48,6 @@ pub record AreMore (show : Tables) (number : ℕ) (says : Statement) (line : Lis
   pub unknown_lines : new.unknown_lines ≡ old.unknown_lines
 
 -- ---- lines of unknown keywords
-
--- a line of this keyword is skipped as one that is unknown: no maker's record heads it
-abbrev pub is_unknown : Heading → Keyword → Bool
-is_unknown heading.Maker k = false
-is_unknown h keyword.Unknown = true
-is_unknown h k = false
 
 abbrev pub unknown_in : Heading → Words → ℕ
 unknown_in h [] = 0
@@ -68,6 +64,7 @@ unknown_count (line ∷ above) =
 -- the notes on lines, the last line first, of a text that means this show
 pub record AreNotesOf (show : Tables) (lines : List (List ℕ)) (notes : LineNotes) : Type 0 where
   pub heads : notes.above ≡ heading_below (words_in lines)
+  pub numbered : AreNumberedOf lines notes.numbered
   pub patches : ArePatchNotesOf lines notes.patches
   pub links : notes.links.items ≡ told_of (link_note show) lines
   pub commas : notes.commas.items ≡ told_of comma_note lines

@@ -23,7 +23,7 @@ enum Role {
 }
 
 /// The first of the words behind a keyword that has this fault by itself.
-pub fn blamed<'a>(keyword: Keyword, fault: LineFault, words: Words<'a>) -> Option<&'a [u8]> {
+pub fn faulty_word<'a>(keyword: Keyword, fault: LineFault, words: Words<'a>) -> Option<&'a [u8]> {
     let mut role = first_role(keyword);
     for word in words {
         if fault_of(role, word) == Some(fault) {

@@ -5,6 +5,7 @@ ghost use Rattle.cmd_show.specs.Faults.{CheckFails, ReadsFirst};
 ghost use Rattle.cmd_explain.specs.Explained.{AreFaultLines, Explains, IsTextOf, ListsFaults};
 ghost use Rattle.cmd_explain.specs.Explained.{note_line, text_line};
 ghost use Rattle.cmd_explain.specs.NotesOf.{AreNotesOf, line_notes};
+ghost use Rattle.cmd_explain.specs.NumberedLines.{AreNumberedOf, numbered_notes};
 ghost use Rattle.cmd_explain.specs.Skipped.{shown};
 
 use crate::encoding::push_encoding;
@@ -12,7 +13,7 @@ use crate::faulty::faulty_lines;
 use crate::misspelt::push_misspelt;
 use crate::note_lines::LineNotes;
 use crate::notes::Notes;
-use crate::numbered::push_numbered;
+use crate::numbered_lines::{NumberedLines, push_run};
 use crate::parts::push_parts;
 use crate::show_notes::push_show_notes;
 use crate::skipped::{push_shown, skipped_lines};
@@ -104,8 +105,9 @@ fn explanation(alloc: Global, show: &[u8], loaded: &Loaded) -> Result<Vec<u8>, A
     push_encoding(&mut text, show)?;
     let skipped = skipped_lines(alloc, show, loaded.lines)?;
     text.extend_from_slice(skipped.as_slice())?;
-    push_notes(&mut text, doubts(alloc, show, loaded)?.as_slice())?;
     let notes = LineNotes::read(alloc, show, loaded.lines, &loaded.show)?;
+    push_numbered(&mut text, &notes.numbered)?;
+    push_notes(&mut text, doubts(alloc, show, loaded)?.as_slice())?;
     push_line_notes(&mut text, &notes)?;
     push_show_notes(alloc, &mut text, &loaded.show)?;
     Ok(text)
@@ -116,10 +118,18 @@ fn doubts(alloc: Global, show: &[u8], loaded: &Loaded) -> Result<Notes, AllocErr
     requires { length show.now < 2 ^ 32 }
 {
     let mut notes = Vec::new(alloc);
-    push_numbered(alloc, &mut notes, show, loaded.lines)?;
     push_misspelt(alloc, &mut notes, show, loaded.lines)?;
     push_parts(alloc, &mut notes, show, loaded.lines, &loaded.show)?;
     Ok(notes)
+}
+
+fn push_numbered(text: &mut Vec<u8>, numbered: &NumberedLines) -> Result<(), AllocError>
+    ensures { OnOk result ((lines : List (List ℕ)) → AreNumberedOf lines numbered.now
+        → text.new.items ≡ text.old.items ++ numbered_notes lines) }
+{
+    text.extend_from_slice(numbered.notes.as_slice())?;
+    push_run(text, numbered.list, numbered.numbers.as_slice())?;
+    Ok(())
 }
 
 fn push_line_notes(text: &mut Vec<u8>, notes: &LineNotes) -> Result<(), AllocError>

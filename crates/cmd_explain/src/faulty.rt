@@ -1,6 +1,6 @@
 ghost use Rattle.std.specs.Prelude.{◌<◌, ◌^◌, length};
 
-use crate::blame::blamed;
+use crate::blame::faulty_word;
 use crate::decimal::push_number;
 use crate::notes::Notes;
 use crate::skipped::{first_bytes, operands};
@@ -73,7 +73,7 @@ fn faulty_line(
     push_number(&mut text, u64::from(line.number))?;
     text.extend_from_slice(b": ")?;
     text.extend_from_slice(name_of(fault))?;
-    if let Some(word) = blamed(keyword, fault, operands(line.bytes)) {
+    if let Some(word) = faulty_word(keyword, fault, operands(line.bytes)) {
         text.extend_from_slice(b" at `")?;
         text.extend_from_slice(first_bytes(word))?;
         text.push(b'`')?;

@@ -1,7 +1,7 @@
 ghost use Rattle.std.specs.Prelude.{◌≡◌, if◌then◌else◌};
 ghost use Rattle.show_line.specs.Keywords.{may_own};
 ghost use Rattle.show_reader.specs.Meaning.{is_skipped};
-ghost use Rattle.cmd_explain.specs.Headings.{heading_of, heading_skipped, owner_of};
+ghost use Rattle.cmd_explain.specs.Headings.{heading_of, heading_skipped, is_unknown, owner_of};
 
 use show_line::{Keyword, Record, Statement};
 
@@ -23,6 +23,13 @@ pub fn is_skipped(statement: &Statement<'_>) -> bool
     ensures { result ≡ is_skipped statement.now }
 {
     matches!(statement, Statement::Skipped)
+}
+
+/// Whether a line of this keyword is skipped as one of an unknown keyword.
+pub fn is_unknown(above: Heading, keyword: Keyword) -> bool
+    ensures { result ≡ is_unknown above keyword }
+{
+    matches!(keyword, Keyword::Unknown) && !matches!(above, Heading::Maker)
 }
 
 impl Heading {

@@ -3,8 +3,8 @@
 //!
 //! Each skipped line gets a line with its number, the reason and its text, and lines that begin
 //! with `note: ` follow. The lines are proved to be those that `check` counts as skipped; and each
-//! note is proved to be printed exactly where it holds, but for those on lines that begin with a
-//! number, on misspelt keywords and on parts of cues, which are tested.
+//! note is proved to be printed exactly where it holds, but for those on misspelt keywords and on
+//! parts of cues, which are tested.
 //!
 //! ```
 //! let mut out = MemoryOutput::new(rt.alloc(), 0, 0);
@@ -25,7 +25,7 @@ mod line_notes;
 mod misspelt;
 mod note_lines;
 mod notes;
-mod numbered;
+mod numbered_lines;
 mod openings;
 mod parts;
 mod patch_notes;

@@ -39,7 +39,7 @@ pub fn push_link(
     if !is_link(line) || show.cue(cue).is_none() {
         return Ok(());
     }
-    push_link_by(out, number, cue, linked(line), show.next(cue))
+    push_link_by(out, number, cue, link_target(line), show.next(cue))
 }
 
 fn push_link_by(
@@ -85,7 +85,7 @@ fn is_link(line: &[u8]) -> bool
 }
 
 // The cue that the second word of a line names.
-fn linked(line: &[u8]) -> Option<u32>
+fn link_target(line: &[u8]) -> Option<u32>
     ensures { result ≡ linked (operands (words_of line.now)) }
 {
     match operands(line).next() {

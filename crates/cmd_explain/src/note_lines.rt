@@ -2,11 +2,12 @@ ghost use Rattle.std.specs.Prelude.{◌≡◌, ◌+◌, ◌<◌, ◌^◌, ℕ, L
 ghost use Rattle.std.specs.Prelude.{IfOk, OnOk, [], if◌then◌else◌};
 ghost use Rattle.ascii_text.specs.Text.{lines_of};
 ghost use Rattle.show.specs.Tables.{Tables};
-ghost use Rattle.cmd_explain.specs.NotesOf.{AreMore, AreNotesOf, is_unknown};
+ghost use Rattle.cmd_explain.specs.Headings.{is_unknown};
+ghost use Rattle.cmd_explain.specs.NotesOf.{AreMore, AreNotesOf};
 
-use crate::heading::Heading;
+use crate::heading::{Heading, is_unknown};
 use crate::line_notes::{push_comma, push_hour, push_link};
-use crate::misspelt::is_unknown;
+use crate::numbered_lines::NumberedLines;
 use crate::openings::Openings;
 use crate::patch_notes::PatchNotes;
 use ascii_text::{Line, Lines};
@@ -18,6 +19,7 @@ use std::alloc::{AllocError, Global};
 #[derive(Drop)]
 pub struct LineNotes {
     pub above: Heading,
+    pub numbered: NumberedLines,
     pub patches: PatchNotes,
     pub links: Vec<u8>,
     pub commas: Vec<u8>,
@@ -56,6 +58,7 @@ impl LineNotes {
     {
         LineNotes {
             above: Heading::Nothing,
+            numbered: NumberedLines::new(alloc),
             patches: PatchNotes::new(alloc),
             links: Vec::new(alloc),
             commas: Vec::new(alloc),
@@ -77,17 +80,24 @@ impl LineNotes {
         };
         let unknown = unknown_in(self.above, reading.keyword);
         let below = self.above.below(reading.keyword, &reading.statement);
-        self.note(show, &line, reading.statement)?;
+        self.note(show, &line, reading.keyword, reading.statement)?;
         self.above = below;
         self.unknown_lines = self.unknown_lines.saturating_add(unknown);
         Ok(())
     }
 
-    // Adds the notes on a line that says this.
-    fn note(&mut self, show: &Show, line: &Line<'_>, says: Statement<'_>) -> Result<(), AllocError>
-        ensures { OnOk result (AreMore show.now line.now.number says.entry line.now.bytes.now
-            self.old self.new) }
+    // Adds the notes on a line of this keyword, which says this.
+    fn note(
+        &mut self,
+        show: &Show,
+        line: &Line<'_>,
+        keyword: Keyword,
+        says: Statement<'_>,
+    ) -> Result<(), AllocError>
+        ensures { OnOk result (AreMore show.now line.now.number keyword says.entry
+            line.now.bytes.now self.old self.new) }
     {
+        self.numbered.take(self.above, line, keyword, &says)?;
         push_link(&mut self.links, show, line.number, self.above, line.bytes)?;
         push_comma(&mut self.commas, line.number, &says, line.bytes)?;
         self.cues.take(line.number, &says)?;

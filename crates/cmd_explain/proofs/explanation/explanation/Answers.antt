@@ -9,6 +9,7 @@ returns c =
     told_whole c.args.show.now c.args.loaded.now.lines c.args.loaded.now.show
     front c.in_ok-extend_from_slice.ensures.items
     (c.as_slice.ensures.value ∙ c.in_ok-skipped.ensures)
+    (c.in_ok-push_numbered.ensures _ c.in_ok-notes.ensures.numbered)
     (adds (λ note. note.items) _ c.in_ok-push_notes.ensures)
     (c.in_ok-push_line_notes.ensures c.args.loaded.now.show _ c.in_ok-notes.ensures)
     c.in_ok-push_show_notes.ensures

@@ -4,8 +4,8 @@ use Rattle.show_line.specs.Said.{desk_limits, reading_of}
 use Rattle.cmd_explain.specs.Headings.{heading_below, owner_of}
 use Rattle.cmd_explain.specs.NotesOf.{unknown_count, unknown_in}
 use Rattle.cmd_explain.specs.Skipped.{words_in}
-use Rattle.cmd_explain.proofs.Lines.{said_is}
-use Rattle.cmd_explain.proofs.NoteLines.{few_unknown, heading_more, notes_more, unknown_is}
+use Rattle.cmd_explain.proofs.Lines.{keyword_is, said_is}
+use Rattle.cmd_explain.proofs.NoteLines.{few_unknown, has_words, heading_more, notes_more, unknown_is}
 use Rattle.cmd_explain.proofs.note_lines.LineNotes.take_line.Goals as goal
 
 pub returns : goal.returns
@@ -35,5 +35,6 @@ returns c = λ lines was numbered.
       c.ranges.line,
     ) in
     notes_more lines bytes c.args.line.number reading.statement numbered
-    (said_is lines bytes above was.heads reading read) c.args.show.now c.args.self.now
-    c.note.new.self was added c.below-below.result heads c.saturating_add-self.result unknown
+    (said_is lines bytes above was.heads reading read) c.args.show.now reading.keyword
+    (keyword_is lines bytes above was.heads reading read)
+    (has_words (owner_of above) (words_of bytes) reading read) c.args.self.now c.note.new.self was added c.below-below.result heads c.saturating_add-self.result unknown
