@@ -386,7 +386,7 @@ class Watch(CardsTest):
         with self.soon(night, f"{nobody}; check the gateway to 10.101.9.7"):
             pass
         venue.stage.ip("addr add 10.101.2.254/24 dev port")
-        night.told("10.101.9.7 answers")
+        night.told("10.101.2.254 answers")
 
     def backup(self, kept):
         """A night that follows another one watches its own card."""

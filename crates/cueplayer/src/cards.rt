@@ -3,12 +3,11 @@ use crate::remark::{Remark, of_name, push_shown};
 use arrayvec::{ArrayString, ArrayVec};
 use cmd_faults::RunFault;
 use cmd_words::{Name, Night};
-use link_notices::PathState;
-use network_tables::CardState;
+use network_tables::{Card, CardName, CardRefusal, CardState, CardWord, Cards, choose};
 use show_reader::read_show;
 use std::fmt::Write;
 use std::net::Ipv4Addr;
-use system_devices::{Card, Cards, Leaving, Network, card_state};
+use system_devices::{Leaving, Network, Path, card_state, read_cards};
 use targets::{TargetMisfit, Targets};
 
 /// An address and its card, or the part of a message that names one.
@@ -109,30 +108,34 @@ pub fn open_network(
         never_waits,
     };
     let network = Network::open(rt, &night.targets, leaving).map_err(Failure::from)?;
-    if night.interface.is_some() {
-        refuse_other_routes(&network)?;
+    match other_route(&network, night.interface.is_some()) {
+        None => Ok(network),
+        Some(remark) => Err(JobFault::Words(remark)),
     }
-    Ok(network)
 }
 
-fn refuse_other_routes(network: &Network) -> Result<(), JobFault> {
+// By which other card a route leads, and to which host, where that refuses a night.
+fn other_route(network: &Network, is_named: bool) -> Option<Remark> {
     for path in network.paths() {
-        if let PathState::Elsewhere(other) = path.state
-            && let Some(source) = network.source_of(path)
-        {
-            let host = host_text(path.host);
-            let mut line = ArrayString::<160>::new();
-            let _ = write!(
-                line,
-                "the route to {} leads by {}, and not by {}: --any-route sends by it",
-                host.as_str(),
-                other.as_str(),
-                source.card.as_str(),
-            );
-            return Err(JobFault::Words(remark_of(line.as_str())));
+        if let Some(other) = path.state.refused_card(is_named) {
+            return Some(of_route(network, path, &other));
         }
     }
-    Ok(())
+    None
+}
+
+fn of_route(network: &Network, path: &Path, other: &CardName) -> Remark {
+    let host = host_text(path.host);
+    let source = network.source_of(path);
+    let card = source.map_or("the card", |source| source.card.as_str());
+    let mut line = ArrayString::<160>::new();
+    let _ = write!(
+        line,
+        "the route to {} leads by {}, and not by {card}: --any-route sends by it",
+        host.as_str(),
+        other.as_str(),
+    );
+    remark_of(line.as_str())
 }
 
 // The address that packets come from, where a card is named.
@@ -140,40 +143,44 @@ fn source_of(rt: &HostRuntime, night: &Night) -> Result<Option<[u8; 4]>, JobFaul
     let Some(named) = night.interface.as_ref().map(Name::as_str) else {
         return Ok(None);
     };
-    let cards = Cards::read(rt);
-    let found = match named.parse::<Ipv4Addr>() {
-        Ok(address) => cards.of_address(address.octets()),
-        Err(_) => cards.of_name(named),
-    };
-    match found {
-        Some(card) if card.address.is_some() && card.is_known() => Ok(card.address),
-        found => Err(JobFault::Words(of_card(rt, named, found, &cards))),
+    let cards = read_cards(rt);
+    let word = CardWord::read(named);
+    let row = word.row_of(&cards);
+    let state = state_of(rt, &row);
+    match choose(&word, row, state) {
+        Ok(address) => Ok(Some(address)),
+        Err(refusal) => Err(JobFault::Words(of_card(rt, named, refusal, &cards))),
     }
 }
 
+fn state_of(rt: &HostRuntime, row: &Option<Card>) -> CardState {
+    if let Some(card) = row
+        && let Some(name) = &card.name
+    {
+        return card_state(rt, name.as_str());
+    }
+    CardState::Up
+}
+
 // Why a card that was named cannot be sent by, and what to do.
-fn of_card(rt: &HostRuntime, named: &str, found: Option<Card>, cards: &Cards) -> Remark {
+fn of_card(rt: &HostRuntime, named: &str, refusal: CardRefusal, cards: &Cards) -> Remark {
     let shown = of_name(named);
     let shown = shown.as_str();
+    let address = address_word(cards);
     let mut line = CardLine::new();
-    let _ = match found {
-        None if named.parse::<Ipv4Addr>().is_ok() => write!(line, "no card has {shown}: "),
-        None => write!(line, "no card {shown}: "),
-        Some(card) if card.address.is_some() => {
+    let _ = match refusal {
+        CardRefusal::NoAddress => write!(line, "no card has {shown}: "),
+        CardRefusal::NoCard => write!(line, "no card {shown}: "),
+        CardRefusal::UnknownCard => {
             push_own_address(rt, &mut line, shown, cards);
             Ok(())
         }
-        Some(_) => {
-            let address = address_word(cards);
-            match card_state(rt, named) {
-                CardState::Down => write!(line, "{shown} is down: ip link set {shown} up; "),
-                CardState::NoLink => write!(
-                    line,
-                    "{shown} has no link and no {address}: check the cable; "
-                ),
-                CardState::Up => write!(line, "{shown} has no {address}: "),
-            }
-        }
+        CardRefusal::Down => write!(line, "{shown} is down: ip link set {shown} up; "),
+        CardRefusal::NoLink => write!(
+            line,
+            "{shown} has no link and no {address}: check the cable; "
+        ),
+        CardRefusal::WithoutAddress => write!(line, "{shown} has no {address}: "),
     };
     let mut remark = remark_of(line.as_str());
     push_cards(&mut remark, cards);
@@ -183,7 +190,7 @@ fn of_card(rt: &HostRuntime, named: &str, found: Option<Card>, cards: &Cards) ->
 // What a card without a row of its own does not have. Where the card of an address is not known, it
 // may be this one.
 fn address_word(cards: &Cards) -> &'static str {
-    if cards.as_slice().iter().all(Card::is_known) {
+    if cards.are_known() {
         "address"
     } else {
         "known address"
@@ -196,8 +203,11 @@ fn push_own_address(rt: &HostRuntime, line: &mut CardLine, address: &str, cards:
     let mut names = ArrayString::<160>::new();
     let mut count = 0_usize;
     for card in cards.as_slice() {
-        let name = card.name.as_str();
-        if card.address.is_none() && card_state(rt, name) == CardState::Down {
+        let (Some(name), None) = (&card.name, card.address) else {
+            continue;
+        };
+        let name = name.as_str();
+        if card_state(rt, name) == CardState::Down {
             let front = if count == 0 { "" } else { ", " };
             let _ = write!(names, "{front}{name}");
             count = count.saturating_add(1);
@@ -222,21 +232,18 @@ fn push_own_address(rt: &HostRuntime, line: &mut CardLine, address: &str, cards:
 fn push_cards(remark: &mut Remark, cards: &Cards) {
     let mut front = "there are ";
     for card in cards.as_slice() {
-        if card.address.is_some() && card.is_known() {
+        if let (Some(name), Some(address)) = (&card.name, card.address) {
             push_shown(remark, front.as_bytes());
-            push_shown(remark, card_text(card).as_str().as_bytes());
+            push_shown(remark, card_text(name, address).as_str().as_bytes());
             front = ", ";
         }
     }
 }
 
 /// A card and its address, as `eth0 (10.101.1.10)`.
-pub fn card_text(card: &Card) -> HostText {
+pub fn card_text(name: &CardName, address: [u8; 4]) -> HostText {
     let mut text = HostText::new();
-    let _ = text.try_push_str(card.name.as_str());
-    if let Some(address) = card.address {
-        let host = host_text(address);
-        let _ = write!(text, " ({})", host.as_str());
-    }
+    let host = host_text(address);
+    let _ = write!(text, "{} ({})", name.as_str(), host.as_str());
     text
 }

@@ -181,7 +181,8 @@ fn push_mended(
             push_route(rt, line, source, path);
         }
         Trouble::NoAnswer => {
-            let _ = write!(line, "{host} answers");
+            let neighbor = host_text(path.neighbor.unwrap_or(path.host));
+            let _ = write!(line, "{} answers", neighbor.as_str());
         }
         _ => {
             let card = source.card.as_str();

@@ -3,7 +3,7 @@ use crate::screen::Screen;
 use arrayvec::ArrayString;
 use cmd_words::Night;
 use std::fmt::Write;
-use system_devices::{Cards, Network, Path, Source, is_multicast, route_to};
+use system_devices::{Network, Path, Source, is_multicast, read_cards, route_to};
 use targets::{Target, Targets};
 
 /// A line about the network.
@@ -132,18 +132,18 @@ pub fn push_no_route(line: &mut NetworkLine, path: &Path) {
 
 // Tells which cards have an address that nothing is sent from.
 fn tell_other_cards(rt: &HostRuntime, network: &Network, screen: &mut Screen) {
-    let cards = Cards::read(rt);
+    let cards = read_cards(rt);
     let mut line = NetworkLine::new();
     let mut first = None;
     for card in cards.as_slice() {
-        let Some(address) = card.address else {
+        let (Some(name), Some(address)) = (card.name, card.address) else {
             continue;
         };
         let sends = network
             .sources()
             .iter()
             .any(|source| source.address == address);
-        if sends || card.is_loop() || !card.is_known() {
+        if sends || name.as_str() == "lo" {
             continue;
         }
         let front = if first.is_none() {
@@ -152,8 +152,8 @@ fn tell_other_cards(rt: &HostRuntime, network: &Network, screen: &mut Screen) {
             ", "
         };
         let _ = line.try_push_str(front);
-        let _ = line.try_push_str(card_text(card).as_str());
-        first = first.or(Some(card.name));
+        let _ = line.try_push_str(card_text(&name, address).as_str());
+        first = first.or(Some(name));
     }
     if let Some(name) = first {
         let _ = write!(line, "; --interface {} sends by it", name.as_str());

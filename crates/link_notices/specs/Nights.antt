@@ -1,5 +1,5 @@
 -- What is told over a night: over all looks, the first first.
-use Rattle.std.specs.Prelude.{◌≡◌, ◌≢◌, List, [], ◌∷◌, ◌++◌, Bool, true, false, All, fold, map}
+use Rattle.std.specs.Prelude.{◌≡◌, ◌≢◌, List, [], ◌∷◌, false, All, fold}
 use Rattle.std.specs.Prelude.{Option, Some, None}
 use Rattle.link_notices.specs.declared.notice.PathNotice.{PathNotice}
 use Rattle.link_notices.specs.declared.notice.SourceNotice.{SourceNotice}

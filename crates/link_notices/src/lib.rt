@@ -15,7 +15,7 @@ mod watch;
 
 pub use laws::{paths_law, sources_law};
 pub use notice::{PathNotice, SourceNotice};
-pub use path::{PathState, Trouble, trouble_of};
+pub use path::{CardAddress, PathState, Trouble, trouble_of};
 pub use sending::Sending;
 pub use source::{SourceState, source_state};
 pub use watch::{PathLook, PathWatch, SourceWatch};

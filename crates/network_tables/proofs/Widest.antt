@@ -5,7 +5,7 @@ use Rattle.std.proofs.Common.{◌∙◌, ap, subst, append_assoc, arith, Some, N
 use Rattle.std.proofs.lemmas.Bool.Decides.{leb_tells}
 use Rattle.std.proofs.lemmas.List.{append-nil}
 use Rattle.std.proofs.lemmas.List.Elements.{All-append, All-cons, All-nil}
-use Rattle.std.specs.Prelude.{fold, All, nat_le, ◌⊎◌}
+use Rattle.std.specs.Prelude.{fold, All}
 use Rattle.std.proofs.Common.{inl, inr, get_or}
 use Rattle.network_tables.specs.Routes.{Entry, leads_to, width_of}
 use Rattle.network_tables.specs.Best.{BestRouteLaw, IsRouteTo, IsFirstWidest, LeadsElsewhere}

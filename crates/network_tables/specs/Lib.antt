@@ -3,3 +3,7 @@ pub mod Routes
 pub mod Best
 pub mod Neighbors
 pub mod Cards
+pub mod Trees
+pub mod Holders
+pub mod Tables
+pub mod Choices

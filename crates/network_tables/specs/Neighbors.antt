@@ -1,5 +1,5 @@
 -- A line of the system's table of neighbors.
-use Rattle.std.specs.Prelude.{◌≡◌, ℕ, ◌+◌, Bool, List, Option, Some, min}
+use Rattle.std.specs.Prelude.{◌≡◌, ℕ, ◌+◌, Bool, List, Some, min}
 use Rattle.std.specs.Prelude.{if◌then◌else◌}
 use Rattle.std.specs.Net.Grammar.{IsIpv4Text}
 use Rattle.network_tables.specs.Fields.{field, flags_of}

@@ -1,5 +1,5 @@
 -- A line of the system's table of routes.
-use Rattle.std.specs.Prelude.{ℕ, Bool, ◌&&◌, not, List, [], ◌∷◌, ◌==◌, bit_and, count_ones}
+use Rattle.std.specs.Prelude.{ℕ, Bool, not, List, ◌==◌, bit_and, count_ones}
 use Rattle.std.specs.Prelude.{Option, Some, None, if◌then◌else◌}
 use Rattle.std.specs.Int.{from_be_bytes, to_le_bytes, w32}
 use Rattle.std.specs.Char.{is_ascii_graphic}

@@ -6,12 +6,20 @@
 #![tactic(auto)]
 
 mod card;
+mod choice;
 mod fields;
+mod holder;
 mod laws;
 mod neighbor;
 mod route;
+mod table;
+mod tree;
 
 pub use card::{CardState, card_state};
+pub use choice::{CardRefusal, CardWord, choose};
+pub use holder::{Holder, holder_of, host_beside};
 pub use laws::best_route_law;
 pub use neighbor::{Neighbor, SILENCE, silence_after};
 pub use route::{CardName, Route, better};
+pub use table::{Card, Cards, MOST_CARDS, row_name};
+pub use tree::{OwnAddresses, TreeLine};

@@ -3,6 +3,7 @@ ghost use Rattle.std.specs.List.{list_all};
 ghost use Rattle.network_tables.specs.Best.{better};
 ghost use Rattle.std.specs.Char.{is_ascii_graphic};
 ghost use Rattle.network_tables.specs.Fields.{field, hex_number, is_run};
+ghost use Rattle.network_tables.specs.Holders.{is_at_card};
 ghost use Rattle.network_tables.specs.Routes.{card_name, leads_to, name_seen, route_of, route_seen};
 ghost use Rattle.network_tables.specs.Routes.{address_number, entry_of, width_of};
 
@@ -65,6 +66,13 @@ impl Route {
         u32::from_be_bytes(host) & self.mask == self.network
     }
 
+    /// Whether it leads to a network at which its card is: without a gateway, and not to everywhere.
+    pub fn is_at_card(&self) -> bool
+        ensures { result ≡ is_at_card (route_seen self.now) }
+    {
+        self.gateway.is_none() && self.mask != 0
+    }
+
     /// How many bits of an address it looks at.
     pub fn width(&self) -> u32
         ensures { result ≡ width_of (route_seen self.now) }
@@ -73,7 +81,7 @@ impl Route {
     }
 }
 
-fn card_name(field: &[u8]) -> Option<CardName>
+pub(crate) fn card_name(field: &[u8]) -> Option<CardName>
     ensures { option_map name_seen result ≡ card_name field.now }
 {
     if !is_name(field) {

@@ -35,7 +35,7 @@ mod written_record;
 pub use appended_lines::AppendedLines;
 pub use bounded_output::{BoundedOutput, Names};
 pub use card_sender::CardSender;
-pub use cards::{Card, Cards, card_state};
+pub use cards::{card_state, read_cards};
 pub use cid_lock::{CidLock, LockFault, PathText};
 pub use fault::DeviceFault;
 pub use host_name::machine_name;

@@ -5,7 +5,7 @@ use crate::socket::{AddressText, SocketFault, bind, send_whole, text_of};
 use crate::tied_socket::TiedSocket;
 use arrayvec::ArrayVec;
 use devices::LinkFault;
-use link_notices::{PathState, Sending, SourceState, source_state};
+use link_notices::{CardAddress, PathState, Sending, SourceState, source_state};
 use network_tables::CardName;
 use std::io::ErrorKind;
 use std::net::{IpAddr, SocketAddr, UdpSocket};
@@ -60,6 +60,14 @@ impl Source {
         }
     }
 
+    fn card_address(&self) -> CardAddress {
+        let address = self.address;
+        CardAddress {
+            address,
+            card: self.card,
+        }
+    }
+
     // The multicast of a bound socket leaves by the card of its address.
     fn send(&self, unbound: &UdpSocket, bytes: &[u8], to: Address) -> Result<(), ErrorKind> {
         match &self.tied {
@@ -94,8 +102,8 @@ pub struct Path {
     /// At so many looks one behind the other it did not answer.
     pub silence: u8,
 
-    // By this address the route led elsewhere.
-    other: Option<[u8; 4]>,
+    // What the route to it gave at the last look.
+    route: Option<CardAddress>,
 
     // When the route was looked for, before a packet.
     looked: Option<Instant>,
@@ -241,23 +249,12 @@ impl Network {
         let Some(source) = self.source_of(path) else {
             return;
         };
-        let Some(address) = route else {
-            path.state = PathState::Nowhere;
-            path.other = None;
-            return;
+        let source = source.card_address();
+        path.route = match route {
+            Some(address) => Some(with_card(rt, address, &source, path)),
+            None => None,
         };
-        if address == source.address || self.leaving.is_any_route {
-            path.state = PathState::Leads;
-            path.other = None;
-        } else if path.other != Some(address) {
-            let card = card_to(rt, address, path.host);
-            path.other = Some(address);
-            path.state = if card.as_str() == source.card.as_str() {
-                PathState::Leads
-            } else {
-                PathState::Elsewhere(card)
-            };
-        }
+        path.state = PathState::of_route(path.route, source, self.leaving.is_any_route);
     }
 
     /// Looks at the cards, the addresses and the routes.
@@ -373,6 +370,23 @@ impl Network {
             _ => send_whole(&self.unbound, bytes, socket_address(to)),
         }
     }
+}
+
+// The card of an address that the route to the host of a path gives: looked for where neither the
+// source nor the last look has it.
+fn with_card(rt: &HostRuntime, address: [u8; 4], source: &CardAddress, path: &Path) -> CardAddress {
+    let own = source.address;
+    if address == own {
+        return *source;
+    }
+    if let Some(known) = path.route {
+        let last = known.address;
+        if address == last {
+            return known;
+        }
+    }
+    let card = card_to(rt, address, path.host);
+    CardAddress { address, card }
 }
 
 fn is_fresh(looked: Option<Instant>, now: Option<Instant>) -> bool {
