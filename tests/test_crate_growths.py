@@ -81,7 +81,7 @@ IN_THE_PROGRAM = {
 # Calls that take no memory once something is open: tests of them that ask for as much as one that
 # only opens it.
 OPENED = {
-    "test_desk::desks": ("opened", ("goto_mid_fade", "goto_in_mid_fade", "submaster_and_grand")),
+    "test_desk::desks": ("opens", ("goto_mid_fade", "goto_in_mid_fade", "submaster_and_grand")),
     "test_stream::receiver": (
         "every_law",
         ("four_sources", "source_loss", "stranger_termination"),

@@ -5,7 +5,7 @@ use Rattle.std.specs.List.{fold, onto_first}
 use Rattle.std.proofs.lemmas.Bool.Decides.{nat_tests}
 use Rattle.std.proofs.lemmas.List.Sums.{fold-append}
 use Rattle.ascii_text.specs.Text.{lines_of}
-use Rattle.ascii_text.specs.Lines.{Cut, closed, cut_of, in_order, no_bytes, with_byte}
+use Rattle.ascii_text.specs.Lines.{Cut, with_last_lf, cut_of, in_order, no_bytes, with_byte}
 
 -- bytes in front of the first of some lines
 abbrev onto : List ℕ → List (List ℕ) → List (List ℕ)
@@ -62,6 +62,6 @@ at_end bytes ls (b ∷ r) is =
     ∙ ap (λ (c : Cut). in_order (with_byte c 10).lines) is
     ∙ ap (λ l. in_order ls ++ l) (sym (onto_none b r))
 
-pub lines_are : (bytes : List ℕ) → in_order (cut_of (closed bytes)).lines ≡ lines_of bytes
+pub lines_are : (bytes : List ℕ) → in_order (cut_of (with_last_lf bytes)).lines ≡ lines_of bytes
 lines_are bytes =
     at_end bytes (cut_of bytes).lines (cut_of bytes).rest refl ∙ lines_from no_bytes bytes

@@ -20,8 +20,8 @@ abbrev pub cut_of : List ℕ → Cut
 cut_of bytes = fold with_byte no_bytes bytes
 
 -- a whole input: bytes behind the last LF are one more line
-abbrev pub closed : List ℕ → List ℕ
-closed bytes = if length (cut_of bytes).rest == 0 then bytes else bytes ++ 10 ∷ []
+abbrev pub with_last_lf : List ℕ → List ℕ
+with_last_lf bytes = if length (cut_of bytes).rest == 0 then bytes else bytes ++ 10 ∷ []
 
 -- lines in their order
 abbrev pub in_order : List (List ℕ) → List (List ℕ)
@@ -30,4 +30,4 @@ in_order (newest ∷ older) = in_order older ++ newest ∷ []
 
 -- the lines of a whole input, in their order, are its lines
 abbrev pub LinesAreOfInput : List ℕ → Type 0
-LinesAreOfInput bytes = in_order (cut_of (closed bytes)).lines ≡ lines_of bytes
+LinesAreOfInput bytes = in_order (cut_of (with_last_lf bytes)).lines ≡ lines_of bytes

@@ -69,7 +69,7 @@ fn lettered_level(word: &[u8]) -> Option<u8>
 pub fn cue_number(word: &[u8]) -> Option<u32>
     ensures { result ≡ cue_number_of word.now }
 {
-    let number = scaled(word, 9999, 3)?;
+    let number = decimal_number(word, 9999, 3)?;
     if number == 0 { None } else { Some(number) }
 }
 
@@ -81,7 +81,7 @@ pub fn time(word: &[u8]) -> Option<u32>
 {
     match split_once(word, b':') {
         Some((minutes, rest)) => Some(whole(minutes, 99)? * 60_000 + seconds(rest)?),
-        None => scaled(word, 5999, 2),
+        None => decimal_number(word, 5999, 2),
     }
 }
 
@@ -92,14 +92,14 @@ fn seconds(word: &[u8]) -> Option<u32>
 {
     let digits = position_or_len(word, b'.');
     if (1..=2).contains(&digits) {
-        scaled(word, 59, 2)
+        decimal_number(word, 59, 2)
     } else {
         None
     }
 }
 
 // A number with up to `places` digits behind its point, in thousandths.
-fn scaled(word: &[u8], max: u32, places: usize) -> Option<u32>
+fn decimal_number(word: &[u8], max: u32, places: usize) -> Option<u32>
     requires few { max < 10000 }
     requires short { places ≤ 3 }
     ensures value { result ≡ scaled_of max places word.now }

@@ -13,7 +13,7 @@ use Rattle.show_line.specs.declared.statement.Record.{Record}
 use Rattle.show_line.specs.declared.statement.Statement.{Statement}
 use Rattle.show_line.specs.declared.statement.Statement.TheVariants.{Opens, Quiet}
 use Rattle.show_line.specs.Keywords.{may_own}
-use Rattle.show_line.specs.Said.{desk_limits, record_opened, reading_of}
+use Rattle.show_line.specs.Said.{desk_limits, record_opened, line_reading}
 use Rattle.show_reader.specs.Meaning.{Is, Silent, after, same_record}
 use Rattle.show_reader.specs.Text.{Words, owner_after, owner_below, said_under}
 use Rattle.cmd_explain.specs.Headings.{keyword_in}
@@ -86,13 +86,13 @@ no_words r Text None line none = rw none refl
 no_words r Comment owner line none = refl
 
 -- what is not read has no words
-pub unread : (owner : Option Record) (l : Words) → None ≡ reading_of desk_limits owner l → l ≡ []
+pub unread : (owner : Option Record) (l : Words) → None ≡ line_reading desk_limits owner l → l ≡ []
 unread owner [] e = refl
 unread owner (w ∷ l) e = cc
 
 -- the owner below a line that was read
 pub next_owner : (owner : Option Record) (l : Words) (reading : Reading)
-    → Some reading ≡ reading_of desk_limits owner l
+    → Some reading ≡ line_reading desk_limits owner l
     → cond (may_own reading.keyword) (record_opened reading.statement) owner
     ≡ owner_after desk_limits l owner
 next_owner owner [] reading e = cc

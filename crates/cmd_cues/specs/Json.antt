@@ -5,7 +5,7 @@ use Rattle.std.specs.Option.{option_map_or}
 use Rattle.std.specs.FinMap as maps
 use Rattle.hex.specs.Hex.{encode_lower}
 use Rattle.show.specs.declared.rate.Rate.{Rate}
-use Rattle.show.specs.Readers.{universes_of}
+use Rattle.show.specs.Readers.{patch_ordinals}
 use Rattle.show.specs.Tables.{LevelMap, PatchMap, Tables}
 use Rattle.show_line.specs.declared.statement.Record.{Record}
 use Rattle.show_line.specs.declared.statement.Record.TheVariants.{Cue, Group, Sub}
@@ -80,5 +80,5 @@ json_text label show =
     ++ codes ",\n\"groups\":"
     ++ array_text (master_text (λ n. label (Group n))) (maps.entries show.groups)
     ++ codes ",\n\"universes\":"
-    ++ array_text (universe_text show.patch) (universes_of show.patch)
+    ++ array_text (universe_text show.patch) (patch_ordinals show.patch)
     ++ codes ",\n\"patch\":" ++ array_text dimmer_text (maps.entries show.patch) ++ codes "}\n"

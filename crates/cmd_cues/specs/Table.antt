@@ -5,7 +5,7 @@ use Rattle.std.specs.Option.{option_map_or}
 use Rattle.std.specs.FinMap as maps
 use Rattle.ascii_text.specs.Text.{is_word}
 use Rattle.show.specs.declared.rate.Rate.{Rate}
-use Rattle.show.specs.Readers.{universes_of}
+use Rattle.show.specs.Readers.{patch_ordinals}
 use Rattle.show.specs.Tables.{LevelMap, PatchMap, Tables}
 use Rattle.show_line.specs.declared.statement.Record.{Record}
 use Rattle.show_line.specs.declared.statement.Record.TheVariants.{Cue, Group, Sub}
@@ -62,4 +62,4 @@ table_text label show =
     ++ section (codes "\n    group  channels  label\n") (master_line (λ n. label (Group n)))
     (maps.entries show.groups)
     ++ section (codes "\n universe   dimmers\n") (universe_line show.patch)
-    (universes_of show.patch)
+    (patch_ordinals show.patch)

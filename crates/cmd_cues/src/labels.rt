@@ -19,7 +19,7 @@ fn next_owner(owner: Option<Record>, reading: &Reading<'_>) -> Option<Record>
         else owner) }
 {
     if reading.keyword.may_own() {
-        reading.statement.opened()
+        reading.statement.opens()
     } else {
         owner
     }

@@ -10,7 +10,7 @@ use Rattle.show_line.specs.declared.keyword.Keyword.{Keyword}
 use Rattle.show_line.specs.declared.line.Reading.{Reading}
 use Rattle.show_line.specs.declared.statement.Record.{Record}
 use Rattle.show_line.specs.Keywords.{keyword_of}
-use Rattle.show_line.specs.Said.{desk_limits, record_opened, reading_of, said}
+use Rattle.show_line.specs.Said.{desk_limits, record_opened, line_reading, statement_in}
 use Rattle.show_reader.specs.Meaning.{is_skipped}
 use Rattle.show_reader.specs.Text.{Words, owner_below, owns, said_under, statement_below}
 use Rattle.cmd_explain.specs.declared.heading.Heading.{Heading}
@@ -28,11 +28,15 @@ pub record IsReading (owner : Option Record) (l : Words) (reading : Reading) : T
   pub keyword : reading.keyword ≡ keyword_in l
 
 pub reading_is : (owner : Option Record) (l : Words) (reading : Reading)
-    → Some reading ≡ reading_of desk_limits owner l → IsReading owner l reading
+    → Some reading ≡ line_reading desk_limits owner l → IsReading owner l reading
 reading_is owner [] reading e = cc
 reading_is owner (w ∷ words) reading e =
     let is : reading
-    ≡ record { keyword = keyword_of w; statement = said desk_limits owner (keyword_of w) words } =
+    ≡ record {
+      keyword = keyword_of w;
+      statement = statement_in desk_limits owner (keyword_of w)
+          words;
+    } =
     cc in
     record {
       statement = ap (λ (r : Reading). r.statement) is;
@@ -75,7 +79,7 @@ module _ (lines : List (List ℕ)) (bytes : List ℕ) (above : Heading)
   abbrev l : Words
   l = words_of bytes
 
-  module _ (reading : Reading) (read : Some reading ≡ reading_of desk_limits (owner_of above) l)
+  module _ (reading : Reading) (read : Some reading ≡ line_reading desk_limits (owner_of above) l)
     where
       pub said_is : reading.statement ≡ statement_below desk_limits (words_in lines) l
       said_is =

@@ -1,6 +1,7 @@
 -- The notes on the lines of a text, one line after the other.
 use Rattle.std.proofs.Common.{◌≡◌, ◌∙◌, ℕ, ◌+◌, ◌++◌, ◌≤◌, Bool, true, false, cond, List, [], ◌∷◌}
-use Rattle.std.proofs.Common.{length, reverse, take, refl, sym, ap, subst, Option, Some, None, arith}
+use Rattle.std.proofs.Common.{length, reverse, take, refl, sym, ap, subst, Option, Some, None}
+use Rattle.std.proofs.Common.{arith}
 use Rattle.std.proofs.lemmas.List.{append-nil}
 use mathlib.Core.List.{reverse_aux}
 use Rattle.ascii_text.specs.Text.{lines_of, numbered_from, words_of}
@@ -14,7 +15,7 @@ use Rattle.show_line.specs.declared.statement.Statement.TheVariants.{Quiet}
 use Rattle.show_line.specs.declared.statement.Table.{Table}
 use Rattle.show_line.specs.declared.statement.Table.TheVariants.{Cues, Groups, Subs}
 use Rattle.show_line.specs.Keywords.{keyword_of, may_own}
-use Rattle.show_line.specs.Said.{desk_limits, reading_of}
+use Rattle.show_line.specs.Said.{desk_limits, line_reading}
 use Rattle.show_reader.specs.Text.{Words, owns, statement_below}
 use Rattle.cmd_explain.specs.declared.heading.Heading.{Heading}
 use Rattle.cmd_explain.specs.declared.heading.Heading.TheVariants as heading
@@ -46,13 +47,14 @@ owns_is [] = refl
 owns_is (word ∷ words) = refl
 
 -- what has no words is read as nothing, and only that
-pub no_words : (owner : Option Record) (l : Words) → None ≡ reading_of desk_limits owner l → l ≡ []
+pub no_words : (owner : Option Record) (l : Words) → None ≡ line_reading desk_limits owner l
+    → l ≡ []
 no_words owner [] e = refl
 no_words owner (word ∷ words) e = cc
 
 -- what is read of a line has words
 pub has_words : (owner : Option Record) (l : Words) (reading : Reading)
-    → Some reading ≡ reading_of desk_limits owner l → is_blank l ≡ false
+    → Some reading ≡ line_reading desk_limits owner l → is_blank l ≡ false
 has_words owner [] reading e = cc
 has_words owner (word ∷ words) reading e = refl
 
@@ -181,7 +183,7 @@ module _ (lines : List (List ℕ)) (bytes : List ℕ) (number : ℕ) (says : Sta
 -- what heads the line below a line that was read
 pub heading_more : (lines : List (List ℕ)) (bytes : List ℕ) (above : Heading)
     (heads : above ≡ heading_below (words_in lines)) (reading : Reading)
-    → Some reading ≡ reading_of desk_limits (owner_of above) (words_of bytes)
+    → Some reading ≡ line_reading desk_limits (owner_of above) (words_of bytes)
     → cond (may_own reading.keyword) (heading_of reading.keyword reading.statement) above
     ≡ heading_below (words_in (bytes ∷ lines))
 heading_more lines bytes above heads reading read =
@@ -213,7 +215,7 @@ few_unknown (line ∷ above) =
 
 -- a line that was read counts by its keyword
 pub unknown_is : (owner : Option Record) (h : Heading) (l : Words) (reading : Reading)
-    → Some reading ≡ reading_of desk_limits owner l
+    → Some reading ≡ line_reading desk_limits owner l
     → unknown_in h l ≡ cond (is_unknown h reading.keyword) 1 0
 unknown_is owner h [] reading e = cc
 unknown_is owner h (word ∷ words) reading e =
@@ -234,7 +236,8 @@ module _ {show : Tables} {text : List ℕ} {count : ℕ} {lines left : List (Lis
     {ahead : List (ℕ × List ℕ)} {notes : LineNotes}
     (h : NotedBehind show text count lines left ahead notes) where
   -- so many lines are read
-  pub all_noted : length lines ≡ count → AreNotesOf show (reverse (take count (lines_of text))) notes
+  pub all_noted : length lines ≡ count
+      → AreNotesOf show (reverse (take count (lines_of text))) notes
   all_noted is = subst (λ ls. AreNotesOf show ls notes)
       (all_that_are_read text count lines left h.all is) h.noted
 

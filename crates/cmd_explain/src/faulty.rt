@@ -42,7 +42,7 @@ fn owner_below(above: Option<Record>, reading: &Reading<'_>, line: &[u8]) -> Opt
         return above;
     }
     if !matches!(reading.statement, Statement::Faulty(_)) || is_foreign(line) {
-        return reading.statement.opened();
+        return reading.statement.opens();
     }
     match reading.keyword {
         Keyword::Cue => Some(Record::Cue(1000)),

@@ -37,7 +37,7 @@ impl Heading {
     pub fn of(keyword: Keyword, statement: &Statement<'_>) -> Heading
         ensures { result ≡ heading_of keyword statement.now }
     {
-        if let Some(record) = statement.opened() {
+        if let Some(record) = statement.opens() {
             Heading::Opened(record)
         } else if is_skipped(statement) {
             Heading::of_skipped(keyword)

@@ -52,11 +52,11 @@ fn report_of(fault: RunFault) -> Report
         RunFault::Show(fault) => show_report(fault),
         RunFault::NoCue => plain("show: NoCue"),
         RunFault::Base => plain("base: Universe"),
-        RunFault::Line(line) => numbered("line ", u64::from(line), " refused"),
+        RunFault::Line(line) => report_with_number("line ", u64::from(line), " refused"),
         RunFault::Script => plain("script: TooLong"),
         RunFault::Setup(fault) => plain(setup_text(fault)),
         RunFault::Device => plain("device fault"),
-        RunFault::Lost(count) => numbered("lost ", count, ""),
+        RunFault::Lost(count) => report_with_number("lost ", count, ""),
         RunFault::Memory => plain("memory"),
     }
 }
@@ -104,7 +104,7 @@ fn at_line(line: u32, name: &str) -> Report
     report
 }
 
-fn numbered(before: &str, number: u64, behind: &str) -> Report
+fn report_with_number(before: &str, number: u64, behind: &str) -> Report
     requires before { length before.now ≤ 5 }
     requires behind { length behind.now ≤ 8 }
     ensures { result.bytes ≡ before.now ++ decimal number ++ behind.now ++ 10 ∷ [] }

@@ -4,8 +4,8 @@ use Rattle.std.specs.Option.{option_map_or}
 use Rattle.sacn_packet.specs.Reading.{front_packet}
 use Rattle.sacn_receiver.specs.declared.answer.Ignored.{Ignored}
 use Rattle.sacn_receiver.specs.Source.{Entry, last_moment}
-use Rattle.sacn_receiver.specs.Taking.{entry_of, ignored}
-use Rattle.cmd_listen.specs.Listening.{history}
+use Rattle.sacn_receiver.specs.Taking.{accepted_entry, ignore_reason}
+use Rattle.cmd_listen.specs.Listening.{history_at_0}
 
 moment_after : (reason : Option Ignored) (entry : Entry) (h : List Entry) → entry.moment ≡ 0
     → last_moment h ≡ 0
@@ -14,9 +14,9 @@ moment_after reason entry h now was = grind (arith, now, was)
 
 -- all of them came at moment 0
 pub last_moment-history : (universe : ℕ) (datagrams : List (List ℕ))
-    → last_moment (history universe datagrams) ≡ 0
+    → last_moment (history_at_0 universe datagrams) ≡ 0
 last_moment-history universe [] = refl
 last_moment-history universe (datagram ∷ older) =
-    moment_after (ignored 4 universe (history universe older) 0 datagram)
-    (entry_of 0 (front_packet datagram))
-    (history universe older) refl (last_moment-history universe older)
+    moment_after (ignore_reason 4 universe (history_at_0 universe older) 0 datagram)
+    (accepted_entry 0 (front_packet datagram))
+    (history_at_0 universe older) refl (last_moment-history universe older)

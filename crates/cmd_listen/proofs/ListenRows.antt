@@ -2,7 +2,7 @@
 use Rattle.std.specs.Prelude.{◌≡◌, List, [], ◌∷◌, ◌++◌, replicate, refl, codes, ℕ}
 use Rattle.std.specs.Fmt.{digits}
 use Rattle.sacn_packet.specs.Layers.{dmp_layer, framing_layer, root_layer}
-use Rattle.sacn_packet.specs.Name.{padded}
+use Rattle.sacn_packet.specs.Name.{padded_name}
 use Rattle.sacn_packet.specs.Wire.{Fields}
 use Rattle.cmd_listen.specs.Listening.{listen_text}
 
@@ -12,7 +12,7 @@ cid = 192 ∷ 255 ∷ 238 ∷ 0 ∷ 0 ∷ 0 ∷ 64 ∷ 0 ∷ 128 ∷ 0 ∷ 0 ∷
 abbrev fields : Fields
 fields = record {
   cid = cid;
-  name = padded (codes "cueplayer");
+  name = padded_name (codes "cueplayer");
   priority = 100;
   sync = 0;
   sequence = 0;

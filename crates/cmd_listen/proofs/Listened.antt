@@ -4,21 +4,22 @@ use Rattle.std.proofs.Common.{IsErrAnd, ap, ◌∙◌}
 use Rattle.std.proofs.lemmas.Grind.{reverse_onto}
 use Rattle.devices.specs.Tape.{Tape, with_more, with_failure}
 use Rattle.devices.proofs.Tapes.{with_more-twice}
-use Rattle.sacn_receiver.specs.Kept.{Kept, StandsFor}
+use Rattle.sacn_receiver.specs.Kept.{ReceiverState, StandsFor}
 use Rattle.sacn_receiver.specs.Shown.{shown_slots}
 use Rattle.cmd_faults.specs.declared.fault.RunFault.{RunFault}
 use Rattle.cmd_faults.specs.declared.fault.RunFault.TheVariants as run
 use Rattle.sacn_receiver.specs.Replies.{slots_line}
 use Rattle.cmd_listen.specs.Listening.{GaveAll, Listens, DeviceFailed, SlotsFailed}
-use Rattle.cmd_listen.specs.Listening.{history, listen_text, replies, reply_line}
+use Rattle.cmd_listen.specs.Listening.{history_at_0, listen_text, replies, reply_line}
 
 -- so many datagrams came, and the receiver stands for them; where the devices tell, the source gave
 -- them, and the output took the replies to them
-pub record Heard (universe count : ℕ) (receiver : Kept) (source_tells output_tells : Type 0)
+pub record Heard (universe count : ℕ) (receiver : ReceiverState)
+    (source_tells output_tells : Type 0)
     (given gives : Tape (List ℕ)) (before after : Tape ℕ) : Type 0 where
   pub datagrams : List (List ℕ)
   pub count_is : length datagrams ≡ count
-  pub stands : StandsFor receiver (history universe datagrams)
+  pub stands : StandsFor receiver (history_at_0 universe datagrams)
   pub gave : source_tells → GaveAll datagrams given gives
   pub took : output_tells → after ≡ with_more before (replies universe datagrams)
 
@@ -42,7 +43,7 @@ took_more universe datagram datagrams before mid after so_far more =
 -- the output took the slots line too
 pub took_all : (universe : ℕ) (datagrams : List (List ℕ)) (line : List ℕ)
     (before mid after : Tape ℕ)
-    → line ≡ slots_line (shown_slots (history universe datagrams) 0)
+    → line ≡ slots_line (shown_slots (history_at_0 universe datagrams) 0)
     → mid ≡ with_more before (replies universe datagrams) → after ≡ with_more mid line
     → after ≡ with_more before (listen_text universe datagrams)
 took_all universe datagrams line before mid after is so_far more =

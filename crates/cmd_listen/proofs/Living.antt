@@ -8,22 +8,24 @@ use Rattle.std.proofs.lemmas.List.{take_all, length-map}
 use Rattle.std.proofs.lemmas.List.Filters.{length-filter_both}
 use Rattle.sacn_packet.specs.Faults.{fault_of}
 use Rattle.sacn_packet.specs.Reading.{front_packet}
-use Rattle.sacn_packet.specs.Wire.{Packet}
+use Rattle.sacn_packet.specs.Wire.{WirePacket}
 use Rattle.sacn_receiver.specs.declared.answer.Ignored.{Ignored}
 use Rattle.sacn_receiver.specs.declared.answer.Ignored.TheVariants.{Backwards, Unreadable}
 use Rattle.sacn_receiver.specs.Shown.{live}
 use Rattle.sacn_receiver.specs.Source.{Entry, is_accepted, is_taken, is_there, last_moment, newest}
 use Rattle.sacn_receiver.specs.Source.{record_of, records, same_cid}
-use Rattle.sacn_receiver.specs.Taking.{entry_of, ignored, is_termination, reason_of, refusal}
+use Rattle.sacn_receiver.specs.Taking.{accepted_entry, ignore_reason, is_termination, source_reason}
+use Rattle.sacn_receiver.specs.Taking.{source_refusal}
 use Rattle.sacn_receiver.specs.Taking.{unheard}
 use Rattle.sacn_receiver.proofs.Apart.{find_records}
 use Rattle.sacn_receiver.proofs.Members.{found_in, In_filter, In_length}
 use Rattle.cmd_listen.specs.declared.instant.Instant.{Instant}
 use Rattle.cmd_listen.specs.declared.source.Source.{Source}
 use Rattle.cmd_listen.specs.Laws.{Mark, mark_in, mark_of}
-use Rattle.cmd_listen.specs.Sources.{source_of, with_source, without}
-use Rattle.cmd_listen.specs.Universe.{Known, known_after, looked, looked_after, met}
-use Rattle.cmd_listen.specs.Universe.{met_after, new_known, sources_with, waited}
+use Rattle.cmd_listen.specs.Sources.{source_of, with_source, without_cid}
+use Rattle.cmd_listen.specs.Universe.{Knowledge, known_after, after_look, looked_after}
+use Rattle.cmd_listen.specs.Universe.{after_datagram}
+use Rattle.cmd_listen.specs.Universe.{met_after, new_known, sources_with, after_wait}
 
 -- ---- filters
 
@@ -117,11 +119,12 @@ others_few t number cid h few accepted = go (record_of h t cid) refl
         omega (arith, fewer, few)
 
 -- what is not ignored was accepted
-not_refused : (h : List Entry) (t number : ℕ) (cid : List ℕ) → refusal 4 h t cid number ≡ None
+not_refused : (h : List Entry) (t number : ℕ) (cid : List ℕ)
+    → source_refusal 4 h t cid number ≡ None
     → is_accepted 4 h t cid number ≡ true
 not_refused h t number cid is = go (is_accepted 4 h t cid number) is
   where
-    go : (b : Bool) → cond b None (Some (reason_of (record_of h t cid))) ≡ None → b ≡ true
+    go : (b : Bool) → cond b None (Some (source_reason (record_of h t cid))) ≡ None → b ≡ true
     go true n = refl
     go false n = cc
 
@@ -133,12 +136,13 @@ none_else : {A : Type 0} (b : Bool) (x : A) (o : Option A) → cond b (Some x) o
 none_else true x o n = cc
 none_else false x o n = n
 
-was_accepted : (universe t : ℕ) (h : List Entry) (d : List ℕ) → ignored 4 universe h t d ≡ None
+was_accepted : (universe t : ℕ) (h : List Entry) (d : List ℕ)
+    → ignore_reason 4 universe h t d ≡ None
     → is_accepted 4 h t (front_packet d).fields.cid (front_packet d).fields.sequence ≡ true
 was_accepted universe t h d none =
     let p = front_packet d in
     not_refused h t p.fields.sequence p.fields.cid
-    (none_last (unheard universe p) (refusal 4 h t p.fields.cid p.fields.sequence)
+    (none_last (unheard universe p) (source_refusal 4 h t p.fields.cid p.fields.sequence)
     (none_last (option_map Unreadable (fault_of d)) _
     (none_else (nat_lt t (last_moment h)) Backwards _ none)))
 
@@ -147,12 +151,12 @@ was_accepted universe t h d none =
 abbrev AreLive : ℕ → List Source → List Entry → Type 0
 AreLive t sources h = map mark_of sources ≡ map mark_in (live h t)
 
-pub record Fits (t : ℕ) (k : Known) : Type 0 where
+pub record Fits (t : ℕ) (k : Knowledge) : Type 0 where
   pub same : map mark_of k.sources ≡ map mark_in (live k.heard t)
   pub few : length (records k.heard t) ≤ 4
 
-waited_fits : (i : Instant) (t : ℕ) (k : Known) → t ≤ i.moment → Fits t k
-    → Fits i.moment (waited i k)
+waited_fits : (i : Instant) (t : ℕ) (k : Knowledge) → t ≤ i.moment → Fits t k
+    → Fits i.moment (after_wait i k)
 waited_fits i t k le fits =
     let test : Mark → Bool = λ m. nat_lt (i.moment - m.moment) 2500 in
     record {
@@ -164,7 +168,7 @@ waited_fits i t k le fits =
 
 without_same : (t : ℕ) (cid : List ℕ) (sources : List Source) (h : List Entry)
     → AreLive t sources h
-    → map mark_of (without cid sources) ≡ map mark_in (filter (others cid) (live h t))
+    → map mark_of (without_cid cid sources) ≡ map mark_in (filter (others cid) (live h t))
 without_same t cid sources h same =
     let test : Mark → Bool = λ m. not (bytes_eq cid m.cid) in
     filter_map_at mark_of test sources ∙ ap (filter test) same
@@ -172,12 +176,12 @@ without_same t cid sources h same =
 
 without_few : (t : ℕ) (cid : List ℕ) (sources : List Source) (h : List Entry)
     → AreLive t sources h → length (filter (others cid) (records h t)) ≤ 3
-    → length (without cid sources) ≤ 3
+    → length (without_cid cid sources) ≤ 3
 without_few t cid sources h same few =
     let live_few = filter_few alive (filter (others cid) (records h t)) in
     omega (
       arith,
-      sym (length-map (without cid sources) mark_of)
+      sym (length-map (without_cid cid sources) mark_of)
           ∙ ap length (without_same t cid sources h same)
           ∙ length-map (filter (others cid) (live h t)) mark_in
           ∙ ap length (filter_swap (others cid) alive (records h t)),
@@ -185,59 +189,62 @@ without_few t cid sources h same few =
       few,
     )
 
-taken_same : (t : ℕ) (p : Packet) (sources : List Source) (h : List Entry) → AreLive t sources h
+taken_same : (t : ℕ) (p : WirePacket) (sources : List Source) (h : List Entry) → AreLive t sources h
     → length (filter (others p.fields.cid) (records h t)) ≤ 3
-    → map mark_of (sources_with t p sources) ≡ map mark_in (live (entry_of t p ∷ h) t)
+    → map mark_of (sources_with t p sources) ≡ map mark_in (live (accepted_entry t p ∷ h) t)
 taken_same t p sources h same few =
     let rest = without_same t p.fields.cid sources h same in
-    let all : take 3 (without p.fields.cid sources) ≡ without p.fields.cid sources =
-    take_all 3 (without p.fields.cid sources) (without_few t p.fields.cid sources h same few) in
-    go (is_termination p) rest all ∙ sym (ap (map mark_in) (live_more t (entry_of t p) h refl))
+    let all : take 3 (without_cid p.fields.cid sources) ≡ without_cid p.fields.cid sources =
+    take_all 3 (without_cid p.fields.cid sources) (without_few t p.fields.cid sources h same few) in
+    go (is_termination p) rest all
+    ∙ sym (ap (map mark_in) (live_more t (accepted_entry t p) h refl))
   where
     go : (b : Bool)
-        → map mark_of (without p.fields.cid sources)
+        → map mark_of (without_cid p.fields.cid sources)
         ≡ map mark_in (filter (others p.fields.cid) (live h t))
-        → take 3 (without p.fields.cid sources) ≡ without p.fields.cid sources
-        → map mark_of (cond b (without p.fields.cid sources) (with_source (source_of t p) sources))
+        → take 3 (without_cid p.fields.cid sources) ≡ without_cid p.fields.cid sources
+        → map mark_of (cond b (without_cid p.fields.cid sources)
+        (with_source (source_of t p) sources))
         ≡ map mark_in (cond (not b)
-        (entry_of t p ∷ filter (others p.fields.cid) (live h t))
+        (accepted_entry t p ∷ filter (others p.fields.cid) (live h t))
         (filter (others p.fields.cid) (live h t)))
     go true rest all = rest
     go false rest all = ap (λ l. mark_of (source_of t p) ∷ map mark_of l) all
         ∙ ap (λ l. mark_of (source_of t p) ∷ l) rest
 
-met_fits : (t : ℕ) (d : List ℕ) (k : Known) → Fits t k → Fits t (met t d k)
-met_fits t d k fits = go (ignored 4 k.universe k.heard t d) refl
+met_fits : (t : ℕ) (d : List ℕ) (k : Knowledge) → Fits t k → Fits t (after_datagram t d k)
+met_fits t d k fits = go (ignore_reason 4 k.universe k.heard t d) refl
   where
-    p : Packet
+    p : WirePacket
     p = front_packet d
 
-    go : (o : Option Ignored) → ignored 4 k.universe k.heard t d ≡ o → Fits t (met t d k)
+    go : (o : Option Ignored) → ignore_reason 4 k.universe k.heard t d ≡ o
+        → Fits t (after_datagram t d k)
     go (Some reason) is = rw is (record { same = fits.same; few = fits.few })
     go None is =
         let few = others_few t p.fields.sequence p.fields.cid k.heard fits.few
         (was_accepted k.universe t k.heard d is) in
         rw is (record {
           same = taken_same t p k.sources k.heard fits.same few;
-          few = omega (arith, ap length (records_more t (entry_of t p) k.heard refl), few);
+          few = omega (arith, ap length (records_more t (accepted_entry t p) k.heard refl), few);
         })
 
-met_after_fits : (i : Instant) (d : List ℕ) (k : Known) → Fits i.moment k
+met_after_fits : (i : Instant) (d : List ℕ) (k : Knowledge) → Fits i.moment k
     → Fits i.moment (met_after i d k)
 met_after_fits i d k fits = go (nat_eq i.to k.universe)
   where
-    go : (b : Bool) → Fits i.moment (cond b (met i.moment d k) k)
+    go : (b : Bool) → Fits i.moment (cond b (after_datagram i.moment d k) k)
     go true = met_fits i.moment d k fits
     go false = fits
 
-looked_fits : (i : Instant) (k : Known) → Fits i.moment k → Fits i.moment (looked_after i k)
+looked_fits : (i : Instant) (k : Knowledge) → Fits i.moment k → Fits i.moment (looked_after i k)
 looked_fits i k fits = go i.looks
   where
-    go : (b : Bool) → Fits i.moment (cond b (looked i.moment k) k)
+    go : (b : Bool) → Fits i.moment (cond b (after_look i.moment k) k)
     go true = record { same = fits.same; few = fits.few }
     go false = fits
 
-pub known_fits : (i : Instant) (d : List ℕ) (t : ℕ) (k : Known) → t ≤ i.moment → Fits t k
+pub known_fits : (i : Instant) (d : List ℕ) (t : ℕ) (k : Knowledge) → t ≤ i.moment → Fits t k
     → Fits i.moment (known_after i d k)
 known_fits i d t k le fits =
     looked_fits i _ (met_after_fits i d _ (waited_fits i t k le fits))

@@ -4,7 +4,7 @@ use Rattle.std.specs.Option.{option_map_or}
 use Rattle.std.specs.Prelude.{None, Result, Ok, Err, OnErr, OnOk, IfOk, IsOk, is_ok, if◌then◌else◌}
 use Rattle.sacn_packet.specs.Faults.{fault_of}
 use Rattle.sacn_packet.specs.Reading.{front_packet}
-use Rattle.sacn_packet.specs.Wire.{Packet}
+use Rattle.sacn_packet.specs.Wire.{WirePacket}
 use Rattle.cmd_listen.specs.Watching.{universe_in}
 
 pub is_ok_of : {X E P : Type 0} (r : Result X E) → (P → ⊥) → OnErr r P → IsOk r
@@ -15,10 +15,10 @@ pub if_ok_at : {X E : Type 0} (r : Result X E) (x : X) (P : X → Type 0) → r 
 if_ok_at r x P is holds = rw is at holds
 
 -- the universe of a packet that was read
-pub universe_of : (datagram : List ℕ) (p : Packet) (n : ℕ) → fault_of datagram ≡ None
+pub universe_of : (datagram : List ℕ) (p : WirePacket) (n : ℕ) → fault_of datagram ≡ None
     → front_packet datagram ≡ p → n ≡ p.fields.universe → n ≡ universe_in datagram
 universe_of datagram p n none same is =
-    is ∙ ap (λ (q : Packet). q.fields.universe) (sym same)
+    is ∙ ap (λ (q : WirePacket). q.fields.universe) (sym same)
     ∙ ap (λ o. option_map_or (λ _. 0) o (front_packet datagram).fields.universe) (sym none)
 
 -- a text that grew, where the growth was not refused

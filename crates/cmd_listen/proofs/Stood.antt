@@ -8,21 +8,21 @@ use Rattle.std.proofs.lemmas.Slice.Eq.{bytes_eq-Decides}
 use Rattle.sacn_packet.specs.Reading.{front_packet}
 use Rattle.sacn_receiver.specs.declared.answer.Ignored.{Ignored}
 use Rattle.sacn_receiver.specs.declared.answer.Taken.{Taken}
-use Rattle.sacn_receiver.specs.Kept.{Kept, StandsFor}
+use Rattle.sacn_receiver.specs.Kept.{ReceiverState, StandsFor}
 use Rattle.sacn_receiver.specs.Shown.{shown_slots}
 use Rattle.sacn_receiver.specs.Source.{Entry, last_moment}
-use Rattle.sacn_receiver.specs.Taking.{answer, entry_of, heard, ignored}
+use Rattle.sacn_receiver.specs.Taking.{answer, accepted_entry, history_after, ignore_reason}
 use Rattle.sacn_receiver.specs.Replies.{slots_line}
 use Rattle.cmd_listen.specs.declared.monitor.Monitor.{Monitor}
-use Rattle.cmd_listen.specs.Ignored.{counted, ignored_place}
+use Rattle.cmd_listen.specs.Ignored.{with_one_more, ignored_place}
 use Rattle.cmd_listen.specs.declared.instant.Instant.{Instant}
-use Rattle.cmd_listen.specs.Sources.{changes, head_text, here}
-use Rattle.cmd_listen.specs.Stands.{Stands}
-use Rattle.cmd_listen.specs.Universe.{Known, answered, counts_by, head, looked}
-use Rattle.cmd_listen.specs.Universe.{looked_text, met}
+use Rattle.cmd_listen.specs.Sources.{changes, line_head, here}
+use Rattle.cmd_listen.specs.Stands.{MonitorStands}
+use Rattle.cmd_listen.specs.Universe.{Knowledge, universe_answer, counts_by, head, after_look}
+use Rattle.cmd_listen.specs.Universe.{looked_text, after_datagram}
 use Rattle.cmd_listen.specs.Universe.{met_text, sources_by, sources_with, text_by}
 use Rattle.cmd_listen.specs.Universe.{counts_after, looked_after, told_counts, told_looked}
-use Rattle.cmd_listen.specs.Universe.{waited, waited_text}
+use Rattle.cmd_listen.specs.Universe.{after_wait, waited_text}
 
 -- ---- equal bytes
 
@@ -35,9 +35,9 @@ itself xs = (bytes_eq-Decides xs xs).1 refl
 pub no_later : (t now last : ℕ) → now ≡ last → last ≤ t → max t now ≡ t
 no_later t now last is late = omega arith
 
-pub look_same : (t : ℕ) (m : Monitor) (k : Known) (out text : List ℕ) → Stands t m k
+pub look_same : (t : ℕ) (m : Monitor) (k : Knowledge) (out text : List ℕ) → MonitorStands t m k
     → out ≡ shown_slots k.heard t → bytes_eq out m.slots ≡ true
-    → Stands t m (looked t k) × (text ≡ text ++ looked_text t k)
+    → MonitorStands t m (after_look t k) × (text ≡ text ++ looked_text t k)
 look_same t m k out text s shown same =
     let e : m.slots ≡ shown_slots k.heard t =
     sym ((bytes_eq-Decides out m.slots).0 same) ∙ shown in
@@ -65,11 +65,12 @@ other a b c d e f differs = go (bytes_eq d b) refl
         in cc
     go false is = is
 
-pub look_other : (t : ℕ) (old new : Monitor) (k : Known) (text mid all : List ℕ) → Stands t old k
+pub look_other : (t : ℕ) (old new : Monitor) (k : Knowledge) (text mid all : List ℕ)
+    → MonitorStands t old k
     → new ≡ record old { slots = new.slots } → new.slots ≡ shown_slots k.heard t
     → bytes_eq new.slots old.slots ≡ false
-    → mid ≡ text ++ head_text (head t old.universe) → all ≡ mid ++ slots_line new.slots
-    → Stands t new (looked t k) × (all ≡ text ++ looked_text t k)
+    → mid ≡ text ++ line_head (head t old.universe) → all ≡ mid ++ slots_line new.slots
+    → MonitorStands t new (after_look t k) × (all ≡ text ++ looked_text t k)
 look_other t old new k text mid all s is shown differs first second =
     let b : bytes_eq k.slots (shown_slots k.heard t) ≡ false =
     other new.slots (shown_slots k.heard t) old.slots k.slots shown s.slots_are differs in (
@@ -84,21 +85,22 @@ look_other t old new k text mid all s is shown differs first second =
       }),
       rw b (second ∙ ap (λ l. mid ++ slots_line l) shown
           ∙ ap (λ l. l ++ slots_line (shown_slots k.heard t))
-          (first ∙ ap (λ u. text ++ head_text (head t u)) s.universe_is)
-          ∙ append_assoc text (head_text (head t k.universe)) (slots_line (shown_slots k.heard t))),
+          (first ∙ ap (λ u. text ++ line_head (head t u)) s.universe_is)
+          ∙ append_assoc text (line_head (head t k.universe)) (slots_line (shown_slots k.heard t))),
     )
 
 was_true : (t : Bool) → not t ≡ false → t ≡ true
 was_true true is = refl
 was_true false is = sym is
 
-pub looks_not : (i : Instant) (m : Monitor) (k : Known) (text : List ℕ) → not i.looks ≡ true
-    → Stands i.moment m k → Stands i.moment m (looked_after i k) × (text ≡ text ++ told_looked i k)
+pub looks_not : (i : Instant) (m : Monitor) (k : Knowledge) (text : List ℕ) → not i.looks ≡ true
+    → MonitorStands i.moment m k → MonitorStands i.moment m (looked_after i k)
+    × (text ≡ text ++ told_looked i k)
 looks_not i m k text is s = rw (not-true i.looks is) (s, sym (append-nil text))
 
-pub looks : (i : Instant) (m : Monitor) (k : Known) (text all : List ℕ) → not i.looks ≡ false
-    → Stands i.moment m (looked i.moment k) × (all ≡ text ++ looked_text i.moment k)
-    → Stands i.moment m (looked_after i k) × (all ≡ text ++ told_looked i k)
+pub looks : (i : Instant) (m : Monitor) (k : Knowledge) (text all : List ℕ) → not i.looks ≡ false
+    → MonitorStands i.moment m (after_look i.moment k) × (all ≡ text ++ looked_text i.moment k)
+    → MonitorStands i.moment m (looked_after i k) × (all ≡ text ++ told_looked i k)
 looks i m k text all is shown = rw (was_true i.looks is) shown
 
 -- ---- a datagram
@@ -109,22 +111,23 @@ heard_late t h e None late is = omega (arith, is)
 heard_late t h e (Some reason) late is = late
 
 pub met_late : (t universe : ℕ) (h : List Entry) (datagram : List ℕ) → last_moment h ≤ t
-    → last_moment (heard 4 universe h t datagram) ≤ t
-met_late t universe h datagram late = heard_late t h (entry_of t (front_packet datagram))
-    (ignored 4 universe h t datagram) late refl
+    → last_moment (history_after 4 universe h t datagram) ≤ t
+met_late t universe h datagram late = heard_late t h (accepted_entry t (front_packet datagram))
+    (ignore_reason 4 universe h t datagram) late refl
 
-pub met_taken : (t : ℕ) (datagram : List ℕ) (old new : Monitor) (receiver : Kept) (k : Known)
-    (taken : Taken) (text all : List ℕ) → Stands t old k
+pub met_taken : (t : ℕ) (datagram : List ℕ) (old new : Monitor) (receiver : ReceiverState)
+    (k : Knowledge)
+    (taken : Taken) (text all : List ℕ) → MonitorStands t old k
     → Ok taken ≡ answer 4 old.receiver.universe k.heard t datagram
-    → StandsFor receiver (heard 4 old.receiver.universe k.heard t datagram)
+    → StandsFor receiver (history_after 4 old.receiver.universe k.heard t datagram)
     → receiver.universe ≡ old.receiver.universe
     → new ≡ record old { receiver = receiver; sources = new.sources }
     → new.sources.items ≡ sources_with t (front_packet datagram) old.sources.items
     → all ≡ text ++ changes (head t old.universe) (codes "ended") old.sources.items
     (sources_with t (front_packet datagram) old.sources.items)
-    → Stands t new (met t datagram k) × (all ≡ text ++ met_text t datagram k)
+    → MonitorStands t new (after_datagram t datagram k) × (all ≡ text ++ met_text t datagram k)
 met_taken t datagram old new receiver k taken text all s answers stands same is sources told =
-    let a : Ok taken ≡ answered k t datagram = rw s.receiver_is at answers in (
+    let a : Ok taken ≡ universe_answer k t datagram = rw s.receiver_is at answers in (
       rw is (record {
         receiver_stands = rw s.receiver_is at stands;
         receiver_is = same ∙ s.receiver_is;
@@ -142,22 +145,23 @@ met_taken t datagram old new receiver k taken text all s answers stands same is 
           ∙ ap (λ r. text ++ text_by r t datagram k) a,
     )
 
-pub met_ignored : (t : ℕ) (datagram : List ℕ) (old new : Monitor) (receiver : Kept) (k : Known)
-    (reason : Ignored) (text : List ℕ) → Stands t old k
+pub met_ignored : (t : ℕ) (datagram : List ℕ) (old new : Monitor) (receiver : ReceiverState)
+    (k : Knowledge)
+    (reason : Ignored) (text : List ℕ) → MonitorStands t old k
     → Err reason ≡ answer 4 old.receiver.universe k.heard t datagram
-    → StandsFor receiver (heard 4 old.receiver.universe k.heard t datagram)
+    → StandsFor receiver (history_after 4 old.receiver.universe k.heard t datagram)
     → receiver.universe ≡ old.receiver.universe
     → new ≡ record old { receiver = receiver; counts = new.counts }
-    → new.counts ≡ counted (ignored_place datagram reason) old.counts
-    → Stands t new (met t datagram k) × (text ≡ text ++ met_text t datagram k)
+    → new.counts ≡ with_one_more (ignored_place datagram reason) old.counts
+    → MonitorStands t new (after_datagram t datagram k) × (text ≡ text ++ met_text t datagram k)
 met_ignored t datagram old new receiver k reason text s answers stands same is counts =
-    let a : Err reason ≡ answered k t datagram = rw s.receiver_is at answers in (
+    let a : Err reason ≡ universe_answer k t datagram = rw s.receiver_is at answers in (
       rw is (record {
         receiver_stands = rw s.receiver_is at stands;
         receiver_is = same ∙ s.receiver_is;
         universe_is = s.universe_is;
         sources_are = s.sources_are ∙ ap (λ r. sources_by r t datagram k.sources) a;
-        counts_are = counts ∙ ap (counted (ignored_place datagram reason)) s.counts_are
+        counts_are = counts ∙ ap (with_one_more (ignored_place datagram reason)) s.counts_are
             ∙ ap (λ r. counts_by r datagram k.counts) a;
         slots_are = s.slots_are;
         late = met_late t k.universe k.heard datagram s.late;
@@ -167,15 +171,15 @@ met_ignored t datagram old new receiver k reason text s answers stands same is c
 
 -- ---- the clock
 
-pub waits : (i : Instant) (t : ℕ) (old new : Monitor) (k : Known) (text mid all : List ℕ)
-    → Stands t old k → t ≤ i.moment
+pub waits : (i : Instant) (t : ℕ) (old new : Monitor) (k : Knowledge) (text mid all : List ℕ)
+    → MonitorStands t old k → t ≤ i.moment
     → new ≡ record old { counts = new.counts; sources = new.sources }
     → new.counts ≡ counts_after i old.counts
     → new.sources.items ≡ here i.moment old.sources.items
     → mid ≡ text ++ told_counts i old.universe old.counts
     → all ≡ mid ++ changes (head i.moment old.universe) (codes "gone") old.sources.items
     (here i.moment old.sources.items)
-    → Stands i.moment new (waited i k) × (all ≡ text ++ waited_text i k)
+    → MonitorStands i.moment new (after_wait i k) × (all ≡ text ++ waited_text i k)
 waits i t old new k text mid all s le is counts sources first second =
     let gone : List ℕ = changes (head i.moment k.universe) (codes "gone") k.sources
     (here i.moment k.sources) in (

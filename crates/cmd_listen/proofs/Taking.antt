@@ -10,16 +10,17 @@ use Rattle.cmd_listen.specs.declared.fault.WatchFault.{WatchFault}
 use Rattle.cmd_listen.specs.declared.fault.WatchFault.TheVariants.{Device, Line, Memory}
 use Rattle.cmd_listen.specs.declared.stage.Stage.{Stage}
 use Rattle.ascii_text.specs.Lines.{Cut, with_byte}
-use Rattle.cmd_listen.specs.Lines.{AreFine}
+use Rattle.cmd_listen.specs.Lines.{AreWatchLines}
 use Rattle.cmd_listen.specs.Reading.{malformed, spelled_in}
-use Rattle.cmd_listen.specs.Runs.{Ends, Leaves, malformed_line}
-use Rattle.cmd_listen.specs.Stage.{EndsAt, HasEnded, HasTaken, LeftBy, StandsAt, Told}
-use Rattle.cmd_listen.specs.Stage.{closing}
-use Rattle.cmd_listen.specs.Stands.{AllStand}
-use Rattle.cmd_listen.specs.Watching.{after_spelled, text_spelled, told_at, watch_of}
+use Rattle.cmd_listen.specs.Runs.{EndsWatch, WatchLeaves, malformed_line}
+use Rattle.cmd_listen.specs.Stage.{EndsWatchAt, WatchHasEnded, WatchHasTaken, LeftBy}
+use Rattle.cmd_listen.specs.Stage.{StageStandsFor, TellsLines}
+use Rattle.cmd_listen.specs.Stage.{last_lf}
+use Rattle.cmd_listen.specs.Stands.{MonitorsStand}
+use Rattle.cmd_listen.specs.Watching.{after_spelled, text_spelled, told_at, watch_after}
 
 -- no bytes
-pub taken_none : {a : Stage} {t : Type 0} {e : Tape ℕ} → HasTaken [] a a t e e
+pub taken_none : {a : Stage} {t : Type 0} {e : Tape ℕ} → WatchHasTaken [] a a t e e
 taken_none = record {
   stands = λ us cut s. s;
   told = λ tell us cut start s r. r;
@@ -28,7 +29,7 @@ taken_none = record {
 
 -- some bytes, and then more
 pub taken_more : {xs ys : List ℕ} {a b c : Stage} {t v : Type 0} {d e f : Tape ℕ} → (v → t)
-    → HasTaken xs a b t d e → HasTaken ys b c v e f → HasTaken (xs ++ ys) a c v d f
+    → WatchHasTaken xs a b t d e → WatchHasTaken ys b c v e f → WatchHasTaken (xs ++ ys) a c v d f
 taken_more {xs = xs} {ys = ys} told first then = record {
   stands = λ us cut s. rw (fold-append with_byte cut xs ys)
       (then.stands us _ (first.stands us cut s));
@@ -40,10 +41,10 @@ taken_more {xs = xs} {ys = ys} told first then = record {
 
 -- the first byte ends the watch
 pub ended_here : {fault : WatchFault} {byte : ℕ} {a : Stage} {t : Type 0} {d e : Tape ℕ}
-    → ((us : List ℕ) (cut : Cut) → StandsAt us a cut → Ends fault cut byte)
-    → (t → (us : List ℕ) (cut : Cut) (start : Tape ℕ) → StandsAt us a cut
-    → Told us cut.lines start d → Leaves fault us cut.lines start e)
-    → HasEnded fault (byte ∷ []) a t d e
+    → ((us : List ℕ) (cut : Cut) → StageStandsFor us a cut → EndsWatch fault cut byte)
+    → (t → (us : List ℕ) (cut : Cut) (start : Tape ℕ) → StageStandsFor us a cut
+    → TellsLines us cut.lines start d → WatchLeaves fault us cut.lines start e)
+    → WatchHasEnded fault (byte ∷ []) a t d e
 ended_here ends leaves = record {
   front = [];
   byte = _;
@@ -57,7 +58,7 @@ ended_here ends leaves = record {
 -- some bytes were taken, and one of those behind them ends the watch
 pub ended_behind : {fault : WatchFault} {xs ys : List ℕ} {a b : Stage} {t v : Type 0}
     {d e f : Tape ℕ} (zs all : List ℕ) → all ≡ xs ++ (ys ++ zs) → (v → t)
-    → HasTaken xs a b t d e → HasEnded fault ys b v e f → HasEnded fault all a v d f
+    → WatchHasTaken xs a b t d e → WatchHasEnded fault ys b v e f → WatchHasEnded fault all a v d f
 ended_behind {xs = xs} zs all is told first then =
     let joined = λ (cut : Cut). fold-append with_byte cut xs then.front in
     record {
@@ -74,7 +75,8 @@ ended_behind {xs = xs} zs all is told first then =
 -- ---- a line
 
 pub fine_more : (line : List ℕ) (older : List (List ℕ)) → spelled_in line ≢ malformed
-    → length line ≤ 3072 → length older < 4000000000 → AreFine older → AreFine (line ∷ older)
+    → length line ≤ 3072 → length older < 4000000000 → AreWatchLines older
+    → AreWatchLines (line ∷ older)
 fine_more line older fine short few older_fine = record {
   none_malformed = All-cons (λ l. spelled_in l ≢ malformed) line older fine
       older_fine.none_malformed;
@@ -84,11 +86,11 @@ fine_more line older fine short few older_fine = record {
 
 -- the line that LF ends was taken
 pub line_stands : (us : List ℕ) (cut : Cut) (b : ℕ) (line : List ℕ) (old new : Stage) → b ≡ 10
-    → line ≡ old.pending.items → StandsAt us old cut → old.number < 4000000000
+    → line ≡ old.pending.items → StageStandsFor us old cut → old.number < 4000000000
     → spelled_in line ≢ malformed
-    → AllStand new.watching (after_spelled (spelled_in line) (watch_of us cut.lines))
+    → MonitorsStand new.watching (after_spelled (spelled_in line) (watch_after us cut.lines))
     → new.pending.items ≡ [] → new.number ≡ old.number + 1
-    → StandsAt us new (with_byte cut b)
+    → StageStandsFor us new (with_byte cut b)
 line_stands us cut b line old new e is s few fine stands empty number =
     let same : line ≡ cut.rest = is ∙ s.pending_is in
     rw e (record {
@@ -101,26 +103,28 @@ line_stands us cut b line old new e is s few fine stands empty number =
     })
 
 pub line_told : (us : List ℕ) (cut : Cut) (b : ℕ) (line : List ℕ) (start before after : Tape ℕ)
-    → b ≡ 10 → line ≡ cut.rest → Told us cut.lines start before
-    → after ≡ with_more before (text_spelled (spelled_in line) (watch_of us cut.lines))
-    → Told us (with_byte cut b).lines start after
+    → b ≡ 10 → line ≡ cut.rest → TellsLines us cut.lines start before
+    → after ≡ with_more before (text_spelled (spelled_in line) (watch_after us cut.lines))
+    → TellsLines us (with_byte cut b).lines start after
 line_told us cut b line start before after e is told more =
-    rw e (more ∙ ap (λ l. with_more before (text_spelled (spelled_in l) (watch_of us cut.lines))) is
-    ∙ ap (λ t. with_more t (text_spelled (spelled_in cut.rest) (watch_of us cut.lines))) told
+    rw e (more ∙ ap (λ l. with_more before (text_spelled (spelled_in l) (watch_after us cut.lines)))
+    is
+    ∙ ap (λ t. with_more t (text_spelled (spelled_in cut.rest) (watch_after us cut.lines))) told
     ∙ with_more-twice start (told_at us cut.lines)
-    (text_spelled (spelled_in cut.rest) (watch_of us cut.lines)))
+    (text_spelled (spelled_in cut.rest) (watch_after us cut.lines)))
 
 -- what was told before is what is left
 pub left_by : (fault : WatchFault) (us : List ℕ) (lines : List (List ℕ))
-    (start before after : Tape ℕ) → Told us lines start before → LeftBy fault before after → Leaves fault us lines start after
+    (start before after : Tape ℕ) → TellsLines us lines start before → LeftBy fault before after
+    → WatchLeaves fault us lines start after
 left_by Device us lines start before after told left = rw told at left
 left_by (Line n) us lines start before after told left = left ∙ told
 left_by Memory us lines start before after told left = left ∙ told
 
 -- the line that LF ends ended the watch
 pub ends_line : (fault : WatchFault) (us : List ℕ) (cut : Cut) (b : ℕ) (line : List ℕ) (old : Stage)
-    → b ≡ 10 → line ≡ old.pending.items → StandsAt us old cut → old.number < 4000000000
-    → EndsAt fault (old.number + 1) (spelled_in line) → Ends fault cut b
+    → b ≡ 10 → line ≡ old.pending.items → StageStandsFor us old cut → old.number < 4000000000
+    → EndsWatchAt fault (old.number + 1) (spelled_in line) → EndsWatch fault cut b
 ends_line (Line n) us cut b line old e is s few ends =
     let bad : spelled_in cut.rest ≡ malformed = rw (is ∙ s.pending_is) at ends.1 in
     (omega (arith, ends.0, s.number_is), malformed_line e bad)
@@ -134,5 +138,5 @@ ends_line Device us cut b line old e is s few ends = (
 -- ---- the LF that a last line lacks
 
 pub rest_none : {a : Stage} {t : Type 0} {e : Tape ℕ} (pending : List ℕ)
-    → (length pending == 0) ≡ true → HasTaken (closing pending) a a t e e
+    → (length pending == 0) ≡ true → WatchHasTaken (last_lf pending) a a t e e
 rest_none pending is = rw is taken_none

@@ -9,12 +9,13 @@ use Rattle.devices.proofs.Tapes.{with_more-none, with_more-twice}
 use Rattle.cmd_listen.specs.declared.fault.WatchFault.{WatchFault}
 use Rattle.cmd_listen.specs.declared.fault.WatchFault.TheVariants as early
 use Rattle.cmd_listen.specs.declared.stage.Stage.{Stage}
-use Rattle.ascii_text.specs.Lines.{closed, cut_of, no_bytes}
-use Rattle.cmd_listen.specs.Runs.{EndsEarly, WatchesAll}
-use Rattle.cmd_listen.specs.Stage.{HasEnded, HasTaken, LastTold, LeftBy, StandsAt, Told}
-use Rattle.cmd_listen.specs.Stage.{closing}
-use Rattle.cmd_listen.specs.Stands.{AllStand}
-use Rattle.cmd_listen.specs.Watching.{last_text, told_at, watch_of, Watched}
+use Rattle.ascii_text.specs.Lines.{with_last_lf, cut_of, no_bytes}
+use Rattle.cmd_listen.specs.Runs.{WatchEndsEarly, WatchesAll}
+use Rattle.cmd_listen.specs.Stage.{WatchHasEnded, WatchHasTaken, LastTold, LeftBy, StageStandsFor}
+use Rattle.cmd_listen.specs.Stage.{TellsLines}
+use Rattle.cmd_listen.specs.Stage.{last_lf}
+use Rattle.cmd_listen.specs.Stands.{MonitorsStand}
+use Rattle.cmd_listen.specs.Watching.{last_text, told_at, watch_after, WatchState}
 use Rattle.cmd_listen.proofs.Taking.{ended_behind, left_by, taken_more}
 
 -- what was read, and then more
@@ -38,39 +39,41 @@ close_with bytes true = append-nil bytes
 close_with bytes false = refl
 
 pub closed_by : (bytes pending : List ℕ) → pending ≡ (cut_of bytes).rest
-    → bytes ++ closing pending ≡ closed bytes
+    → bytes ++ last_lf pending ≡ with_last_lf bytes
 closed_by bytes pending is =
-    ap (λ p. bytes ++ closing p) is ∙ close_with bytes (length (cut_of bytes).rest == 0)
+    ap (λ p. bytes ++ last_lf p) is ∙ close_with bytes (length (cut_of bytes).rest == 0)
 
 -- nothing was told before the first line
-told_none : (us : List ℕ) (start : Tape ℕ) → Told us [] start start
+told_none : (us : List ℕ) (start : Tape ℕ) → TellsLines us [] start start
 told_none us start = sym (with_more-none start)
 
 module _ {a : Stage} where
   -- what is pending is the line that was not ended
   pub pending_of : {bytes : List ℕ} {b : Stage} {t : Type 0} {d e : Tape ℕ} {us : List ℕ}
-      → HasTaken bytes a b t d e → StandsAt us a no_bytes → b.pending.items ≡ (cut_of bytes).rest
+      → WatchHasTaken bytes a b t d e → StageStandsFor us a no_bytes → b.pending.items
+      ≡ (cut_of bytes).rest
   pending_of {us = us} taken s = (taken.stands us no_bytes s).pending_is
 
   pub told_all : {bytes : List ℕ} {b : Stage} {t : Type 0} {d e : Tape ℕ} {us : List ℕ}
-      → HasTaken bytes a b t d e → StandsAt us a no_bytes → t → Told us (cut_of bytes).lines d e
+      → WatchHasTaken bytes a b t d e → StageStandsFor us a no_bytes → t
+      → TellsLines us (cut_of bytes).lines d e
   told_all {d = d} {us = us} taken s tell = taken.told tell us no_bytes d s (told_none us d)
 
   -- a whole input
   watches_all : (bytes : List ℕ) {b : Stage} {t u v : Type 0} {d e f : Tape ℕ} {us : List ℕ}
       (ended : Type 0) (fed feeds : Tape ℕ) → (u → feeds ≡ with_more fed bytes) → (u → ended)
-      → StandsAt us a no_bytes → (pending : List ℕ) → pending ≡ (cut_of bytes).rest
-      → HasTaken (bytes ++ closing pending) a b t d e → (v → t)
-      → ((w : Watched) → AllStand b.watching w → v → f ≡ with_more e (last_text w))
+      → StageStandsFor us a no_bytes → (pending : List ℕ) → pending ≡ (cut_of bytes).rest
+      → WatchHasTaken (bytes ++ last_lf pending) a b t d e → (v → t)
+      → ((w : WatchState) → MonitorsStand b.watching w → v → f ≡ with_more e (last_text w))
       → u → v → WatchesAll us ended fed feeds d f
   watches_all bytes {d = d} {us = us} ended fed feeds read at_end s pending is taken told
       last reads prints =
       let c = closed_by bytes pending is in
       let stands = taken.stands us no_bytes s in
-      let w = watch_of us (cut_of (bytes ++ closing pending)).lines in
+      let w = watch_after us (cut_of (bytes ++ last_lf pending)).lines in
       let all = last w stands.watching_stands prints
       ∙ ap (λ t. with_more t (last_text w)) (told_all taken s (told prints))
-      ∙ with_more-twice d (told_at us (cut_of (bytes ++ closing pending)).lines) (last_text w)
+      ∙ with_more-twice d (told_at us (cut_of (bytes ++ last_lf pending)).lines) (last_text w)
       in
       record {
         bytes = bytes;
@@ -84,9 +87,9 @@ module _ {a : Stage} where
   pub ends_behind : {fault : WatchFault} {xs ys : List ℕ} {b : Stage} {t u v : Type 0}
       {d e f : Tape ℕ} {us : List ℕ} (ended : Type 0) (fed feeds : Tape ℕ) (bytes : List ℕ)
       → (u → feeds ≡ with_more fed bytes)
-      → (u → (l : List ℕ) → xs ++ ys ≡ l → (bytes ≡ l) ⊎ (ended × (closed bytes ≡ l)))
-      → (v → t) → HasTaken xs a b t d e → HasEnded fault ys b v e f
-      → StandsAt us a no_bytes → u → v → EndsEarly us fault ended fed feeds d f
+      → (u → (l : List ℕ) → xs ++ ys ≡ l → (bytes ≡ l) ⊎ (ended × (with_last_lf bytes ≡ l)))
+      → (v → t) → WatchHasTaken xs a b t d e → WatchHasEnded fault ys b v e f
+      → StageStandsFor us a no_bytes → u → v → WatchEndsEarly us fault ended fed feeds d f
   ends_behind {xs = xs} {ys = ys} {d = d} {us = us} ended fed feeds bytes read is told taken then s
       reads prints =
       let end = ended_behind [] (xs ++ ys) (ap (λ l. xs ++ l) (sym (append-nil ys))) told taken then
@@ -106,15 +109,15 @@ module _ {a : Stage} where
   -- an input at whose end nothing more could be told
   ends_last : (bytes : List ℕ) {fault : WatchFault} {b : Stage} {t u v : Type 0}
       {d e f : Tape ℕ} {us : List ℕ} (ended : Type 0) (fed feeds : Tape ℕ)
-      → (u → feeds ≡ with_more fed bytes) → (u → ended) → StandsAt us a no_bytes
+      → (u → feeds ≡ with_more fed bytes) → (u → ended) → StageStandsFor us a no_bytes
       → (pending : List ℕ) → pending ≡ (cut_of bytes).rest
-      → HasTaken (bytes ++ closing pending) a b t d e → (v → t)
+      → WatchHasTaken (bytes ++ last_lf pending) a b t d e → (v → t)
       → ((n : ℕ) → fault ≢ early.Line n) → (v → LeftBy fault e f)
-      → u → v → EndsEarly us fault ended fed feeds d f
+      → u → v → WatchEndsEarly us fault ended fed feeds d f
   ends_last bytes {fault = fault} {d = d} {e = e} {f = f} {us = us} ended fed feeds read
       at_end s pending is taken told no_line left reads prints =
       let c = closed_by bytes pending is in
-      let leaves = left_by fault us (cut_of (bytes ++ closing pending)).lines d e f
+      let leaves = left_by fault us (cut_of (bytes ++ last_lf pending)).lines d e f
       (told_all taken s (told prints)) (left prints) in
       inr (inr (record {
         no_line = no_line;
@@ -128,9 +131,10 @@ module _ {a : Stage} where
   -- what the end of the lines leaves is what the whole input leaves
   pub last_all : {X : Type 0} (r : Result X WatchFault) (bytes : List ℕ) {b c : Stage}
       {t t' u v : Type 0} {d e e' : Tape ℕ} (f : Tape ℕ) (ended : Type 0) (fed feeds : Tape ℕ)
-      → (u → feeds ≡ with_more fed bytes) → (u → ended) → HasTaken bytes a b t d e → (t' → t)
-      → HasTaken (closing b.pending.items) b c t' e e' → (v → t') → LastTold r c.watching v e' f
-      → OnOk r ((us : List ℕ) → StandsAt us a no_bytes → u → v
+      → (u → feeds ≡ with_more fed bytes) → (u → ended) → WatchHasTaken bytes a b t d e → (t' → t)
+      → WatchHasTaken (last_lf b.pending.items) b c t' e e' → (v → t')
+      → LastTold r c.watching v e' f
+      → OnOk r ((us : List ℕ) → StageStandsFor us a no_bytes → u → v
       → WatchesAll us ended fed feeds d f)
   last_all (Ok x) bytes f ended fed feeds read at_end first told rest printed last = λ us s.
       watches_all bytes ended fed feeds read at_end s _ (pending_of first s)
@@ -139,10 +143,11 @@ module _ {a : Stage} where
 
   pub last_ends : {X : Type 0} (r : Result X WatchFault) (bytes : List ℕ) {b c : Stage}
       {t t' u v : Type 0} {d e e' : Tape ℕ} (f : Tape ℕ) (ended : Type 0) (fed feeds : Tape ℕ)
-      → (u → feeds ≡ with_more fed bytes) → (u → ended) → HasTaken bytes a b t d e → (t' → t)
-      → HasTaken (closing b.pending.items) b c t' e e' → (v → t') → LastTold r c.watching v e' f
-      → IfErr r (λ fault. (us : List ℕ) → StandsAt us a no_bytes → u → v
-      → EndsEarly us fault ended fed feeds d f)
+      → (u → feeds ≡ with_more fed bytes) → (u → ended) → WatchHasTaken bytes a b t d e → (t' → t)
+      → WatchHasTaken (last_lf b.pending.items) b c t' e e' → (v → t')
+      → LastTold r c.watching v e' f
+      → IfErr r (λ fault. (us : List ℕ) → StageStandsFor us a no_bytes → u → v
+      → WatchEndsEarly us fault ended fed feeds d f)
   last_ends (Ok x) bytes f ended fed feeds read at_end first told rest printed last = tt
   last_ends (Err fault) bytes f ended fed feeds read at_end first told rest printed last = λ us s.
       ends_last bytes ended fed feeds read at_end s _ (pending_of first s)

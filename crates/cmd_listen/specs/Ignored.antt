@@ -12,11 +12,11 @@ use Rattle.sacn_packet.specs.Wire.{bytes_at, packet_identifier}
 use Rattle.sacn_receiver.specs.declared.answer.Ignored.{Ignored}
 use Rattle.sacn_receiver.specs.declared.answer.Ignored.TheVariants as receiver
 use Rattle.cmd_listen.specs.declared.text.Head.{Head}
-use Rattle.cmd_listen.specs.Sources.{head_text}
+use Rattle.cmd_listen.specs.Sources.{line_head}
 
 -- the names: the first sixteen are those that the receiver has for them
-abbrev pub names : List (List ℕ)
-names = codes "Backwards" ∷ codes "Unreadable Short" ∷ codes "Unreadable Preamble"
+abbrev pub ignored_names : List (List ℕ)
+ignored_names = codes "Backwards" ∷ codes "Unreadable Short" ∷ codes "Unreadable Preamble"
     ∷ codes "Unreadable Identifier" ∷ codes "Unreadable RootVector" ∷ codes "Unreadable Length"
     ∷ codes "Unreadable FramingVector" ∷ codes "Unreadable Priority"
     ∷ codes "Unreadable Universe" ∷ codes "Unreadable Dmp" ∷ codes "Unreadable Count"
@@ -25,7 +25,7 @@ names = codes "Backwards" ∷ codes "Unreadable Short" ∷ codes "Unreadable Pre
     ∷ codes "Synchronization" ∷ []
 
 abbrev pub name_at : ℕ → List ℕ
-name_at place = slice_index_or names place []
+name_at place = slice_index_or ignored_names place []
 
 abbrev pub fault_place : Unreadable → ℕ
 fault_place packet.Short = 1
@@ -39,19 +39,19 @@ fault_place packet.Universe = 8
 fault_place packet.Dmp = 9
 fault_place packet.Count = 10
 
-abbrev pub place_of : Ignored → ℕ
-place_of receiver.Backwards = 0
-place_of (receiver.Unreadable fault) = fault_place fault
-place_of receiver.OtherUniverse = 11
-place_of receiver.Preview = 12
-place_of receiver.AltStart = 13
-place_of receiver.OutOfSequence = 14
-place_of receiver.SourcesFull = 15
+abbrev pub reason_place : Ignored → ℕ
+reason_place receiver.Backwards = 0
+reason_place (receiver.Unreadable fault) = fault_place fault
+reason_place receiver.OtherUniverse = 11
+reason_place receiver.Preview = 12
+reason_place receiver.AltStart = 13
+reason_place receiver.OutOfSequence = 14
+reason_place receiver.SourcesFull = 15
 
 -- why a receiver ignores a datagram: the START code 0xDD is that of priorities of single slots
 abbrev pub ignored_place : List ℕ → Ignored → ℕ
 ignored_place datagram receiver.AltStart = if slice_index datagram 125 == 0xdd then 16 else 13
-ignored_place datagram reason = place_of reason
+ignored_place datagram reason = reason_place reason
 
 -- these bytes stand at the offset
 abbrev pub stands_at : List ℕ → ℕ → List ℕ → Bool
@@ -77,13 +77,13 @@ abbrev pub none_counted : List ℕ
 none_counted = replicate 19 0
 
 -- one more, up to the greatest that a count can be
-abbrev pub counted : ℕ → List ℕ → List ℕ
-counted place counts = slice_set counts place (min (slice_index counts place + 1) 4294967295)
+abbrev pub with_one_more : ℕ → List ℕ → List ℕ
+with_one_more place counts = slice_set counts place (min (slice_index counts place + 1) 4294967295)
 
 abbrev pub count_line : Head → ℕ × ℕ → List ℕ
 count_line head (place, count) =
     if count == 0 then []
-    else head_text head ++ codes "ignored " ++ name_at place ++ codes " " ++ decimal count
+    else line_head head ++ codes "ignored " ++ name_at place ++ codes " " ++ decimal count
     ++ codes "\n"
 
 -- a line for each count that is not 0

@@ -3,7 +3,7 @@ use Rattle.std.specs.Prelude.{◌≡◌, ℕ, List, map, All}
 use Rattle.sacn_receiver.specs.Shown.{live}
 use Rattle.sacn_receiver.specs.Source.{Entry}
 use Rattle.cmd_listen.specs.declared.source.Source.{Source}
-use Rattle.cmd_listen.specs.Watching.{watch_of}
+use Rattle.cmd_listen.specs.Watching.{watch_after}
 
 -- what a live source and a record of the source rule have in common
 pub record Mark : Type 0 where
@@ -20,5 +20,6 @@ mark_in e = record { cid = e.cid; number = e.number; moment = e.moment; priority
 
 -- the sources of a universe are the live records of the source rule, after any lines
 abbrev pub SourcesAreLive : Type 0
-SourcesAreLive = (universes : List ℕ) (lines : List (List ℕ)) → let w = watch_of universes lines in
+SourcesAreLive =
+    (universes : List ℕ) (lines : List (List ℕ)) → let w = watch_after universes lines in
     All (λ k. map mark_of k.sources ≡ map mark_in (live k.heard w.moment)) w.universes

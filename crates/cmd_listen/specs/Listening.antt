@@ -3,25 +3,26 @@
 use Rattle.std.specs.Prelude.{◌≡◌, ◌⊎◌, ℕ, ◌+◌, ◌<◌, ◌≤◌, List, [], ◌∷◌, ◌++◌, length, reverse}
 use Rattle.std.specs.Prelude.{Result, Ok, Err, codes, decimal}
 use Rattle.sacn_receiver.specs.Source.{Entry}
-use Rattle.sacn_receiver.specs.Taking.{answer, heard}
+use Rattle.sacn_receiver.specs.Taking.{answer, history_after}
 use Rattle.sacn_receiver.specs.Shown.{shown_slots}
 use Rattle.devices.specs.Tape.{Tape, with_more, with_failure}
 use Rattle.cmd_faults.specs.declared.fault.RunFault.{RunFault}
 use Rattle.cmd_faults.specs.declared.fault.RunFault.TheVariants as run
-use Rattle.sacn_receiver.specs.Replies.{reply_text, slots_line}
+use Rattle.sacn_receiver.specs.Replies.{receiver_reply, slots_line}
 
 -- the history of a receiver of a universe, with room for four sources, to which these datagrams
 -- came, all of them at moment 0
-abbrev pub history : ℕ → List (List ℕ) → List Entry
-history universe [] = []
-history universe (datagram ∷ older) = heard 4 universe (history universe older) 0 datagram
+abbrev pub history_at_0 : ℕ → List (List ℕ) → List Entry
+history_at_0 universe [] = []
+history_at_0 universe (datagram ∷ older) =
+    history_after 4 universe (history_at_0 universe older) 0 datagram
 
 -- the line of a datagram that came after older ones: its number, counted from 1, and the reply to
 -- it
 abbrev pub reply_line : ℕ → List ℕ → List (List ℕ) → List ℕ
 reply_line universe datagram older =
     decimal (length older + 1) ++ codes " "
-    ++ reply_text (answer 4 universe (history universe older) 0 datagram) ++ codes "\n"
+    ++ receiver_reply (answer 4 universe (history_at_0 universe older) 0 datagram) ++ codes "\n"
 
 -- the lines of all datagrams, in the order in which they came
 abbrev pub replies : ℕ → List (List ℕ) → List ℕ
@@ -31,7 +32,7 @@ replies universe (datagram ∷ older) = replies universe older ++ reply_line uni
 -- the text of `listen`: the replies, and then the slots at moment 0
 abbrev pub listen_text : ℕ → List (List ℕ) → List ℕ
 listen_text universe datagrams =
-    replies universe datagrams ++ slots_line (shown_slots (history universe datagrams) 0)
+    replies universe datagrams ++ slots_line (shown_slots (history_at_0 universe datagrams) 0)
 
 -- the source gave these datagrams too, and no call failed
 abbrev pub GaveAll : List (List ℕ) → Tape (List ℕ) → Tape (List ℕ) → Type 0
@@ -75,8 +76,8 @@ SlotsFailed universe count given gives before after = HeardAll count given gives
     (λ datagrams. after ≡ with_failure (with_more before (replies universe datagrams)))
 
 -- so many datagrams came, and the output took the text of `listen` for them
-abbrev pub Listened : ℕ → ℕ → Tape (List ℕ) → Tape (List ℕ) → Tape ℕ → Tape ℕ → Type 0
-Listened universe count given gives before after = HeardAll count given gives
+abbrev pub HasListened : ℕ → ℕ → Tape (List ℕ) → Tape (List ℕ) → Tape ℕ → Tape ℕ → Type 0
+HasListened universe count given gives before after = HeardAll count given gives
     (λ datagrams. after ≡ with_more before (listen_text universe datagrams))
 
 -- why `listen` ends with a fault of a device
@@ -90,7 +91,7 @@ DeviceFailed universe count given gives before after =
 abbrev pub Listens : {X : Type 0} → Result X RunFault → ℕ → ℕ → Tape (List ℕ) → Tape (List ℕ)
     → Tape ℕ → Tape ℕ → Type 0
 Listens (Ok x) universe count given gives before after =
-    Listened universe count given gives before after
+    HasListened universe count given gives before after
 Listens (Err run.Device) universe count given gives before after =
     DeviceFailed universe count given gives before after
 Listens (Err fault) universe count given gives before after = ⊥

@@ -1,12 +1,13 @@
 -- The live sources of a universe, and what is told of them before and after something came.
 use Rattle.std.specs.Prelude.{ℕ, ◌+◌, ◌-◌, ◌%◌, ◌==◌, nat_le, nat_lt, Bool, not, ◌&&◌}
-use Rattle.std.specs.Prelude.{List, [], ◌∷◌, ◌++◌, take, filter, find, map, flat_map, codes, decimal}
+use Rattle.std.specs.Prelude.{List, [], ◌∷◌, ◌++◌, take, filter, find, map, flat_map, codes}
+use Rattle.std.specs.Prelude.{decimal}
 use Rattle.std.specs.Prelude.{if◌then◌else◌}
 use Rattle.std.specs.Prelude.{bytes_eq, slice_range, Option, Some, None}
 use Rattle.std.specs.List.{list_any}
 use Rattle.hex.specs.Hex.{encode_lower}
-use Rattle.sacn_packet.specs.Name.{name_in, padded}
-use Rattle.sacn_packet.specs.Wire.{Packet}
+use Rattle.sacn_packet.specs.Name.{name_in, padded_name}
+use Rattle.sacn_packet.specs.Wire.{WirePacket}
 use Rattle.sacn_receiver.specs.Shown.{greatest}
 use Rattle.cmd_listen.specs.declared.source.Source.{Source}
 use Rattle.cmd_listen.specs.declared.text.Head.{Head}
@@ -14,10 +15,10 @@ use Rattle.cmd_listen.specs.declared.text.Head.{Head}
 -- ---- the live sources, the one that was heard last first
 
 -- a source, by a packet of it that was accepted at moment t
-abbrev pub source_of : ℕ → Packet → Source
+abbrev pub source_of : ℕ → WirePacket → Source
 source_of t p = record {
   cid = p.fields.cid;
-  name = padded (take 64 (name_in p.fields.name));
+  name = padded_name (take 64 (name_in p.fields.name));
   priority = p.fields.priority;
   number = p.fields.sequence;
   moment = t;
@@ -33,47 +34,47 @@ is_here t source = nat_lt (t - source.moment) 2500
 abbrev pub here : ℕ → List Source → List Source
 here t sources = filter (is_here t) sources
 
-abbrev pub without : List ℕ → List Source → List Source
-without cid sources = filter (λ s. not (is_of cid s)) sources
+abbrev pub without_cid : List ℕ → List Source → List Source
+without_cid cid sources = filter (λ s. not (is_of cid s)) sources
 
 -- a source in front of the others. There are four at most, as a receiver keeps no more
 abbrev pub with_source : Source → List Source → List Source
-with_source source sources = source ∷ take 3 (without source.cid sources)
+with_source source sources = source ∷ take 3 (without_cid source.cid sources)
 
 -- ---- texts
 
 -- a line begins with the moment and the universe
-abbrev pub head_text : Head → List ℕ
-head_text head = decimal head.moment ++ codes " " ++ decimal head.universe ++ codes " "
+abbrev pub line_head : Head → List ℕ
+line_head head = decimal head.moment ++ codes " " ++ decimal head.universe ++ codes " "
 
 -- a byte of a name as it is shown: nothing of a zero byte, which fills the field, and `?` of what
 -- is no printable ASCII
-abbrev pub shown_byte : ℕ → List ℕ
-shown_byte byte =
+abbrev pub name_byte : ℕ → List ℕ
+name_byte byte =
     if byte == 0 then [] else (if nat_le 32 byte && nat_le byte 126 then byte ∷ [] else 63 ∷ [])
 
 abbrev pub name_text : List ℕ → List ℕ
-name_text field = flat_map shown_byte field
+name_text field = flat_map name_byte field
 
 -- 32 hex digits as those of a UUID are parted
-abbrev pub parted : List ℕ → List ℕ
-parted digits =
+abbrev pub uuid_text : List ℕ → List ℕ
+uuid_text digits =
     slice_range digits 0 8 ++ codes "-" ++ slice_range digits 8 12 ++ codes "-"
     ++ slice_range digits 12 16 ++ codes "-" ++ slice_range digits 16 20 ++ codes "-"
     ++ slice_range digits 20 32
 
 -- what a line says of a source: a word, its name and its CID
-abbrev pub told : Head → List ℕ → Source → List ℕ
-told head word source =
-    head_text head ++ word ++ codes " " ++ name_text source.name ++ codes " "
-    ++ parted (encode_lower source.cid)
+abbrev pub source_words : Head → List ℕ → Source → List ℕ
+source_words head word source =
+    line_head head ++ word ++ codes " " ++ name_text source.name ++ codes " "
+    ++ uuid_text (encode_lower source.cid)
 
 -- ---- what is told of the sources before and after
 
 -- a source that was there and is not any more
 abbrev pub left_line : Head → List ℕ → List Source → Source → List ℕ
 left_line head word after source =
-    if list_any (is_of source.cid) after then [] else told head word source ++ codes "\n"
+    if list_any (is_of source.cid) after then [] else source_words head word source ++ codes "\n"
 
 -- two are of one CID, name and priority
 abbrev pub is_alike : Source → Source → Bool
@@ -83,7 +84,7 @@ is_alike a b = bytes_eq a.cid b.cid && bytes_eq a.name b.name && (a.priority == 
 abbrev pub source_line : Head → List Source → Source → List ℕ
 source_line head before source =
     if list_any (is_alike source) before then []
-    else told head (codes "source") source ++ codes " priority " ++ decimal source.priority
+    else source_words head (codes "source") source ++ codes " priority " ++ decimal source.priority
     ++ codes "\n"
 
 -- how many numbers are between two, as numbers of a byte
@@ -95,27 +96,28 @@ abbrev pub missed_by : Option Source → Source → ℕ
 missed_by None source = 0
 missed_by (Some s) source = between s.number source.number
 
-abbrev pub missed : List Source → Source → ℕ
-missed before source = missed_by (find (is_of source.cid) before) source
+abbrev pub packets_missed : List Source → Source → ℕ
+packets_missed before source = missed_by (find (is_of source.cid) before) source
 
 abbrev pub lost_line : Head → List Source → Source → List ℕ
 lost_line head before source =
-    if missed before source == 0 then []
-    else told head (codes "lost") source ++ codes " " ++ decimal (missed before source)
+    if packets_missed before source == 0 then []
+    else source_words head (codes "lost") source ++ codes " "
+    ++ decimal (packets_missed before source)
     ++ codes "\n"
 
 -- one of the greatest priority: its levels are shown
-abbrev pub leads : List Source → Source → Bool
-leads sources source = source.priority == greatest (map (λ s. s.priority) sources)
+abbrev pub is_leading : List Source → Source → Bool
+is_leading sources source = source.priority == greatest (map (λ s. s.priority) sources)
 
-abbrev pub led : List Source → Source → Bool
-led before source = list_any (λ s. is_of source.cid s && leads before s) before
+abbrev pub was_leading : List Source → Source → Bool
+was_leading before source = list_any (λ s. is_of source.cid s && is_leading before s) before
 
 -- a source that leads, and did not before
 abbrev pub lead_line : Head → List Source → List Source → Source → List ℕ
 lead_line head before after source =
-    if leads after source && not (led before source)
-    then told head (codes "leads") source ++ codes "\n" else []
+    if is_leading after source && not (was_leading before source)
+    then source_words head (codes "leads") source ++ codes "\n" else []
 
 -- the lines of a source that is there after
 abbrev pub news : Head → List Source → List Source → Source → List ℕ

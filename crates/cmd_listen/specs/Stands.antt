@@ -5,11 +5,11 @@ use Rattle.sacn_receiver.specs.Kept.{StandsFor}
 use Rattle.sacn_receiver.specs.Source.{last_moment}
 use Rattle.cmd_listen.specs.declared.monitor.Monitor.{Monitor}
 use Rattle.cmd_listen.specs.declared.watching.Watching.{Watching}
-use Rattle.cmd_listen.specs.Universe.{Known}
-use Rattle.cmd_listen.specs.Watching.{Watched}
+use Rattle.cmd_listen.specs.Universe.{Knowledge}
+use Rattle.cmd_listen.specs.Watching.{WatchState}
 
 -- a monitor stands for what is known of its universe, up to moment t
-pub record Stands (t : ℕ) (monitor : Monitor) (known : Known) : Type 0 where
+pub record MonitorStands (t : ℕ) (monitor : Monitor) (known : Knowledge) : Type 0 where
   pub receiver_stands : StandsFor monitor.receiver known.heard
   pub receiver_is : monitor.receiver.universe ≡ known.universe
   pub universe_is : monitor.universe ≡ known.universe
@@ -19,7 +19,7 @@ pub record Stands (t : ℕ) (monitor : Monitor) (known : Known) : Type 0 where
   pub late : last_moment known.heard ≤ t
 
 -- and each of the watched universes
-pub record AllStand (watching : Watching) (w : Watched) : Type 0 where
+pub record MonitorsStand (watching : Watching) (w : WatchState) : Type 0 where
   pub moment_is : watching.moment ≡ w.moment
   pub strays_are : watching.strays ≡ w.strays
-  pub each : AllZip (Stands w.moment) watching.monitors.items w.universes
+  pub each : AllZip (MonitorStands w.moment) watching.monitors.items w.universes

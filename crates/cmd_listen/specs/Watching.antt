@@ -6,19 +6,19 @@ use Rattle.std.specs.Option.{option_map_or}
 use Rattle.sacn_packet.specs.Faults.{fault_of}
 use Rattle.sacn_packet.specs.Reading.{front_packet}
 use Rattle.cmd_listen.specs.declared.instant.Instant.{Instant}
-use Rattle.cmd_listen.specs.Ignored.{counted, none_counted, stray_place}
-use Rattle.cmd_listen.specs.Reading.{Spelled, at, spelled_in}
-use Rattle.cmd_listen.specs.Universe.{Known, counts_after, known_after, new_known, told_counts}
-use Rattle.cmd_listen.specs.Universe.{told_of}
+use Rattle.cmd_listen.specs.Ignored.{with_one_more, none_counted, stray_place}
+use Rattle.cmd_listen.specs.Reading.{WatchLine, at, spelled_in}
+use Rattle.cmd_listen.specs.Universe.{Knowledge, counts_after, known_after, new_known, told_counts}
+use Rattle.cmd_listen.specs.Universe.{told_text}
 
 -- the moment of the last line; the datagrams that no universe was handed, and that were not told of
 -- yet; and the universes
-pub record Watched : Type 0 where
+pub record WatchState : Type 0 where
   pub moment : ℕ
   pub strays : List ℕ
-  pub universes : List Known
+  pub universes : List Knowledge
 
-abbrev pub new_watch : List ℕ → Watched
+abbrev pub new_watch : List ℕ → WatchState
 new_watch universes = record {
   moment = 0;
   strays = none_counted;
@@ -45,60 +45,61 @@ abbrev pub last_instant : ℕ → Instant
 last_instant moment = record { moment = moment; to = 0; tells = true; looks = true }
 
 -- there is a datagram, and it is for none of the universes
-abbrev pub is_stray : Instant → List ℕ → List Known → Bool
+abbrev pub is_stray : Instant → List ℕ → List Knowledge → Bool
 is_stray i datagram universes =
     not (length datagram == 0) && not (list_any (λ k. i.to == k.universe) universes)
 
-abbrev pub strays_after : Instant → List ℕ → Watched → List ℕ
+abbrev pub strays_after : Instant → List ℕ → WatchState → List ℕ
 strays_after i datagram w =
-    if is_stray i datagram w.universes then counted (stray_place datagram) (counts_after i w.strays)
+    if is_stray i datagram w.universes
+    then with_one_more (stray_place datagram) (counts_after i w.strays)
     else counts_after i w.strays
 
-abbrev pub passed : Instant → List ℕ → Watched → Watched
-passed i datagram w = record {
+abbrev pub after_instant : Instant → List ℕ → WatchState → WatchState
+after_instant i datagram w = record {
   moment = i.moment;
   strays = strays_after i datagram w;
   universes = map (known_after i datagram) w.universes;
 }
 
 -- of what no universe was handed it is told under universe 0, and then of each universe
-abbrev pub passed_text : Instant → List ℕ → Watched → List ℕ
+abbrev pub passed_text : Instant → List ℕ → WatchState → List ℕ
 passed_text i datagram w =
-    told_counts i 0 w.strays ++ flat_map (told_of i datagram) w.universes
+    told_counts i 0 w.strays ++ flat_map (told_text i datagram) w.universes
 
 -- a line whose moment falls is ignored
-abbrev pub arrived : ℕ → List ℕ → Watched → Watched
-arrived moment datagram w =
-    if nat_lt moment w.moment then record w { strays = counted 0 w.strays }
-    else passed (instant w.moment moment datagram) datagram w
+abbrev pub after_arrival : ℕ → List ℕ → WatchState → WatchState
+after_arrival moment datagram w =
+    if nat_lt moment w.moment then record w { strays = with_one_more 0 w.strays }
+    else after_instant (instant w.moment moment datagram) datagram w
 
-abbrev pub arrived_text : ℕ → List ℕ → Watched → List ℕ
+abbrev pub arrived_text : ℕ → List ℕ → WatchState → List ℕ
 arrived_text moment datagram w =
     if nat_lt moment w.moment then []
     else passed_text (instant w.moment moment datagram) datagram w
 
-abbrev pub after_spelled : Spelled → Watched → Watched
-after_spelled (at moment datagram) w = arrived moment datagram w
+abbrev pub after_spelled : WatchLine → WatchState → WatchState
+after_spelled (at moment datagram) w = after_arrival moment datagram w
 after_spelled _ w = w
 
-abbrev pub text_spelled : Spelled → Watched → List ℕ
+abbrev pub text_spelled : WatchLine → WatchState → List ℕ
 text_spelled (at moment datagram) w = arrived_text moment datagram w
 text_spelled _ w = []
 
 -- the universes after some lines, and what was told at them
-abbrev pub watch_of : List ℕ → List (List ℕ) → Watched
-watch_of universes [] = new_watch universes
-watch_of universes (line ∷ older) = after_spelled (spelled_in line) (watch_of universes older)
+abbrev pub watch_after : List ℕ → List (List ℕ) → WatchState
+watch_after universes [] = new_watch universes
+watch_after universes (line ∷ older) = after_spelled (spelled_in line) (watch_after universes older)
 
 abbrev pub told_at : List ℕ → List (List ℕ) → List ℕ
 told_at universes [] = []
 told_at universes (line ∷ older) =
-    told_at universes older ++ text_spelled (spelled_in line) (watch_of universes older)
+    told_at universes older ++ text_spelled (spelled_in line) (watch_after universes older)
 
 -- what is told at the end of the lines
-abbrev pub last_text : Watched → List ℕ
+abbrev pub last_text : WatchState → List ℕ
 last_text w = passed_text (last_instant w.moment) [] w
 
 -- all that is told of some lines
 abbrev pub watch_text : List ℕ → List (List ℕ) → List ℕ
-watch_text universes lines = told_at universes lines ++ last_text (watch_of universes lines)
+watch_text universes lines = told_at universes lines ++ last_text (watch_after universes lines)

@@ -99,7 +99,7 @@ pub fn stray_place(datagram: &[u8]) -> usize
 // Counts one more.
 pub fn count(counts: &mut Counts, place: usize)
     requires { place < 19 }
-    ensures { counts.new ≡ spec.counted place counts.old }
+    ensures { counts.new ≡ spec.with_one_more place counts.old }
 {
     counts[place] = counts[place].saturating_add(1);
 }

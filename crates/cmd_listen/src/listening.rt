@@ -1,7 +1,7 @@
 ghost use Rattle.std.specs.Prelude.{◌≡◌, ℕ, ◌+◌, ◌≤◌, List, [], ◌∷◌, length, OnOk, OnErr, IfErr};
 ghost use Rattle.devices.specs.Tape.{with_more};
 ghost use Rattle.sacn_receiver.specs.Kept.{StandsFor};
-ghost use Rattle.cmd_listen.specs.Listening.{history, reply_line, Listens, NextFails};
+ghost use Rattle.cmd_listen.specs.Listening.{history_at_0, reply_line, Listens, NextFails};
 
 use cmd_faults::RunFault;
 use devices::{Datagrams, Output};
@@ -53,8 +53,8 @@ fn reply_to_next<D: Datagrams, W: Output>(
     ensures universe { receiver.new.universe ≡ receiver.old.universe }
     ensures ok { OnOk result ((universe : ℕ) (older : List (List ℕ)) → receiver.old.universe
         ≡ universe
-        → number ≡ length older + 1 → StandsFor receiver.old (history universe older)
-        → (datagram : List ℕ) × StandsFor receiver.new (history universe (datagram ∷ older))
+        → number ≡ length older + 1 → StandsFor receiver.old (history_at_0 universe older)
+        → (datagram : List ℕ) × StandsFor receiver.new (history_at_0 universe (datagram ∷ older))
         × (D.tells source.new → D.tape source.new ≡ with_more (D.tape source.old) (datagram ∷ []))
         × (W.tells out.new → W.tape out.new
         ≡ with_more (W.tape out.old) (reply_line universe datagram older))) }

@@ -26,14 +26,14 @@ impl Monitor {
     ghost use Rattle.sacn_packet.specs.Wire.{HasPacket};
     ghost use Rattle.cmd_listen.specs.Sources.{changes};
     ghost use Rattle.cmd_listen.specs.Universe as spec;
-    ghost use Rattle.cmd_listen.specs.Universe.{Known};
-    ghost use Rattle.cmd_listen.specs.Stands.{Stands};
+    ghost use Rattle.cmd_listen.specs.Universe.{Knowledge};
+    ghost use Rattle.cmd_listen.specs.Stands.{MonitorStands};
 
     // A monitor of a universe of which nothing came.
     pub fn new(universe: u16) -> Monitor
         requires from_1 { 1 ≤ universe }
         requires to_63999 { universe ≤ 63999 }
-        ensures { Stands 0 result (spec.new_known universe) }
+        ensures { MonitorStands 0 result (spec.new_known universe) }
     {
         Monitor {
             receiver: Receiver::new(universe),
@@ -52,9 +52,10 @@ impl Monitor {
         datagram: &[u8],
         text: &mut Vec<u8>,
     ) -> Result<(), AllocError>
-        ensures { OnOk result ((t : ℕ) (k : Known) → Stands t self.old k → t ≤ instant.moment
-            → Stands instant.moment self.new (spec.known_after instant datagram.now k)
-            × (text.new.items ≡ text.old.items ++ spec.told_of instant datagram.now k)) }
+        ensures { OnOk result
+            ((t : ℕ) (k : Knowledge) → MonitorStands t self.old k → t ≤ instant.moment
+            → MonitorStands instant.moment self.new (spec.known_after instant datagram.now k)
+            × (text.new.items ≡ text.old.items ++ spec.told_text instant datagram.now k)) }
     {
         self.wait(instant, text)?;
         self.meet(instant, datagram, text)?;
@@ -72,8 +73,9 @@ impl Monitor {
 
     // Takes the clock: counts are told, and sources fall silent.
     fn wait(&mut self, instant: Instant, text: &mut Vec<u8>) -> Result<(), AllocError>
-        ensures { OnOk result ((t : ℕ) (k : Known) → Stands t self.old k → t ≤ instant.moment
-            → Stands instant.moment self.new (spec.waited instant k)
+        ensures { OnOk result
+            ((t : ℕ) (k : Knowledge) → MonitorStands t self.old k → t ≤ instant.moment
+            → MonitorStands instant.moment self.new (spec.after_wait instant k)
             × (text.new.items ≡ text.old.items ++ spec.waited_text instant k)) }
     {
         tell_counts(text, instant, self.universe, &mut self.counts)?;
@@ -97,8 +99,8 @@ impl Monitor {
         datagram: &[u8],
         text: &mut Vec<u8>,
     ) -> Result<(), AllocError>
-        ensures { OnOk result ((k : Known) → Stands instant.moment self.old k
-            → Stands instant.moment self.new (spec.met_after instant datagram.now k)
+        ensures { OnOk result ((k : Knowledge) → MonitorStands instant.moment self.old k
+            → MonitorStands instant.moment self.new (spec.met_after instant datagram.now k)
             × (text.new.items ≡ text.old.items ++ spec.told_met instant datagram.now k)) }
     {
         if instant.to != self.universe {
@@ -109,8 +111,8 @@ impl Monitor {
 
     // Hands a datagram to the receiver.
     fn hand(&mut self, moment: u64, datagram: &[u8], text: &mut Vec<u8>) -> Result<(), AllocError>
-        ensures { OnOk result ((k : Known) → Stands moment self.old k
-            → Stands moment self.new (spec.met moment datagram.now k)
+        ensures { OnOk result ((k : Knowledge) → MonitorStands moment self.old k
+            → MonitorStands moment self.new (spec.after_datagram moment datagram.now k)
             × (text.new.items ≡ text.old.items ++ spec.met_text moment datagram.now k)) }
     {
         match self.receiver.take(moment, datagram) {
@@ -150,8 +152,8 @@ impl Monitor {
 
     // Looks at the slots where it is time.
     fn look(&mut self, instant: Instant, text: &mut Vec<u8>) -> Result<(), AllocError>
-        ensures { OnOk result ((k : Known) → Stands instant.moment self.old k
-            → Stands instant.moment self.new (spec.looked_after instant k)
+        ensures { OnOk result ((k : Knowledge) → MonitorStands instant.moment self.old k
+            → MonitorStands instant.moment self.new (spec.looked_after instant k)
             × (text.new.items ≡ text.old.items ++ spec.told_looked instant k)) }
     {
         if !instant.looks {
@@ -162,8 +164,8 @@ impl Monitor {
 
     // Shows the slots, where they are others than those that were told last.
     fn show(&mut self, moment: u64, text: &mut Vec<u8>) -> Result<(), AllocError>
-        ensures { OnOk result ((k : Known) → Stands moment self.old k
-            → Stands moment self.new (spec.looked moment k)
+        ensures { OnOk result ((k : Knowledge) → MonitorStands moment self.old k
+            → MonitorStands moment self.new (spec.after_look moment k)
             × (text.new.items ≡ text.old.items ++ spec.looked_text moment k)) }
     {
         let mut slots = [0; 512];

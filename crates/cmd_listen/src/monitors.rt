@@ -1,8 +1,8 @@
 ghost use Rattle.std.specs.Prelude.{◌≡◌, ◌≤◌, ℕ, List, ◌++◌, OnOk, IfOk, All, map, flat_map};
 ghost use Rattle.std.specs.Prelude.{◌==◌};
 ghost use Rattle.std.specs.List.{AllZip, list_any};
-ghost use Rattle.cmd_listen.specs.Universe.{Known, known_after, new_known, told_of};
-ghost use Rattle.cmd_listen.specs.Stands.{Stands};
+ghost use Rattle.cmd_listen.specs.Universe.{Knowledge, known_after, new_known, told_text};
+ghost use Rattle.cmd_listen.specs.Stands.{MonitorStands};
 
 use crate::instant::Instant;
 use crate::monitor::Monitor;
@@ -11,7 +11,7 @@ use std::alloc::{AllocError, Global};
 // A monitor of each universe.
 pub fn watch_all(alloc: Global, universes: &[u16]) -> Result<Vec<Monitor>, AllocError>
     requires { All (λ u. (1 ≤ u) × (u ≤ 63999)) universes.now }
-    ensures { IfOk result (λ monitors. AllZip (Stands 0) monitors.items
+    ensures { IfOk result (λ monitors. AllZip (MonitorStands 0) monitors.items
         (map new_known universes.now)) }
 {
     let mut monitors = Vec::new(alloc);
@@ -35,10 +35,12 @@ pub fn take_all(
     datagram: &[u8],
     text: &mut Vec<u8>,
 ) -> Result<(), AllocError>
-    ensures { OnOk result ((t : ℕ) (known : List Known) → AllZip (Stands t) monitors.old known
+    ensures { OnOk result
+        ((t : ℕ) (known : List Knowledge) → AllZip (MonitorStands t) monitors.old known
         → t ≤ instant.moment
-        → AllZip (Stands instant.moment) monitors.new (map (known_after instant datagram.now) known)
-        × (text.new.items ≡ text.old.items ++ flat_map (told_of instant datagram.now) known)) }
+        → AllZip (MonitorStands instant.moment) monitors.new
+        (map (known_after instant datagram.now) known)
+        × (text.new.items ≡ text.old.items ++ flat_map (told_text instant datagram.now) known)) }
 {
     for i in 0..monitors.len() {
         monitors[i].take(instant, datagram, text)?;

@@ -2,7 +2,7 @@ ghost use Rattle.std.specs.Prelude.{◌≡◌, ◌++◌, OnOk, flat_map};
 ghost use Rattle.cmd_listen.specs.Sources as spec;
 
 use crate::source::Source;
-use crate::sources::{has, has_alike, leads, led, missed};
+use crate::sources::{has, has_alike, is_leading, packets_missed, was_leading};
 use crate::text::{Head, push_told};
 use itoa::Buffer;
 use std::alloc::AllocError;
@@ -113,7 +113,7 @@ fn push_lost_line(
     ensures { OnOk result (text.new.items
         ≡ text.old.items ++ spec.lost_line head before.now source.now) }
 {
-    let missed = missed(before, source);
+    let missed = packets_missed(before, source);
     if missed == 0 {
         return Ok(());
     }
@@ -133,7 +133,7 @@ fn push_lead_line(
     ensures { OnOk result (text.new.items
         ≡ text.old.items ++ spec.lead_line head before.now after.now source.now) }
 {
-    if !leads(after, source) || led(before, source) {
+    if !is_leading(after, source) || was_leading(before, source) {
         return Ok(());
     }
     push_told(text, head, b"leads", source)?;

@@ -1,9 +1,9 @@
 ghost use Rattle.std.specs.Prelude.{◌≡◌, ◌≢◌, OnOk, OnErr, IfErr};
 ghost use Rattle.devices.specs.Tape.{with_more, with_failure};
 ghost use Rattle.cmd_listen.specs.Reading.{malformed, spelled_in};
-ghost use Rattle.cmd_listen.specs.Stage.{EndsAt, LastTold, LeftBy};
-ghost use Rattle.cmd_listen.specs.Stands.{AllStand};
-ghost use Rattle.cmd_listen.specs.Watching.{Watched, after_spelled, text_spelled};
+ghost use Rattle.cmd_listen.specs.Stage.{EndsWatchAt, LastTold, LeftBy};
+ghost use Rattle.cmd_listen.specs.Stands.{MonitorsStand};
+ghost use Rattle.cmd_listen.specs.Watching.{WatchState, after_spelled, text_spelled};
 
 use crate::fault::WatchFault;
 use crate::line::{Line, read_line};
@@ -21,11 +21,11 @@ pub fn take_line<W: Output>(
 ) -> Result<(), WatchFault>
     ensures told { W.tells out.new → W.tells out.old }
     ensures fine { OnOk result (spelled_in line.now ≢ malformed) }
-    ensures stands { OnOk result ((w : Watched) → AllStand watching.old w
-        → AllStand watching.new (after_spelled (spelled_in line.now) w)) }
-    ensures printed { OnOk result ((w : Watched) → AllStand watching.old w → W.tells out.new
+    ensures stands { OnOk result ((w : WatchState) → MonitorsStand watching.old w
+        → MonitorsStand watching.new (after_spelled (spelled_in line.now) w)) }
+    ensures printed { OnOk result ((w : WatchState) → MonitorsStand watching.old w → W.tells out.new
         → W.tape out.new ≡ with_more (W.tape out.old) (text_spelled (spelled_in line.now) w)) }
-    ensures ends { IfErr result (λ fault. EndsAt fault number (spelled_in line.now)) }
+    ensures ends { IfErr result (λ fault. EndsWatchAt fault number (spelled_in line.now)) }
     ensures leaves { IfErr result (λ fault. W.tells out.new
         → LeftBy fault (W.tape out.old) (W.tape out.new)) }
 {

@@ -1,5 +1,5 @@
 ghost use Rattle.std.specs.Prelude.{◌≡◌, take};
-ghost use Rattle.sacn_packet.specs.Name.{padded};
+ghost use Rattle.sacn_packet.specs.Name.{padded_name};
 ghost use Rattle.cmd_listen.specs.Sources as sources;
 
 use sacn_packet::DataPacket;
@@ -54,7 +54,7 @@ impl Source {
 
 // The first 64 bytes of a name, with zero bytes up to 64.
 fn name_field(name: &[u8]) -> [u8; 64]
-    ensures { result ≡ padded (take 64 name.now) }
+    ensures { result ≡ padded_name (take 64 name.now) }
 {
     let sent = &name[..name.len().min(64)];
     let mut field = [0; 64];

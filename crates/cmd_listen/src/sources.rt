@@ -31,7 +31,7 @@ pub fn here(sources: &[Source], moment: u64) -> Sources
 // Those of other CIDs.
 fn without(sources: &[Source], cid: &[u8; 16]) -> Sources
     requires { length sources.now ≤ 4 }
-    ensures { result.items ≡ spec.without cid.now sources.now }
+    ensures { result.items ≡ spec.without_cid cid.now sources.now }
 {
     let mut left = Sources::new();
     for source in sources {
@@ -80,8 +80,8 @@ pub fn has_alike(sources: &[Source], source: &Source) -> bool
 }
 
 // How many packets of a source never came, from the one before to this one.
-pub fn missed(before: &[Source], source: &Source) -> u8
-    ensures { result ≡ spec.missed before.now source.now }
+pub fn packets_missed(before: &[Source], source: &Source) -> u8
+    ensures { result ≡ spec.packets_missed before.now source.now }
 {
     for other in before {
         if other.is_of(&source.cid) {
@@ -110,15 +110,15 @@ fn top(sources: &[Source]) -> u8
 }
 
 // Whether a source is of the greatest priority.
-pub fn leads(sources: &[Source], source: &Source) -> bool
-    ensures { result ≡ spec.leads sources.now source.now }
+pub fn is_leading(sources: &[Source], source: &Source) -> bool
+    ensures { result ≡ spec.is_leading sources.now source.now }
 {
     source.priority == top(sources)
 }
 
 // Whether there is one of a source's CID that leads.
-pub fn led(before: &[Source], source: &Source) -> bool
-    ensures { result ≡ spec.led before.now source.now }
+pub fn was_leading(before: &[Source], source: &Source) -> bool
+    ensures { result ≡ spec.was_leading before.now source.now }
 {
     let top = top(before);
     before

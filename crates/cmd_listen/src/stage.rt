@@ -25,15 +25,16 @@ pub struct Stage {
 impl Stage {
     ghost use Rattle.std.specs.Prelude.{◌≡◌, ℕ, List, [], ◌∷◌, OnOk, IfErr};
     ghost use Rattle.ascii_text.specs.Lines.{no_bytes};
-    ghost use Rattle.cmd_listen.specs.Runs.{EndsEarly, WatchesAll};
-    ghost use Rattle.cmd_listen.specs.Stage.{HasEnded, HasTaken, LastTold, StandsAt, closing};
+    ghost use Rattle.cmd_listen.specs.Runs.{WatchEndsEarly, WatchesAll};
+    ghost use Rattle.cmd_listen.specs.Stage.{WatchHasEnded, WatchHasTaken, LastTold};
+    ghost use Rattle.cmd_listen.specs.Stage.{StageStandsFor, last_lf};
 
     // Takes a byte of the input: LF ends a line.
     pub fn take_byte<W: Output>(&mut self, byte: u8, out: &mut W) -> Result<(), WatchFault>
         ensures told { W.tells out.new → W.tells out.old }
-        ensures taken { OnOk result (HasTaken (byte ∷ []) self.old self.new (W.tells out.new)
+        ensures taken { OnOk result (WatchHasTaken (byte ∷ []) self.old self.new (W.tells out.new)
             (W.tape out.old) (W.tape out.new)) }
-        ensures ended { IfErr result (λ fault. HasEnded fault (byte ∷ []) self.old
+        ensures ended { IfErr result (λ fault. WatchHasEnded fault (byte ∷ []) self.old
             (W.tells out.new) (W.tape out.old) (W.tape out.new)) }
     {
         let number = self.number + 1;
@@ -62,9 +63,9 @@ impl Stage {
     // Takes some bytes of the input.
     pub fn take_bytes<W: Output>(&mut self, bytes: &[u8], out: &mut W) -> Result<(), WatchFault>
         ensures told { W.tells out.new → W.tells out.old }
-        ensures taken { OnOk result (HasTaken bytes.now self.old self.new (W.tells out.new)
+        ensures taken { OnOk result (WatchHasTaken bytes.now self.old self.new (W.tells out.new)
             (W.tape out.old) (W.tape out.new)) }
-        ensures ended { IfErr result (λ fault. HasEnded fault bytes.now self.old
+        ensures ended { IfErr result (λ fault. WatchHasEnded fault bytes.now self.old
             (W.tells out.new) (W.tape out.old) (W.tape out.new)) }
     {
         for byte in bytes {
@@ -76,9 +77,10 @@ impl Stage {
     // Takes the LF that a last line without one lacks.
     fn take_rest<W: Output>(&mut self, out: &mut W) -> Result<(), WatchFault>
         ensures told { W.tells out.new → W.tells out.old }
-        ensures taken { OnOk result (HasTaken (closing self.old.pending.items) self.old self.new
+        ensures taken { OnOk result
+            (WatchHasTaken (last_lf self.old.pending.items) self.old self.new
             (W.tells out.new) (W.tape out.old) (W.tape out.new)) }
-        ensures ended { IfErr result (λ fault. HasEnded fault (closing self.old.pending.items)
+        ensures ended { IfErr result (λ fault. WatchHasEnded fault (last_lf self.old.pending.items)
             self.old (W.tells out.new) (W.tape out.old) (W.tape out.new)) }
     {
         if self.pending.is_empty() {
@@ -104,14 +106,14 @@ impl Stage {
     ) -> Result<(), WatchFault>
         ensures told_input { R.tells input.new → R.tells input.old }
         ensures told_output { W.tells out.new → W.tells out.old }
-        ensures all { OnOk result ((universes : List ℕ) → StandsAt universes self.old no_bytes
+        ensures all { OnOk result ((universes : List ℕ) → StageStandsFor universes self.old no_bytes
             → R.tells input.new → W.tells out.new
             → WatchesAll universes (R.ended input.new) (R.tape input.old) (R.tape input.new)
             (W.tape out.old) (W.tape out.new)) }
         ensures ends { IfErr result (λ fault. (universes : List ℕ)
-            → StandsAt universes self.old no_bytes
+            → StageStandsFor universes self.old no_bytes
             → R.tells input.new → W.tells out.new
-            → EndsEarly universes fault (R.ended input.new) (R.tape input.old)
+            → WatchEndsEarly universes fault (R.ended input.new) (R.tape input.old)
             (R.tape input.new) (W.tape out.old) (W.tape out.new)) }
     {
         let mut buf = [0; 4096];

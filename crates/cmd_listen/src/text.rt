@@ -17,7 +17,7 @@ pub struct Head {
 
 // Pushes the moment and the universe.
 pub fn push_head(text: &mut Vec<u8>, head: Head) -> Result<(), AllocError>
-    ensures { OnOk result (text.new.items ≡ text.old.items ++ sources.head_text head) }
+    ensures { OnOk result (text.new.items ≡ text.old.items ++ sources.line_head head) }
 {
     text.extend_from_slice(Buffer::new().format(head.moment).as_bytes())?;
     text.extend_from_slice(b" ")?;
@@ -33,7 +33,7 @@ pub fn push_told(
     source: &Source,
 ) -> Result<(), AllocError>
     ensures { OnOk result (text.new.items
-        ≡ text.old.items ++ sources.told head word.now source.now) }
+        ≡ text.old.items ++ sources.source_words head word.now source.now) }
 {
     push_head(text, head)?;
     text.extend_from_slice(word)?;
@@ -54,7 +54,7 @@ fn push_name(text: &mut Vec<u8>, field: &[u8]) -> Result<(), AllocError>
 
 // Pushes a byte of a name as it is shown.
 fn push_shown(text: &mut Vec<u8>, byte: u8) -> Result<(), AllocError>
-    ensures { OnOk result (text.new.items ≡ text.old.items ++ sources.shown_byte byte) }
+    ensures { OnOk result (text.new.items ≡ text.old.items ++ sources.name_byte byte) }
 {
     if byte == 0 {
         return Ok(());
@@ -69,7 +69,7 @@ fn push_shown(text: &mut Vec<u8>, byte: u8) -> Result<(), AllocError>
 
 fn push_cid(text: &mut Vec<u8>, cid: &[u8; 16]) -> Result<(), AllocError>
     ensures { OnOk result (text.new.items
-        ≡ text.old.items ++ sources.parted (encode_lower cid.now)) }
+        ≡ text.old.items ++ sources.uuid_text (encode_lower cid.now)) }
 {
     let mut digits = [0; 32];
     let _ = hex::encode_to_slice(cid, &mut digits);
@@ -77,7 +77,7 @@ fn push_cid(text: &mut Vec<u8>, cid: &[u8; 16]) -> Result<(), AllocError>
 }
 
 fn push_parted(text: &mut Vec<u8>, digits: &[u8; 32]) -> Result<(), AllocError>
-    ensures { OnOk result (text.new.items ≡ text.old.items ++ sources.parted digits.now) }
+    ensures { OnOk result (text.new.items ≡ text.old.items ++ sources.uuid_text digits.now) }
 {
     text.extend_from_slice(&digits[0..8])?;
     text.extend_from_slice(b"-")?;

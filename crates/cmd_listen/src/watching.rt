@@ -1,6 +1,6 @@
 ghost use Rattle.std.specs.Prelude.{◌≡◌, ◌==◌, ◌&&◌, not, length, if◌then◌else◌};
 ghost use Rattle.std.specs.List.{list_any};
-ghost use Rattle.cmd_listen.specs.Ignored.{counted, stray_place};
+ghost use Rattle.cmd_listen.specs.Ignored.{with_one_more, stray_place};
 ghost use Rattle.cmd_listen.specs.Watching as spec;
 
 use crate::ignored::{BACKWARDS, Counts, NONE, count, stray_place, tell_counts};
@@ -24,13 +24,13 @@ pub struct Watching {
 impl Watching {
     ghost use Rattle.std.specs.Prelude.{◌≡◌, ◌≤◌, ℕ, ◌++◌, OnOk, IfOk, All, length};
     ghost use Rattle.cmd_listen.specs.Watching as spec;
-    ghost use Rattle.cmd_listen.specs.Watching.{Watched};
-    ghost use Rattle.cmd_listen.specs.Stands.{AllStand};
+    ghost use Rattle.cmd_listen.specs.Watching.{WatchState};
+    ghost use Rattle.cmd_listen.specs.Stands.{MonitorsStand};
 
     // The universes before any line.
     pub fn new(alloc: Global, universes: &[u16]) -> Result<Watching, AllocError>
         requires { All (λ u. (1 ≤ u) × (u ≤ 63999)) universes.now }
-        ensures { IfOk result (λ watching. AllStand watching (spec.new_watch universes.now)) }
+        ensures { IfOk result (λ watching. MonitorsStand watching (spec.new_watch universes.now)) }
     {
         let monitors = watch_all(alloc, universes)?;
         Ok(Watching {
@@ -47,8 +47,8 @@ impl Watching {
         datagram: &[u8],
         text: &mut Vec<u8>,
     ) -> Result<(), AllocError>
-        ensures { OnOk result ((w : Watched) → AllStand self.old w
-            → AllStand self.new (spec.arrived moment datagram.now w)
+        ensures { OnOk result ((w : WatchState) → MonitorsStand self.old w
+            → MonitorsStand self.new (spec.after_arrival moment datagram.now w)
             × (text.new.items ≡ text.old.items ++ spec.arrived_text moment datagram.now w)) }
     {
         if moment < self.moment {
@@ -61,7 +61,7 @@ impl Watching {
 
     // Takes the end of the lines: all is told.
     pub fn close(&mut self, text: &mut Vec<u8>) -> Result<(), AllocError>
-        ensures { OnOk result ((w : Watched) → AllStand self.old w
+        ensures { OnOk result ((w : WatchState) → MonitorsStand self.old w
             → text.new.items ≡ text.old.items ++ spec.last_text w) }
     {
         let instant = Instant {
@@ -79,8 +79,9 @@ impl Watching {
         datagram: &[u8],
         text: &mut Vec<u8>,
     ) -> Result<(), AllocError>
-        ensures { OnOk result ((w : Watched) → AllStand self.old w → w.moment ≤ instant.moment
-            → AllStand self.new (spec.passed instant datagram.now w)
+        ensures { OnOk result
+            ((w : WatchState) → MonitorsStand self.old w → w.moment ≤ instant.moment
+            → MonitorsStand self.new (spec.after_instant instant datagram.now w)
             × (text.new.items ≡ text.old.items ++ spec.passed_text instant datagram.now w)) }
     {
         tell_counts(text, instant, 0, &mut self.strays)?;
@@ -100,7 +101,7 @@ impl Watching {
 fn count_stray(strays: &mut Counts, monitors: &[Monitor], to: u16, datagram: &[u8])
     ensures { strays.new ≡ (if not (length datagram.now == 0)
         && not (list_any (λ m. to == m.universe) monitors.now)
-        then counted (stray_place datagram.now) strays.old else strays.old) }
+        then with_one_more (stray_place datagram.now) strays.old else strays.old) }
 {
     if datagram.is_empty() || is_watched(monitors, to) {
         return;

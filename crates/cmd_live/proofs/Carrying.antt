@@ -5,7 +5,7 @@ use Rattle.std.specs.Prelude.{is_some}
 use Rattle.std.proofs.lemmas.List.{append_cancel_left}
 use Rattle.playback.specs.Played.{Move, current_after}
 use Rattle.desk.specs.declared.answer.Refused.{Refused}
-use Rattle.desk.specs.Played.{Act, ended}
+use Rattle.desk.specs.Played.{Act, ticks_since_end}
 use Rattle.desk.specs.Played.{moved_to, moves, own_time, refusal}
 use Rattle.console.specs.declared.call.Call.{Call}
 use Rattle.console.specs.declared.call.Call.TheVariants.{Order, Tick}
@@ -15,14 +15,14 @@ use Rattle.console.specs.Streams.{Production}
 use Rattle.devices.specs.Send.{Send}
 use Rattle.sacn_source.specs.declared.offered.Offered.{Offered}
 use Rattle.cmd_play.specs.declared.performance.Answer.{Answer}
-use Rattle.cmd_play.specs.Perform.{Performs, answer_to, lost_of, own_move}
-use Rattle.cmd_play.specs.Run.{taken, taken_by}
+use Rattle.cmd_play.specs.Perform.{Performs, call_answer, lost_of, own_move}
+use Rattle.cmd_play.specs.Run.{acts_after, acts_by}
 use Rattle.cmd_play.proofs.Carrying.{answered_by}
 use Rattle.cmd_play.proofs.Moved.{due_moves, own_is}
 use Rattle.cmd_live.specs.Booth.{BoothState}
-use Rattle.cmd_live.specs.Night.{seen}
-use Rattle.cmd_live.specs.Shown.{cue_lines, made, shown_answer}
-use Rattle.cmd_live.specs.Stands.{CarriesOut, Shows, is_accepted}
+use Rattle.cmd_live.specs.Night.{trace_of}
+use Rattle.cmd_live.specs.Shown.{cue_lines, moves_behind, shown_answer}
+use Rattle.cmd_live.specs.Stands.{BoothCarriesOut, ShowsText, accepts_call}
 use Rattle.cmd_live.proofs.Moves.{made_none}
 use Rattle.cmd_live.proofs.Texts.{Keeps, shows_more}
 
@@ -30,56 +30,56 @@ use Rattle.cmd_live.proofs.Texts.{Keeps, shows_more}
 
 -- a call that was accepted has no refusal
 not_refused : (r : Option Refused) (call : Call) (ticks : Option ℕ) (offers : List (ℕ × Offered))
-    (answer : Answer) → answer ≡ answer_to r call ticks offers → is_accepted answer ≡ true
+    (answer : Answer) → answer ≡ call_answer r call ticks offers → accepts_call answer ≡ true
     → r ≡ None
 not_refused None call ticks offers answer is done = refl
 not_refused (Some why) call ticks offers answer is done = cc
 
 is_refused : (r : Option Refused) (call : Call) (ticks : Option ℕ) (offers : List (ℕ × Offered))
-    (answer : Answer) → answer ≡ answer_to r call ticks offers → is_accepted answer ≡ false
+    (answer : Answer) → answer ≡ call_answer r call ticks offers → accepts_call answer ≡ false
     → is_some r ≡ true
 is_refused (Some why) call ticks offers answer is done = refl
 is_refused None (Order command) ticks offers answer is done = cc
 is_refused None Tick ticks offers answer is done = cc
 
 none_taken : (r : Option Refused) (act : Act) (history : List Act) → is_some r ≡ true
-    → taken_by r act history ≡ history
+    → acts_by r act history ≡ history
 none_taken (Some why) act history e = refl
 none_taken None act history e = cc
 
 module _ (p : Production) (history : List Act) (moment : ℕ) (call : Call) (answer : Answer)
     {before after : List Send} (did : Performs p history moment call before after answer) where
   abbrev pub acted : List Act
-  acted = taken p.show (At moment call) history
+  acted = acts_after p.show (At moment call) history
 
   -- the moves that came by a call
   abbrev pub newer : List Move
-  newer = made (moves p.show history) (moves p.show acted)
+  newer = moves_behind (moves p.show history) (moves p.show acted)
 
-  pub none_newer : is_accepted answer ≡ false → cue_lines newer ≡ []
+  pub none_newer : accepts_call answer ≡ false → cue_lines newer ≡ []
   none_newer done =
       let r = refusal p.show history (act_of moment call) in
       let same : acted ≡ history = none_taken r (act_of moment call) history
-      (is_refused r call (ended history) did.offers answer did.answer_is done) in
+      (is_refused r call (ticks_since_end history) did.offers answer did.answer_is done) in
       rw (same, made_none (moves p.show history)) refl
 
   pub newer_is : (current : Option ℕ) → current ≡ current_after (moves p.show acted)
-      → is_accepted answer ≡ true
-      → newer ≡ made (moves p.show history) (moved_to (own_move call current) moment
+      → accepts_call answer ≡ true
+      → newer ≡ moves_behind (moves p.show history) (moved_to (own_move call current) moment
       (own_time (act_of moment call).call) (due_moves p.show history moment))
   newer_is current is done =
       let r = refusal p.show history (act_of moment call) in
       let none : r ≡ None =
-      not_refused r call (ended history) did.offers answer did.answer_is done in
-      rw (is, none) (ap (λ all. made (moves p.show history) all)
+      not_refused r call (ticks_since_end history) did.offers answer did.answer_is done in
+      rw (is, none) (ap (λ all. moves_behind (moves p.show history) all)
       (own_is p.show history moment call none))
 
   -- so it was carried out
   pub carried : (line : List ℕ) (s0 s1 s2 s3 : BoothState) (lost : ℕ)
       → reading_of line ≡ At moment call → Keeps before s0 s1 (line ++ 10 ∷ [])
-      → Shows after s1 s2 (shown_answer moment answer) → Shows after s2 s3 (cue_lines newer)
+      → ShowsText after s1 s2 (shown_answer moment answer) → ShowsText after s2 s3 (cue_lines newer)
       → lost ≡ lost_of answer
-      → CarriesOut p history line (seen s0 before) (seen s3 after) lost
+      → BoothCarriesOut p history line (trace_of s0 before) (trace_of s3 after) lost
   carried line s0 s1 s2 s3 lost reading keeps answers follows counted =
       let answered = answered_by p history moment call before after answer _ lost did refl
       counted in

@@ -5,7 +5,7 @@ use Rattle.devices.specs.Send.{Send}
 use Rattle.fade.specs.Level.{Start}
 use Rattle.console.specs.Streams.{Production}
 use Rattle.live_input.specs.Night.{Happening, answers, is_over}
-use Rattle.live_input.specs.Recall.{IsRecalled, recall_of, recalled}
+use Rattle.live_input.specs.Recall.{IsRecalled, recall_of, recall_line}
 use Rattle.live_input.specs.Stands as live
 use Rattle.cmd_live.specs.declared.follow.Pause.{Pause}
 use Rattle.cmd_live.specs.declared.follow.Pause.TheVariants.{Ended}
@@ -54,7 +54,7 @@ module _ {F : Type 0} (sf : F → List Start → Type 0) (main_before main link_
       → (main_next → main) → (link_next → link) → led_by (line ∷ []) (led ∷ [])
       → (main_next → more ≡ led ∷ gives)
       → ((p : Production) (h : List Happening) → StandsFor sf p mid h
-      → StandsFor sf p new (recalled line h))
+      → StandsFor sf p new (recall_line line h))
       → ((h : List Happening) → live.StandsFor mid.input h → IsRecalled line h)
       → (link_next → (p : Production) (h : List Happening) → StandsFor sf p mid h
       → OffersLine p (history_at p.show h) line middle after)

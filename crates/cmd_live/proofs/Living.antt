@@ -13,29 +13,32 @@ use Rattle.desk.specs.Played.{Act}
 use Rattle.console.specs.Offering.{AreOffered}
 use Rattle.console.specs.Streams.{Production}
 use Rattle.console.specs.Spelling.{reading_of}
-use Rattle.cmd_play.specs.Run.{Carried, due_after, history_from, history_of, lines_in}
-use Rattle.cmd_play.specs.Run.{sends_of, taken}
+use Rattle.cmd_play.specs.Run.{CarriedLine, dues_after, history_from, history_of, lines_of_run}
+use Rattle.cmd_play.specs.Run.{sends_of_run, acts_after}
 use Rattle.live_input.specs.declared.given.GivenLine.{GivenLine}
 use Rattle.live_input.specs.declared.given.Given.TheVariants.{Help, Line, Over, Refused, Until}
 use Rattle.live_input.specs.declared.given.Given.TheVariants.{Where}
 use Rattle.live_input.specs.declared.reason.Reason.{Reason}
-use Rattle.live_input.specs.Laws.{NothingIsAsked, text_of}
+use Rattle.live_input.specs.Laws.{NothingIsAsked, lines_text}
 use Rattle.live_input.specs.Keys.{without_keys}
-use Rattle.live_input.specs.Night.{Answer, Happening, answer_to, answers, asked, at_moment, came}
+use Rattle.live_input.specs.Night.{Answer, Happening, answer_to, answers, asked, behind_moment}
+use Rattle.live_input.specs.Night.{came}
 use Rattle.live_input.specs.Night.{close, closed, dim, help, ignored_keys, is_over, lines_given}
-use Rattle.live_input.specs.Night.{now, order, over, place, refusal, shown, tick, wait, with_given}
+use Rattle.live_input.specs.Night.{now, order, over, place, refusal, refused_front, tick, wait}
+use Rattle.live_input.specs.Night.{with_given}
 use Rattle.live_input.specs.Stands as live
 use Rattle.live_input.specs.Told.{IsGiven, Tells}
 use Rattle.cmd_live.specs.declared.night.Night.{Night}
-use Rattle.cmd_live.specs.Booth.{BoothState, Deed, Told, begins, fails, happens, is_told, keys}
+use Rattle.cmd_live.specs.Booth.{BoothState, Deed, BoothNote, begins, fails, happens, is_told, keys}
 use Rattle.cmd_live.specs.Booth.{kept_at, refused, shown_at}
 use Rattle.cmd_live.specs.Booth.{waits_until}
-use Rattle.cmd_live.specs.Night.{InOrder, IsLived, Lives, Seen, answers_since, begins_at}
-use Rattle.cmd_live.specs.Night.{history_at, seen}
-use Rattle.cmd_live.specs.Night.{shown_in, told_in, told_of}
+use Rattle.cmd_live.specs.Night.{InOrder, IsLived, Lives, Trace, answers_since, begins_at}
+use Rattle.cmd_live.specs.Night.{history_at, trace_of}
+use Rattle.cmd_live.specs.Night.{shown_in, told_in, notes_of}
 use Rattle.cmd_live.specs.Night.{waited_in, waits_of}
 use Rattle.cmd_live.specs.Shown.{Takes, help_text, shown_of, shown_place}
-use Rattle.cmd_live.specs.Stands.{AreShown, BreaksOff, CarriesOut, GoesOn, Shows, StandsFor}
+use Rattle.cmd_live.specs.Stands.{AreShown, BreaksOff, BoothCarriesOut, GoesOn, ShowsText}
+use Rattle.cmd_live.specs.Stands.{StandsFor}
 use Rattle.cmd_live.specs.Stands.{Waits, told_keys}
 use Rattle.cmd_live.proofs.Texts.{takes_more, takes_none}
 
@@ -45,18 +48,18 @@ pub record Gives (answer : Answer) (given : GivenLine) : Type 0 where
   pub line : List ℕ
   pub is_given : IsGiven given line
   pub lines_are : (older : List (List ℕ)) → with_given answer older ≡ line ∷ older
-  pub shown_is : (p : Production) (start : List Act) (older : List Answer) (newest : Carried)
-      (run : List Carried) → shown_in p start (answer ∷ older) (newest ∷ run)
+  pub shown_is : (p : Production) (start : List Act) (older : List Answer) (newest : CarriedLine)
+      (run : List CarriedLine) → shown_in p start (answer ∷ older) (newest ∷ run)
       ≡ shown_in p start older run
-      ++ shown_of p (history_from p.show start (lines_in run)) (reading_of newest.line)
+      ++ shown_of p (history_from p.show start (lines_of_run run)) (reading_of newest.line)
       newest.offers
   pub told_is : (older : List Answer)
-      → told_of answer ≡ (if ignored_keys (answer ∷ older) then keys ∷ [] else [])
+      → notes_of answer ≡ (if ignored_keys (answer ∷ older) then keys ∷ [] else [])
   pub waits_none : waits_of answer ≡ []
 
 pub gives : (given : GivenLine) (answer : Answer) → Tells (Line given) answer → Gives answer given
 gives given (order moment line) t = record {
-  line = at_moment moment (without_keys line);
+  line = behind_moment moment (without_keys line);
   is_given = t;
   lines_are = λ _. refl;
   shown_is = λ _ _ _ _ _. refl;
@@ -64,7 +67,7 @@ gives given (order moment line) t = record {
   waits_none = refl;
 }
 gives given (dim moment typed) t = record {
-  line = at_moment moment _;
+  line = behind_moment moment _;
   is_given = t;
   lines_are = λ _. refl;
   shown_is = λ _ _ _ _ _. refl;
@@ -72,7 +75,7 @@ gives given (dim moment typed) t = record {
   waits_none = refl;
 }
 gives given (close moment typed) t = record {
-  line = at_moment moment _;
+  line = behind_moment moment _;
   is_given = t;
   lines_are = λ _. refl;
   shown_is = λ _ _ _ _ _. refl;
@@ -80,7 +83,7 @@ gives given (close moment typed) t = record {
   waits_none = refl;
 }
 gives given (tick moment) t = record {
-  line = at_moment moment _;
+  line = behind_moment moment _;
   is_given = t;
   lines_are = λ _. refl;
   shown_is = λ _ _ _ _ _. refl;
@@ -93,16 +96,16 @@ gives given _ t = absurd t
 
 -- what such an answer says: what is shown at it after a history, and what is told, where keys were
 -- left out of its line or not
-pub record Says (answer : Answer) (text : Tables → List Act → List ℕ) (told : Bool → List Told)
+pub record Says (answer : Answer) (text : Tables → List Act → List ℕ) (told : Bool → List BoothNote)
     (waited : List ℕ) : Type 0 where
   pub no_line : (older : List (List ℕ)) → with_given answer older ≡ older
-  pub shown_is : (p : Production) (start : List Act) (older : List Answer) (run : List Carried)
+  pub shown_is : (p : Production) (start : List Act) (older : List Answer) (run : List CarriedLine)
       → shown_in p start (answer ∷ older) run
-      ≡ shown_in p start older run ++ text p.show (history_from p.show start (lines_in run))
-  pub told_is : (older : List Answer) → told_of answer ≡ told (ignored_keys (answer ∷ older))
+      ≡ shown_in p start older run ++ text p.show (history_from p.show start (lines_of_run run))
+  pub told_is : (older : List Answer) → notes_of answer ≡ told (ignored_keys (answer ∷ older))
   pub waits_are : waits_of answer ≡ waited
 
-abbrev pub told_if : Bool → List Told
+abbrev pub told_if : Bool → List BoothNote
 told_if ignored = if ignored then keys ∷ [] else []
 
 pub places : (when : ℕ) (answer : Answer) → Tells (Where when) answer
@@ -110,7 +113,7 @@ pub places : (when : ℕ) (answer : Answer) → Tells (Where when) answer
 places when (place moment line) t = record {
   no_line = λ _. refl;
   shown_is = λ p start older run. ap (λ m. shown_in p start older run
-      ++ shown_place p.show (history_from p.show start (lines_in run)) m) (sym t);
+      ++ shown_place p.show (history_from p.show start (lines_of_run run)) m) (sym t);
   told_is = λ _. refl;
   waits_are = refl;
 }
@@ -130,7 +133,7 @@ pub refuses : (text : _) (reason : Reason) (answer : Answer) → Tells (Refused 
 refuses text reason (refusal why line) t = record {
   no_line = λ _. refl;
   shown_is = λ p start older run. sym (append-nil (shown_in p start older run));
-  told_is = λ _. ap (λ w. refused (shown line) w ∷ []) (sym t.1)
+  told_is = λ _. ap (λ w. refused (refused_front line) w ∷ []) (sym t.1)
       ∙ ap (λ bytes. refused bytes reason ∷ []) (sym t.0);
   waits_are = refl;
 }
@@ -162,8 +165,8 @@ overs _ t = absurd t
 -- ---- one step
 
 -- what was done since a moment was asked: what was told, offered, recorded and shown, in this order
-pub record Steps (moment : ℕ) (told : List Told) (waited : List ℕ) (sends : List Send)
-    (line text : List ℕ) (keeping : List Deed) (before after : Seen) : Type 0 where
+pub record Steps (moment : ℕ) (told : List BoothNote) (waited : List ℕ) (sends : List Send)
+    (line text : List ℕ) (keeping : List Deed) (before after : Trace) : Type 0 where
   pub begun_is : after.booth.begun ≡ before.booth.begun
   pub happened_is : after.booth.happened ≡ asked moment ∷ before.booth.happened
   pub offered_is : after.offered ≡ before.offered ++ sends
@@ -177,12 +180,12 @@ pub record Steps (moment : ℕ) (told : List Told) (waited : List ℕ) (sends : 
   pub faults_are : after.booth.faults ≡ before.booth.faults
 
 -- something is told behind it
-pub then_tells : (moment : ℕ) (told : Told) (before middle after : BoothState)
+pub then_tells : (moment : ℕ) (told : BoothNote) (before middle after : BoothState)
     {offered offers sends : List Send} {line text : List ℕ} {keeping : List Deed}
-    → Steps moment [] [] sends line text keeping (seen before offered) (seen middle offers)
+    → Steps moment [] [] sends line text keeping (trace_of before offered) (trace_of middle offers)
     → after ≡ is_told told middle
-    → Steps moment (told ∷ []) [] sends line text keeping (seen before offered)
-    (seen after offers)
+    → Steps moment (told ∷ []) [] sends line text keeping (trace_of before offered)
+    (trace_of after offers)
 then_tells moment told before middle after did is = rw is (record {
   begun_is = did.begun_is;
   happened_is = did.happened_is;
@@ -199,9 +202,9 @@ then_tells moment told before middle after did is = rw is (record {
 
 -- it is waited behind it
 pub then_waits : (moment due : ℕ) (before middle : BoothState) (offered offers : List Send)
-    → Steps moment [] [] [] [] [] [] (seen before offered) (seen middle offers)
-    → Steps moment [] (due ∷ []) [] [] [] [] (seen before offered)
-    (seen (waits_until due middle) offers)
+    → Steps moment [] [] [] [] [] [] (trace_of before offered) (trace_of middle offers)
+    → Steps moment [] (due ∷ []) [] [] [] [] (trace_of before offered)
+    (trace_of (waits_until due middle) offers)
 then_waits moment due before middle offered offers did = record {
   begun_is = did.begun_is;
   happened_is = did.happened_is;
@@ -219,17 +222,17 @@ then_waits moment due before middle offered offers did = record {
 -- and keys are told, where they were left out
 pub with_keys : (moment : ℕ) (ignored : Bool) (before middle after : BoothState)
     {offered offers sends : List Send} {line text : List ℕ} {keeping : List Deed}
-    → Steps moment [] [] sends line text keeping (seen before offered) (seen middle offers)
+    → Steps moment [] [] sends line text keeping (trace_of before offered) (trace_of middle offers)
     → after ≡ told_keys ignored middle
-    → Steps moment (told_if ignored) [] sends line text keeping (seen before offered)
-    (seen after offers)
+    → Steps moment (told_if ignored) [] sends line text keeping (trace_of before offered)
+    (trace_of after offers)
 with_keys moment true before middle after did is = then_tells moment keys before middle after did is
 with_keys moment false before middle after did is = rw is did
 
 -- a text was shown, since a moment was asked
 pub shows_since : (moment : ℕ) (before asks after : BoothState) (offered : List Send)
-    {text : List ℕ} → asks ≡ happens (asked moment) before → Shows offered asks after text
-    → Steps moment [] [] [] [] text [] (seen before offered) (seen after offered)
+    {text : List ℕ} → asks ≡ happens (asked moment) before → ShowsText offered asks after text
+    → Steps moment [] [] [] [] text [] (trace_of before offered) (trace_of after offered)
 shows_since moment before asks after offered is shows =
     let shown_in : BoothState → BoothState =
     λ b. record b { shown = after.shown; deeds = shows.deeds ++ b.deeds } in
@@ -249,12 +252,13 @@ shows_since moment before asks after offered is shows =
     }
 
 -- a line was carried out, since a moment was asked
-pub carried_since : (p : Production) (history : List Act) (moment : ℕ) (before asks after : BoothState)
+pub carried_since : (p : Production) (history : List Act) (moment : ℕ)
+    (before asks after : BoothState)
     (offered offers : List Send) {line : List ℕ} {lost : ℕ} → asks ≡ happens (asked moment) before
-    → (did : CarriesOut p history line (seen asks offered) (seen after offers) lost)
+    → (did : BoothCarriesOut p history line (trace_of asks offered) (trace_of after offers) lost)
     → Steps moment [] [] did.sends (line ++ 10 ∷ [])
     (shown_of p history (reading_of line) did.offers) (kept_at offered ∷ [])
-    (seen before offered) (seen after offers)
+    (trace_of before offered) (trace_of after offers)
 carried_since p history moment before asks after offered offers is did = record {
   begun_is = did.begun_is ∙ ap (λ (b : BoothState). b.begun) is;
   happened_is = did.happened_is ∙ ap (λ (b : BoothState). b.happened) is;
@@ -270,11 +274,11 @@ carried_since p history moment before asks after offered offers is did = record 
 }
 
 one_text : (line : List ℕ) (older : List (List ℕ))
-    → text_of (line ∷ older) ≡ text_of older ++ (line ++ 10 ∷ [])
+    → lines_text (line ∷ older) ≡ lines_text older ++ (line ++ 10 ∷ [])
 one_text line older =
     ap (flat_map (λ (l : List ℕ). l ++ 10 ∷ [])) (reverse-append (line ∷ []) older)
     ∙ flat_map-append (λ (l : List ℕ). l ++ 10 ∷ []) (reverse older) (line ∷ [])
-    ∙ ap (λ text. text_of older ++ text) (append-nil (line ++ 10 ∷ []))
+    ∙ ap (λ text. lines_text older ++ text) (append-nil (line ++ 10 ∷ []))
 
 more_failures : (older newer : List Send)
     → failures_of (older ++ newer) ≡ failures_of older + failures_of newer
@@ -282,8 +286,8 @@ more_failures = sum_by-append (λ (send : Send). cond send.failed 1 0)
 
 -- ---- in which order
 
-then_shown : (first : List Send) (run : List Carried) (newer older : List Deed)
-    → AreShown (first ++ sends_of run) newer → InOrder first run older
+then_shown : (first : List Send) (run : List CarriedLine) (newer older : List Deed)
+    → AreShown (first ++ sends_of_run run) newer → InOrder first run older
     → InOrder first run (newer ++ older)
 then_shown first run [] older new old = old
 then_shown first run (shown_at at ∷ newer) older new old =
@@ -322,7 +326,7 @@ pub history_joined : (show : Tables) (lines older : List (List ℕ))
     → history_of show (lines ++ older) ≡ history_from show (history_of show older) lines
 history_joined show [] older = refl
 history_joined show (line ∷ lines) older =
-    ap (taken show (reading_of line)) (history_joined show lines older)
+    ap (acts_after show (reading_of line)) (history_joined show lines older)
 
 -- the history behind the lines since a night began
 pub history_since : (show : Tables) (first happened : List Happening)
@@ -334,7 +338,7 @@ history_since show first happened =
     ∙ history_joined show (lines_given (answers_since first happened)) (lines_given (answers first))
 
 module _ (p : Production) (first happened : List Happening) (moment : ℕ)
-    (start before after : Seen) {lost : ℕ} (lives : Lives p first happened start before lost) where
+    (start before after : Trace) {lost : ℕ} (lives : Lives p first happened start before lost) where
   abbrev given : List Answer
   given = answers_since first happened
 
@@ -342,14 +346,15 @@ module _ (p : Production) (first happened : List Happening) (moment : ℕ)
   answer = answer_to (happened ++ first) moment
 
   history_is : history_of p.show (lines_given (answers (happened ++ first)))
-      ≡ history_from p.show (history_at p.show first) (lines_in lives.run)
+      ≡ history_from p.show (history_at p.show first) (lines_of_run lives.run)
   history_is = history_since p.show first happened
       ∙ ap (history_from p.show (history_at p.show first)) (sym lives.lines_are)
 
   -- an answer that gives no line
-  pub lives_on : {text : Tables → List Act → List ℕ} {told : Bool → List Told} {waited : List ℕ}
+  pub lives_on : {text : Tables → List Act → List ℕ} {told : Bool → List BoothNote}
+      {waited : List ℕ}
       → Says answer text told waited
-      → Steps moment (told_of answer) waited [] []
+      → Steps moment (notes_of answer) waited [] []
       (text p.show (history_of p.show (lines_given (answers (happened ++ first))))) [] before after
       → Lives p first (asked moment ∷ happened) start after lost
   lives_on {text = text} {told = told} {waited = waited} says did = record {
@@ -359,7 +364,7 @@ module _ (p : Production) (first happened : List Happening) (moment : ℕ)
     begun_is = did.begun_is ∙ lives.begun_is;
     happened_is = did.happened_is ∙ ap (λ hs. asked moment ∷ hs) lives.happened_is;
     offered_is = did.offered_is ∙ append-nil before.offered ∙ lives.offered_is;
-    kept = rw (← append-nil (text_of (lines_in lives.run)))
+    kept = rw (← append-nil (lines_text (lines_of_run lives.run)))
         (takes_more _ _ _ _ _ lives.kept did.kept);
     shown = rw (says.shown_is p (history_at p.show first) given lives.run)
         (takes_more _ _ _ _ _ lives.shown (rw history_is at did.shown));
@@ -369,8 +374,8 @@ module _ (p : Production) (first happened : List Happening) (moment : ℕ)
     in_order = then_shown start.offered lives.run did.showing lives.deeds
         (rw (did.offered_is ∙ append-nil before.offered ∙ lives.offered_is) at did.are_shown)
         lives.in_order;
-    told_is = did.told_is ∙ ap (λ told. told_of answer ++ told) lives.told_is
-        ∙ sym (append_assoc (told_of answer) (told_in given) start.booth.told);
+    told_is = did.told_is ∙ ap (λ told. notes_of answer ++ told) lives.told_is
+        ∙ sym (append_assoc (notes_of answer) (told_in given) start.booth.told);
     waited_is = rw says.waits_are (did.waited_is ∙ ap (λ others. waited ++ others) lives.waited_is
         ∙ sym (append_assoc waited (waited_in given) start.booth.waited));
     faults_are = did.faults_are ∙ lives.faults_are;
@@ -378,22 +383,23 @@ module _ (p : Production) (first happened : List Happening) (moment : ℕ)
   }
 
   -- an answer that gives one
-  pub lives_more : (given_line : GivenLine) (giving : Gives answer given_line) (count after_lost : ℕ)
+  pub lives_more : (given_line : GivenLine) (giving : Gives answer given_line)
+      (count after_lost : ℕ)
       (offers : List _) (sends : List Send)
       → AreOffered p.source
-      (due_after p (history_of p.show (lines_given (answers (happened ++ first))))
+      (dues_after p (history_of p.show (lines_given (answers (happened ++ first))))
       (reading_of giving.line)) sends offers
-      → Steps moment (told_of answer) [] sends (giving.line ++ 10 ∷ [])
+      → Steps moment (notes_of answer) [] sends (giving.line ++ 10 ∷ [])
       (shown_of p (history_of p.show (lines_given (answers (happened ++ first))))
       (reading_of giving.line) offers)
       (kept_at before.offered ∷ []) before after
       → count ≡ failures_of sends → after_lost ≡ min (lost + count) 18446744073709551615
       → Lives p first (asked moment ∷ happened) start after after_lost
   lives_more given_line giving count after_lost offers sends are_offered did counted sum =
-      let newest : Carried = record { line = giving.line; sends = sends; offers = offers } in
-      let offered : after.offered ≡ start.offered ++ sends_of (newest ∷ lives.run) =
+      let newest : CarriedLine = record { line = giving.line; sends = sends; offers = offers } in
+      let offered : after.offered ≡ start.offered ++ sends_of_run (newest ∷ lives.run) =
       did.offered_is ∙ ap (λ sent. sent ++ sends) lives.offered_is
-      ∙ append_assoc start.offered (sends_of lives.run) sends in
+      ∙ append_assoc start.offered (sends_of_run lives.run) sends in
       let deeds : List Deed = kept_at before.offered ∷ lives.deeds in
       record {
         run = newest ∷ lives.run;
@@ -403,7 +409,7 @@ module _ (p : Production) (first happened : List Happening) (moment : ℕ)
         begun_is = did.begun_is ∙ lives.begun_is;
         happened_is = did.happened_is ∙ ap (λ hs. asked moment ∷ hs) lives.happened_is;
         offered_is = offered;
-        kept = rw (one_text giving.line (lines_in lives.run))
+        kept = rw (one_text giving.line (lines_of_run lives.run))
             (takes_more _ _ _ _ _ lives.kept did.kept);
         shown = rw (giving.shown_is p (history_at p.show first) given newest lives.run)
             (takes_more _ _ _ _ _ lives.shown (rw history_is at did.shown));
@@ -413,11 +419,11 @@ module _ (p : Production) (first happened : List Happening) (moment : ℕ)
             ∙ sym (append_assoc did.showing deeds start.booth.deeds);
         in_order = then_shown start.offered (newest ∷ lives.run) did.showing deeds
             (rw offered at did.are_shown) (lives.offered_is, lives.in_order);
-        told_is = did.told_is ∙ ap (λ told. told_of answer ++ told) lives.told_is
-            ∙ sym (append_assoc (told_of answer) (told_in given) start.booth.told);
+        told_is = did.told_is ∙ ap (λ told. notes_of answer ++ told) lives.told_is
+            ∙ sym (append_assoc (notes_of answer) (told_in given) start.booth.told);
         waited_is = rw giving.waits_none (did.waited_is ∙ lives.waited_is);
         faults_are = did.faults_are ∙ lives.faults_are;
-        lost_is = let l = lives.lost_is in let m = more_failures (sends_of lives.run) sends in
+        lost_is = let l = lives.lost_is in let m = more_failures (sends_of_run lives.run) sends in
             omega (arith, sum, counted, l, m);
       }
 
@@ -438,7 +444,7 @@ same_since first (closed ends ∷ since) happened none = same_since first since 
 same_since first (asked moment ∷ since) happened none = absurd none
 
 pub lives_waiting : (p : Production) (first since happened : List Happening)
-    (start before after : Seen) {lost : ℕ} → NothingIsAsked since
+    (start before after : Trace) {lost : ℕ} → NothingIsAsked since
     → Lives p first happened start before lost
     → after.booth ≡ record before.booth { happened = since ++ before.booth.happened }
     → after.offered ≡ before.offered → Lives p first (since ++ happened) start after lost
@@ -472,7 +478,7 @@ on_err (Err e) x = x
 
 module _ {F : Type 0} (fader_stands_for : F → List Start → Type 0) where
   -- what was done twice was done
-  pub goes_more : (first next : Type 0) (old mid new : Night F) (before middle after : Seen)
+  pub goes_more : (first next : Type 0) (old mid new : Night F) (before middle after : Trace)
       (one : GoesOn fader_stands_for first old mid before middle)
       (two : GoesOn fader_stands_for next mid new middle after) → (next → first)
       → (goes : GoesOn fader_stands_for next old new before after)
@@ -491,7 +497,7 @@ module _ {F : Type 0} (fader_stands_for : F → List Start → Type 0) where
     length-append two.since one.since,
   )
 
-  pub breaks_more : (first next : Type 0) (old mid new : Night F) (before middle after : Seen)
+  pub breaks_more : (first next : Type 0) (old mid new : Night F) (before middle after : Trace)
       → GoesOn fader_stands_for first old mid before middle
       → BreaksOff fader_stands_for next mid new middle after → (next → first)
       → BreaksOff fader_stands_for next old new before after
@@ -501,7 +507,7 @@ module _ {F : Type 0} (fader_stands_for : F → List Start → Type 0) where
     fails_at = two.fails_at;
   }
 
-  pub goes_none : (tells : Type 0) (night : Night F) (before after : Seen)
+  pub goes_none : (tells : Type 0) (night : Night F) (before after : Trace)
       → (tells → after ≡ before) → GoesOn fader_stands_for tells night night before after
   goes_none tells night before after same = record {
     since = [];
@@ -511,7 +517,8 @@ module _ {F : Type 0} (fader_stands_for : F → List Start → Type 0) where
 
   pub breaks_none : (tells : Type 0) (night : Night F) (before after : BoothState)
       (offered : List Send) → (tells → after ≡ fails before)
-      → BreaksOff fader_stands_for tells night night (seen before offered) (seen after offered)
+      → BreaksOff fader_stands_for tells night night (trace_of before offered)
+      (trace_of after offered)
   breaks_none tells night before after offered failed = record {
     middle = before;
     goes = goes_none tells night _ _ (λ told. refl);
@@ -519,8 +526,8 @@ module _ {F : Type 0} (fader_stands_for : F → List Start → Type 0) where
   }
 
   -- an answer that gives no line
-  pub goes_quietly : (tells : Type 0) (old new : Night F) (moment : ℕ) (before after : Seen)
-      {text : Tables → List Act → List ℕ} {told : Bool → List Told} {waited : List ℕ}
+  pub goes_quietly : (tells : Type 0) (old new : Night F) (moment : ℕ) (before after : Trace)
+      {text : Tables → List Act → List ℕ} {told : Bool → List BoothNote} {waited : List ℕ}
       → new.console ≡ old.console → new.lost ≡ old.lost
       → ((happened : List Happening) → live.StandsFor old.input happened
       → live.StandsFor new.input (asked moment ∷ happened))
@@ -544,13 +551,14 @@ module _ {F : Type 0} (fader_stands_for : F → List Start → Type 0) where
       lived = λ told p first happened start stands lives.
           let said = says (happened ++ first) stands.input_stands in
           rw lost_is (lives_on p first happened moment start before after lives said
-          (rw (said.told_is (answers (happened ++ first))) (did told p (happened ++ first) stands)));
+          (rw (said.told_is (answers (happened ++ first)))
+          (did told p (happened ++ first) stands)));
     },
     omega arith,
   )
 
   -- nothing was asked
-  pub goes_waiting : (tells told : Type 0) (old new : Night F) (before after : Seen)
+  pub goes_waiting : (tells told : Type 0) (old new : Night F) (before after : Trace)
       → new.console ≡ old.console → new.lost ≡ old.lost
       → Waits told old.input new.input before.booth after.booth → (tells → told)
       → after.offered ≡ before.offered → GoesOn fader_stands_for tells old new before after
@@ -568,7 +576,7 @@ module _ {F : Type 0} (fader_stands_for : F → List Start → Type 0) where
 
 -- ---- whole nights
 
-lives_none : (p : Production) (first : List Happening) (before : Seen)
+lives_none : (p : Production) (first : List Happening) (before : Trace)
     → Lives p first [] before before 0
 lives_none p first before = record {
   run = [];
@@ -589,7 +597,7 @@ lives_none p first before = record {
 }
 
 module _ {F : Type 0} (fader_stands_for : F → List Start → Type 0) (tells : Type 0)
-    (old new : Night F) (before after : Seen)
+    (old new : Night F) (before after : Trace)
     (goes : GoesOn fader_stands_for tells old new before after) (p : Production)
     (first : List Happening) (stands : StandsFor fader_stands_for p old first)
     (none : old.lost ≡ 0) (told : tells) where

@@ -7,16 +7,16 @@ use Rattle.std.proofs.lemmas.Grind.{flat_map-append}
 use Rattle.std.proofs.lemmas.List.{reverse-append}
 use Rattle.playback.specs.Played.{Move}
 use Rattle.console.specs.CueLine.{cue_line}
-use Rattle.cmd_live.specs.Shown.{cue_lines, made}
+use Rattle.cmd_live.specs.Shown.{cue_lines, moves_behind}
 
 -- what came behind moves is what stands in front of them
-pub made_is : (newer moves : List Move) → made moves (newer ++ moves) ≡ newer
+pub made_is : (newer moves : List Move) → moves_behind moves (newer ++ moves) ≡ newer
 made_is newer moves =
     let count : length (newer ++ moves) - length moves ≡ length newer =
     omega (arith, length-append newer moves) in
     ap (λ n. take n (newer ++ moves)) count ∙ take-append_seam newer moves
 
-pub made_none : (moves : List Move) → made moves moves ≡ []
+pub made_none : (moves : List Move) → moves_behind moves moves ≡ []
 made_none moves = made_is [] moves
 
 pub one_line : (move : Move) (newer : List Move)

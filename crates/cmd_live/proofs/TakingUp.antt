@@ -1,6 +1,7 @@
 -- A record whose lines are carried out again, byte by byte.
 use Rattle.std.proofs.Common.{◌≡◌, ℕ, ◌+◌, ◌-◌, ◌<◌, ◌≤◌, true, false, refl, ap, arith, sym, ◌∙◌}
-use Rattle.std.proofs.Common.{List, [], ◌∷◌, ◌++◌, length, get_or, take, drop, take-append-drop, append-nil}
+use Rattle.std.proofs.Common.{List, [], ◌∷◌, ◌++◌, length, get_or, take, drop, take-append-drop}
+use Rattle.std.proofs.Common.{append-nil}
 use Rattle.std.proofs.Common.{append_assoc, subst}
 use Rattle.std.specs.Prelude.{slice_range, ◌==◌}
 use Rattle.std.proofs.lemmas.Bool.Decides.{nat_tests}
@@ -12,9 +13,9 @@ use Rattle.devices.specs.Send.{Send}
 use Rattle.console.specs.Offering.{AreOffered}
 use Rattle.console.specs.Spelling.{reading_of}
 use Rattle.ascii_text.specs.Lines.{Cut, cut_of, no_bytes, with_byte}
-use Rattle.cmd_play.specs.Run.{due_after, history_from, history_of, lines_in, sends_of}
+use Rattle.cmd_play.specs.Run.{dues_after, history_from, history_of, lines_of_run, sends_of_run}
 use Rattle.live_input.specs.Night.{Happening}
-use Rattle.live_input.specs.Recall.{AreRecalled, IsRecalled, recall_of, recalled}
+use Rattle.live_input.specs.Recall.{AreRecalled, IsRecalled, recall_of, recall_line}
 use Rattle.live_input.specs.Stands as live
 use Rattle.cmd_live.specs.declared.night.Night.{Night}
 use Rattle.live_input.proofs.Recalling.{recalled_lines}
@@ -75,7 +76,7 @@ module _ {F : Type 0} (sf : F → List Start → Type 0) (tells : Type 0) (a : N
   pub takes_one : (first next : Type 0) (b c : Night F) (line : List ℕ) (lines : List (List ℕ))
       (middle after : List Send) → TakesUp sf first a b lines before middle → (next → first)
       → ((p : Production) (h : List Happening) → StandsFor sf p b h
-      → StandsFor sf p c (recalled line h))
+      → StandsFor sf p c (recall_line line h))
       → ((h : List Happening) → live.StandsFor b.input h → IsRecalled line h)
       → (next → (p : Production) (h : List Happening) → StandsFor sf p b h
       → OffersLine p (history_at p.show h) line middle after)
@@ -91,7 +92,7 @@ module _ {F : Type 0} (sf : F → List Start → Type 0) (tells : Type 0) (a : N
         let all = takes.are_recalled p older stands are in
         let offered = offers told p (recall_of (lines ++ older)) (takes.stands p older stands) in
         let history_is : history_at p.show (recall_of (lines ++ older))
-        ≡ history_from p.show (history_of p.show older) (lines_in so_far.run) =
+        ≡ history_from p.show (history_of p.show older) (lines_of_run so_far.run) =
         ap (history_of p.show) (recalled_lines (lines ++ older) all)
         ∙ history_joined p.show lines older
         ∙ ap (history_from p.show (history_of p.show older)) (sym so_far.lines_are) in
@@ -100,12 +101,12 @@ module _ {F : Type 0} (sf : F → List Start → Type 0) (tells : Type 0) (a : N
               ∷ so_far.run;
           lines_are = ap (λ ls. line ∷ ls) so_far.lines_are;
           is_run = (
-            subst (λ h. AreOffered p.source (due_after p h (reading_of line)) offered.sends
+            subst (λ h. AreOffered p.source (dues_after p h (reading_of line)) offered.sends
                 offered.offers) history_is offered.are_offered,
             so_far.is_run,
           );
           after_is = offered.after_is ∙ ap (λ sent. sent ++ offered.sends) so_far.after_is
-              ∙ append_assoc before (sends_of so_far.run) offered.sends;
+              ∙ append_assoc before (sends_of_run so_far.run) offered.sends;
         };
     ready = ready;
   }
@@ -143,24 +144,26 @@ module _ {F : Type 0} (sf : F → List Start → Type 0) (tells : Type 0) (a : N
         → at < length text → (get_or text at 0 == 10) ≡ true
         → HasTaken sf told tells a b text at from number before middle → (next → tells)
         → ((q : Production) (h : List Happening) → StandsFor sf q b h
-        → StandsFor sf q c (recalled (slice_range text from at) h))
+        → StandsFor sf q c (recall_line (slice_range text from at) h))
         → ((h : List Happening) → live.StandsFor b.input h
         → IsRecalled (slice_range text from at) h)
         → (next → (p : Production) (h : List Happening) → StandsFor sf p b h
         → OffersLine p (history_at p.show h) (slice_range text from at) middle after)
         → IsReady c
         → HasTaken sf told next a c text (at + 1) (at + 1) (number + 1) before after
-    taken_line next b c at from number middle after within ends r tell then is offers ready = record {
-      told_before = λ t. r.told_before (tell t);
-      takes = rw (cut_more text at within, ends, r.rest_is)
-          (takes_one tells next b c (slice_range text from at) (cut_at text at).lines middle after
-          r.takes tell then is offers ready);
-      number_is = rw (cut_more text at within, ends) (omega (arith, r.number_is));
-      rest_is = rw (cut_more text at within, ends) (ap (λ n. take n (drop (at + 1) text))
-          (let e : 0 ≡ (at + 1) - (at + 1) = omega arith in e));
-      from_in = omega arith;
-      few = omega (arith, r.few);
-    }
+    taken_line next b c at from number middle after within ends r tell then is offers ready =
+        record {
+          told_before = λ t. r.told_before (tell t);
+          takes = rw (cut_more text at within, ends, r.rest_is)
+              (takes_one tells next b c (slice_range text from at) (cut_at text at).lines
+              middle after
+              r.takes tell then is offers ready);
+          number_is = rw (cut_more text at within, ends) (omega (arith, r.number_is));
+          rest_is = rw (cut_more text at within, ends) (ap (λ n. take n (drop (at + 1) text))
+              (let e : 0 ≡ (at + 1) - (at + 1) = omega arith in e));
+          from_in = omega arith;
+          few = omega (arith, r.few);
+        }
 
     -- LF behind a line that is not
     pub stops_here : (b : Night F) (at from number : ℕ) (after : List Send) → at < length text

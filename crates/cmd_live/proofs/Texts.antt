@@ -6,7 +6,7 @@ use Rattle.devices.specs.Send.{Send}
 use Rattle.devices.specs.Tape.{Tape, with_failure, with_more}
 use Rattle.cmd_live.specs.Booth.{BoothState, Deed, keeps, kept_at, shown_at, shows}
 use Rattle.cmd_live.specs.Shown.{Takes}
-use Rattle.cmd_live.specs.Stands.{AreShown, Shows}
+use Rattle.cmd_live.specs.Stands.{AreShown, ShowsText}
 
 pub takes_none : (t : Tape ℕ) → Takes t t []
 takes_none t = record { never_fewer = omega arith; whole = λ _. sym (append-nil t.items) }
@@ -46,7 +46,7 @@ kept_by (Err fault) tells offered s t line ok err told =
 -- ---- what it shows
 
 one_deed : (offered : List Send) (s : BoothState) (shown : Tape ℕ) (text : List ℕ)
-    → Takes s.shown shown text → Shows offered s (shows shown offered s) text
+    → Takes s.shown shown text → ShowsText offered s (shows shown offered s) text
 one_deed offered s shown text takes = record {
   takes = takes;
   deeds = shown_at offered ∷ [];
@@ -58,13 +58,13 @@ pub shown_by : {E : Type 0} (r : Result (Unit {0}) E) (tells : Type 0) (offered 
     (s t : BoothState) (text : List ℕ)
     → OnOk r (tells → t ≡ shows (with_more s.shown text) offered s)
     → OnErr r (tells → t ≡ shows (with_failure s.shown) offered s) → tells
-    → Shows offered s t text
+    → ShowsText offered s t text
 shown_by (Ok done) tells offered s t text ok err told =
     rw (ok told) (one_deed offered s _ text (took s.shown text))
 shown_by (Err fault) tells offered s t text ok err told =
     rw (err told) (one_deed offered s _ text (failed s.shown text))
 
-pub shows_none : (offered : List Send) (s : BoothState) → Shows offered s s []
+pub shows_none : (offered : List Send) (s : BoothState) → ShowsText offered s s []
 shows_none offered s = record {
   takes = takes_none s.shown;
   deeds = [];
@@ -79,8 +79,8 @@ all_shown offered (shown_at at ∷ newer) older new old =
     (new.0, all_shown offered newer older new.1 old)
 all_shown offered (kept_at at ∷ newer) older new old = absurd new
 
-pub shows_more : (offered : List Send) (s t u : BoothState) (x y : List ℕ) → Shows offered s t x
-    → Shows offered t u y → Shows offered s u (x ++ y)
+pub shows_more : (offered : List Send) (s t u : BoothState) (x y : List ℕ) → ShowsText offered s t x
+    → ShowsText offered t u y → ShowsText offered s u (x ++ y)
 shows_more offered s t u x y first next = record {
   takes = takes_more s.shown t.shown u.shown x y first.takes next.takes;
   deeds = next.deeds ++ first.deeds;

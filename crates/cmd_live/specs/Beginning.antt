@@ -7,14 +7,15 @@ use Rattle.patch.specs.Frame.{is_base}
 use Rattle.show.specs.Tables.{Tables}
 use Rattle.show_line.specs.Said.{desk_limits}
 use Rattle.show_reader.specs.ItsShow.{OfItsShow}
-use Rattle.show_reader.specs.Reading.{fault_of}
+use Rattle.show_reader.specs.Reading.{text_fault}
 use Rattle.sacn_source.specs.Identity.{Identity}
 use Rattle.console.specs.Streams.{Production}
 use Rattle.console.specs.CueLine.{cue_text}
 use Rattle.cmd_faults.specs.declared.fault.RunFault.{RunFault}
 use Rattle.cmd_faults.specs.declared.fault.RunFault.TheVariants as run
 use Rattle.ascii_text.specs.Lines.{cut_of}
-use Rattle.cmd_play.specs.Run.{Carried, IsRunFrom, due_after, history_of, lines_in, sends_of}
+use Rattle.cmd_play.specs.Run.{CarriedLine, IsRunFrom, dues_after, history_of, lines_of_run}
+use Rattle.cmd_play.specs.Run.{sends_of_run}
 use Rattle.desk.specs.Played.{Act}
 use Rattle.devices.specs.Send.{Send}
 use Rattle.console.specs.Offering.{AreOffered}
@@ -33,7 +34,7 @@ pub record IsReady {F : Type 0} (night : Night F) : Type 0 where
 -- a night was opened for the show that a text means: nothing has happened yet
 pub record OpensNight {F : Type 0} (fader_stands_for : F → List Start → Type 0)
     (night : Night F) (show : List ℕ) (base : ℕ) (source : Identity) : Type 0 where
-  pub faultless : fault_of desk_limits show ≡ None
+  pub faultless : text_fault desk_limits show ≡ None
   pub numbered : OfItsShow show (λ s. IsTrue (is_base s.patch base))
   pub stands : OfItsShow show (λ s. StandsFor fader_stands_for
       (record { show = s; base = base; source = source }) night [])
@@ -71,16 +72,16 @@ pub record OffersLine (p : Production) (start : List Act) (line : List ℕ) (bef
     : Type 0 where
   pub sends : List Send
   pub offers : List (ℕ × Offered)
-  pub are_offered : AreOffered p.source (due_after p start (reading_of line)) sends offers
+  pub are_offered : AreOffered p.source (dues_after p start (reading_of line)) sends offers
   pub after_is : after ≡ before ++ sends
 
 -- and so at each of these lines, behind older ones
-pub record Follows (p : Production) (older lines : List (List ℕ)) (before after : List Send)
+pub record FollowsLines (p : Production) (older lines : List (List ℕ)) (before after : List Send)
     : Type 0 where
-  pub run : List Carried
-  pub lines_are : lines_in run ≡ lines
+  pub run : List CarriedLine
+  pub lines_are : lines_of_run run ≡ lines
   pub is_run : IsRunFrom p (history_of p.show older) run
-  pub after_is : after ≡ before ++ sends_of run
+  pub after_is : after ≡ before ++ sends_of_run run
 
 -- a night takes up these lines behind those that it has taken up: each is given again and carried
 -- out
@@ -94,7 +95,7 @@ pub record TakesUp {F : Type 0} (fader_stands_for : F → List Start → Type 0)
       → AreRecalled (lines ++ older)
   pub follows : tells → (p : Production) (older : List (List ℕ))
       → StandsFor fader_stands_for p old (recall_of older) → AreRecalled older
-      → Follows p older lines before after
+      → FollowsLines p older lines before after
   pub ready : IsReady new
 
 -- the line of this number is the first of a text that no live night gives behind those before it

@@ -4,7 +4,7 @@ use Rattle.std.specs.Prelude.{codes, if◌then◌else◌, flat_map, length, reve
 use Rattle.devices.specs.Tape.{Tape}
 use Rattle.show.specs.Tables.{Tables}
 use Rattle.playback.specs.Played.{Move, current_after, go_target}
-use Rattle.desk.specs.Played.{Act, ended, moves, refusal, settings}
+use Rattle.desk.specs.Played.{Act, ticks_since_end, moves, refusal, settings}
 use Rattle.sacn_source.specs.declared.offered.Offered.{Offered}
 use Rattle.console.specs.Streams.{Production}
 use Rattle.console.specs.CueLine.{cue_line}
@@ -14,8 +14,8 @@ use Rattle.console.specs.declared.reading.Reading.TheVariants.{At}
 use Rattle.console.specs.Spelling.{act_of}
 use Rattle.cmd_play.specs.declared.performance.Answer.{Answer}
 use Rattle.cmd_play.specs.declared.performance.Answer.TheVariants.{Ticked}
-use Rattle.cmd_play.specs.Perform.{answer_to, lost_of, text_of_answer}
-use Rattle.cmd_play.specs.Run.{taken}
+use Rattle.cmd_play.specs.Perform.{call_answer, lost_of, text_of_answer}
+use Rattle.cmd_play.specs.Run.{acts_after}
 
 -- the answer to a command is shown, and each refusal; that to a tick where it lost a packet
 abbrev pub is_shown : Answer → Bool
@@ -26,8 +26,8 @@ abbrev pub shown_answer : ℕ → Answer → List ℕ
 shown_answer moment answer = if is_shown answer then text_of_answer moment answer else []
 
 -- the moves that came behind these
-abbrev pub made : List Move → List Move → List Move
-made before after = take (length after - length before) after
+abbrev pub moves_behind : List Move → List Move → List Move
+moves_behind before after = take (length after - length before) after
 
 -- their lines, in their order, each with the moment of the move itself
 abbrev pub cue_lines : List Move → List ℕ
@@ -36,10 +36,11 @@ cue_lines moves = flat_map (λ move. cue_line move.moment move.cue) (reverse mov
 -- what is shown of a line after a history: the answer to its call, and each move that came by it
 abbrev pub shown_of : Production → List Act → Reading → List (ℕ × Offered) → List ℕ
 shown_of p history (At moment call) offers =
-    let answer = answer_to (refusal p.show history (act_of moment call)) call (ended history)
+    let answer =
+    call_answer (refusal p.show history (act_of moment call)) call (ticks_since_end history)
     offers in
-    shown_answer moment answer ++ cue_lines (made (moves p.show history)
-    (moves p.show (taken p.show (At moment call) history)))
+    shown_answer moment answer ++ cue_lines (moves_behind (moves p.show history)
+    (moves p.show (acts_after p.show (At moment call) history)))
 shown_of p history _ offers = []
 
 -- what is shown of `where` after a history: the current cue and the one that GO would come to, and

@@ -11,19 +11,19 @@ use Rattle.console.specs.Streams.{Production}
 use Rattle.console.specs.Spelling.{reading_of}
 use Rattle.cmd_play.specs.declared.performance.Answer.{Answer}
 use Rattle.cmd_play.specs.declared.performance.Answer.TheVariants.{Refused}
-use Rattle.cmd_play.specs.Run.{due_after, history_of}
+use Rattle.cmd_play.specs.Run.{dues_after, history_of}
 use Rattle.live_input.specs.Night.{Happening, answers, lines_given}
-use Rattle.live_input.specs.Kept.{Kept}
+use Rattle.live_input.specs.Kept.{InputState}
 use Rattle.live_input.specs.Laws.{NothingIsAsked}
 use Rattle.live_input.specs.Stands as live
 use Rattle.cmd_live.specs.declared.night.Night.{Night}
 use Rattle.cmd_live.specs.Booth.{BoothState, Deed, fails, is_told, kept_at, keys, shown_at}
-use Rattle.cmd_live.specs.Night.{Lives, Seen, seen}
+use Rattle.cmd_live.specs.Night.{Lives, Trace, trace_of}
 use Rattle.cmd_live.specs.Shown.{Takes, shown_of}
 
-abbrev pub is_accepted : Answer → Bool
-is_accepted (Refused why) = false
-is_accepted _ = true
+abbrev pub accepts_call : Answer → Bool
+accepts_call (Refused why) = false
+accepts_call _ = true
 
 -- it showed, and recorded nothing, when the link had been offered this
 abbrev pub AreShown : List Send → List Deed → Type 0
@@ -33,7 +33,8 @@ AreShown offered (kept_at at ∷ older) = ⊥
 
 -- a text was shown when the link had been offered this, unless a call failed meanwhile, and nothing
 -- else was done
-pub record Shows (offered : List Send) (before after : BoothState) (text : List ℕ) : Type 0 where
+pub record ShowsText (offered : List Send) (before after : BoothState)
+    (text : List ℕ) : Type 0 where
   pub takes : Takes before.shown after.shown text
   pub deeds : List Deed
   pub are_shown : AreShown offered deeds
@@ -41,11 +42,12 @@ pub record Shows (offered : List Send) (before after : BoothState) (text : List 
 
 -- a line was carried out after a history: it was recorded, then the link was offered what is due at
 -- it, and then it was shown
-pub record CarriesOut (p : Production) (history : List Act) (line : List ℕ) (before after : Seen)
+pub record BoothCarriesOut (p : Production) (history : List Act) (line : List ℕ)
+    (before after : Trace)
     (lost : ℕ) : Type 0 where
   pub sends : List Send
   pub offers : List (ℕ × Offered)
-  pub are_offered : AreOffered p.source (due_after p history (reading_of line)) sends offers
+  pub are_offered : AreOffered p.source (dues_after p history (reading_of line)) sends offers
   pub begun_is : after.booth.begun ≡ before.booth.begun
   pub happened_is : after.booth.happened ≡ before.booth.happened
   pub offered_is : after.offered ≡ before.offered ++ sends
@@ -71,26 +73,26 @@ pub record StandsFor {F : Type 0} (fader_stands_for : F → List Start → Type 
 -- a night has gone on: it stands for what happened since, behind what happened before; and where
 -- its devices tell, it has lived through all of that
 pub record GoesOn {F : Type 0} (fader_stands_for : F → List Start → Type 0)
-    (tell : Type 0) (old new : Night F) (before after : Seen) : Type 0 where
+    (tell : Type 0) (old new : Night F) (before after : Trace) : Type 0 where
   pub since : List Happening
   pub stands : (p : Production) (happened : List Happening)
       → StandsFor fader_stands_for p old happened
       → StandsFor fader_stands_for p new (since ++ happened)
-  pub lived : tell → (p : Production) (first happened : List Happening) (start : Seen)
+  pub lived : tell → (p : Production) (first happened : List Happening) (start : Trace)
       → StandsFor fader_stands_for p old (happened ++ first)
       → Lives p first happened start before old.lost
       → Lives p first (since ++ happened) start after new.lost
 
 -- it has gone on, and then the clock or a wait failed
 pub record BreaksOff {F : Type 0} (fader_stands_for : F → List Start → Type 0)
-    (tell : Type 0) (old new : Night F) (before after : Seen) : Type 0 where
+    (tell : Type 0) (old new : Night F) (before after : Trace) : Type 0 where
   pub middle : BoothState
-  pub goes : GoesOn fader_stands_for tell old new before (seen middle after.offered)
+  pub goes : GoesOn fader_stands_for tell old new before (trace_of middle after.offered)
   pub fails_at : tell → after.booth ≡ fails middle
 
 -- it has gone on, and was asked what is next for as often as it can be
 pub record WearsOut {F : Type 0} (fader_stands_for : F → List Start → Type 0)
-    (tell : Type 0) (old new : Night F) (before after : Seen) : Type 0 where
+    (tell : Type 0) (old new : Night F) (before after : Trace) : Type 0 where
   pub goes : GoesOn fader_stands_for tell old new before after
   pub turned : 18446744073709551615 ≤ length goes.since
 
@@ -100,7 +102,7 @@ told_keys true state = is_told keys state
 told_keys false state = state
 
 -- an input waited: it stands for what happened since, and nothing else was done
-pub record Waits (tells : Type 0) (old new : Kept) (before after : BoothState) : Type 0 where
+pub record Waits (tells : Type 0) (old new : InputState) (before after : BoothState) : Type 0 where
   pub since : List Happening
   pub none_asked : NothingIsAsked since
   pub stands : (happened : List Happening) → live.StandsFor old happened

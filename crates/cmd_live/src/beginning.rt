@@ -6,7 +6,7 @@ ghost use Rattle.console.specs.Streams.{Production};
 ghost use Rattle.ascii_text.specs.Lines.{cut_of};
 ghost use Rattle.cmd_play.specs.Opened.{Refuses};
 ghost use Rattle.live_input.specs.Night.{Happening, answers, is_over, now};
-ghost use Rattle.live_input.specs.Recall.{AreRecalled, IsRecalled, recall_of, recalled};
+ghost use Rattle.live_input.specs.Recall.{AreRecalled, IsRecalled, recall_of, recall_line};
 ghost use Rattle.live_input.specs.Stands as live;
 ghost use Rattle.cmd_live.specs.Beginning.{BeginsWith, HasTakenUp, IsFirstOther, IsReady};
 ghost use Rattle.cmd_live.specs.Beginning.{OffersLine, OpensNight, TakesUp, has_cue};
@@ -70,11 +70,11 @@ impl<F: Fader> Night<F> {
         Ok(())
     }
 
-    /// Takes up lines of the record of a live night behind those before, by their text: carries them
-    /// out, and offers to the link what is due. A night that goes on behind a record takes it up
-    /// over [`Silent`]; one that follows another console takes up its lines as they come, over a
-    /// link of its own. Bytes behind the last LF are no line yet. Answers how many bytes of the text
-    /// are whole lines. Packets that are lost are not counted.
+    /// Takes up lines of the record of a live night behind those before, by their text: carries
+    /// them out, and offers to the link what is due. A night that goes on behind a record takes it
+    /// up over [`Silent`]; one that follows another console takes up its lines as they come, over a
+    /// link of its own. Bytes behind the last LF are no line yet. Answers how many bytes of the
+    /// text are whole lines. Packets that are lost are not counted.
     ///
     /// # Errors
     ///
@@ -114,7 +114,7 @@ impl<F: Fader> Night<F> {
         ensures told { L.tells link.new → L.tells link.old }
         ensures stands { result ≡ true → (p : Production) (happened : List Happening)
             → StandsFor F.stands_for p self.old happened
-            → StandsFor F.stands_for p self.new (recalled line.now happened) }
+            → StandsFor F.stands_for p self.new (recall_line line.now happened) }
         ensures recalls { result ≡ true → (happened : List Happening)
             → live.StandsFor self.old.input happened → IsRecalled line.now happened }
         ensures offers { result ≡ true → L.tells link.new → (p : Production)

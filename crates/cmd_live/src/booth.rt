@@ -1,7 +1,7 @@
 ghost use Rattle.std.specs.Prelude.{◌≡◌, IfOk, OnOk, OnErr};
 ghost use Rattle.devices.specs.Tape.{with_more, with_failure};
 ghost use Rattle.live_input.specs.Night.{asked};
-ghost use Rattle.cmd_live.specs.Booth.{BoothState, IsWithin, fails, happens, hears, keeps};
+ghost use Rattle.cmd_live.specs.Booth.{BoothState, HeardFits, fails, happens, with_input, keeps};
 ghost use Rattle.cmd_live.specs.Booth.{begins, is_told, keys, refused, shows, waits_until};
 
 use devices::{Link, LinkFault};
@@ -55,9 +55,9 @@ pub trait Booth {
     /// Where nothing can be waited for. Then the night ends.
     fn wait(&mut self, moment: u64, due: u64, block: &mut [u8; 4096]) -> Result<Heard, LinkFault>
         ensures told { tells self.new → tells self.old }
-        ensures within { IfOk result IsWithin }
+        ensures within { IfOk result HeardFits }
         ensures ok { IfOk result (λ heard. tells self.new
-            → state self.new ≡ hears heard block.new (waits_until due (state self.old))) }
+            → state self.new ≡ with_input heard block.new (waits_until due (state self.old))) }
         ensures err { OnErr result (tells self.new → state self.new
             ≡ fails (waits_until due (state self.old))) };
 

@@ -1,17 +1,17 @@
 ghost use Rattle.std.specs.Prelude.{◌≡◌, ◌≤◌, ◌<◌, ◌^◌, ◌++◌, ℕ, Bool, List, Option};
-ghost use Rattle.playback.specs.Placed.{IsAt};
+ghost use Rattle.playback.specs.Placed.{IsPlaceAfter};
 ghost use Rattle.playback.specs.Played.{Move, moves_by};
 ghost use Rattle.desk.specs.Played.{Act, moved_to};
 ghost use Rattle.console.specs.Stands.{StandsFor};
 ghost use Rattle.console.specs.Streams.{Production};
 ghost use Rattle.console.specs.Spelling.{reading_of};
-ghost use Rattle.cmd_play.specs.Run.{taken};
+ghost use Rattle.cmd_play.specs.Run.{acts_after};
 ghost use Rattle.live_input.specs.Told.{IsGiven};
-ghost use Rattle.cmd_live.specs.Night.{seen};
+ghost use Rattle.cmd_live.specs.Night.{trace_of};
 ghost use Rattle.cmd_live.specs.Shown as shown;
-ghost use Rattle.cmd_live.specs.Shown.{cue_lines, made, shown_answer};
+ghost use Rattle.cmd_live.specs.Shown.{cue_lines, moves_behind, shown_answer};
 ghost use Rattle.cmd_play.specs.Perform.{own_move};
-ghost use Rattle.cmd_live.specs.Stands.{CarriesOut, Shows, is_accepted};
+ghost use Rattle.cmd_live.specs.Stands.{BoothCarriesOut, ShowsText, accepts_call};
 
 use crate::booth::Booth;
 use cmd_play::{Answer, perform};
@@ -39,12 +39,12 @@ pub fn carry_out<F: Fader, B: Booth, L: Link>(
     ensures few { result ≤ 16 }
     ensures stands { (line : List ℕ) → IsGiven given.now line → (p : Production)
         (history : List Act) → StandsFor F.stands_for p console.old history
-        → StandsFor F.stands_for p console.new (taken p.show (reading_of line) history) }
+        → StandsFor F.stands_for p console.new (acts_after p.show (reading_of line) history) }
     ensures carried_out { (line : List ℕ) → IsGiven given.now line → (p : Production)
         (history : List Act) → StandsFor F.stands_for p console.old history
         → B.tells booth.new → L.tells link.new
-        → CarriesOut p history line (seen (B.state booth.old) (L.offered link.old))
-        (seen (B.state booth.new) (L.offered link.new)) result }
+        → BoothCarriesOut p history line (trace_of (B.state booth.old) (L.offered link.old))
+        (trace_of (B.state booth.new) (L.offered link.new)) result }
 {
     let _ = booth.keep(given.text.as_slice(), link);
     let place = console.place();
@@ -60,13 +60,13 @@ pub fn carry_out<F: Fader, B: Booth, L: Link>(
             link,
         );
     }
-    performed.answer.lost()
+    performed.answer.packets_lost()
 }
 
 // Shows what a console answered, where the operator wants to see it.
 fn show_answer<B: Booth, L: Link>(answer: &Answer, moment: u64, booth: &mut B, link: &L)
     ensures told { B.tells booth.new → B.tells booth.old }
-    ensures shows { B.tells booth.new → Shows (L.offered link.now) (B.state booth.old)
+    ensures shows { B.tells booth.new → ShowsText (L.offered link.now) (B.state booth.old)
         (B.state booth.new) (shown_answer moment answer.now) }
 {
     if is_shown(answer) {
@@ -75,7 +75,7 @@ fn show_answer<B: Booth, L: Link>(answer: &Answer, moment: u64, booth: &mut B, l
 }
 
 fn is_accepted(answer: &Answer) -> bool
-    ensures { result ≡ is_accepted answer.now }
+    ensures { result ≡ accepts_call answer.now }
 {
     match answer {
         Answer::Refused(_) => false,
@@ -87,7 +87,7 @@ fn is_shown(answer: &Answer) -> bool
     ensures { result ≡ shown.is_shown answer.now }
 {
     match answer {
-        Answer::Ticked(_, _) => answer.lost() > 0,
+        Answer::Ticked(_, _) => answer.packets_lost() > 0,
         _ => true,
     }
 }
@@ -115,9 +115,10 @@ fn show_moves<B: Booth, L: Link>(due: Moves, show: &Show, moment: u64, booth: &m
     requires { moment < 2 ^ 48 }
     ensures told { B.tells booth.new → B.tells booth.old }
     ensures shows { (moves : List Move) (stopped : Bool) (time : Option ℕ)
-        → IsAt show.now due.place moves stopped → B.tells booth.new
-        → Shows (L.offered link.now) (B.state booth.old) (B.state booth.new) (cue_lines
-        (made moves (moved_to due.own moment time (moves_by show.now stopped moment moves)))) }
+        → IsPlaceAfter show.now due.place moves stopped → B.tells booth.new
+        → ShowsText (L.offered link.now) (B.state booth.old) (B.state booth.new) (cue_lines
+        (moves_behind moves (moved_to due.own moment time
+        (moves_by show.now stopped moment moves)))) }
 {
     show_follow_ons(due.place, show, moment, booth, link);
     if let Some(cue) = due.own {
@@ -136,9 +137,9 @@ fn show_follow_ons<B: Booth, L: Link>(
     requires { moment < 2 ^ 48 }
     ensures told { B.tells booth.new → B.tells booth.old }
     ensures shows { (newer : List Move) × ((moves : List Move) (stopped : Bool)
-        → IsAt show.now place moves stopped
+        → IsPlaceAfter show.now place moves stopped
         → moves_by show.now stopped moment moves ≡ newer ++ moves)
-        × (B.tells booth.new → Shows (L.offered link.now) (B.state booth.old)
+        × (B.tells booth.new → ShowsText (L.offered link.now) (B.state booth.old)
         (B.state booth.new) (cue_lines newer)) }
 {
     while let Some((cue, at)) = place.follow(show, moment) {

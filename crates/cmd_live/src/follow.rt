@@ -5,7 +5,7 @@ ghost use Rattle.cmd_live.specs.Beginning.{HasTakenUp, IsReady};
 ghost use Rattle.cmd_live.specs.Following.{HasFollowed};
 ghost use Rattle.cmd_live.specs.Night.{history_at};
 ghost use Rattle.cmd_live.specs.Shown.{shown_place};
-ghost use Rattle.cmd_live.specs.Stands.{Shows, StandsFor};
+ghost use Rattle.cmd_live.specs.Stands.{ShowsText, StandsFor};
 
 use crate::booth::Booth;
 use crate::main_console::{Led, MainConsole};
@@ -62,7 +62,7 @@ impl<F: Fader> Night<F> {
         ensures told { B.tells booth.new → B.tells booth.old }
         ensures shows { (p : Production) (happened : List Happening)
             → StandsFor F.stands_for p self.now happened → B.tells booth.new
-            → Shows (L.offered link.now) (B.state booth.old) (B.state booth.new)
+            → ShowsText (L.offered link.now) (B.state booth.old) (B.state booth.new)
             (shown_place p.show (history_at p.show happened) (now happened)) }
     {
         place::show_place(&self.console, self.moment(), booth, link);

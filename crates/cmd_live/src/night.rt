@@ -3,7 +3,7 @@ ghost use Rattle.desk.specs.Played.{Act};
 ghost use Rattle.console.specs.Streams.{Production};
 ghost use Rattle.live_input.specs.Night.{Happening, answers, ignored_keys, is_over};
 ghost use Rattle.live_input.specs.Stands as live;
-ghost use Rattle.cmd_live.specs.Night.{seen};
+ghost use Rattle.cmd_live.specs.Night.{trace_of};
 ghost use Rattle.cmd_live.specs.Booth.{fails, waits_until};
 ghost use Rattle.cmd_live.specs.Stands.{BreaksOff, GoesOn, StandsFor, Waits, WearsOut};
 ghost use Rattle.cmd_live.specs.Stands.{told_keys};
@@ -37,12 +37,12 @@ impl<F: Fader> Night<F> {
         ensures told_link { L.tells link.new → L.tells link.old }
         ensures goes { OnOk result ((goes : GoesOn F.stands_for
             (B.tells booth.new × L.tells link.new) self.old self.new
-            (seen (B.state booth.old) (L.offered link.old))
-            (seen (B.state booth.new) (L.offered link.new))) × (1 ≤ length goes.since)) }
+            (trace_of (B.state booth.old) (L.offered link.old))
+            (trace_of (B.state booth.new) (L.offered link.new))) × (1 ≤ length goes.since)) }
         ensures broke { OnErr result (BreaksOff F.stands_for
             (B.tells booth.new × L.tells link.new) self.old self.new
-            (seen (B.state booth.old) (L.offered link.old))
-            (seen (B.state booth.new) (L.offered link.new))) }
+            (trace_of (B.state booth.old) (L.offered link.old))
+            (trace_of (B.state booth.new) (L.offered link.new))) }
         ensures over { IfOk result (λ over. over ≡ true → (p : Production)
             (happened : List Happening) → StandsFor F.stands_for p self.new happened
             → is_over (answers happened) ≡ true) }
@@ -113,15 +113,15 @@ impl<F: Fader> Night<F> {
         ensures told_booth { B.tells booth.new → B.tells booth.old }
         ensures told_link { L.tells link.new → L.tells link.old }
         ensures goes { OnOk result (GoesOn F.stands_for (B.tells booth.new × L.tells link.new)
-            self.old self.new (seen (B.state booth.old) (L.offered link.old))
-            (seen (B.state booth.new) (L.offered link.new))) }
+            self.old self.new (trace_of (B.state booth.old) (L.offered link.old))
+            (trace_of (B.state booth.new) (L.offered link.new))) }
         ensures broke { OnErr result (BreaksOff F.stands_for
             (B.tells booth.new × L.tells link.new) self.old self.new
-            (seen (B.state booth.old) (L.offered link.old))
-            (seen (B.state booth.new) (L.offered link.new))
+            (trace_of (B.state booth.old) (L.offered link.old))
+            (trace_of (B.state booth.new) (L.offered link.new))
             ⊎ WearsOut F.stands_for (B.tells booth.new × L.tells link.new) self.old self.new
-            (seen (B.state booth.old) (L.offered link.old))
-            (seen (B.state booth.new) (L.offered link.new))) }
+            (trace_of (B.state booth.old) (L.offered link.old))
+            (trace_of (B.state booth.new) (L.offered link.new))) }
         ensures over { OnOk result ((p : Production) (happened : List Happening)
             → StandsFor F.stands_for p self.new happened → is_over (answers happened) ≡ true) }
     {

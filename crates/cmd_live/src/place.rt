@@ -4,7 +4,7 @@ ghost use Rattle.console.specs.Stands.{StandsFor};
 ghost use Rattle.console.specs.Streams.{Production};
 ghost use Rattle.cmd_live.specs.Shown as shown;
 ghost use Rattle.cmd_live.specs.Shown.{shown_place};
-ghost use Rattle.cmd_live.specs.Stands.{Shows};
+ghost use Rattle.cmd_live.specs.Stands.{ShowsText};
 
 use crate::booth::Booth;
 use console::{Console, where_line};
@@ -21,7 +21,7 @@ pub fn show_place<F: Fader, B: Booth, L: Link>(
     ensures told { B.tells booth.new → B.tells booth.old }
     ensures shows { (p : Production) (history : List Act)
         → StandsFor F.stands_for p console.now history → B.tells booth.new
-        → Shows (L.offered link.now) (B.state booth.old) (B.state booth.new)
+        → ShowsText (L.offered link.now) (B.state booth.old) (B.state booth.new)
         (shown_place p.show history moment) }
 {
     let current = console.current();

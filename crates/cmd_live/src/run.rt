@@ -1,7 +1,7 @@
 ghost use Rattle.std.specs.Prelude.{◌≡◌, List};
 ghost use Rattle.console.specs.Streams.{Production};
 ghost use Rattle.live_input.specs.Night.{Happening};
-ghost use Rattle.cmd_live.specs.Night.{IsEnd, Lived, seen};
+ghost use Rattle.cmd_live.specs.Night.{IsEnd, HasLived, trace_of};
 ghost use Rattle.cmd_live.specs.Stands.{StandsFor};
 
 use crate::booth::Booth;
@@ -26,8 +26,8 @@ impl<F: Fader> Night<F> {
     ///
     /// # Errors
     ///
-    /// `Device` where the clock or the wait for what is typed failed; and `Lost`, with their number,
-    /// where the night is over and packets were lost.
+    /// `Device` where the clock or the wait for what is typed failed; and `Lost`, with their
+    /// number, where the night is over and packets were lost.
     pub fn live<B: Booth, L: Link>(
         &mut self,
         passed: u64,
@@ -40,8 +40,8 @@ impl<F: Fader> Night<F> {
         ensures ends { IsEnd result }
         ensures lived { (p : Production) (first : List Happening)
             → StandsFor F.stands_for p self.old first → B.tells booth.new → L.tells link.new
-            → Lived p first passed result (seen (B.state booth.old) (L.offered link.old))
-            (seen (B.state booth.new) (L.offered link.new)) }
+            → HasLived p first passed result (trace_of (B.state booth.old) (L.offered link.old))
+            (trace_of (B.state booth.new) (L.offered link.new)) }
         ensures told_booth { B.tells booth.new → B.tells booth.old }
         ensures told_link { L.tells link.new → L.tells link.old }
     {

@@ -6,7 +6,7 @@ use Rattle.patch.specs.declared.fault.RigFault.{RigFault}
 use Rattle.patch.specs.declared.fault.RigFault.TheVariants.{Universe}
 use Rattle.show.specs.Tables.{Tables}
 use Rattle.show_line.specs.Said.{desk_limits}
-use Rattle.show_reader.specs.Reading.{fault_of}
+use Rattle.show_reader.specs.Reading.{text_fault}
 use Rattle.show_reader.specs.Shows.{IsShowOf}
 use Rattle.show_reader.specs.Text.{statements_of}
 use Rattle.show_reader.specs.ItsShow.{OfItsShow}
@@ -20,9 +20,9 @@ is_based false r x is iff = let e : r ≡ Err Universe = iff.1 refl in cc
 
 -- a play begins where its console was opened
 pub began : {X : Type 0} (show : List ℕ) (base : ℕ) (s : Tables) (r : Result X RigFault) (x : X)
-    → fault_of desk_limits show ≡ None → IsShowOf (statements_of desk_limits show) s → r ≡ Ok x
+    → text_fault desk_limits show ≡ None → IsShowOf (statements_of desk_limits show) s → r ≡ Ok x
     → (r ≡ Err Universe) ↔ IsFalse (is_base s.patch base)
-    → (fault_of desk_limits show ≡ None) × OfItsShow show (λ t. IsTrue (is_base t.patch base))
+    → (text_fault desk_limits show ≡ None) × OfItsShow show (λ t. IsTrue (is_base t.patch base))
 began show base s r x faultless is opened iff = (
   faultless,
   of_its_show show (λ t. IsTrue (is_base t.patch base)) s is

@@ -6,24 +6,24 @@ use Rattle.std.proofs.lemmas.List.Sums.{sum_by-cons}
 use Rattle.devices.specs.Send.{Send, failures_of}
 use Rattle.desk.specs.declared.answer.Refused.{Refused}
 use Rattle.desk.specs.declared.answer.Ticked.{Ticked}
-use Rattle.desk.specs.Played.{Act, ended, outcome, refusal, ticked}
+use Rattle.desk.specs.Played.{Act, ticks_since_end, outcome, refusal, tick_answer}
 use Rattle.sacn_source.specs.Identity.{Identity}
 use Rattle.sacn_source.specs.declared.offered.Offered.{Offered}
 use Rattle.sacn_source.specs.declared.offered.Offered.TheVariants.{Quiet}
 use Rattle.sacn_source.specs.Offering.{answer_of}
-use Rattle.console.specs.Offering.{AreOffered, none, quiet, sent, Offers}
+use Rattle.console.specs.Offering.{AreOffered, none, quiet, sent, OffersDues}
 use Rattle.console.specs.Streams.{Due, Production, dues_at, tick_at}
 use Rattle.console.specs.declared.call.Call.{Call}
 use Rattle.console.specs.declared.call.Call.TheVariants.{Order, Tick}
 use Rattle.console.specs.Spelling.{act_of}
 use Rattle.console.specs.declared.reading.Reading.{Reading}
 use Rattle.console.specs.declared.reading.Reading.TheVariants.{At}
-use Rattle.console.specs.Texts.{numbered}
+use Rattle.console.specs.Texts.{moment_line}
 use Rattle.cmd_play.specs.Lost.{is_lost}
-use Rattle.cmd_play.specs.Run.{IsAnswered, answer_text, due_after, due_by, line_text}
+use Rattle.cmd_play.specs.Run.{IsAnswered, answer_text, dues_after, dues_by, line_text}
 use Rattle.cmd_play.specs.declared.performance.Answer.{Answer}
 use Rattle.cmd_play.specs.declared.performance.Answer.TheVariants as answer
-use Rattle.cmd_play.specs.Perform.{Performs, answer_to, text_of_answer}
+use Rattle.cmd_play.specs.Perform.{Performs, call_answer, text_of_answer}
 use Rattle.cmd_play.specs.Perform.{lost_of as lost_of_answer}
 
 -- why a call was refused, or that it was not, by its answer
@@ -68,7 +68,7 @@ lost_offers (sent d p s ds ss ps is rest) = omega (
 
 -- a line at which nothing is due
 pub answered_quiet : (p : Production) (history : List Act) (reading : Reading)
-    (before after : List Send) (text : List ℕ) → due_after p history reading ≡ []
+    (before after : List Send) (text : List ℕ) → dues_after p history reading ≡ []
     → after ≡ before → text ≡ line_text p history reading []
     → IsAnswered p history reading before after text 0
 answered_quiet p history reading before after text nothing same written = record {
@@ -86,7 +86,8 @@ answered_quiet p history reading before after text nothing same written = record
 pub performed_quiet : (p : Production) (history : List Act) (moment : ℕ) (call : Call)
     (before after : List Send) (answer : Answer) (r : Option Refused)
     → refusal p.show history (act_of moment call) ≡ r
-    → due_by r call (dues_at p history moment) ≡ [] → after ≡ before → answer ≡ answer_to r call (ended history) []
+    → dues_by r call (dues_at p history moment) ≡ [] → after ≡ before → answer
+    ≡ call_answer r call (ticks_since_end history) []
     → Performs p history moment call before after answer
 performed_quiet p history moment call before after answer r e nothing same is = record {
   sends = [];
@@ -99,8 +100,8 @@ performed_quiet p history moment call before after answer r e nothing same is = 
 -- a tick that is accepted
 pub performed_tick : (p : Production) (history : List Act) (moment : ℕ) (before after : List Send)
     (t : Ticked) (pairs : List (ℕ × Offered))
-    → refusal p.show history (tick_at moment) ≡ None → t ≡ ticked (ended history)
-    → Offers p.source (dues_at p history moment) pairs before after
+    → refusal p.show history (tick_at moment) ≡ None → t ≡ tick_answer (ticks_since_end history)
+    → OffersDues p.source (dues_at p history moment) pairs before after
     → Performs p history moment Tick before after (answer.Ticked t pairs)
 performed_tick p history moment before after t pairs e is offers = record {
   sends = offers.sends;
@@ -111,14 +112,14 @@ performed_tick p history moment before after t pairs e is offers = record {
 }
 
 text_same : (m : ℕ) (r : Option Refused) (c : Call) (ticks : Option ℕ) (offers : List (ℕ × Offered))
-    → text_of_answer m (answer_to r c ticks offers) ≡ numbered m (answer_text r c ticks offers)
+    → text_of_answer m (call_answer r c ticks offers) ≡ moment_line m (answer_text r c ticks offers)
 text_same m (Some refused) c ticks offers = refl
 text_same m None (Order command) ticks offers = refl
 text_same m None Tick ticks offers = refl
 
 lost_same : {source : Identity} (r : Option Refused) (c : Call) (ticks : Option ℕ) (ds : List Due)
-    {ss : List Send} {ps : List (ℕ × Offered)} → AreOffered source (due_by r c ds) ss ps
-    → lost_of_answer (answer_to r c ticks ps) ≡ failures_of ss
+    {ss : List Send} {ps : List (ℕ × Offered)} → AreOffered source (dues_by r c ds) ss ps
+    → lost_of_answer (call_answer r c ticks ps) ≡ failures_of ss
 lost_same (Some refused) c ticks ds none = refl
 lost_same None (Order command) ticks ds none = refl
 lost_same None Tick ticks ds offered = lost_offers offered
@@ -137,7 +138,7 @@ answered_by p history moment call before after answer text lost did written coun
       are_offered = did.are_offered;
       after_is = did.after_is;
       text_is = written ∙ ap (text_of_answer moment) did.answer_is
-          ∙ text_same moment r call (ended history) did.offers;
+          ∙ text_same moment r call (ticks_since_end history) did.offers;
       lost_is = counted ∙ ap lost_of_answer did.answer_is
-          ∙ lost_same r call (ended history) (dues_at p history moment) did.are_offered;
+          ∙ lost_same r call (ticks_since_end history) (dues_at p history moment) did.are_offered;
     }

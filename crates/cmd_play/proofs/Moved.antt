@@ -11,8 +11,9 @@ use Rattle.desk.specs.declared.command.Command.TheVariants.{Group, Master, End}
 use Rattle.desk.specs.declared.answer.Refused.{Refused}
 use Rattle.desk.specs.declared.answer.Refused.TheVariants.{AtEnd, AtStart, NoCue}
 use Rattle.desk.specs.Played as played
-use Rattle.desk.specs.Played.{Act, ended, is_over, is_soon, lacking, lacks, last_moment}
-use Rattle.desk.specs.Played.{last_tick, moved_to, moves, own_time, refusal, target, untimely}
+use Rattle.desk.specs.Played.{Act, ticks_since_end, is_after_end, is_soon, lack_refusal}
+use Rattle.desk.specs.Played.{command_lacks, last_act_moment}
+use Rattle.desk.specs.Played.{last_tick, moved_to, moves, own_time, refusal, target, time_refusal}
 use Rattle.console.specs.declared.call.Call.{Call}
 use Rattle.console.specs.declared.call.Call.TheVariants.{Order, Tick}
 use Rattle.console.specs.Spelling.{act_of}
@@ -22,13 +23,13 @@ both_none : (a b : Option Refused) → option_or a b ≡ None → (a ≡ None) �
 both_none None b e = (refl, e)
 both_none (Some r) b e = cc
 
-timely : (last moment : ℕ) (over soon : Bool) → untimely last moment over soon ≡ None
+timely : (last moment : ℕ) (over soon : Bool) → time_refusal last moment over soon ≡ None
     → over ≡ false
 timely last moment true soon e = grind (arith, e)
 timely last moment false soon e = refl
 
 not_over : (ticks : Option ℕ) (command : Command)
-    → is_over ticks (played.order command) ≡ false → ticks ≡ None
+    → is_after_end ticks (played.order command) ≡ false → ticks ≡ None
 not_over None command e = refl
 not_over (Some ticks) command e = cc
 
@@ -46,16 +47,16 @@ there (Some n) time moment made e = refl
 
 module _ (show : Tables) (history : List Act) (moment : ℕ) where
   abbrev pub due_moves : List Move
-  due_moves = moves_by show (is_some (ended history)) moment (moves show history)
+  due_moves = moves_by show (is_some (ticks_since_end history)) moment (moves show history)
 
   -- an accepted command lacks nothing
   has_all : (command : Command) → refusal show history (act_of moment (Order command)) ≡ None
-      → lacking show (current_after due_moves) (played.order command) ≡ None
+      → lack_refusal show (current_after due_moves) (played.order command) ≡ None
   has_all command e =
       let parts = both_none _ _ e in
-      let none : ended history ≡ None = not_over (ended history) command
-      (timely (last_moment history) moment _ _ parts.0) in
-      subst (λ (ticks : Option ℕ). lacking show
+      let none : ticks_since_end history ≡ None = not_over (ticks_since_end history) command
+      (timely (last_act_moment history) moment _ _ parts.0) in
+      subst (λ (ticks : Option ℕ). lack_refusal show
       (current_after (moves_by show (is_some ticks) moment (moves show history)))
       (played.order command) ≡ None) (sym none) parts.1
 

@@ -9,10 +9,10 @@ use Rattle.devices.proofs.Tapes.{with_more-none, with_more-twice}
 use Rattle.console.specs.Streams.{Production}
 use Rattle.cmd_play.specs.declared.fault.PlayFault.{PlayFault}
 use Rattle.cmd_play.specs.declared.stage.Stage.{Stage}
-use Rattle.ascii_text.specs.Lines.{closed, cut_of, no_bytes}
-use Rattle.cmd_play.specs.Play.{EndsEarly, PlaysAll}
-use Rattle.cmd_play.specs.Run.{Emitted, Ran}
-use Rattle.cmd_play.specs.Stage.{HasEnded, HasTaken, StandsFor}
+use Rattle.ascii_text.specs.Lines.{with_last_lf, cut_of, no_bytes}
+use Rattle.cmd_play.specs.Play.{PlayEndsEarly, PlaysAll}
+use Rattle.cmd_play.specs.Run.{Emission, Ran}
+use Rattle.cmd_play.specs.Stage.{PlayHasEnded, PlayHasTaken, StandsFor}
 use Rattle.cmd_play.proofs.Running.{ran_none}
 use Rattle.cmd_play.proofs.Taking.{ended_behind}
 
@@ -32,23 +32,24 @@ read_end a b c xs buf n e later told before tell =
 
 module _ {F : Type 0} {G : Ghosts F} {sf : F → List Start → Type 0} {a : Stage F G} where
   -- where something has come of a line, LF closes the bytes
-  pub closed_with : {bytes : List ℕ} {b : Stage F G} {t : Type 0} {d e : Emitted} {p : Production}
-      {empty is : Bool} → HasTaken sf bytes a b t d e → StandsFor sf p a no_bytes → empty ≡ is
-      → empty ≡ (length b.pending.items == 0) → closed bytes ≡ cond is bytes (bytes ++ 10 ∷ [])
+  pub closed_with : {bytes : List ℕ} {b : Stage F G} {t : Type 0} {d e : Emission} {p : Production}
+      {empty is : Bool} → PlayHasTaken sf bytes a b t d e → StandsFor sf p a no_bytes → empty ≡ is
+      → empty ≡ (length b.pending.items == 0) → with_last_lf bytes
+      ≡ cond is bytes (bytes ++ 10 ∷ [])
   closed_with {bytes = bytes} taken s test same = ap (λ b. cond b bytes (bytes ++ 10 ∷ []))
       (ap (λ (l : List ℕ). length l == 0) (sym (taken.stands _ no_bytes s).pending_is) ∙ sym same
       ∙ test)
 
   -- the run of all bytes
-  pub ran_all : {bytes : List ℕ} {b : Stage F G} {t : Type 0} {d e : Emitted} {p : Production}
-      → HasTaken sf bytes a b t d e → StandsFor sf p a no_bytes → a.lost ≡ 0 → t
+  pub ran_all : {bytes : List ℕ} {b : Stage F G} {t : Type 0} {d e : Emission} {p : Production}
+      → PlayHasTaken sf bytes a b t d e → StandsFor sf p a no_bytes → a.lost ≡ 0 → t
       → Ran p (cut_of bytes).lines d e b.lost
   ran_all taken s none tell = taken.ran tell _ no_bytes _ s (rw none (ran_none _ _))
 
   -- an input of which all bytes were taken
-  pub plays_all : {all : List ℕ} {b : Stage F G} {r t u : Type 0} {d e : Emitted} (ended : Type 0)
+  pub plays_all : {all : List ℕ} {b : Stage F G} {r t u : Type 0} {d e : Emission} (ended : Type 0)
       (fed feeds : Tape ℕ) (bytes : List ℕ) → (r → feeds ≡ with_more fed bytes) → (r → ended)
-      → closed bytes ≡ all → a.lost ≡ 0 → HasTaken sf all a b (t × u) d e
+      → with_last_lf bytes ≡ all → a.lost ≡ 0 → PlayHasTaken sf all a b (t × u) d e
       → (p : Production) → StandsFor sf p a no_bytes → r → t → u
       → PlaysAll p ended fed feeds d e b.lost
   plays_all ended fed feeds bytes read at_end is none taken p s reads links prints = record {
@@ -61,13 +62,13 @@ module _ {F : Type 0} {G : Ghosts F} {sf : F → List Start → Type 0} {a : Sta
 
   -- an input of which a byte ended the play, behind those that were taken
   pub ends_behind : {fault : PlayFault} {xs ys : List ℕ} {b : Stage F G} {r t u v w : Type 0}
-      {d e f : Emitted} (ended : Type 0) (fed feeds : Tape ℕ) (bytes : List ℕ)
+      {d e f : Emission} (ended : Type 0) (fed feeds : Tape ℕ) (bytes : List ℕ)
       → (r → feeds ≡ with_more fed bytes)
-      → (r → (l : List ℕ) → xs ++ ys ≡ l → (bytes ≡ l) ⊎ (ended × (closed bytes ≡ l)))
-      → a.lost ≡ 0 → (v → t) × (w → u) → HasTaken sf xs a b (t × u) d e
-      → HasEnded sf fault ys b (v × w) e f
+      → (r → (l : List ℕ) → xs ++ ys ≡ l → (bytes ≡ l) ⊎ (ended × (with_last_lf bytes ≡ l)))
+      → a.lost ≡ 0 → (v → t) × (w → u) → PlayHasTaken sf xs a b (t × u) d e
+      → PlayHasEnded sf fault ys b (v × w) e f
       → (p : Production) → StandsFor sf p a no_bytes → r → v → w
-      → EndsEarly p fault ended fed feeds d f
+      → PlayEndsEarly p fault ended fed feeds d f
   ends_behind {xs = xs} {ys = ys} {d = d} ended fed feeds bytes read is none told taken then p s
       reads links prints =
       let end = ended_behind [] (xs ++ ys) (ap (λ l. xs ++ l) (sym (append-nil ys))) told taken then

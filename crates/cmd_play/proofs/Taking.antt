@@ -8,12 +8,12 @@ use Rattle.console.specs.Streams.{Production}
 use Rattle.cmd_play.specs.declared.fault.PlayFault.{PlayFault}
 use Rattle.cmd_play.specs.declared.stage.Stage.{Stage}
 use Rattle.ascii_text.specs.Lines.{Cut, with_byte}
-use Rattle.cmd_play.specs.Run.{Emitted, Ran}
-use Rattle.cmd_play.specs.Stage.{Ends, HasEnded, HasTaken, Leaves, StandsFor}
+use Rattle.cmd_play.specs.Run.{Emission, Ran}
+use Rattle.cmd_play.specs.Stage.{EndsPlay, PlayHasEnded, PlayHasTaken, PlayLeaves, StandsFor}
 
 module _ {F : Type 0} {G : Ghosts F} {sf : F → List Start → Type 0} where
   -- no bytes
-  pub taken_none : {a : Stage F G} {t : Type 0} {e : Emitted} → HasTaken sf [] a a t e e
+  pub taken_none : {a : Stage F G} {t : Type 0} {e : Emission} → PlayHasTaken sf [] a a t e e
   taken_none = record {
     stands = λ p cut s. s;
     ran = λ tell p cut start s r. r;
@@ -21,9 +21,9 @@ module _ {F : Type 0} {G : Ghosts F} {sf : F → List Start → Type 0} where
   }
 
   -- some bytes, and then more
-  pub taken_more : {xs ys : List ℕ} {a b c : Stage F G} {t u v w : Type 0} {d e f : Emitted}
-      → (v → t) × (w → u) → HasTaken sf xs a b (t × u) d e → HasTaken sf ys b c (v × w) e f
-      → HasTaken sf (xs ++ ys) a c (v × w) d f
+  pub taken_more : {xs ys : List ℕ} {a b c : Stage F G} {t u v w : Type 0} {d e f : Emission}
+      → (v → t) × (w → u) → PlayHasTaken sf xs a b (t × u) d e → PlayHasTaken sf ys b c (v × w) e f
+      → PlayHasTaken sf (xs ++ ys) a c (v × w) d f
   taken_more {xs = xs} {ys = ys} told first then = record {
     stands = λ p cut s. rw (fold-append with_byte cut xs ys)
         (then.stands p _ (first.stands p cut s));
@@ -34,11 +34,11 @@ module _ {F : Type 0} {G : Ghosts F} {sf : F → List Start → Type 0} where
   }
 
   -- the first byte ends the play
-  pub ended_here : {fault : PlayFault} {byte : ℕ} {a : Stage F G} {t : Type 0} {d e : Emitted}
-      → ((p : Production) (cut : Cut) → StandsFor sf p a cut → Ends fault cut byte)
-      → (t → (p : Production) (cut : Cut) (start : Emitted) → StandsFor sf p a cut
-      → Ran p cut.lines start d a.lost → Leaves fault p cut start e)
-      → HasEnded sf fault (byte ∷ []) a t d e
+  pub ended_here : {fault : PlayFault} {byte : ℕ} {a : Stage F G} {t : Type 0} {d e : Emission}
+      → ((p : Production) (cut : Cut) → StandsFor sf p a cut → EndsPlay fault cut byte)
+      → (t → (p : Production) (cut : Cut) (start : Emission) → StandsFor sf p a cut
+      → Ran p cut.lines start d a.lost → PlayLeaves fault p cut start e)
+      → PlayHasEnded sf fault (byte ∷ []) a t d e
   ended_here ends leaves = record {
     front = [];
     byte = _;
@@ -51,9 +51,9 @@ module _ {F : Type 0} {G : Ghosts F} {sf : F → List Start → Type 0} where
 
   -- some bytes were taken, and one of those behind them ends the play
   pub ended_behind : {fault : PlayFault} {xs ys : List ℕ} {a b : Stage F G} {t u v w : Type 0}
-      {d e f : Emitted} (zs all : List ℕ) → all ≡ xs ++ (ys ++ zs) → (v → t) × (w → u)
-      → HasTaken sf xs a b (t × u) d e → HasEnded sf fault ys b (v × w) e f
-      → HasEnded sf fault all a (v × w) d f
+      {d e f : Emission} (zs all : List ℕ) → all ≡ xs ++ (ys ++ zs) → (v → t) × (w → u)
+      → PlayHasTaken sf xs a b (t × u) d e → PlayHasEnded sf fault ys b (v × w) e f
+      → PlayHasEnded sf fault all a (v × w) d f
   ended_behind {xs = xs} zs all is told first then =
       let joined = λ (cut : Cut). fold-append with_byte cut xs then.front in
       record {

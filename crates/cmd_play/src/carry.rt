@@ -3,7 +3,7 @@ ghost use Rattle.desk.specs.Played.{Act};
 ghost use Rattle.console.specs.Stands.{StandsFor};
 ghost use Rattle.console.specs.Streams.{Production};
 ghost use Rattle.console.specs.declared.reading.Reading.TheVariants.{At};
-ghost use Rattle.cmd_play.specs.Run.{IsAnswered, taken};
+ghost use Rattle.cmd_play.specs.Run.{IsAnswered, acts_after};
 
 use crate::performance::perform;
 use console::{AnswerLine, Call, Console};
@@ -21,7 +21,7 @@ pub fn carry_out<F: Fader, L: Link>(
         × StandsFor F.stands_for p console.old history }
     ensures stands { (p : Production) (history : List Act)
         → StandsFor F.stands_for p console.old history
-        → StandsFor F.stands_for p console.new (taken p.show (At moment call) history) }
+        → StandsFor F.stands_for p console.new (acts_after p.show (At moment call) history) }
     ensures told { L.tells link.new → L.tells link.old }
     ensures few { result.1 ≤ 16 }
     ensures answered { (p : Production) (history : List Act)
@@ -30,5 +30,8 @@ pub fn carry_out<F: Fader, L: Link>(
         result.0.bytes result.1 }
 {
     let performed = perform(console, moment, call, link);
-    (performed.answer.line(moment), performed.answer.lost())
+    (
+        performed.answer.line(moment),
+        performed.answer.packets_lost(),
+    )
 }

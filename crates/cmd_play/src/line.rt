@@ -3,8 +3,8 @@ ghost use Rattle.desk.specs.Played.{Act};
 ghost use Rattle.console.specs.Stands.{StandsFor};
 ghost use Rattle.console.specs.Streams.{Production};
 ghost use Rattle.console.specs.Spelling.{is_malformed, reading_of};
-ghost use Rattle.cmd_play.specs.Run.{CarriesOut, emitted, taken};
-ghost use Rattle.cmd_play.specs.Stage.{EndsLine, LeavesLine};
+ghost use Rattle.cmd_play.specs.Run.{CarriesOut, emission, acts_after};
+ghost use Rattle.cmd_play.specs.Stage.{EndsPlayAt, LeavesLine};
 
 use crate::carry::carry_out;
 use crate::fault::PlayFault;
@@ -27,18 +27,19 @@ pub fn take_line<F: Fader, L: Link, W: Output>(
     ensures fine { OnOk result (is_malformed (reading_of line.now) ≡ false) }
     ensures stands { OnOk result ((p : Production) (history : List Act)
         → StandsFor F.stands_for p console.old history
-        → StandsFor F.stands_for p console.new (taken p.show (reading_of line.now) history)) }
+        → StandsFor F.stands_for p console.new (acts_after p.show (reading_of line.now) history)) }
     ensures few { IfOk result (λ lost. lost ≤ 16) }
     ensures carried_out { IfOk result (λ lost. (p : Production) (history : List Act)
         → StandsFor F.stands_for p console.old history → L.tells link.new → W.tells out.new
-        → CarriesOut p history (reading_of line.now) (emitted (L.offered link.old) (W.tape out.old))
-        (emitted (L.offered link.new) (W.tape out.new)) lost) }
-    ensures ends { IfErr result (λ fault. EndsLine fault number (reading_of line.now)) }
+        → CarriesOut p history (reading_of line.now)
+        (emission (L.offered link.old) (W.tape out.old))
+        (emission (L.offered link.new) (W.tape out.new)) lost) }
+    ensures ends { IfErr result (λ fault. EndsPlayAt fault number (reading_of line.now)) }
     ensures leaves { IfErr result (λ fault. (p : Production) (history : List Act)
         → StandsFor F.stands_for p console.old history → L.tells link.new → W.tells out.new
         → LeavesLine fault p history (reading_of line.now)
-        (emitted (L.offered link.old) (W.tape out.old))
-        (emitted (L.offered link.new) (W.tape out.new))) }
+        (emission (L.offered link.old) (W.tape out.old))
+        (emission (L.offered link.new) (W.tape out.new))) }
 {
     match read_call(line) {
         Reading::Blank => Ok(0),

@@ -1,8 +1,8 @@
 ghost use Rattle.std.specs.Prelude.{[], IfOk, IfErr};
 ghost use Rattle.console.specs.Stands.{StandsFor};
 ghost use Rattle.console.specs.Streams.{Production};
-ghost use Rattle.cmd_play.specs.Play.{EndsEarly, PlaysAll};
-ghost use Rattle.cmd_play.specs.Run.{emitted};
+ghost use Rattle.cmd_play.specs.Play.{PlayEndsEarly, PlaysAll};
+ghost use Rattle.cmd_play.specs.Run.{emission};
 
 use crate::fault::PlayFault;
 use crate::stage::Stage;
@@ -25,13 +25,13 @@ pub fn play_lines<F: Fader, R: Feed, L: Link, W: Output>(
     ensures all { IfOk result (λ lost. (p : Production) → StandsFor F.stands_for p console []
         → R.tells input.new → L.tells link.new → W.tells out.new
         → PlaysAll p (R.ended input.new) (R.tape input.old) (R.tape input.new)
-        (emitted (L.offered link.old) (W.tape out.old))
-        (emitted (L.offered link.new) (W.tape out.new)) lost) }
+        (emission (L.offered link.old) (W.tape out.old))
+        (emission (L.offered link.new) (W.tape out.new)) lost) }
     ensures ends { IfErr result (λ fault. (p : Production) → StandsFor F.stands_for p console []
         → R.tells input.new → L.tells link.new → W.tells out.new
-        → EndsEarly p fault (R.ended input.new) (R.tape input.old) (R.tape input.new)
-        (emitted (L.offered link.old) (W.tape out.old))
-        (emitted (L.offered link.new) (W.tape out.new))) }
+        → PlayEndsEarly p fault (R.ended input.new) (R.tape input.old) (R.tape input.new)
+        (emission (L.offered link.old) (W.tape out.old))
+        (emission (L.offered link.new) (W.tape out.new))) }
 {
     let mut stage = Stage {
         console,

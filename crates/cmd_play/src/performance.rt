@@ -6,7 +6,7 @@ ghost use Rattle.console.specs.Streams.{Production};
 ghost use Rattle.console.specs.declared.reading.Reading.TheVariants.{At};
 ghost use Rattle.cmd_play.specs.Lost.{is_lost};
 ghost use Rattle.cmd_play.specs.Perform.{Performs, lost_of, text_of_answer};
-ghost use Rattle.cmd_play.specs.Run.{taken};
+ghost use Rattle.cmd_play.specs.Run.{acts_after};
 
 use console::{AnswerLine, Call, Console, Offers, done_line, refused_line, ticked_line};
 use desk::{Refused, Ticked};
@@ -36,7 +36,7 @@ pub struct Performed {
 
 impl Answer {
     /// How many of the offers were lost.
-    pub fn lost(&self) -> usize
+    pub fn packets_lost(&self) -> usize
         ensures count { result ≡ lost_of self.now }
         ensures few { result ≤ 16 }
     {
@@ -71,14 +71,14 @@ pub fn perform<F: Fader, L: Link>(
         × StandsFor F.stands_for p console.old history }
     ensures stands { (p : Production) (history : List Act)
         → StandsFor F.stands_for p console.old history
-        → StandsFor F.stands_for p console.new (taken p.show (At moment call) history) }
+        → StandsFor F.stands_for p console.new (acts_after p.show (At moment call) history) }
     ensures performed { (p : Production) (history : List Act)
         → StandsFor F.stands_for p console.old history → L.tells link.new
         → Performs p history moment call (L.offered link.old) (L.offered link.new) result.answer }
     ensures current { (p : Production) (history : List Act)
         → StandsFor F.stands_for p console.old history
         → result.current
-        ≡ current_after (moves p.show (taken p.show (At moment call) history)) }
+        ≡ current_after (moves p.show (acts_after p.show (At moment call) history)) }
     ensures told { L.tells link.new → L.tells link.old }
 {
     let answer = answer_call(console, moment, call, link);
@@ -98,7 +98,7 @@ fn answer_call<F: Fader, L: Link>(
         × StandsFor F.stands_for p console.old history }
     ensures stands { (p : Production) (history : List Act)
         → StandsFor F.stands_for p console.old history
-        → StandsFor F.stands_for p console.new (taken p.show (At moment call) history) }
+        → StandsFor F.stands_for p console.new (acts_after p.show (At moment call) history) }
     ensures performed { (p : Production) (history : List Act)
         → StandsFor F.stands_for p console.old history → L.tells link.new
         → Performs p history moment call (L.offered link.old) (L.offered link.new) result }

@@ -1,10 +1,10 @@
 ghost use Rattle.std.specs.Prelude.{◌≡◌, ◌<◌, length, true, false, Err, IfOk, IfErr};
-ghost use Rattle.cmd_play.specs.Play.{Begins, Plays, has_begun};
+ghost use Rattle.cmd_play.specs.Play.{PlayBegins, Plays, has_begun};
 ghost use Rattle.show_reader.specs.ItsShow.{OfItsShow};
 ghost use Rattle.show_reader.specs.Reading.{longest_text};
 ghost use Rattle.show_reader.specs.declared.fault.ShowFault.TheVariants as show_fault;
 ghost use Rattle.cmd_play.specs.Opened.{IsOpened, Refuses};
-ghost use Rattle.cmd_play.specs.Run.{emitted};
+ghost use Rattle.cmd_play.specs.Run.{emission};
 
 use crate::fault::PlayFault;
 use crate::lines::play_lines;
@@ -46,7 +46,7 @@ pub fn play<F: Fader, R: Feed, L: Link, W: Output>(
     link: &mut L,
     out: &mut W,
 ) -> Result<(), RunFault>
-    ensures begins { Begins result setup.entry.show.now setup.entry.base }
+    ensures begins { PlayBegins result setup.entry.show.now setup.entry.base }
     ensures too_long { longest_text < length setup.entry.show.now → result ≡ Err
         (RunFault.Show show_fault.TooLong) }
     ensures plays { let setup = setup.entry in has_begun result ≡ true
@@ -54,8 +54,8 @@ pub fn play<F: Fader, R: Feed, L: Link, W: Output>(
         → OfItsShow setup.show.now (λ s. Plays
         (record { show = s; base = setup.base; source = setup.identity }) result
         (R.ended input.new) (R.tape input.old) (R.tape input.new)
-        (emitted (L.offered link.old) (W.tape out.old))
-        (emitted (L.offered link.new) (W.tape out.new))) }
+        (emission (L.offered link.old) (W.tape out.old))
+        (emission (L.offered link.new) (W.tape out.new))) }
 
     // Else nothing was read, offered or printed.
     ensures unread { has_begun result ≡ false → R.tells input.new

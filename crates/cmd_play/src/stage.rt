@@ -28,9 +28,9 @@ impl<F: Fader> Stage<F> {
     ghost use Rattle.std.specs.Prelude.{◌≡◌, [], ◌∷◌, OnOk, IfOk, IfErr};
     ghost use Rattle.console.specs.Streams.{Production};
     ghost use Rattle.ascii_text.specs.Lines.{Cut, no_bytes};
-    ghost use Rattle.cmd_play.specs.Play.{EndsEarly, PlaysAll};
-    ghost use Rattle.cmd_play.specs.Run.{emitted};
-    ghost use Rattle.cmd_play.specs.Stage.{HasEnded, HasTaken, StandsFor};
+    ghost use Rattle.cmd_play.specs.Play.{PlayEndsEarly, PlaysAll};
+    ghost use Rattle.cmd_play.specs.Run.{emission};
+    ghost use Rattle.cmd_play.specs.Stage.{PlayHasEnded, PlayHasTaken, StandsFor};
 
     // Takes a byte of the input: LF carries a line out.
     pub fn take_byte<L: Link, W: Output>(
@@ -41,12 +41,12 @@ impl<F: Fader> Stage<F> {
     ) -> Result<(), PlayFault>
         requires real { (p : Production) × (cut : Cut) × StandsFor F.stands_for p self.old cut }
         ensures told { (L.tells link.new → L.tells link.old) × (W.tells out.new → W.tells out.old) }
-        ensures taken { OnOk result (HasTaken F.stands_for (byte ∷ []) self.old self.new
-            (L.tells link.new × W.tells out.new) (emitted (L.offered link.old) (W.tape out.old))
-            (emitted (L.offered link.new) (W.tape out.new))) }
-        ensures ended { IfErr result (λ fault. HasEnded F.stands_for fault (byte ∷ []) self.old
-            (L.tells link.new × W.tells out.new) (emitted (L.offered link.old) (W.tape out.old))
-            (emitted (L.offered link.new) (W.tape out.new))) }
+        ensures taken { OnOk result (PlayHasTaken F.stands_for (byte ∷ []) self.old self.new
+            (L.tells link.new × W.tells out.new) (emission (L.offered link.old) (W.tape out.old))
+            (emission (L.offered link.new) (W.tape out.new))) }
+        ensures ended { IfErr result (λ fault. PlayHasEnded F.stands_for fault (byte ∷ []) self.old
+            (L.tells link.new × W.tells out.new) (emission (L.offered link.old) (W.tape out.old))
+            (emission (L.offered link.new) (W.tape out.new))) }
     {
         let number = self.number + 1;
         if self.number == MOST_LINES {
@@ -81,12 +81,12 @@ impl<F: Fader> Stage<F> {
     ) -> Result<(), PlayFault>
         requires real { (p : Production) × (cut : Cut) × StandsFor F.stands_for p self.old cut }
         ensures told { (L.tells link.new → L.tells link.old) × (W.tells out.new → W.tells out.old) }
-        ensures taken { OnOk result (HasTaken F.stands_for bytes.now self.old self.new
-            (L.tells link.new × W.tells out.new) (emitted (L.offered link.old) (W.tape out.old))
-            (emitted (L.offered link.new) (W.tape out.new))) }
-        ensures ended { IfErr result (λ fault. HasEnded F.stands_for fault bytes.now self.old
-            (L.tells link.new × W.tells out.new) (emitted (L.offered link.old) (W.tape out.old))
-            (emitted (L.offered link.new) (W.tape out.new))) }
+        ensures taken { OnOk result (PlayHasTaken F.stands_for bytes.now self.old self.new
+            (L.tells link.new × W.tells out.new) (emission (L.offered link.old) (W.tape out.old))
+            (emission (L.offered link.new) (W.tape out.new))) }
+        ensures ended { IfErr result (λ fault. PlayHasEnded F.stands_for fault bytes.now self.old
+            (L.tells link.new × W.tells out.new) (emission (L.offered link.old) (W.tape out.old))
+            (emission (L.offered link.new) (W.tape out.new))) }
     {
         for byte in bytes {
             self.take_byte(*byte, link, out)?;
@@ -110,14 +110,14 @@ impl<F: Fader> Stage<F> {
             → StandsFor F.stands_for p self.old no_bytes
             → R.tells input.new → L.tells link.new → W.tells out.new
             → PlaysAll p (R.ended input.new) (R.tape input.old) (R.tape input.new)
-            (emitted (L.offered link.old) (W.tape out.old))
-            (emitted (L.offered link.new) (W.tape out.new)) lost) }
+            (emission (L.offered link.old) (W.tape out.old))
+            (emission (L.offered link.new) (W.tape out.new)) lost) }
         ensures ends { IfErr result (λ fault. (p : Production)
             → StandsFor F.stands_for p self.old no_bytes
             → R.tells input.new → L.tells link.new → W.tells out.new
-            → EndsEarly p fault (R.ended input.new) (R.tape input.old) (R.tape input.new)
-            (emitted (L.offered link.old) (W.tape out.old))
-            (emitted (L.offered link.new) (W.tape out.new))) }
+            → PlayEndsEarly p fault (R.ended input.new) (R.tape input.old) (R.tape input.new)
+            (emission (L.offered link.old) (W.tape out.old))
+            (emission (L.offered link.new) (W.tape out.new))) }
     {
         let mut buf = [0; 4096];
         loop {

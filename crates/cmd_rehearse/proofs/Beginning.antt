@@ -15,7 +15,7 @@ use Rattle.show_line.specs.declared.statement.Statement.{Statement}
 use Rattle.show_line.specs.Said.{desk_limits}
 use Rattle.show_reader.specs.declared.fault.ShowFault.{ShowFault}
 use Rattle.show_reader.specs.declared.fault.ShowFault.TheVariants as show_fault
-use Rattle.show_reader.specs.Reading.{fault_at, fault_below, fault_of, first_fault, longest_text}
+use Rattle.show_reader.specs.Reading.{fault_at, fault_below, text_fault, first_fault, longest_text}
 use Rattle.show_reader.specs.Reading.{NothingGrows}
 use Rattle.show_reader.specs.Shows.{IsShowOf}
 use Rattle.show_reader.specs.Text.{statements_of}
@@ -27,10 +27,10 @@ use Rattle.rehearsal_faults.specs.declared.fault.Fault.TheVariants.{Universe, Me
 use Rattle.rehearsal.specs.declared.setup.Setup.{Setup}
 use Rattle.sacn_receiver.specs.Shown.{shown_slots}
 use Rattle.rehearsal.specs.Happened.{accepted_by}
-use Rattle.rehearsal.specs.Replies.{done, last_moment}
+use Rattle.rehearsal.specs.Replies.{events_done, last_event_moment}
 use Rattle.rehearsal.specs.Promised.{IsPromised}
-use Rattle.rehearsal.specs.Reported.{IsReportOf, Reported}
-use Rattle.rehearsal.specs.Refusing.{Answers, are_consoles, are_receivers, has_base, has_show}
+use Rattle.rehearsal.specs.Reported.{IsReportOf, RehearsalReport}
+use Rattle.rehearsal.specs.Refusing.{AnswersSetup, are_consoles, are_receivers, has_base, has_show}
 use Rattle.rehearsal.specs.Refusing.{setup_fault}
 use Rattle.rehearsal.proofs.Refusals.{fine}
 use Rattle.cmd_faults.specs.Runs.{of_setup, of_show}
@@ -63,22 +63,22 @@ not_here : (b : Bool) (o : Option ShowFault) → (o ≡ Some show_fault.Memory �
 not_here true o rest e = cc
 not_here false o rest e = rest e
 
-no_memory_fault : (text : List ℕ) → fault_of desk_limits text ≡ Some show_fault.Memory → ⊥
+no_memory_fault : (text : List ℕ) → text_fault desk_limits text ≡ Some show_fault.Memory → ⊥
 no_memory_fault text =
     not_here (nat_lt longest_text (length text)) (first_fault (statements_of desk_limits text))
     (not_below (statements_of desk_limits text))
 
 -- the fault that was found, where it is not want of memory
 found : (text : List ℕ) (fault : ShowFault) → (fault ≡ show_fault.Memory → ⊥)
-    → (fault ≡ show_fault.Memory) ⊎ (fault_of desk_limits text ≡ Some fault)
-    → fault_of desk_limits text ≡ Some fault
+    → (fault ≡ show_fault.Memory) ⊎ (text_fault desk_limits text ≡ Some fault)
+    → text_fault desk_limits text ≡ Some fault
 found text fault other (inl memory) = absurd (other memory)
 found text fault other (inr is) = is
 
 -- a show that was not read prevents the rehearsal
 pub unread : (show script : List ℕ) (fault : ShowFault)
-    → (fault ≡ show_fault.Memory) ⊎ (fault_of desk_limits show ≡ Some fault)
-    → (NothingGrows desk_limits show → fault_of desk_limits show ≡ Some fault)
+    → (fault ≡ show_fault.Memory) ⊎ (text_fault desk_limits show ≡ Some fault)
+    → (NothingGrows desk_limits show → text_fault desk_limits show ≡ Some fault)
     → (1048576 < length show → fault ≡ show_fault.TooLong)
     → Prevents show script (of_show fault)
 unread show script show_fault.Memory why sure long =
@@ -106,12 +106,12 @@ no_setup_memory shows setups universes =
 
 -- what was read of a show and of a script
 pub record IsRead (show script : List ℕ) (s : Tables) (p : Parts) : Type 0 where
-  pub faultless : fault_of desk_limits show ≡ None
+  pub faultless : text_fault desk_limits show ≡ None
   pub short : length script ≤ longest_script
   pub show_is : IsShowOf (statements_of desk_limits show) s
   pub script_is : script_of script ≡ Ok p
 
-pub is_read : {show script : List ℕ} {s : Tables} {p : Parts} → fault_of desk_limits show ≡ None
+pub is_read : {show script : List ℕ} {s : Tables} {p : Parts} → text_fault desk_limits show ≡ None
     → length script ≤ longest_script → IsShowOf (statements_of desk_limits show) s
     → script_of script ≡ Ok p → IsRead show script s p
 is_read faultless short show_is script_is = record {
@@ -150,7 +150,7 @@ refused_for show script s p fault read is = set_up show script s p (Some fault) 
 -- what a rehearsal answers in place of a report prevents it
 pub refused : (X : Type 0) (show script : List ℕ) (s : Tables) (p : Parts) (o : Option Fault)
     (fault : Fault) → IsRead show script s p → setup_fault (s ∷ []) p.consoles p.receivers ≡ o
-    → Answers {X = X} o (Err fault) → Prevents show script (of_setup fault)
+    → AnswersSetup {X = X} o (Err fault) → Prevents show script (of_setup fault)
 refused X show script s p None fault read is answer =
     let P : Fault → Type 0 = λ f. Prevents show script (of_setup f) in
     subst P (sym answer) (inr (inr (set_up show script s p None read is)))
@@ -161,7 +161,7 @@ refused X show script s p (Some first) fault read is answer =
 -- ---- the rehearsal
 
 -- the lines of what was answered
-pub lines_of : (show script : List ℕ) (s : Tables) (p : Parts) (report : Reported)
+pub lines_of : (show script : List ℕ) (s : Tables) (p : Parts) (report : RehearsalReport)
     → IsRead show script s p → IsReportOf (world s p) p.events report
     → IsPromised (world s p) p.events report
     → AreLinesOf show script (rehearsal_lines p.lines report.replies report.last)
@@ -179,14 +179,14 @@ few : (n : ℕ) (b : Bool) → (nat_le n 8 && b) ≡ true → n ≤ 8
 few n b is = grind (arith, nat_tests)
 
 -- there are at most eight receivers
-pub few_receivers : (s : Tables) (p : Parts) (report : Reported)
+pub few_receivers : (s : Tables) (p : Parts) (report : RehearsalReport)
     → setup_fault (s ∷ []) p.consoles p.receivers ≡ None
     → IsReportOf (world s p) p.events report → length report.last ≤ 8
 few_receivers s p report none came =
-    let past = done (world s p) p.events in
+    let past = events_done (world s p) p.events in
     let within = few (length p.receivers) _
     (fine (s ∷ []) p.consoles p.receivers none).receivers in
     let as_many = length-map (range_with_len 0 (length p.receivers))
-    (λ r. shown_slots (accepted_by (world s p) r past) (last_moment past)) in
+    (λ r. shown_slots (accepted_by (world s p) r past) (last_event_moment past)) in
     let receivers = length-range_with_len 0 (length p.receivers) in
     omega (arith, within, ap length came.last, as_many, receivers)

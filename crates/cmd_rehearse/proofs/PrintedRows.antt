@@ -23,7 +23,7 @@ use Rattle.rehearsal.specs.declared.reply.Reply.{Reply}
 use Rattle.rehearsal.specs.declared.reply.Reply.TheVariants as reply
 use Rattle.rehearsal.specs.declared.reply.Skip.TheVariants.{Backwards, TooLarge, NoConsole}
 use Rattle.rehearsal.specs.declared.reply.Skip.TheVariants.{NoReceiver, NotSent}
-use Rattle.rehearsal.specs.Replies.{done, reply_to}
+use Rattle.rehearsal.specs.Replies.{events_done, reply_to}
 use Rattle.cmd_rehearse.specs.Printed.{AreLines, world}
 use Rattle.cmd_rehearse.specs.Texts.{rehearsal_lines}
 
@@ -91,16 +91,18 @@ replies = reply.Skipped NoConsole ∷ reply.Skipped NoReceiver ∷ reply.Shown (
 
 -- the reply to event j, where these events are the ones before it
 replied : (s : Tables) (j : ℕ) (said : Reply) (first e : Event)
-    → said ≡ reply_to (world s parts) (done (world s parts) (take j parts.events)) first
+    → said ≡ reply_to (world s parts) (events_done (world s parts) (take j parts.events)) first
     → Some first ≡ Some e
-    → Some said ≡ Some (reply_to (world s parts) (done (world s parts) (take j parts.events)) e)
+    → Some said ≡ Some (reply_to (world s parts)
+    (events_done (world s parts) (take j parts.events)) e)
 replied s j said first e is same =
     let alike : first ≡ e = cc in
-    ap Some (is ∙ ap (reply_to (world s parts) (done (world s parts) (take j parts.events))) alike)
+    ap Some (is ∙ ap (reply_to (world s parts) (events_done (world s parts) (take j parts.events)))
+    alike)
 
 each : (s : Tables) (j : ℕ) (e : Event) → slice_get parts.events j ≡ Some e
     → slice_get replies j
-    ≡ Some (reply_to (world s parts) (done (world s parts) (take j parts.events)) e)
+    ≡ Some (reply_to (world s parts) (events_done (world s parts) (take j parts.events)) e)
 each s zero e is = replied s 0 _ _ e refl is
 each s (suc zero) e is = replied s 1 _ _ e refl is
 each s (suc (suc zero)) e is = replied s 2 _ _ e refl is

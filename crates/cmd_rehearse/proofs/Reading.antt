@@ -13,10 +13,10 @@ use Rattle.rehearsal.specs.declared.event.What.TheVariants as what
 use Rattle.cmd_rehearse.specs.declared.said.Said.{Said}
 use Rattle.cmd_rehearse.specs.declared.said.Said.TheVariants.{Nothing, Console, Receiver, Happens}
 use Rattle.cmd_rehearse.specs.declared.said.Said.TheVariants.{Stray, Malformed}
-use Rattle.cmd_rehearse.specs.Said.{said, is_malformed, is_nothing, stray_size}
+use Rattle.cmd_rehearse.specs.Said.{script_line, is_of_no_form, is_nothing, stray_size}
 use Rattle.cmd_rehearse.specs.Script.{Parts, with_event, with_said, has_some, said_below}
 use Rattle.cmd_rehearse.specs.Script.{stray_behind}
-use Rattle.cmd_rehearse.specs.Script.{IsWithin, IsRange, SaysSomething, first_words, no_parts}
+use Rattle.cmd_rehearse.specs.Script.{EventFits, IsRange, SaysSomething, first_words, no_parts}
 use Rattle.cmd_rehearse.specs.Script.{read_below}
 use Rattle.cmd_rehearse.proofs.Strays.{Fits, line-fits}
 
@@ -29,14 +29,16 @@ stray_few Nothing n h = omega arith
 stray_few Malformed n h = omega arith
 
 -- the bytes of a line's stray fit where the line does
-pub fits : (s : Said) (below : Bool) (line : List ℕ) (n most : ℕ) → s ≡ said below (words_of line)
+pub fits : (s : Said) (below : Bool) (line : List ℕ) (n most : ℕ) → s
+    ≡ script_line below (words_of line)
     → n + length line < most → n + stray_size s < most
 fits s below line n most is room =
     let few = stray_few s (length line)
     (subst (Fits (length line)) (sym is) (line-fits below line)) in omega (arith, room, few)
 
 -- what is not nothing has words
-pub something : (below : Bool) (words : List (List ℕ)) → is_nothing (said below words) ≡ false
+pub something : (below : Bool) (words : List (List ℕ))
+    → is_nothing (script_line below words) ≡ false
     → has_some words ≡ true
 something below [] h = absurd (true≢false h)
 something below (word ∷ words) h = refl
@@ -61,13 +63,13 @@ wider (what.Show a) m n h r = tt
 
 -- what holds of the parts of a script: each event has a line, and each stray its bytes
 pub record AreSound (p : Parts) : Type 0 where
-  pub within : All (IsWithin (length p.strays)) p.events
+  pub within : All (EventFits (length p.strays)) p.events
   pub counted : length p.lines ≡ length p.events
 
-sound_event : (p : Parts) (n : ℕ) (e : Event) → AreSound p → IsWithin (length p.strays) e
+sound_event : (p : Parts) (n : ℕ) (e : Event) → AreSound p → EventFits (length p.strays) e
     → AreSound (with_event p n e)
 sound_event p n e h is = record {
-  within = All-push (IsWithin (length p.strays)) p.events e h.within is;
+  within = All-push (EventFits (length p.strays)) p.events e h.within is;
   counted = let c = h.counted in grind (arith, common_steps);
 }
 
@@ -104,13 +106,13 @@ few_more p n line =
 
 -- a line that is not malformed is read on
 pub read_on : (p : Parts) (line : ℕ × List ℕ) (lines : List (ℕ × List ℕ))
-    → is_malformed (said_below p line.1) ≡ false
+    → is_of_no_form (said_below p line.1) ≡ false
     → read_below p (line ∷ lines) ≡ read_below (with_said p line.0 (said_below p line.1)) lines
 read_on p line lines h = rw h refl
 
 -- a malformed line decides
 pub read_stops : (p : Parts) (line : ℕ × List ℕ) (lines : List (ℕ × List ℕ))
-    → is_malformed (said_below p line.1) ≡ true → read_below p (line ∷ lines) ≡ Err line.0
+    → is_of_no_form (said_below p line.1) ≡ true → read_below p (line ∷ lines) ≡ Err line.0
 read_stops p line lines h = rw h refl
 
 -- nothing has been said so far, and the first words are those of the lines that are left; or the
@@ -121,26 +123,26 @@ Begun first p lines =
 
 begun_words : (first words : List (List ℕ)) (p : Parts) (n : ℕ) (rest : List (List ℕ))
     → p ≡ no_parts → first ≡ (if has_some words then words else rest)
-    → is_malformed (said false words) ≡ false
-    → ((with_said p n (said false words) ≡ no_parts) × (first ≡ rest))
+    → is_of_no_form (script_line false words) ≡ false
+    → ((with_said p n (script_line false words) ≡ no_parts) × (first ≡ rest))
     ⊎ SaysSomething false first
 begun_words first [] p n rest none is h = inl (none, is)
 begun_words first (word ∷ words) p n rest none is h =
-    inr (ap has_some is, ap (λ ws. is_malformed (said false ws)) is ∙ h)
+    inr (ap has_some is, ap (λ ws. is_of_no_form (script_line false ws)) is ∙ h)
 
 pub begun_on : (first : List (List ℕ)) (p : Parts) (line : ℕ × List ℕ)
     (lines : List (ℕ × List ℕ)) → Begun first p (line ∷ lines)
-    → is_malformed (said_below p line.1) ≡ false
+    → is_of_no_form (said_below p line.1) ≡ false
     → Begun first (with_said p line.0 (said_below p line.1)) lines
 begun_on first p line lines (inr says) h = inr says
 begun_on first p line lines (inl none) h =
     let low : has_some p.events ≡ false = ap (λ (q : Parts). has_some q.events) none.0 in
     let words = words_of line.1 in
     let Q : Bool → Type 0 = λ b.
-    ((with_said p line.0 (said b words) ≡ no_parts) × (first ≡ first_words lines))
+    ((with_said p line.0 (script_line b words) ≡ no_parts) × (first ≡ first_words lines))
     ⊎ SaysSomething false first in
     subst Q (sym low) (begun_words first words p line.0 (first_words lines) none.0 none.1
-    (ap (λ b. is_malformed (said b words)) (sym low) ∙ h))
+    (ap (λ b. is_of_no_form (script_line b words)) (sym low) ∙ h))
 
 pub begun_stops : (first : List (List ℕ)) (p : Parts) (line : ℕ × List ℕ)
     (lines : List (ℕ × List ℕ)) → Begun first p (line ∷ lines)
@@ -150,8 +152,8 @@ begun_stops first p line lines (inl none) h =
     let low : has_some p.events ≡ false = ap (λ (q : Parts). has_some q.events) none.0 in
     let is : first ≡ words_of line.1 = none.1 ∙ rw h.0 refl in (
       ap has_some is ∙ h.0,
-      ap (λ ws. is_malformed (said false ws)) is
-          ∙ ap (λ b. is_malformed (said b (words_of line.1))) (sym low) ∙ h.1,
+      ap (λ ws. is_of_no_form (script_line false ws)) is
+          ∙ ap (λ b. is_of_no_form (script_line b (words_of line.1))) (sym low) ∙ h.1,
     )
 
 pub sound_none : AreSound no_parts

@@ -11,12 +11,12 @@ use Rattle.cmd_rehearse.specs.declared.said.Said.{Said}
 use Rattle.cmd_rehearse.specs.declared.said.Said.TheVariants.{Nothing, Console, Receiver, Stray}
 use Rattle.cmd_rehearse.specs.declared.said.Said.TheVariants.{Malformed}
 use Rattle.cmd_rehearse.specs.Forms.{setup}
-use Rattle.cmd_rehearse.specs.Said.{said, at}
+use Rattle.cmd_rehearse.specs.Said.{script_line, at}
 use Rattle.cmd_rehearse.specs.Script.{script_of}
 
 -- what a line says above all events
 abbrev above : List ℕ → Said
-above line = said false (words_of line)
+above line = script_line false (words_of line)
 
 -- the CID of the rows
 abbrev cid : List ℕ
@@ -42,7 +42,7 @@ events = (refl, refl, refl, refl, refl, refl, refl)
 malformed : (above (codes "console 0 100 c0ffee00-0000-4000-8000-00000000e131") ≡ Malformed)
     × (above (codes "console 1 201 c0ffee00-0000-4000-8000-00000000e131") ≡ Malformed)
     × (above (codes "receiver 64000") ≡ Malformed)
-    × (said true (words_of (codes "receiver 1")) ≡ Malformed)
+    × (script_line true (words_of (codes "receiver 1")) ≡ Malformed)
     × (above (codes "0 do 0 tick") ≡ Malformed)
     × (above (codes "0 tick 0 0") ≡ Malformed)
     × (above (codes "0 stray 0 abc") ≡ Malformed)

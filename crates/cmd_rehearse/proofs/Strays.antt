@@ -14,10 +14,10 @@ use Rattle.rehearsal.specs.declared.event.What.{What}
 use Rattle.cmd_rehearse.specs.declared.said.Said.{Said}
 use Rattle.cmd_rehearse.specs.declared.said.Said.TheVariants.{Nothing, Console, Receiver, Happens}
 use Rattle.cmd_rehearse.specs.declared.said.Said.TheVariants.{Stray, Malformed}
-use Rattle.cmd_rehearse.specs.Forms.{universe_of, place_of, bytes_of, decoded, digits_in}
+use Rattle.cmd_rehearse.specs.Forms.{universe_of, place_of, hex_bytes, decode_answer, digits_in}
 use Rattle.cmd_rehearse.specs.Said.{console_with, receiver_with, header, order_with, tick_with}
-use Rattle.cmd_rehearse.specs.Said.{deliver_with, stray_with, slots_with, event_with, spelled}
-use Rattle.cmd_rehearse.specs.Said.{said, or_malformed, delivered, at}
+use Rattle.cmd_rehearse.specs.Said.{deliver_with, stray_with, show_with, event_with, form_with}
+use Rattle.cmd_rehearse.specs.Said.{script_line, or_malformed, delivery_with, at}
 use Rattle.cmd_rehearse.specs.Script.{IsRange}
 use Rattle.cmd_rehearse.proofs.Sizes.{sizes, words-size}
 
@@ -27,15 +27,15 @@ size_of None = 0
 size_of (Some bytes) = length bytes
 
 decoded-size : (word : List ℕ) (r : Result (List ℕ) FromHexError) → decode_of word ≡ r
-    → size_of (decoded r) ≤ length word
+    → size_of (decode_answer r) ≤ length word
 decoded-size word (Ok bytes) is = let h = decode_of-ok word bytes is in omega (arith, h.2)
 decoded-size word (Err e) is = omega arith
 
-bytes-size : (word : List ℕ) → size_of (bytes_of word) ≤ length word
+bytes-size : (word : List ℕ) → size_of (hex_bytes word) ≤ length word
 bytes-size word = decoded-size word (decode_of word) refl
 
 digits-size : (words : List (List ℕ))
-    → size_of (option_and_then bytes_of (digits_in words)) ≤ sizes words
+    → size_of (option_and_then hex_bytes (digits_in words)) ≤ sizes words
 digits-size [] = bytes-size []
 digits-size (digits ∷ []) = let h = bytes-size digits in omega (arith, h)
 digits-size (digits ∷ word ∷ rest) = omega arith
@@ -119,12 +119,12 @@ tick-fits n m [] = tt
 tick-fits n m (a ∷ []) = map-holds (FitsIn n) _ (place_of a) tt (λ x. tt)
 tick-fits n m (a ∷ b ∷ rest) = tt
 
-slots-fits : (n m : ℕ) (words : List (List ℕ)) → FitsIn n (slots_with m words)
+slots-fits : (n m : ℕ) (words : List (List ℕ)) → FitsIn n (show_with m words)
 slots-fits n m [] = tt
 slots-fits n m (a ∷ []) = map-holds (FitsIn n) _ (place_of a) tt (λ x. tt)
 slots-fits n m (a ∷ b ∷ rest) = tt
 
-delivered_is_plain : (a b c d : List ℕ) → IsPlain (delivered a b c d)
+delivered_is_plain : (a b c d : List ℕ) → IsPlain (delivery_with a b c d)
 delivered_is_plain a b c d =
     then-holds IsPlain _ (place_of a) tt (λ r. then-holds IsPlain _ (place_of b) tt
     (λ i. then-holds IsPlain _ (place_of c) tt (λ u. map-holds IsPlain _ (moment_of d) tt
@@ -136,7 +136,7 @@ deliver-fits n m (a ∷ []) = tt
 deliver-fits n m (a ∷ b ∷ []) = tt
 deliver-fits n m (a ∷ b ∷ c ∷ []) = tt
 deliver-fits n m (a ∷ b ∷ c ∷ d ∷ []) =
-    plain_fits n m (delivered a b c d) (delivered_is_plain a b c d)
+    plain_fits n m (delivery_with a b c d) (delivered_is_plain a b c d)
 deliver-fits n m (a ∷ b ∷ c ∷ d ∷ e ∷ rest) = tt
 
 stray-fits : (m : ℕ) (words : List (List ℕ)) → FitsIn (sizes words) (stray_with m words)
@@ -144,7 +144,7 @@ stray-fits m [] = tt
 stray-fits m (a ∷ words) =
     let h = digits-size words in
     then-holds (FitsIn (sizes (a ∷ words))) _ (place_of a) tt
-    (λ r. stray_fits (sizes (a ∷ words)) m r (option_and_then bytes_of (digits_in words))
+    (λ r. stray_fits (sizes (a ∷ words)) m r (option_and_then hex_bytes (digits_in words))
     (omega (arith, h)))
 
 event-fits : (m : ℕ) (words : List (List ℕ)) → FitsIn (sizes words) (event_with m words)
@@ -164,7 +164,7 @@ header-fits n true o h = tt
 header-fits n false o h = h
 
 spelled-fits : (below : Bool) (first : List ℕ) (words : List (List ℕ))
-    → FitsIn (sizes words) (spelled below first words)
+    → FitsIn (sizes words) (form_with below first words)
 spelled-fits below first words =
     let n = sizes words in
     if-holds (FitsIn n) (same_word first (codes "console")) _ _
@@ -177,14 +177,16 @@ malformed-fits : (n : ℕ) (o : Option Said) → FitsIn n o → Fits n (or_malfo
 malformed-fits n None h = tt
 malformed-fits n (Some s) h = h
 
-said-fits : (below : Bool) (words : List (List ℕ)) → Fits (sizes words) (said below words)
+said-fits : (below : Bool) (words : List (List ℕ)) → Fits (sizes words) (script_line below words)
 said-fits below [] = tt
 said-fits below (first ∷ words) =
-    fits_more (or_malformed (spelled below first words)) (sizes words) (sizes (first ∷ words))
+    fits_more (or_malformed (form_with below first words)) (sizes words) (sizes (first ∷ words))
     (omega arith)
-    (malformed-fits (sizes words) (spelled below first words) (spelled-fits below first words))
+    (malformed-fits (sizes words) (form_with below first words) (spelled-fits below first words))
 
-pub line-fits : (below : Bool) (line : List ℕ) → Fits (length line) (said below (words_of line))
+pub line-fits : (below : Bool) (line : List ℕ)
+    → Fits (length line) (script_line below (words_of line))
 line-fits below line =
-    fits_more (said below (words_of line)) (sizes (words_of line)) (length line) (words-size line)
+    fits_more (script_line below (words_of line)) (sizes (words_of line)) (length line)
+    (words-size line)
     (said-fits below (words_of line))

@@ -4,28 +4,28 @@ use Rattle.std.specs.Prelude.{All}
 use Rattle.std.specs.List.{AllByRecursion}
 use Rattle.std.proofs.lemmas.Bool.Decides.{nat_tests}
 use Rattle.std.proofs.lemmas.List.Elements.{recursion_from_All}
-use Rattle.cmd_rehearse.specs.Script.{IsRange, IsWithin}
+use Rattle.cmd_rehearse.specs.Script.{IsRange, EventFits}
 use Rattle.rehearsal.specs.declared.event.Event.{Event}
 use Rattle.rehearsal.specs.declared.event.What.{What}
 use Rattle.rehearsal.specs.declared.event.What.TheVariants.{Order, Tick, Deliver, Stray, Show}
-use Rattle.rehearsal.specs.Refusing.{are_within, is_within}
+use Rattle.rehearsal.specs.Refusing.{are_within, stray_fits}
 
 -- one event
-within_one : (size : ℕ) (what : What) → IsRange size what → is_within size what ≡ true
+within_one : (size : ℕ) (what : What) → IsRange size what → stray_fits size what ≡ true
 within_one size (Stray receiver from to) range = grind (arith, nat_tests, range.0, range.1)
 within_one size (Order i command) range = refl
 within_one size (Tick i) range = refl
 within_one size (Deliver r i universe k) range = refl
 within_one size (Show r) range = refl
 
-each_within : (size : ℕ) (events : List Event) → AllByRecursion (IsWithin size) events
+each_within : (size : ℕ) (events : List Event) → AllByRecursion (EventFits size) events
     → are_within size events ≡ true
 each_within size [] each = refl
 each_within size (e ∷ es) each =
     ap (λ b. b && are_within size es) (within_one size e.what each.0) ∙ each_within size es each.1
 
 -- all events
-pub all_within : (size : ℕ) (events : List Event) → All (IsWithin size) events
+pub all_within : (size : ℕ) (events : List Event) → All (EventFits size) events
     → are_within size events ≡ true
 all_within size events all =
-    each_within size events (recursion_from_All (IsWithin size) events all)
+    each_within size events (recursion_from_All (EventFits size) events all)

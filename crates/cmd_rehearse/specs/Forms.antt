@@ -15,13 +15,13 @@ abbrev pub place_of : List ℕ → Option ℕ
 place_of = whole_of 65535
 
 -- what was decoded, where it could be
-abbrev pub decoded : Result (List ℕ) FromHexError → Option (List ℕ)
-decoded (Ok bytes) = Some bytes
-decoded (Err error) = None
+abbrev pub decode_answer : Result (List ℕ) FromHexError → Option (List ℕ)
+decode_answer (Ok bytes) = Some bytes
+decode_answer (Err error) = None
 
 -- the bytes that an even number of hex digits spell
-abbrev pub bytes_of : List ℕ → Option (List ℕ)
-bytes_of word = decoded (decode_of word)
+abbrev pub hex_bytes : List ℕ → Option (List ℕ)
+hex_bytes word = decode_answer (decode_of word)
 
 -- the hex digits of a stray: one word, or none
 abbrev pub digits_in : List (List ℕ) → Option (List ℕ)

@@ -8,7 +8,7 @@ use Rattle.show_reader.specs.ItsShow.{OfItsShow}
 use Rattle.cmd_rehearse.specs.Script.{Parts, script_of}
 use Rattle.rehearsal.specs.World.{World}
 use Rattle.rehearsal.specs.Promised.{IsPromised}
-use Rattle.rehearsal.specs.Reported.{IsReportOf, Reported}
+use Rattle.rehearsal.specs.Reported.{IsReportOf, RehearsalReport}
 use Rattle.rehearsal.specs.Stands.{world_of}
 use Rattle.cmd_faults.specs.declared.fault.RunFault.{RunFault}
 use Rattle.cmd_faults.specs.declared.fault.RunFault.TheVariants as run
@@ -21,7 +21,7 @@ world show script = world_of (show ∷ []) script.consoles script.receivers scri
 -- the lines of a rehearsal of a script over a show: the replies to its events, each behind the
 -- number of its line, and then the slots of each receiver after all of them
 pub record AreLines (show : Tables) (script : Parts) (lines : List (List ℕ)) : Type 0 where
-  pub report : Reported
+  pub report : RehearsalReport
   pub came : IsReportOf (world show script) script.events report
   pub are : lines ≡ rehearsal_lines script.lines report.replies report.last
 
@@ -59,10 +59,10 @@ PrintsLines (Err e) lines before after = StopsWithin lines before after
 
 -- at Ok the output took all lines and nothing else, at Device it failed at one of them, and at any
 -- other fault nothing was written
-abbrev pub Prints : {X : Type 0} → Result X RunFault → (List (List ℕ) → Type 0) → Tape ℕ → Tape ℕ
+abbrev pub PrintsAll : {X : Type 0} → Result X RunFault → (List (List ℕ) → Type 0) → Tape ℕ → Tape ℕ
     → Type 0
-Prints (Ok x) Are before after =
+PrintsAll (Ok x) Are before after =
     (lines : List (List ℕ)) × Are lines × (after ≡ with_more before (concat lines))
-Prints (Err run.Device) Are before after =
+PrintsAll (Err run.Device) Are before after =
     (lines : List (List ℕ)) × Are lines × StopsWithin lines before after
-Prints (Err fault) Are before after = after ≡ before
+PrintsAll (Err fault) Are before after = after ≡ before

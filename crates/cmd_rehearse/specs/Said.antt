@@ -6,7 +6,7 @@ use Rattle.uuid.specs.Text.{parsed}
 use Rattle.console.specs.Spelling.{command_of}
 use Rattle.rehearsal.specs.declared.event.What.{What}
 use Rattle.rehearsal.specs.declared.event.What.TheVariants.{Order, Tick, Deliver, Show}
-use Rattle.cmd_rehearse.specs.Forms.{universe_of, place_of, bytes_of, digits_in, setup}
+use Rattle.cmd_rehearse.specs.Forms.{universe_of, place_of, hex_bytes, digits_in, setup}
 use Rattle.cmd_rehearse.specs.declared.said.Said.{Said}
 use Rattle.cmd_rehearse.specs.declared.said.Said.TheVariants.{Nothing, Console, Receiver, Happens}
 use Rattle.cmd_rehearse.specs.declared.said.Said.TheVariants.{Stray, Malformed}
@@ -48,8 +48,8 @@ tick_with moment (console ∷ []) = option_map (λ c. at moment (Tick c)) (place
 tick_with moment _ = None
 
 -- packet K of universe U of console C reaches receiver R
-abbrev pub delivered : List ℕ → List ℕ → List ℕ → List ℕ → Option What
-delivered receiver console universe k =
+abbrev pub delivery_with : List ℕ → List ℕ → List ℕ → List ℕ → Option What
+delivery_with receiver console universe k =
     option_and_then (λ r. option_and_then (λ c. option_and_then (λ u.
     option_map (λ n. Deliver r c u n) (moment_of k)) (place_of universe))
     (place_of console)) (place_of receiver)
@@ -57,7 +57,7 @@ delivered receiver console universe k =
 -- `deliver R C U K`
 abbrev pub deliver_with : ℕ → List (List ℕ) → Option Said
 deliver_with moment (receiver ∷ console ∷ universe ∷ k ∷ []) =
-    option_map (λ what. at moment what) (delivered receiver console universe k)
+    option_map (λ what. at moment what) (delivery_with receiver console universe k)
 deliver_with moment _ = None
 
 -- `stray R [HEX]`
@@ -65,12 +65,12 @@ abbrev pub stray_with : ℕ → List (List ℕ) → Option Said
 stray_with moment [] = None
 stray_with moment (receiver ∷ words) =
     option_and_then (λ r. option_map (λ bytes. Stray moment r bytes)
-    (option_and_then bytes_of (digits_in words))) (place_of receiver)
+    (option_and_then hex_bytes (digits_in words))) (place_of receiver)
 
 -- `slots R`
-abbrev pub slots_with : ℕ → List (List ℕ) → Option Said
-slots_with moment (receiver ∷ []) = option_map (λ r. at moment (Show r)) (place_of receiver)
-slots_with moment _ = None
+abbrev pub show_with : ℕ → List (List ℕ) → Option Said
+show_with moment (receiver ∷ []) = option_map (λ r. at moment (Show r)) (place_of receiver)
+show_with moment _ = None
 
 -- the event that the words behind a moment spell
 abbrev pub event_with : ℕ → List (List ℕ) → Option Said
@@ -80,14 +80,14 @@ event_with moment (keyword ∷ operands) =
     else (if same_word keyword (codes "tick") then tick_with moment operands
     else (if same_word keyword (codes "deliver") then deliver_with moment operands
     else (if same_word keyword (codes "stray") then stray_with moment operands
-    else (if same_word keyword (codes "slots") then slots_with moment operands
+    else (if same_word keyword (codes "slots") then show_with moment operands
     else None))))
 
 -- ---- lines
 
 -- a header, or an event behind its moment
-abbrev pub spelled : Bool → List ℕ → List (List ℕ) → Option Said
-spelled below first words =
+abbrev pub form_with : Bool → List ℕ → List (List ℕ) → Option Said
+form_with below first words =
     if same_word first (codes "console") then header below (console_with words)
     else (if same_word first (codes "receiver") then header below (receiver_with words)
     else option_and_then (λ moment. event_with moment words) (moment_of first))
@@ -98,13 +98,13 @@ or_malformed (Some said) = said
 or_malformed None = Malformed
 
 -- what a line says; `below` tells whether an event stands above
-abbrev pub said : Bool → List (List ℕ) → Said
-said below [] = Nothing
-said below (first ∷ words) = or_malformed (spelled below first words)
+abbrev pub script_line : Bool → List (List ℕ) → Said
+script_line below [] = Nothing
+script_line below (first ∷ words) = or_malformed (form_with below first words)
 
-abbrev pub is_malformed : Said → Bool
-is_malformed Malformed = true
-is_malformed _ = false
+abbrev pub is_of_no_form : Said → Bool
+is_of_no_form Malformed = true
+is_of_no_form _ = false
 
 abbrev pub is_nothing : Said → Bool
 is_nothing Nothing = true

@@ -12,7 +12,7 @@ use Rattle.cmd_rehearse.specs.declared.said.Said.TheVariants.{Stray, Malformed}
 use Rattle.cmd_rehearse.specs.declared.script.Script.{Script}
 use Rattle.cmd_rehearse.specs.declared.script.ScriptFault.{ScriptFault}
 use Rattle.cmd_rehearse.specs.declared.script.ScriptFault.TheVariants.{Line, Memory}
-use Rattle.cmd_rehearse.specs.Said.{said, is_malformed}
+use Rattle.cmd_rehearse.specs.Said.{script_line, is_of_no_form}
 
 -- what a script sets up and lets happen: its consoles, the universes of its receivers, its events,
 -- the bytes of all strays, and of each event the number of its line
@@ -67,13 +67,13 @@ has_some (x ∷ xs) = true
 
 -- what a line says below the lines of p
 abbrev pub said_below : Parts → List ℕ → Said
-said_below p line = said (has_some p.events) (words_of line)
+said_below p line = script_line (has_some p.events) (words_of line)
 
 -- the script of p and the numbered lines below; or the number of the first malformed of these
 abbrev pub read_below : Parts → List (ℕ × List ℕ) → Result Parts ℕ
 read_below p [] = Ok p
 read_below p (line ∷ lines) =
-    if is_malformed (said_below p line.1) then Err line.0
+    if is_of_no_form (said_below p line.1) then Err line.0
     else read_below (with_said p line.0 (said_below p line.1)) lines
 
 -- the script that a text means, or the number of its first malformed line
@@ -85,8 +85,8 @@ abbrev pub IsRange : ℕ → What → Type 0
 IsRange size (what.Stray receiver from to) = (from ≤ to) × (to ≤ size)
 IsRange size _ = Unit {0}
 
-abbrev pub IsWithin : ℕ → Event → Type 0
-IsWithin size event = IsRange size event.what
+abbrev pub EventFits : ℕ → Event → Type 0
+EventFits size event = IsRange size event.what
 
 -- the words of the first line that has any
 abbrev pub first_words : List (ℕ × List ℕ) → List (List ℕ)
@@ -97,17 +97,17 @@ first_words (line ∷ lines) =
 -- words that say something: they are there, and a form fits them
 abbrev pub SaysSomething : Bool → List (List ℕ) → Type 0
 SaysSomething below words =
-    (has_some words ≡ true) × (is_malformed (said below words) ≡ false)
+    (has_some words ≡ true) × (is_of_no_form (script_line below words) ≡ false)
 
 -- why a line was not taken below those of p: it is malformed; or memory was wanted, and then it
 -- says something
 abbrev pub ExplainsLine : Parts → ℕ → List ℕ → ScriptFault → Type 0
 ExplainsLine p number line (Line n) =
-    (n ≡ number) × (is_malformed (said_below p line) ≡ true)
+    (n ≡ number) × (is_of_no_form (said_below p line) ≡ true)
 ExplainsLine p number line Memory = SaysSomething (has_some p.events) (words_of line)
 
 -- why a text gives no script: its first malformed line; or memory was wanted, and then the first
 -- line that has words says something
-abbrev pub Explains : List ℕ → ScriptFault → Type 0
-Explains text (Line number) = script_of text ≡ Err number
-Explains text Memory = SaysSomething false (first_words (numbered_from 1 (lines_of text)))
+abbrev pub ExplainsScript : List ℕ → ScriptFault → Type 0
+ExplainsScript text (Line number) = script_of text ≡ Err number
+ExplainsScript text Memory = SaysSomething false (first_words (numbered_from 1 (lines_of text)))

@@ -1,8 +1,8 @@
 -- What is printed of a rehearsal: a line for each event, and at the end one for each receiver.
 use Rattle.std.specs.Prelude.{ℕ, List, ◌++◌, map, Ok, Err, codes}
 use Rattle.std.specs.List.{enumerate_from, zip}
-use Rattle.console.specs.Texts.{done_text, refused_text, ticked_text, numbered}
-use Rattle.sacn_receiver.specs.Replies.{reply_text as datagram_text, slots_text, end_line}
+use Rattle.console.specs.Texts.{done_text, refused_text, ticked_text, moment_line}
+use Rattle.sacn_receiver.specs.Replies.{receiver_reply as datagram_text, lit_slots_text, end_line}
 use Rattle.rehearsal.specs.declared.reply.Skip.{Skip}
 use Rattle.rehearsal.specs.declared.reply.Skip.TheVariants.{Backwards, TooLarge, NoConsole}
 use Rattle.rehearsal.specs.declared.reply.Skip.TheVariants.{NoReceiver, NotSent}
@@ -18,8 +18,8 @@ skip_name NoReceiver = codes "NoReceiver"
 skip_name NotSent = codes "NotSent"
 
 -- a skipped event
-abbrev pub skipped_text : Skip → List ℕ
-skipped_text skip = codes "skipped " ++ skip_name skip
+abbrev pub skip_text : Skip → List ℕ
+skip_text skip = codes "skipped " ++ skip_name skip
 
 -- the reply to an event
 abbrev pub reply_text : Reply → List ℕ
@@ -28,12 +28,12 @@ reply_text (reply.Refused refused) = refused_text refused
 reply_text (reply.Ticked ticked offers) = ticked_text ticked offers
 reply_text (reply.Taken taken) = datagram_text (Ok taken)
 reply_text (reply.Ignored ignored) = datagram_text (Err ignored)
-reply_text (reply.Shown slots) = slots_text slots
-reply_text (reply.Skipped skip) = skipped_text skip
+reply_text (reply.Shown slots) = lit_slots_text slots
+reply_text (reply.Skipped skip) = skip_text skip
 
 -- the line of an event: the number of its line in the script, and the reply to it
 abbrev pub event_line : ℕ × Reply → List ℕ
-event_line (number, reply) = numbered number (reply_text reply)
+event_line (number, reply) = moment_line number (reply_text reply)
 
 -- the lines of events, from the numbers of their lines and the replies to them
 abbrev pub event_lines : List ℕ → List Reply → List (List ℕ)

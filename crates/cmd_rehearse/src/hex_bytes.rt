@@ -1,7 +1,7 @@
 ghost use Rattle.std.specs.Prelude.{◌≡◌, ◌↔◌, ◌%◌, ◌++◌, IsTrue, OnOk, length};
 ghost use Rattle.std.specs.List.{AllPass};
 ghost use Rattle.hex.specs.Hex.{is_hex_digit};
-ghost use Rattle.cmd_rehearse.specs.Forms.{bytes_of};
+ghost use Rattle.cmd_rehearse.specs.Forms.{hex_bytes};
 
 use std::alloc::{AllocError, Global};
 use std::marker::Model;
@@ -14,13 +14,13 @@ pub struct HexBytes<'a> {
 
 impl<'a> Model for HexBytes<'a> {
     ghost use Rattle.std.specs.Prelude.{◌≡◌, ℕ, List, [], unwrap_or, is_some, true};
-    ghost use Rattle.cmd_rehearse.specs.Forms.{bytes_of};
+    ghost use Rattle.cmd_rehearse.specs.Forms.{hex_bytes};
 
     ghost Value = { List ℕ };
 
-    ghost view = { λ hex. unwrap_or (bytes_of hex.digits.now) [] };
+    ghost view = { λ hex. unwrap_or (hex_bytes hex.digits.now) [] };
 
-    ghost invariant = { λ hex. is_some (bytes_of hex.digits.now) ≡ true };
+    ghost invariant = { λ hex. is_some (hex_bytes hex.digits.now) ≡ true };
 }
 
 fn is_hex(digits: &[u8]) -> bool
@@ -33,7 +33,7 @@ fn is_hex(digits: &[u8]) -> bool
 impl<'a> HexBytes<'a> {
     // The bytes of this word; `None` where a byte of it is no hex digit, or their number is odd.
     pub fn new(digits: &'a [u8]) -> Option<HexBytes<'a>>
-        ensures { result ≡ bytes_of digits.now }
+        ensures { result ≡ hex_bytes digits.now }
     {
         if is_hex(digits) {
             Some(HexBytes { digits })

@@ -1,8 +1,8 @@
 ghost use Rattle.std.specs.Prelude.{◌≡◌, ◌≤◌, length};
-ghost use Rattle.console.specs.Texts.{done_text, numbered, refused_text, ticked_text};
-ghost use Rattle.sacn_receiver.specs.Replies.{reply_text as datagram_text, slots_text};
+ghost use Rattle.console.specs.Texts.{done_text, moment_line, refused_text, ticked_text};
+ghost use Rattle.sacn_receiver.specs.Replies.{receiver_reply as datagram_text, lit_slots_text};
 ghost use Rattle.cmd_rehearse.specs.Printed.{PrintsLine};
-ghost use Rattle.cmd_rehearse.specs.Texts.{event_line, skip_name, skipped_text};
+ghost use Rattle.cmd_rehearse.specs.Texts.{event_line, skip_name, skip_text};
 
 use console::{Offers, done_line, reason_line, refused_line, ticked_line};
 use desk::{Refused, Ticked};
@@ -36,14 +36,14 @@ pub(crate) fn print_reply<W: Output>(
 
 #[inline(never)]
 fn print_done<W: Output>(number: u64, out: &mut W) -> Result<(), LinkFault>
-    ensures { PrintsLine W.tells W.tape result (numbered number done_text) out.old out.new }
+    ensures { PrintsLine W.tells W.tape result (moment_line number done_text) out.old out.new }
 {
     out.write(done_line(number).as_str().as_bytes())
 }
 
 #[inline(never)]
 fn print_refused<W: Output>(number: u64, refused: Refused, out: &mut W) -> Result<(), LinkFault>
-    ensures { PrintsLine W.tells W.tape result (numbered number (refused_text refused))
+    ensures { PrintsLine W.tells W.tape result (moment_line number (refused_text refused))
         out.old out.new }
 {
     out.write(refused_line(number, refused).as_str().as_bytes())
@@ -56,7 +56,7 @@ fn print_ticked<W: Output>(
     offers: &Offers,
     out: &mut W,
 ) -> Result<(), LinkFault>
-    ensures { PrintsLine W.tells W.tape result (numbered number (ticked_text ticked offers.now))
+    ensures { PrintsLine W.tells W.tape result (moment_line number (ticked_text ticked offers.now))
         out.old out.new }
 {
     out.write(ticked_line(number, ticked, offers).as_str().as_bytes())
@@ -68,7 +68,7 @@ fn print_taken<W: Output>(
     reply: Result<Taken, Ignored>,
     out: &mut W,
 ) -> Result<(), LinkFault>
-    ensures { PrintsLine W.tells W.tape result (numbered number (datagram_text reply))
+    ensures { PrintsLine W.tells W.tape result (moment_line number (datagram_text reply))
         out.old out.new }
 {
     out.write(reply_line(number, reply).as_str().as_bytes())
@@ -76,7 +76,7 @@ fn print_taken<W: Output>(
 
 #[inline(never)]
 fn print_slots<W: Output>(number: u64, slots: &Slots, out: &mut W) -> Result<(), LinkFault>
-    ensures { PrintsLine W.tells W.tape result (numbered number (slots_text slots.now))
+    ensures { PrintsLine W.tells W.tape result (moment_line number (lit_slots_text slots.now))
         out.old out.new }
 {
     let mut line = SlotsLine::new();
@@ -86,7 +86,7 @@ fn print_slots<W: Output>(number: u64, slots: &Slots, out: &mut W) -> Result<(),
 
 #[inline(never)]
 fn print_skipped<W: Output>(number: u64, skip: Skip, out: &mut W) -> Result<(), LinkFault>
-    ensures { PrintsLine W.tells W.tape result (numbered number (skipped_text skip))
+    ensures { PrintsLine W.tells W.tape result (moment_line number (skip_text skip))
         out.old out.new }
 {
     let line = reason_line(number, "skipped", skip_name(skip));

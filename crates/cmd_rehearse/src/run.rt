@@ -1,5 +1,5 @@
-ghost use Rattle.cmd_rehearse.specs.Begins.{Begins};
-ghost use Rattle.cmd_rehearse.specs.Printed.{AreLinesOf, Prints};
+ghost use Rattle.cmd_rehearse.specs.Begins.{RehearsalBegins};
+ghost use Rattle.cmd_rehearse.specs.Printed.{AreLinesOf, PrintsAll};
 
 use crate::lines::print_lines;
 use crate::night::rehearse_script;
@@ -28,8 +28,8 @@ pub fn rehearse_text<F: Fader, W: Output>(
     out: &mut W,
 ) -> Result<(), RunFault>
     ensures told { W.tells out.new → W.tells out.old }
-    ensures begins { Begins result show.now script.now }
-    ensures text { W.tells out.new → Prints result (AreLinesOf show.now script.now)
+    ensures begins { RehearsalBegins result show.now script.now }
+    ensures text { W.tells out.new → PrintsAll result (AreLinesOf show.now script.now)
         (W.tape out.old) (W.tape out.new) }
 {
     let rehearsed = rehearse_script::<F>(alloc, show, script)?;

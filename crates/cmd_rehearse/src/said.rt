@@ -4,7 +4,8 @@ ghost use Rattle.uuid.specs.Text.{parsed};
 ghost use Rattle.cmd_rehearse.specs.Forms.{universe_of, place_of};
 ghost use Rattle.cmd_rehearse.specs.Said.{console_with, receiver_with};
 ghost use Rattle.cmd_rehearse.specs.Said.{order_with, tick_with, deliver_with, stray_with};
-ghost use Rattle.cmd_rehearse.specs.Said.{slots_with, event_with, spelled, said, delivered};
+ghost use Rattle.cmd_rehearse.specs.Said.{show_with, event_with, form_with, script_line};
+ghost use Rattle.cmd_rehearse.specs.Said.{delivery_with};
 
 use crate::console_line::ConsoleLine;
 use crate::hex_bytes::HexBytes;
@@ -36,10 +37,10 @@ pub enum Said<'a> {
 }
 
 impl<'a> Said<'a> {
-    ghost use Rattle.cmd_rehearse.specs.Said.{is_malformed};
+    ghost use Rattle.cmd_rehearse.specs.Said.{is_of_no_form};
 
     pub fn is_malformed(&self) -> bool
-        ensures { result ≡ is_malformed self.now }
+        ensures { result ≡ is_of_no_form self.now }
     {
         matches!(self, Said::Malformed)
     }
@@ -47,20 +48,20 @@ impl<'a> Said<'a> {
 
 // What a line says, without its LF; `below` tells whether an event stands above.
 pub fn read_line<'a>(below: bool, line: &'a [u8]) -> Said<'a>
-    ensures { result ≡ said below (words_of line.now) }
+    ensures { result ≡ script_line below (words_of line.now) }
 {
     let mut words = Words::new(line);
     let Some(first) = words.next() else {
         return Said::Nothing;
     };
-    match spelled(below, first, words.rest()) {
+    match form_with(below, first, words.rest()) {
         Some(said) => said,
         None => Said::Malformed,
     }
 }
 
-fn spelled<'a>(below: bool, first: &[u8], rest: &'a [u8]) -> Option<Said<'a>>
-    ensures { result ≡ spelled below first.now (words_of rest.now) }
+fn form_with<'a>(below: bool, first: &[u8], rest: &'a [u8]) -> Option<Said<'a>>
+    ensures { result ≡ form_with below first.now (words_of rest.now) }
 {
     if same_word(first, b"console") {
         if below { None } else { console(rest) }
@@ -163,12 +164,12 @@ fn deliver<'a>(moment: u64, operands: &'a [u8]) -> Option<Said<'a>>
     if words.next().is_some() {
         return None;
     }
-    let what = delivered(receiver, console, universe, k)?;
+    let what = delivery_with(receiver, console, universe, k)?;
     Some(Said::Happens(Event { moment, what }))
 }
 
-fn delivered(receiver: &[u8], console: &[u8], universe: &[u8], k: &[u8]) -> Option<What>
-    ensures { result ≡ delivered receiver.now console.now universe.now k.now }
+fn delivery_with(receiver: &[u8], console: &[u8], universe: &[u8], k: &[u8]) -> Option<What>
+    ensures { result ≡ delivery_with receiver.now console.now universe.now k.now }
 {
     let receiver = place(receiver)?;
     let console = place(console)?;
@@ -203,7 +204,7 @@ fn stray<'a>(moment: u64, operands: &'a [u8]) -> Option<Said<'a>>
 }
 
 fn slots<'a>(moment: u64, operands: &'a [u8]) -> Option<Said<'a>>
-    ensures { result ≡ slots_with moment (words_of operands.now) }
+    ensures { result ≡ show_with moment (words_of operands.now) }
 {
     let mut words = Words::new(operands);
     let word = words.next()?;

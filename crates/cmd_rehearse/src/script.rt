@@ -1,8 +1,8 @@
 ghost use Rattle.std.specs.Prelude.{◌≡◌, ◌+◌, ◌<◌, All, IfErr, IfOk, OnOk, length};
 ghost use Rattle.std.specs.Prelude.{false};
 ghost use Rattle.cmd_rehearse.specs.Script.{parts, no_parts, with_said, said_below, script_of};
-ghost use Rattle.cmd_rehearse.specs.Script.{with_event, Explains, ExplainsLine, IsWithin};
-ghost use Rattle.cmd_rehearse.specs.Said.{is_malformed, is_nothing, stray_size};
+ghost use Rattle.cmd_rehearse.specs.Script.{with_event, ExplainsScript, ExplainsLine, EventFits};
+ghost use Rattle.cmd_rehearse.specs.Said.{is_of_no_form, is_nothing, stray_size};
 
 use crate::said::{Said, read_line};
 use ascii_text::{Line, Lines};
@@ -87,7 +87,7 @@ impl Script {
     fn take(&mut self, alloc: Global, line: Line<'_>) -> Result<(), ScriptFault>
         requires { length self.old.strays.items + length line.bytes.now < 4294967296 }
         ensures sound { OnOk result
-            (is_malformed (said_below (parts self.old) line.entry.bytes.now) ≡ false) }
+            (is_of_no_form (said_below (parts self.old) line.entry.bytes.now) ≡ false) }
         ensures more { OnOk result (parts self.new ≡ with_said (parts self.old) line.entry.number
             (said_below (parts self.old) line.entry.bytes.now)) }
         ensures fault { IfErr result
@@ -120,10 +120,10 @@ pub fn read_script(alloc: Global, text: &[u8]) -> Result<Script, ScriptFault>
     requires { length text.now < 4294967296 }
     ensures script { IfOk result (λ script. script_of text.now ≡ Ok (parts script)) }
     ensures strays { IfOk result
-        (λ script. All (IsWithin (length script.strays.items)) script.events.items) }
+        (λ script. All (EventFits (length script.strays.items)) script.events.items) }
     ensures lines { IfOk result
         (λ script. length script.lines.items ≡ length script.events.items) }
-    ensures fault { IfErr result (Explains text.now) }
+    ensures fault { IfErr result (ExplainsScript text.now) }
 {
     let mut script = Script::new(alloc);
     for line in Lines::new(text) {

@@ -8,7 +8,7 @@ use Rattle.std.specs.Ordering.{nat_cmp}
 use Rattle.std.specs.Cmp.{nat_cmp_total}
 use Rattle.std.specs.FinMap.{is_sorted, find, from_sorted, get}
 use Rattle.show.proofs.Sorted.{get_is, entries_are}
-use Rattle.show.specs.Readers.{look_slot, look_frame, ordinal_of, slot_of, universes_of}
+use Rattle.show.specs.Readers.{look_slot, look_frame, ordinal_of, slot_of, patch_ordinals}
 use Rattle.show.specs.Tables.{LevelMap, PatchMap}
 use Rattle.hex.specs.Hex.{encode_with}
 use Rattle.sacn_packet.proofs.Packets.{layers_are_data}
@@ -68,7 +68,7 @@ module _ (pairs : List (ℕ × ℕ)) (dimmers : List (ℕ × (ℕ × ℕ)))
   frame_is ordinal = map_same (look_slot (levels_of pairs) (patch_of dimmers))
       (listed_slot pairs dimmers) slot_is (range_with_len (512 * ordinal + 1) 512)
 
-  universes_are : universes_of (patch_of dimmers) ≡ filter
+  universes_are : patch_ordinals (patch_of dimmers) ≡ filter
       (λ k. list_any (λ e. ordinal_of e.0 == k) dimmers) (range_with_len 0 16)
   unfolding patch_of
   universes_are = ap (λ es. filter (λ k. list_any (λ e. ordinal_of e.0 == k) es)

@@ -11,7 +11,7 @@ use Rattle.hex.specs.Hex.{encode_lower}
 use Rattle.sacn_packet.specs.Wire.{IsData}
 use Rattle.show.specs.declared.cue.CueData.{CueData}
 use Rattle.show.specs.Tables.{LevelMap, PatchMap}
-use Rattle.show.specs.Readers.{universes_of, has_dimmer_in, look_frame}
+use Rattle.show.specs.Readers.{patch_ordinals, has_dimmer_in, look_frame}
 use Rattle.cmd_show.specs.Texts.{look_fields, hex_line, IsLookPacket, IsLinesOf}
 
 -- the numbers from 0 on are below their count
@@ -21,7 +21,7 @@ below n = λ k d h.
     omega (arith, get_or-range_with_len 0 n k d within)
 
 -- the ordinals of a show are below 16
-pub universes_in_range : (patch : PatchMap) → All (λ k. k < 16) (universes_of patch)
+pub universes_in_range : (patch : PatchMap) → All (λ k. k < 16) (patch_ordinals patch)
 universes_in_range patch =
     All-filter (has_dimmer_in patch) (λ k. k < 16) (range_with_len 0 16) (below 16)
 

@@ -8,7 +8,7 @@ use Rattle.show_line.specs.Said.{desk_limits}
 use Rattle.show_line.specs.declared.statement.Record.TheVariants.{Cue}
 use Rattle.show_reader.specs.Text.{statements_of}
 use Rattle.show_reader.specs.ItsShow.{OfItsShow}
-use Rattle.show_reader.specs.Meaning.{is_there}
+use Rattle.show_reader.specs.Meaning.{is_record_there}
 use Rattle.show_reader.specs.Reading.{lines_read, lines_skipped}
 use Rattle.show_reader.specs.Shows.{IsShowOf}
 use Rattle.show_reader.proofs.Found.{record_there}
@@ -49,7 +49,7 @@ of_cue show cue IsText text written s is there same lines =
 -- a cue is there where the show has it
 pub cue_is_there : (show : List ℕ) (s : Tables) (cue : ℕ) (b : Bool)
     → IsShowOf (statements_of desk_limits show) s → is_some (maps.get s.cues cue) ≡ b
-    → is_there (Cue cue) (statements_of desk_limits show) ≡ b
+    → is_record_there (Cue cue) (statements_of desk_limits show) ≡ b
 cue_is_there show s cue b is found =
     sym (record_there (statements_of desk_limits show) s (Cue cue) is) ∙ found
 

@@ -21,14 +21,16 @@ IsLookOf show cue cid text = OfItsShow show (λ s.
 
 -- at Ok the output took such a text and nothing else, at Device one write failed, and at any other
 -- fault nothing was written
-abbrev pub Prints : {X : Type 0} → Result X RunFault → (List ℕ → Type 0) → Tape ℕ → Tape ℕ → Type 0
-Prints (Ok x) IsText before after = (text : List ℕ) × IsText text × (after ≡ with_more before text)
-Prints (Err run.Device) IsText before after = after ≡ with_failure before
-Prints (Err fault) IsText before after = after ≡ before
+abbrev pub PrintsText : {X : Type 0} → Result X RunFault → (List ℕ → Type 0) → Tape ℕ → Tape ℕ
+    → Type 0
+PrintsText (Ok x) IsText before after =
+    (text : List ℕ) × IsText text × (after ≡ with_more before text)
+PrintsText (Err run.Device) IsText before after = after ≡ with_failure before
+PrintsText (Err fault) IsText before after = after ≡ before
 
 -- what a run over an output prints is such a text, where the output tells at the end; then it told
 -- before too
 pub record PrintsTo {W X : Type 0} (tells : W → Type 0) (tape : W → Tape ℕ) (before after : W)
     (result : Result X RunFault) (IsText : List ℕ → Type 0) : Type 0 where
   pub told : tells after → tells before
-  pub text : tells after → Prints result IsText (tape before) (tape after)
+  pub text : tells after → PrintsText result IsText (tape before) (tape after)

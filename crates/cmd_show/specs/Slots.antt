@@ -3,12 +3,12 @@ use Rattle.std.specs.Prelude.{◌≡◌, ℕ, ◌+◌, true, List, ◌++◌, fla
 use Rattle.std.specs.Prelude.{IsTrue, IsFalse, IsSomeAnd}
 use Rattle.std.specs.FinMap as maps
 use Rattle.show.specs.Tables.{LevelMap, PatchMap}
-use Rattle.show.specs.Readers.{universes_of, look_frame}
+use Rattle.show.specs.Readers.{patch_ordinals, look_frame}
 use Rattle.show_line.specs.Said.{desk_limits}
 use Rattle.show_line.specs.declared.statement.Record.TheVariants.{Cue}
 use Rattle.show_reader.specs.ItsShow.{OfItsShow}
-use Rattle.show_reader.specs.Meaning.{is_there}
-use Rattle.show_reader.specs.Reading.{fault_of}
+use Rattle.show_reader.specs.Meaning.{is_record_there}
+use Rattle.show_reader.specs.Reading.{text_fault}
 use Rattle.show_reader.specs.Text.{statements_of}
 use Rattle.patch.specs.Frame.{is_base}
 use Rattle.sacn_receiver.specs.Replies.{slots_line}
@@ -29,7 +29,7 @@ ordinal_lines levels patch base ordinal =
 
 -- the text of `slots`: the lines of each universe that has a patched dimmer, ascending
 abbrev pub slots_text : LevelMap → PatchMap → ℕ → List ℕ
-slots_text levels patch base = flat_map (ordinal_lines levels patch base) (universes_of patch)
+slots_text levels patch base = flat_map (ordinal_lines levels patch base) (patch_ordinals patch)
 
 -- what `slots` prints of a cue of a show text; the cue is there
 abbrev pub IsSlotsOf : List ℕ → ℕ → ℕ → List ℕ → Type 0
@@ -46,8 +46,8 @@ LacksNumbers show base = OfItsShow show (λ s. IsFalse (is_base s.patch base))
 -- the show was read, and the cue is there
 abbrev pub HasCue : List ℕ → ℕ → Type 0
 HasCue show cue =
-    (fault_of desk_limits show ≡ None)
-    × (is_there (Cue cue) (statements_of desk_limits show) ≡ true)
+    (text_fault desk_limits show ≡ None)
+    × (is_record_there (Cue cue) (statements_of desk_limits show) ≡ true)
 
 -- `slots`: it fails as `look` does; or the cue is there, and a universe has no number; or all have
 -- one, and the output failed

@@ -4,8 +4,8 @@ use Rattle.std.specs.List.{AllZip}
 use Rattle.std.specs.FinMap as maps
 use Rattle.hex.specs.Hex.{encode_lower}
 use Rattle.show.specs.Tables.{LevelMap, PatchMap, Tables}
-use Rattle.show.specs.Readers.{universes_of, look_frame}
-use Rattle.sacn_packet.specs.Name.{padded}
+use Rattle.show.specs.Readers.{patch_ordinals, look_frame}
+use Rattle.sacn_packet.specs.Name.{padded_name}
 use Rattle.sacn_packet.specs.Wire.{Fields, IsData}
 
 -- the line of `check`, from its six numbers
@@ -28,7 +28,7 @@ check_text lines skipped show =
 abbrev pub look_fields : List ℕ → ℕ → Fields
 look_fields cid ordinal = record {
   cid = cid;
-  name = padded (codes "cueplayer");
+  name = padded_name (codes "cueplayer");
   priority = 100;
   sync = 0;
   sequence = 0;
@@ -55,4 +55,4 @@ pub record IsLinesOf (levels : LevelMap) (patch : PatchMap) (cid ordinals text :
 
 -- the text of `look`: a line for each universe that has a patched dimmer, ascending
 abbrev pub IsLookText : LevelMap → PatchMap → List ℕ → List ℕ → Type 0
-IsLookText levels patch cid text = IsLinesOf levels patch cid (universes_of patch) text
+IsLookText levels patch cid text = IsLinesOf levels patch cid (patch_ordinals patch) text

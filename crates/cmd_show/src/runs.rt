@@ -1,7 +1,7 @@
 ghost use Rattle.std.specs.Prelude.{◌≡◌, true, OnOk};
 ghost use Rattle.show_line.specs.Said.{desk_limits};
 ghost use Rattle.show_line.specs.declared.statement.Record.TheVariants.{Cue};
-ghost use Rattle.show_reader.specs.Meaning.{is_there};
+ghost use Rattle.show_reader.specs.Meaning.{is_record_there};
 ghost use Rattle.show_reader.specs.Text.{statements_of};
 ghost use Rattle.cmd_show.specs.Faults.{CheckFails, LookFails, ReadsFirst};
 ghost use Rattle.cmd_show.specs.Prints.{IsCheckOf, IsLookOf, PrintsTo};
@@ -50,7 +50,8 @@ pub fn look<W: Output>(
 ) -> Result<(), RunFault>
     ensures prints { PrintsTo W.tells W.tape out.old out.new result (IsLookOf show.now cue cid) }
     ensures reads { ReadsFirst show.now (LookFails show.now cue) result }
-    ensures there { OnOk result (is_there (Cue cue) (statements_of desk_limits show.now) ≡ true) }
+    ensures there { OnOk result
+        (is_record_there (Cue cue) (statements_of desk_limits show.now) ≡ true) }
 {
     let loaded = read_show(alloc, show)?;
     if loaded.show.cue(cue).is_none() {

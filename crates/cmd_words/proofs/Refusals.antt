@@ -3,10 +3,10 @@ use Rattle.std.proofs.Common.{◌≡◌, ◌≤◌, List, [], ◌∷◌, ◌++�
 use Rattle.std.specs.Option.{option_or}
 use Rattle.clap.specs.Words.{Row, Rule, first_of}
 use Rattle.cmd_words.specs.Program.{flag, night_arguments, option}
-use Rattle.cmd_words.specs.Job.{IsInRange, has_flag, live_of, live_with, night_of}
-use Rattle.cmd_words.specs.Job.{follows_of, patience_of, resumes_of, spare_of, start_of}
+use Rattle.cmd_words.specs.Job.{IsJobInRange, has_flag, live_of, live_with, night_of}
+use Rattle.cmd_words.specs.Job.{follows_of, patience_of, resumes_of, spare_of, start_cue}
 use Rattle.cmd_words.specs.Misfit.{Unfit as UnfitArgument, first_misfit, misfit_at, misfit_in}
-use Rattle.cmd_words.specs.Asked.{Answers}
+use Rattle.cmd_words.specs.Asked.{AnswersWords}
 use Rattle.cmd_words.specs.declared.job.WordsFault.{WordsFault}
 use Rattle.cmd_words.specs.declared.job.WordsFault.TheVariants.{Refused, Unfit, Memory}
 
@@ -26,16 +26,18 @@ first_of_more (rule ∷ rest) more rows x is =
 -- the arguments of `live` behind those of a night
 abbrev behind_night : List Rule
 behind_night = option (codes "record") ∷ flag (codes "resume") ∷ flag (codes "spare")
-    ∷ option (codes "start") ∷ option (codes "follow") ∷ option (codes "patience") ∷ flag (codes "end-with-input") ∷ []
+    ∷ option (codes "start") ∷ option (codes "follow") ∷ option (codes "patience")
+    ∷ flag (codes "end-with-input") ∷ []
 
 pub night_refused : (rows : List Row) (fault : WordsFault)
-    → Answers (λ night. night.priority ≤ 200) (night_of rows) (first_misfit night_arguments rows)
+    → AnswersWords (λ night. night.priority ≤ 200) (night_of rows)
+    (first_misfit night_arguments rows)
     (Err fault)
-    → Answers IsInRange (live_of rows) (misfit_in (codes "live", rows)) (Err fault)
+    → AnswersWords IsJobInRange (live_of rows) (misfit_in (codes "live", rows)) (Err fault)
 night_refused rows (Refused error) read = read
 night_refused rows (Unfit misfit) read = (
   ap (λ night. live_with night (first_of (codes "record") rows) (resumes_of rows) (spare_of rows)
-      (start_of rows) (first_of (codes "follow") rows) (follows_of rows) (patience_of rows)
+      (start_cue rows) (first_of (codes "follow") rows) (follows_of rows) (patience_of rows)
       (has_flag (codes "end-with-input") rows)) read.0,
   first_of_more night_arguments behind_night rows _ read.1,
 )

@@ -8,13 +8,14 @@ use Rattle.cmd_words.specs.Program.{program}
 use Rattle.cmd_words.specs.Address.{address_of}
 use Rattle.cmd_words.specs.Job.{job_of}
 use Rattle.cmd_words.specs.Number.{number_between}
-use Rattle.cmd_words.specs.Misfit.{misfit_of}
+use Rattle.cmd_words.specs.Misfit.{words_misfit}
 use Rattle.cmd_words.specs.Target.{target_of}
 use Rattle.cmd_words.specs.Asked.{Passes}
 use Rattle.targets.specs.declared.target.Target.{Target}
 use Rattle.targets.specs.declared.target.Universes.{Universes}
 use Rattle.cmd_words.specs.declared.misfit.Form.TheVariants.{Recorded, Patience, Followed}
-use Rattle.cmd_words.specs.declared.misfit.Form.TheVariants.{Alone, ByCard, Resumed, Target as TargetForm}
+use Rattle.cmd_words.specs.declared.misfit.Form.TheVariants.{Alone, ByCard, Resumed}
+use Rattle.cmd_words.specs.declared.misfit.Form.TheVariants.{Target as TargetForm}
 use Rattle.cmd_words.specs.declared.misfit.Form.TheVariants.{Once, Sixteen, Universe}
 use Rattle.cmd_words.specs.declared.job.Night.{Night}
 use Rattle.cmd_words.specs.declared.job.Job.TheVariants.{Check, Explain, Cues, Look, Slots}
@@ -176,7 +177,8 @@ unfolding clap_on_literals uuid_on_literals
 play_options = refl
 
 -- three targets, a card, any route to it, a name and a TTL
-play_by_card : job_of (play_words (codes "239.255.0.0") (codes "--to" ∷ codes "3=10.0.0.7" ∷ codes "--to"
+play_by_card : job_of
+    (play_words (codes "239.255.0.0") (codes "--to" ∷ codes "3=10.0.0.7" ∷ codes "--to"
     ∷ codes "1-8=10.0.0.5:5569" ∷ codes "--interface" ∷ codes "eth0" ∷ codes "--any-route"
     ∷ codes "--name" ∷ codes "main" ∷ codes "--ttl" ∷ codes "255" ∷ []))
     ≡ Some (Play (record (night (239 ∷ 255 ∷ 0 ∷ 0 ∷ [], 5568) 100 1) {
@@ -191,12 +193,13 @@ play_by_card : job_of (play_words (codes "239.255.0.0") (codes "--to" ∷ codes 
 unfolding clap_on_literals uuid_on_literals
 play_by_card = refl
 
-second_target_told : misfit_of (play_words (codes "10.0.0.7") (codes "--to" ∷ codes "8-1=10.0.0.7" ∷ []))
+second_target_told : words_misfit
+    (play_words (codes "10.0.0.7") (codes "--to" ∷ codes "8-1=10.0.0.7" ∷ []))
     ≡ Some (codes "to", TargetForm, codes "8-1=10.0.0.7")
 unfolding clap_on_literals uuid_on_literals
 second_target_told = refl
 
-lone_any_route_told : misfit_of (play_words (codes "10.0.0.7") (codes "--any-route" ∷ []))
+lone_any_route_told : words_misfit (play_words (codes "10.0.0.7") (codes "--any-route" ∷ []))
     ≡ Some (codes "any-route", ByCard, codes "true")
 unfolding clap_on_literals uuid_on_literals
 lone_any_route_told = refl
@@ -217,21 +220,24 @@ live_job = refl
 
 live_recorded : job_of (sending_words (codes "live") (codes "127.0.0.1:9")
     (codes "--record" ∷ codes "b.play" ∷ codes "--priority" ∷ codes "150" ∷ []))
-    ≡ Some (Live (night (127 ∷ 0 ∷ 0 ∷ 1 ∷ [], 9) 150 1) (Some (codes "b.play")) false false None None
+    ≡ Some (Live (night (127 ∷ 0 ∷ 0 ∷ 1 ∷ [], 9) 150 1) (Some (codes "b.play")) false false
+    None None
     1000 false)
 unfolding clap_on_literals uuid_on_literals
 live_recorded = refl
 
 live_ends : job_of (sending_words (codes "live") (codes "127.0.0.1:9")
     (codes "--end-with-input" ∷ codes "--record" ∷ codes "b.play" ∷ []))
-    ≡ Some (Live (night (127 ∷ 0 ∷ 0 ∷ 1 ∷ [], 9) 100 1) (Some (codes "b.play")) false false None None
+    ≡ Some (Live (night (127 ∷ 0 ∷ 0 ∷ 1 ∷ [], 9) 100 1) (Some (codes "b.play")) false false
+    None None
     1000 true)
 unfolding clap_on_literals uuid_on_literals
 live_ends = refl
 
 live_resumes : job_of (sending_words (codes "live") (codes "127.0.0.1:9")
     (codes "--record" ∷ codes "b.play" ∷ codes "--resume" ∷ codes "--start" ∷ codes "2.5" ∷ []))
-    ≡ Some (Live (night (127 ∷ 0 ∷ 0 ∷ 1 ∷ [], 9) 100 1) (Some (codes "b.play")) true false (Some 2500)
+    ≡ Some (Live (night (127 ∷ 0 ∷ 0 ∷ 1 ∷ [], 9) 100 1) (Some (codes "b.play")) true false
+    (Some 2500)
     None 1000 false)
 unfolding clap_on_literals uuid_on_literals
 live_resumes = refl
@@ -241,7 +247,7 @@ live_lone_resume : job_of (sending_words (codes "live") (codes "127.0.0.1:9")
 unfolding clap_on_literals uuid_on_literals
 live_lone_resume = refl
 
-lone_resume_told : misfit_of (sending_words (codes "live") (codes "127.0.0.1:9")
+lone_resume_told : words_misfit (sending_words (codes "live") (codes "127.0.0.1:9")
     (codes "--resume" ∷ codes "--start" ∷ codes "0" ∷ []))
     ≡ Some (codes "resume", Recorded, codes "true")
 unfolding clap_on_literals uuid_on_literals
@@ -254,7 +260,7 @@ live_spare : job_of (sending_words (codes "live") (codes "127.0.0.1:9")
 unfolding clap_on_literals uuid_on_literals
 live_spare = refl
 
-lone_spare_told : misfit_of (sending_words (codes "live") (codes "127.0.0.1:9")
+lone_spare_told : words_misfit (sending_words (codes "live") (codes "127.0.0.1:9")
     (codes "--record" ∷ codes "b.play" ∷ codes "--spare" ∷ []))
     ≡ Some (codes "spare", Resumed, codes "true")
 unfolding clap_on_literals uuid_on_literals
@@ -262,7 +268,8 @@ lone_spare_told = refl
 
 live_follows : job_of (sending_words (codes "live") (codes "127.0.0.1:9")
     (codes "--follow" ∷ codes "b.play" ∷ codes "--patience" ∷ codes "060000" ∷ []))
-    ≡ Some (Live (night (127 ∷ 0 ∷ 0 ∷ 1 ∷ [], 9) 100 1) None false false None (Some (codes "b.play"))
+    ≡ Some (Live (night (127 ∷ 0 ∷ 0 ∷ 1 ∷ [], 9) 100 1) None false false None
+    (Some (codes "b.play"))
     60000 false)
 unfolding clap_on_literals uuid_on_literals
 live_follows = refl
@@ -272,18 +279,18 @@ live_follows_anew : job_of (sending_words (codes "live") (codes "127.0.0.1:9")
 unfolding clap_on_literals uuid_on_literals
 live_follows_anew = refl
 
-following_anew_told : misfit_of (sending_words (codes "live") (codes "127.0.0.1:9")
+following_anew_told : words_misfit (sending_words (codes "live") (codes "127.0.0.1:9")
     (codes "--start" ∷ codes "1" ∷ codes "--follow" ∷ codes "b.play" ∷ codes "--patience"
     ∷ codes "0" ∷ [])) ≡ Some (codes "follow", Alone, codes "b.play")
 unfolding clap_on_literals uuid_on_literals
 following_anew_told = refl
 
-lone_patience_told : misfit_of (sending_words (codes "live") (codes "127.0.0.1:9")
+lone_patience_told : words_misfit (sending_words (codes "live") (codes "127.0.0.1:9")
     (codes "--patience" ∷ codes "100" ∷ [])) ≡ Some (codes "patience", Followed, codes "100")
 unfolding clap_on_literals uuid_on_literals
 lone_patience_told = refl
 
-no_patience_told : misfit_of (sending_words (codes "live") (codes "127.0.0.1:9")
+no_patience_told : words_misfit (sending_words (codes "live") (codes "127.0.0.1:9")
     (codes "--follow" ∷ codes "b.play" ∷ codes "--patience" ∷ codes "60001" ∷ []))
     ≡ Some (codes "patience", Patience, codes "60001")
 unfolding clap_on_literals uuid_on_literals
@@ -325,12 +332,12 @@ nothing_watched : fault_of program (watch_words []) ≡ MissingRequiredArgument 
 unfolding clap_on_literals
 nothing_watched = refl
 
-watched_told : (misfit_of (watch_words (codes "1" ∷ codes "64000" ∷ codes "1" ∷ []))
+watched_told : (words_misfit (watch_words (codes "1" ∷ codes "64000" ∷ codes "1" ∷ []))
     ≡ Some (codes "UNIVERSE", Universe, codes "64000"))
-    × (misfit_of (watch_words (codes "0" ∷ [])) ≡ Some (codes "UNIVERSE", Universe, codes "0"))
-    × (misfit_of (watch_words (codes "7" ∷ codes "8" ∷ codes "07" ∷ []))
+    × (words_misfit (watch_words (codes "0" ∷ [])) ≡ Some (codes "UNIVERSE", Universe, codes "0"))
+    × (words_misfit (watch_words (codes "7" ∷ codes "8" ∷ codes "07" ∷ []))
     ≡ Some (codes "UNIVERSE", Once, codes "07"))
-    × (misfit_of (watch_words seventeen) ≡ Some (codes "UNIVERSE", Sixteen, codes "1"))
+    × (words_misfit (watch_words seventeen) ≡ Some (codes "UNIVERSE", Sixteen, codes "1"))
 unfolding clap_on_literals
 watched_told = (refl, refl, refl, refl)
 

@@ -6,7 +6,8 @@ use Rattle.clap.specs.Words.{is_simple_and_free, kind_of, subcommand_of, subcomm
 use Rattle.clap.specs.declared.error.Error.{Error}
 use Rattle.clap.specs.declared.error.kind.ErrorKind.TheVariants.{OutOfMemory}
 use Rattle.clap.specs.declared.parser.matches.ArgMatches.{ArgMatches}
-use Rattle.std.proofs.Common.{◌||◌, ap₂, codes, Some, None, Box, Bor, option_map, unwrap_or, Result, Ok, Err}
+use Rattle.std.proofs.Common.{◌||◌, ap₂, codes, Some, None, Box, Bor, option_map, unwrap_or, Result}
+use Rattle.std.proofs.Common.{Ok, Err}
 use Rattle.std.proofs.Common.{IfOk, IfErr}
 use Rattle.std.specs.Str.{bytes_eq}
 use Rattle.std.specs.Box.{box_value}
@@ -16,10 +17,10 @@ use Rattle.clap.specs.declared.parser.matches.SubCommand.{SubCommand}
 use Rattle.clap.specs.declared.parser.matches.ArgMatches.TheViews.{out-ArgMatches, out-SubCommand}
 use Rattle.clap.proofs.OnLiterals.{clap_on_literals}
 use Rattle.cmd_words.specs.Program.{program}
-use Rattle.cmd_words.specs.Job.{IsInRange, line_of}
+use Rattle.cmd_words.specs.Job.{IsJobInRange, job_of_line}
 use Rattle.cmd_words.proofs.Given.{passing_line}
 use Rattle.cmd_words.specs.Misfit.{IsWhole, is_line, misfit_in}
-use Rattle.cmd_words.specs.Asked.{Answers, Explains, IsAsked, Passes, RefusedBy}
+use Rattle.cmd_words.specs.Asked.{AnswersWords, ExplainsWords, IsAsked, Passes, RefusedBy}
 use Rattle.cmd_words.specs.declared.job.Job.{Job}
 use Rattle.cmd_words.specs.declared.job.WordsFault.{WordsFault}
 use Rattle.cmd_words.specs.declared.job.WordsFault.TheVariants.{Refused, Unfit, Memory}
@@ -65,16 +66,16 @@ whole_line words line passes is =
 -- what a reading of the line answers is what the words ask for
 pub answered : (words : List Text) (line : Text × List Row) (r : Result Job WordsFault)
     → Passes words → subcommand_of program words ≡ Some line
-    → Answers IsInRange (line_of line) (misfit_in line) r
-    → IfOk r (IsAsked words) × IfErr r (Explains words)
+    → AnswersWords IsJobInRange (job_of_line line) (misfit_in line) r
+    → IfOk r (IsAsked words) × IfErr r (ExplainsWords words)
 answered words line (Ok job) passes is read =
-    ((passes, ap (option_and_then line_of) is ∙ read.0), tt)
+    ((passes, ap (option_and_then job_of_line) is ∙ read.0), tt)
 answered words line (Err (Refused error)) passes is read = absurd read
 answered words line (Err (Unfit m)) passes is read = (
   tt,
   (
     passes,
-    ap (option_and_then line_of) is ∙ read.0,
+    ap (option_and_then job_of_line) is ∙ read.0,
     ap (option_and_then misfit_in) is ∙ read.1,
   ),
 )
@@ -88,7 +89,8 @@ pub last_line : (name : Text) → is_line name ≡ true → bytes_eq name (codes
     → bytes_eq name (codes "rehearse") ≡ false → bytes_eq name (codes "watch") ≡ false
     → name ≡ codes "listen"
 last_line name is a b c d e f g h i =
-    let last : (bytes_eq name (codes "listen") || false) ≡ true = rw (a, b, c, d, e, f, g, h, i) at is in
+    let last : (bytes_eq name (codes "listen") || false) ≡ true =
+    rw (a, b, c, d, e, f, g, h, i) at is in
     (bytes_eq-Decides name (codes "listen")).0 (either (bytes_eq name (codes "listen")) last)
   where
     either : (b : Bool) → (b || false) ≡ true → b ≡ true
@@ -116,7 +118,7 @@ among error words ample (inr is) = is
 pub explained : (a : App) (words : List Text) (error : Error) (fault : WordsFault) → a ≡ program
     → (takes a words ≡ true → kind_of error ≡ OutOfMemory)
     → (is_simple_and_free a ≡ true → HasKind (fault_of a words) error)
-    → RefusedBy error fault → Explains words fault
+    → RefusedBy error fault → ExplainsWords words fault
 explained a words error (Refused e) is passes kinds by =
     let kind : HasKind (fault_of program words) error =
     subst (λ (p : App). HasKind (fault_of p words) error) is

@@ -12,7 +12,7 @@ use Rattle.cmd_words.specs.Address.{address_of}
 use Rattle.cmd_words.specs.Number.{number_between}
 use Rattle.cmd_words.specs.Program.{program}
 use Rattle.cmd_words.specs.Target.{targets_of}
-use Rattle.cmd_words.specs.Watched.{universes_of}
+use Rattle.cmd_words.specs.Watched.{watch_universes}
 use Rattle.targets.specs.declared.target.Target.{Target}
 use Rattle.cmd_words.specs.declared.job.Night.{Night}
 use Rattle.cmd_words.specs.declared.job.Job.{Job}
@@ -81,14 +81,14 @@ any_route_of rows = if has_flag (codes "any-route") rows
     else Some false
 
 -- whether a byte is none of the control characters of ASCII
-abbrev pub is_shown : ℕ → Bool
-is_shown byte = nat_le 32 byte && not (nat_eq byte 127)
+abbrev pub is_no_control : ℕ → Bool
+is_no_control byte = nat_le 32 byte && not (nat_eq byte 127)
 
 -- whether a text names a source: 1 to 63 bytes (E1.31-2018, source name), without control
 -- characters, since it stands in lines of text
 abbrev pub is_source_name : Text → Bool
 is_source_name text =
-    nat_lt 0 (length text) && nat_le (length text) 63 && list_all is_shown text
+    nat_lt 0 (length text) && nat_le (length text) 63 && list_all is_no_control text
 
 -- the name of who sends, which may be absent
 abbrev pub source_name_of : List Row → Option (Option Text)
@@ -144,8 +144,8 @@ spare_of rows = if has_flag (codes "spare") rows
     else Some false
 
 -- the cue that a night starts in, which may be absent
-abbrev pub start_of : List Row → Option (Option ℕ)
-start_of rows = value_or None (λ text. option_map Some (cue_number_of text)) (codes "start") rows
+abbrev pub start_cue : List Row → Option (Option ℕ)
+start_cue rows = value_or None (λ text. option_map Some (cue_number_of text)) (codes "start") rows
 
 -- whether a night begins in a way of its own: behind its record, or in a cue
 abbrev pub has_beginning : List Row → Bool
@@ -179,7 +179,8 @@ live_with _ _ _ _ _ _ _ _ _ = None
 -- [--start N] [--follow FILE] [--patience MS] [--end-with-input]`
 abbrev pub live_of : List Row → Option Job
 live_of rows = live_with (night_of rows) (first_of (codes "record") rows) (resumes_of rows)
-    (spare_of rows) (start_of rows) (first_of (codes "follow") rows) (follows_of rows) (patience_of rows)
+    (spare_of rows) (start_cue rows) (first_of (codes "follow") rows) (follows_of rows)
+    (patience_of rows)
     (has_flag (codes "end-with-input") rows)
 
 -- a rehearsal, where both of its values are there
@@ -204,21 +205,21 @@ listen_of rows = listen_with (value_by address_of (codes "ADDR") rows)
     (value_by (number_between 1 1000000) (codes "COUNT") rows)
 
 -- the job of `watch UNIVERSE..`
-abbrev pub watch_of : List Row → Option Job
-watch_of rows = option_map Watch (universes_of (texts_of (codes "UNIVERSES") rows))
+abbrev pub watch_job : List Row → Option Job
+watch_job rows = option_map Watch (watch_universes (texts_of (codes "UNIVERSES") rows))
 
 -- the numbers of a job are in the ranges that its run asks for
-abbrev pub IsInRange : Job → Type 0
-IsInRange (Listen at universe count) = (1 ≤ universe) × (universe ≤ 63999)
-IsInRange (Play night) = night.priority ≤ 200
-IsInRange (Live night record_file resumes is_spare start main_file patience ends_with_input) =
+abbrev pub IsJobInRange : Job → Type 0
+IsJobInRange (Listen at universe count) = (1 ≤ universe) × (universe ≤ 63999)
+IsJobInRange (Play night) = night.priority ≤ 200
+IsJobInRange (Live night record_file resumes is_spare start main_file patience ends_with_input) =
     night.priority ≤ 200
-IsInRange (Watch universes) = All (λ u. (1 ≤ u) × (u ≤ 63999)) universes
-IsInRange _ = Unit {0}
+IsJobInRange (Watch universes) = All (λ u. (1 ≤ u) × (u ≤ 63999)) universes
+IsJobInRange _ = Unit {0}
 
 -- the job of a line, by its name and the texts of its arguments
-abbrev pub line_of : Text × List Row → Option Job
-line_of line = if bytes_eq line.0 (codes "check") then check_of line.1
+abbrev pub job_of_line : Text × List Row → Option Job
+job_of_line line = if bytes_eq line.0 (codes "check") then check_of line.1
     else (if bytes_eq line.0 (codes "explain") then explain_of line.1
     else (if bytes_eq line.0 (codes "cues") then cues_of line.1
     else (if bytes_eq line.0 (codes "look") then look_of line.1
@@ -226,10 +227,10 @@ line_of line = if bytes_eq line.0 (codes "check") then check_of line.1
     else (if bytes_eq line.0 (codes "play") then play_of line.1
     else (if bytes_eq line.0 (codes "live") then live_of line.1
     else (if bytes_eq line.0 (codes "rehearse") then rehearse_of line.1
-    else (if bytes_eq line.0 (codes "watch") then watch_of line.1
+    else (if bytes_eq line.0 (codes "watch") then watch_job line.1
     else (if bytes_eq line.0 (codes "listen") then listen_of line.1 else None)))))))))
 
 -- the job of the line that clap's meaning of the program gives for the words, where each of the
 -- texts that this meaning gives has its form
 abbrev pub job_of : List Text → Option Job
-job_of words = option_and_then line_of (subcommand_of program words)
+job_of words = option_and_then job_of_line (subcommand_of program words)

@@ -1,7 +1,7 @@
 -- A line as the code lists it, as a command of clap.
 use Rattle.std.specs.Prelude.{List, fold}
 use Rattle.clap.specs.Words.{App, Rule, new_app, with_rule, with_subcommand}
-use Rattle.cmd_words.specs.Program.{flag, option, repeated_option, required}
+use Rattle.cmd_words.specs.Program.{flag, option, repeated_option, required_word}
 use Rattle.cmd_words.specs.Program.{required_option, several}
 use Rattle.cmd_words.specs.declared.line.Argument.{Argument}
 use Rattle.cmd_words.specs.declared.line.Argument.TheVariants.{Positional, Repeated, Required}
@@ -10,7 +10,7 @@ use Rattle.cmd_words.specs.declared.line.Line.{Line}
 
 -- the rule of an argument
 abbrev pub rule_of_argument : Argument → Rule
-rule_of_argument (Positional id help) = required id.now
+rule_of_argument (Positional id help) = required_word id.now
 rule_of_argument (Several id value help) = record (several id.now) { value_names = 1 }
 rule_of_argument (Required id value help) = required_option id.now
 rule_of_argument (Repeated id value help) = repeated_option id.now

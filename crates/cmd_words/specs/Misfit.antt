@@ -115,17 +115,17 @@ abbrev pub misfit_in : Text × List Row → Option Unfit
 misfit_in line = first_misfit (rules_of line.0) line.1
 
 -- that of the line that clap's meaning of the program gives for the words
-abbrev pub misfit_of : List Text → Option Unfit
-misfit_of words = option_and_then misfit_in (subcommand_of program words)
+abbrev pub words_misfit : List Text → Option Unfit
+words_misfit words = option_and_then misfit_in (subcommand_of program words)
 
 -- what a misfit tells
-abbrev pub told : Misfit → Unfit
-told misfit = (misfit.argument.now, misfit.form, misfit.text.now)
+abbrev pub unfit_of : Misfit → Unfit
+unfit_of misfit = (misfit.argument.now, misfit.form, misfit.text.now)
 
 -- a reading of an argument comes to its value, or to its misfit
-abbrev pub Reads : {X : Type 0} → Option X → Option Unfit → Result X Misfit → Type 0
-Reads value misfit (Ok x) = (value ≡ Some x) × (misfit ≡ None)
-Reads value misfit (Err m) = (value ≡ None) × (misfit ≡ Some (told m))
+abbrev pub ReadsArgument : {X : Type 0} → Option X → Option Unfit → Result X Misfit → Type 0
+ReadsArgument value misfit (Ok x) = (value ≡ Some x) × (misfit ≡ None)
+ReadsArgument value misfit (Err m) = (value ≡ None) × (misfit ≡ Some (unfit_of m))
 
 -- each argument that has to be there has a text
 abbrev pub has_texts : List Rule → List Row → Bool

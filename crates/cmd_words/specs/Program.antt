@@ -19,18 +19,18 @@ abbrev pub IsLine : App → Command → Type 0
 IsLine line command = (app_of command ≡ line) × ((fields_of command).has_globals ≡ false)
 
 -- an argument that has to be there: without a flag, it is the next word
-abbrev pub required : Text → Rule
-required id = record (new_rule id) { required = true }
+abbrev pub required_word : Text → Rule
+required_word id = record (new_rule id) { required = true }
 
 -- an argument that is the next word and each behind it: one at least
 abbrev pub several : Text → Rule
-several id = record (required id) {
+several id = record (required_word id) {
   range = Some (record { start_inclusive = 1; end_inclusive = usize_max });
 }
 
 -- an option that has to be there: two dashes and its name, and then its value
 abbrev pub required_option : Text → Rule
-required_option id = record (required id) { long = Some id; value_names = 1 }
+required_option id = record (required_word id) { long = Some id; value_names = 1 }
 
 -- an option that has to be there, and may be there more than once
 abbrev pub repeated_option : Text → Rule
@@ -46,11 +46,11 @@ flag id = record (new_rule id) { long = Some id; action = Some SetTrue }
 
 -- the show of a line, by the name of its file
 abbrev pub show : Rule
-show = required (codes "SHOW")
+show = required_word (codes "SHOW")
 
 -- the cue of a line, by its number
 abbrev pub cue : Rule
-cue = required (codes "CUE")
+cue = required_word (codes "CUE")
 
 -- the CID of who sends
 abbrev pub cid : Rule
@@ -71,13 +71,15 @@ night_arguments = show ∷ repeated_option (codes "to") ∷ cid ∷ option (code
 -- [--end-with-input]`
 abbrev pub live_arguments : List Rule
 live_arguments = night_arguments ++ option (codes "record") ∷ flag (codes "resume")
-    ∷ flag (codes "spare") ∷ option (codes "start") ∷ option (codes "follow") ∷ option (codes "patience")
+    ∷ flag (codes "spare") ∷ option (codes "start") ∷ option (codes "follow")
+    ∷ option (codes "patience")
     ∷ flag (codes "end-with-input") ∷ []
 
 -- `ADDR UNIVERSE COUNT`
 abbrev pub listen_arguments : List Rule
 listen_arguments =
-    required (codes "ADDR") ∷ required (codes "UNIVERSE") ∷ required (codes "COUNT") ∷ []
+    required_word (codes "ADDR") ∷ required_word (codes "UNIVERSE")
+    ∷ required_word (codes "COUNT") ∷ []
 
 -- `UNIVERSE..`
 abbrev pub watch_arguments : List Rule
@@ -102,7 +104,7 @@ players = line (codes "play") night_arguments ∷ line (codes "live") live_argum
 
 -- the lines that try a night out
 abbrev pub trials : List App
-trials = line (codes "rehearse") (show ∷ required (codes "SCRIPT") ∷ [])
+trials = line (codes "rehearse") (show ∷ required_word (codes "SCRIPT") ∷ [])
     ∷ line (codes "listen") listen_arguments
     ∷ line (codes "watch") watch_arguments
     ∷ []
@@ -112,8 +114,8 @@ abbrev pub lines : List App
 lines = readers ++ players ++ trials
 
 -- a command with these lines behind its own
-abbrev pub with_all : App → List App → App
-with_all app more = fold (λ whole l. with_subcommand whole l.top) app more
+abbrev pub with_commands : App → List App → App
+with_commands app more = fold (λ whole l. with_subcommand whole l.top) app more
 
 -- the program before it has lines: a line has to be named
 abbrev pub without_lines : App
@@ -123,7 +125,7 @@ without_lines = record (new_app (codes "cueplayer")) {
 
 -- the program with all its lines
 abbrev pub program : App
-program = with_all without_lines lines
+program = with_commands without_lines lines
 
 -- the rules of the line of this name, in order
 abbrev pub rules_of : Text → List Rule

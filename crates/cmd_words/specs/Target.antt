@@ -18,8 +18,8 @@ abbrev pub is_dash : ℕ → Bool
 is_dash byte = byte == 45
 
 -- a universe number (E1.31-2018, universe)
-abbrev pub universe_of : Text → Option ℕ
-universe_of = number_between 1 63999
+abbrev pub universe_number : Text → Option ℕ
+universe_number = number_between 1 63999
 
 -- the universes from the first to the last, where the last is not before the first
 abbrev pub from_to : Option ℕ → Option ℕ → Option Universes
@@ -28,11 +28,12 @@ from_to (Some first) (Some last) =
 from_to _ _ = None
 
 -- `U`, or `F-L`
-abbrev pub universes_of : Text → Option Universes
-universes_of text =
+abbrev pub universe_range : Text → Option Universes
+universe_range text =
     if list_any is_dash text
-    then from_to (universe_of (before_first is_dash text)) (universe_of (after_first is_dash text))
-    else from_to (universe_of text) (universe_of text)
+    then from_to (universe_number (before_first is_dash text))
+    (universe_number (after_first is_dash text))
+    else from_to (universe_number text) (universe_number text)
 
 -- a target at this address, where it and the universes are there
 abbrev pub at_address : Option (Option Universes) → Option (List ℕ × ℕ) → Option Target
@@ -46,7 +47,7 @@ at_address _ _ = None
 abbrev pub target_of : Text → Option Target
 target_of text =
     if list_any is_equals text
-    then at_address (option_map Some (universes_of (before_first is_equals text)))
+    then at_address (option_map Some (universe_range (before_first is_equals text)))
     (address_of (after_first is_equals text))
     else at_address (Some None) (address_of text)
 

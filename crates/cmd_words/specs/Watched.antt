@@ -28,8 +28,8 @@ abbrev pub read_universes : List Text → Numbers
 read_universes texts = fold with_universe (Ok []) texts
 
 -- the universes of a watch: 16 at most, each named once
-abbrev pub universes_of : List Text → Option (List ℕ)
-universes_of texts =
+abbrev pub watch_universes : List Text → Option (List ℕ)
+watch_universes texts =
     if nat_le (length texts) 16 then result_ok (read_universes texts) else None
 
 -- the 17th text, or the first that names no universe, or one once more

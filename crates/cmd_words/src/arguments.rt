@@ -1,5 +1,6 @@
 ghost use Rattle.std.specs.Prelude.{[], ◌∷◌, ◌++◌};
-ghost use Rattle.std.specs.Prelude.{◌≡◌, ◌≤◌, All, IfOk, codes, is_some, length, map, option_map, true};
+ghost use Rattle.std.specs.Prelude.{◌≡◌, ◌≤◌, All, IfOk, codes, is_some, length, map, option_map};
+ghost use Rattle.std.specs.Prelude.{true};
 ghost use Rattle.std.specs.List.{list_all};
 ghost use Rattle.std.specs.Result.{result_map_both};
 ghost use Rattle.clap.specs.Words.{all_of, first_of, found_of, rows_of};
@@ -7,13 +8,13 @@ ghost use Rattle.uuid.specs.Text.{parsed};
 ghost use Rattle.ascii_text.specs.Forms.{cue_number_of};
 ghost use Rattle.cmd_words.specs.Number.{number_between};
 ghost use Rattle.cmd_words.specs.Target.{read_all, targets_of};
-ghost use Rattle.cmd_words.specs.Job.{any_route_of, follows_of, has_flag, is_shown};
+ghost use Rattle.cmd_words.specs.Job.{any_route_of, follows_of, has_flag, is_no_control};
 ghost use Rattle.cmd_words.specs.Job.{is_source_name};
 ghost use Rattle.cmd_words.specs.Job.{patience_of, resumes_of, source_name_of, spare_of};
-ghost use Rattle.cmd_words.specs.Job.{start_of, texts_of, value_by, value_or};
+ghost use Rattle.cmd_words.specs.Job.{start_cue, texts_of, value_by, value_or};
 ghost use Rattle.cmd_words.specs.Address.{address_of};
-ghost use Rattle.cmd_words.specs.Misfit.{Reads, misfit_at, told};
-ghost use Rattle.cmd_words.specs.Watched.{named_behind, read_universes, universes_of};
+ghost use Rattle.cmd_words.specs.Misfit.{ReadsArgument, misfit_at, unfit_of};
+ghost use Rattle.cmd_words.specs.Watched.{named_behind, read_universes, watch_universes};
 
 use crate::address::address;
 use crate::job::Name;
@@ -77,7 +78,7 @@ pub(crate) fn name_of(alloc: Global, text: Option<&str>) -> Result<Option<Name>,
 /// The cue number of a line that has one, in thousandths.
 pub(crate) fn cue_at<'a>(matches: &ArgMatches<'a>) -> Result<u32, Misfit<'a>>
     requires { is_some (first_of (codes "CUE") (rows_of (found_of matches.now))) ≡ true }
-    ensures { Reads (value_by cue_number_of (codes "CUE") (rows_of (found_of matches.now)))
+    ensures { ReadsArgument (value_by cue_number_of (codes "CUE") (rows_of (found_of matches.now)))
         (misfit_at (codes "CUE") (rows_of (found_of matches.now))) result }
 {
     let text = text_at(matches, "CUE");
@@ -93,7 +94,7 @@ pub(crate) fn cue_at<'a>(matches: &ArgMatches<'a>) -> Result<u32, Misfit<'a>>
 
 /// Whether a night is taken up, which wants for a record.
 pub(crate) fn resumes_at<'a>(matches: &ArgMatches<'a>) -> Result<bool, Misfit<'a>>
-    ensures { Reads (resumes_of (rows_of (found_of matches.now)))
+    ensures { ReadsArgument (resumes_of (rows_of (found_of matches.now)))
         (misfit_at (codes "resume") (rows_of (found_of matches.now))) result }
 {
     let Some(text) = given_at(matches, "resume") else {
@@ -114,7 +115,7 @@ pub(crate) fn resumes_at<'a>(matches: &ArgMatches<'a>) -> Result<bool, Misfit<'a
 
 /// Whether a night is a spare, which wants for one that is taken up.
 pub(crate) fn spare_at<'a>(matches: &ArgMatches<'a>) -> Result<bool, Misfit<'a>>
-    ensures { Reads (spare_of (rows_of (found_of matches.now)))
+    ensures { ReadsArgument (spare_of (rows_of (found_of matches.now)))
         (misfit_at (codes "spare") (rows_of (found_of matches.now))) result }
 {
     let Some(text) = given_at(matches, "spare") else {
@@ -135,7 +136,7 @@ pub(crate) fn spare_at<'a>(matches: &ArgMatches<'a>) -> Result<bool, Misfit<'a>>
 
 /// Whether a night goes by any route, which wants for a card.
 pub(crate) fn any_route_at<'a>(matches: &ArgMatches<'a>) -> Result<bool, Misfit<'a>>
-    ensures { Reads (any_route_of (rows_of (found_of matches.now)))
+    ensures { ReadsArgument (any_route_of (rows_of (found_of matches.now)))
         (misfit_at (codes "any-route") (rows_of (found_of matches.now))) result }
 {
     let Some(text) = given_at(matches, "any-route") else {
@@ -156,7 +157,7 @@ pub(crate) fn any_route_at<'a>(matches: &ArgMatches<'a>) -> Result<bool, Misfit<
 
 /// The cue that a night starts in, where one is named.
 pub(crate) fn start_at<'a>(matches: &ArgMatches<'a>) -> Result<Option<u32>, Misfit<'a>>
-    ensures { Reads (start_of (rows_of (found_of matches.now)))
+    ensures { ReadsArgument (start_cue (rows_of (found_of matches.now)))
         (misfit_at (codes "start") (rows_of (found_of matches.now))) result }
 {
     let Some(text) = given_at(matches, "start") else {
@@ -174,7 +175,7 @@ pub(crate) fn start_at<'a>(matches: &ArgMatches<'a>) -> Result<Option<u32>, Misf
 
 /// Whether a night follows a main, which goes without a record to take up and a cue to start in.
 pub(crate) fn follows_at<'a>(matches: &ArgMatches<'a>) -> Result<bool, Misfit<'a>>
-    ensures { Reads (follows_of (rows_of (found_of matches.now)))
+    ensures { ReadsArgument (follows_of (rows_of (found_of matches.now)))
         (misfit_at (codes "follow") (rows_of (found_of matches.now))) result }
 {
     let Some(text) = given_at(matches, "follow") else {
@@ -192,7 +193,7 @@ pub(crate) fn follows_at<'a>(matches: &ArgMatches<'a>) -> Result<bool, Misfit<'a
 
 /// How long a main may be silent, in milliseconds; 1,000 where it is absent.
 pub(crate) fn patience_at<'a>(matches: &ArgMatches<'a>) -> Result<u32, Misfit<'a>>
-    ensures { Reads (patience_of (rows_of (found_of matches.now)))
+    ensures { ReadsArgument (patience_of (rows_of (found_of matches.now)))
         (misfit_at (codes "patience") (rows_of (found_of matches.now))) result }
 {
     let Some(text) = given_at(matches, "patience") else {
@@ -218,7 +219,7 @@ pub(crate) fn patience_at<'a>(matches: &ArgMatches<'a>) -> Result<u32, Misfit<'a
 /// The CID of a line that has one.
 pub(crate) fn cid_at<'a>(matches: &ArgMatches<'a>) -> Result<[u8; 16], Misfit<'a>>
     requires { is_some (first_of (codes "cid") (rows_of (found_of matches.now))) ≡ true }
-    ensures { Reads (value_by parsed (codes "cid") (rows_of (found_of matches.now)))
+    ensures { ReadsArgument (value_by parsed (codes "cid") (rows_of (found_of matches.now)))
         (misfit_at (codes "cid") (rows_of (found_of matches.now))) result }
 {
     let text = text_at(matches, "cid");
@@ -235,7 +236,7 @@ pub(crate) fn cid_at<'a>(matches: &ArgMatches<'a>) -> Result<[u8; 16], Misfit<'a
 /// The address of a line that listens.
 pub(crate) fn address_at<'a>(matches: &ArgMatches<'a>) -> Result<([u8; 4], u16), Misfit<'a>>
     requires { is_some (first_of (codes "ADDR") (rows_of (found_of matches.now))) ≡ true }
-    ensures { Reads (value_by address_of (codes "ADDR") (rows_of (found_of matches.now)))
+    ensures { ReadsArgument (value_by address_of (codes "ADDR") (rows_of (found_of matches.now)))
         (misfit_at (codes "ADDR") (rows_of (found_of matches.now))) result }
 {
     let text = text_at(matches, "ADDR");
@@ -251,7 +252,7 @@ pub(crate) fn address_at<'a>(matches: &ArgMatches<'a>) -> Result<([u8; 4], u16),
 
 /// The targets of a line that plays.
 pub(crate) fn targets_at<'a>(matches: &ArgMatches<'a>) -> Result<Targets, Misfit<'a>>
-    ensures { Reads (targets_of (texts_of (codes "to") (rows_of (found_of matches.now))))
+    ensures { ReadsArgument (targets_of (texts_of (codes "to") (rows_of (found_of matches.now))))
         (misfit_at (codes "to") (rows_of (found_of matches.now))) result }
 {
     let Some(texts) = texts_at(matches, "to") else {
@@ -301,7 +302,7 @@ fn texts_at<'m, 'a: 'm>(matches: &'m ArgMatches<'a>, id: &str) -> Option<&'m [&'
 /// The universe of a line that listens.
 pub(crate) fn universe_at<'a>(matches: &ArgMatches<'a>) -> Result<u16, Misfit<'a>>
     requires { is_some (first_of (codes "UNIVERSE") (rows_of (found_of matches.now))) ≡ true }
-    ensures value { Reads (value_by (number_between 1 63999) (codes "UNIVERSE")
+    ensures value { ReadsArgument (value_by (number_between 1 63999) (codes "UNIVERSE")
         (rows_of (found_of matches.now)))
         (misfit_at (codes "UNIVERSE") (rows_of (found_of matches.now))) result }
     ensures within { IfOk result (λ universe. (1 ≤ universe) × (universe ≤ 63999)) }
@@ -319,7 +320,8 @@ pub(crate) fn universe_at<'a>(matches: &ArgMatches<'a>) -> Result<u16, Misfit<'a
 
 /// The universes of a line that watches.
 pub(crate) fn universes_at<'a>(matches: &ArgMatches<'a>) -> Result<UniverseList, Misfit<'a>>
-    ensures value { Reads (universes_of (texts_of (codes "UNIVERSES") (rows_of (found_of matches.now))))
+    ensures value { ReadsArgument
+        (watch_universes (texts_of (codes "UNIVERSES") (rows_of (found_of matches.now))))
         (misfit_at (codes "UNIVERSES") (rows_of (found_of matches.now))) result }
     ensures within { IfOk result (λ list. All (λ u. (1 ≤ u) × (u ≤ 63999)) list) }
 {
@@ -339,7 +341,7 @@ pub(crate) fn universes_at<'a>(matches: &ArgMatches<'a>) -> Result<UniverseList,
 // The universes that the texts name, or the first text that names none, or one once more.
 fn read_universes<'a>(texts: &[&'a str]) -> Result<UniverseList, Misfit<'a>>
     requires { length texts.now ≤ 16 }
-    ensures value { result_map_both (λ list. list) told result
+    ensures value { result_map_both (λ list. list) unfit_of result
         ≡ read_universes (map (λ text. text.now) texts.now) }
     ensures within { IfOk result (λ list. All (λ u. (1 ≤ u) × (u ≤ 63999)) list) }
 {
@@ -353,7 +355,7 @@ fn read_universes<'a>(texts: &[&'a str]) -> Result<UniverseList, Misfit<'a>>
 
 // The universe that a text names behind others, none of which it is.
 fn universe_behind<'a>(before: &UniverseList, text: &'a str) -> Result<u16, Misfit<'a>>
-    ensures value { result_map_both (λ universe. before.now ++ universe ∷ []) told result
+    ensures value { result_map_both (λ universe. before.now ++ universe ∷ []) unfit_of result
         ≡ named_behind before.now text.now (number_between 1 63999 text.now) }
     ensures within { IfOk result (λ universe. (1 ≤ universe) × (universe ≤ 63999)) }
 {
@@ -377,7 +379,7 @@ fn universe_behind<'a>(before: &UniverseList, text: &'a str) -> Result<u16, Misf
 /// The count of a line that listens.
 pub(crate) fn count_at<'a>(matches: &ArgMatches<'a>) -> Result<u32, Misfit<'a>>
     requires { is_some (first_of (codes "COUNT") (rows_of (found_of matches.now))) ≡ true }
-    ensures { Reads (value_by (number_between 1 1000000) (codes "COUNT")
+    ensures { ReadsArgument (value_by (number_between 1 1000000) (codes "COUNT")
         (rows_of (found_of matches.now)))
         (misfit_at (codes "COUNT") (rows_of (found_of matches.now))) result }
 {
@@ -394,7 +396,7 @@ pub(crate) fn count_at<'a>(matches: &ArgMatches<'a>) -> Result<u32, Misfit<'a>>
 
 /// The priority; 100 where it is absent.
 pub(crate) fn priority_at<'a>(matches: &ArgMatches<'a>) -> Result<u8, Misfit<'a>>
-    ensures value { Reads (value_or 100 (number_between 0 200) (codes "priority")
+    ensures value { ReadsArgument (value_or 100 (number_between 0 200) (codes "priority")
         (rows_of (found_of matches.now)))
         (misfit_at (codes "priority") (rows_of (found_of matches.now))) result }
     ensures within { IfOk result (λ priority. priority ≤ 200) }
@@ -414,7 +416,7 @@ pub(crate) fn priority_at<'a>(matches: &ArgMatches<'a>) -> Result<u8, Misfit<'a>
 
 /// The number of the first universe; 1 where it is absent.
 pub(crate) fn base_at<'a>(matches: &ArgMatches<'a>) -> Result<u16, Misfit<'a>>
-    ensures { Reads (value_or 1 (number_between 1 63999) (codes "base")
+    ensures { ReadsArgument (value_or 1 (number_between 1 63999) (codes "base")
         (rows_of (found_of matches.now)))
         (misfit_at (codes "base") (rows_of (found_of matches.now))) result }
 {
@@ -435,7 +437,7 @@ pub(crate) fn base_at<'a>(matches: &ArgMatches<'a>) -> Result<u16, Misfit<'a>>
 pub(crate) fn source_name_at<'m, 'a>(
     matches: &'m ArgMatches<'a>,
 ) -> Result<Option<&'a str>, Misfit<'a>>
-    ensures { Reads (source_name_of (rows_of (found_of matches.now)))
+    ensures { ReadsArgument (source_name_of (rows_of (found_of matches.now)))
         (misfit_at (codes "name") (rows_of (found_of matches.now)))
         (result_map_both (option_map (λ text. text.now)) (λ misfit. misfit) result) }
 {
@@ -464,14 +466,14 @@ fn is_source_name(text: &str) -> bool
 
 // A name stands in lines of text, and a terminal shows it.
 fn has_no_controls(bytes: &[u8]) -> bool
-    ensures { result ≡ list_all is_shown bytes.now }
+    ensures { result ≡ list_all is_no_control bytes.now }
 {
     bytes.iter().all(|byte| *byte >= 32 && *byte != 127)
 }
 
 /// The TTL of multicast; 1 where it is absent.
 pub(crate) fn ttl_at<'a>(matches: &ArgMatches<'a>) -> Result<u8, Misfit<'a>>
-    ensures { Reads (value_or 1 (number_between 1 255) (codes "ttl")
+    ensures { ReadsArgument (value_or 1 (number_between 1 255) (codes "ttl")
         (rows_of (found_of matches.now)))
         (misfit_at (codes "ttl") (rows_of (found_of matches.now))) result }
 {

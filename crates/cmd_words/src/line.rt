@@ -1,6 +1,6 @@
 ghost use Rattle.std.specs.Prelude.{◌≡◌, IfOk};
 ghost use Rattle.clap.specs.Words.{app_of};
-ghost use Rattle.cmd_words.specs.Program.{IsArgument, IsLine, required, required_option};
+ghost use Rattle.cmd_words.specs.Program.{IsArgument, IsLine, required_word, required_option};
 ghost use Rattle.cmd_words.specs.Program.{flag, option, repeated_option, several};
 ghost use Rattle.cmd_words.specs.Line.{app_of_line, rule_of_argument, with_lines};
 
@@ -34,7 +34,7 @@ impl<'a> Argument<'a> {
         ensures { IsArgument (rule_of_argument self.entry) result }
     {
         match self {
-            Argument::Positional(id, help) => required(alloc, id, help),
+            Argument::Positional(id, help) => required_argument(alloc, id, help),
             Argument::Several(id, value, help) => several(alloc, id, help).value_name(value),
             Argument::Required(id, value, help) => required_option(alloc, id, value, help),
             Argument::Repeated(id, value, help) => repeated_option(alloc, id, value, help),
@@ -84,8 +84,8 @@ pub(crate) fn with_lines<'a>(
     Ok(command)
 }
 
-fn required<'a>(alloc: Global, id: &'a str, help: &'a str) -> Arg<'a>
-    ensures { IsArgument (required id.now) result }
+fn required_argument<'a>(alloc: Global, id: &'a str, help: &'a str) -> Arg<'a>
+    ensures { IsArgument (required_word id.now) result }
 {
     Arg::new(alloc, id).required(true).help(help)
 }
@@ -93,7 +93,7 @@ fn required<'a>(alloc: Global, id: &'a str, help: &'a str) -> Arg<'a>
 fn several<'a>(alloc: Global, id: &'a str, help: &'a str) -> Arg<'a>
     ensures { IsArgument (several id.now) result }
 {
-    required(alloc, id, help).num_args(1..)
+    required_argument(alloc, id, help).num_args(1..)
 }
 
 fn option<'a>(alloc: Global, id: &'a str, value: &'a str, help: &'a str) -> Arg<'a>
@@ -114,7 +114,9 @@ fn flag<'a>(alloc: Global, id: &'a str, help: &'a str) -> Arg<'a>
 fn required_option<'a>(alloc: Global, id: &'a str, value: &'a str, help: &'a str) -> Arg<'a>
     ensures { IsArgument (required_option id.now) result }
 {
-    required(alloc, id, help).long(id).value_name(value)
+    required_argument(alloc, id, help)
+        .long(id)
+        .value_name(value)
 }
 
 fn repeated_option<'a>(alloc: Global, id: &'a str, value: &'a str, help: &'a str) -> Arg<'a>

@@ -1,7 +1,7 @@
 ghost use Rattle.std.specs.Prelude.{◌≡◌, IfOk};
 ghost use Rattle.clap.specs.Words.{app_of};
 ghost use Rattle.cmd_words.specs.Program.{players, program, readers, trials};
-ghost use Rattle.cmd_words.specs.Program.{with_all, without_lines};
+ghost use Rattle.cmd_words.specs.Program.{with_commands, without_lines};
 
 use crate::line::{Argument, Line, with_lines};
 use clap::Command;
@@ -238,19 +238,19 @@ pub(crate) fn program<'a>(alloc: Global) -> Result<Command<'a>, AllocError>
 }
 
 fn with_readers<'a>(alloc: Global, command: Command<'a>) -> Result<Command<'a>, AllocError>
-    ensures { IfOk result (λ whole. app_of whole ≡ with_all (app_of command.entry) readers) }
+    ensures { IfOk result (λ whole. app_of whole ≡ with_commands (app_of command.entry) readers) }
 {
     with_lines(alloc, command, &READERS)
 }
 
 fn with_players<'a>(alloc: Global, command: Command<'a>) -> Result<Command<'a>, AllocError>
-    ensures { IfOk result (λ whole. app_of whole ≡ with_all (app_of command.entry) players) }
+    ensures { IfOk result (λ whole. app_of whole ≡ with_commands (app_of command.entry) players) }
 {
     with_lines(alloc, command, &PLAYERS)
 }
 
 fn with_trials<'a>(alloc: Global, command: Command<'a>) -> Result<Command<'a>, AllocError>
-    ensures { IfOk result (λ whole. app_of whole ≡ with_all (app_of command.entry) trials) }
+    ensures { IfOk result (λ whole. app_of whole ≡ with_commands (app_of command.entry) trials) }
 {
     with_lines(alloc, command, &TRIALS)
 }

@@ -3,12 +3,12 @@ ghost use Rattle.std.specs.Prelude.{true, is_some};
 ghost use Rattle.clap.specs.Words.{first_of, found_of, rows_of, subcommand_rows_of};
 ghost use Rattle.cmd_words.specs.Program.{live_arguments, listen_arguments, night_arguments};
 ghost use Rattle.cmd_words.specs.Program.{rules_of};
-ghost use Rattle.cmd_words.specs.Job.{IsInRange, line_of, check_of, explain_of, cues_of};
+ghost use Rattle.cmd_words.specs.Job.{IsJobInRange, job_of_line, check_of, explain_of, cues_of};
 ghost use Rattle.cmd_words.specs.Job.{look_of, slots_of, night_of, play_of};
-ghost use Rattle.cmd_words.specs.Job.{live_of, rehearse_of, listen_of, watch_of};
+ghost use Rattle.cmd_words.specs.Job.{live_of, rehearse_of, listen_of, watch_job};
 ghost use Rattle.cmd_words.specs.Misfit.{IsWhole, NightFits, first_misfit, has_texts};
 ghost use Rattle.cmd_words.specs.Misfit.{misfit_in};
-ghost use Rattle.cmd_words.specs.Asked.{Answers, Explains, IsAsked, RefusedBy};
+ghost use Rattle.cmd_words.specs.Asked.{AnswersWords, ExplainsWords, IsAsked, RefusedBy};
 
 use crate::arguments::{
     address_at, any_route_at, base_at, cid_at, count_at, cue_at, follows_at, has_flag, name_at,
@@ -29,8 +29,8 @@ use std::convert::AsStr;
 /// allocation failed.
 pub fn read_words<'a, S: AsStr>(alloc: Global, words: &'a [S]) -> Result<Job, WordsFault<'a>>
     ensures ok { IfOk result (IsAsked (map S.text words.now)) }
-    ensures ranges { IfOk result IsInRange }
-    ensures err { IfErr result (Explains (map S.text words.now)) }
+    ensures ranges { IfOk result IsJobInRange }
+    ensures err { IfErr result (ExplainsWords (map S.text words.now)) }
 {
     let Ok(program) = program(alloc) else {
         return Err(WordsFault::Memory);
@@ -56,7 +56,7 @@ fn refusal(error: Error) -> WordsFault<'static>
 // The job of the line of this name, where each of its texts has its form.
 fn read_line<'a>(alloc: Global, line: &str, matches: &ArgMatches<'a>) -> Result<Job, WordsFault<'a>>
     requires { IsWhole (line.now, rows_of (found_of matches.now)) }
-    ensures { Answers IsInRange (line_of (line.now, rows_of (found_of matches.now)))
+    ensures { AnswersWords IsJobInRange (job_of_line (line.now, rows_of (found_of matches.now)))
         (misfit_in (line.now, rows_of (found_of matches.now))) result }
 {
     if line == "check" {
@@ -84,7 +84,7 @@ fn read_line<'a>(alloc: Global, line: &str, matches: &ArgMatches<'a>) -> Result<
 
 fn read_check<'a>(alloc: Global, matches: &ArgMatches<'a>) -> Result<Job, WordsFault<'a>>
     requires { has_texts (rules_of (codes "check")) (rows_of (found_of matches.now)) ≡ true }
-    ensures { Answers IsInRange (check_of (rows_of (found_of matches.now)))
+    ensures { AnswersWords IsJobInRange (check_of (rows_of (found_of matches.now)))
         (misfit_in (codes "check", rows_of (found_of matches.now))) result }
 {
     let show = Name::new(alloc, text_at(matches, "SHOW"))?;
@@ -96,7 +96,7 @@ fn read_check<'a>(alloc: Global, matches: &ArgMatches<'a>) -> Result<Job, WordsF
 
 fn read_explain<'a>(alloc: Global, matches: &ArgMatches<'a>) -> Result<Job, WordsFault<'a>>
     requires { has_texts (rules_of (codes "explain")) (rows_of (found_of matches.now)) ≡ true }
-    ensures { Answers IsInRange (explain_of (rows_of (found_of matches.now)))
+    ensures { AnswersWords IsJobInRange (explain_of (rows_of (found_of matches.now)))
         (misfit_in (codes "explain", rows_of (found_of matches.now))) result }
 {
     let show = Name::new(alloc, text_at(matches, "SHOW"))?;
@@ -105,7 +105,7 @@ fn read_explain<'a>(alloc: Global, matches: &ArgMatches<'a>) -> Result<Job, Word
 
 fn read_cues<'a>(alloc: Global, matches: &ArgMatches<'a>) -> Result<Job, WordsFault<'a>>
     requires { has_texts (rules_of (codes "cues")) (rows_of (found_of matches.now)) ≡ true }
-    ensures { Answers IsInRange (cues_of (rows_of (found_of matches.now)))
+    ensures { AnswersWords IsJobInRange (cues_of (rows_of (found_of matches.now)))
         (misfit_in (codes "cues", rows_of (found_of matches.now))) result }
 {
     let show = Name::new(alloc, text_at(matches, "SHOW"))?;
@@ -117,7 +117,7 @@ fn read_cues<'a>(alloc: Global, matches: &ArgMatches<'a>) -> Result<Job, WordsFa
 
 fn read_look<'a>(alloc: Global, matches: &ArgMatches<'a>) -> Result<Job, WordsFault<'a>>
     requires { has_texts (rules_of (codes "look")) (rows_of (found_of matches.now)) ≡ true }
-    ensures { Answers IsInRange (look_of (rows_of (found_of matches.now)))
+    ensures { AnswersWords IsJobInRange (look_of (rows_of (found_of matches.now)))
         (misfit_in (codes "look", rows_of (found_of matches.now))) result }
 {
     let cue = cue_at(matches)?;
@@ -128,7 +128,7 @@ fn read_look<'a>(alloc: Global, matches: &ArgMatches<'a>) -> Result<Job, WordsFa
 
 fn read_slots<'a>(alloc: Global, matches: &ArgMatches<'a>) -> Result<Job, WordsFault<'a>>
     requires { has_texts (rules_of (codes "slots")) (rows_of (found_of matches.now)) ≡ true }
-    ensures { Answers IsInRange (slots_of (rows_of (found_of matches.now)))
+    ensures { AnswersWords IsJobInRange (slots_of (rows_of (found_of matches.now)))
         (misfit_in (codes "slots", rows_of (found_of matches.now))) result }
 {
     let cue = cue_at(matches)?;
@@ -139,7 +139,7 @@ fn read_slots<'a>(alloc: Global, matches: &ArgMatches<'a>) -> Result<Job, WordsF
 
 fn read_play<'a>(alloc: Global, matches: &ArgMatches<'a>) -> Result<Job, WordsFault<'a>>
     requires { has_texts (rules_of (codes "play")) (rows_of (found_of matches.now)) ≡ true }
-    ensures { Answers IsInRange (play_of (rows_of (found_of matches.now)))
+    ensures { AnswersWords IsJobInRange (play_of (rows_of (found_of matches.now)))
         (misfit_in (codes "play", rows_of (found_of matches.now))) result }
 {
     let night = read_night(alloc, matches)?;
@@ -148,7 +148,7 @@ fn read_play<'a>(alloc: Global, matches: &ArgMatches<'a>) -> Result<Job, WordsFa
 
 fn read_live<'a>(alloc: Global, matches: &ArgMatches<'a>) -> Result<Job, WordsFault<'a>>
     requires { has_texts (rules_of (codes "live")) (rows_of (found_of matches.now)) ≡ true }
-    ensures { Answers IsInRange (live_of (rows_of (found_of matches.now)))
+    ensures { AnswersWords IsJobInRange (live_of (rows_of (found_of matches.now)))
         (misfit_in (codes "live", rows_of (found_of matches.now))) result }
 {
     match read_night(alloc, matches) {
@@ -166,7 +166,7 @@ fn read_live_night<'a>(
     requires asked { night_of (rows_of (found_of matches.now)) ≡ Some night }
     requires range { night.priority ≤ 200 }
     requires fits { NightFits (rows_of (found_of matches.now)) }
-    ensures { Answers IsInRange (live_of (rows_of (found_of matches.now)))
+    ensures { AnswersWords IsJobInRange (live_of (rows_of (found_of matches.now)))
         (misfit_in (codes "live", rows_of (found_of matches.now))) result }
 {
     let resumes = resumes_at(matches)?;
@@ -191,7 +191,7 @@ fn read_live_night<'a>(
 // The night of a line that plays, where each of its texts has its form.
 fn read_night<'a>(alloc: Global, matches: &ArgMatches<'a>) -> Result<Night, WordsFault<'a>>
     requires { has_texts night_arguments (rows_of (found_of matches.now)) ≡ true }
-    ensures night { Answers (λ night. night.priority ≤ 200)
+    ensures night { AnswersWords (λ night. night.priority ≤ 200)
         (night_of (rows_of (found_of matches.now)))
         (first_misfit night_arguments (rows_of (found_of matches.now))) result }
     ensures fits { IfOk result (λ _. NightFits (rows_of (found_of matches.now))) }
@@ -221,7 +221,7 @@ fn read_night<'a>(alloc: Global, matches: &ArgMatches<'a>) -> Result<Night, Word
 
 fn read_rehearse<'a>(alloc: Global, matches: &ArgMatches<'a>) -> Result<Job, WordsFault<'a>>
     requires { has_texts (rules_of (codes "rehearse")) (rows_of (found_of matches.now)) ≡ true }
-    ensures { Answers IsInRange (rehearse_of (rows_of (found_of matches.now)))
+    ensures { AnswersWords IsJobInRange (rehearse_of (rows_of (found_of matches.now)))
         (misfit_in (codes "rehearse", rows_of (found_of matches.now))) result }
 {
     let show = Name::new(alloc, text_at(matches, "SHOW"))?;
@@ -231,7 +231,7 @@ fn read_rehearse<'a>(alloc: Global, matches: &ArgMatches<'a>) -> Result<Job, Wor
 
 fn read_listen<'a>(matches: &ArgMatches<'a>) -> Result<Job, WordsFault<'a>>
     requires { has_texts (rules_of (codes "listen")) (rows_of (found_of matches.now)) ≡ true }
-    ensures { Answers IsInRange (listen_of (rows_of (found_of matches.now)))
+    ensures { AnswersWords IsJobInRange (listen_of (rows_of (found_of matches.now)))
         (misfit_in (codes "listen", rows_of (found_of matches.now))) result }
 {
     let at = address_at(matches)?;
@@ -245,7 +245,7 @@ fn read_listen<'a>(matches: &ArgMatches<'a>) -> Result<Job, WordsFault<'a>>
 }
 
 fn read_watch<'a>(matches: &ArgMatches<'a>) -> Result<Job, WordsFault<'a>>
-    ensures { Answers IsInRange (watch_of (rows_of (found_of matches.now)))
+    ensures { AnswersWords IsJobInRange (watch_job (rows_of (found_of matches.now)))
         (misfit_in (codes "watch", rows_of (found_of matches.now))) result }
 {
     let universes = universes_at(matches)?;

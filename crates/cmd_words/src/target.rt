@@ -1,6 +1,6 @@
 ghost use Rattle.std.specs.Prelude.{◌≡◌, ◌≤◌, IfSome};
 ghost use Rattle.cmd_words.specs.Number.{number_between};
-ghost use Rattle.cmd_words.specs.Target.{target_of, universes_of};
+ghost use Rattle.cmd_words.specs.Target.{target_of, universe_range};
 
 use crate::address::{address, split_once};
 use crate::number::{TOP_UNIVERSE, number_between};
@@ -23,7 +23,7 @@ pub(crate) fn target(text: &str) -> Option<Target>
 
 // One universe, or the first and the last of several with a `-` between them.
 fn universes(text: &str) -> Option<Universes>
-    ensures { result ≡ universes_of text.now }
+    ensures { result ≡ universe_range text.now }
 {
     let (first, last) = match split_once(text, '-') {
         Some((before, after)) => (universe(before)?, universe(after)?),

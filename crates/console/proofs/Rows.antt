@@ -12,7 +12,7 @@ use Rattle.console.specs.declared.reading.Reading.TheVariants.{Blank, Malformed,
 use Rattle.console.specs.Spelling.{reading_of}
 use Rattle.console.specs.CueLine.{cue_line}
 use Rattle.console.specs.WhereLine.{groups_text, subs_text, where_line}
-use Rattle.console.specs.Texts.{done_text, numbered, refused_text, ticked_text}
+use Rattle.console.specs.Texts.{done_text, moment_line, refused_text, ticked_text}
 
 calls : (reading_of (codes "0 go") ≡ At 0 (Order Go))
     × (reading_of (codes "2500 TICK ! now") ≡ At 2500 Tick)
@@ -40,10 +40,11 @@ malformed : (reading_of (codes "5 jump") ≡ Malformed)
     × (reading_of (codes "0 master 13 in 4") ≡ Malformed)
 malformed = (refl, refl, refl, refl, refl, refl, refl, refl, refl, refl, refl, refl)
 
-answers : (numbered 0 done_text ≡ codes "0 ok\n")
-    × (numbered 0 (refused_text AtStart) ≡ codes "0 refused AtStart\n")
-    × (numbered 25 (ticked_text Live ((1, Lost 1) ∷ (2, Quiet) ∷ [])) ≡ codes "25 live 1:x1 2:-\n")
-    × (numbered 23 (ticked_text (Ending 2) ((1, Sent 1) ∷ [])) ≡ codes "23 ending 2 1:s1\n")
+answers : (moment_line 0 done_text ≡ codes "0 ok\n")
+    × (moment_line 0 (refused_text AtStart) ≡ codes "0 refused AtStart\n")
+    × (moment_line 25 (ticked_text Live ((1, Lost 1) ∷ (2, Quiet) ∷ []))
+    ≡ codes "25 live 1:x1 2:-\n")
+    × (moment_line 23 (ticked_text (Ending 2) ((1, Sent 1) ∷ [])) ≡ codes "23 ending 2 1:s1\n")
 unfolding digits
 answers = (refl, refl, refl, refl)
 

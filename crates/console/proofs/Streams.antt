@@ -8,7 +8,7 @@ use Rattle.std.proofs.lemmas.List.Elements.{All-nil, All-cons}
 use Rattle.std.specs.Prelude.{if◌then◌else◌, slice_get, nat_eq, unwrap_or, All, IfSome}
 use Rattle.std.specs.Option.{option_to_list}
 use Rattle.desk.specs.declared.command.Command.{Command}
-use Rattle.desk.specs.Played.{order, tick, Act, ended, ended_by}
+use Rattle.desk.specs.Played.{order, tick, Act, ticks_since_end, ended_by}
 use Rattle.desk.specs.Meaning.{dark, frame, latest_frame}
 use Rattle.desk.proofs.FrameSlots.{frame_full}
 use Rattle.sacn_source.specs.Stream.{Packet, sends, packets, live_packet, newest_frame}
@@ -49,7 +49,7 @@ module _ (c : Production) (u : ℕ) where
   -- one tick more leaves the packets, and adds what is due
   pub stream_ticked : (h : List Act) (m : ℕ)
       → stream (tick_at m ∷ h) ≡ stream h ++ option_to_list (due_at c h m u).packet
-  stream_ticked h m = go (ended h) where
+  stream_ticked h m = go (ticks_since_end h) where
     go : (n : Option ℕ) → packets (offered_by tick n (offer_at c u h m) (offers_of c u h))
         (unwrap_or (ended_by tick n) 0) ≡ packets (offers_of c u h) (unwrap_or n 0)
         ++ option_to_list (packet_due n (offer_at c u h m ∷ offers_of c u h))
@@ -68,7 +68,7 @@ module _ (c : Production) (u : ℕ) where
       elim a.call as (λ call. slice_get (stream (record { moment = a.moment; call = call } ∷ h)) k
       ≡ Some p) [
         | tick ↦ rw (stream_ticked h a.moment) (get_front (stream h) _ k p at)
-        | order o ↦ rw (ended_same o (ended h)) at
+        | order o ↦ rw (ended_same o (ticks_since_end h)) at
       ]
 
   -- the frame of the latest tick is the newest offer's, or dark after End

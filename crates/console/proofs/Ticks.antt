@@ -12,7 +12,8 @@ use Rattle.desk.specs.declared.answer.Ticked.TheVariants.{Live, Ending}
 use Rattle.desk.specs.declared.command.Command.{Command}
 use Rattle.desk.specs.DeskState.{DeskState}
 use Rattle.desk.specs.Meaning.{universe_numbers}
-use Rattle.desk.specs.Played.{Act, Call, ended, ended_by, last_tick, outcome, refusal, ticked}
+use Rattle.desk.specs.Played.{Act, Call, ticks_since_end, ended_by, last_tick, outcome, refusal}
+use Rattle.desk.specs.Played.{tick_answer}
 use Rattle.desk.specs.Stands as desk
 use Rattle.sacn_source.specs.Identity.{Identity}
 use Rattle.sacn_source.specs.Kept.{Lane}
@@ -20,8 +21,8 @@ use Rattle.sacn_source.specs.Offering as sender
 use Rattle.sacn_source.specs.Stream.{Packet, earliest_after}
 use Rattle.sacn_source.specs.declared.offered.Offered.{Offered}
 use Rattle.console.specs.ConsoleState.{ConsoleState}
-use Rattle.console.specs.Offering.{AreOffered, none, quiet, sent, Offers}
-use Rattle.console.specs.Stands.{HasStreams, IsTick, StandsFor}
+use Rattle.console.specs.Offering.{AreOffered, none, quiet, sent, OffersDues}
+use Rattle.console.specs.Stands.{HasStreams, IsMidTick, StandsFor}
 use Rattle.console.proofs.Streams.{ended_same}
 use Rattle.console.specs.Streams.{Due, Production, offers_of, order_at, tick_at, universes_of}
 
@@ -39,9 +40,9 @@ AreOffered-append (sent d p s ds ss ps is rest) more = sent d p s _ _ _ is
 -- one offer more
 pub offers_more : {source : Identity} {ds : List Due} {ps : List (ℕ × Offered)}
     {before mid after : List Send} (answer : Offered) (d : Due) (packet : Option Packet)
-    → d.packet ≡ packet → Offers source ds ps before mid
+    → d.packet ≡ packet → OffersDues source ds ps before mid
     → sender.Offers source d.universe d.place packet answer mid after
-    → Offers source (ds ++ d ∷ []) (ps ++ (d.universe, answer) ∷ []) before after
+    → OffersDues source (ds ++ d ∷ []) (ps ++ (d.universe, answer) ∷ []) before after
 offers_more {source} answer d None is first o =
     let more : AreOffered source (d ∷ []) [] ((d.universe, answer) ∷ []) =
     rw o.0 (quiet d [] [] [] is none) in
@@ -62,11 +63,11 @@ offers_more {source} {before = before} answer d (Some p) is first o =
 
 -- ---- ticks before End and after it
 
-pub live_by : (n : Option ℕ) → Live ≡ ticked n → n ≡ None
+pub live_by : (n : Option ℕ) → Live ≡ tick_answer n → n ≡ None
 live_by None e = refl
 live_by (Some n) e = cc
 
-pub ending_by : (n : Option ℕ) (i : ℕ) → Ending i ≡ ticked n → (m : ℕ) × (n ≡ Some m)
+pub ending_by : (n : Option ℕ) (i : ℕ) → Ending i ≡ tick_answer n → (m : ℕ) × (n ≡ Some m)
 ending_by None i e = cc
 ending_by (Some n) i e = (n, refl)
 
@@ -74,22 +75,22 @@ not_ended_before : (c : Call) (n : Option ℕ) → ended_by c n ≡ None → n �
 not_ended_before c n e = grind arith
 
 -- the last tick before End is the newest offer
-newest_offer : (p : Production) (u : ℕ) (h : List Act) → ended h ≡ None
+newest_offer : (p : Production) (u : ℕ) (h : List Act) → ticks_since_end h ≡ None
     → earliest_after (offers_of p u h) ≡ option_map_or (λ t. t + 1) (last_tick h) 0
 newest_offer p u [] live = refl
 newest_offer p u (act ∷ older) live =
-    grind (arith, newest_offer p u older, not_ended_before act.call (ended older) live)
+    grind (arith, newest_offer p u older, not_ended_before act.call (ticks_since_end older) live)
 
 -- a tick before End is later than each offer
 pub offered_before : (p : Production) (u moment : ℕ) (older : List Act)
-    → refusal p.show older (tick_at moment) ≡ None → ended older ≡ None
+    → refusal p.show older (tick_at moment) ≡ None → ticks_since_end older ≡ None
     → earliest_after (offers_of p u older) ≤ moment
 offered_before p u moment older accepted live =
     grind (arith, nat_tests, newest_offer p u older live)
 
 -- one after it is one of three
 pub fewer_than_three : (p : Production) (moment n : ℕ) (older : List Act)
-    → refusal p.show older (tick_at moment) ≡ None → ended older ≡ Some n → n < 3
+    → refusal p.show older (tick_at moment) ≡ None → ticks_since_end older ≡ Some n → n < 3
 fewer_than_three p moment n older accepted e = grind (arith, nat_tests)
 
 -- ---- calls of a console
@@ -97,7 +98,7 @@ fewer_than_three p moment n older accepted e = grind (arith, nat_tests)
 -- the numbers that the desk gives are the universes
 pub numbers_are : {F : Type 0} {sf : F → List Start → Type 0} {p : Production}
     {state : DeskState F} {older : List Act} {moment : ℕ} {answer : Ticked} {us items : List ℕ}
-    → IsTick sf p state older moment answer → us ≡ items
+    → IsMidTick sf p state older moment answer → us ≡ items
     → items ≡ universe_numbers state.show.patch state.base → us ≡ universes_of p
 numbers_are t value numbers =
     rw (← t.desk_stands.show_is, ← t.desk_stands.base_is) (value ∙ numbers)
@@ -116,11 +117,11 @@ pub tick_stands : {F : Type 0} {sf : F → List Start → Type 0} {p : Productio
     {view state : ConsoleState F} {history : List Act} (new : DeskState F) (moment : ℕ)
     {answer : Ticked} {r : Result Ticked Refused} → view ≡ state → r ≡ Ok answer
     → ((show : _) (base : ℕ) (h : List Act) → desk.StandsFor sf show base view.desk h
-    → r ≡ outcome (refusal show h (tick_at moment)) (ticked (ended h)))
+    → r ≡ outcome (refusal show h (tick_at moment)) (tick_answer (ticks_since_end h)))
     → ((show : _) (base : ℕ) (h : List Act) → desk.StandsFor sf show base view.desk h
     → desk.StandsFor sf show base new (tick_at moment ∷ h))
     → StandsFor sf p state history
-    → IsTick sf p new history moment answer × HasStreams p view.sender history
+    → IsMidTick sf p new history moment answer × HasStreams p view.sender history
 tick_stands {p = p} {history = history} new moment same is answers stands s =
     let t = rw (← same) at s in
     let a = accepted_by _ _ _ (sym is ∙ answers p.show p.base history t.desk_stands) in (
@@ -137,5 +138,5 @@ pub streams_ordered : (p : Production) (lanes : List Lane) (moment : ℕ) (c : C
     → HasStreams p lanes history → HasStreams p lanes (order_at moment c ∷ history)
 streams_ordered p lanes moment c history s = record {
   universes_are = s.universes_are;
-  streams = rw (ended_same c (ended history)) s.streams;
+  streams = rw (ended_same c (ticks_since_end history)) s.streams;
 }

@@ -1,7 +1,7 @@
 -- What is printed of a move to a cue.
 use Rattle.std.specs.Prelude.{ℕ, ◌/◌, ◌%◌, ◌==◌, List, [], ◌++◌, codes, decimal}
 use Rattle.std.specs.Prelude.{if◌then◌else◌}
-use Rattle.console.specs.Texts.{numbered}
+use Rattle.console.specs.Texts.{moment_line}
 
 -- the places behind the whole of a cue number, from its thousandths, without zeros at their end
 abbrev pub places_text : ℕ → List ℕ
@@ -16,4 +16,4 @@ cue_text number = decimal (number / 1000) ++ places_text (number % 1000)
 
 -- the line of a move: its moment, and the cue that is current from then on
 abbrev pub cue_line : ℕ → ℕ → List ℕ
-cue_line moment cue = numbered moment (codes "cue " ++ cue_text cue)
+cue_line moment cue = moment_line moment (codes "cue " ++ cue_text cue)

@@ -30,7 +30,7 @@ pub data AreOffered (source : Identity) : List Due → List Send → List (ℕ �
       ((due.universe, answer_of send.failed due.place) ∷ pairs)
 
 -- a link was offered what is due, and these are the answers
-pub record Offers (source : Identity) (dues : List Due) (pairs : List (ℕ × Offered))
+pub record OffersDues (source : Identity) (dues : List Due) (pairs : List (ℕ × Offered))
     (before after : List Send) : Type 0 where
   pub sends : List Send
   pub are_offered : AreOffered source dues sends pairs

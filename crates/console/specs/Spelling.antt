@@ -83,14 +83,14 @@ words_behind [] = []
 words_behind (keyword ∷ operands) =
     if same_word keyword (codes "tick") then drop 1 operands else drop 4 operands
 
-abbrev pub at_moment : Option ℕ → Option Call → Reading
-at_moment (Some moment) (Some call) = At moment call
-at_moment _ _ = Malformed
+abbrev pub reading_at : Option ℕ → Option Call → Reading
+reading_at (Some moment) (Some call) = At moment call
+reading_at _ _ = Malformed
 
 -- a moment, and the words of a call
 abbrev pub reading_of_words : List (List ℕ) → Reading
 reading_of_words [] = Blank
-reading_of_words (moment ∷ words) = at_moment (moment_of moment) (call_of words)
+reading_of_words (moment ∷ words) = reading_at (moment_of moment) (call_of words)
 
 -- a line, by its words
 abbrev pub reading_of : List ℕ → Reading

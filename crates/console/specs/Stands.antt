@@ -3,7 +3,7 @@ use Rattle.std.specs.Prelude.{◌≡◌, List, ◌∷◌, None, All, ℕ}
 use Rattle.fade.specs.Level.{Start}
 use Rattle.desk.specs.DeskState.{DeskState}
 use Rattle.desk.specs.declared.answer.Ticked.{Ticked}
-use Rattle.desk.specs.Played.{Act, ended, refusal, ticked}
+use Rattle.desk.specs.Played.{Act, ticks_since_end, refusal, tick_answer}
 use Rattle.desk.specs.Stands as desk
 use Rattle.sacn_source.specs.Kept.{Lane}
 use Rattle.sacn_source.specs.Stands as sender
@@ -18,7 +18,7 @@ HasStream production lanes history universe = sender.StandsFor production.source
 -- a sender has the streams of all universes, and no others
 pub record HasStreams (production : Production) (lanes : List Lane) (history : List Act)
     : Type 0 where
-  pub universes_are : sender.universes_of lanes ≡ universes_of production
+  pub universes_are : sender.lane_universes lanes ≡ universes_of production
   pub streams : All (HasStream production lanes history) (universes_of production)
 
 -- a console stands for a history of a production: its desk does, and its sender has the streams
@@ -30,10 +30,10 @@ pub record StandsFor {F : Type 0} (fader_stands_for : F → List Start → Type 
   pub streams_stand : HasStreams production console.sender history
 
 -- in the middle of an accepted tick that the desk answered so: it has taken it
-pub record IsTick {F : Type 0} (fader_stands_for : F → List Start → Type 0)
+pub record IsMidTick {F : Type 0} (fader_stands_for : F → List Start → Type 0)
     (production : Production)
     (state : DeskState F) (older : List Act) (moment : ℕ) (answer : Ticked) : Type 0 where
   pub desk_stands : desk.StandsFor fader_stands_for production.show production.base state
       (tick_at moment ∷ older)
   pub accepted : refusal production.show older (tick_at moment) ≡ None
-  pub answer_is : answer ≡ ticked (ended older)
+  pub answer_is : answer ≡ tick_answer (ticks_since_end older)

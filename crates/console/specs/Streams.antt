@@ -3,10 +3,10 @@
 use Rattle.std.specs.Prelude.{ℕ, ◌-◌, List, [], ◌∷◌, Option, Some, None, length, map, unwrap_or}
 use Rattle.show.specs.Tables.{Tables}
 use Rattle.desk.specs.declared.command.Command.{Command}
-use Rattle.desk.specs.Played.{Call, order, tick, Act, ended}
+use Rattle.desk.specs.Played.{Call, order, tick, Act, ticks_since_end}
 use Rattle.desk.specs.Meaning.{frame, universe_numbers}
 use Rattle.sacn_source.specs.Identity.{Identity}
-use Rattle.sacn_source.specs.Stream.{Offer, Packet, due, last_packet, packets}
+use Rattle.sacn_source.specs.Stream.{Offer, Packet, due_packet, last_packet, packets}
 
 -- what a console is opened for: a show, the number of the universe of ordinal 0, and who sends
 pub record Production : Type 0 where
@@ -42,12 +42,12 @@ offered_by _ _ offer older = older
 abbrev pub offers_of : Production → ℕ → List Act → List Offer
 offers_of production universe [] = []
 offers_of production universe (act ∷ older) =
-    offered_by act.call (ended older) (offer_at production universe older act.moment)
+    offered_by act.call (ticks_since_end older) (offer_at production universe older act.moment)
     (offers_of production universe older)
 
 -- how many terminations were sent to each universe: one at each tick after End
 abbrev pub terminations_of : List Act → ℕ
-terminations_of history = unwrap_or (ended history) 0
+terminations_of history = unwrap_or (ticks_since_end history) 0
 
 -- what is due on a universe: a packet, where there is one, and its place in the stream
 pub record Due : Type 0 where
@@ -57,7 +57,7 @@ pub record Due : Type 0 where
 
 -- what the newest offer sends; after End, a termination
 abbrev pub packet_due : Option ℕ → List Offer → Option Packet
-packet_due None offers = due offers
+packet_due None offers = due_packet offers
 packet_due (Some ticks) offers = Some last_packet
 
 -- what is due on a universe at an accepted tick of this moment after a history
@@ -65,7 +65,7 @@ abbrev pub due_at : Production → List Act → ℕ → ℕ → Due
 due_at production older moment universe = record {
   universe = universe;
   place = length (packets (offers_of production universe older) (terminations_of older));
-  packet = packet_due (ended older) (offer_at production universe older moment
+  packet = packet_due (ticks_since_end older) (offer_at production universe older moment
       ∷ offers_of production universe older);
 }
 

@@ -50,5 +50,5 @@ abbrev pub ticked_text : Ticked → List (ℕ × Offered) → List ℕ
 ticked_text ticked offers = ticked_name ticked ++ flat_map pair_text offers
 
 -- a line that a number begins: the moment of a call
-abbrev pub numbered : ℕ → List ℕ → List ℕ
-numbered number text = decimal number ++ codes " " ++ text ++ codes "\n"
+abbrev pub moment_line : ℕ → List ℕ → List ℕ
+moment_line number text = decimal number ++ codes " " ++ text ++ codes "\n"

@@ -4,7 +4,7 @@ use Rattle.std.specs.Prelude.{Option, Some, None}
 use Rattle.std.specs.List.{range_with_len}
 use Rattle.masters.specs.Settings.{Setting, grand_after, group_after, sub_after}
 use Rattle.console.specs.CueLine.{cue_text}
-use Rattle.console.specs.Texts.{numbered}
+use Rattle.console.specs.Texts.{moment_line}
 
 -- a cue behind its word, where there is one
 abbrev pub cue_part : List ℕ → Option ℕ → List ℕ
@@ -29,6 +29,6 @@ groups_text settings =
 -- the submasters and groups that stand above 0, ascending
 abbrev pub where_line : ℕ → Option ℕ → Option ℕ → List Setting → List ℕ
 where_line moment current next settings =
-    numbered moment (codes "where" ++ cue_part (codes " cue ") current
+    moment_line moment (codes "where" ++ cue_part (codes " cue ") current
     ++ cue_part (codes " next ") next ++ codes " master " ++ decimal (grand_after settings)
     ++ subs_text settings ++ groups_text settings)

@@ -1,5 +1,5 @@
 ghost use Rattle.std.specs.Prelude.{◌≡◌, ◌≤◌, ◌+◌, ◌++◌, length, codes};
-ghost use Rattle.console.specs.Texts.{numbered, refused_name, done_text, refused_text};
+ghost use Rattle.console.specs.Texts.{moment_line, refused_name, done_text, refused_text};
 ghost use Rattle.console.specs.Texts.{outcome_text, pair_text, ticked_name, ticked_text};
 
 use crate::offers::Offers;
@@ -16,7 +16,7 @@ pub type AnswerLine = ArrayString<208>;
 
 /// The line of an accepted command.
 pub fn done_line(number: u64) -> AnswerLine
-    ensures { result.bytes ≡ numbered number done_text }
+    ensures { result.bytes ≡ moment_line number done_text }
 {
     let mut line = AnswerLine::new();
     line.push_str(Buffer::new().format(number));
@@ -26,7 +26,7 @@ pub fn done_line(number: u64) -> AnswerLine
 
 /// The line of a command or a tick that was refused.
 pub fn refused_line(number: u64, refused: Refused) -> AnswerLine
-    ensures { result.bytes ≡ numbered number (refused_text refused) }
+    ensures { result.bytes ≡ moment_line number (refused_text refused) }
 {
     reason_line(number, "refused", refused_name(refused))
 }
@@ -34,7 +34,7 @@ pub fn refused_line(number: u64, refused: Refused) -> AnswerLine
 /// The line of what was not done: a word that says so, and the name of the reason.
 pub fn reason_line(number: u64, word: &str, reason: &str) -> AnswerLine
     requires { length word.now + length reason.now ≤ 185 }
-    ensures { result.bytes ≡ numbered number (word.now ++ codes " " ++ reason.now) }
+    ensures { result.bytes ≡ moment_line number (word.now ++ codes " " ++ reason.now) }
 {
     let mut line = AnswerLine::new();
     line.push_str(Buffer::new().format(number));
@@ -48,7 +48,7 @@ pub fn reason_line(number: u64, word: &str, reason: &str) -> AnswerLine
 
 /// The line of an accepted tick and its offers.
 pub fn ticked_line(number: u64, ticked: Ticked, offers: &Offers) -> AnswerLine
-    ensures { result.bytes ≡ numbered number (ticked_text ticked offers.now) }
+    ensures { result.bytes ≡ moment_line number (ticked_text ticked offers.now) }
 {
     let mut line = AnswerLine::new();
     line.push_str(Buffer::new().format(number));

@@ -4,12 +4,13 @@ ghost use Rattle.std.specs.Coded.{codes};
 ghost use Rattle.show.specs.contracts.show.Show as show_model;
 ghost use Rattle.patch.specs.Frame.{is_base};
 ghost use Rattle.patch.specs.declared.fault.RigFault.TheVariants.{Universe};
-ghost use Rattle.playback.specs.Placed.{IsAt};
+ghost use Rattle.playback.specs.Placed.{IsPlaceAfter};
 ghost use Rattle.playback.specs.Played.{current_after};
 ghost use Rattle.masters.specs.Settings as masters_stand;
-ghost use Rattle.desk.specs.Played.{Act, ended, moves, outcome, refusal, settings, ticked};
+ghost use Rattle.desk.specs.Played.{Act, ticks_since_end, moves, outcome, refusal, settings};
+ghost use Rattle.desk.specs.Played.{tick_answer};
 ghost use Rattle.console.specs.ConsoleState.{ConsoleState};
-ghost use Rattle.console.specs.Offering.{Offers as OffersTo};
+ghost use Rattle.console.specs.Offering.{OffersDues as OffersTo};
 ghost use Rattle.console.specs.Stands.{StandsFor};
 ghost use Rattle.console.specs.Streams.{Production, dues_at, order_at, tick_at};
 
@@ -109,7 +110,7 @@ impl<F: Fader> Console<F> {
             → StandsFor F.stands_for production self.old history
             → MatchResult result
             (λ answer. (refusal production.show history (tick_at moment) ≡ None)
-            × (answer.0 ≡ ticked (ended history)))
+            × (answer.0 ≡ tick_answer (ticks_since_end history)))
             (λ refused. refusal production.show history (tick_at moment) ≡ Some refused) }
         ensures stands { OnOk result ((production : Production) (history : List Act)
             → StandsFor F.stands_for production self.old history
@@ -140,8 +141,8 @@ impl<F: Fader> Console<F> {
     pub fn place(&self) -> Place
         ensures { (production : Production) (history : List Act)
             → StandsFor F.stands_for production self.now history
-            → IsAt production.show result (moves production.show history)
-            (is_some (ended history)) }
+            → IsPlaceAfter production.show result (moves production.show history)
+            (is_some (ticks_since_end history)) }
     {
         self.desk.place()
     }

@@ -2,9 +2,9 @@ ghost use Rattle.std.specs.Prelude.{◌≡◌, ◌≢◌, ℕ, List, ◌∷◌, 
 ghost use Rattle.desk.specs.Meaning.{universe_numbers};
 ghost use Rattle.desk.specs.Played.{Act};
 ghost use Rattle.sacn_source.specs.Offering.{Offers as OffersOne};
-ghost use Rattle.sacn_source.specs.Stands.{lane_of, universes_of};
-ghost use Rattle.console.specs.Offering.{Offers as OffersTo};
-ghost use Rattle.console.specs.Stands.{HasStream, HasStreams, IsTick};
+ghost use Rattle.sacn_source.specs.Stands.{lane_of, lane_universes};
+ghost use Rattle.console.specs.Offering.{OffersDues as OffersTo};
+ghost use Rattle.console.specs.Stands.{HasStream, HasStreams, IsMidTick};
 ghost use Rattle.console.specs.Streams.{Due, Production, due_at, dues_at, tick_at};
 
 use crate::offers::Offers;
@@ -28,15 +28,15 @@ pub fn offer_all<F: Fader, L: Link>(
     link: &mut L,
 ) -> Offers
     requires real { (production : Production) × (older : List Act)
-        × IsTick F.stands_for production desk.now older moment answer
+        × IsMidTick F.stands_for production desk.now older moment answer
         × HasStreams production sender.old older }
     ensures stands { (production : Production) (older : List Act)
-        → IsTick F.stands_for production desk.now older moment answer
+        → IsMidTick F.stands_for production desk.now older moment answer
         → HasStreams production sender.old older
         → HasStreams production sender.new (tick_at moment ∷ older) }
     ensures told { L.tells link.new → L.tells link.old }
     ensures offered { (production : Production) (older : List Act)
-        → IsTick F.stands_for production desk.now older moment answer
+        → IsMidTick F.stands_for production desk.now older moment answer
         → HasStreams production sender.old older
         → L.tells link.new → OffersTo production.source (dues_at production older moment) result
         (L.offered link.old) (L.offered link.new) }
@@ -60,20 +60,20 @@ fn offer<F: Fader, L: Link>(
     link: &mut L,
 ) -> Offered
     requires patched { Contains (universe_numbers desk.now.show.patch desk.now.base) universe }
-    requires here { Contains (universes_of sender.old) universe }
+    requires here { Contains (lane_universes sender.old) universe }
     requires real { (production : Production) × (older : List Act)
-        × IsTick F.stands_for production desk.now older tick.moment tick.answer
+        × IsMidTick F.stands_for production desk.now older tick.moment tick.answer
         × HasStream production sender.old older universe }
-    ensures universes { universes_of sender.new ≡ universes_of sender.old }
+    ensures universes { lane_universes sender.new ≡ lane_universes sender.old }
     ensures others { (other : ℕ) → other ≢ universe
         → lane_of sender.new other ≡ lane_of sender.old other }
     ensures stands { (production : Production) (older : List Act)
-        → IsTick F.stands_for production desk.now older tick.moment tick.answer
+        → IsMidTick F.stands_for production desk.now older tick.moment tick.answer
         → HasStream production sender.old older universe
         → HasStream production sender.new (tick_at tick.moment ∷ older) universe }
     ensures told { L.tells link.new → L.tells link.old }
     ensures offered { (production : Production) (older : List Act)
-        → IsTick F.stands_for production desk.now older tick.moment tick.answer
+        → IsMidTick F.stands_for production desk.now older tick.moment tick.answer
         → HasStream production sender.old older universe → L.tells link.new
         → let due : Due = due_at production older tick.moment universe in
         OffersOne production.source universe due.place due.packet result

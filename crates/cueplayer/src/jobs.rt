@@ -1,5 +1,5 @@
 ghost use Rattle.std.specs.Prelude.{◌≡◌, ◌≤◌, ◌<◌, ◌^◌, All, IfOk, length};
-ghost use Rattle.cmd_words.specs.Job.{IsInRange};
+ghost use Rattle.cmd_words.specs.Job.{IsJobInRange};
 ghost use Rattle.cueplayer.specs.Source.{source_name};
 
 use crate::cards::{check_targets, open_network};
@@ -40,7 +40,7 @@ const PRINTED: usize = 65_536;
 
 /// Runs what the words ask for.
 pub fn run(rt: &HostRuntime, job: Job) -> Result<(), JobFault>
-    requires { IsInRange job }
+    requires { IsJobInRange job }
 {
     match job {
         Job::Check { show, is_strict } => check_show(rt, show.as_str(), is_strict),

@@ -25,7 +25,7 @@ use Rattle.desk.specs.Stands.{keeps_floors}
 use Rattle.desk.specs.Meaning.{dark, channel_level, frame}
 use Rattle.playback.specs.Played.{Move, with_due, moves_by}
 use Rattle.playback.proofs.Due.{with_due-again}
-use Rattle.desk.specs.Played.{Act, order, tick, ended, moves, settings}
+use Rattle.desk.specs.Played.{Act, order, tick, ticks_since_end, moves, settings}
 
 -- over a playback level, what submasters and groups make of a dark one
 over : (playback floor : ℕ) → max playback (max 0 floor) ≡ max playback floor
@@ -113,14 +113,16 @@ drawn_alike patch channels level other same grand frames drawn = λ ordinal lt.
     ∙ ap Some (frame_of-same patch channels level other same grand ordinal)
 
 -- before End, the frame is what the levels make
-pub live_frame_is : (show : Tables) (history : List Act) (moment ordinal : ℕ) → ended history ≡ None
+pub live_frame_is : (show : Tables) (history : List Act) (moment ordinal : ℕ)
+    → ticks_since_end history ≡ None
     → frame show history moment ordinal ≡ frame_of show.patch (channel_level show history moment)
     (grand_after (settings history)) ordinal
 unfolding frame
 live_frame_is show history moment ordinal live = rw live refl
 
 -- a tick makes the moves that are due by its moment, and then none is
-pub channel_level-tick : (show : Tables) (history : List Act) (moment : ℕ) → ended history ≡ None
+pub channel_level-tick : (show : Tables) (history : List Act) (moment : ℕ)
+    → ticks_since_end history ≡ None
     → channel_level show (record { moment = moment; call = tick } ∷ history) moment
     ≡ channel_level show history moment
 channel_level-tick show history moment live =

@@ -10,7 +10,7 @@ use Rattle.show.specs.Readers.{slot_of}
 use Rattle.show.specs.Tables.{Tables}
 use Rattle.masters.specs.Settings.{grand_after}
 use Rattle.patch.specs.Frame.{dimmer_slot, frame_of}
-use Rattle.desk.specs.Played.{Call, order, tick, Act, ended, settings}
+use Rattle.desk.specs.Played.{Call, order, tick, Act, ticks_since_end, settings}
 use Rattle.desk.specs.Meaning.{dark, frame, latest_frame, channel_level}
 
 -- what holds of the dark frame, and of each that levels make
@@ -18,7 +18,8 @@ module _ (P : List ℕ → Type 0) (s : Tables) (k : ℕ) (at_dark : P dark)
     (drawn : (level : ℕ → ℕ) (grand : ℕ) → P (frame_of s.patch level grand k)) where
   each_frame : (h : List Act) (t : ℕ) → P (frame s h t k)
   unfolding frame
-  each_frame h t = cond_both (is_some (ended h)) dark (frame_of s.patch (channel_level s h t)
+  each_frame h t =
+      cond_both (is_some (ticks_since_end h)) dark (frame_of s.patch (channel_level s h t)
       (grand_after (settings h)) k) P (λ _. at_dark)
       (λ _. drawn (channel_level s h t) (grand_after (settings h)))
 

@@ -6,7 +6,7 @@ use Rattle.show.specs.Numbers.{is_channel}
 use Rattle.show.specs.Tables.{PatchMap, Tables}
 use Rattle.fade.specs.Level.{Start}
 use Rattle.playback.specs.Played.{Move, moves_by, playback_level, with_due}
-use Rattle.playback.specs.Playing.{Playing}
+use Rattle.playback.specs.Playing.{PlaybackState}
 use Rattle.playback.specs.Stands as playback
 use Rattle.playback.proofs.Places.{none_made, is_by-before}
 use Rattle.masters.specs.Merged.{merged_after}
@@ -14,14 +14,15 @@ use Rattle.masters.specs.Settings as masters
 use Rattle.masters.specs.Settings.{Setting, grand_after}
 use Rattle.patch.specs.Frame.{listed_level, AreDrawn}
 use Rattle.desk.specs.DeskState.{DeskState}
-use Rattle.desk.specs.Played.{Act, ended, moves, settings, tick}
+use Rattle.desk.specs.Played.{Act, ticks_since_end, moves, settings, tick}
 use Rattle.desk.specs.Meaning.{channel_level}
 use Rattle.desk.specs.Stands.{StandsFor}
 use Rattle.desk.specs.Ticks.{IsKeptBut}
 use Rattle.desk.proofs.Drawn.{drawn_same, live_frame_is, merged_level, channel_level-tick}
 
 -- a desk after a tick, by what it then plays and shows
-abbrev ticked_desk : {F : Type 0} → ℕ → DeskState F → Playing F → List (List ℕ) → Bool → DeskState F
+abbrev ticked_desk : {F : Type 0} → ℕ → DeskState F → PlaybackState F → List (List ℕ) → Bool
+    → DeskState F
 ticked_desk moment desk playing frames is_kept = record desk {
   playback = playing;
   last_moment = moment;
@@ -33,7 +34,7 @@ ticked_desk moment desk playing frames is_kept = record desk {
 module _ {F : Type 0} {fader_stands_for : F → List Start → Type 0} {show : Tables} {base : ℕ}
     {history : List Act} {desk : DeskState F} (moment : ℕ)
     (stands : StandsFor fader_stands_for show base desk history) (live : desk.ended ≡ None) where
-  none_ended : ended history ≡ None
+  none_ended : ticks_since_end history ≡ None
   none_ended = sym stands.ended_is ∙ live
 
   -- the playback was not stopped
@@ -44,7 +45,7 @@ module _ {F : Type 0} {fader_stands_for : F → List Start → Type 0} {show : T
       (is_some e)) none_ended stands.playback_stands
 
   -- frames that are drawn at the tick's levels are what the show means
-  pub ticked : (playing : Playing F) (frames : List (List ℕ)) (is_kept : Bool)
+  pub ticked : (playing : PlaybackState F) (frames : List (List ℕ)) (is_kept : Bool)
       → playback.StandsFor fader_stands_for show playing
       (with_due show moment (moves show history)) false
       → AreDrawn show.patch (channel_level show history moment) (grand_after (settings history))
@@ -68,7 +69,7 @@ module _ {F : Type 0} {fader_stands_for : F → List Start → Type 0} {show : T
   }
 
   -- frames that a rig draws of a playback that has moved on, over the floors that are kept
-  pub redrawn : (latest : F → ℕ) {playing : Playing F} {floors : List ℕ} {patch : PatchMap}
+  pub redrawn : (latest : F → ℕ) {playing : PlaybackState F} {floors : List ℕ} {patch : PatchMap}
       {grand : ℕ} {drawn frames : List (List ℕ)} (is_kept : Bool) → IsTrue desk.are_floors
       → ((made : List Move) (stopped : Bool)
       → playback.StandsFor fader_stands_for desk.show desk.playback made stopped

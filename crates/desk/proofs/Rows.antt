@@ -17,7 +17,8 @@ use Rattle.desk.specs.declared.answer.Refused.TheVariants.{TooSoon, AtEnd, AtSta
 use Rattle.desk.specs.declared.answer.Refused.TheVariants.{NoSub, NoGroup}
 use Rattle.playback.specs.Played.{Move, with_due}
 use Rattle.playback.proofs.Due.{with_due-none}
-use Rattle.desk.specs.Played.{Call, order, tick, Act, ended, settings, refusal, ticked}
+use Rattle.desk.specs.Played.{Call, order, tick, Act, ticks_since_end, settings, refusal}
+use Rattle.desk.specs.Played.{tick_answer}
 use Rattle.desk.specs.Meaning.{dark, channel_level, frame, latest_frame}
 
 -- cue 1 brings channel 1 to full over five seconds; cue 2 brings channel 2 to full over two, and
@@ -48,7 +49,8 @@ at moment call = record { moment = moment; call = call }
 slot : Tables → List Act → ℕ → ℕ → ℕ
 slot show history moment dimmer = get_or (frame show history moment 0) (dimmer - 1) 0
 
-slot_is : (show : Tables) (history : List Act) (moment place dimmer : ℕ) → ended history ≡ None
+slot_is : (show : Tables) (history : List Act) (moment place dimmer : ℕ)
+    → ticks_since_end history ≡ None
     → 1 + place ≡ dimmer → place < 512
     → slot show history moment dimmer ≡ dimmer_slot show.patch (channel_level show history moment)
     (grand_after (settings history)) dimmer
@@ -127,9 +129,10 @@ module _ (show : Tables) (is : IsSmall show) where
   play_refusals : (refusal show [] (at 0 (order Back)) ≡ Some AtStart)
       × (refusal show (end_at 0) (at 0 (order Go)) ≡ Some Ended)
       × (refusal show (end_at 0) (at 0 tick) ≡ None)
-      × (ticked (ended []) ≡ Live) × (ticked (ended (end_at 0)) ≡ Ending 1)
-      × (ticked (ended (at 0 tick ∷ end_at 0)) ≡ Ending 2)
-      × (ticked (ended (at 23 tick ∷ at 0 tick ∷ end_at 0)) ≡ Ending 3)
+      × (tick_answer (ticks_since_end []) ≡ Live)
+      × (tick_answer (ticks_since_end (end_at 0)) ≡ Ending 1)
+      × (tick_answer (ticks_since_end (at 0 tick ∷ end_at 0)) ≡ Ending 2)
+      × (tick_answer (ticks_since_end (at 23 tick ∷ at 0 tick ∷ end_at 0)) ≡ Ending 3)
       × (refusal show (at 23 tick ∷ at 0 tick ∷ end_at 0) (at 46 tick) ≡ None)
       × (refusal show three_ticks (at 69 tick) ≡ Some Ended)
   unfolding end_at three_ticks
@@ -153,14 +156,14 @@ module _ (show : Tables) (is : IsSmall show) where
   dark_after_end = refl
 
   -- dimmers 1 and 2 at full
-  slot_1 : (history : List Act) (moment level grand : ℕ) → ended history ≡ None
+  slot_1 : (history : List Act) (moment level grand : ℕ) → ticks_since_end history ≡ None
       → channel_level show history moment 1 ≡ level → grand_after (settings history) ≡ grand
       → slot show history moment 1 ≡ slot_of level grand 255
   slot_1 history moment level grand live level_is grand_is =
       slot_is show history moment 0 1 live refl (lit< tt)
       ∙ rw (map.get-entries show.patch 1, is.patch_is, level_is, grand_is) refl
 
-  slot_2 : (history : List Act) (moment level grand : ℕ) → ended history ≡ None
+  slot_2 : (history : List Act) (moment level grand : ℕ) → ticks_since_end history ≡ None
       → channel_level show history moment 2 ≡ level → grand_after (settings history) ≡ grand
       → slot show history moment 2 ≡ slot_of level grand 255
   slot_2 history moment level grand live level_is grand_is =

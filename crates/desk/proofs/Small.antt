@@ -17,7 +17,7 @@ use Rattle.desk.specs.declared.command.Command.TheVariants.{Go, Sub}
 use Rattle.playback.specs.Played.{Move, with_due}
 use Rattle.playback.proofs.Due.{with_due-none}
 use Rattle.playback.proofs.Places.{move_to}
-use Rattle.desk.specs.Played.{Act, ended, order, settings, tick}
+use Rattle.desk.specs.Played.{Act, ticks_since_end, order, settings, tick}
 use Rattle.desk.specs.Meaning.{channel_level, frame, universe_numbers}
 
 -- the levels of a cue or a submaster that has one channel at one level
@@ -119,7 +119,8 @@ frame_at level grand =
     (range_with_len 1 512)) (λ i d. (map.get-entries small.patch d
     ∙ ap (map.find nat_cmp d) patch_is) i) ∙ refl
 
-frame_first : (h : List Act) (t level : ℕ) → ended h ≡ None → grand_after (settings h) ≡ 255
+frame_first : (h : List Act) (t level : ℕ) → ticks_since_end h ≡ None
+    → grand_after (settings h) ≡ 255
     → map (channel_level small h t) (1 ∷ 2 ∷ []) ≡ level ∷ 0 ∷ []
     → frame small h t 0 ≡ first_at (slot_of level 255 255)
 unfolding frame

@@ -11,7 +11,7 @@ use Rattle.std.proofs.lemmas.List.Elements.{All-map, All-filter, All-contains}
 use Rattle.std.proofs.lemmas.List.FromFn.{length-range_with_len, get_or-range_with_len}
 use Rattle.std.proofs.lemmas.List.Kept.{IsStrictlyIncreasing-filter}
 use Rattle.std.proofs.lemmas.List.Sums.{AllPass-from_list_all}
-use Rattle.show.specs.Readers.{has_dimmer_in, universes_of}
+use Rattle.show.specs.Readers.{has_dimmer_in, patch_ordinals}
 use Rattle.show.specs.Tables.{PatchMap}
 use Rattle.show.proofs.Sorted.{and_right, from_true, to_true}
 use Rattle.patch.specs.Frame.{is_universe, is_base}
@@ -19,19 +19,19 @@ use Rattle.desk.specs.Meaning.{universe_numbers}
 
 -- each ordinal has a number
 pub ordinals_in : (patch : PatchMap) (base : ℕ) → is_base patch base ≡ true
-    → All (λ ordinal. IsTrue (is_universe (base + ordinal))) (universes_of patch)
+    → All (λ ordinal. IsTrue (is_universe (base + ordinal))) (patch_ordinals patch)
 unfolding is_base
 ordinals_in patch base is = AllPass-from_list_all (λ ordinal. is_universe (base + ordinal))
-    (universes_of patch) (to_true (and_right _ _ (from_true is)))
+    (patch_ordinals patch) (to_true (and_right _ _ (from_true is)))
 
 pub numbers_in : (patch : PatchMap) (base : ℕ) → is_base patch base ≡ true
     → All (λ number. IsTrue (is_universe number)) (universe_numbers patch base)
 unfolding universe_numbers
 numbers_in patch base is = All-map (λ number. IsTrue (is_universe number))
-    (λ ordinal. base + ordinal) (universes_of patch) (ordinals_in patch base is)
+    (λ ordinal. base + ordinal) (patch_ordinals patch) (ordinals_in patch base is)
 
 -- an ordinal is below 16
-pub ordinals_few : (patch : PatchMap) → All (λ ordinal. ordinal < 16) (universes_of patch)
+pub ordinals_few : (patch : PatchMap) → All (λ ordinal. ordinal < 16) (patch_ordinals patch)
 ordinals_few patch =
     All-filter (has_dimmer_in patch) (λ ordinal. ordinal < 16) (range_with_len 0 16)
     (λ k d lt. let few : k < 16 = omega (arith, length-range_with_len 0 16) in
@@ -43,8 +43,8 @@ pub number_of : (patch : PatchMap) (base number : ℕ) → Contains (universe_nu
 unfolding universe_numbers
 number_of patch base number contains =
     All-contains (λ n. (base ≤ n) × (n - base < 16)) (universe_numbers patch base) number
-    (All-map (λ n. (base ≤ n) × (n - base < 16)) (λ ordinal. base + ordinal) (universes_of patch)
-    (λ k d lt. let few : get_or (universes_of patch) k d < 16 = ordinals_few patch k d lt in
+    (All-map (λ n. (base ≤ n) × (n - base < 16)) (λ ordinal. base + ordinal) (patch_ordinals patch)
+    (λ k d lt. let few : get_or (patch_ordinals patch) k d < 16 = ordinals_few patch k d lt in
     (omega arith, omega arith))) contains
 
 -- what a call says of its success, where it succeeds
@@ -52,7 +52,7 @@ pub when_ok : {T E P : Type 0} (result : Result T E) → IsOk result → OnOk re
 when_ok (Ok value) is says = says
 when_ok (Err error) is says = absurd (false≢true is)
 
-rising : (patch : PatchMap) → IsStrictlyIncreasing (universes_of patch)
+rising : (patch : PatchMap) → IsStrictlyIncreasing (patch_ordinals patch)
 rising patch =
     IsStrictlyIncreasing-filter (has_dimmer_in patch) (range_with_len 0 16)
     (λ k lt. let few : k + 1 < 16 = omega (arith, length-range_with_len 0 16) in
@@ -67,18 +67,19 @@ pub numbers_rise : (patch : PatchMap) (base : ℕ)
 unfolding universe_numbers
 numbers_rise patch base = λ k lt.
     let f : ℕ → ℕ = λ (ordinal : ℕ). base + ordinal in
-    let within : k + 1 < length (universes_of patch) =
-    omega (arith, length-map (universes_of patch) f) in
-    let before : k < length (universes_of patch) = omega arith in
+    let within : k + 1 < length (patch_ordinals patch) =
+    omega (arith, length-map (patch_ordinals patch) f) in
+    let before : k < length (patch_ordinals patch) = omega arith in
     omega (
       arith,
       rising patch k within,
-      get_or-map f (universes_of patch) k 0 0 before,
-      get_or-map f (universes_of patch) (k + 1) 0 0 within,
+      get_or-map f (patch_ordinals patch) k 0 0 before,
+      get_or-map f (patch_ordinals patch) (k + 1) 0 0 within,
     )
 
 -- the numbers, from the ordinals
-pub numbers_are : (patch : PatchMap) (base : ℕ) (ordinals : List ℕ) → ordinals ≡ universes_of patch
+pub numbers_are : (patch : PatchMap) (base : ℕ) (ordinals : List ℕ) → ordinals
+    ≡ patch_ordinals patch
     → map (λ ordinal. base + ordinal) ordinals ≡ universe_numbers patch base
 unfolding universe_numbers
 numbers_are patch base ordinals are = ap (map (λ (ordinal : ℕ). base + ordinal)) are
@@ -87,7 +88,7 @@ below_top : (number : ℕ) → IsTrue (is_universe number) → number < 65536
 below_top number is = grind (arith, nat_tests)
 
 pub number_fits : (patch : PatchMap) (base : ℕ) → is_base patch base ≡ true → (ordinals : List ℕ)
-    → ordinals ≡ universes_of patch → (k : ℕ) → k < length ordinals
+    → ordinals ≡ patch_ordinals patch → (k : ℕ) → k < length ordinals
     → base + get_or ordinals k 0 < 65536
 number_fits patch base is ordinals are k lt =
     let all : All (λ ordinal. IsTrue (is_universe (base + ordinal))) ordinals =

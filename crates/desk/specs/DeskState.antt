@@ -1,7 +1,7 @@
 -- What a desk keeps.
 use Rattle.std.specs.Prelude.{ℕ, Bool, List, Option}
 use Rattle.show.specs.Tables.{Tables}
-use Rattle.playback.specs.Playing.{Playing}
+use Rattle.playback.specs.Playing.{PlaybackState}
 use Rattle.masters.specs.Settings.{Bytes}
 
 -- the show and the number of the universe of ordinal 0; the playback and the masters; the moments
@@ -11,7 +11,7 @@ use Rattle.masters.specs.Settings.{Bytes}
 pub record DeskState (F : Type 0) : Type 0 where
   pub show : Tables
   pub base : ℕ
-  pub playback : Playing F
+  pub playback : PlaybackState F
   pub masters : Bytes
   pub last_moment : ℕ
   pub last_tick : Option ℕ

@@ -1,12 +1,12 @@
 -- What a show means at a tick: the frames of its universes, under the calls before it.
 use Rattle.std.specs.Prelude.{ℕ, ◌+◌, List, [], ◌∷◌, is_some, map, replicate, if◌then◌else◌}
-use Rattle.show.specs.Readers.{universes_of}
+use Rattle.show.specs.Readers.{patch_ordinals}
 use Rattle.show.specs.Tables.{PatchMap, Tables}
 use Rattle.playback.specs.Played.{playback_level, with_due}
 use Rattle.masters.specs.Settings.{grand_after}
 use Rattle.masters.specs.Merged.{merged_after}
 use Rattle.patch.specs.Frame.{frame_of}
-use Rattle.desk.specs.Played.{Call, order, tick, Act, ended, moves, settings}
+use Rattle.desk.specs.Played.{Call, order, tick, Act, ticks_since_end, moves, settings}
 
 -- every slot at 0
 abbrev pub dark : List ℕ
@@ -24,7 +24,7 @@ channel_level show history moment channel =
 -- carries is ignored)
 unfoldable pub frame : Tables → List Act → ℕ → ℕ → List ℕ
 frame show history moment ordinal =
-    if is_some (ended history) then dark
+    if is_some (ticks_since_end history) then dark
     else frame_of show.patch (channel_level show history moment) (grand_after (settings history))
     ordinal
 
@@ -41,4 +41,4 @@ latest_frame show (act ∷ older) ordinal =
 -- the numbers of the universes (E1.31, Universe) that have a patched dimmer: the base plus the
 -- ordinal
 unfoldable pub universe_numbers : PatchMap → ℕ → List ℕ
-universe_numbers patch base = map (λ ordinal. base + ordinal) (universes_of patch)
+universe_numbers patch base = map (λ ordinal. base + ordinal) (patch_ordinals patch)

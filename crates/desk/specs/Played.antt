@@ -33,9 +33,9 @@ pub record Act : Type 0 where
 -- ---- what a history leaves
 
 -- the moment of the last call; 0 before the first
-abbrev pub last_moment : List Act → ℕ
-last_moment [] = 0
-last_moment (act ∷ older) = act.moment
+abbrev pub last_act_moment : List Act → ℕ
+last_act_moment [] = 0
+last_act_moment (act ∷ older) = act.moment
 
 -- the moment of the last tick, where there was one
 abbrev pub last_tick : List Act → Option ℕ
@@ -52,9 +52,9 @@ ended_by tick (Some ticks) = Some (ticks + 1)
 ended_by _ ended = ended
 
 -- how many ticks there were after End; none where there was no End
-abbrev pub ended : List Act → Option ℕ
-ended [] = None
-ended (act ∷ older) = ended_by act.call (ended older)
+abbrev pub ticks_since_end : List Act → Option ℕ
+ticks_since_end [] = None
+ticks_since_end (act ∷ older) = ended_by act.call (ticks_since_end older)
 
 -- the cue that a call moves to, from the current one
 abbrev pub target : Tables → Option ℕ → Call → Option ℕ
@@ -79,7 +79,7 @@ moved_to (Some n) moment time older = record { cue = n; moment = moment; time = 
 abbrev pub moves : Tables → List Act → List Move
 moves show [] = []
 moves show (act ∷ older) =
-    let made = moves_by show (is_some (ended older)) act.moment (moves show older) in
+    let made = moves_by show (is_some (ticks_since_end older)) act.moment (moves show older) in
     moved_to (target show (current_after made) act.call) act.moment (own_time act.call) made
 
 -- a setting more, where the call sets a master
@@ -98,10 +98,10 @@ settings (act ∷ older) = set_by act.call (settings older)
 
 -- after End: no command, and no tick after the third (E1.31, Options: three packets with
 -- Stream_Terminated end a stream)
-abbrev pub is_over : Option ℕ → Call → Bool
-is_over None call = false
-is_over (Some ticks) (order command) = true
-is_over (Some ticks) tick = nat_le 3 ticks
+abbrev pub is_after_end : Option ℕ → Call → Bool
+is_after_end None call = false
+is_after_end (Some ticks) (order command) = true
+is_after_end (Some ticks) tick = nat_le 3 ticks
 
 -- a tick less than 23 ms after the last one (E1.31, Transmission Rate: no faster than DMX512-A,
 -- whose full packet takes 22.7 ms)
@@ -119,34 +119,35 @@ is_untimely last moment over soon TooSoon = soon
 is_untimely last moment over soon _ = false
 
 -- the first of them that applies, in their order
-abbrev pub untimely : ℕ → ℕ → Bool → Bool → Option Refused
-untimely last moment over soon =
+abbrev pub time_refusal : ℕ → ℕ → Bool → Bool → Option Refused
+time_refusal last moment over soon =
     find (is_untimely last moment over soon) (Backwards ∷ MomentTooLarge ∷ Ended ∷ TooSoon ∷ [])
 
 -- what a command asks for and the show does not have, refusal by refusal: a cue to go to, a
 -- submaster or a group
-abbrev pub lacks : Tables → Option ℕ → Call → Refused → Bool
-lacks show current (order Go) AtEnd = is_none (go_target show.cues current)
-lacks show current (order Back) AtStart = is_none (back_target show.cues current)
-lacks show current (order (Goto n)) NoCue = is_none (goto_target show.cues n)
-lacks show current (order (GotoIn n time)) NoCue = is_none (goto_target show.cues n)
-lacks show current (order (Sub n byte)) NoSub = not (map.contains_key show.subs n)
-lacks show current (order (Group n byte)) NoGroup = not (map.contains_key show.groups n)
-lacks show current call _ = false
+abbrev pub command_lacks : Tables → Option ℕ → Call → Refused → Bool
+command_lacks show current (order Go) AtEnd = is_none (go_target show.cues current)
+command_lacks show current (order Back) AtStart = is_none (back_target show.cues current)
+command_lacks show current (order (Goto n)) NoCue = is_none (goto_target show.cues n)
+command_lacks show current (order (GotoIn n time)) NoCue = is_none (goto_target show.cues n)
+command_lacks show current (order (Sub n byte)) NoSub = not (map.contains_key show.subs n)
+command_lacks show current (order (Group n byte)) NoGroup = not (map.contains_key show.groups n)
+command_lacks show current call _ = false
 
 -- the first of them that applies, in their order
-abbrev pub lacking : Tables → Option ℕ → Call → Option Refused
-lacking show current call =
-    find (lacks show current call) (AtEnd ∷ AtStart ∷ NoCue ∷ NoSub ∷ NoGroup ∷ [])
+abbrev pub lack_refusal : Tables → Option ℕ → Call → Option Refused
+lack_refusal show current call =
+    find (command_lacks show current call) (AtEnd ∷ AtStart ∷ NoCue ∷ NoSub ∷ NoGroup ∷ [])
 
 -- why a call is refused after a history: the lowest refusal that applies, if any does. The current
 -- cue is that after the moves due by the call's moment
 abbrev pub refusal : Tables → List Act → Act → Option Refused
 refusal show history act =
     option_or
-    (untimely (last_moment history) act.moment (is_over (ended history) act.call)
+    (time_refusal (last_act_moment history) act.moment
+    (is_after_end (ticks_since_end history) act.call)
     (is_soon (last_tick history) act.moment act.call))
-    (lacking show (current_after (with_due show act.moment (moves show history))) act.call)
+    (lack_refusal show (current_after (with_due show act.moment (moves show history))) act.call)
 
 -- the answer of a call: its refusal, or else this
 abbrev pub outcome : {A : Type 0} → Option Refused → A → Result A Refused
@@ -154,6 +155,6 @@ outcome None answer = Ok answer
 outcome (Some refused) answer = Err refused
 
 -- what an accepted tick answers, after so many ticks since End
-abbrev pub ticked : Option ℕ → Ticked
-ticked None = Live
-ticked (Some ticks) = Ending (ticks + 1)
+abbrev pub tick_answer : Option ℕ → Ticked
+tick_answer None = Live
+tick_answer (Some ticks) = Ending (ticks + 1)

@@ -12,7 +12,7 @@ use Rattle.patch.specs.Frame.{listed_level, AreDrawn}
 use Rattle.desk.specs.declared.command.Command.{Command}
 use Rattle.desk.specs.declared.command.Command.TheVariants.{Sub, Group}
 use Rattle.desk.specs.DeskState.{DeskState}
-use Rattle.desk.specs.Played.{Act, last_moment, last_tick, ended, moves, settings}
+use Rattle.desk.specs.Played.{Act, last_act_moment, last_tick, ticks_since_end, moves, settings}
 use Rattle.desk.specs.Meaning.{channel_level, latest_frame}
 
 -- a command sets no submaster and no group, so that their levels stay
@@ -28,11 +28,11 @@ pub record StandsFor {F : Type 0} (fader_stands_for : F → List Start → Type 
   pub show_is : desk.show ≡ show
   pub base_is : desk.base ≡ base
   pub playback_stands : playback.StandsFor fader_stands_for show desk.playback (moves show history)
-      (is_some (ended history))
+      (is_some (ticks_since_end history))
   pub masters_stand : masters.StandsFor desk.masters (settings history)
-  pub moment_is : desk.last_moment ≡ last_moment history
+  pub moment_is : desk.last_moment ≡ last_act_moment history
   pub tick_is : desk.last_tick ≡ last_tick history
-  pub ended_is : desk.ended ≡ ended history
+  pub ended_is : desk.ended ≡ ticks_since_end history
   pub frames_are : (ordinal : ℕ) → ordinal < 16
       → slice_get desk.frames ordinal ≡ Some (latest_frame show history ordinal)
   -- the floors that are kept are the levels of the channels over a dark playback

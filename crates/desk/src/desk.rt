@@ -6,15 +6,15 @@ ghost use Rattle.std.specs.List.Sorted.{IsStrictlyIncreasing};
 ghost use Rattle.show.specs.Numbers.{is_channel};
 ghost use Rattle.show.specs.Tables.{Tables};
 ghost use Rattle.show.specs.contracts.show.Show as show_model;
-ghost use Rattle.playback.specs.Placed.{IsAt};
+ghost use Rattle.playback.specs.Placed.{IsPlaceAfter};
 ghost use Rattle.playback.specs.Played.{current_after, with_due};
 ghost use Rattle.playback.specs.Stands as playback_stands;
 ghost use Rattle.masters.specs.Settings as masters_stand;
 ghost use Rattle.patch.specs.Frame.{is_universe, is_base, frames_in};
 ghost use Rattle.patch.specs.declared.fault.RigFault.TheVariants.{Universe};
-ghost use Rattle.desk.specs.Played.{Act, order, tick, ended, ended_by, moves, settings};
-ghost use Rattle.desk.specs.Played.{untimely, is_over, is_soon, lacking, refusal};
-ghost use Rattle.desk.specs.Played.{outcome, ticked};
+ghost use Rattle.desk.specs.Played.{Act, order, tick, ticks_since_end, ended_by, moves, settings};
+ghost use Rattle.desk.specs.Played.{time_refusal, is_after_end, is_soon, lack_refusal, refusal};
+ghost use Rattle.desk.specs.Played.{outcome, tick_answer};
 ghost use Rattle.desk.specs.DeskState.{DeskState};
 ghost use Rattle.desk.specs.Inside.{IsDesk};
 ghost use Rattle.desk.specs.Meaning.{latest_frame, universe_numbers};
@@ -165,7 +165,7 @@ impl<F: Fader> Desk<F> {
             StandsFor F.stands_for show base self.new (act ∷ history)) }
         ensures unchanged { OnErr result (self.new ≡ self.old) }
     {
-        if let Some(refused) = untimely(self.last_moment, moment, self.ended.is_some(), false) {
+        if let Some(refused) = time_refusal(self.last_moment, moment, self.ended.is_some(), false) {
             return Err(refused);
         }
         carry_out(
@@ -192,7 +192,7 @@ impl<F: Fader> Desk<F> {
         ensures answer { (show : Tables) (base : ℕ) (history : List Act)
             → StandsFor F.stands_for show base self.old history
             → let act : Act = record { moment = moment; call = tick } in
-            result ≡ outcome (refusal show history act) (ticked (ended history)) }
+            result ≡ outcome (refusal show history act) (tick_answer (ticks_since_end history)) }
         ensures stands { OnOk result ((show : Tables) (base : ℕ) (history : List Act)
             → StandsFor F.stands_for show base self.old history
             → let act : Act = record { moment = moment; call = tick } in
@@ -201,7 +201,7 @@ impl<F: Fader> Desk<F> {
     {
         let over = is_over(self.ended);
         let soon = is_soon(self.last_tick, moment);
-        if let Some(refused) = untimely(self.last_moment, moment, over, soon) {
+        if let Some(refused) = time_refusal(self.last_moment, moment, over, soon) {
             return Err(refused);
         }
         match self.ended {
@@ -399,7 +399,7 @@ impl<F: Fader> Desk<F> {
     pub fn place(&self) -> Place
         ensures { (show : Tables) (base : ℕ) (history : List Act)
             → StandsFor F.stands_for show base self.now history
-            → IsAt show result (moves show history) (is_some (ended history)) }
+            → IsPlaceAfter show result (moves show history) (is_some (ticks_since_end history)) }
     {
         self.playback.place()
     }
@@ -435,8 +435,8 @@ fn universe_numbers(show: &Show, base: u16) -> ArrayVec<u16, 16>
 }
 
 // The lowest refusal that the moment of a call gives.
-fn untimely(last: u64, moment: u64, over: bool, soon: bool) -> Option<Refused>
-    ensures { result ≡ untimely last moment over soon }
+fn time_refusal(last: u64, moment: u64, over: bool, soon: bool) -> Option<Refused>
+    ensures { result ≡ time_refusal last moment over soon }
 {
     if moment < last {
         Some(Refused::Backwards)
@@ -453,7 +453,7 @@ fn untimely(last: u64, moment: u64, over: bool, soon: bool) -> Option<Refused>
 
 // Whether the ticks that end the streams are over.
 fn is_over(ended: Option<u8>) -> bool
-    ensures { result ≡ is_over ended tick }
+    ensures { result ≡ is_after_end ended tick }
 {
     ended.is_some_and(|ticks| ticks >= ENDING_TICKS)
 }
@@ -499,13 +499,13 @@ fn carry_out<F: Fader>(
         → playback_stands.StandsFor F.stands_for show.now playback.old (moves show.now history)
         false
         → let current = current_after (with_due show.now moment (moves show.now history)) in
-        result ≡ outcome (lacking show.now current (order command)) tt }
-    ensures playback { OnOk result ((history : List Act) → ended history ≡ None
+        result ≡ outcome (lack_refusal show.now current (order command)) tt }
+    ensures playback { OnOk result ((history : List Act) → ticks_since_end history ≡ None
         → playback_stands.StandsFor F.stands_for show.now playback.old (moves show.now history)
         false
         → let act : Act = record { moment = moment; call = order command } in
         playback_stands.StandsFor F.stands_for show.now playback.new
-        (moves show.now (act ∷ history)) (is_some (ended (act ∷ history)))) }
+        (moves show.now (act ∷ history)) (is_some (ticks_since_end (act ∷ history)))) }
     ensures masters { OnOk result ((history : List Act)
         → masters_stand.StandsFor masters.old (settings history)
         → let act : Act = record { moment = moment; call = order command } in

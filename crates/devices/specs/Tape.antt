@@ -7,8 +7,8 @@ pub record Tape (X : Type 0) : Type 0 where
   pub failures : ℕ
 
 -- these items, while so many calls failed
-abbrev pub given : {X : Type 0} → List X → ℕ → Tape X
-given items failures = record { items = items; failures = failures }
+abbrev pub items_tape : {X : Type 0} → List X → ℕ → Tape X
+items_tape items failures = record { items = items; failures = failures }
 
 -- it took or gave these too, and no call failed
 abbrev pub with_more : {X : Type 0} → Tape X → List X → Tape X

@@ -7,7 +7,7 @@ use Rattle.std.proofs.lemmas.Nat.{le-div, div_below, div-add-mod', mod_below, mu
 use Rattle.std.proofs.lemmas.Bool.Decides.{nat_tests}
 use Rattle.show.specs.declared.rate.Rate.{Rate}
 use Rattle.fade.specs.Level.{split_fade}
-use Rattle.fade.specs.Share.{gone, moved, IsShareOf}
+use Rattle.fade.specs.Share.{way_gone, level_between, IsShareOf}
 
 -- a quotient from its bounds
 between : (n k q : ℕ) → 0 < k → q * k ≤ n → n < (q + 1) * k → n / k ≡ q
@@ -103,12 +103,12 @@ falls false false a b x le = refl
 -- shares of both ways move a channel as its fade does
 pub moved_split_fade : (a b : ℕ) (up down : Rate) (elapsed rising falling : ℕ)
     → a < 2 ^ 16 → b < 2 ^ 16 → IsShareOf up elapsed rising → IsShareOf down elapsed falling
-    → moved a b rising falling ≡ split_fade a b up down elapsed
-unfolding split_fade moved gone
+    → level_between a b rising falling ≡ split_fade a b up down elapsed
+unfolding split_fade level_between way_gone
 moved_split_fade a b up down elapsed rising falling small_a small_b is_up is_down =
     go (nat_lt a b) refl where
       go : (r : Bool) → nat_lt a b ≡ r
-          → moved a b rising falling ≡ split_fade a b up down elapsed
+          → level_between a b rising falling ≡ split_fade a b up down elapsed
       go true is =
           let lt : a < b = grind (arith, nat_tests) in
           rw (is, is_up.exact (b - a) (omega arith))
@@ -121,8 +121,8 @@ moved_split_fade a b up down elapsed rising falling small_a small_b is_up is_dow
           ((a - b) * (elapsed - down.delay) / down.time) le)
 
 -- a channel that is where it goes stays there
-pub moved_still : (b rising falling : ℕ) → moved b b rising falling ≡ b
-unfolding moved
+pub moved_still : (b rising falling : ℕ) → level_between b b rising falling ≡ b
+unfolding level_between
 moved_still b rising falling =
     let is : nat_lt b b ≡ false = grind (arith, nat_tests) in
     let none : b - b ≡ 0 = omega arith in

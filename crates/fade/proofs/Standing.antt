@@ -9,12 +9,12 @@ use Rattle.show.specs.Numbers.{AreLevels}
 use Rattle.show.specs.declared.rate.Rate.{Rate}
 use Rattle.fade.specs.Level.{split_fade}
 use Rattle.fade.specs.Fading.{Fading, IsFading, level_at}
-use Rattle.fade.specs.Stepping.{Stands, AreChannels, IsUnlisted}
+use Rattle.fade.specs.Stepping.{LevelsStand, AreChannels, IsUnlisted}
 use Rattle.fade.proofs.Fade.{split_fade_still, split_fade_full, split_fade_zeros}
 
 -- its levels are in their range
 pub stands_full : (f : Fading) (levels moving : List ℕ) (count : ℕ) → IsFading f
-    → Stands f levels moving count → AreLevels levels
+    → LevelsStand f levels moving count → AreLevels levels
 stands_full f levels moving count fading s = λ k d lt.
     let within : k < length f.from = omega (arith, s.levels_length) in
     let from_in : slice_index f.from k ≤ 65025 = fading.from_full k 0 within in
@@ -40,7 +40,7 @@ fading_new f n from to few in_order =
 
 pub stands_new : (f : Fading) (levels moving : List ℕ) (n : ℕ) → f.from ≡ replicate n 0
     → f.to ≡ replicate n 0 → levels ≡ replicate n 0 → moving ≡ replicate n 0
-    → Stands f levels moving 0
+    → LevelsStand f levels moving 0
 stands_new f levels moving n from to are none =
     let size : length f.from ≡ n = ap length from ∙ length-replicate {A = ℕ} n 0 in
     let dark : (place moment : ℕ) → place < length f.from → level_at f place moment ≡ 0 =
@@ -70,7 +70,7 @@ pub stands_started : (f : Fading) (levels moving : List ℕ) (count : ℕ) → f
     ≡ split_fade (slice_index f.from place) (slice_index f.to place) f.up f.down 0)
     → ((place : ℕ) → place < length f.from → IsUnlisted moving count place
     → slice_index f.from place ≡ slice_index f.to place)
-    → Stands f levels moving count
+    → LevelsStand f levels moving count
 stands_started f levels moving count begins size room count_in listed are others =
     let none : f.latest - f.began ≡ 0 = omega arith in
     record {

@@ -2,7 +2,7 @@
 -- Of use inside the crate: what its public calls answer is said without these.
 use Rattle.fade.specs.declared.course.Course.TheInside.{Inside}
 use Rattle.fade.specs.Fading.{Fading, IsFading}
-use Rattle.fade.specs.Stepping.{Stands}
+use Rattle.fade.specs.Stepping.{LevelsStand}
 
 -- the lists in place of the vectors
 abbrev pub course_view : Inside → Fading
@@ -18,4 +18,4 @@ course_view f = record {
 -- it keeps a fade, and the levels and the list stand for that
 pub record IsCourse (f : Inside) : Type 0 where
   pub fading : IsFading (course_view f)
-  pub stands : Stands (course_view f) f.levels.items f.moving.items f.count
+  pub stands : LevelsStand (course_view f) f.levels.items f.moving.items f.count

@@ -14,7 +14,7 @@ AreChannels moving count channels = (m : ℕ) → m < count
 
 -- each channel's level now is at hand, and each channel that is not among the first so many of the
 -- list stays there
-pub record Stands (f : Fading) (levels moving : List ℕ) (count : ℕ) : Type 0 where
+pub record LevelsStand (f : Fading) (levels moving : List ℕ) (count : ℕ) : Type 0 where
   pub levels_length : length levels ≡ length f.from
   pub moving_length : length moving ≡ length f.from
   pub count_in : count ≤ length f.from

@@ -13,7 +13,7 @@ pub struct Digits {
 
 impl Digits {
     ghost use Rattle.fade.specs.Digits.{share_by};
-    ghost use Rattle.fade.specs.Share.{moved};
+    ghost use Rattle.fade.specs.Share.{level_between};
 
     // The digits of a share.
     pub fn of(share: u64) -> Self
@@ -44,7 +44,7 @@ impl Digits {
 
     // A copy, digit by digit, so that LLVM has each in a number of its own.
     #[inline(always)]
-    pub fn copied(&self) -> Self
+    pub fn copy(&self) -> Self
         ensures { result ≡ self.now }
     {
         Digits {
@@ -86,14 +86,14 @@ impl Digits {
 
     // The level of a channel that goes from `a` to `b`.
     #[inline(always)]
-    #[tactic(auto, unfolding(crate::specs::Share::moved))]
+    #[tactic(auto, unfolding(crate::specs::Share::level_between))]
     pub fn level(a: u16, b: u16, rising: Digits, falling: Digits) -> u16
-        ensures { result ≡ moved a b (share_by rising) (share_by falling) }
+        ensures { result ≡ level_between a b (share_by rising) (share_by falling) }
     {
         let rises = a < b;
         let lower = a.min(b);
         let way = a.max(b) - lower;
-        let gone = Digits::picked(rises, rising, falling).part_of(way);
+        let gone = Digits::choose(rises, rising, falling).part_of(way);
         if rises {
             lower + gone
         } else {
@@ -102,7 +102,7 @@ impl Digits {
     }
 
     #[inline(always)]
-    fn picked(first: bool, a: Digits, b: Digits) -> Digits
+    fn choose(first: bool, a: Digits, b: Digits) -> Digits
         ensures { result ≡ (if first then a else b) }
     {
         Digits {
@@ -120,9 +120,9 @@ impl Digits {
         ensures part { result ≡ way * share_by self / 2 ^ 48 }
         ensures most { result ≤ way }
     {
-        let lower = carried(way, self.low, 0);
-        let middle = carried(way, self.middle, lower);
-        let upper = carried(way, self.high, middle);
+        let lower = carry(way, self.low, 0);
+        let middle = carry(way, self.middle, lower);
+        let upper = carry(way, self.high, middle);
         way * self.whole + upper
     }
 }
@@ -137,7 +137,7 @@ fn pick(first: bool, a: u16, b: u16) -> u16
 // One digit of a product, with what the digit below it carries. Its halves stay in 16 bits, so that
 // LLVM multiplies eight at a time.
 #[inline(always)]
-fn carried(way: u16, digit: u16, below: u16) -> u16
+fn carry(way: u16, digit: u16, below: u16) -> u16
     ensures { result ≡ (way * digit + below) / 2 ^ 16 }
 {
     let low = way.wrapping_mul(digit);

@@ -14,13 +14,13 @@ pub fn divide(levels: &mut [u16], ways: Ways<'_>, up: Rate, down: Rate, elapsed:
 {
     let Ways { from, to } = ways;
     for place in 0..levels.len() {
-        levels[place] = faded(from[place], to[place], up, down, elapsed);
+        levels[place] = level_between(from[place], to[place], up, down, elapsed);
     }
 }
 
 // The level of a channel that goes from `a` to `b`, so long after the start.
 #[tactic(auto, unfolding(crate::specs::Level::split_fade))]
-fn faded(a: u16, b: u16, up: Rate, down: Rate, elapsed: u64) -> u16
+fn level_between(a: u16, b: u16, up: Rate, down: Rate, elapsed: u64) -> u16
     ensures { result ≡ split_fade a b up down elapsed }
 {
     let rate = if a < b { up } else { down };

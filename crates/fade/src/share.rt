@@ -1,6 +1,6 @@
 ghost use Rattle.std.specs.Prelude.{◌≡◌, ◌↔◌, ℕ, ◌+◌, ◌*◌, ◌/◌, ◌^◌, ◌<◌, ◌≤◌, IsTrue};
 ghost use Rattle.fade.specs.Level.{split_fade};
-ghost use Rattle.fade.specs.Share.{IsShareOf, moved};
+ghost use Rattle.fade.specs.Share.{IsShareOf, level_between};
 
 use show::Rate;
 
@@ -20,7 +20,7 @@ impl Shares {
     /// The shares so many milliseconds after the start.
     pub fn at(up: Rate, down: Rate, elapsed: u64) -> Self
         ensures moved { (a b : ℕ) → a < 2 ^ 16 → b < 2 ^ 16
-            → moved a b result.rising result.falling ≡ split_fade a b up down elapsed }
+            → level_between a b result.rising result.falling ≡ split_fade a b up down elapsed }
         ensures over { result.rising ≡ 2 ^ 48 → result.falling ≡ 2 ^ 48
             → (a b later : ℕ) → elapsed ≤ later → split_fade a b up down later ≡ b }
     {
@@ -43,7 +43,7 @@ impl Shares {
     /// The level of a channel that goes from `a` to `b`.
     #[inline(always)]
     pub fn level(&self, a: u16, b: u16) -> u16
-        ensures { result ≡ moved a b self.now.rising self.now.falling }
+        ensures { result ≡ level_between a b self.now.rising self.now.falling }
     {
         if a < b {
             a + part_of(b - a, self.rising)
@@ -64,7 +64,7 @@ fn part_of(way: u16, share: u64) -> u16
 }
 
 // How much of their ways the channels of this rate have gone, so long after the start.
-#[tactic(auto, unfolding(crate::specs::Share::gone))]
+#[tactic(auto, unfolding(crate::specs::Share::way_gone))]
 fn share_of(rate: Rate, elapsed: u64) -> u64
     ensures { IsShareOf rate elapsed result }
 {

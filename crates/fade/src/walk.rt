@@ -4,7 +4,7 @@ ghost use Rattle.std.specs.Ordering.{nat_cmp};
 ghost use Rattle.std.specs.FinMap.{is_sorted};
 ghost use Rattle.show.specs.Numbers.{AreLevels};
 ghost use Rattle.fade.specs.Level.{byte_of, split_fade};
-ghost use Rattle.fade.specs.Share.{AreMoved, moved};
+ghost use Rattle.fade.specs.Share.{AreMoved, level_between};
 ghost use Rattle.fade.specs.Digits.{share_by};
 ghost use Rattle.fade.specs.Stepping.{AreChannels, IsUnlisted};
 
@@ -23,7 +23,7 @@ pub fn bring(levels: &mut [u16], ways: Ways<'_>, moving: &[u16], count: usize, s
     requires count { count ≤ length moving.now }
     requires listed { AreChannels moving.now count (length levels.old) }
     requires others { (place : ℕ) → place < length levels.old → IsUnlisted moving.now count place
-        → slice_index levels.old place ≡ moved (slice_index ways.from.now place)
+        → slice_index levels.old place ≡ level_between (slice_index ways.from.now place)
         (slice_index ways.to.now place) shares.now.rising shares.now.falling }
     ensures { let ways = ways.entry in
         AreMoved ways.from.now ways.to.now levels.new shares.now.rising shares.now.falling }
@@ -64,7 +64,7 @@ fn walk_fine(levels: &mut [u16], from: &[u16], to: &[u16], rising: &Digits, fall
     requires to { length to.now ≡ length levels.old }
     ensures { AreMoved from.now to.now levels.new (share_by rising.now) (share_by falling.now) }
 {
-    walk(levels, from, to, rising.copied(), falling.copied());
+    walk(levels, from, to, rising.copy(), falling.copy());
 }
 
 #[inline(never)]

@@ -6,20 +6,21 @@ use Rattle.std.proofs.lemmas.List.{flat_map_more, length-append, length-take-le,
 use Rattle.std.proofs.lemmas.List.{nil_from_length, take-append-drop, take-take}
 use Rattle.std.proofs.lemmas.List.Sums.{sum_by-append}
 use Rattle.std.specs.declared.io.ErrorKind.{ErrorKind}
-use Rattle.line_queue.specs.Entries.{Entry, counted, gaps_of, lines_in, lines_of, text_in, text_of}
-use Rattle.line_queue.specs.Entries.Entry.{Gap, Whole}
+use Rattle.line_queue.specs.Entries.{QueueEntry, capped_count, gaps_of, entry_lines, queue_lines}
+use Rattle.line_queue.specs.Entries.{text_in, queue_text}
+use Rattle.line_queue.specs.Entries.QueueEntry.{Gap, Whole}
 use Rattle.line_queue.specs.Notices.{notice_text}
-use Rattle.line_queue.specs.Pipes.{PipeTape, lasting}
+use Rattle.line_queue.specs.Pipes.{PipeTape, lasting_failure}
 use Rattle.line_queue.specs.Stands.{Accounts, StandsFor}
 use Rattle.line_queue.specs.declared.notice.Notice.{Notice}
 use Rattle.line_queue.specs.declared.queue.LineQueue.{LineQueue}
 
 -- more is counted
-counted_more : (a b : ℕ) → min (counted a + b) 18446744073709551615 ≡ counted (a + b)
+counted_more : (a b : ℕ) → min (capped_count a + b) 18446744073709551615 ≡ capped_count (a + b)
 counted_more a b = omega arith
 
 -- nothing is counted
-none_counted : (xs : List (List ℕ)) → counted (length xs) ≡ 0 → xs ≡ []
+none_counted : (xs : List (List ℕ)) → capped_count (length xs) ≡ 0 → xs ≡ []
 none_counted xs is = nil_from_length xs (omega arith)
 
 -- what is no `Some`
@@ -31,15 +32,15 @@ pub none_is : (o : Option ErrorKind) → is_some o ≡ false → o ≡ None
 none_is None is = refl
 none_is (Some kind) is = cc
 
-lines_more : (entries : List Entry) (entry : Entry)
-    → lines_of (entries ++ entry ∷ []) ≡ lines_of entries ++ lines_in entry
-lines_more entries entry = sym (flat_map_more lines_in [] entries entry)
+lines_more : (entries : List QueueEntry) (entry : QueueEntry)
+    → queue_lines (entries ++ entry ∷ []) ≡ queue_lines entries ++ entry_lines entry
+lines_more entries entry = sym (flat_map_more entry_lines [] entries entry)
 
-text_more : (notice : Notice) (entries : List Entry) (entry : Entry)
-    → text_of notice (entries ++ entry ∷ []) ≡ text_of notice entries ++ text_in notice entry
+text_more : (notice : Notice) (entries : List QueueEntry) (entry : QueueEntry)
+    → queue_text notice (entries ++ entry ∷ []) ≡ queue_text notice entries ++ text_in notice entry
 text_more notice entries entry = sym (flat_map_more (text_in notice) [] entries entry)
 
-gaps_more : (entries : List Entry) (entry : Entry)
+gaps_more : (entries : List QueueEntry) (entry : QueueEntry)
     → gaps_of (entries ++ entry ∷ []) ≡ gaps_of entries + gaps_of (entry ∷ [])
 gaps_more entries entry = sum_by-append _ entries (entry ∷ [])
 
@@ -55,7 +56,8 @@ pub record IsSame {P : Type 0} (old new : LineQueue P) : Type 0 where
 -- they stand for the same lines, by tapes with the same bytes and the same lasting failure
 pub same_stands : {P : Type 0} (old new : LineQueue P) (before after : PipeTape)
     (given : List (List ℕ))
-    → IsSame old new → after.taken ≡ before.taken → lasting after.fault ≡ lasting before.fault
+    → IsSame old new → after.taken ≡ before.taken → lasting_failure after.fault
+    ≡ lasting_failure before.fault
     → StandsFor old before given → StandsFor new after given
 same_stands old new before after given same taken fault stands =
     let a = stands.account in record {
@@ -64,12 +66,12 @@ same_stands old new before after given same taken fault stands =
         untold = a.untold;
         left = a.left;
         in_order = a.in_order;
-        whole = ap (λ xs. xs ++ a.left) taken ∙ a.whole ∙ ap (λ n. text_of n a.entries)
+        whole = ap (λ xs. xs ++ a.left) taken ∙ a.whole ∙ ap (λ n. queue_text n a.entries)
             (sym same.notice);
         waits = λ alive. let was = a.waits (sym same.failure ∙ alive) in
             (same.waiting ∙ was.0, same.dropped ∙ was.1);
         fault = same.failure ∙ a.fault ∙ sym fault;
-        count = same.taken ∙ a.count ∙ ap (λ xs. counted (length xs)) (sym taken);
+        count = same.taken ∙ a.count ∙ ap (λ xs. capped_count (length xs)) (sym taken);
         gaps = same.gaps ∙ a.gaps;
       };
       told = λ alive empty. same.dropped ∙ stands.told (sym same.failure ∙ alive)
@@ -91,7 +93,7 @@ failed_more queue tape given lines over stands =
         untold = a.untold ++ lines;
         left = a.left;
         in_order = ap (λ xs. xs ++ lines) a.in_order ∙ append_assoc
-            (lines_of a.entries) a.untold lines;
+            (queue_lines a.entries) a.untold lines;
         whole = a.whole;
         waits = λ alive. absurd (over alive);
         fault = a.fault;
@@ -121,13 +123,13 @@ module _ {P : Type 0} (old new : LineQueue P) (tape : PipeTape) (given : List (L
         untold = a.untold ++ line ∷ [];
         left = a.left;
         in_order = ap (λ xs. xs ++ line ∷ []) a.in_order
-            ∙ append_assoc (lines_of a.entries) a.untold (line ∷ []);
-        whole = a.whole ∙ ap (λ n. text_of n a.entries) (sym next.notice);
+            ∙ append_assoc (queue_lines a.entries) a.untold (line ∷ []);
+        whole = a.whole ∙ ap (λ n. queue_text n a.entries) (sym next.notice);
         waits = λ _. (
           waiting ∙ was.0,
           dropped ∙ ap (λ n. min (n + 1) 18446744073709551615) was.1
               ∙ counted_more (length a.untold) 1
-              ∙ ap counted (sym (length-append a.untold (line ∷ []))),
+              ∙ ap capped_count (sym (length-append a.untold (line ∷ []))),
         );
         fault = next.failure ∙ a.fault;
         count = taken ∙ a.count;
@@ -156,12 +158,13 @@ module _ {P : Type 0} (old new : LineQueue P) (tape : PipeTape) (given : List (L
         in_order = a.in_order;
         whole = append_assoc tape.taken (take count xs) (drop count xs)
             ∙ ap (λ ys. tape.taken ++ ys) (take-append-drop count xs ∙ was.0)
-            ∙ a.whole ∙ ap (λ n. text_of n a.entries) (sym next.notice);
+            ∙ a.whole ∙ ap (λ n. queue_text n a.entries) (sym next.notice);
         waits = λ _. (waiting, dropped ∙ was.1);
         fault = next.failure ∙ next.alive;
         count = taken ∙ ap (λ n. min (n + count) 18446744073709551615) a.count
             ∙ counted_more (length tape.taken) count
-            ∙ ap counted (ap (λ n. length tape.taken + n) (sym (length-take-le count xs within))
+            ∙ ap capped_count (ap (λ n. length tape.taken + n)
+            (sym (length-take-le count xs within))
             ∙ sym (length-append tape.taken (take count xs)));
         gaps = gaps ∙ a.gaps;
       }
@@ -174,22 +177,23 @@ module _ {P : Type 0} (old new : LineQueue P) (tape : PipeTape) (given : List (L
       let a = stands.account in
       let was = a.waits next.alive in
       let told = none_counted a.untold (sym was.1 ∙ none) in
-      let text = text_of old.notice a.entries in record {
+      let text = queue_text old.notice a.entries in record {
         account = record {
           entries = a.entries ++ Whole line ∷ [];
           untold = [];
           left = a.left ++ line;
           in_order = ap (λ xs. xs ++ line ∷ []) (a.in_order ∙ ap
-              (λ xs. lines_of a.entries ++ xs) told
-              ∙ append-nil (lines_of a.entries))
+              (λ xs. queue_lines a.entries ++ xs) told
+              ∙ append-nil (queue_lines a.entries))
               ∙ sym (lines_more a.entries (Whole line)) ∙ sym (append-nil _);
           whole = sym (append_assoc tape.taken a.left line) ∙ ap (λ xs. xs ++ line) a.whole
               ∙ sym (text_more old.notice a.entries (Whole line))
-              ∙ ap (λ n. text_of n (a.entries ++ Whole line ∷ [])) (sym next.notice);
+              ∙ ap (λ n. queue_text n (a.entries ++ Whole line ∷ [])) (sym next.notice);
           waits = λ _. (waiting ∙ ap (λ xs. xs ++ line) was.0, still);
           fault = next.failure ∙ a.fault;
           count = taken ∙ a.count;
-          gaps = gaps ∙ a.gaps ∙ ap counted (sym (gaps_more a.entries (Whole line) ∙ add-zero _));
+          gaps = gaps ∙ a.gaps
+              ∙ ap capped_count (sym (gaps_more a.entries (Whole line) ∙ add-zero _));
         };
         told = λ _ _. still;
       }
@@ -198,8 +202,8 @@ module _ {P : Type 0} (old new : LineQueue P) (tape : PipeTape) (given : List (L
       (taken : new.taken ≡ old.taken) (gaps : new.gaps ≡ min (old.gaps + 1) 18446744073709551615)
       (none : new.dropped ≡ 0) (empty : old.waiting.items ≡ []) (some : old.dropped ≢ 0)
       (a : Accounts old tape given) where
-    gap_with : (untold : List (List ℕ)) → given ≡ lines_of a.entries ++ untold
-        → old.dropped ≡ counted (length untold) → StandsFor new tape given
+    gap_with : (untold : List (List ℕ)) → given ≡ queue_lines a.entries ++ untold
+        → old.dropped ≡ capped_count (length untold) → StandsFor new tape given
     gap_with [] in_order dropped = absurd (some dropped)
     gap_with (first ∷ others) in_order dropped =
         let gap = Gap first others in
@@ -211,15 +215,15 @@ module _ {P : Type 0} (old new : LineQueue P) (tape : PipeTape) (given : List (L
             in_order = in_order ∙ sym (lines_more a.entries gap) ∙ sym (append-nil _);
             whole = ap (λ xs. xs ++ notice) (sym (append-nil tape.taken)
                 ∙ ap (λ xs. tape.taken ++ xs) (sym empty ∙ (a.waits next.alive).0) ∙ a.whole)
-                ∙ ap (λ n. text_of old.notice a.entries ++ notice_text old.notice n) dropped
+                ∙ ap (λ n. queue_text old.notice a.entries ++ notice_text old.notice n) dropped
                 ∙ sym (text_more old.notice a.entries gap)
-                ∙ ap (λ n. text_of n (a.entries ++ gap ∷ [])) (sym next.notice);
+                ∙ ap (λ n. queue_text n (a.entries ++ gap ∷ [])) (sym next.notice);
             waits = λ _. (waiting, none);
             fault = next.failure ∙ a.fault;
             count = taken ∙ a.count;
             gaps = gaps ∙ ap (λ n. min (n + 1) 18446744073709551615) a.gaps
                 ∙ counted_more (gaps_of a.entries) 1
-                ∙ ap counted (sym (gaps_more a.entries gap));
+                ∙ ap capped_count (sym (gaps_more a.entries gap));
           };
           told = λ _ _. none;
         }

@@ -33,11 +33,11 @@ is_passing WouldBlock = true
 is_passing _ = false
 
 -- a failure behind which nothing is written any more
-abbrev pub lasting : Option ErrorKind → Option ErrorKind
-lasting None = None
-lasting (Some kind) = if is_passing kind then None else Some kind
+abbrev pub lasting_failure : Option ErrorKind → Option ErrorKind
+lasting_failure None = None
+lasting_failure (Some kind) = if is_passing kind then None else Some kind
 
 -- nothing was taken yet, and no write failed
-pub record IsFresh (tape : PipeTape) : Type 0 where
+pub record IsNewTape (tape : PipeTape) : Type 0 where
   pub nothing : tape.taken ≡ []
   pub no_fault : tape.fault ≡ None

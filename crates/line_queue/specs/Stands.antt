@@ -2,8 +2,8 @@
 use Rattle.std.specs.Prelude.{◌≡◌, ◌+◌, ◌≤◌, ℕ, List, [], ◌++◌, length, Bool, Option, None}
 use Rattle.std.specs.Prelude.{◌||◌, not, nat_lt, nat_eq}
 use Rattle.std.specs.declared.io.ErrorKind.{ErrorKind}
-use Rattle.line_queue.specs.Entries.{Entry, counted, gaps_of, lines_of, text_of}
-use Rattle.line_queue.specs.Pipes.{PipeTape, lasting}
+use Rattle.line_queue.specs.Entries.{QueueEntry, capped_count, gaps_of, queue_lines, queue_text}
+use Rattle.line_queue.specs.Pipes.{PipeTape, lasting_failure}
 use Rattle.line_queue.specs.declared.notice.Notice.{Notice}
 use Rattle.line_queue.specs.declared.queue.LineQueue.{LineQueue}
 
@@ -20,8 +20,8 @@ abbrev pub notice_in : {P : Type 0} → LineQueue P → Notice
 notice_in queue = queue.notice
 
 -- how many bytes it handed on
-abbrev pub taken_in : {P : Type 0} → LineQueue P → ℕ
-taken_in queue = queue.taken
+abbrev pub bytes_taken : {P : Type 0} → LineQueue P → ℕ
+bytes_taken queue = queue.taken
 
 -- how many notices it put in place of lines
 abbrev pub gaps_in : {P : Type 0} → LineQueue P → ℕ
@@ -37,16 +37,16 @@ dropped_in queue = queue.dropped
 -- waits, and the lines untold are counted.
 pub record Accounts {P : Type 0} (queue : LineQueue P) (tape : PipeTape)
     (given : List (List ℕ)) : Type 0 where
-  pub entries : List Entry
+  pub entries : List QueueEntry
   pub untold : List (List ℕ)
   pub left : List ℕ
-  pub in_order : given ≡ lines_of entries ++ untold
-  pub whole : tape.taken ++ left ≡ text_of (notice_in queue) entries
+  pub in_order : given ≡ queue_lines entries ++ untold
+  pub whole : tape.taken ++ left ≡ queue_text (notice_in queue) entries
   pub waits : failure_in queue ≡ None
-      → (waiting_in queue ≡ left) × (dropped_in queue ≡ counted (length untold))
-  pub fault : failure_in queue ≡ lasting tape.fault
-  pub count : taken_in queue ≡ counted (length tape.taken)
-  pub gaps : gaps_in queue ≡ counted (gaps_of entries)
+      → (waiting_in queue ≡ left) × (dropped_in queue ≡ capped_count (length untold))
+  pub fault : failure_in queue ≡ lasting_failure tape.fault
+  pub count : bytes_taken queue ≡ capped_count (length tape.taken)
+  pub gaps : gaps_in queue ≡ capped_count (gaps_of entries)
 
 -- a queue stands for the lines that it accounts for: of those that were dropped it is told as soon
 -- as nothing waits

@@ -40,7 +40,7 @@ pub struct LineQueue<P> {
 
 impl<P: Pipe + Drop> LineQueue<P> {
     ghost use Rattle.std.specs.Prelude.{[], IfOk};
-    ghost use Rattle.line_queue.specs.Pipes.{IsFresh};
+    ghost use Rattle.line_queue.specs.Pipes.{IsNewTape};
     ghost use Rattle.line_queue.specs.Stands.{HasRoom, StandsFor, notice_in};
 
     /// An empty queue in front of a pipe, with the words of its notices.
@@ -49,7 +49,7 @@ impl<P: Pipe + Drop> LineQueue<P> {
     ///
     /// If an allocation failed.
     pub fn new(alloc: Global, pipe: P, notice: Notice) -> Result<Self, AllocError>
-        ensures stands { IfOk result (λ queue. P.tells queue.pipe → IsFresh (P.tape queue.pipe)
+        ensures stands { IfOk result (λ queue. P.tells queue.pipe → IsNewTape (P.tape queue.pipe)
             → StandsFor queue (P.tape queue.pipe) []) }
         ensures pipe { IfOk result (λ queue. queue.pipe ≡ pipe) }
         ensures notice { IfOk result (λ queue. notice_in queue ≡ notice) }
@@ -229,10 +229,10 @@ impl<P: Pipe> LineQueue<P> {
 impl<P> LineQueue<P> {
     ghost use Rattle.std.specs.Prelude.{◌<◌, ◌++◌, ◌∷◌, [], List, ℕ, None, Some, false, length};
     ghost use Rattle.std.specs.Prelude.{take};
-    ghost use Rattle.line_queue.specs.Entries.{IsTextOf};
+    ghost use Rattle.line_queue.specs.Entries.{IsQueueText};
     ghost use Rattle.line_queue.specs.Pipes.{PipeTape, after_write};
     ghost use Rattle.line_queue.specs.Stands.{Accounts, StandsFor, dropped_in, failure_in, gaps_in};
-    ghost use Rattle.line_queue.specs.Stands.{is_late, notice_in, taken_in, waiting_in};
+    ghost use Rattle.line_queue.specs.Stands.{is_late, notice_in, bytes_taken, waiting_in};
 
     // A line for which there is no room was given.
     fn drop_line(&mut self)
@@ -303,8 +303,8 @@ impl<P> LineQueue<P> {
     }
 
     /// How many bytes the pipe took, up to 2^64 - 1.
-    pub fn taken(&self) -> u64
-        ensures { result ≡ taken_in self.now }
+    pub fn bytes_taken(&self) -> u64
+        ensures { result ≡ bytes_taken self.now }
     {
         self.taken
     }
@@ -321,7 +321,7 @@ impl<P> LineQueue<P> {
         ensures late { result ≡ is_late self.now }
         ensures all { result ≡ false → failure_in self.now ≡ None → (tape : PipeTape)
             (given : List (List ℕ)) → StandsFor self.now tape given
-            → IsTextOf (notice_in self.now) given tape.taken }
+            → IsQueueText (notice_in self.now) given tape.taken }
     {
         !self.waiting.is_empty() || self.dropped > 0
     }

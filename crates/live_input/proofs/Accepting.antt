@@ -10,11 +10,11 @@ use Rattle.masters.specs.Settings.{Setting}
 use Rattle.desk.specs.declared.command.Command.{Command}
 use Rattle.desk.specs.declared.command.Command.TheVariants.{End, Master}
 use Rattle.desk.specs.Played as desk
-use Rattle.desk.specs.Played.{Act, last_moment, last_tick, refusal}
+use Rattle.desk.specs.Played.{Act, last_act_moment, last_tick, refusal}
 use Rattle.live_input.specs.declared.progress.Stage.{Stage}
 use Rattle.live_input.specs.declared.progress.Stage.TheVariants.{On, Dark, Ended}
-use Rattle.live_input.specs.Laws.{IsDim, accepted, since_end, taken}
-use Rattle.live_input.specs.Night.{Answer, Happening, answer_to, answers, asked, due}
+use Rattle.live_input.specs.Laws.{IsDim, accepted_acts, since_end, acts_with}
+use Rattle.live_input.specs.Night.{Answer, Happening, answer_to, answers, asked, next_tick}
 use Rattle.live_input.specs.Night.{close, dim, is_on, is_through, now, order, stage, stage_by, tick}
 use Rattle.live_input.proofs.Asked.{is_end}
 use Rattle.live_input.proofs.Cases.{Keeps, Next, answer_is_next, clock_below, through}
@@ -24,9 +24,9 @@ use Rattle.live_input.proofs.Nights.{dark_only, on_only}
 -- a desk with this history, at this moment, agrees with the answers given: its last tick, if there
 -- was one, is 23 ms before the next is due, and its grand master is down where the night is dark
 record Agrees (history : List Act) (given : List Answer) (n : ℕ) : Type 0 where
-  moment : last_moment history ≤ n
-  since : desk.ended history ≡ since_end (stage given)
-  past : option_map_or (λ last. last + 23) (last_tick history) 0 ≤ due given
+  moment : last_act_moment history ≤ n
+  since : desk.ticks_since_end history ≡ since_end (stage given)
+  past : option_map_or (λ last. last + 23) (last_tick history) 0 ≤ next_tick given
   dark : IsDim (stage given) (desk.settings history)
 
 abbrev act : ℕ → desk.Call → Act
@@ -36,10 +36,11 @@ act n call = record { moment = n; call = call }
 
 abbrev IsTimely : List Act → ℕ → ℕ → Type 0
 IsTimely history d n =
-    (last_moment history ≤ n) × (option_map_or (λ last. last + 23) (last_tick history) 0 ≤ d)
+    (last_act_moment history ≤ n) × (option_map_or (λ last. last + 23) (last_tick history) 0 ≤ d)
 
 tick_accepted : (show : Tables) (history : List Act) (d n : ℕ) (s : Stage) → n < 2 ^ 48
-    → IsTimely history d n → desk.ended history ≡ since_end s → is_through s ≡ false → d ≤ n
+    → IsTimely history d n → desk.ticks_since_end history ≡ since_end s → is_through s
+    ≡ false → d ≤ n
     → refusal show history (act n desk.tick) ≡ None
 tick_accepted show history d n On below t since on late =
     grind (arith, nat_tests, t.0, t.1, since)
@@ -49,12 +50,12 @@ tick_accepted show history d n (Ended count) below t since on late =
     grind (arith, nat_tests, t.0, t.1, since, on)
 
 end_accepted : (show : Tables) (history : List Act) (n : ℕ) → n < 2 ^ 48
-    → last_moment history ≤ n → desk.ended history ≡ None
+    → last_act_moment history ≤ n → desk.ticks_since_end history ≡ None
     → refusal show history (act n (desk.order End)) ≡ None
 end_accepted show history n below moment none = grind (arith, nat_tests, moment, none)
 
 dim_accepted : (show : Tables) (history : List Act) (n : ℕ) → n < 2 ^ 48
-    → last_moment history ≤ n → desk.ended history ≡ None
+    → last_act_moment history ≤ n → desk.ticks_since_end history ≡ None
     → refusal show history (act n (desk.order (Master 0))) ≡ None
 dim_accepted show history n below moment none = grind (arith, nat_tests, moment, none)
 
@@ -82,12 +83,12 @@ on_none s on = rw (on_only s on) refl
 
 order_by : (show : Tables) (h : List Happening) (n : ℕ) (line : List ℕ) (c : Command)
     → is_on (stage (answers h)) ≡ true → is_end c ≡ false → now h ≤ n
-    → Agrees (accepted show (answers h)) (answers h) (now h)
-    → Agrees (taken show (Some (act n (desk.order c))) (accepted show (answers h)))
+    → Agrees (accepted_acts show (answers h)) (answers h) (now h)
+    → Agrees (acts_with show (Some (act n (desk.order c))) (accepted_acts show (answers h)))
     (order n line ∷ answers h) n
 order_by show h n line c on other le a =
     let s = on_only (stage (answers h)) on in
-    cond_both (is_none (refusal show (accepted show (answers h)) (act n (desk.order c)))) _ _
+    cond_both (is_none (refusal show (accepted_acts show (answers h)) (act n (desk.order c)))) _ _
     (λ history. Agrees history (order n line ∷ answers h) n)
     (λ e. record {
       moment = omega arith;
@@ -104,12 +105,12 @@ order_by show h n line c on other le a =
 
 dim_by : (show : Tables) (h : List Happening) (n : ℕ) (typed : Option (List ℕ)) → n < 2 ^ 48
     → is_on (stage (answers h)) ≡ true → now h ≤ n
-    → Agrees (accepted show (answers h)) (answers h) (now h)
-    → Agrees (accepted show (dim n typed ∷ answers h)) (dim n typed ∷ answers h) n
+    → Agrees (accepted_acts show (answers h)) (answers h) (now h)
+    → Agrees (accepted_acts show (dim n typed ∷ answers h)) (dim n typed ∷ answers h) n
 dim_by show h n typed below on le a =
     let none = a.since ∙ on_none (stage (answers h)) on in
     let s = on_only (stage (answers h)) on in
-    rw (dim_accepted show (accepted show (answers h)) n below (omega (arith, a.moment)) none)
+    rw (dim_accepted show (accepted_acts show (answers h)) n below (omega (arith, a.moment)) none)
     (record {
       moment = omega arith;
       since = rw s none;
@@ -120,11 +121,11 @@ dim_by show h n typed below on le a =
 close_by : (show : Tables) (h : List Happening) (n : ℕ) (typed : Option (List ℕ)) → n < 2 ^ 48
     → since_end (stage (answers h)) ≡ None
     → stage_by (close n typed) (stage (answers h)) ≡ Ended 0 → now h ≤ n
-    → Agrees (accepted show (answers h)) (answers h) (now h)
-    → Agrees (accepted show (close n typed ∷ answers h)) (close n typed ∷ answers h) n
+    → Agrees (accepted_acts show (answers h)) (answers h) (now h)
+    → Agrees (accepted_acts show (close n typed ∷ answers h)) (close n typed ∷ answers h) n
 close_by show h n typed below none s le a =
     let before = a.since ∙ none in
-    rw (end_accepted show (accepted show (answers h)) n below (omega (arith, a.moment)) before)
+    rw (end_accepted show (accepted_acts show (answers h)) n below (omega (arith, a.moment)) before)
     (record {
       moment = omega arith;
       since = rw (s, before) refl;
@@ -132,7 +133,7 @@ close_by show h n typed below none s le a =
       dark = rw s tt;
     })
 
-agrees_by : (show : Tables) → Keeps (λ given n. Agrees (accepted show given) given n)
+agrees_by : (show : Tables) → Keeps (λ given n. Agrees (accepted_acts show given) given n)
 agrees_by show h n _ (takes line left is on fit c spelled other) le below a =
     rw spelled (order_by show h n line c on.0 other.0 le a)
 agrees_by show h n _ (darkens line left is on) le below a = dim_by show h n _ below on.0 le a
@@ -143,9 +144,10 @@ agrees_by show h n _ (closes dark) le below a =
     let s = (dark_only (stage (answers h)) dark).1 in
     close_by show h n _ below (rw s refl) (rw s refl) le a
 agrees_by show h n _ (ticks on light late) le below a =
-    let timely : IsTimely (accepted show (answers h)) (due (answers h)) n =
+    let timely : IsTimely (accepted_acts show (answers h)) (next_tick (answers h)) n =
     (omega (arith, a.moment), a.past) in
-    rw (tick_accepted show _ (due (answers h)) n (stage (answers h)) below timely a.since on late)
+    rw (tick_accepted show _ (next_tick (answers h)) n (stage (answers h)) below timely a.since
+    on late)
     (record {
       moment = omega arith;
       since = ap (desk.ended_by desk.tick) a.since ∙ tick_ends (stage (answers h)) n;
@@ -160,29 +162,30 @@ agrees_by show h n _ _ le below a = record {
 }
 
 agrees : (show : Tables) (h : List Happening)
-    → Agrees (accepted show (answers h)) (answers h) (now h)
-agrees show = through (λ given n. Agrees (accepted show given) given n)
+    → Agrees (accepted_acts show (answers h)) (answers h) (now h)
+agrees show = through (λ given n. Agrees (accepted_acts show given) given n)
     (record { moment = omega arith; since = refl; past = omega arith; dark = tt })
     (agrees_by show)
 
 pub ends_accepted : (show : Tables) (h : List Happening)
-    → desk.ended (accepted show (answers h)) ≡ since_end (stage (answers h))
+    → desk.ticks_since_end (accepted_acts show (answers h)) ≡ since_end (stage (answers h))
 ends_accepted show h = (agrees show h).since
 
 pub ends_dark : (show : Tables) (h : List Happening)
-    → IsDim (stage (answers h)) (desk.settings (accepted show (answers h)))
+    → IsDim (stage (answers h)) (desk.settings (accepted_acts show (answers h)))
 ends_dark show h = (agrees show h).dark
 
 tick_only : (show : Tables) (h : List Happening) (m n : ℕ) → Next h m (tick n) → m < 2 ^ 48
-    → now h ≤ m → Agrees (accepted show (answers h)) (answers h) (now h)
-    → refusal show (accepted show (answers h)) (act n desk.tick) ≡ None
+    → now h ≤ m → Agrees (accepted_acts show (answers h)) (answers h) (now h)
+    → refusal show (accepted_acts show (answers h)) (act n desk.tick) ≡ None
 tick_only show h m _ (ticks on light late) below le a =
-    tick_accepted show (accepted show (answers h)) (due (answers h)) m (stage (answers h)) below
+    tick_accepted show (accepted_acts show (answers h)) (next_tick (answers h)) m
+    (stage (answers h)) below
     (omega (arith, a.moment), a.past) a.since on late
 
 pub ticks_accepted : (show : Tables) (h : List Happening) (moment n : ℕ)
     → answer_to h moment ≡ tick n
-    → refusal show (accepted show (answers h)) (act n desk.tick) ≡ None
+    → refusal show (accepted_acts show (answers h)) (act n desk.tick) ≡ None
 ticks_accepted show h moment n is =
     tick_only show h _ n (rw is at (answer_is_next h moment)) (clock_below (asked moment ∷ h))
     (omega arith) (agrees show h)

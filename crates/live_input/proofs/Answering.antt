@@ -2,7 +2,7 @@
 use Rattle.std.proofs.Common.{arith, ◌≡◌, ℕ, max, min, Bool, false, refl, sym, ◌∙◌, List, [], ◌∷◌}
 use Rattle.std.proofs.Common.{◌++◌, Option, Some, None}
 use Rattle.live_input.specs.declared.progress.Progress.{Progress}
-use Rattle.live_input.specs.Kept.{Kept, TypedKept}
+use Rattle.live_input.specs.Kept.{InputState, TypedKept}
 use Rattle.live_input.specs.Night.{Answer, Happening, answer_to, answers, asked, before_lines}
 use Rattle.live_input.specs.Night.{bytes_come, close, dim}
 use Rattle.live_input.specs.Night.{by_itself, ignored_keys, is_on, is_over, is_through}
@@ -57,7 +57,7 @@ none_more : (given : List Answer) (ends : Bool) (n : ℕ)
     → lines_answered (by_itself given ends n ∷ given) ≡ lines_answered given
 none_more given ends n = grind arith
 
-module _ {kept : Kept} {h : List Happening} {low clock : ℕ} {is_last : Bool} (moment : ℕ)
+module _ {kept : InputState} {h : List Happening} {low clock : ℕ} {is_last : Bool} (moment : ℕ)
     (typed : TypedKept) (s : StandsFor kept h) (last : is_last ≡ is_through kept.progress.stage)
     (on : is_last ≡ false) (low_is : low ≡ min moment 281474976710655)
     (clock_is : clock ≡ max kept.now low) where
@@ -112,7 +112,8 @@ module _ {kept : Kept} {h : List Happening} {low clock : ℕ} {is_last : Bool} (
       let set = rw clock_set at first in
       answered (has_keys line) (to_line (answers h) clock line)
       (rw (clock_set, not_over, set, took.0.1) refl) (rw (one_more (answers h) clock line) took.1)
-      (sym (request_keys (answers h) clock line (request_of (is_on (stage (answers h))) clock line)))
+      (sym (request_keys (answers h) clock line
+      (request_of (is_on (stage (answers h))) clock line)))
 
   -- none was left
   pub none_answered : before_lines (answers h) clock ≡ None → TakesLine kept.typed typed None

@@ -1,5 +1,6 @@
 -- What a line asks for, and what that says of the line.
-use Rattle.std.proofs.Common.{◌≡◌, ◌≤◌, ℕ, Bool, true, false, refl, List, length, Option, Some, None}
+use Rattle.std.proofs.Common.{◌≡◌, ◌≤◌, ℕ, Bool, true, false, refl, List, length, Option, Some}
+use Rattle.std.proofs.Common.{None}
 use Rattle.std.specs.Prelude.{codes, nat_le}
 use Rattle.std.proofs.lemmas.Bool.{cond_both, leb-true}
 use Rattle.ascii_text.specs.Text.{words_of}
@@ -9,7 +10,7 @@ use Rattle.console.specs.Spelling.{command_of}
 use Rattle.live_input.specs.declared.request.Request.{Request}
 use Rattle.live_input.specs.declared.request.Request.TheVariants.{Leave, Finish, Order}
 use Rattle.live_input.specs.Keys.{without_keys}
-use Rattle.live_input.specs.Night.{asks_help, at_moment, command_asked, is_only, order_asked}
+use Rattle.live_input.specs.Night.{asks_help, behind_moment, command_asked, is_only, order_asked}
 use Rattle.live_input.specs.Night.{request_of, words_asked}
 
 abbrev pub is_end : Command → Bool
@@ -21,24 +22,24 @@ abbrev pub Meets : Bool → ℕ → List ℕ → Request → Type 0
 Meets on n line Leave = on ≡ true
 Meets on n line Finish = on ≡ true
 Meets on n line (Order command) =
-    (on ≡ true) × (length (at_moment n line) ≤ 200)
+    (on ≡ true) × (length (behind_moment n line) ≤ 200)
     × (command_of (words_of (without_keys line)) ≡ Some command) × (is_end command ≡ false)
 Meets on n line _ = Unit {0}
 
 module _ (on : Bool) (n : ℕ) (line : List ℕ) where
-  command_meets : on ≡ true → length (at_moment n line) ≤ 200 → (spelled : Option Command)
+  command_meets : on ≡ true → length (behind_moment n line) ≤ 200 → (spelled : Option Command)
       → command_of (words_of (without_keys line)) ≡ spelled
       → Meets on n line (command_asked (words_of (without_keys line)) spelled)
   command_meets is fit None e = tt
   command_meets is fit (Some End) e = is
   command_meets is fit (Some c) e = (is, fit, e, refl)
 
-  order_meets : on ≡ true → length (at_moment n line) ≤ 200
+  order_meets : on ≡ true → length (behind_moment n line) ≤ 200
       → Meets on n line (order_asked (words_of (without_keys line)))
   order_meets is fit = cond_both (is_only (codes "leave") (words_of (without_keys line))) _ _
       (Meets on n line) (λ e. is) (λ e. command_meets is fit _ refl)
 
-  words_meet : length (at_moment n line) ≤ 200
+  words_meet : length (behind_moment n line) ≤ 200
       → Meets on n line (words_asked on (words_of (without_keys line)))
   words_meet fit = cond_both (is_only (codes "where") (words_of (without_keys line))) _ _
       (Meets on n line) (λ e. tt)
@@ -46,5 +47,5 @@ module _ (on : Bool) (n : ℕ) (line : List ℕ) where
       (λ e. cond_both on _ _ (Meets on n line) (λ is. order_meets is fit) (λ e. tt)))
 
   pub request_meets : Meets on n line (request_of on n line)
-  request_meets = cond_both (nat_le (length (at_moment n line)) 200) _ _ (Meets on n line)
+  request_meets = cond_both (nat_le (length (behind_moment n line)) 200) _ _ (Meets on n line)
       (λ fit. words_meet (leb-true _ 200 fit)) (λ long. tt)

@@ -6,10 +6,10 @@ use Rattle.std.proofs.lemmas.Bool.{and_parts, cond_both, le-leb, leb-true}
 use Rattle.ascii_text.specs.Text.{words_of}
 use Rattle.desk.specs.declared.command.Command.{Command}
 use Rattle.console.specs.Spelling.{command_of}
-use Rattle.live_input.specs.Night.{Answer, Happening, answer_to, answers, asked, at_moment}
+use Rattle.live_input.specs.Night.{Answer, Happening, answer_to, answers, asked, behind_moment}
 use Rattle.live_input.specs.Laws.{IsOn}
-use Rattle.live_input.specs.Night.{before_lines, due, ends_with_input, goes_first}
-use Rattle.live_input.specs.Night.{is_dark, is_on, is_over, lines_left, now}
+use Rattle.live_input.specs.Night.{before_lines, next_tick, ends_with_input, goes_first}
+use Rattle.live_input.specs.Night.{is_light_down, is_on, is_over, unanswered_lines, now}
 use Rattle.live_input.specs.Night.{request_of, stage, to_lines, to_request, words_asked}
 use Rattle.live_input.specs.Night.{order, dim, close, tick, place, help, refusal, wait, over}
 use Rattle.live_input.specs.declared.reason.Reason.{Reason}
@@ -31,29 +31,31 @@ Ordinary line command = (is_end command ≡ false)
 -- each answer at a moment after these happenings, and when it comes
 pub data Next (h : List Happening) (n : ℕ) : Answer → Type 0 where
   nothing : is_over (answers h) ≡ true → Next h n over
-  takes : (line : List ℕ) (later : List (List ℕ)) → lines_left (answers h) h ≡ line ∷ later
-      → HasTurn (answers h) n → length (at_moment n line) ≤ 200
+  takes : (line : List ℕ) (later : List (List ℕ)) → unanswered_lines (answers h) h ≡ line ∷ later
+      → HasTurn (answers h) n → length (behind_moment n line) ≤ 200
       → (command : Command) → command_of (words_of (without_keys line)) ≡ Some command
       → Ordinary line command → Next h n (order n line)
-  darkens : (line : List ℕ) (later : List (List ℕ)) → lines_left (answers h) h ≡ line ∷ later
+  darkens : (line : List ℕ) (later : List (List ℕ)) → unanswered_lines (answers h) h ≡ line ∷ later
       → HasTurn (answers h) n → Next h n (dim n (Some line))
-  leaves : (line : List ℕ) (later : List (List ℕ)) → lines_left (answers h) h ≡ line ∷ later
+  leaves : (line : List ℕ) (later : List (List ℕ)) → unanswered_lines (answers h) h ≡ line ∷ later
       → HasTurn (answers h) n → Next h n (close n (Some line))
-  places : (line : List ℕ) (later : List (List ℕ)) → lines_left (answers h) h ≡ line ∷ later
+  places : (line : List ℕ) (later : List (List ℕ)) → unanswered_lines (answers h) h ≡ line ∷ later
       → IsOn (answers h) → Next h n (place n line)
-  helps : (line : List ℕ) (later : List (List ℕ)) → lines_left (answers h) h ≡ line ∷ later
+  helps : (line : List ℕ) (later : List (List ℕ)) → unanswered_lines (answers h) h ≡ line ∷ later
       → IsOn (answers h) → Next h n (help line)
   refuses : (why : Reason) (line : List ℕ) (later : List (List ℕ))
-      → lines_left (answers h) h ≡ line ∷ later → IsOn (answers h) → Next h n (refusal why line)
+      → unanswered_lines (answers h) h ≡ line ∷ later → IsOn (answers h)
+      → Next h n (refusal why line)
   dims : HasTurn (answers h) n → ends_with_input h ≡ true → Next h n (dim n None)
-  closes : is_dark (stage (answers h)) ≡ true → Next h n (close n None)
-  ticks : is_over (answers h) ≡ false → is_dark (stage (answers h)) ≡ false
-      → due (answers h) ≤ n → Next h n (tick n)
-  waits : lines_left (answers h) h ≡ [] → IsOn (answers h) → Next h n (wait (due (answers h)))
+  closes : is_light_down (stage (answers h)) ≡ true → Next h n (close n None)
+  ticks : is_over (answers h) ≡ false → is_light_down (stage (answers h)) ≡ false
+      → next_tick (answers h) ≤ n → Next h n (tick n)
+  waits : unanswered_lines (answers h) h ≡ [] → IsOn (answers h)
+      → Next h n (wait (next_tick (answers h)))
 
 request_is : (h : List Happening) (n : ℕ) (line : List ℕ) (later : List (List ℕ))
     → IsOn (answers h) → goes_first (answers h) n ≡ false
-    → lines_left (answers h) h ≡ line ∷ later → (request : Request)
+    → unanswered_lines (answers h) h ≡ line ∷ later → (request : Request)
     → request_of (is_on (stage (answers h))) n line ≡ request
     → Meets (is_on (stage (answers h))) n line request → Next h n (to_request n line request)
 request_is h n line later free none left (Nothing why) is m = refuses why line later left free
@@ -65,12 +67,13 @@ request_is h n line later free none left (Order c) is m =
     takes line later left (m.0, none) m.1 c m.2 (m.3, rw (le-leb _ 200 m.1, m.0) at is)
 
 lines_are : (h : List Happening) (n : ℕ) → IsOn (answers h)
-    → goes_first (answers h) n ≡ false → (left : List (List ℕ)) → lines_left (answers h) h ≡ left
+    → goes_first (answers h) n ≡ false → (left : List (List ℕ))
+    → unanswered_lines (answers h) h ≡ left
     → Next h n (to_lines left (answers h) (ends_with_input h) n)
 lines_are h n on none [] is =
     cond_both (is_on (stage (answers h)) && ends_with_input h) _ _ (Next h n)
     (λ owed. let parts = and_parts _ _ owed in dims (parts.0, none) parts.1)
-    (λ other. cond_both (nat_le (due (answers h)) n) _ _ (Next h n)
+    (λ other. cond_both (nat_le (next_tick (answers h)) n) _ _ (Next h n)
     (λ late. ticks on.0 on.1 (leb-true _ n late)) (λ early. waits is on))
 lines_are h n on none (line ∷ later) is = request_is h n line later on none is _ refl
     (request_meets (is_on (stage (answers h))) n line)
@@ -80,7 +83,7 @@ first_is : (h : List Happening) (n : ℕ) → is_over (answers h) ≡ false → 
     → (IsOn (answers h) → goes_first (answers h) n ≡ false → Next h n rest)
     → Next h n (unwrap_or (before_lines (answers h) n) rest)
 first_is h n on rest later =
-    cond_both (is_dark (stage (answers h))) _ _ (λ b. Next h n (unwrap_or b rest))
+    cond_both (is_light_down (stage (answers h))) _ _ (λ b. Next h n (unwrap_or b rest))
     (λ dark. closes dark)
     (λ light. cond_both (goes_first (answers h) n) _ _ (λ b. Next h n (unwrap_or b rest))
     (λ first. ticks on light (leb-true _ n (and_parts _ _ first).0))
@@ -91,7 +94,8 @@ pub answer_is_next : (h : List Happening) (moment : ℕ)
 answer_is_next h moment =
     let n = now (asked moment ∷ h) in
     cond_both (is_over (answers h)) _ _ (Next h n) (λ e. nothing e)
-    (λ on. first_is h n on _ (λ is none. lines_are h n is none (lines_left (answers h) h) refl))
+    (λ on. first_is h n on _
+    (λ is none. lines_are h n is none (unanswered_lines (answers h) h) refl))
 
 pub clock_below : (h : List Happening) → now h < 2 ^ 48
 clock_below [] = omega arith

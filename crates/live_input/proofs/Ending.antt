@@ -6,7 +6,7 @@ use Rattle.std.proofs.lemmas.Bool.Decides.{nat_tests}
 use Rattle.live_input.specs.declared.progress.Stage.{Stage}
 use Rattle.live_input.specs.declared.progress.Stage.TheVariants.{On, Dark, Ended}
 use Rattle.live_input.specs.Laws.{IsEnding, was_left, words_given}
-use Rattle.live_input.specs.Night.{Happening, answers, close, dim, is_dark, is_on, is_through}
+use Rattle.live_input.specs.Night.{Happening, answers, close, dim, is_light_down, is_on, is_through}
 use Rattle.live_input.specs.Night.{stage, stage_by, tick}
 use Rattle.live_input.specs.Keys.{without_keys}
 use Rattle.live_input.proofs.Cases.{Keeps, closes, darkens, dims, leaves, takes, through, ticks}
@@ -22,7 +22,7 @@ Ends s left given = IsEnding s left given × IsCalm s left
 more : (count : ℕ) → count + 1 ≡ suc count
 more count = omega arith
 
-one_tick : (n : ℕ) (s : Stage) (left : Bool) (given : List (List ℕ)) → is_dark s ≡ false
+one_tick : (n : ℕ) (s : Stage) (left : Bool) (given : List (List ℕ)) → is_light_down s ≡ false
     → is_through s ≡ false → Ends s left given
     → Ends (stage_by (tick n) s) left (codes "tick" ∷ given)
 one_tick n On left given light on e = (tt, e.1)
@@ -48,7 +48,7 @@ one_dim : (n : ℕ) (typed : Option (List ℕ)) (s : Stage) (left : Bool) (given
 one_dim n typed On left given on e = ((omega arith, (given, refl)), e.1)
 one_dim n typed s left given on e = cc
 
-one_close : (n : ℕ) (s : Stage) (left : Bool) (given : List (List ℕ)) → is_dark s ≡ true
+one_close : (n : ℕ) (s : Stage) (left : Bool) (given : List (List ℕ)) → is_light_down s ≡ true
     → Ends s left given → Ends (stage_by (close n None) s) left (codes "end" ∷ given)
 one_close n (Dark count) left given dark e =
     let four : count ≡ 4 = grind (arith, nat_tests, dark, e.0.0) in

@@ -17,10 +17,11 @@ use Rattle.ascii_text.specs.Text.{lines_of, words_of}
 use Rattle.desk.specs.declared.command.Command.{Command}
 use Rattle.console.specs.Spelling as spelling
 use Rattle.console.specs.Spelling.{call_of, command_of, is_malformed, reading_of}
-use Rattle.live_input.specs.Laws.{AreFine, IsSpelled, Spells, text_of}
-use Rattle.live_input.specs.Night.{Answer, Happening, answer_to, answers, asked, at_moment}
-use Rattle.live_input.specs.Night.{bytes_come, lines_given, lines_left}
-use Rattle.live_input.specs.Typed.{Typed, no_bytes, says_nothing, typed_of, with_byte}
+use Rattle.live_input.specs.Laws.{PlayTakes, IsSpelled, SpellsCommand, lines_text}
+use Rattle.live_input.specs.Night.{Answer, Happening, answer_to, answers, asked, behind_moment}
+use Rattle.live_input.specs.Night.{bytes_come, lines_given, unanswered_lines}
+use Rattle.live_input.specs.Typed.{TypedLines, nothing_typed, says_nothing, typed_of}
+use Rattle.live_input.specs.Typed.{with_typed_byte}
 use Rattle.live_input.proofs.Cases.{Keeps, Next, answer_is_next, clock_below, through}
 use Rattle.live_input.proofs.Cases.{closes, darkens, dims, leaves, takes, ticks}
 use Rattle.live_input.specs.Keys.{without_keys}
@@ -31,11 +32,11 @@ use Rattle.live_input.proofs.Spelled.{call_is, no_digit, reading_is}
 
 pub spells : (n : ℕ) (line : List ℕ) → n < 2 ^ 48 → (spelled : Option Command)
     → command_of (words_of line) ≡ spelled → is_some spelled ≡ true
-    → Spells spelled n line × (is_malformed (reading_of (at_moment n line)) ≡ false)
+    → SpellsCommand spelled n line × (is_malformed (reading_of (behind_moment n line)) ≡ false)
 spells n line below None e some = cc
 spells n line below (Some command) e some =
     let is = reading_is n line below
-    ∙ ap (spelling.at_moment (Some n)) (call_is (words_of line) command e) in
+    ∙ ap (spelling.reading_at (Some n)) (call_is (words_of line) command e) in
     (is, ap is_malformed is)
 
 spelled_by : (h : List Happening) (n : ℕ) (answer : Answer) → Next h n answer → n < 2 ^ 48
@@ -58,10 +59,10 @@ spelled h moment =
 abbrev pub NotLf : ℕ → Type 0
 NotLf b = (b == 10) ≡ false
 
-abbrev NoLf : Typed → Type 0
+abbrev NoLf : TypedLines → Type 0
 NoLf typed = All (All NotLf) typed.lines × All NotLf typed.rest
 
-byte_no_lf : (t : Typed) (b : ℕ) → NoLf t → NoLf (with_byte t b)
+byte_no_lf : (t : TypedLines) (b : ℕ) → NoLf t → NoLf (with_typed_byte t b)
 byte_no_lf t b h = cond_both (b == 10) _ _ NoLf
     (λ lf. (
       cond_both (says_nothing t.rest) _ _ (All (All NotLf)) (λ e. h.0)
@@ -70,18 +71,18 @@ byte_no_lf t b h = cond_both (b == 10) _ _ NoLf
     ))
     (λ other. (h.0, All-take NotLf 201 _ (All-push NotLf t.rest b h.1 other)))
 
-typed_no_lf : (t : Typed) (bytes : List ℕ) → NoLf t → NoLf (fold with_byte t bytes)
+typed_no_lf : (t : TypedLines) (bytes : List ℕ) → NoLf t → NoLf (fold with_typed_byte t bytes)
 typed_no_lf t [] h = h
-typed_no_lf t (b ∷ bytes) h = typed_no_lf (with_byte t b) bytes (byte_no_lf t b h)
+typed_no_lf t (b ∷ bytes) h = typed_no_lf (with_typed_byte t b) bytes (byte_no_lf t b h)
 
-pub left_no_lf : (h : List Happening) → All (All NotLf) (lines_left (answers h) h)
+pub left_no_lf : (h : List Happening) → All (All NotLf) (unanswered_lines (answers h) h)
 left_no_lf h = All-drop (All NotLf) _ (typed_of (bytes_come h)).lines
-    (typed_no_lf no_bytes (bytes_come h) (All-nil (All NotLf), All-nil NotLf)).0
+    (typed_no_lf nothing_typed (bytes_come h) (All-nil (All NotLf), All-nil NotLf)).0
 
 -- what has no LF goes into the line
 line_whole : (lines : List (List ℕ)) (rest text : List ℕ) → All NotLf text
     → length rest + length text ≤ 200
-    → fold with_byte (record { lines = lines; rest = rest }) text
+    → fold with_typed_byte (record { lines = lines; rest = rest }) text
     ≡ record { lines = lines; rest = rest ++ text }
 line_whole lines rest [] whole fit = rw append-nil refl
 line_whole lines rest (b ∷ text) whole fit =
@@ -98,7 +99,7 @@ pub line_typed : (bytes text : List ℕ) (lines : List (List ℕ))
     → typed_of (bytes ++ (text ++ 10 ∷ [])) ≡ record { lines = lines ++ text ∷ []; rest = [] }
 line_typed bytes text lines is whole fit says =
     let line = line_whole lines [] text whole (omega arith) in
-    more_typed bytes (text ++ 10 ∷ []) ∙ rw (is, fold-append with_byte, line, says) refl
+    more_typed bytes (text ++ 10 ∷ []) ∙ rw (is, fold-append with_typed_byte, line, says) refl
 
 -- ---- the lines that are given
 
@@ -107,8 +108,8 @@ record IsGood (line : List ℕ) : Type 0 where
   short : length line ≤ 200
   whole : All NotLf line
 
-one_good : (n : ℕ) (line : List ℕ) → is_malformed (reading_of (at_moment n line)) ≡ false
-    → length (at_moment n line) ≤ 200 → All NotLf line → IsGood (at_moment n line)
+one_good : (n : ℕ) (line : List ℕ) → is_malformed (reading_of (behind_moment n line)) ≡ false
+    → length (behind_moment n line) ≤ 200 → All NotLf line → IsGood (behind_moment n line)
 one_good n line good short whole = record {
   good = good;
   short = short;
@@ -118,7 +119,7 @@ one_good n line good short whole = record {
 
 -- a short word behind a moment
 pub word_fits : (n : ℕ) (word : List ℕ) → n < 2 ^ 48 → length word ≤ 8
-    → length (at_moment n word) ≤ 200
+    → length (behind_moment n word) ≤ 200
 word_fits n word below short = simp length-append (omega (arith, length-decimal-le 15 n))
 
 pub word_whole : (word : List ℕ) → list_all (λ b. not (b == 10)) word ≡ true → All NotLf word
@@ -127,8 +128,8 @@ word_whole word whole =
 
 -- `master 0`, `end` or a tick
 short_good : (n : ℕ) (word : List ℕ) → n < 2 ^ 48
-    → is_malformed (spelling.at_moment (Some n) (call_of (words_of word))) ≡ false
-    → length word ≤ 8 → list_all (λ b. not (b == 10)) word ≡ true → IsGood (at_moment n word)
+    → is_malformed (spelling.reading_at (Some n) (call_of (words_of word))) ≡ false
+    → length word ≤ 8 → list_all (λ b. not (b == 10)) word ≡ true → IsGood (behind_moment n word)
 short_good n word below good short whole = one_good n word (rw (reading_is n word below) good)
     (word_fits n word below short) (word_whole word whole)
 
@@ -173,7 +174,7 @@ all_good : (h : List Happening) → All IsGood (reverse (lines_given (answers h)
 all_good h = all_reverse (lines_given (answers h)) (through
     (λ given n. All IsGood (lines_given given)) (All-nil IsGood) good_by h)
 
-pub lines_fine : (h : List Happening) → AreFine (lines_of (text_of (lines_given (answers h))))
+pub lines_fine : (h : List Happening) → PlayTakes (lines_of (lines_text (lines_given (answers h))))
 lines_fine h =
     let lines : List (List ℕ) = reverse (lines_given (answers h)) in
     let good = all_good h in

@@ -5,14 +5,15 @@ use Rattle.std.proofs.Common.{append-nil, Bool}
 use Rattle.std.specs.List.{filter_map}
 use Rattle.std.proofs.lemmas.Bool.Decides.{nat_tests}
 use Rattle.std.proofs.Math.Seq.{drop-append_seam}
-use Rattle.live_input.specs.Laws.{AlwaysRise, LinesFollowTicks, Rise, TicksGoFirst, moment_of}
-use Rattle.live_input.specs.Laws.{IsEnding, tick_of, was_left, words_given}
-use Rattle.live_input.specs.Night.{Answer, Happening, answers, due, now, dim, stage}
-use Rattle.live_input.specs.Night.{ends_with_input, is_dark, is_on, is_through}
+use Rattle.live_input.specs.Laws.{AlwaysRise, LinesFollowTicks, Rise, TicksGoFirst, moment_given}
+use Rattle.live_input.specs.Laws.{IsEnding, tick_moment, was_left, words_given}
+use Rattle.live_input.specs.Night.{Answer, Happening, answers, next_tick, now, dim, stage}
+use Rattle.live_input.specs.Night.{ends_with_input, is_light_down, is_on, is_through}
 use Rattle.live_input.specs.Night.{answer_to, asked, bytes_come, came, closed, is_over}
 use Rattle.live_input.specs.declared.progress.Stage.{Stage}
 use Rattle.live_input.specs.declared.progress.Stage.TheVariants.{On, Dark, Ended}
-use Rattle.live_input.specs.Night.{goes_first, lines_answered, lines_left, over, wait, was_tick}
+use Rattle.live_input.specs.Night.{goes_first, lines_answered, unanswered_lines, over, wait}
+use Rattle.live_input.specs.Night.{was_tick}
 use Rattle.live_input.specs.Typed.{typed_of}
 use Rattle.live_input.proofs.Cases.{Keeps, Next, closes, takes, through, ticks, answer_is_next}
 use Rattle.live_input.proofs.Cases.{nothing, places, helps, refuses, waits, darkens, dims, leaves}
@@ -29,26 +30,26 @@ without : (gap n : ℕ) (ms : List ℕ) → Rise gap (n ∷ ms) → Rise gap ms
 without gap n [] rise = tt
 without gap n (newest ∷ older) rise = rise.1
 
-moment_by : Keeps (λ given n. Rise 0 (n ∷ filter_map moment_of given))
+moment_by : Keeps (λ given n. Rise 0 (n ∷ filter_map moment_given given))
 moment_by h n _ (takes _ _ _ _ _ _ _ _) le below rise = (omega arith, later 0 _ n _ le rise)
 moment_by h n _ (darkens _ _ _ _) le below rise = (omega arith, later 0 _ n _ le rise)
 moment_by h n _ (leaves _ _ _ _) le below rise = (omega arith, later 0 _ n _ le rise)
 moment_by h n _ (dims _ _) le below rise = (omega arith, later 0 _ n _ le rise)
 moment_by h n _ (closes _) le below rise = (omega arith, later 0 _ n _ le rise)
 moment_by h n _ (ticks _ _ _) le below rise = (omega arith, later 0 _ n _ le rise)
-moment_by h n _ _ le below rise = later 0 (now h) n (filter_map moment_of (answers h)) le rise
+moment_by h n _ _ le below rise = later 0 (now h) n (filter_map moment_given (answers h)) le rise
 
-pub moments_rise : AlwaysRise 0 moment_of
-moments_rise h = without 0 (now h) (filter_map moment_of (answers h))
-    (through (λ given n. Rise 0 (n ∷ filter_map moment_of given)) tt moment_by h)
+pub moments_rise : AlwaysRise 0 moment_given
+moments_rise h = without 0 (now h) (filter_map moment_given (answers h))
+    (through (λ given n. Rise 0 (n ∷ filter_map moment_given given)) tt moment_by h)
 
-tick_by : Keeps (λ given n. Rise 23 (due given ∷ filter_map tick_of given))
+tick_by : Keeps (λ given n. Rise 23 (next_tick given ∷ filter_map tick_moment given))
 tick_by h n _ (ticks on light late) le below rise = (omega arith, later 23 _ n _ late rise)
 tick_by h n _ _ le below rise = rise
 
-pub ticks_rise : AlwaysRise 23 tick_of
-ticks_rise h = without 23 (due (answers h)) (filter_map tick_of (answers h))
-    (through (λ given n. Rise 23 (due given ∷ filter_map tick_of given)) tt tick_by h)
+pub ticks_rise : AlwaysRise 23 tick_moment
+ticks_rise h = without 23 (next_tick (answers h)) (filter_map tick_moment (answers h))
+    (through (λ given n. Rise 23 (next_tick given ∷ filter_map tick_moment given)) tt tick_by h)
 
 -- ---- the ticks of each stage
 
@@ -56,7 +57,7 @@ pub on_only : (s : Stage) → is_on s ≡ true → s ≡ On
 on_only On on = refl
 on_only s on = cc
 
-pub dark_only : (s : Stage) → is_dark s ≡ true → (count : ℕ) × (s ≡ Dark count)
+pub dark_only : (s : Stage) → is_light_down s ≡ true → (count : ℕ) × (s ≡ Dark count)
 dark_only (Dark count) dark = (count, refl)
 dark_only s dark = cc
 
@@ -104,7 +105,7 @@ begins (asked moment ∷ h) = begins_by h _ _ (answer_is_next h moment) (begins 
 begins (came bytes ∷ h) = grows _ (bytes_come h) bytes (begins h)
 begins (closed ends ∷ h) = grows _ (bytes_come h) (10 ∷ []) (begins h)
 
-none_left : (h : List Happening) → lines_left (answers h) h ≡ []
+none_left : (h : List Happening) → unanswered_lines (answers h) h ≡ []
     → lines h ≡ lines_answered (answers h)
 none_left h is = rw append-nil at (left_is (lines_answered (answers h)) (lines h) [] (begins h) is)
 
@@ -116,7 +117,7 @@ pub waits_last : (h : List Happening) (moment n : ℕ) → answer_to h moment �
     → lines h ≡ lines_answered (answers h)
 waits_last h moment n is = waits_only h _ n (rw is at (answer_is_next h moment))
 
-late_first : (given : List Answer) (n : ℕ) → was_tick given ≡ false → due given ≤ n
+late_first : (given : List Answer) (n : ℕ) → was_tick given ≡ false → next_tick given ≤ n
     → goes_first given n ≡ true
 late_first given n none late = grind (arith, nat_tests, none, late)
 

@@ -16,9 +16,10 @@ use Rattle.live_input.specs.declared.given.GivenLine.{GivenLine}
 use Rattle.live_input.specs.declared.given.Given.TheVariants.{Help, Line, Over, Refused, Until}
 use Rattle.live_input.specs.declared.given.Given.TheVariants.{Where}
 use Rattle.live_input.specs.Night.{Answer, Happening, answer_to, answers, asked, came}
-use Rattle.live_input.specs.Night.{bytes_come, lines_answered, lines_given, lines_left, with_given}
+use Rattle.live_input.specs.Night.{bytes_come, lines_answered, lines_given, unanswered_lines}
+use Rattle.live_input.specs.Night.{with_given}
 use Rattle.live_input.specs.Night.{order, dim, close, tick, place, help, refusal, wait, over}
-use Rattle.live_input.specs.Recall.{AreRecalled, IsRecalled, recall_of, recalled, recalled_by}
+use Rattle.live_input.specs.Recall.{AreRecalled, IsRecalled, recall_of, recall_line, recalled_by}
 use Rattle.live_input.specs.Recall.{typed_again}
 use Rattle.live_input.specs.Kept.{TypedKept}
 use Rattle.live_input.specs.Stands.{TakesLine, TypedStands}
@@ -100,7 +101,7 @@ module _ (line : List ℕ) (happened : List Happening) (moment : ℕ) (call : Ca
   abbrev typed : List Happening
   typed = typed_again moment call (line ++ 10 ∷ []) happened
 
-  pub recalled_is : recalled line happened ≡ asked moment ∷ typed
+  pub recalled_is : recall_line line happened ≡ asked moment ∷ typed
   recalled_is = ap (λ reading. recalled_by reading line happened) reads
 
   -- what gives no line gives another
@@ -115,7 +116,7 @@ module _ (line : List ℕ) (happened : List Happening) (moment : ℕ) (call : Ca
   pub same_line : (given : GivenLine) → Tells (Line given) (answer_to typed moment)
       → (text : List ℕ) → text ≡ line ++ 10 ∷ [] → given.text.items ≡ text
       → IsGiven given line
-      × (lines_given (answers (recalled line happened)) ≡ line ∷ lines_given (answers happened))
+      × (lines_given (answers (recall_line line happened)) ≡ line ∷ lines_given (answers happened))
   same_line given tells text is same =
       let one = one_line given (answer_to typed moment) tells in
       let line_is : one.line ≡ line = append_cancel_right one.line line (10 ∷ [])
@@ -129,7 +130,7 @@ module _ (line : List ℕ) (happened : List Happening) (moment : ℕ) (call : Ca
 
 pub left_none : (typed : TypedKept) (happened : List Happening)
     → TypedStands typed (bytes_come happened) (lines_answered (answers happened))
-    → typed.unread ≡ [] → lines_left (answers happened) happened ≡ []
+    → typed.unread ≡ [] → unanswered_lines (answers happened) happened ≡ []
 left_none typed happened stands none =
     none_left typed (bytes_come happened) (lines_answered (answers happened)) stands none
 

@@ -18,12 +18,14 @@ use Rattle.live_input.specs.declared.request.Request.{Request}
 use Rattle.live_input.specs.declared.request.Request.TheVariants.{Leave, Order}
 use Rattle.live_input.specs.Keys.{without_keys}
 use Rattle.live_input.specs.Laws.{RecordsAreRecalled}
-use Rattle.live_input.specs.Night.{Answer, Happening, answers, asked, at_moment}
-use Rattle.live_input.specs.Night.{by_itself, bytes_come, came, due, ends_with_input, goes_first}
-use Rattle.live_input.specs.Night.{is_dark, is_through, lines_answered, lines_given, lines_left}
+use Rattle.live_input.specs.Night.{Answer, Happening, answers, asked, behind_moment}
+use Rattle.live_input.specs.Night.{by_itself, bytes_come, came, next_tick, ends_with_input}
+use Rattle.live_input.specs.Night.{goes_first}
+use Rattle.live_input.specs.Night.{is_light_down, is_through, lines_answered, lines_given}
+use Rattle.live_input.specs.Night.{unanswered_lines}
 use Rattle.live_input.specs.Night.{now, stage, stage_by, to_request, was_tick}
 use Rattle.live_input.specs.Night.{words_asked, order, dim, close, tick, over}
-use Rattle.live_input.specs.Recall.{AreRecalled, recall_of, recalled}
+use Rattle.live_input.specs.Recall.{AreRecalled, recall_of, recall_line}
 use Rattle.live_input.specs.Typed.{typed_of}
 use Rattle.live_input.proofs.Answering.{request_more}
 use Rattle.live_input.proofs.Cases.{HasTurn, Keeps, Ordinary, closes, darkens, dims, leaves, takes}
@@ -45,7 +47,7 @@ told (close n typed ∷ older) = close n (Some (codes "leave")) ∷ told older
 told (tick n ∷ older) = tick n ∷ told older
 told (_ ∷ older) = told older
 
-due_told : (given : List Answer) → due (told given) ≡ due given
+due_told : (given : List Answer) → next_tick (told given) ≡ next_tick given
 due_told [] = refl
 due_told (tick n ∷ older) = refl
 due_told (_ ∷ older) = due_told older
@@ -92,7 +94,7 @@ turn_told h n turn = (
 
 -- the night is not over, and the light not to go
 lit_still : (s : Stage) → is_through s ≡ false
-    → (is_through (lit s) ≡ false) × (is_dark (lit s) ≡ false)
+    → (is_through (lit s) ≡ false) × (is_light_down (lit s) ≡ false)
 lit_still (Ended count) still = (still, refl)
 lit_still s still = (refl, refl)
 
@@ -123,7 +125,7 @@ module _ {lines : List (List ℕ)} {given : List Answer} (n : ℕ) (k : Replays 
   clock_is : now (asked n ∷ r) ≡ n
   clock_is = omega arith
 
-  more : (after : List Happening) (line : List ℕ) (answer : Answer) → recalled line r ≡ after
+  more : (after : List Happening) (line : List ℕ) (answer : Answer) → recall_line line r ≡ after
       → now after ≡ n → ends_with_input after ≡ false → answers after ≡ answer ∷ given
       → typed_of (bytes_come after) ≡ record { lines = lines_answered (answer ∷ given); rest = [] }
       → length line ≤ 200 → lines_given (answer ∷ given) ≡ line ∷ lines_given given
@@ -145,69 +147,73 @@ module _ {lines : List (List ℕ)} {given : List Answer} (n : ℕ) (k : Replays 
     rw (same) (omega arith),
   )
 
-  replay_tick : is_through (stage given) ≡ false → is_dark (stage given) ≡ false → due given ≤ n
-      → ReplaysBy (at_moment n (codes "tick") ∷ lines) (tick n ∷ given) n
+  replay_tick : is_through (stage given) ≡ false → is_light_down (stage given) ≡ false
+      → next_tick given ≤ n
+      → ReplaysBy (behind_moment n (codes "tick") ∷ lines) (tick n ∷ given) n
   replay_tick on light late =
-      let due_is : nat_le (due given) n ≡ true = le-leb (due given) n late in
+      let due_is : nat_le (next_tick given) n ≡ true = le-leb (next_tick given) n late in
       let rest : Answer = by_itself given false n in
       let itself : rest ≡ tick n = grind (arith, due_is) in
       let is : answers (asked n ∷ r) ≡ tick n ∷ given =
       rw (k.answers_are, on, light, clock_is, k.none_left, drop-length, k.holds)
       (cond_both (goes_first given n) _ _ (λ first. unwrap_or first rest ∷ given ≡ tick n ∷ given)
       (λ first. refl) (λ none. ap (λ answer. answer ∷ given) itself)) in
-      more (asked n ∷ r) (at_moment n (codes "tick")) (tick n)
-      (recalled_is (at_moment n (codes "tick")) r n call.Tick (reading_is n (codes "tick") below))
+      more (asked n ∷ r) (behind_moment n (codes "tick")) (tick n)
+      (recalled_is (behind_moment n (codes "tick")) r n call.Tick
+      (reading_is n (codes "tick") below))
       clock_is k.holds is k.none_left (word_fits n (codes "tick") below (omega arith)) refl
 
   -- words are typed, and the answer is a line of others
   replay_line : (text words : List ℕ) (request : Request) → IsTurn given n
-      → length (at_moment n text) ≤ 200 → All NotLf text → (length (words_of text) == 0) ≡ false
+      → length (behind_moment n text) ≤ 200 → All NotLf text → (length (words_of text) == 0) ≡ false
       → words_asked true (words_of (without_keys text)) ≡ request
-      → length (at_moment n words) ≤ 200
-      → recalled (at_moment n words) r ≡ asked n ∷ came (text ++ 10 ∷ []) ∷ r
-      → lines_given (to_request n text request ∷ given) ≡ at_moment n words ∷ lines_given given
-      → ReplaysBy (at_moment n words ∷ lines) (to_request n text request ∷ given) n
+      → length (behind_moment n words) ≤ 200
+      → recall_line (behind_moment n words) r ≡ asked n ∷ came (text ++ 10 ∷ []) ∷ r
+      → lines_given (to_request n text request ∷ given) ≡ behind_moment n words ∷ lines_given given
+      → ReplaysBy (behind_moment n words ∷ lines) (to_request n text request ∷ given) n
   replay_line text words request turn fit whole says asks short same gives =
       let then : List Happening = came (text ++ 10 ∷ []) ∷ r in
       let short_too : length text ≤ 200 = omega (arith, spaced n text, fit) in
       let typed = line_typed (bytes_come r) text (lines_answered given) k.none_left whole short_too
       (rw (le-leb (length text) 200 short_too) says) in
-      let left : lines_left given then ≡ text ∷ [] =
+      let left : unanswered_lines given then ≡ text ∷ [] =
       rw typed (drop-append_seam (lines_answered given) (text ∷ [])) in
       let is : answers (asked n ∷ then) ≡ to_request n text request ∷ given =
       rw (k.answers_are, turn.0, clock_is, turn.1, left, le-leb _ 200 fit, turn.0, asks) refl in
-      more (asked n ∷ then) (at_moment n words) (to_request n text request) same clock_is k.holds is
+      more (asked n ∷ then) (behind_moment n words) (to_request n text request) same clock_is
+      k.holds is
       (rw (request_more given n text request) typed) short gives
 
   replay_order : (text : List ℕ) (command : Command) → IsTurn given n
-      → length (at_moment n text) ≤ 200 → All NotLf text
+      → length (behind_moment n text) ≤ 200 → All NotLf text
       → command_of (words_of text) ≡ Some command → Ordinary text command
       → without_keys text ≡ text
-      → ReplaysBy (at_moment n text ∷ lines) (order n text ∷ given) n
+      → ReplaysBy (behind_moment n text ∷ lines) (order n text ∷ given) n
   replay_order text command turn fit whole some asks keys =
       let says = says_some (words_of text) command (rw keys at asks.1) in
-      let typed = words_typed n command (at_moment n text ++ 10 ∷ []) r
+      let typed = words_typed n command (behind_moment n text ++ 10 ∷ []) r
       (λ e. let no = rw e at asks.0 in cc)
       ∙ ap (λ words. came words ∷ r)
       (rw (append_assoc, append_assoc)
       (drop-append-add (decimal n) (codes " " ++ (text ++ 10 ∷ [])) 1)) in
       replay_line text text (Order command) turn fit whole says asks.1 fit
-      (recalled_is (at_moment n text) r n (call.Order command)
+      (recalled_is (behind_moment n text) r n (call.Order command)
       (spells n text below (Some command) some refl).0 ∙ ap (λ happened. asked n ∷ happened) typed)
       (rw keys refl)
 
   replay_dim : IsTurn given n
-      → ReplaysBy (at_moment n (codes "master 0") ∷ lines) (order n (codes "master 0") ∷ given) n
+      → ReplaysBy (behind_moment n (codes "master 0") ∷ lines)
+      (order n (codes "master 0") ∷ given) n
   replay_dim turn = replay_order (codes "master 0") (Master 0) turn
       (word_fits n (codes "master 0") below (omega arith)) (word_whole (codes "master 0") refl)
       refl (refl, refl) refl
 
   replay_end : IsTurn given n
-      → ReplaysBy (at_moment n (codes "end") ∷ lines) (close n (Some (codes "leave")) ∷ given) n
+      → ReplaysBy (behind_moment n (codes "end") ∷ lines) (close n (Some (codes "leave")) ∷ given) n
   replay_end turn = replay_line (codes "leave") (codes "end") Leave turn
       (word_fits n (codes "leave") below (omega arith)) (word_whole (codes "leave") refl) refl refl
       (word_fits n (codes "end") below (omega arith))
-      (recalled_is (at_moment n (codes "end")) r n (call.Order End)
+      (recalled_is (behind_moment n (codes "end")) r n (call.Order End)
       (reading_is n (codes "end") below)) refl
 
 -- ---- each line of a night
@@ -215,7 +221,7 @@ module _ {lines : List (List ℕ)} {given : List Answer} (n : ℕ) (k : Replays 
 -- the light is down behind a tick
 abbrev IsKept : List Answer → ℕ → Type 0
 IsKept given n = ReplaysBy (lines_given given) (told given) n
-    × (is_dark (stage given) ≡ true → was_tick (told given) ≡ true)
+    × (is_light_down (stage given) ≡ true → was_tick (told given) ≡ true)
 
 kept_by : Keeps IsKept
 kept_by h n _ (takes line left is on fit c spelled asks) le below k =
@@ -244,7 +250,7 @@ kept_by h n _ (closes dark) le below k =
     (replay_end n k.0.0 (omega (arith, k.0.1)) below turn, rw down (λ dark. dark))
 kept_by h n _ (ticks on light late) le below k =
     let still = rw (← (stage_told (answers h))) at (lit_still (stage (answers h)) on) in
-    let due_is : due (told (answers h)) ≤ n = omega (arith, late, due_told (answers h)) in
+    let due_is : next_tick (told (answers h)) ≤ n = omega (arith, late, due_told (answers h)) in
     (replay_tick n k.0.0 (omega (arith, k.0.1)) below still.0 still.1 due_is, λ dark. refl)
 kept_by h n _ _ le below k = ((k.0.0, omega (arith, k.0.1)), k.1)
 

@@ -1,14 +1,15 @@
 -- Nights, evaluated.
 use Rattle.std.specs.Prelude.{◌≡◌, ◌++◌, true, false, Some, None, refl, codes, [], ◌∷◌}
 use Rattle.std.specs.Fmt.{digits}
-use Rattle.live_input.specs.Night.{answers, due_after, lines_given, shown, came, closed, asked}
+use Rattle.live_input.specs.Night.{answers, due_after, lines_given, refused_front, came, closed}
+use Rattle.live_input.specs.Night.{asked}
 use Rattle.live_input.specs.Night.{order, dim, close, tick, place, help, refusal, wait, over}
 use Rattle.live_input.specs.Night.{ignored_keys}
 use Rattle.live_input.specs.Recall.{recall_of}
 use Rattle.live_input.specs.declared.reason.Reason.TheVariants.{Ending, Keys, Moment, Go, Alone}
 use Rattle.live_input.specs.declared.reason.Reason.TheVariants.{Goto, Numbered, Master, Unknown}
 use Rattle.live_input.specs.Keys.{without_keys}
-use Rattle.live_input.specs.Reasons.{reason_of}
+use Rattle.live_input.specs.Reasons.{refusal_reason}
 use Rattle.ascii_text.specs.Text.{words_of}
 
 -- ticks on the grid, one that is late, and those after it
@@ -78,7 +79,7 @@ left = refl
 texts : (lines_given (tick 250 ∷ order 249 (codes "go") ∷ refusal Unknown (codes "x")
     ∷ place 2 (codes "where") ∷ help (codes "?") ∷ close 1 None ∷ dim 0 (Some (codes "end")) ∷ [])
     ≡ codes "250 tick" ∷ codes "249 go" ∷ codes "1 end" ∷ codes "0 master 0" ∷ [])
-    × (shown (codes "go\t" ++ 0 ∷ 255 ∷ 126 ∷ []) ≡ codes "go???~")
+    × (refused_front (codes "go\t" ++ 0 ∷ 255 ∷ 126 ∷ []) ≡ codes "go???~")
 unfolding digits
 texts = (refl, refl)
 
@@ -91,22 +92,26 @@ unfolding digits
 questions = refl
 
 -- why lines are refused
-reasons : (reason_of (words_of (codes "go 4")) ≡ Go) × (reason_of (words_of (codes "back 2")) ≡ Alone)
-    × (reason_of (words_of (codes "END now")) ≡ Alone)
-    × (reason_of (words_of (codes "help me")) ≡ Alone)
-    × (reason_of (words_of (codes "25 go")) ≡ Moment) × (reason_of (words_of (codes "4")) ≡ Moment)
-    × (reason_of (words_of (codes "goto")) ≡ Goto) × (reason_of (words_of (codes "goto 0")) ≡ Goto)
-    × (reason_of (words_of (codes "sub 3")) ≡ Numbered)
-    × (reason_of (words_of (codes "group 1 FX")) ≡ Numbered)
-    × (reason_of (words_of (codes "master 101")) ≡ Master)
-    × (reason_of (words_of (codes "jump 3")) ≡ Unknown)
-    × (reason_of (words_of (codes "tick")) ≡ Unknown) × (reason_of (words_of []) ≡ Keys)
+reasons : (refusal_reason (words_of (codes "go 4")) ≡ Go)
+    × (refusal_reason (words_of (codes "back 2")) ≡ Alone)
+    × (refusal_reason (words_of (codes "END now")) ≡ Alone)
+    × (refusal_reason (words_of (codes "help me")) ≡ Alone)
+    × (refusal_reason (words_of (codes "25 go")) ≡ Moment)
+    × (refusal_reason (words_of (codes "4")) ≡ Moment)
+    × (refusal_reason (words_of (codes "goto")) ≡ Goto)
+    × (refusal_reason (words_of (codes "goto 0")) ≡ Goto)
+    × (refusal_reason (words_of (codes "sub 3")) ≡ Numbered)
+    × (refusal_reason (words_of (codes "group 1 FX")) ≡ Numbered)
+    × (refusal_reason (words_of (codes "master 101")) ≡ Master)
+    × (refusal_reason (words_of (codes "jump 3")) ≡ Unknown)
+    × (refusal_reason (words_of (codes "tick")) ≡ Unknown) × (refusal_reason (words_of []) ≡ Keys)
 reasons =
     (refl, refl, refl, refl, refl, refl, refl, refl, refl, refl, refl, refl, refl, refl)
 
 -- an arrow, as the modes of a terminal send it, with a shift, and with Alt; F1, also on the Linux
 -- console; Delete; Alt and a letter; half a sequence
-keys : (without_keys (27 ∷ codes "[Ago") ≡ codes "go") × (without_keys (27 ∷ codes "OAgo") ≡ codes "go")
+keys : (without_keys (27 ∷ codes "[Ago") ≡ codes "go")
+    × (without_keys (27 ∷ codes "OAgo") ≡ codes "go")
     × (without_keys (codes "g" ++ 27 ∷ codes "[1;2Do") ≡ codes "go")
     × (without_keys (27 ∷ 27 ∷ codes "[Cgo") ≡ codes "go")
     × (without_keys (27 ∷ codes "OPgo") ≡ codes "go")
@@ -118,7 +123,8 @@ keys : (without_keys (27 ∷ codes "[Ago") ≡ codes "go") × (without_keys (27 
 keys = (refl, refl, refl, refl, refl, refl, refl, refl, refl, refl, refl)
 
 -- a GO behind an arrow, and an arrow alone
-arrows : (answers (asked 1 ∷ asked 1 ∷ came (27 ∷ codes "[Ago\n" ++ 27 ∷ codes "[B\n") ∷ asked 0 ∷ [])
+arrows : (answers (asked 1 ∷ asked 1 ∷ came (27 ∷ codes "[Ago\n" ++ 27 ∷ codes "[B\n")
+    ∷ asked 0 ∷ [])
     ≡ refusal Keys (27 ∷ codes "[B") ∷ order 1 (27 ∷ codes "[Ago") ∷ tick 0 ∷ [])
     × (lines_given (order 1 (27 ∷ codes "[Ago") ∷ []) ≡ codes "1 go" ∷ [])
     × (ignored_keys (order 1 (27 ∷ codes "[Ago") ∷ []) ≡ true)

@@ -22,7 +22,7 @@ use Rattle.desk.specs.declared.command.Command.{Command}
 use Rattle.console.specs.declared.call.Call.TheVariants.{Order}
 use Rattle.console.specs.Spelling as spelling
 use Rattle.console.specs.Spelling.{call_of, command_of, command_with, reading_of}
-use Rattle.live_input.specs.Night.{at_moment}
+use Rattle.live_input.specs.Night.{behind_moment}
 
 -- ---- the digits of a number
 
@@ -59,7 +59,7 @@ passed test (d ∷ ds) rest h = rw (All-head (Fails test) d ds h)
 
 -- the words of a line are those before its comment
 words_behind : (n : ℕ) (line : List ℕ) → n < 2 ^ 48
-    → words_of (at_moment n line) ≡ decimal n ∷ words_of line
+    → words_of (behind_moment n line) ≡ decimal n ∷ words_of line
 words_behind n line below =
     let some = decimal_nonempty n (omega arith) in
     let word : is_word (decimal n) ≡ true = grind (arith, some) in
@@ -84,8 +84,8 @@ moment_is moment below =
 
 -- words behind a moment are read with it
 pub reading_is : (moment : ℕ) (line : List ℕ) → moment < 2 ^ 48
-    → reading_of (at_moment moment line)
-    ≡ spelling.at_moment (Some moment) (call_of (words_of line))
+    → reading_of (behind_moment moment line)
+    ≡ spelling.reading_at (Some moment) (call_of (words_of line))
 reading_is moment line below = rw (words_behind moment line below, moment_is moment below) refl
 
 -- ---- commands

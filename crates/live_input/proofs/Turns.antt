@@ -3,7 +3,7 @@ use Rattle.std.proofs.Common.{◌≡◌, ◌⊎◌, inl, inr, ◌≤◌, ℕ, fa
 use Rattle.std.proofs.Common.{refl, Some, None}
 use Rattle.live_input.specs.Laws.{IsOn, IsTick, NothingIsAsked, TicksAreNext}
 use Rattle.live_input.specs.Night.{Answer, Happening, answer_to, answers, asked, came, closed}
-use Rattle.live_input.specs.Night.{due, is_over, now, stage}
+use Rattle.live_input.specs.Night.{next_tick, is_over, now, stage}
 use Rattle.live_input.specs.Night.{was_tick, order, dim, close, place, help, refusal, wait}
 use Rattle.live_input.proofs.Cases.{Next, answer_is_next, nothing, ticks, takes, darkens, leaves}
 use Rattle.live_input.proofs.Cases.{places, helps, refuses, dims, closes, waits}
@@ -12,11 +12,11 @@ use Rattle.live_input.proofs.Nights.{dark_only, on_only, ticks_first}
 -- the answer is no tick, the tick is due as before, and nothing else goes before it
 record Stays (h : List Happening) (answer : Answer) : Type 0 where
   none : was_tick (answer ∷ answers h) ≡ false
-  same : due (answer ∷ answers h) ≡ due (answers h)
+  same : next_tick (answer ∷ answers h) ≡ next_tick (answers h)
   open_still : IsOn (answer ∷ answers h)
 
 stays : (h : List Happening) (answer : Answer) → was_tick (answer ∷ answers h) ≡ false
-    → due (answer ∷ answers h) ≡ due (answers h) → IsOn (answer ∷ answers h)
+    → next_tick (answer ∷ answers h) ≡ next_tick (answers h) → IsOn (answer ∷ answers h)
     → IsTick answer ⊎ Stays h answer
 stays h answer none same still =
     inr (record { none = none; same = same; open_still = still })
@@ -38,7 +38,7 @@ tick_or_line h n _ (dims is _) on =
     stays h (dim n None) refl refl (rw (on_only (stage (answers h)) is.0) (refl, refl))
 tick_or_line h n _ (closes dark) on =
     stays h (close n None) refl refl (rw (dark_only (stage (answers h)) dark).1 (refl, refl))
-tick_or_line h n _ (waits _ is) on = stays h (wait (due (answers h))) refl refl is
+tick_or_line h n _ (waits _ is) on = stays h (wait (next_tick (answers h))) refl refl is
 
 -- what was answered is as it was, and the clock does not fall
 record Lasts (h later : List Happening) : Type 0 where
@@ -55,13 +55,13 @@ lasts h (asked _ ∷ meanwhile) none = elim none [ ]
 
 -- the next answer is a tick, where this one is none
 then_tick : (h later : List Happening) (moment next : ℕ) → Lasts (asked moment ∷ h) later
-    → due (answers h) ≤ now (asked moment ∷ h)
+    → next_tick (answers h) ≤ now (asked moment ∷ h)
     → IsTick (answer_to h moment) ⊎ Stays h (answer_to h moment)
     → IsTick (answer_to h moment) ⊎ IsTick (answer_to later next)
 then_tick h later moment next lasts late (inl first) = inl first
 then_tick h later moment next lasts late (inr stays) =
     let still : was_tick (answers later) ≡ false = rw lasts.same stays.none in
-    let due_then : due (answers later) ≤ now (asked next ∷ later)
+    let due_then : next_tick (answers later) ≤ now (asked next ∷ later)
     = rw (lasts.same, stays.same) (omega (arith, late, lasts.above)) in
     let on : IsOn (answers later) = rw lasts.same stays.open_still in
     inr (rw (ticks_first later next on still due_then) tt)

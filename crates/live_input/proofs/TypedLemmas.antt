@@ -9,27 +9,28 @@ use Rattle.std.proofs.lemmas.Bool.Decides.{nat_tests}
 use Rattle.std.proofs.lemmas.List.Sums.{fold-append}
 use Rattle.live_input.specs.Kept.{TypedKept}
 use Rattle.live_input.specs.Stands.{IsNext, TypedStands}
-use Rattle.live_input.specs.Typed.{Typed, no_bytes, says_nothing, typed_of, with_byte}
+use Rattle.live_input.specs.Typed.{TypedLines, nothing_typed, says_nothing, typed_of}
+use Rattle.live_input.specs.Typed.{with_typed_byte}
 
 -- the new lines are the old ones and some more
 abbrev pub Adds : List (List ℕ) → List (List ℕ) → Type 0
 Adds old new = (more : List (List ℕ)) × (new ≡ old ++ more)
 
-byte_more : (old : List (List ℕ)) (t : Typed) (b : ℕ) → Adds old t.lines
-    → Adds old (with_byte t b).lines
+byte_more : (old : List (List ℕ)) (t : TypedLines) (b : ℕ) → Adds old t.lines
+    → Adds old (with_typed_byte t b).lines
 byte_more old t b m =
-    cond_both (b == 10) _ _ (λ (x : Typed). Adds old x.lines)
+    cond_both (b == 10) _ _ (λ (x : TypedLines). Adds old x.lines)
     (λ lf. cond_both (says_nothing t.rest) _ _ (Adds old) (λ says. m)
     (λ says. (m.0 ++ t.rest ∷ [], rw m.1 (append_assoc old m.0 (t.rest ∷ []))))) (λ other. m)
 
-lines_more : (old : List (List ℕ)) (t : Typed) (bytes : List ℕ) → Adds old t.lines
-    → Adds old (fold with_byte t bytes).lines
+lines_more : (old : List (List ℕ)) (t : TypedLines) (bytes : List ℕ) → Adds old t.lines
+    → Adds old (fold with_typed_byte t bytes).lines
 lines_more old t [] m = m
-lines_more old t (b ∷ bytes) m = lines_more old (with_byte t b) bytes (byte_more old t b m)
+lines_more old t (b ∷ bytes) m = lines_more old (with_typed_byte t b) bytes (byte_more old t b m)
 
 pub grows : (old : List (List ℕ)) (bytes more : List ℕ) → Adds old (typed_of bytes).lines
     → Adds old (typed_of (bytes ++ more)).lines
-grows old bytes more m = rw (fold-append with_byte no_bytes bytes more)
+grows old bytes more m = rw (fold-append with_typed_byte nothing_typed bytes more)
     (lines_more old (typed_of bytes) more m)
 
 -- the next byte that was not taken
@@ -54,10 +55,11 @@ module _ (kept : TypedKept) (b : ℕ) (unread bytes : List ℕ) (taken : List (L
 
 -- a line that was just taken
 pub is_next : (taken : List (List ℕ)) (line rest unread bytes : List ℕ)
-    → fold with_byte (record { lines = taken ++ line ∷ []; rest = rest }) unread ≡ typed_of bytes
+    → fold with_typed_byte (record { lines = taken ++ line ∷ []; rest = rest }) unread
+    ≡ typed_of bytes
     → IsNext line bytes taken
 is_next taken line rest unread bytes e =
-    let t : Typed = record { lines = taken ++ line ∷ []; rest = rest } in
+    let t : TypedLines = record { lines = taken ++ line ∷ []; rest = rest } in
     let m = lines_more t.lines t unread ([], sym (append-nil t.lines)) in
     (m.0, rw (← e, m.1, append_assoc) (drop-append_seam taken (line ∷ m.0)))
 
@@ -69,5 +71,5 @@ none_left kept bytes taken stands none = rw (← (rw none at stands)) (drop-leng
 
 -- and more bytes come
 pub more_typed : (bytes more : List ℕ)
-    → typed_of (bytes ++ more) ≡ fold with_byte (typed_of bytes) more
-more_typed bytes more = fold-append with_byte no_bytes bytes more
+    → typed_of (bytes ++ more) ≡ fold with_typed_byte (typed_of bytes) more
+more_typed bytes more = fold-append with_typed_byte nothing_typed bytes more

@@ -9,7 +9,7 @@ pub record TypedKept : Type 0 where
 
 -- what was typed; whether the night ends with its input, which ended; the clock; whether keys were
 -- left out of the line that was answered last; and what the answers so far leave
-pub record Kept : Type 0 where
+pub record InputState : Type 0 where
   pub typed : TypedKept
   pub ends : Bool
   pub now : ℕ

@@ -33,14 +33,14 @@ part_after Sequence byte = in_sequence byte
 part_after Last byte = Text
 
 -- a byte of the text itself
-abbrev pub is_text : Part → ℕ → Bool
-is_text Text byte = not (is_escape byte)
-is_text _ byte = false
+abbrev pub is_text_byte : Part → ℕ → Bool
+is_text_byte Text byte = not (is_escape byte)
+is_text_byte _ byte = false
 
 abbrev pub text_from : Part → List ℕ → List ℕ
 text_from part [] = []
 text_from part (byte ∷ bytes) =
-    if is_text part byte then byte ∷ text_from (part_after part byte) bytes
+    if is_text_byte part byte then byte ∷ text_from (part_after part byte) bytes
     else text_from (part_after part byte) bytes
 
 -- what is left of a line without the keys

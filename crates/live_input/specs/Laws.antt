@@ -14,9 +14,10 @@ use Rattle.desk.specs.declared.command.Command.TheVariants.{End, Master}
 use Rattle.console.specs.declared.call.Call.TheVariants.{Order, Tick}
 use Rattle.console.specs.declared.reading.Reading.TheVariants.{At}
 use Rattle.console.specs.Spelling.{command_of, is_malformed, reading_of}
-use Rattle.live_input.specs.Night.{Answer, Happening, answer_to, answers, at_moment, bytes_come}
+use Rattle.live_input.specs.Night.{Answer, Happening, answer_to, answers, behind_moment, bytes_come}
 use Rattle.live_input.specs.Night.{ends_with_input, lines_answered, lines_given, stage}
-use Rattle.live_input.specs.Night.{asked, due, is_dark, is_over, lines_left, now, to_line}
+use Rattle.live_input.specs.Night.{asked, next_tick, is_light_down, is_over, unanswered_lines, now}
+use Rattle.live_input.specs.Night.{to_line}
 use Rattle.live_input.specs.Night.{was_tick}
 use Rattle.live_input.specs.Night.{order, dim, close, tick, wait, over}
 use Rattle.live_input.specs.declared.progress.Stage.{Stage}
@@ -28,31 +29,33 @@ use Rattle.live_input.specs.Typed.{typed_of}
 -- ---- lines
 
 -- the bytes that were given, in their order: each line with its LF
-abbrev pub text_of : List (List ℕ) → List ℕ
-text_of lines = flat_map (λ line. line ++ 10 ∷ []) (reverse lines)
+abbrev pub lines_text : List (List ℕ) → List ℕ
+lines_text lines = flat_map (λ line. line ++ 10 ∷ []) (reverse lines)
 
 -- `play` takes each of these lines: none is malformed or has more than 200 bytes
-pub record AreFine (lines : List (List ℕ)) : Type 0 where
+pub record PlayTakes (lines : List (List ℕ)) : Type 0 where
   pub none_malformed : All (λ line. is_malformed (reading_of line) ≡ false) lines
   pub none_long : All (λ line. length line ≤ 200) lines
 
 abbrev pub LinesAreFine : Type 0
-LinesAreFine = (h : List Happening) → AreFine (lines_of (text_of (lines_given (answers h))))
+LinesAreFine = (h : List Happening) → PlayTakes (lines_of (lines_text (lines_given (answers h))))
 
 -- a line of this command at this moment
-abbrev pub Spells : Option Command → ℕ → List ℕ → Type 0
-Spells (Some command) moment line = reading_of (at_moment moment line) ≡ At moment (Order command)
-Spells None moment line = ⊥
+abbrev pub SpellsCommand : Option Command → ℕ → List ℕ → Type 0
+SpellsCommand (Some command) moment line =
+    reading_of (behind_moment moment line) ≡ At moment (Order command)
+SpellsCommand None moment line = ⊥
 
 -- a line that is given spells the very command that was typed, `master 0`, `end` or a tick, at its
 -- moment
 abbrev pub IsSpelled : Answer → Type 0
 IsSpelled (order moment line) =
-    Spells (command_of (words_of (without_keys line))) moment (without_keys line)
+    SpellsCommand (command_of (words_of (without_keys line))) moment (without_keys line)
 IsSpelled (dim moment typed) =
-    reading_of (at_moment moment (codes "master 0")) ≡ At moment (Order (Master 0))
-IsSpelled (close moment typed) = reading_of (at_moment moment (codes "end")) ≡ At moment (Order End)
-IsSpelled (tick moment) = reading_of (at_moment moment (codes "tick")) ≡ At moment Tick
+    reading_of (behind_moment moment (codes "master 0")) ≡ At moment (Order (Master 0))
+IsSpelled (close moment typed) =
+    reading_of (behind_moment moment (codes "end")) ≡ At moment (Order End)
+IsSpelled (tick moment) = reading_of (behind_moment moment (codes "tick")) ≡ At moment Tick
 IsSpelled _ = Unit {0}
 
 abbrev pub AnswersAreSpelled : Type 0
@@ -67,27 +70,27 @@ Rise gap (newest ∷ []) = Unit {0}
 Rise gap (newest ∷ newer ∷ older) = (newer + gap ≤ newest) × Rise gap (newer ∷ older)
 
 -- the moment of a line that was given
-abbrev pub moment_of : Answer → Option ℕ
-moment_of (order moment line) = Some moment
-moment_of (dim moment typed) = Some moment
-moment_of (close moment typed) = Some moment
-moment_of (tick moment) = Some moment
-moment_of _ = None
+abbrev pub moment_given : Answer → Option ℕ
+moment_given (order moment line) = Some moment
+moment_given (dim moment typed) = Some moment
+moment_given (close moment typed) = Some moment
+moment_given (tick moment) = Some moment
+moment_given _ = None
 
 -- the moment of a tick
-abbrev pub tick_of : Answer → Option ℕ
-tick_of (tick moment) = Some moment
-tick_of _ = None
+abbrev pub tick_moment : Answer → Option ℕ
+tick_moment (tick moment) = Some moment
+tick_moment _ = None
 
 -- in every night each such moment of an answer is at least so much later than the one before
 abbrev pub AlwaysRise : ℕ → (Answer → Option ℕ) → Type 0
 AlwaysRise gap moment = (h : List Happening) → Rise gap (filter_map moment (answers h))
 
 abbrev pub MomentsNeverFall : Type 0
-MomentsNeverFall = AlwaysRise 0 moment_of
+MomentsNeverFall = AlwaysRise 0 moment_given
 
 abbrev pub TicksAreApart : Type 0
-TicksAreApart = AlwaysRise 23 tick_of
+TicksAreApart = AlwaysRise 23 tick_moment
 
 -- ---- the order of things
 
@@ -105,20 +108,20 @@ WaitsComeLast =
 
 -- the night is not over, and is not to be closed now
 abbrev pub IsOn : List Answer → Type 0
-IsOn given = (is_over given ≡ false) × (is_dark (stage given) ≡ false)
+IsOn given = (is_over given ≡ false) × (is_light_down (stage given) ≡ false)
 
 -- a tick that is due goes before whatever lines wait, where the answer before was none
 abbrev pub TicksGoFirst : Type 0
 TicksGoFirst =
     (h : List Happening) (moment : ℕ) → IsOn (answers h) → was_tick (answers h) ≡ false
-    → due (answers h) ≤ now (asked moment ∷ h)
+    → next_tick (answers h) ≤ now (asked moment ∷ h)
     → answer_to h moment ≡ tick (now (asked moment ∷ h))
 
 -- a line that waits is the answer behind each tick: ticks that are late keep no line from its turn
 abbrev pub LinesFollowTicks : Type 0
 LinesFollowTicks =
     (h : List Happening) (moment : ℕ) (line : List ℕ) (later : List (List ℕ)) → IsOn (answers h)
-    → was_tick (answers h) ≡ true → lines_left (answers h) h ≡ line ∷ later
+    → was_tick (answers h) ≡ true → unanswered_lines (answers h) h ≡ line ∷ later
     → answer_to h moment ≡ to_line (answers h) (now (asked moment ∷ h)) line
 
 abbrev pub IsTick : Answer → Type 0
@@ -137,7 +140,7 @@ NothingIsAsked (_ ∷ older) = NothingIsAsked older
 abbrev pub TicksAreNext : Type 0
 TicksAreNext =
     (h meanwhile : List Happening) (moment next : ℕ) → NothingIsAsked meanwhile
-    → is_over (answers h) ≡ false → due (answers h) ≤ now (asked moment ∷ h)
+    → is_over (answers h) ≡ false → next_tick (answers h) ≤ now (asked moment ∷ h)
     → IsTick (answer_to h moment) ⊎ IsTick (answer_to (meanwhile ++ asked moment ∷ h) next)
 
 -- a night begins to end where nobody typed it only if it ends with its input and that ended:
@@ -186,18 +189,19 @@ was_left = list_any is_left
 abbrev pub ticks : ℕ → List (List ℕ)
 ticks count = replicate count (codes "tick")
 
-abbrev pub Begins : List (List ℕ) → List (List ℕ) → Type 0
-Begins front given = (older : List (List ℕ)) × (given ≡ front ++ older)
+abbrev pub StartsWith : List (List ℕ) → List (List ℕ) → Type 0
+StartsWith front given = (older : List (List ℕ)) × (given ≡ front ++ older)
 
 -- what was given last: from `master 0` on nothing but four ticks, `end` and three ticks; where the
 -- night was left, from `end` on nothing but three ticks
 abbrev pub IsEnding : Stage → Bool → List (List ℕ) → Type 0
 IsEnding On left given = Unit {0}
-IsEnding (Dark count) left given = (count ≤ 4) × Begins (ticks count ++ codes "master 0" ∷ []) given
-IsEnding (Ended count) true given = (count ≤ 3) × Begins (ticks count ++ codes "end" ∷ []) given
+IsEnding (Dark count) left given =
+    (count ≤ 4) × StartsWith (ticks count ++ codes "master 0" ∷ []) given
+IsEnding (Ended count) true given = (count ≤ 3) × StartsWith (ticks count ++ codes "end" ∷ []) given
 IsEnding (Ended count) false given =
     (count ≤ 3)
-    × Begins (ticks count ++ codes "end" ∷ ticks 4 ++ codes "master 0" ∷ []) given
+    × StartsWith (ticks count ++ codes "end" ∷ ticks 4 ++ codes "master 0" ∷ []) given
 
 abbrev pub EndsAreWhole : Type 0
 EndsAreWhole =
@@ -207,25 +211,25 @@ EndsAreWhole =
 -- ---- a desk that plays it
 
 -- the call that a line which is given spells
-abbrev pub act_of : Answer → Option Act
-act_of (order moment line) =
+abbrev pub act_in : Answer → Option Act
+act_in (order moment line) =
     option_map (λ command. record { moment = moment; call = desk.order command })
     (command_of (words_of (without_keys line)))
-act_of (dim moment typed) = Some (record { moment = moment; call = desk.order (Master 0) })
-act_of (close moment typed) = Some (record { moment = moment; call = desk.order End })
-act_of (tick moment) = Some (record { moment = moment; call = desk.tick })
-act_of _ = None
+act_in (dim moment typed) = Some (record { moment = moment; call = desk.order (Master 0) })
+act_in (close moment typed) = Some (record { moment = moment; call = desk.order End })
+act_in (tick moment) = Some (record { moment = moment; call = desk.tick })
+act_in _ = None
 
 -- one more, where the desk does not refuse it
-abbrev pub taken : Tables → Option Act → List Act → List Act
-taken show None history = history
-taken show (Some act) history =
+abbrev pub acts_with : Tables → Option Act → List Act → List Act
+acts_with show None history = history
+acts_with show (Some act) history =
     if is_none (refusal show history act) then act ∷ history else history
 
 -- what a desk accepts of a night
-abbrev pub accepted : Tables → List Answer → List Act
-accepted show [] = []
-accepted show (answer ∷ older) = taken show (act_of answer) (accepted show older)
+abbrev pub accepted_acts : Tables → List Answer → List Act
+accepted_acts show [] = []
+accepted_acts show (answer ∷ older) = acts_with show (act_in answer) (accepted_acts show older)
 
 -- the ticks since `end`; none before it
 abbrev pub since_end : Stage → Option ℕ
@@ -236,7 +240,7 @@ since_end _ = None
 abbrev pub EndsAreAccepted : Type 0
 EndsAreAccepted =
     (show : Tables) (h : List Happening)
-    → desk.ended (accepted show (answers h)) ≡ since_end (stage (answers h))
+    → desk.ticks_since_end (accepted_acts show (answers h)) ≡ since_end (stage (answers h))
 
 -- from `master 0` on the grand master of a desk of any show is at 0, up to `end`: it accepts that,
 -- and nothing sets a master after it
@@ -247,9 +251,9 @@ IsDim _ settings = Unit {0}
 abbrev pub EndsAreDark : Type 0
 EndsAreDark =
     (show : Tables) (h : List Happening)
-    → IsDim (stage (answers h)) (desk.settings (accepted show (answers h)))
+    → IsDim (stage (answers h)) (desk.settings (accepted_acts show (answers h)))
 
 abbrev pub TicksAreAccepted : Type 0
 TicksAreAccepted =
     (show : Tables) (h : List Happening) (moment n : ℕ) → answer_to h moment ≡ tick n
-    → refusal show (accepted show (answers h)) (record { moment = n; call = desk.tick }) ≡ None
+    → refusal show (accepted_acts show (answers h)) (record { moment = n; call = desk.tick }) ≡ None

@@ -17,7 +17,7 @@ use Rattle.live_input.specs.declared.request.Request.{Request}
 use Rattle.live_input.specs.declared.request.Request.TheVariants.{Nothing, Where, Help, Leave}
 use Rattle.live_input.specs.declared.request.Request.TheVariants.{Finish, Order}
 use Rattle.live_input.specs.Keys.{has_keys, without_keys}
-use Rattle.live_input.specs.Reasons.{reason_of}
+use Rattle.live_input.specs.Reasons.{refusal_reason}
 use Rattle.live_input.specs.Typed.{typed_of}
 
 -- what happens to it: bytes came; the input ended, and whether the night is to end with it; it was
@@ -28,9 +28,9 @@ pub data Happening : Type 0 where
   asked : ℕ → Happening
 
 -- what it answers: the line of a command, at a moment; `master 0`, with which a night begins to
--- end, and `end`, each with the typed line that it answers, where one was typed; a tick; `where` and
--- `help`, to which the device answers; a line that is refused, and why; that nothing is due before
--- a moment; that nothing comes any more
+-- end, and `end`, each with the typed line that it answers, where one was typed; a tick; `where`
+-- and `help`, to which the device answers; a line that is refused, and why; that nothing is due
+-- before a moment; that nothing comes any more
 pub data Answer : Type 0 where
   order : ℕ → List ℕ → Answer
   dim : ℕ → Option (List ℕ) → Answer
@@ -45,15 +45,15 @@ pub data Answer : Type 0 where
 -- ---- what the answers so far leave
 
 -- words behind a moment
-abbrev pub at_moment : ℕ → List ℕ → List ℕ
-at_moment moment words = decimal moment ++ codes " " ++ words
+abbrev pub behind_moment : ℕ → List ℕ → List ℕ
+behind_moment moment words = decimal moment ++ codes " " ++ words
 
 -- the lines that were given, without their LF
 abbrev pub with_given : Answer → List (List ℕ) → List (List ℕ)
-with_given (order moment line) lines = at_moment moment (without_keys line) ∷ lines
-with_given (dim moment typed) lines = at_moment moment (codes "master 0") ∷ lines
-with_given (close moment typed) lines = at_moment moment (codes "end") ∷ lines
-with_given (tick moment) lines = at_moment moment (codes "tick") ∷ lines
+with_given (order moment line) lines = behind_moment moment (without_keys line) ∷ lines
+with_given (dim moment typed) lines = behind_moment moment (codes "master 0") ∷ lines
+with_given (close moment typed) lines = behind_moment moment (codes "end") ∷ lines
+with_given (tick moment) lines = behind_moment moment (codes "tick") ∷ lines
 with_given _ lines = lines
 
 abbrev pub lines_given : List Answer → List (List ℕ)
@@ -61,22 +61,22 @@ lines_given [] = []
 lines_given (answer ∷ older) = with_given answer (lines_given older)
 
 -- the typed line that it answers
-abbrev pub line_of : Answer → Option (List ℕ)
-line_of (order moment line) = Some line
-line_of (dim moment typed) = typed
-line_of (close moment typed) = typed
-line_of (place moment line) = Some line
-line_of (help line) = Some line
-line_of (refusal why line) = Some line
-line_of _ = None
+abbrev pub typed_line : Answer → Option (List ℕ)
+typed_line (order moment line) = Some line
+typed_line (dim moment typed) = typed
+typed_line (close moment typed) = typed
+typed_line (place moment line) = Some line
+typed_line (help line) = Some line
+typed_line (refusal why line) = Some line
+typed_line _ = None
 
-abbrev pub with_line : List (List ℕ) → Option (List ℕ) → List (List ℕ)
-with_line lines None = lines
-with_line lines (Some line) = lines ++ line ∷ []
+abbrev pub with_typed_line : List (List ℕ) → Option (List ℕ) → List (List ℕ)
+with_typed_line lines None = lines
+with_typed_line lines (Some line) = lines ++ line ∷ []
 
 -- the typed lines that were answered, the oldest first
 abbrev pub with_answered : List (List ℕ) → Answer → List (List ℕ)
-with_answered lines answer = with_line lines (line_of answer)
+with_answered lines answer = with_typed_line lines (typed_line answer)
 
 abbrev pub lines_answered : List Answer → List (List ℕ)
 lines_answered [] = []
@@ -105,9 +105,9 @@ is_on On = true
 is_on _ = false
 
 -- the light was down for four ticks: a receiver that loses three packets in a row has seen it
-abbrev pub is_dark : Stage → Bool
-is_dark (Dark ticks) = nat_le 4 ticks
-is_dark _ = false
+abbrev pub is_light_down : Stage → Bool
+is_light_down (Dark ticks) = nat_le 4 ticks
+is_light_down _ = false
 
 abbrev pub has_ended : Stage → Bool
 has_ended (Ended ticks) = true
@@ -128,9 +128,9 @@ due_by (tick moment) due = due_after moment
 due_by _ due = due
 
 -- when the next tick is due: the first at once
-abbrev pub due : List Answer → ℕ
-due [] = 0
-due (answer ∷ older) = due_by answer (due older)
+abbrev pub next_tick : List Answer → ℕ
+next_tick [] = 0
+next_tick (answer ∷ older) = due_by answer (next_tick older)
 
 -- ---- the next answer, after those given
 
@@ -144,7 +144,7 @@ asks_help words = is_only (codes "help") words || is_only (codes "?") words
 
 -- a command
 abbrev pub command_asked : List (List ℕ) → Option Command → Request
-command_asked words None = Nothing (reason_of words)
+command_asked words None = Nothing (refusal_reason words)
 command_asked words (Some End) = Finish
 command_asked words (Some command) = Order command
 
@@ -163,7 +163,7 @@ words_asked on words =
 -- what a line asks for: nothing where it has more than 200 bytes with its moment
 abbrev pub request_of : Bool → ℕ → List ℕ → Request
 request_of on moment line =
-    if nat_le (length (at_moment moment line)) 200
+    if nat_le (length (behind_moment moment line)) 200
     then words_asked on (words_of (without_keys line)) else Nothing Long
 
 -- `end` brings the light down first; any other command is given as it is
@@ -193,7 +193,7 @@ was_tick (answer ∷ older) = ticked_by answer (was_tick older)
 -- a key that sends a sequence was pressed for the line that it answers
 abbrev pub keys_by : Answer → Bool → Bool
 keys_by over before = before
-keys_by answer before = option_map_or has_keys (line_of answer) false
+keys_by answer before = option_map_or has_keys (typed_line answer) false
 
 -- such keys were left out of the line that was answered last
 abbrev pub ignored_keys : List Answer → Bool
@@ -203,19 +203,19 @@ ignored_keys (answer ∷ older) = keys_by answer (ignored_keys older)
 -- a tick is due, and the answer before was no tick. Behind a tick one line has its turn: where the
 -- work of a tick takes as long as from tick to tick, an `end` is still answered
 abbrev pub goes_first : List Answer → ℕ → Bool
-goes_first given moment = nat_le (due given) moment && not (was_tick given)
+goes_first given moment = nat_le (next_tick given) moment && not (was_tick given)
 
 -- what comes before any line that was typed
 abbrev pub before_lines : List Answer → ℕ → Option Answer
 before_lines given moment =
-    if is_dark (stage given) then Some (close moment None)
+    if is_light_down (stage given) then Some (close moment None)
     else (if goes_first given moment then Some (tick moment) else None)
 
 -- where each typed line was answered: the night ends with its input, which ended without an `end`
 abbrev pub by_itself : List Answer → Bool → ℕ → Answer
 by_itself given at_end moment =
     if is_on (stage given) && at_end then dim moment None
-    else (if nat_le (due given) moment then tick moment else wait (due given))
+    else (if nat_le (next_tick given) moment then tick moment else wait (next_tick given))
 
 -- the first typed line that was not answered
 abbrev pub to_lines : List (List ℕ) → List Answer → Bool → ℕ → Answer
@@ -248,8 +248,8 @@ now (asked moment ∷ older) = max (now older) (min moment 281474976710655)
 now (_ ∷ older) = now older
 
 -- the typed lines that were not answered
-abbrev pub lines_left : List Answer → List Happening → List (List ℕ)
-lines_left given older =
+abbrev pub unanswered_lines : List Answer → List Happening → List (List ℕ)
+unanswered_lines given older =
     drop (length (lines_answered given)) (typed_of (bytes_come older)).lines
 
 -- the answer to what is asked at a moment, after the answers given and these happenings
@@ -257,7 +257,8 @@ abbrev pub answer_after : List Answer → List Happening → ℕ → Answer
 answer_after given older moment =
     if is_over given then over
     else unwrap_or (before_lines given (now (asked moment ∷ older)))
-    (to_lines (lines_left given older) given (ends_with_input older) (now (asked moment ∷ older)))
+    (to_lines (unanswered_lines given older) given (ends_with_input older)
+    (now (asked moment ∷ older)))
 
 -- all answers
 abbrev pub answers : List Happening → List Answer
@@ -276,5 +277,5 @@ abbrev pub printable : ℕ → ℕ
 printable byte = if nat_le 32 byte && nat_le byte 126 then byte else 63
 
 -- what is shown of a refused line: its first 200 bytes
-abbrev pub shown : List ℕ → List ℕ
-shown line = map printable (take 200 line)
+abbrev pub refused_front : List ℕ → List ℕ
+refused_front line = map printable (take 200 line)

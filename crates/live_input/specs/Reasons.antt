@@ -2,7 +2,8 @@
 use Rattle.std.specs.Prelude.{ℕ, Bool, ◌||◌, is_some, if◌then◌else◌, codes, List, [], ◌∷◌}
 use Rattle.ascii_text.specs.Forms.{moment_of, same_word}
 use Rattle.live_input.specs.declared.reason.Reason.{Reason}
-use Rattle.live_input.specs.declared.reason.Reason.TheVariants.{Long, Ending, Keys, Moment, Go, Alone}
+use Rattle.live_input.specs.declared.reason.Reason.TheVariants.{Long, Ending, Keys, Moment, Go}
+use Rattle.live_input.specs.declared.reason.Reason.TheVariants.{Alone}
 use Rattle.live_input.specs.declared.reason.Reason.TheVariants.{Goto, Numbered, Master, Unknown}
 
 -- it takes nothing behind it, as `go` does not
@@ -22,18 +23,18 @@ reason_at word =
     else (if same_word word (codes "master") then Master else Unknown)))))
 
 -- why words spell nothing; a line that says something has none only where keys were left out
-abbrev pub reason_of : List (List ℕ) → Reason
-reason_of [] = Keys
-reason_of (word ∷ words) = reason_at word
+abbrev pub refusal_reason : List (List ℕ) → Reason
+refusal_reason [] = Keys
+refusal_reason (word ∷ words) = reason_at word
 
-abbrev pub reason_text : Reason → List ℕ
-reason_text Long = codes "a line has at most 200 bytes with its moment"
-reason_text Ending = codes "the night is ending"
-reason_text Keys = codes "arrow and function keys do nothing; help lists the commands"
-reason_text Moment = codes "moments are given by the clock; type the command alone"
-reason_text Go = codes "go takes no number; goto 4 goes to a cue"
-reason_text Alone = codes "back, end, leave, where and help stand alone"
-reason_text Goto = codes "goto wants a cue number, and may have a time: goto 4.5, goto 4.5 in 3"
-reason_text Numbered = codes "sub and group want a number and a level: sub 3 50, group 1 FL"
-reason_text Master = codes "master wants a level: master 50, master FL, master H80"
-reason_text Unknown = codes "no such command; help lists the commands"
+abbrev pub refusal_text : Reason → List ℕ
+refusal_text Long = codes "a line has at most 200 bytes with its moment"
+refusal_text Ending = codes "the night is ending"
+refusal_text Keys = codes "arrow and function keys do nothing; help lists the commands"
+refusal_text Moment = codes "moments are given by the clock; type the command alone"
+refusal_text Go = codes "go takes no number; goto 4 goes to a cue"
+refusal_text Alone = codes "back, end, leave, where and help stand alone"
+refusal_text Goto = codes "goto wants a cue number, and may have a time: goto 4.5, goto 4.5 in 3"
+refusal_text Numbered = codes "sub and group want a number and a level: sub 3 50, group 1 FL"
+refusal_text Master = codes "master wants a level: master 50, master FL, master H80"
+refusal_text Unknown = codes "no such command; help lists the commands"

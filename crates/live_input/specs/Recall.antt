@@ -6,7 +6,7 @@ use Rattle.console.specs.declared.call.Call.TheVariants.{Order, Tick}
 use Rattle.console.specs.declared.reading.Reading.{Reading}
 use Rattle.console.specs.declared.reading.Reading.TheVariants.{At}
 use Rattle.console.specs.Spelling.{reading_of}
-use Rattle.live_input.specs.Night.{Happening, answers, asked, came, lines_given, lines_left}
+use Rattle.live_input.specs.Night.{Happening, answers, asked, came, lines_given, unanswered_lines}
 
 -- the words of a call are typed: what stands in its line behind the moment. An `end` is typed as
 -- `leave`, since `master 0` and the dark ticks before it have lines of their own
@@ -23,20 +23,21 @@ recalled_by (At moment call) line happened =
     asked moment ∷ typed_again moment call (line ++ 10 ∷ []) happened
 recalled_by _ line happened = happened
 
-abbrev pub recalled : List ℕ → List Happening → List Happening
-recalled line happened = recalled_by (reading_of line) line happened
+abbrev pub recall_line : List ℕ → List Happening → List Happening
+recall_line line happened = recalled_by (reading_of line) line happened
 
 -- so each line of a record
 abbrev pub recall_of : List (List ℕ) → List Happening
 recall_of [] = []
-recall_of (line ∷ older) = recalled line (recall_of older)
+recall_of (line ∷ older) = recall_line line (recall_of older)
 
 -- then this very line is given, and no typed line is left
 pub record IsRecalled (line : List ℕ) (happened : List Happening) : Type 0 where
   pub short : length line ≤ 200
-  pub given : lines_given (answers (recalled line happened))
+  pub given : lines_given (answers (recall_line line happened))
       ≡ line ∷ lines_given (answers happened)
-  pub none_left : lines_left (answers (recalled line happened)) (recalled line happened) ≡ []
+  pub none_left : unanswered_lines (answers (recall_line line happened)) (recall_line line happened)
+      ≡ []
 
 -- the lines are a record of a live night: each is given again behind those before it
 abbrev pub AreRecalled : List (List ℕ) → Type 0

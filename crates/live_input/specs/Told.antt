@@ -4,11 +4,13 @@ use Rattle.console.specs.declared.reading.Reading.TheVariants.{At}
 use Rattle.console.specs.Spelling.{reading_of}
 use Rattle.live_input.specs.declared.given.Given.{Given}
 use Rattle.live_input.specs.declared.given.GivenLine.{GivenLine}
-use Rattle.live_input.specs.declared.given.Given.TheVariants.{Line, Where, Help, Refused, Until, Over}
+use Rattle.live_input.specs.declared.given.Given.TheVariants.{Line, Where, Help, Refused, Until}
+use Rattle.live_input.specs.declared.given.Given.TheVariants.{Over}
 use Rattle.live_input.specs.declared.progress.Progress.{Progress}
-use Rattle.live_input.specs.Night.{Answer, order, dim, close, tick, place, help, refusal, wait, over}
+use Rattle.live_input.specs.Night.{Answer, order, dim, close, tick, place, help, refusal, wait}
+use Rattle.live_input.specs.Night.{over}
 use Rattle.live_input.specs.Keys.{without_keys}
-use Rattle.live_input.specs.Night.{at_moment, due, shown, stage, was_tick}
+use Rattle.live_input.specs.Night.{behind_moment, next_tick, refused_front, stage, was_tick}
 
 -- this line with its LF, and the moment and the call that it spells
 pub record IsGiven (given : GivenLine) (line : List ℕ) : Type 0 where
@@ -18,20 +20,20 @@ pub record IsGiven (given : GivenLine) (line : List ℕ) : Type 0 where
 
 -- a line and its call, the text of a refused line and why, or a moment
 abbrev pub Tells : Given → Answer → Type 0
-Tells (Line given) (order moment line) = IsGiven given (at_moment moment (without_keys line))
-Tells (Line given) (dim moment typed) = IsGiven given (at_moment moment (codes "master 0"))
-Tells (Line given) (close moment typed) = IsGiven given (at_moment moment (codes "end"))
-Tells (Line given) (tick moment) = IsGiven given (at_moment moment (codes "tick"))
+Tells (Line given) (order moment line) = IsGiven given (behind_moment moment (without_keys line))
+Tells (Line given) (dim moment typed) = IsGiven given (behind_moment moment (codes "master 0"))
+Tells (Line given) (close moment typed) = IsGiven given (behind_moment moment (codes "end"))
+Tells (Line given) (tick moment) = IsGiven given (behind_moment moment (codes "tick"))
 Tells (Where moment) (place asked line) = moment ≡ asked
 Tells Help (help line) = Unit {0}
-Tells (Refused text why) (refusal reason line) = (text.items ≡ shown line) × (why ≡ reason)
+Tells (Refused text why) (refusal reason line) = (text.items ≡ refused_front line) × (why ≡ reason)
 Tells (Until moment) (wait due) = moment ≡ due
 Tells Over over = Unit {0}
 Tells _ _ = ⊥
 
 -- what the answers so far leave
 pub record Leaves (progress : Progress) (answers : List Answer) : Type 0 where
-  pub due_is : progress.due ≡ due answers
+  pub due_is : progress.due ≡ next_tick answers
   pub stage_is : progress.stage ≡ stage answers
   pub ticked_is : progress.ticked ≡ was_tick answers
 

@@ -5,7 +5,7 @@ use Rattle.ascii_text.specs.Text.{words_of}
 
 -- the lines that LF ended, without those that say nothing, and the bytes behind the last LF. A
 -- line may have 200 bytes: of a longer one 201 are looked at, so that it is seen to be too long
-pub record Typed : Type 0 where
+pub record TypedLines : Type 0 where
   pub lines : List (List ℕ)
   pub rest : List ℕ
 
@@ -18,13 +18,13 @@ abbrev pub with_line : List (List ℕ) → List ℕ → List (List ℕ)
 with_line lines line = if says_nothing line then lines else lines ++ line ∷ []
 
 -- one byte more
-abbrev pub with_byte : Typed → ℕ → Typed
-with_byte typed byte =
+abbrev pub with_typed_byte : TypedLines → ℕ → TypedLines
+with_typed_byte typed byte =
     if byte == 10 then record { lines = with_line typed.lines typed.rest; rest = [] }
     else record { lines = typed.lines; rest = take 201 (typed.rest ++ byte ∷ []) }
 
-abbrev pub no_bytes : Typed
-no_bytes = record { lines = []; rest = [] }
+abbrev pub nothing_typed : TypedLines
+nothing_typed = record { lines = []; rest = [] }
 
-abbrev pub typed_of : List ℕ → Typed
-typed_of bytes = fold with_byte no_bytes bytes
+abbrev pub typed_of : List ℕ → TypedLines
+typed_of bytes = fold with_typed_byte nothing_typed bytes

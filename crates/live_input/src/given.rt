@@ -1,7 +1,7 @@
 ghost use Rattle.std.specs.Prelude.{◌≡◌, ◌≤◌, ◌<◌, ◌^◌, [], ◌∷◌, ◌++◌, nat_le, length, Some};
 ghost use Rattle.ascii_text.specs.Text.{words_of};
 ghost use Rattle.console.specs.Spelling.{call_of};
-ghost use Rattle.live_input.specs.Night.{at_moment};
+ghost use Rattle.live_input.specs.Night.{behind_moment};
 ghost use Rattle.live_input.specs.Night as night;
 ghost use Rattle.live_input.specs.Told.{IsGiven};
 
@@ -45,7 +45,7 @@ pub enum Given {
 
 // Whether a line has room for these words behind a moment.
 pub fn fits(moment: u64, words: &[u8]) -> bool
-    ensures { result ≡ nat_le (length (at_moment moment words.now)) 200 }
+    ensures { result ≡ nat_le (length (behind_moment moment words.now)) 200 }
 {
     Buffer::new().format(moment).len() + 1 + words.len() <= 200
 }
@@ -53,9 +53,9 @@ pub fn fits(moment: u64, words: &[u8]) -> bool
 // The line of a call at a moment, in the words that spell it.
 pub fn given_line(moment: u64, call: Call, words: &[u8]) -> GivenLine
     requires below { moment < 2 ^ 48 }
-    requires short { length (at_moment moment words.now) ≤ 200 }
+    requires short { length (behind_moment moment words.now) ≤ 200 }
     requires spells { call_of (words_of words.now) ≡ Some call }
-    ensures { IsGiven result (at_moment moment words.now) }
+    ensures { IsGiven result (behind_moment moment words.now) }
 {
     GivenLine {
         moment,
@@ -65,8 +65,8 @@ pub fn given_line(moment: u64, call: Call, words: &[u8]) -> GivenLine
 }
 
 fn input_line(moment: u64, words: &[u8]) -> InputLine
-    requires { length (at_moment moment words.now) ≤ 200 }
-    ensures { result.items ≡ at_moment moment words.now ++ 10 ∷ [] }
+    requires { length (behind_moment moment words.now) ≤ 200 }
+    ensures { result.items ≡ behind_moment moment words.now ++ 10 ∷ [] }
 {
     let mut line = InputLine::new();
     line.try_extend_from_slice(Buffer::new().format(moment).as_bytes())
@@ -77,8 +77,8 @@ fn input_line(moment: u64, words: &[u8]) -> InputLine
     line
 }
 
-pub fn shown(line: &[u8]) -> RefusedText
-    ensures { result.items ≡ night.shown line.now }
+pub fn refused_text(line: &[u8]) -> RefusedText
+    ensures { result.items ≡ night.refused_front line.now }
 {
     let mut text = RefusedText::new();
     let looked = &line[..line.len().min(200)];

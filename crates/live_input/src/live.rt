@@ -40,9 +40,9 @@ pub struct LiveInput {
 }
 
 impl Model for LiveInput {
-    ghost use Rattle.live_input.specs.Kept.{Kept};
+    ghost use Rattle.live_input.specs.Kept.{InputState};
 
-    ghost Value = { Kept };
+    ghost Value = { InputState };
 
     ghost use Rattle.std.specs.Prelude.{◌<◌, ◌^◌};
     ghost use Rattle.live_input.specs.Inside.{live_view};

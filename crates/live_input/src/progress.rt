@@ -1,13 +1,13 @@
 ghost use Rattle.std.specs.Prelude.{◌≡◌, ◌≢◌, ◌<◌, ◌^◌, ℕ, List, [], ◌∷◌, IfNone, Option, None};
 ghost use Rattle.std.specs.Prelude.{◌≤◌, Some, true, false, length};
 ghost use Rattle.live_input.specs.Night.{Answer, before_lines, by_itself, close, due_after, tick};
-ghost use Rattle.live_input.specs.Night.{dim, is_dark, is_on, is_through};
+ghost use Rattle.live_input.specs.Night.{dim, is_light_down, is_on, is_through};
 ghost use Rattle.live_input.specs.Night.{after_tick, has_ended};
 ghost use Rattle.live_input.specs.Night.{to_line};
 ghost use Rattle.live_input.specs.Told.{Leaves, LeavesFirst, Tells, TellsFirst};
 ghost use Rattle.live_input.specs.declared.given.Given.TheVariants.{Until};
 
-use crate::given::{Given, given_line, shown};
+use crate::given::{Given, given_line, refused_text};
 use crate::keys::without_keys;
 use crate::request::{Request, request_of};
 use console::Call;
@@ -63,7 +63,7 @@ impl Progress {
         requires below { now < 2 ^ 48 }
         requires not_over { is_through self.old.stage ≡ false }
         ensures none { IfNone result (self.new ≡ self.old) }
-        ensures light { IfNone result (is_dark self.new.stage ≡ false) }
+        ensures light { IfNone result (is_light_down self.new.stage ≡ false) }
         ensures tells { (given : List Answer) → Leaves self.old given
             → TellsFirst result (before_lines given now) }
         ensures leaves { (given : List Answer) → Leaves self.old given
@@ -92,7 +92,7 @@ impl Progress {
         let text = without_keys(line);
         let text = text.as_slice();
         match request_of(self.is_on(), now, line, text) {
-            Request::Nothing(why) => self.give(Given::Refused(shown(line), why)),
+            Request::Nothing(why) => self.give(Given::Refused(refused_text(line), why)),
             Request::Where => self.give(Given::Where(now)),
             Request::Help => self.give(Given::Help),
             Request::Leave => self.close(now),
@@ -107,7 +107,7 @@ impl Progress {
     pub fn by_itself(&mut self, now: u64, ends: bool) -> Given
         requires below { now < 2 ^ 48 }
         requires not_over { is_through self.old.stage ≡ false }
-        requires light { is_dark self.old.stage ≡ false }
+        requires light { is_light_down self.old.stage ≡ false }
         ensures tells { (given : List Answer) → Leaves self.old given
             → Tells result (by_itself given ends now) }
         ensures leaves { (given : List Answer) → Leaves self.old given
@@ -169,7 +169,7 @@ impl Progress {
     fn tick(&mut self, now: u64) -> Given
         requires below { now < 2 ^ 48 }
         requires not_over { is_through self.old.stage ≡ false }
-        requires light { is_dark self.old.stage ≡ false }
+        requires light { is_light_down self.old.stage ≡ false }
         ensures tells { Tells result (tick now) }
         ensures leaves { (given : List Answer) → Leaves self.old given
             → Leaves self.new (tick now ∷ given) }
@@ -185,7 +185,7 @@ impl Stage {
     // A tick more, in a stage that counts them.
     fn after_tick(self) -> Stage
         requires not_over { is_through self ≡ false }
-        requires light { is_dark self ≡ false }
+        requires light { is_light_down self ≡ false }
         ensures { result ≡ after_tick self }
     {
         match self {

@@ -32,7 +32,7 @@ pub enum Reason {
 impl Reason {
     /// What is wrong and what would do, without a LF.
     pub fn text(self) -> &'static str
-        ensures { result.now ≡ reasons.reason_text self }
+        ensures { result.now ≡ reasons.refusal_text self }
     {
         match self {
             Reason::Long => "a line has at most 200 bytes with its moment",
@@ -51,7 +51,7 @@ impl Reason {
 
 // Why a line of no more than 200 bytes is no command.
 pub fn reason_of(line: &[u8]) -> Reason
-    ensures { result ≡ reasons.reason_of (words_of line.now) }
+    ensures { result ≡ reasons.refusal_reason (words_of line.now) }
 {
     match Words::new(line).next() {
         Some(word) => reason_at(word),

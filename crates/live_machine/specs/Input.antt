@@ -25,9 +25,9 @@ brought_by TypedEnd block = typed_end
 brought_by Nothing block = nothing
 
 -- a block has at most 4096 bytes
-abbrev pub IsWithin : Came → Type 0
-IsWithin (Bytes count) = count ≤ 4096
-IsWithin _ = Unit {0}
+abbrev pub CameFits : Came → Type 0
+CameFits (Bytes count) = count ≤ 4096
+CameFits _ = Unit {0}
 
 -- how long it is waited, in milliseconds: until what is due next, and not beyond; and for half a
 -- second at most, since the network is looked at meanwhile
@@ -35,6 +35,6 @@ abbrev pub wait_for : ℕ → ℕ → ℕ
 wait_for moment due = min (due - moment) 500
 
 -- an end that was typed ends the input where the night ends with it
-abbrev pub heard : Bool → Came → Came
-heard true TypedEnd = End
-heard ends came = came
+abbrev pub with_typed_end : Bool → Came → Came
+with_typed_end true TypedEnd = End
+with_typed_end ends came = came

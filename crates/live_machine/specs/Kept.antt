@@ -22,5 +22,5 @@ abbrev pub count_of : List ℕ → ℕ → ℕ
 count_of left step = min (min (length left) step) 4096
 
 -- what that is: bytes, or the end
-abbrev pub given : ℕ → Came
-given count = if nat_eq count 0 then End else Bytes count
+abbrev pub came_of : ℕ → Came
+came_of count = if nat_eq count 0 then End else Bytes count

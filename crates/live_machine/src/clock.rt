@@ -22,7 +22,7 @@ pub trait MachineClock {
     /// # Errors
     ///
     /// Where the clock cannot be read.
-    fn passed(&mut self) -> Result<Duration, LinkFault>
+    fn time_passed(&mut self) -> Result<Duration, LinkFault>
         ensures told { tells self.new → tells self.old }
         ensures ok { IfOk result (λ passed. tells self.new
             → tape self.new ≡ with_more (tape self.old) (as_nanos passed ∷ [])) }
@@ -61,7 +61,7 @@ impl<C: MachineClock> NightClock<C> {
             → C.tape self.new.clock ≡ with_failure (C.tape self.old.clock)) }
         ensures same { self.new.start ≡ self.old.start }
     {
-        let passed = self.clock.passed()?.as_millis();
+        let passed = self.clock.time_passed()?.as_millis();
         let passed = u64::try_from(passed).unwrap_or(u64::MAX);
         Ok(self.start.saturating_add(passed))
     }

@@ -1,6 +1,8 @@
-ghost use Rattle.std.specs.Prelude.{◌≡◌, ◌≤◌, List, [], ◌∷◌, ◌++◌, take, length, true, false, IfOk, OnErr};
+ghost use Rattle.std.specs.Prelude.{◌≡◌, ◌≤◌, List, [], ◌∷◌, ◌++◌, take, length, true, false, IfOk};
+ghost use Rattle.std.specs.Prelude.{OnErr};
 ghost use Rattle.std.specs.Prelude.{Ok};
-ghost use Rattle.live_machine.specs.Input.{IsWithin, Wait, brought_by, fault, heard, wait_for};
+ghost use Rattle.live_machine.specs.Input.{CameFits, Wait, brought_by, fault, with_typed_end};
+ghost use Rattle.live_machine.specs.Input.{wait_for};
 ghost use Rattle.live_machine.specs.declared.input.Came.TheVariants.{Bytes, End};
 
 use arrayvec::ArrayVec;
@@ -41,7 +43,7 @@ pub trait MachineInput {
     /// Where nothing can be waited for.
     fn wait(&mut self, milliseconds: u64, block: &mut [u8; 4096]) -> Result<Came, LinkFault>
         ensures told { tells self.new → tells self.old }
-        ensures within { IfOk result IsWithin }
+        ensures within { IfOk result CameFits }
         ensures ok { IfOk result (λ came. tells self.new → waits self.new ≡ waits self.old
             ++ record { most = milliseconds; brought = brought_by came block.new } ∷ []) }
         ensures err { OnErr result (tells self.new → waits self.new ≡ waits self.old
@@ -87,7 +89,7 @@ impl<I: MachineInput> NightInput<I> {
     /// Where nothing can be waited for.
     pub fn hear(&mut self, moment: u64, due: u64, block: &mut [u8; 4096]) -> Result<Came, LinkFault>
         ensures told { I.tells self.new.input → I.tells self.old.input }
-        ensures within { IfOk result IsWithin }
+        ensures within { IfOk result CameFits }
         ensures held { 1 ≤ length self.old.held.items
             → (result ≡ Ok (Bytes (length self.old.held.items)))
             × (take (length self.old.held.items) block.new ≡ self.old.held.items)
@@ -95,7 +97,8 @@ impl<I: MachineInput> NightInput<I> {
         ensures ended { self.old.held.items ≡ [] → self.old.has_ended ≡ true
             → (result ≡ Ok End) × (self.new ≡ record self.old { has_ended = false }) }
         ensures waits { self.old.held.items ≡ [] → self.old.has_ended ≡ false
-            → IfOk result (λ answer. (came : Came) × (answer ≡ heard self.old.ends_night came)
+            → IfOk result (λ answer. (came : Came)
+            × (answer ≡ with_typed_end self.old.ends_night came)
             × (I.tells self.new.input → I.waits self.new.input ≡ I.waits self.old.input
             ++ record { most = wait_for moment due; brought = brought_by came block.new } ∷ [])) }
         ensures fails { OnErr result ((self.old.held.items ≡ []) × (self.old.has_ended ≡ false)

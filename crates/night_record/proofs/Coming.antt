@@ -8,9 +8,9 @@ use Rattle.std.proofs.lemmas.Bool.Decides.{nat_tests}
 use Rattle.std.proofs.lemmas.List.{append-nil, drop-drop, drop-take}
 use Rattle.std.proofs.lemmas.List.{length-take, length-take-le, take_min}
 use Rattle.memchr.specs.Find.{NoneBefore, Nowhere, Passes, is_byte}
-use Rattle.night_record.specs.Cut.{Cut, all_given, cut_of, front_of, whole_length, whole_of}
-use Rattle.night_record.specs.Coming.{HasLooked, Keeps, StandsFor, kept_of}
-use Rattle.night_record.specs.Coming.{taken_in, unseen_in}
+use Rattle.night_record.specs.Cut.{Cut, all_given, cut_of, front_of, whole_length, whole_lines}
+use Rattle.night_record.specs.Coming.{HasLooked, Keeps, StandsFor, part_to_keep}
+use Rattle.night_record.specs.Coming.{bytes_given, unseen_in}
 use Rattle.night_record.specs.declared.lines.NightLines.{NightLines}
 use Rattle.night_record.proofs.Ends.{around, no_newline, none_before}
 use Rattle.night_record.proofs.Parting.{cut_line, cut_plain, cut_whole, front_more, length_whole}
@@ -35,7 +35,7 @@ pub none_left : (old new : NightLines) (text : List ℕ) (given : List (List ℕ
     → Nowhere (Passes (is_byte 10) (unseen_in old)) 0 (length (unseen_in old))
     → unseen_in new ≡ [] → new.line.items ≡ front_of (old.line.items ++ unseen_in old)
     → new.place + new.seen ≡ old.place + old.seen + length (unseen_in old)
-    → taken_in new ≡ taken_in old → StandsFor old text given
+    → bytes_given new ≡ bytes_given old → StandsFor old text given
     → StandsFor new text given × (given ≡ all_given text) × (unseen_in new ≡ [])
 none_left old new text given nowhere seen line place taken s =
     let unseen = unseen_in old in
@@ -70,7 +70,7 @@ pub next_given : (old new : NightLines) (k : ℕ) (text : List ℕ) (given : Lis
     → unseen_in new ≡ drop (k + 1) (unseen_in old)
     → line ≡ front_of (old.line.items ++ take k (unseen_in old)) → new.line.items ≡ []
     → new.place + new.seen ≡ old.place + old.seen + (k + 1)
-    → taken_in new ≡ new.place + new.seen → StandsFor old text given
+    → bytes_given new ≡ new.place + new.seen → StandsFor old text given
     → StandsFor new text (line ∷ given)
 next_given old new k text given line at unseen is begun place taken s =
     let front = take k (unseen_in old) in
@@ -99,20 +99,20 @@ next_given old new k text given line at unseen is begun place taken s =
 
 -- what came of a line that began is forgotten
 pub forgotten : (old new : NightLines) (text : List ℕ) (given : List (List ℕ))
-    → unseen_in old ≡ [] → unseen_in new ≡ [] → new.line.items ≡ [] → new.place ≡ taken_in old
-    → new.seen ≡ 0 → taken_in new ≡ taken_in old → StandsFor old text given
-    → StandsFor new (whole_of text) given
+    → unseen_in old ≡ [] → unseen_in new ≡ [] → new.line.items ≡ [] → new.place ≡ bytes_given old
+    → new.seen ≡ 0 → bytes_given new ≡ bytes_given old → StandsFor old text given
+    → StandsFor new (whole_lines text) given
 forgotten old new text given none none_now line place seen taken s =
     let all : text ≡ s.looked_at = s.came
     ∙ (ap (λ u. s.looked_at ++ u) none ∙ append-nil s.looked_at) in
     let cut = cut_whole text in
-    let rest : (cut_of (whole_of text)).rest ≡ [] = ap (λ (c : Cut). c.rest) cut in
+    let rest : (cut_of (whole_lines text)).rest ≡ [] = ap (λ (c : Cut). c.rest) cut in
     let size = length_whole text in
-    let was : taken_in old ≡ whole_length text = s.taken ∙ ap whole_length (sym all) in
-    let left : length (cut_of (whole_of text)).rest ≡ 0 = ap length rest in
+    let was : bytes_given old ≡ whole_length text = s.taken ∙ ap whole_length (sym all) in
+    let left : length (cut_of (whole_lines text)).rest ≡ 0 = ap length rest in
     record {
-      looked_at = whole_of text;
-      came = sym (ap (λ u. whole_of text ++ u) none_now ∙ append-nil (whole_of text));
+      looked_at = whole_lines text;
+      came = sym (ap (λ u. whole_lines text ++ u) none_now ∙ append-nil (whole_lines text));
       gave = s.gave ∙ (ap all_given (sym all) ∙ sym (ap (λ (c : Cut). map front_of c.lines) cut));
       begun = line ∙ sym (ap front_of rest);
       place = omega (arith, place, seen, was, size);
@@ -128,7 +128,7 @@ beyond m n h = grind (arith, nat_tests)
 -- whether what came is kept whole, by the line that began
 pub keeps_whole : (old new : NightLines) → unseen_in old ≡ []
     → ((text : List ℕ) (given : List (List ℕ)) → length text < 2 ^ 64 → StandsFor old text given
-    → StandsFor new (whole_of text) given)
+    → StandsFor new (whole_lines text) given)
     → length old.line.items ≤ 200 → Keeps true old new
 keeps_whole old new none h few text given small s =
     let all : text ≡ s.looked_at = s.came
@@ -137,7 +137,8 @@ keeps_whole old new none h few text given small s =
     let front = ap length s.begun ∙ length-take 201 (cut_of s.looked_at).rest in
     let is : leb (length (cut_of text).rest) 200 ≡ true
     = within (length (cut_of text).rest) 200 (omega (arith, rest, front)) in
-    subst (λ b. StandsFor new (cond b (whole_of text) text) given) (sym is) (h text given small s)
+    subst (λ b. StandsFor new (cond b (whole_lines text) text) given) (sym is)
+    (h text given small s)
 
 pub keeps_long : (old new : NightLines) → unseen_in old ≡ [] → Keeps false old new
     → 201 ≤ length old.line.items → Keeps true old new
@@ -148,7 +149,8 @@ keeps_long old new none h long text given small s =
     let front = ap length s.begun ∙ length-take 201 (cut_of s.looked_at).rest in
     let is : leb (length (cut_of text).rest) 200 ≡ false
     = beyond (length (cut_of text).rest) 200 (omega (arith, rest, front)) in
-    subst (λ b. StandsFor new (cond b (whole_of text) text) given) (sym is) (h text given small s)
+    subst (λ b. StandsFor new (cond b (whole_lines text) text) given) (sym is)
+    (h text given small s)
 
 -- at the front of a block
 pub from_front : (block : List ℕ) (seen came : ℕ) → seen ≡ 0
@@ -162,11 +164,11 @@ pub has_looked : (is_file : Bool) (old mid new : NightLines) (more record_text :
     → Keeps is_file old mid → unseen_in mid ≡ [] → mid.seen ≡ 0 → unseen_in new ≡ more
     → more ≡ take new.came (drop mid.place record_text)
     → new.line ≡ mid.line → new.place ≡ mid.place → new.seen ≡ mid.seen
-    → taken_in new ≡ taken_in mid → HasLooked is_file old new more record_text
+    → bytes_given new ≡ bytes_given mid → HasLooked is_file old new more record_text
 has_looked is_file old mid new more record_text h none front unseen bytes line place seen taken
     text given few s =
     let m = h text given few s in
-    let kept = kept_of is_file text in
+    let kept = part_to_keep is_file text in
     let all : kept ≡ m.looked_at = m.came
     ∙ (ap (λ u. m.looked_at ++ u) none ∙ append-nil m.looked_at) in
     let at : mid.place ≡ length kept = omega (arith, m.place, front, ap length all) in

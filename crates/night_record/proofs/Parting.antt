@@ -11,7 +11,7 @@ use Rattle.std.proofs.lemmas.List.Sums.{fold-append}
 use Rattle.std.proofs.Math.Seq.{take-append-add, take-append_seam}
 use Rattle.ascii_text.specs.Text.{is_newline}
 use Rattle.night_record.specs.Cut.{Cut, cut_of, front_of}
-use Rattle.night_record.specs.Cut.{no_bytes, with_byte, whole_length, whole_of}
+use Rattle.night_record.specs.Cut.{no_bytes, with_byte, whole_length, whole_lines}
 
 -- bytes without an LF go behind those of the line
 plain : (xs : List ℕ) (lines : List (List ℕ)) (rest : List ℕ)
@@ -114,7 +114,7 @@ parted text = parted_more [] text ([], record { is = refl; cut = refl })
 
 -- the whole lines of a text have its lines, and no line begins behind them
 pub cut_whole : (text : List ℕ)
-    → cut_of (whole_of text) ≡ record { lines = (cut_of text).lines; rest = [] }
+    → cut_of (whole_lines text) ≡ record { lines = (cut_of text).lines; rest = [] }
 cut_whole text =
     let p = parted text in
     let size : length text ≡ length p.0 + length (cut_of text).rest
@@ -124,5 +124,5 @@ cut_whole text =
     ∙ (ap (λ t. take (length p.0) t) p.1.is ∙ take-append_seam p.0 (cut_of text).rest))
     ∙ p.1.cut
 
-pub length_whole : (text : List ℕ) → length (whole_of text) ≡ whole_length text
+pub length_whole : (text : List ℕ) → length (whole_lines text) ≡ whole_length text
 length_whole text = length-take-le (whole_length text) text (omega arith)

@@ -18,8 +18,8 @@ use Rattle.uuid.proofs.TextLemmas.{by_index_length}
 use Rattle.uuid.proofs.RoundTrips.{parses_hyphenated}
 use Rattle.ascii_text.specs.Forms.{whole_of}
 use Rattle.night_record.specs.Head.{IsHead, head_text, name_of}
-use Rattle.night_record.specs.Reading.{before_comma, behind_comma, is_comma, laid_out, named}
-use Rattle.night_record.specs.Reading.{answer_of, head_with, show_of, started_of}
+use Rattle.night_record.specs.Reading.{before_comma, behind_comma, is_comma, laid_out, with_name}
+use Rattle.night_record.specs.Reading.{hex_answer, head_with, show_of, started_of}
 use Rattle.night_record.specs.declared.head.RecordHead.{RecordHead}
 
 -- what is never found is `None`
@@ -84,7 +84,7 @@ bytes_at (y ∷ ys) all (suc i) = bytes_at ys (λ k d lt. all (suc k) d (omega (
 show_back : (show : List ℕ) → length show ≡ 32 → All (λ byte. byte < 256) show
     → show_of (encode_lower show) ≡ Some show
 show_back show long all =
-    ap answer_of (decode_sized-encode_lower show 32 long (bytes_at show all))
+    ap hex_answer (decode_sized-encode_lower show 32 long (bytes_at show all))
 
 name_back : (name : List ℕ) → length name ≤ 63 → name_of name ≡ Some name
 name_back name room = rw (le-leb (length name) 63 room) refl
@@ -94,7 +94,7 @@ started_back started long = rw (eq-eqb (length started) 24 long) refl
 
 named_back : (with_parts : Option (List ℕ) → Option (List ℕ) → Option RecordHead)
     (name started : List ℕ) → length name ≤ 63 → length started ≡ 24
-    → named with_parts (name ++ (codes ", started " ++ started))
+    → with_name with_parts (name ++ (codes ", started " ++ started))
     ≡ with_parts (Some name) (Some started)
 named_back with_parts name started room long =
     let rest : List ℕ = codes ", started " ++ started in

@@ -3,10 +3,10 @@ use Rattle.std.proofs.Common.{◌≡◌, [], ◌∷◌, refl}
 use Rattle.std.specs.Prelude.{Some, None, codes}
 use Rattle.ascii_text.specs.Text.{words_of}
 use Rattle.night_record.specs.Asked.{asked_by}
-use Rattle.night_record.specs.Coming.{kept_of}
+use Rattle.night_record.specs.Coming.{part_to_keep}
 use Rattle.night_record.specs.Cut.{all_given, whole_length}
 use Rattle.night_record.specs.Opening.{head_in}
-use Rattle.night_record.specs.Silence.{is_silent, leading_moment}
+use Rattle.night_record.specs.Silence.{is_record_silent, leading_moment}
 use Rattle.night_record.specs.declared.asked.Asked.TheVariants.{Take, Help, Other}
 use Rattle.std.proofs.Common.{true, false}
 
@@ -18,10 +18,10 @@ cut_behind : whole_length (codes "0 go\n23 tick\n46 ti") ≡ 13
 cut_behind = refl
 
 -- a file is read again behind its whole lines, a FIFO goes on
-file_kept : kept_of true (codes "0 go\n23 ti") ≡ codes "0 go\n"
+file_kept : part_to_keep true (codes "0 go\n23 ti") ≡ codes "0 go\n"
 file_kept = refl
 
-fifo_kept : kept_of false (codes "0 go\n23 ti") ≡ codes "0 go\n23 ti"
+fifo_kept : part_to_keep false (codes "0 go\n23 ti") ≡ codes "0 go\n23 ti"
 fifo_kept = refl
 
 -- an empty record, and one without an LF
@@ -56,10 +56,10 @@ no_word : asked_by (words_of (codes "! go")) ≡ None
 no_word = refl
 
 -- a second of patience
-not_yet : is_silent 999999999 1000 ≡ false
+not_yet : is_record_silent 999999999 1000 ≡ false
 not_yet = refl
 
-silent : is_silent 1000000000 1000 ≡ true
+silent : is_record_silent 1000000000 1000 ≡ true
 silent = refl
 
 long_silence : leading_moment 1000 60000 ≡ 11000

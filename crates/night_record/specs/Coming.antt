@@ -4,7 +4,7 @@ use Rattle.std.specs.Prelude.{Bool, ◌&&◌, if◌then◌else◌, nat_le}
 use Rattle.std.specs.List.{slice_range}
 use Rattle.live_machine.specs.declared.input.Came.{Came}
 use Rattle.live_machine.specs.declared.input.Came.TheVariants.{Bytes}
-use Rattle.night_record.specs.Cut.{all_given, cut_of, front_of, whole_length, whole_of}
+use Rattle.night_record.specs.Cut.{all_given, cut_of, front_of, whole_length, whole_lines}
 use Rattle.night_record.specs.declared.lines.NightLines.{NightLines}
 
 -- the bytes that came and were not looked at
@@ -16,8 +16,8 @@ abbrev pub rest_in : NightLines → List ℕ
 rest_in lines = take 4096 (lines.line.items ++ unseen_in lines)
 
 -- so many bytes were given in lines, their LFs included
-abbrev pub taken_in : NightLines → ℕ
-taken_in lines = lines.taken
+abbrev pub bytes_given : NightLines → ℕ
+bytes_given lines = lines.taken
 
 -- these bytes came, and these lines were given of them: the lines of what was looked at, each once
 -- and in order. Of a line whose LF has not come, what was looked at is kept
@@ -27,7 +27,7 @@ pub record StandsFor (lines : NightLines) (text : List ℕ) (given : List (List 
   pub gave : given ≡ all_given looked_at
   pub begun : lines.line.items ≡ front_of (cut_of looked_at).rest
   pub place : lines.place + lines.seen ≡ length looked_at
-  pub taken : taken_in lines ≡ whole_length looked_at
+  pub taken : bytes_given lines ≡ whole_length looked_at
 
 -- whatever came before, these bytes came behind it, and no line was given of them yet
 abbrev pub StandsForMore : NightLines → List ℕ → NightLines → Type 0
@@ -42,19 +42,19 @@ typed_in _ block = []
 -- what counts of the bytes that came, when it is looked for more: all of them; but of a file its
 -- whole lines, since a part of a line may be cut off, where the line that began has at most 200
 -- bytes
-abbrev pub kept_of : Bool → List ℕ → List ℕ
-kept_of is_file text =
-    if is_file && nat_le (length (cut_of text).rest) 200 then whole_of text else text
+abbrev pub part_to_keep : Bool → List ℕ → List ℕ
+part_to_keep is_file text =
+    if is_file && nat_le (length (cut_of text).rest) 200 then whole_lines text else text
 
 -- whatever came before, that of it counts, and the same lines were given
 abbrev pub Keeps : Bool → NightLines → NightLines → Type 0
 Keeps is_file old new = (text : List ℕ) (given : List (List ℕ)) → length text < 2 ^ 64
-    → StandsFor old text given → StandsFor new (kept_of is_file text) given
+    → StandsFor old text given → StandsFor new (part_to_keep is_file text) given
 
 -- whatever came before, these bytes came behind what of it counts, and they stand there in the
 -- record
 abbrev pub HasLooked : Bool → NightLines → NightLines → List ℕ → List ℕ → Type 0
 HasLooked is_file old new more record_text = (text : List ℕ) (given : List (List ℕ))
     → length text < 2 ^ 64 → StandsFor old text given
-    → (more ≡ take (length more) (drop (length (kept_of is_file text)) record_text))
-    × StandsFor new (kept_of is_file text ++ more) given
+    → (more ≡ take (length more) (drop (length (part_to_keep is_file text)) record_text))
+    × StandsFor new (part_to_keep is_file text ++ more) given

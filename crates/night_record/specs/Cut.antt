@@ -32,5 +32,5 @@ abbrev pub all_given : List ℕ → List (List ℕ)
 all_given text = map front_of (cut_of text).lines
 
 -- the whole lines of a text
-abbrev pub whole_of : List ℕ → List ℕ
-whole_of text = take (whole_length text) text
+abbrev pub whole_lines : List ℕ → List ℕ
+whole_lines text = take (whole_length text) text

@@ -13,13 +13,13 @@ use Rattle.night_record.specs.declared.head.RecordHead.{RecordHead}
 abbrev pub is_comma : ℕ → Bool
 is_comma b = b == 44
 
-abbrev pub answer_of : Result (List ℕ) FromHexError → Option (List ℕ)
-answer_of (Ok bytes) = Some bytes
-answer_of (Err error) = None
+abbrev pub hex_answer : Result (List ℕ) FromHexError → Option (List ℕ)
+hex_answer (Ok bytes) = Some bytes
+hex_answer (Err error) = None
 
 -- the checksum that hex digits spell
 abbrev pub show_of : List ℕ → Option (List ℕ)
-show_of digits = answer_of (decode_sized digits 32)
+show_of digits = hex_answer (decode_sized digits 32)
 
 -- the bytes of a moment
 abbrev pub started_of : List ℕ → Option (List ℕ)
@@ -47,9 +47,9 @@ abbrev pub behind_comma : List ℕ → List ℕ
 behind_comma text = drop 7 (drop (position_or_len is_comma text) text)
 
 -- a name and a moment: all but the last 34 bytes, and what stands behind `, started ` of those
-abbrev pub named : (Option (List ℕ) → Option (List ℕ) → Option RecordHead) → List ℕ
+abbrev pub with_name : (Option (List ℕ) → Option (List ℕ) → Option RecordHead) → List ℕ
     → Option RecordHead
-named with_parts text =
+with_name with_parts text =
     let n = length text - 34 in
     with_parts (name_of (take n text)) (started_of (drop 10 (drop n text)))
 
@@ -60,5 +60,5 @@ laid_out line =
     let cid = drop 7 (drop 64 digits) in
     let priority = drop 11 (drop 36 cid) in
     let base = behind_comma priority in
-    named (head_with (show_of (take 64 digits)) (parsed (take 36 cid))
+    with_name (head_with (show_of (take 64 digits)) (parsed (take 36 cid))
     (whole_of 255 (before_comma priority)) (whole_of 65535 (before_comma base))) (behind_comma base)

@@ -37,8 +37,8 @@ impl NightLines {
     ghost use Rattle.live_machine.specs.Input.{brought_by, fault};
     ghost use Rattle.live_machine.specs.declared.input.Came.TheVariants.{Nothing};
     ghost use Rattle.night_record.specs.Coming.{HasLooked, Keeps, StandsFor, StandsForMore};
-    ghost use Rattle.night_record.specs.Coming.{rest_in, taken_in, typed_in, unseen_in};
-    ghost use Rattle.night_record.specs.Cut.{all_given, whole_of};
+    ghost use Rattle.night_record.specs.Coming.{rest_in, bytes_given, typed_in, unseen_in};
+    ghost use Rattle.night_record.specs.Cut.{all_given, whole_lines};
 
     /// No byte has come yet.
     pub fn new() -> Self
@@ -86,8 +86,8 @@ impl NightLines {
     }
 
     /// How many bytes were given in lines, their LFs included.
-    pub fn taken(&self) -> u64
-        ensures { result ≡ taken_in self.now }
+    pub fn bytes_given(&self) -> u64
+        ensures { result ≡ bytes_given self.now }
     {
         self.taken
     }
@@ -202,7 +202,7 @@ impl NightLines {
     fn forget_line(&mut self)
         requires { unseen_in self.old ≡ [] }
         ensures whole { (text : List ℕ) (given : List (List ℕ)) → length text < 2 ^ 64
-            → StandsFor self.old text given → StandsFor self.new (whole_of text) given }
+            → StandsFor self.old text given → StandsFor self.new (whole_lines text) given }
         ensures none { unseen_in self.new ≡ [] }
         ensures front { (self.new.seen ≡ 0) × (self.new.came ≡ 0) }
     {

@@ -1,6 +1,6 @@
 ghost use Rattle.std.specs.Prelude.{◌≡◌};
 ghost use Rattle.std.specs.Duration.{as_nanos};
-ghost use Rattle.night_record.specs.Silence.{is_silent, leading_moment, silence_of};
+ghost use Rattle.night_record.specs.Silence.{is_record_silent, leading_moment, silence_of};
 
 use std::time::Duration;
 
@@ -14,7 +14,7 @@ pub fn silence_of(passed: Duration) -> u64
 /// Whether a main whose newest line came so long ago is silent, by how long it may be, in
 /// milliseconds.
 pub fn is_silent(passed: Duration, patience: u32) -> bool
-    ensures { result ≡ is_silent (as_nanos passed) patience }
+    ensures { result ≡ is_record_silent (as_nanos passed) patience }
 {
     passed.as_millis() >= u128::from(patience)
 }

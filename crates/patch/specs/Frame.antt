@@ -6,7 +6,7 @@ use Rattle.std.specs.Option.{option_map_or}
 use Rattle.std.specs.FinMap as maps
 use Rattle.std.specs.Simd.{first_chunks}
 use Rattle.show.specs.Numbers.{is_within}
-use Rattle.show.specs.Readers.{slot_of, universes_of}
+use Rattle.show.specs.Readers.{slot_of, patch_ordinals}
 use Rattle.show.specs.Tables.{PatchMap}
 
 -- the number of the universe of ordinal 0, and the patch
@@ -21,7 +21,7 @@ is_universe = is_within 63999
 -- the base is a universe number, and so is the base plus each ordinal with a patched dimmer
 unfoldable pub is_base : PatchMap → ℕ → Bool
 is_base patch base =
-    is_universe base && list_all (λ ordinal. is_universe (base + ordinal)) (universes_of patch)
+    is_universe base && list_all (λ ordinal. is_universe (base + ordinal)) (patch_ordinals patch)
 
 -- the level of a channel in a list that begins with channel 1
 abbrev pub listed_level : List ℕ → ℕ → ℕ

@@ -6,7 +6,7 @@ use Rattle.show.specs.Numbers.{is_dimmer, is_channel}
 use Rattle.patch.specs.declared.rig.Rig.TheInside.{Inside}
 use Rattle.patch.specs.Frame.{Rigging, is_base}
 use Rattle.patch.specs.Index.{IsIndex}
-use Rattle.patch.specs.Sources.{AreOf, AreSources}
+use Rattle.patch.specs.Sources.{AreBytesOf, AreSources}
 use Rattle.patch.specs.declared.sources.Bytes.TheVariants.{Mixed}
 
 -- the patch is the map of the dimmers
@@ -24,5 +24,5 @@ pub record IsRig (r : Inside) : Type 0 where
   pub sources : AreSources (rig_view r).patch r.sources.items r.bytes.items
   pub each_kind : length r.kinds.items ≡ 16
   pub kinds : (k : ℕ) → k < 16
-      → AreOf (slice_index_or r.kinds.items k Mixed) r.bytes.items (512 * k)
+      → AreBytesOf (slice_index_or r.kinds.items k Mixed) r.bytes.items (512 * k)
   pub base_in : IsTrue (is_base (rig_view r).patch r.base)

@@ -17,9 +17,9 @@ pub record AreSources (patch : PatchMap) (sources bytes : List ℕ) : Type 0 whe
       ≡ dimmer_slot patch level grand (p + 1)
 
 -- the 512 bytes from a place on are all 0, are all 255, are each 0 or 255, or are any
-abbrev pub AreOf : Bytes → List ℕ → ℕ → Type 0
-AreOf Dark bytes first = (s : ℕ) → s < 512 → slice_index bytes (first + s) ≡ 0
-AreOf Full bytes first = (s : ℕ) → s < 512 → slice_index bytes (first + s) ≡ 255
-AreOf FullOrDark bytes first = (s : ℕ) → s < 512
+abbrev pub AreBytesOf : Bytes → List ℕ → ℕ → Type 0
+AreBytesOf Dark bytes first = (s : ℕ) → s < 512 → slice_index bytes (first + s) ≡ 0
+AreBytesOf Full bytes first = (s : ℕ) → s < 512 → slice_index bytes (first + s) ≡ 255
+AreBytesOf FullOrDark bytes first = (s : ℕ) → s < 512
     → (slice_index bytes (first + s) ≡ 0) ⊎ (slice_index bytes (first + s) ≡ 255)
-AreOf Mixed bytes first = Unit {0}
+AreBytesOf Mixed bytes first = Unit {0}

@@ -4,7 +4,7 @@ ghost use Rattle.show.specs.Numbers.{AreLevels};
 ghost use Rattle.show.specs.Readers.{slot_of};
 ghost use Rattle.show.specs.Tables.{PatchMap};
 ghost use Rattle.patch.specs.Frame.{AreDrawn, listed_level};
-ghost use Rattle.patch.specs.Sources.{AreOf, AreSources};
+ghost use Rattle.patch.specs.Sources.{AreBytesOf, AreSources};
 ghost use Rattle.patch.specs.declared.sources.Bytes.TheVariants.{Dark, Mixed};
 
 use crate::sources::Bytes;
@@ -34,7 +34,8 @@ pub struct Drawing<'a> {
 pub fn draw_slots(out: &mut [u8], drawing: &Drawing<'_>)
     requires each_slot { length out.old ≡ 8192 }
     requires kinds { (k : ℕ) → k < 16
-        → AreOf (slice_index_or drawing.now.kinds.now k Mixed) drawing.now.bytes.now (512 * k) }
+        → AreBytesOf (slice_index_or drawing.now.kinds.now k Mixed) drawing.now.bytes.now
+        (512 * k) }
     ensures { (p : ℕ) → p < 8192 → slice_index out.new p
         ≡ slot_of (slice_index drawing.now.levels.now (slice_index drawing.now.sources.now p))
         drawing.now.grand (slice_index drawing.now.bytes.now p) }
@@ -93,7 +94,7 @@ fn full_slot(level: u16) -> u8
 fn draw_frame(out: &mut [u8], drawing: &Drawing<'_>, slots: &[u8; 4096], ordinal: usize)
     requires size { length out.old ≡ 512 }
     requires ordinal { ordinal < 16 }
-    requires kind { AreOf (slice_index_or drawing.now.kinds.now ordinal Dark)
+    requires kind { AreBytesOf (slice_index_or drawing.now.kinds.now ordinal Dark)
         drawing.now.bytes.now (512 * ordinal) }
     requires slots { (c : ℕ) → c < 4096 → slice_index slots.now c
         ≡ slot_of (slice_index drawing.now.levels.now c) drawing.now.grand 255 }

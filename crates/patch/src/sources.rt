@@ -5,7 +5,7 @@ ghost use Rattle.std.specs.Option.{option_map_or};
 ghost use Rattle.std.specs.Ordering.{nat_cmp};
 ghost use Rattle.show.specs.Numbers.{is_channel, is_dimmer};
 ghost use Rattle.show.specs.Readers.{slot_of};
-ghost use Rattle.patch.specs.Sources.{AreOf};
+ghost use Rattle.patch.specs.Sources.{AreBytesOf};
 ghost use Rattle.patch.specs.declared.sources.Bytes.TheVariants.{Mixed};
 
 use show::{SLOTS, UNIVERSES};
@@ -49,7 +49,7 @@ pub fn kinds_of(alloc: Global, bytes: &[u8]) -> Result<Vec<Bytes>, AllocError>
     requires { length bytes.now ≡ 8192 }
     ensures each { IfOk result (λ kinds. length kinds.items ≡ 16) }
     ensures kinds { IfOk result (λ kinds. (k : ℕ) → k < 16
-        → AreOf (slice_index_or kinds.items k Mixed) bytes.now (512 * k)) }
+        → AreBytesOf (slice_index_or kinds.items k Mixed) bytes.now (512 * k)) }
 {
     let mut kinds = Vec::with_capacity(alloc, usize::from(UNIVERSES))?;
     for ordinal in 0..UNIVERSES {
@@ -61,7 +61,7 @@ pub fn kinds_of(alloc: Global, bytes: &[u8]) -> Result<Vec<Bytes>, AllocError>
 // What the 512 bytes from this one on are.
 fn kind_of(bytes: &[u8], first: usize) -> Bytes
     requires { first + 512 ≤ length bytes.now }
-    ensures { AreOf result bytes.now first }
+    ensures { AreBytesOf result bytes.now first }
 {
     let mut dark = true;
     let mut full = true;

@@ -5,7 +5,7 @@ use Rattle.std.specs.FinMap as map
 use Rattle.std.proofs.lemmas.Bool.Decides.{nat_tests}
 use Rattle.show.specs.Tables.{Tables}
 use Rattle.playback.specs.Placed.{count_above}
-use Rattle.playback.specs.Played.{Move, due, followed, with_due}
+use Rattle.playback.specs.Played.{Move, next_move, with_follow_ons, with_due}
 
 -- ---- numbers above another
 
@@ -51,25 +51,25 @@ room-few show [] = omega arith
 room-few show (move ∷ older) = count_above-few (map.keys show.cues) move.cue
 
 -- a due move goes to a greater cue number
-room-due : (show : Tables) (moves : List Move) (next : Move) → due show moves ≡ Some next
+room-due : (show : Tables) (moves : List Move) (next : Move) → next_move show moves ≡ Some next
     → room show (next ∷ moves) < room show moves
 room-due show [] next is = cc
 room-due show (move ∷ older) next is =
     grind (arith, count_above-found (map.keys show.cues) move.cue next.cue)
 
-no_room : (show : Tables) (moves : List Move) → room show moves ≡ 0 → due show moves ≡ None
+no_room : (show : Tables) (moves : List Move) → room show moves ≡ 0 → next_move show moves ≡ None
 no_room show [] none = refl
 no_room show (move ∷ older) none = rw (none_found (map.keys show.cues) move.cue none) refl
 
 -- the next move is due later than this moment, where there is one
 abbrev IsLater : Tables → ℕ → List Move → Type 0
-IsLater show moment moves = IfSome (due show moves) (λ next. moment < next.moment)
+IsLater show moment moves = IfSome (next_move show moves) (λ next. moment < next.moment)
 
 module _ (show : Tables) (moment : ℕ) where
   -- a list is as good as another where both are long enough
   same_followed : (few many : List ℕ) (moves : List Move)
       → room show moves ≤ length few → room show moves ≤ length many
-      → followed show moment few moves ≡ followed show moment many moves
+      → with_follow_ons show moment few moves ≡ with_follow_ons show moment many moves
   same_followed [] [] moves a b = refl
   same_followed [] (k ∷ many) moves a b = rw (no_room show moves (omega arith)) refl
   same_followed (k ∷ few) [] moves a b = rw (no_room show moves (omega arith)) refl
@@ -77,39 +77,40 @@ module _ (show : Tables) (moment : ℕ) where
       grind (arith, room-due show moves, λ (next : Move). same_followed few many (next ∷ moves))
 
   due_first : (ks : List ℕ) (moves : List Move) (next : Move) → room show moves ≤ length ks
-      → due show moves ≡ Some next → next.moment ≤ moment
-      → followed show moment ks moves ≡ followed show moment ks (next ∷ moves)
+      → next_move show moves ≡ Some next → next.moment ≤ moment
+      → with_follow_ons show moment ks moves ≡ with_follow_ons show moment ks (next ∷ moves)
   due_first [] moves next few is le = absurd (omega (arith, room-due show moves next is))
   due_first (k ∷ ks) moves next few is le =
       grind (arith, nat_tests, room-due show moves next, same_followed ks (k ∷ ks) (next ∷ moves))
 
   -- a due move is the first of those that are made
-  pub with_due-due : (moves : List Move) (next : Move) → due show moves ≡ Some next
+  pub with_due-due : (moves : List Move) (next : Move) → next_move show moves ≡ Some next
       → next.moment ≤ moment → with_due show moment moves ≡ with_due show moment (next ∷ moves)
   unfolding with_due
   with_due-due moves next is le =
       due_first (map.keys show.cues) moves next (room-few show moves) is le
 
   none_due : (ks : List ℕ) (moves : List Move) → IsLater show moment moves
-      → followed show moment ks moves ≡ moves
+      → with_follow_ons show moment ks moves ≡ moves
   none_due [] moves later = refl
   none_due (k ∷ ks) moves later = grind (arith, nat_tests)
 
   -- where none is due, none is made
-  pub with_due-none : (moves : List Move) → IfSome (due show moves) (λ next. moment < next.moment)
+  pub with_due-none : (moves : List Move)
+      → IfSome (next_move show moves) (λ next. moment < next.moment)
       → with_due show moment moves ≡ moves
   unfolding with_due
   with_due-none moves later = none_due (map.keys show.cues) moves later
 
   left : (ks : List ℕ) (moves : List Move) → room show moves ≤ length ks
-      → IsLater show moment (followed show moment ks moves)
+      → IsLater show moment (with_follow_ons show moment ks moves)
   left [] moves few = rw (no_room show moves (omega arith)) tt
   left (k ∷ ks) moves few =
       grind (arith, nat_tests, room-due show moves, λ (next : Move). left ks (next ∷ moves))
 
   -- after them none is due by the moment
   pub none_left : (moves : List Move)
-      → IfSome (due show (with_due show moment moves)) (λ next. moment < next.moment)
+      → IfSome (next_move show (with_due show moment moves)) (λ next. moment < next.moment)
   unfolding with_due
   none_left moves = left (map.keys show.cues) moves (room-few show moves)
 

@@ -16,7 +16,7 @@ use Rattle.fade.specs.Level.{Start}
 use Rattle.playback.specs.declared.playback.NoMove.{NoMove}
 use Rattle.playback.specs.declared.playback.NoMove.TheVariants.{NoCue}
 use Rattle.playback.specs.Played.{Move, current_after, goto_target, moves_by}
-use Rattle.playback.specs.Playing.{Playing}
+use Rattle.playback.specs.Playing.{PlaybackState}
 use Rattle.playback.specs.Stands.{Moves, StandsFor, Steps}
 
 list_any-reverse : (p : ℕ → Bool) (xs : List ℕ) → list_any p (reverse xs) ≡ list_any p xs
@@ -45,7 +45,7 @@ contains_key-cue_below cues n found e =
 
 -- what goes to the cue that a target found steps as the target says: goto takes a cue that is there
 pub steps_to : {F : Type 0} {stands_for : F → List Start → Type 0} {latest : F → ℕ} {show : Tables}
-    {moment cue : ℕ} {before after : Playing F} {result : Result ℕ NoMove}
+    {moment cue : ℕ} {before after : PlaybackState F} {result : Result ℕ NoMove}
     (target : Option ℕ → Option ℕ) (refused : NoMove) (current : Option ℕ)
     → map.contains_key show.cues cue ≡ true → target current ≡ Some cue
     → ((moves : List Move) (stopped : Bool) → StandsFor stands_for show before moves stopped

@@ -6,8 +6,8 @@ use Rattle.std.proofs.lemmas.Bool.Decides.{nat_tests}
 use Rattle.show.specs.Readers.{cue_above}
 use Rattle.show.specs.Tables.{Tables}
 use Rattle.playback.specs.declared.place.Place.{Place}
-use Rattle.playback.specs.Placed.{IsAt}
-use Rattle.playback.specs.Played.{Move, current_after, due, due_moment, with_due, moves_by}
+use Rattle.playback.specs.Placed.{IsPlaceAfter}
+use Rattle.playback.specs.Played.{Move, current_after, next_move, due_moment, with_due, moves_by}
 use Rattle.playback.specs.Played.{is_by}
 use Rattle.playback.proofs.Due.{with_due-due, with_due-none}
 
@@ -16,9 +16,9 @@ move_to n moment = record { cue = n; moment = moment; time = None }
 
 -- what is due at a moment goes to the cue that was found
 due_is : (show : Tables) (moves : List Move) (n moment : ℕ)
-    → option_map (λ move. move.moment) (due show moves) ≡ Some moment
+    → option_map (λ move. move.moment) (next_move show moves) ≡ Some moment
     → cue_above show.cues (unwrap_or (current_after moves) 0) ≡ Some n
-    → due show moves ≡ Some (move_to n moment)
+    → next_move show moves ≡ Some (move_to n moment)
 due_is show [] n moment is found = cc
 due_is show (move ∷ older) n moment is found = grind arith
 
@@ -27,8 +27,8 @@ module _ (show : Tables) (moment : ℕ) where
   pub moved : (place after : Place) (n at : ℕ) → place.due ≡ Some at
       → is_by place.due moment ≡ true → cue_above show.cues (unwrap_or place.current 0) ≡ Some n
       → after.current ≡ Some n → after.due ≡ due_moment show false (move_to n at ∷ [])
-      → (moves : List Move) (stopped : Bool) → IsAt show place moves stopped
-      → IsAt show after (move_to n at ∷ moves) stopped
+      → (moves : List Move) (stopped : Bool) → IsPlaceAfter show place moves stopped
+      → IsPlaceAfter show after (move_to n at ∷ moves) stopped
       × (moves_by show stopped moment moves ≡ moves_by show stopped moment (move_to n at ∷ moves))
   moved place after n at due_at by found current next moves true is = cc
   moved place after n at due_at by found current next moves false is =
@@ -42,7 +42,7 @@ module _ (show : Tables) (moment : ℕ) where
   none_made next moves is later = with_due-none show moment moves (grind (arith, nat_tests))
 
   pub still : (place : Place) → is_by place.due moment ≡ false
-      → (moves : List Move) (stopped : Bool) → IsAt show place moves stopped
+      → (moves : List Move) (stopped : Bool) → IsPlaceAfter show place moves stopped
       → moves_by show stopped moment moves ≡ moves
   still place later moves true is = refl
   still place later moves false is = none_made place.due moves is.due later

@@ -2,7 +2,7 @@
 use Rattle.std.specs.Prelude.{ℕ, ◌<◌, ◌≤◌, List, IfSome}
 use Rattle.show.specs.Tables.{Tables}
 use Rattle.fade.specs.Level.{IsTowards}
-use Rattle.playback.specs.Played.{Move, due, with_due, playback_level, playback_target}
+use Rattle.playback.specs.Played.{Move, next_move, with_due, playback_level, playback_target}
 
 -- between two moves a playback never turns back: as time passes, each channel goes from its level
 -- towards its target
@@ -16,4 +16,4 @@ PlaybacksNeverTurnBack =
 abbrev pub NoneIsLeftDue : Type 0
 NoneIsLeftDue =
     (show : Tables) (moment : ℕ) (moves : List Move)
-    → IfSome (due show (with_due show moment moves)) (λ next. moment < next.moment)
+    → IfSome (next_move show (with_due show moment moves)) (λ next. moment < next.moment)

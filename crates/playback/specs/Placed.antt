@@ -6,7 +6,8 @@ use Rattle.playback.specs.Played.{Move, current_after, due_moment}
 use Rattle.playback.specs.declared.place.Place.{Place}
 
 -- the place after these moves
-pub record IsAt (show : Tables) (place : Place) (moves : List Move) (stopped : Bool) : Type 0 where
+pub record IsPlaceAfter (show : Tables) (place : Place) (moves : List Move)
+    (stopped : Bool) : Type 0 where
   pub current : place.current ≡ current_after moves
   pub due : place.due ≡ due_moment show stopped moves
 

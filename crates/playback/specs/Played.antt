@@ -49,23 +49,23 @@ move_after moment _ _ = None
 
 -- the move that is due after these: to the next cue number, so long after the newest move as the
 -- follow-on time of its cue, where it has one and there is such a cue
-abbrev pub due : Tables → List Move → Option Move
-due show [] = None
-due show (move ∷ older) =
+abbrev pub next_move : Tables → List Move → Option Move
+next_move show [] = None
+next_move show (move ∷ older) =
     move_after move.moment (cue_above show.cues move.cue) (cue_at show move.cue).follow
 
 -- the moves and those that follow them by themselves up to a moment, each at its own moment; at
 -- most one for each number of this list
-abbrev pub followed : Tables → ℕ → List ℕ → List Move → List Move
-followed show moment [] moves = moves
-followed show moment (_ ∷ others) moves =
+abbrev pub with_follow_ons : Tables → ℕ → List ℕ → List Move → List Move
+with_follow_ons show moment [] moves = moves
+with_follow_ons show moment (_ ∷ others) moves =
     option_map_or (λ next. if nat_le next.moment moment
-    then followed show moment others (next ∷ moves) else moves) (due show moves) moves
+    then with_follow_ons show moment others (next ∷ moves) else moves) (next_move show moves) moves
 
 -- the moves and all that follow them by themselves up to a moment: each goes to a greater cue
 -- number, so there are at most as many as cues
 unfoldable pub with_due : Tables → ℕ → List Move → List Move
-with_due show moment moves = followed show moment (map.keys show.cues) moves
+with_due show moment moves = with_follow_ons show moment (map.keys show.cues) moves
 
 -- the moves up to a moment; none follows by itself once the playback was stopped
 abbrev pub moves_by : Tables → Bool → ℕ → List Move → List Move
@@ -74,7 +74,7 @@ moves_by show stopped moment moves = if stopped then moves else with_due show mo
 -- the moment at which the next cue goes by itself; none where the playback was stopped
 abbrev pub due_moment : Tables → Bool → List Move → Option ℕ
 due_moment show stopped moves =
-    if stopped then None else option_map (λ move. move.moment) (due show moves)
+    if stopped then None else option_map (λ move. move.moment) (next_move show moves)
 
 -- there is a moment, and it is not after this one
 abbrev pub is_by : Option ℕ → ℕ → Bool

@@ -4,21 +4,22 @@ use Rattle.std.specs.Prelude.{IfOk, OnOk, OnErr}
 use Rattle.show.specs.Tables.{Tables}
 use Rattle.fade.specs.Level.{Start}
 use Rattle.playback.specs.declared.playback.NoMove.{NoMove}
-use Rattle.playback.specs.Playing.{Playing}
+use Rattle.playback.specs.Playing.{PlaybackState}
 use Rattle.playback.specs.Played.{Move, start_of, current_after, due_moment, moves_by}
 
 -- a playback stands for these moves over a show, the newest first: its current cue is that of the
 -- newest; the next one is due at the moment of the move that is due, and never once it was stopped;
 -- and its fader stands, by the fader's own relation, for the starts that the moves make
 pub record StandsFor {F : Type 0} (fader_stands_for : F → List Start → Type 0) (show : Tables)
-    (playback : Playing F) (moves : List Move) (stopped : Bool) : Type 0 where
+    (playback : PlaybackState F) (moves : List Move) (stopped : Bool) : Type 0 where
   pub current : playback.current ≡ current_after moves
   pub due : playback.due ≡ due_moment show stopped moves
   pub fader : fader_stands_for playback.fader (map (start_of show) moves)
 
 -- a playback moved to a cue: whatever moves it stood for before, it now stands for these, those
 -- that followed them by themselves up to the moment, and this one
-abbrev pub MovesTo : {F : Type 0} → (F → List Start → Type 0) → Tables → Playing F → Playing F
+abbrev pub MovesTo : {F : Type 0} → (F → List Start → Type 0) → Tables → PlaybackState F
+    → PlaybackState F
     → Move → Type 0
 MovesTo fader_stands_for show before after move =
     (moves : List Move) (stopped : Bool) → StandsFor fader_stands_for show before moves stopped
@@ -27,7 +28,7 @@ MovesTo fader_stands_for show before after move =
 -- a playback was asked to move at a moment, over a time of its own or the cue's: at Ok it moved to
 -- the cue that is answered, which is current now; at Err nothing changed
 pub record Moves {F : Type 0} (fader_stands_for : F → List Start → Type 0) (latest : F → ℕ)
-    (show : Tables) (moment : ℕ) (time : Option ℕ) (before after : Playing F)
+    (show : Tables) (moment : ℕ) (time : Option ℕ) (before after : PlaybackState F)
     (result : Result ℕ NoMove) : Type 0 where
   pub stands : IfOk result (λ cue. MovesTo fader_stands_for show before after
       (record { cue = cue; moment = moment; time = time }))
@@ -38,7 +39,7 @@ pub record Moves {F : Type 0} (fader_stands_for : F → List Start → Type 0) (
 -- it was asked to move from the cue that is current at the moment, the moves due by then made, over
 -- the times of the cue that it moves to: it answers what is the answer for the current cue
 pub record Steps {F : Type 0} (fader_stands_for : F → List Start → Type 0) (latest : F → ℕ)
-    (show : Tables) (moment : ℕ) (before after : Playing F) (result : Result ℕ NoMove)
+    (show : Tables) (moment : ℕ) (before after : PlaybackState F) (result : Result ℕ NoMove)
     (answer_from : Option ℕ → Result ℕ NoMove) : Type 0 where
   pub answer : (moves : List Move) (stopped : Bool)
       → StandsFor fader_stands_for show before moves stopped
@@ -48,7 +49,8 @@ pub record Steps {F : Type 0} (fader_stands_for : F → List Start → Type 0) (
 -- a playback moved on to a moment: the moves that are due by then are made, and whether it is
 -- stopped follows from whether it was
 pub record MovesOn {F : Type 0} (fader_stands_for : F → List Start → Type 0) (latest : F → ℕ)
-    (show : Tables) (moment : ℕ) (before after : Playing F) (stops : Bool → Bool) : Type 0 where
+    (show : Tables) (moment : ℕ) (before after : PlaybackState F)
+    (stops : Bool → Bool) : Type 0 where
   pub stands : (moves : List Move) (stopped : Bool)
       → StandsFor fader_stands_for show before moves stopped
       → StandsFor fader_stands_for show after (moves_by show stopped moment moves) (stops stopped)

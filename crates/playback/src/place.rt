@@ -2,7 +2,7 @@ ghost use Rattle.std.specs.Prelude.{◌≡◌, ◌^◌, ◌<◌, ◌≤◌, Bool
 ghost use Rattle.std.specs.Prelude.{Some, None, IfSome, IfNone};
 ghost use Rattle.std.specs.Option.{OnSome};
 ghost use Rattle.std.specs.FinMap as map;
-ghost use Rattle.playback.specs.Placed.{IsAt, cues_above};
+ghost use Rattle.playback.specs.Placed.{IsPlaceAfter, cues_above};
 ghost use Rattle.playback.specs.Played.{Move, current_after, due_moment, moves_by, is_by};
 
 use show::Show;
@@ -49,8 +49,8 @@ impl Place {
         self.due.is_some_and(|due| due <= moment)
     }
 
-    /// Goes on to the next cue, where it is due by this moment, below 2^48: that cue, and the moment
-    /// of the move.
+    /// Goes on to the next cue, where it is due by this moment, below 2^48: that cue, and the
+    /// moment of the move.
     pub fn follow(&mut self, show: &Show, moment: u64) -> Option<(u32, u64)>
         requires { moment < 2 ^ 48 }
         ensures due { IfSome result (λ next. self.old.due ≡ Some next.1) }
@@ -60,13 +60,14 @@ impl Place {
         ensures fewer { OnSome result (cues_above show.now.cues self.new.current
             < cues_above show.now.cues self.old.current) }
         ensures moved { IfSome result (λ next. (moves : List Move) (stopped : Bool)
-            → IsAt show.now self.old moves stopped
+            → IsPlaceAfter show.now self.old moves stopped
             → let move : Move = record { cue = next.0; moment = next.1; time = None } in
-            IsAt show.now self.new (move ∷ moves) stopped
+            IsPlaceAfter show.now self.new (move ∷ moves) stopped
             × (moves_by show.now stopped moment moves
             ≡ moves_by show.now stopped moment (move ∷ moves))) }
         ensures stays { IfNone result ((moves : List Move) (stopped : Bool)
-            → IsAt show.now self.old moves stopped → IsAt show.now self.new moves stopped
+            → IsPlaceAfter show.now self.old moves stopped
+            → IsPlaceAfter show.now self.new moves stopped
             × (moves_by show.now stopped moment moves ≡ moves)) }
         ensures later { IfNone result (IfSome self.new.due (λ due. moment ≤ due)) }
     {
@@ -82,7 +83,7 @@ impl Place {
     /// The cue that is current once the moves due by this moment are made.
     pub(crate) fn current_by(mut self, show: &Show, moment: u64) -> Option<u32>
         requires { moment < 2 ^ 48 }
-        ensures { (moves : List Move) (stopped : Bool) → IsAt show.now self moves stopped
+        ensures { (moves : List Move) (stopped : Bool) → IsPlaceAfter show.now self moves stopped
             → result ≡ current_after (moves_by show.now stopped moment moves) }
     {
         while self.follow(show, moment).is_some() {}

@@ -4,7 +4,7 @@ ghost use Rattle.std.specs.Prelude.{length, slice_index};
 ghost use Rattle.std.specs.Option.{ok_or};
 ghost use Rattle.show.specs.Numbers.{is_channel, AreLevels};
 ghost use Rattle.show.specs.Tables.{Tables};
-ghost use Rattle.playback.specs.Placed.{IsAt};
+ghost use Rattle.playback.specs.Placed.{IsPlaceAfter};
 ghost use Rattle.playback.specs.Played.{Move, go_target, back_target, goto_target};
 ghost use Rattle.playback.specs.Played.{moves_by, is_by, move_rate, start_of};
 ghost use Rattle.playback.specs.Played.{playback_level};
@@ -50,9 +50,9 @@ pub struct Playback<F: Fader> {
 
 impl<F: Fader> Model for Playback<F> {
     ghost use Rattle.std.specs.Prelude.{◌≡◌};
-    ghost use Rattle.playback.specs.Playing.{Playing};
+    ghost use Rattle.playback.specs.Playing.{PlaybackState};
 
-    ghost Value = { Playing F };
+    ghost Value = { PlaybackState F };
 
     ghost view = { λ p. record {
       fader = p.fader;
@@ -207,7 +207,7 @@ impl<F: Fader> Playback<F> {
     pub fn place(&self) -> Place
         ensures { (show : Tables) (moves : List Move) (stopped : Bool)
             → StandsFor F.stands_for show self.now moves stopped
-            → IsAt show result moves stopped }
+            → IsPlaceAfter show result moves stopped }
     {
         self.place
     }
@@ -268,10 +268,11 @@ fn make_due<F: Fader>(fader: &mut F, place: &mut Place, show: &Show, moment: u64
     requires below { moment < 2 ^ 48 }
     requires channels { F.channels fader.old ≡ 4096 }
     requires in_order { IfSome place.old.due (λ due. F.latest fader.old ≤ due) }
-    ensures stands { (moves : List Move) (stopped : Bool) → IsAt show.now place.old moves stopped
+    ensures stands { (moves : List Move) (stopped : Bool)
+        → IsPlaceAfter show.now place.old moves stopped
         → F.stands_for fader.old (map (start_of show.now) moves)
         → let made = moves_by show.now stopped moment moves in
-        IsAt show.now place.new made stopped
+        IsPlaceAfter show.now place.new made stopped
         × F.stands_for fader.new (map (start_of show.now) made) }
     ensures channels { F.channels fader.new ≡ 4096 }
     ensures not_ahead { F.latest fader.new ≤ moment }

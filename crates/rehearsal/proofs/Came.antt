@@ -15,12 +15,12 @@ use Rattle.sacn_packet.specs.Reading.{front_packet}
 use Rattle.sacn_source.specs.Stream.{Packet, last_packet}
 use Rattle.sacn_receiver.specs.declared.answer.Ignored.{Ignored}
 use Rattle.sacn_receiver.specs.Source as source
-use Rattle.sacn_receiver.specs.Taking.{entry_of, ignored, answer, heard}
+use Rattle.sacn_receiver.specs.Taking.{accepted_entry, ignore_reason, answer, history_after}
 use Rattle.rehearsal.specs.declared.event.Event.{Event}
 use Rattle.rehearsal.specs.declared.event.What.TheVariants.{Deliver, Stray}
 use Rattle.rehearsal.specs.World.{World, universe_at, console_at, no_console, IsWorld}
-use Rattle.rehearsal.specs.Happened.{sent, handed, hears, accepted_by}
-use Rattle.rehearsal.specs.Replies.{last_moment, missing, skipped, done_one, done}
+use Rattle.rehearsal.specs.Happened.{packets_sent, datagram_to, hears, accepted_by}
+use Rattle.rehearsal.specs.Replies.{last_event_moment, lack_skip, skip_of, done_one, events_done}
 use Rattle.std.proofs.lemmas.Cmp.{nat_list_eq_equiv}
 use Rattle.std.proofs.lemmas.List.{get_or-map, length-map}
 use Rattle.std.proofs.lemmas.List.Elements.{All-cons, All-map}
@@ -28,14 +28,14 @@ use Rattle.console.specs.Streams.{Production}
 use Rattle.sacn_source.specs.Identity.{Identity}
 use Rattle.sacn_receiver.specs.Arrivals.{Arrival, heard_all, last_arrival, NeverFall, not_heard}
 use Rattle.sacn_receiver.specs.Arrivals.{is_heard, is_from, HeardAreFrom, packets_heard}
-use Rattle.sacn_receiver.specs.Laws.{accepted}
+use Rattle.sacn_receiver.specs.Laws.{accepted_packets}
 use Rattle.sacn_receiver.specs.Source.{Entry, same_cid, is_accepted}
 use Rattle.sacn_receiver.proofs.Members.{by_test, In, In_mapped, in_from_get_or}
 use Rattle.sacn_receiver.proofs.Independent.{heard_accepted, records_independent}
 use Rattle.sacn_receiver.proofs.Independent.{answers_independent}
 use Rattle.rehearsal.specs.Datagrams.{packet_bytes}
 use Rattle.rehearsal.specs.declared.event.What.{What}
-use Rattle.rehearsal.specs.Delivery.{Delivery, delivered_more, delivered_by, delivered}
+use Rattle.rehearsal.specs.Delivery.{Delivery, delivered_more, delivered_by, deliveries}
 use Rattle.rehearsal.specs.Laws.{CidsDiffer, IsAlone, IsUnheard, NoStray, handed_from}
 use Rattle.rehearsal.specs.Laws.{accepted_from, ConsolesAreIndependent}
 use Rattle.rehearsal.proofs.Wire.{IsSendable, entry, cid_is, entry_is, heard_here, unheard_there}
@@ -44,10 +44,10 @@ use Rattle.rehearsal.proofs.Wire.{unheard_left, sent_is, sent_stays}
 -- none of these was skipped after those before it
 abbrev pub IsRun : World → List Event → Type 0
 IsRun w [] = Unit {0}
-IsRun w (e ∷ past) = (skipped w past e ≡ None) × IsRun w past
+IsRun w (e ∷ past) = (skip_of w past e ≡ None) × IsRun w past
 
 one_runs : (w : World) (past : List Event) (e : Event) → IsRun w past → IsRun w (done_one w past e)
-one_runs w past e run = cond_both (is_some (skipped w past e)) _ _ (IsRun w) (λ _. run)
+one_runs w past e run = cond_both (is_some (skip_of w past e)) _ _ (IsRun w) (λ _. run)
     (λ q. (grind (arith, nat_tests), run))
 
 more_runs : (w : World) (events past : List Event) → IsRun w past
@@ -55,15 +55,15 @@ more_runs : (w : World) (events past : List Event) → IsRun w past
 more_runs w [] past run = run
 more_runs w (e ∷ events) past run = more_runs w events (done_one w past e) (one_runs w past e run)
 
-pub done_runs : (w : World) (events : List Event) → IsRun w (done w events)
+pub done_runs : (w : World) (events : List Event) → IsRun w (events_done w events)
 done_runs w events = more_runs w events [] tt
 
 -- what is not skipped
 pub record IsTimely (w : World) (past : List Event) (e : Event) : Type 0 where
-  pub after : last_moment past ≤ e.moment
-  pub there : missing w past e.what ≡ None
+  pub after : last_event_moment past ≤ e.moment
+  pub there : lack_skip w past e.what ≡ None
 
-pub timely : (w : World) (past : List Event) (e : Event) → skipped w past e ≡ None
+pub timely : (w : World) (past : List Event) (e : Event) → skip_of w past e ≡ None
     → IsTimely w past e
 timely w past e s = record { after = grind (arith, nat_tests); there = grind (arith, nat_tests) }
 
@@ -71,32 +71,32 @@ timely w past e s = record { after = grind (arith, nat_tests); there = grind (ar
 pub record IsDelivered (w : World) (past : List Event) (i u k : ℕ) : Type 0 where
   pub there : i < length w.consoles
   pub packet : Packet
-  pub is_sent : slice_get (sent w i u past) k ≡ Some packet
+  pub is_sent : slice_get (packets_sent w i u past) k ≡ Some packet
 
 pub deliverer : (w : World) (past : List Event) (r i u k : ℕ)
-    → missing w past (Deliver r i u k) ≡ None → IsDelivered w past i u k
+    → lack_skip w past (Deliver r i u k) ≡ None → IsDelivered w past i u k
 deliverer w past r i u k h = record {
   there = grind (arith, nat_tests);
   packet = _;
-  is_sent = slice_get-get_or (sent w i u past) k last_packet (grind (arith, nat_tests));
+  is_sent = slice_get-get_or (packets_sent w i u past) k last_packet (grind (arith, nat_tests));
 }
 
 -- a receiver's last packet is not after the last event
 hears_last : (u : ℕ) (h : List source.Entry) (t : ℕ) (o : Option (List ℕ))
     → source.last_moment h ≤ t → source.last_moment (hears u t o h) ≤ t
 hears_last u h t None l = l
-hears_last u h t (Some d) l = go (ignored 4 u h t d)
+hears_last u h t (Some d) l = go (ignore_reason 4 u h t d)
   where
     go : (o : Option Ignored)
-        → source.last_moment (option_map_or (λ _. h) o (entry_of t (front_packet d) ∷ h)) ≤ t
+        → source.last_moment (option_map_or (λ _. h) o (accepted_entry t (front_packet d) ∷ h)) ≤ t
     go None = omega arith
     go (Some x) = l
 
 pub last_accepted : (w : World) (r : ℕ) (past : List Event) → IsRun w past
-    → source.last_moment (accepted_by w r past) ≤ last_moment past
+    → source.last_moment (accepted_by w r past) ≤ last_event_moment past
 last_accepted w r [] run = omega arith
 last_accepted w r (e ∷ past) run =
-    hears_last (universe_at w r) (accepted_by w r past) e.moment (handed w r past e.what)
+    hears_last (universe_at w r) (accepted_by w r past) e.moment (datagram_to w r past e.what)
     (omega (arith, last_accepted w r past run.1, (timely w past e run.0).after))
 
 -- a delivery, with the number of its console
@@ -108,7 +108,7 @@ source_of w i = (console_at w i).source
 
 -- what a console has sent for the universe of a receiver
 abbrev pub ours : World → ℕ → ℕ → List Event → List Packet
-ours w r i past = sent w i (universe_at w r) past
+ours w r i past = packets_sent w i (universe_at w r) past
 
 -- the deliveries of one console
 abbrev pub own : ℕ → List Coming → List Delivery
@@ -172,18 +172,18 @@ record Came (w : World) (r t : ℕ) (ps : ℕ → List Packet) (ds : ℕ → Lis
 
 -- after these events
 abbrev CameAfter : World → ℕ → List Event → Type 0
-CameAfter w r past = Came w r (last_moment past) (λ j. ours w r j past)
-    (λ i. delivered w r i past) (accepted_by w r past) (λ i. accepted_from w r i past)
+CameAfter w r past = Came w r (last_event_moment past) (λ j. ours w r j past)
+    (λ i. deliveries w r i past) (accepted_by w r past) (λ i. accepted_from w r i past)
 
 module _ (w : World) (v : IsWorld w) (r : ℕ) (e : Event) (past : List Event)
-    (after : last_moment past ≤ e.moment) (n : CameAfter w r past) where
+    (after : last_event_moment past ≤ e.moment) (n : CameAfter w r past) where
   -- what an event may leave: nothing
   nothing : (by : List Entry) (from : ℕ → List Entry) → by ≡ accepted_by w r past
       → ((i : ℕ) → from i ≡ accepted_from w r i past)
-      → Came w r e.moment (λ j. ours w r j (e ∷ past)) (λ i. delivered w r i past) by from
+      → Came w r e.moment (λ j. ours w r j (e ∷ past)) (λ i. deliveries w r i past) by from
   nothing by from same alike = record {
     cs = n.cs;
-    in_time = later_too (last_moment past) e.moment _ after n.in_time;
+    in_time = later_too (last_event_moment past) e.moment _ after n.in_time;
     were_sent = λ c i. let s = n.were_sent c i in (
       s.0,
       sent_stays w c.0 (universe_at w r) c.1.k past c.1.packet s.1 e,
@@ -205,7 +205,7 @@ module _ (w : World) (v : IsWorld w) (r : ℕ) (e : Event) (past : List Event)
       → slice_get (ours w r j past) k ≡ Some p
       → Came w r e.moment (λ i. ours w r i (e ∷ past))
       (λ i. if nat_eq j i then delivered_more k e.moment (slice_get (ours w r i past) k)
-      (delivered w r i past) else delivered w r i past)
+      (deliveries w r i past) else deliveries w r i past)
       (hears (universe_at w r) e.moment (Some
       (packet_bytes (source_of w j) (universe_at w r) k p)) (accepted_by w r past))
       (λ i. hears (universe_at w r) e.moment (if nat_eq j i then Some
@@ -226,16 +226,18 @@ module _ (w : World) (v : IsWorld w) (r : ℕ) (e : Event) (past : List Event)
         ];
         ds_are = λ i. by_test (nat_eq j i) (λ q. rw (q, here i q, m.ds_are i))
             (λ q. rw q (m.ds_are i));
-        by_is = ap (λ h. heard 4 (universe_at w r) h e.moment (arrival w r j d).datagram) m.by_is;
+        by_is = ap (λ h. history_after 4 (universe_at w r) h e.moment (arrival w r j d).datagram)
+            m.by_is;
         from_is = λ i. by_test (nat_eq j i)
-            (λ q. rw (q, here i q, eqb-true j i q) (ap (λ h. heard 4 (universe_at w r) h e.moment
+            (λ q. rw (q, here i q, eqb-true j i q)
+            (ap (λ h. history_after 4 (universe_at w r) h e.moment
             (arrival w r i d).datagram) (m.from_is i))) (λ q. rw q (m.from_is i));
       }
 
-  leaves : (x : What) → missing w past x ≡ None → IsUnheard w r x
+  leaves : (x : What) → lack_skip w past x ≡ None → IsUnheard w r x
       → Came w r e.moment (λ j. ours w r j (e ∷ past))
-      (λ i. delivered_by w r i past e.moment x (delivered w r i past))
-      (hears (universe_at w r) e.moment (handed w r past x) (accepted_by w r past))
+      (λ i. delivered_by w r i past e.moment x (deliveries w r i past))
+      (hears (universe_at w r) e.moment (datagram_to w r past x) (accepted_by w r past))
       (λ i. hears (universe_at w r) e.moment (handed_from w r i past x) (accepted_from w r i past))
   leaves (Deliver q j x k) m s =
       let d = deliverer w past q j x k m in
@@ -243,7 +245,7 @@ module _ (w : World) (v : IsWorld w) (r : ℕ) (e : Event) (past : List Event)
       by_test (nat_eq q r) (λ b. by_test (nat_eq x (universe_at w r)) (λ c.
       let same : x ≡ universe_at w r = eqb-true x (universe_at w r) c in
       let here : slice_get (ours w r j past) k ≡ Some d.packet =
-      subst (λ x. slice_get (sent w j x past) k ≡ Some d.packet) same d.is_sent in
+      subst (λ x. slice_get (packets_sent w j x past) k ≡ Some d.packet) same d.is_sent in
       rw (b, c, same, here) (packet j k d.packet d.there here)) (λ c.
       let none : is_some (not_heard (universe_at w r) bytes) ≡ true =
       unheard_there (source_of w j) x k d.packet
@@ -272,11 +274,12 @@ came w v r (e ∷ past) run n =
     leaves w v r e past s.after (came w v r past run.1 n.1) e.what s.there n.0
 
 -- what is accepted came
-pub In_accepted : (e : Entry) (es : List Entry) → In e (accepted 4 es) → In e es
+pub In_accepted : (e : Entry) (es : List Entry) → In e (accepted_packets 4 es) → In e es
 In_accepted e [] i = i
 In_accepted e (x ∷ es) i =
-    cond_both (is_accepted 4 (accepted 4 es) x.moment x.cid x.number) (x ∷ accepted 4 es)
-    (accepted 4 es) (λ l. In e l → In e (x ∷ es))
+    cond_both (is_accepted 4 (accepted_packets 4 es) x.moment x.cid x.number)
+    (x ∷ accepted_packets 4 es)
+    (accepted_packets 4 es) (λ l. In e l → In e (x ∷ es))
     (λ _ j. elim j [ inl s ↦ inl s | inr k ↦ inr (In_accepted e es k) ])
     (λ _ j. inr (In_accepted e es j)) i
 
@@ -289,7 +292,7 @@ module _ {A : Type 0} (u : ℕ) (f : A → Arrival) (g : A → Entry) where
 
   abbrev IsHeardAs : A → Type 0
   IsHeardAs x = (not_heard u (f x).datagram ≡ None)
-      × (entry_of (f x).moment (front_packet (f x).datagram) ≡ g x)
+      × (accepted_entry (f x).moment (front_packet (f x).datagram) ≡ g x)
 
   heard_are : (xs : List A) → ((x : A) → In x xs → IsHeardAs x)
       → packets_heard u (map f xs) ≡ map g xs
@@ -298,9 +301,9 @@ module _ {A : Type 0} (u : ℕ) (f : A → Arrival) (g : A → Entry) where
       rw s.0 (simp s.1 (ap (λ l. g x ∷ l) (heard_are xs (λ y m. h y (inr m)))))
 
   accepted_are : (t : ℕ) (xs : List A) → AreInTime t (map (λ x. (f x).moment) xs)
-      → ((x : A) → In x xs → IsHeardAs x) → heard_all 4 u (map f xs) ≡ accepted 4 (map g xs)
+      → ((x : A) → In x xs → IsHeardAs x) → heard_all 4 u (map f xs) ≡ accepted_packets 4 (map g xs)
   accepted_are t xs h are = heard_accepted 4 u (map f xs) (never_fall t xs h).0
-      ∙ ap (accepted 4) (heard_are xs are)
+      ∙ ap (accepted_packets 4) (heard_are xs are)
 
 -- ---- what came of one console, and of all
 
@@ -309,13 +312,13 @@ module _ (w : World) (v : IsWorld w) (r : ℕ) (past : List Event) (run : IsRun 
   n : CameAfter w r past
   n = came w v r past run no_stray
 
-  pub were_in_time : (i : ℕ) → IsInTime (last_moment past) (delivered w r i past)
-  were_in_time i = rw (n.ds_are i) (own_in_time i (last_moment past) n.cs n.in_time)
+  pub were_in_time : (i : ℕ) → IsInTime (last_event_moment past) (deliveries w r i past)
+  were_in_time i = rw (n.ds_are i) (own_in_time i (last_event_moment past) n.cs n.in_time)
 
   abbrev WasSent : ℕ → Delivery → Type 0
   WasSent i d = (i < length w.consoles) × (slice_get (ours w r i past) d.k ≡ Some d.packet)
 
-  pub were_sent : (i : ℕ) (d : Delivery) → In d (delivered w r i past) → WasSent i d
+  pub were_sent : (i : ℕ) (d : Delivery) → In d (deliveries w r i past) → WasSent i d
   were_sent i d h = n.were_sent (i, d) (own_from i d n.cs (rw (n.ds_are i) at h))
 
   sendable : (i : ℕ) (d : Delivery) → WasSent i d
@@ -330,9 +333,9 @@ module _ (w : World) (v : IsWorld w) (r : ℕ) (past : List Event) (run : IsRun 
   )
 
   pub from_one : (i : ℕ) → accepted_from w r i past
-      ≡ accepted 4 (map (entry (source_of w i)) (delivered w r i past))
+      ≡ accepted_packets 4 (map (entry (source_of w i)) (deliveries w r i past))
   from_one i = n.from_is i ∙ accepted_are (universe_at w r) (arrival w r i)
-      (entry (source_of w i)) (last_moment past) (delivered w r i past) (were_in_time i)
+      (entry (source_of w i)) (last_event_moment past) (deliveries w r i past) (were_in_time i)
       (λ d m. is_heard_as i d (were_sent i d m))
 
   abbrev entry_at : Coming → Entry
@@ -345,14 +348,14 @@ module _ (w : World) (v : IsWorld w) (r : ℕ) (past : List Event) (run : IsRun 
       let m = In_mapped entry_at e n.cs (In_accepted e (map entry_at n.cs) (rw (
         n.by_is,
         accepted_are (universe_at w r) (λ (c : Coming). arrival w r c.0 c.1) entry_at
-            (last_moment past) n.cs n.in_time (λ c m. is_heard_as c.0 c.1 (n.were_sent c m)),
+            (last_event_moment past) n.cs n.in_time (λ c m. is_heard_as c.0 c.1 (n.were_sent c m)),
       ) at i)) in
       (m.0.0, (n.were_sent m.0 m.1).0, ap (λ (x : Entry). x.cid) (sym m.2))
 
   pub from_alone : (i : ℕ) (e : Entry) → In e (accepted_from w r i past)
       → (source_of w i).cid ≡ e.cid
   from_alone i e m =
-      let d = In_mapped (entry (source_of w i)) e (delivered w r i past) (In_accepted e _
+      let d = In_mapped (entry (source_of w i)) e (deliveries w r i past) (In_accepted e _
       (rw (from_one i) at m)) in ap (λ (x : Entry). x.cid) (sym d.2)
 
   -- some of them are those of console i, where they are told by a test
@@ -408,7 +411,8 @@ module _ (w : World) (v : IsWorld w) (r : ℕ) (past : List Event) (run : IsRun 
         let m = in_from_get_or n.cs k d l in
         is_from_these c.0 (arrival w r c.0 c.1) (n.were_sent c m).0 (cid_at c m))
 
-    in_order : NeverFall (arrivals w r n.cs) × (last_arrival (arrivals w r n.cs) ≤ last_moment past)
+    in_order : NeverFall (arrivals w r n.cs)
+        × (last_arrival (arrivals w r n.cs) ≤ last_event_moment past)
     in_order = never_fall (universe_at w r) (λ (c : Coming). arrival w r c.0 c.1) entry_at _ n.cs
         n.in_time
 
@@ -433,7 +437,7 @@ module _ (w : World) (v : IsWorld w) (r : ℕ) (past : List Event) (run : IsRun 
         from_these in_order.0 (source_of w i).cid
         ∙ ap (find (same_cid (source_of w i).cid)) (own_left i l)
 
-    same_answer : (i t : ℕ) (bytes : List ℕ) → i < length w.consoles → last_moment past ≤ t
+    same_answer : (i t : ℕ) (bytes : List ℕ) → i < length w.consoles → last_event_moment past ≤ t
         → (front_packet bytes).fields.cid ≡ (source_of w i).cid
         → answer 4 (universe_at w r) (accepted_by w r past) t bytes
         ≡ answer 4 (universe_at w r) (accepted_from w r i past) t bytes
@@ -446,12 +450,13 @@ module _ (w : World) (v : IsWorld w) (r : ℕ) (past : List Event) (run : IsRun 
 
 pub consoles_independent : ConsolesAreIndependent
 consoles_independent w events r i x k t bytes v apart few l time no_stray is =
-    same_answer w v r (done w events) (done_runs w events) no_stray apart few i t bytes l time
-    (of_packet (slice_get (sent w i x (done w events)) k) refl is)
+    same_answer w v r (events_done w events) (done_runs w events) no_stray apart few i t
+    bytes l time
+    (of_packet (slice_get (packets_sent w i x (events_done w events)) k) refl is)
   where
-    of_packet : (o : Option Packet) → slice_get (sent w i x (done w events)) k ≡ o
+    of_packet : (o : Option Packet) → slice_get (packets_sent w i x (events_done w events)) k ≡ o
         → option_map (packet_bytes (source_of w i) x k) o ≡ Some bytes
         → (front_packet bytes).fields.cid ≡ (source_of w i).cid
     of_packet None e s = cc
     of_packet (Some p) e s = rw (sym (same_Some (packet_bytes (source_of w i) x k p) bytes s))
-        (cid_is (source_of w i) x k p (sent_is w i x k (done w events) p e (v i l)))
+        (cid_is (source_of w i) x k p (sent_is w i x k (events_done w events) p e (v i l)))

@@ -16,24 +16,27 @@ use Rattle.desk.specs.Played.{Call, Act, refusal, outcome}
 use Rattle.rehearsal.specs.declared.event.Event.{Event}
 use Rattle.rehearsal.specs.declared.reply.Skip.{Skip}
 use Rattle.rehearsal.specs.World.{World, console_at, universe_at, no_console, IsIdentity}
-use Rattle.rehearsal.specs.Happened.{call_of, unless_refused, acts, bytes_of, datagram, sent}
-use Rattle.rehearsal.specs.Happened.{handed, accepted_by}
+use Rattle.rehearsal.specs.Happened.{console_call, unless_refused, acts, bytes_of, datagram}
+use Rattle.rehearsal.specs.Happened.{packets_sent}
+use Rattle.rehearsal.specs.Happened.{datagram_to, accepted_by}
 use Rattle.sacn_source.specs.Stream.{Packet}
-use Rattle.sacn_receiver.specs.Kept.{Kept, StandsFor}
+use Rattle.sacn_receiver.specs.Kept.{ReceiverState, StandsFor}
 use Rattle.rehearsal.specs.declared.event.What.TheVariants.{Deliver, Order, Tick, Stray, Show}
 use Rattle.rehearsal.specs.declared.reply.Skip.TheVariants.{NotSent}
 use Rattle.rehearsal.specs.Datagrams.{packet_bytes}
-use Rattle.rehearsal.specs.Replies.{no_console_at, missing, last_moment, no_receiver_at}
-use Rattle.rehearsal.specs.Replies.{taken_reply, taken_by, skipped, replied, done_one, done}
+use Rattle.rehearsal.specs.Replies.{no_console_at, lack_skip, last_event_moment, no_receiver_at}
+use Rattle.rehearsal.specs.Replies.{taken_reply, datagram_reply, skip_of, event_reply, done_one}
+use Rattle.rehearsal.specs.Replies.{events_done}
 use Rattle.rehearsal.specs.Replies.{reply_to}
-use Rattle.rehearsal.specs.Stands.{AllHear, AllStand, AllTell, unless_skipped, AllBy, AllAre}
-use Rattle.rehearsal.specs.Stands.{IsStep, is_skip, cast, Opened, Listening, world_of, AreSources}
-use Rattle.rehearsal.specs.Stands.{Replayed}
+use Rattle.rehearsal.specs.Stands.{AllHear, ConsolesStand, AllTell, unless_skipped, AllBy, AllAre}
+use Rattle.rehearsal.specs.Stands.{IsStep, is_skip, cast, HasOpened, AreListening, world_of}
+use Rattle.rehearsal.specs.Stands.{SendersAreSources}
+use Rattle.rehearsal.specs.Stands.{HasReplayed}
 use Rattle.sacn_packet.specs.Reading.{front_packet}
 use Rattle.sacn_receiver.specs.declared.answer.Taken.{Taken}
 use Rattle.sacn_receiver.specs.declared.answer.Ignored.{Ignored}
 use Rattle.sacn_receiver.specs.Source as source
-use Rattle.sacn_receiver.specs.Taking.{entry_of, ignored, taken_of, answer}
+use Rattle.sacn_receiver.specs.Taking.{accepted_entry, ignore_reason, taken_of, answer}
 use Rattle.rehearsal.specs.declared.reply.Reply.TheVariants as reply
 use Rattle.std.proofs.lemmas.Bool.Decides.{nat_tests}
 use Rattle.std.proofs.lemmas.List.{get_or_append_left, get_or_push, length-map, get_or-map}
@@ -48,7 +51,7 @@ use Rattle.sacn_source.specs.Identity.{Identity}
 use Rattle.sacn_source.specs.Kept.{Lane}
 use Rattle.sacn_source.specs.Stands.{StandsAt, lane_of}
 use Rattle.rehearsal.specs.declared.stage.Stage.{Stage}
-use Rattle.rehearsal.specs.StageStands.{StageStands, Tells}
+use Rattle.rehearsal.specs.StageStands.{StageStands, LinkTells}
 use Rattle.std.proofs.lemmas.Grind.{common_steps}
 
 -- ---- one event at one of the consoles
@@ -95,20 +98,20 @@ err_of None x = refl
 err_of (Some r) x = refl
 
 module _ {S : Type 0} {st : S → Production → List Act → Type 0} {stages : List S} {w : World}
-    {past : List Event} (all : AllStand st stages w past) (k : ℕ) (was : S)
+    {past : List Event} (all : ConsolesStand st stages w past) (k : ℕ) (was : S)
     (at : slice_get stages k ≡ Some was) where
   pub here : nat_lt k (length w.consoles) ≡ true
   here = lt-ltb k (length w.consoles) (omega (arith, slice_get_within stages k was at, all.each))
 
   -- what a call of console k leaves, from its clauses
   pub stand_call : {A : Type 0} (is : S) (e : Event) (call : Call) (res : Result A Refused)
-      → ((j : ℕ) → call_of j e.what ≡ (if nat_eq k j then Some call else None))
+      → ((j : ℕ) → console_call j e.what ≡ (if nat_eq k j then Some call else None))
       → ((c : Production) (h : List Act) → st was c h → result_err res ≡ refusal c.show h
       (record { moment = e.moment; call = call }))
       → OnOk res ((c : Production) (h : List Act) → st was c h
       → st is c (record { moment = e.moment; call = call } ∷ h))
       → OnErr res ((c : Production) (h : List Act) → st was c h → st is c h)
-      → AllStand st (set stages k is) w (unless_skipped (no_console_at w k) e past)
+      → ConsolesStand st (set stages k is) w (unless_skipped (no_console_at w k) e past)
   stand_call is e call res calls refused ok un = rw here (record {
     each = omega (arith, length-set stages k is, all.each);
     stand = all_set (λ j s. st s (console_at w j) (acts w j (e ∷ past))) stages k is
@@ -150,16 +153,16 @@ is_sent f ps k = grind (arith, nat_tests, (slice_get_cases ps k).1)
 
 -- a packet of a console that was looked up
 module _ {S : Type 0} (st : S → Production → List Act → Type 0) (tells : S → Type 0)
-    (stages : List S) (receivers : List Kept) (console receiver universe n : ℕ) (was : S)
+    (stages : List S) (receivers : List ReceiverState) (console receiver universe n : ℕ) (was : S)
     (at : slice_get stages console ≡ Some was) (few : receiver < length receivers)
     (o : Option (List ℕ))
     (found : (p : Production) (h : List Act) → st was p h → tells was
     → o ≡ bytes_of p h universe n)
-    (w : World) (past : List Event) (all : AllStand st stages w past)
+    (w : World) (past : List Event) (all : ConsolesStand st stages w past)
     (tell : AllTell tells stages) (hear : AllHear receivers w past) where
   pub looked_up : (nat_lt receiver (length w.receivers) ≡ true)
       × (o ≡ datagram w console universe n past)
-      × (missing w past (Deliver receiver console universe n)
+      × (lack_skip w past (Deliver receiver console universe n)
       ≡ (if not (is_some o) then Some NotSent else None))
   looked_up =
       let there : nat_lt receiver (length w.receivers) ≡ true =
@@ -172,7 +175,7 @@ module _ {S : Type 0} (st : S → Production → List Act → Type 0) (tells : S
           here all console was at,
           there,
           is_sent (packet_bytes (console_at w console).source universe n)
-              (sent w console universe past) n,
+              (packets_sent w console universe past) n,
           is,
         ) refl,
       )
@@ -185,8 +188,8 @@ always (Err e) P h = tt
 -- an event that is no call leaves the consoles
 pub stand_same : {S : Type 0} (st : S → Production → List Act → Type 0) (stages : List S)
     (w : World) (past : List Event) (o : Option Skip) (e : Event)
-    → ((j : ℕ) → call_of j e.what ≡ None) → AllStand st stages w past
-    → AllStand st stages w (unless_skipped o e past)
+    → ((j : ℕ) → console_call j e.what ≡ None) → ConsolesStand st stages w past
+    → ConsolesStand st stages w (unless_skipped o e past)
 stand_same st stages w past (Some x) e quiet all = all
 stand_same st stages w past None e quiet all = record {
   each = all.each;
@@ -195,8 +198,8 @@ stand_same st stages w past None e quiet all = record {
 
 -- ---- one datagram at one of the receivers
 
-module _ {receivers : List Kept} {w : World} {past : List Event}
-    (all : AllHear receivers w past) (k : ℕ) (was : Kept)
+module _ {receivers : List ReceiverState} {w : World} {past : List Event}
+    (all : AllHear receivers w past) (k : ℕ) (was : ReceiverState)
     (at : slice_get receivers k ≡ Some was) where
   pub there : nat_lt k (length w.receivers) ≡ true
   there = lt-ltb k (length w.receivers)
@@ -204,17 +207,18 @@ module _ {receivers : List Kept} {w : World} {past : List Event}
 
   pub replied_is : (t : ℕ) (d : List ℕ) (res : Result Taken Ignored)
       → ((h : List source.Entry) → StandsFor was h → res ≡ answer 4 was.universe h t d)
-      → taken_reply res ≡ option_map_or reply.Skipped (no_receiver_at w k) (taken_by w k past t d)
+      → taken_reply res ≡ option_map_or reply.Skipped (no_receiver_at w k)
+      (datagram_reply w k past t d)
   replied_is t d res e =
       rw (there, ← all.universes k was at) (ap taken_reply (e _ (all.stand k was at)))
 
   -- what a datagram leaves of them
-  pub hear_set : (is : Kept) (x : Event) (t : ℕ) (d : List ℕ) (res : Result Taken Ignored)
+  pub hear_set : (is : ReceiverState) (x : Event) (t : ℕ) (d : List ℕ) (res : Result Taken Ignored)
       → ((h : List source.Entry) → StandsFor was h → res ≡ answer 4 was.universe h t d)
       → OnOk res ((h : List source.Entry) → StandsFor was h
-      → StandsFor is (entry_of t (front_packet d) ∷ h))
+      → StandsFor is (accepted_entry t (front_packet d) ∷ h))
       → OnErr res (is ≡ was) → is.universe ≡ was.universe → x.moment ≡ t
-      → ((r : ℕ) → handed w r past x.what ≡ (if nat_eq k r then Some d else None))
+      → ((r : ℕ) → datagram_to w r past x.what ≡ (if nat_eq k r then Some d else None))
       → AllHear (set receivers k is) w (unless_skipped (no_receiver_at w k) x past)
   hear_set is x t d res e ok un same time hands = rw there (record {
     each = omega (arith, length-set receivers k is, all.each);
@@ -222,7 +226,7 @@ module _ {receivers : List Kept} {w : World} {past : List Event}
         (same ∙ all.universes k was at) (λ r y _. all.universes r y);
     stand = all_set (λ r y. StandsFor y (accepted_by w r (x ∷ past))) receivers k is
         (rw (hands k, eq-eqb k k refl, time, ← all.universes k was at)
-        (took (ignored 4 was.universe h t d) (rw (e h stood) at ok) (rw (e h stood) at un)))
+        (took (ignore_reason 4 was.universe h t d) (rw (e h stood) at ok) (rw (e h stood) at un)))
         (λ r y apart g. rw (hands r, ne_eqb k r apart) (all.stand r y g));
   })
     where
@@ -234,14 +238,14 @@ module _ {receivers : List Kept} {w : World} {past : List Event}
 
       took : (o : Option Ignored) → (let r = option_map_or Err o (Ok (taken_of (front_packet d))) in
           OnOk r ((h : List source.Entry) → StandsFor was h
-          → StandsFor is (entry_of t (front_packet d) ∷ h)) → OnErr r (is ≡ was)
-          → StandsFor is (option_map_or (λ _. h) o (entry_of t (front_packet d) ∷ h)))
+          → StandsFor is (accepted_entry t (front_packet d) ∷ h)) → OnErr r (is ≡ was)
+          → StandsFor is (option_map_or (λ _. h) o (accepted_entry t (front_packet d) ∷ h)))
       took None ok un = ok h stood
       took (Some i) ok un = rw un stood
 
 -- an event that hands nothing over leaves the receivers
-pub hear_same : (receivers : List Kept) (w : World) (past : List Event) (o : Option Skip)
-    (e : Event) → ((r : ℕ) → handed w r past e.what ≡ None) → AllHear receivers w past
+pub hear_same : (receivers : List ReceiverState) (w : World) (past : List Event) (o : Option Skip)
+    (e : Event) → ((r : ℕ) → datagram_to w r past e.what ≡ None) → AllHear receivers w past
     → AllHear receivers w (unless_skipped o e past)
 hear_same receivers w past (Some x) e quiet all = all
 hear_same receivers w past None e quiet all = record {
@@ -251,8 +255,8 @@ hear_same receivers w past None e quiet all = record {
 }
 
 -- the receivers are not ahead of the last event
-pub all_by : (receivers : List Kept) (w : World) (past : List Event) (t : ℕ) → IsRun w past
-    → last_moment past ≤ t → AllHear receivers w past → AllBy receivers t
+pub all_by : (receivers : List ReceiverState) (w : World) (past : List Event) (t : ℕ) → IsRun w past
+    → last_event_moment past ≤ t → AllHear receivers w past → AllBy receivers t
 all_by receivers w past t run time all r k g =
     omega (arith, (all.stand r k g).latest_is, last_accepted w r past run, time)
 
@@ -267,7 +271,8 @@ answered_no_skip : (o : Option Refused) (r : Reply) → is_skip r ≡ false
 answered_no_skip None r h = h
 answered_no_skip (Some x) r h = refl
 
-no_skip : (w : World) (past : List Event) (t : ℕ) (x : What) → is_skip (replied w past t x) ≡ false
+no_skip : (w : World) (past : List Event) (t : ℕ) (x : What)
+    → is_skip (event_reply w past t x) ≡ false
 no_skip w past t (Order i c) = answered_no_skip _ reply.Done refl
 no_skip w past t (Tick i) = answered_no_skip _ (reply.Ticked _ _) refl
 no_skip w past t (Deliver r i u k) = taken_no_skip _
@@ -275,34 +280,39 @@ no_skip w past t (Stray r from to) = taken_no_skip _
 no_skip w past t (Show r) = refl
 
 module _ {S : Type 0} {st : S → Production → List Act → Type 0} {tells : S → Type 0} where
-  module _ {stages : List S} {receivers : List Kept} (w : World) (past : List Event) (e : Event)
+  module _ {stages : List S} {receivers : List ReceiverState} (w : World) (past : List Event)
+      (e : Event)
     where
       -- an event that is skipped
-      pub step_skipped : (s : Skip) (last : ℕ) → skipped w past e ≡ Some s
-          → last ≡ last_moment past → AllAre st tells stages receivers w past
+      pub step_skipped : (s : Skip) (last : ℕ) → skip_of w past e ≡ Some s
+          → last ≡ last_event_moment past → AllAre st tells stages receivers w past
           → IsStep st tells stages receivers last (reply.Skipped s) w past e
       step_skipped s last k l are = record { replied = rw k refl; last_is = rw k l; are = rw k are }
 
       -- one that happens
-      pub step_done : (r : Reply) (was last : ℕ) → last_moment past ≤ e.moment → e.moment < 2 ^ 48
-          → was ≡ last_moment past
-          → r ≡ option_map_or reply.Skipped (missing w past e.what) (replied w past e.moment e.what)
+      pub step_done : (r : Reply) (was last : ℕ) → last_event_moment past ≤ e.moment
+          → e.moment < 2 ^ 48
+          → was ≡ last_event_moment past
+          → r ≡ option_map_or reply.Skipped (lack_skip w past e.what)
+          (event_reply w past e.moment e.what)
           → last ≡ (if is_skip r then was else e.moment)
-          → AllStand st stages w (unless_skipped (missing w past e.what) e past)
+          → ConsolesStand st stages w (unless_skipped (lack_skip w past e.what) e past)
           → AllTell tells stages
-          → AllHear receivers w (unless_skipped (missing w past e.what) e past)
+          → AllHear receivers w (unless_skipped (lack_skip w past e.what) e past)
           → IsStep st tells stages receivers last r w past e
       step_done r was last after below l is n stand tell hear =
-          let k : skipped w past e ≡ missing w past e.what =
-          rw (le-ltb e.moment (last_moment past) after, lt-leb (2 ^ 48) e.moment below) in record {
+          let k : skip_of w past e ≡ lack_skip w past e.what =
+          rw (le-ltb e.moment (last_event_moment past) after, lt-leb (2 ^ 48) e.moment below)
+          in record {
             replied = rw k is;
-            last_is = n ∙ rw (k, is, l) (go (missing w past e.what));
+            last_is = n ∙ rw (k, is, l) (go (lack_skip w past e.what));
             are = rw k (record { stand = stand; tell = tell; hear = hear });
           }
         where
           go : (o : Option Skip)
-              → (if is_skip (option_map_or reply.Skipped o (replied w past e.moment e.what))
-              then last_moment past else e.moment) ≡ last_moment (unless_skipped o e past)
+              → (if is_skip (option_map_or reply.Skipped o (event_reply w past e.moment e.what))
+              then last_event_moment past else e.moment)
+              ≡ last_event_moment (unless_skipped o e past)
           go None = rw (no_skip w past e.moment e.what) refl
           go (Some s) = refl
 
@@ -311,10 +321,10 @@ module _ {S : Type 0} {st : S → Production → List Act → Type 0} {tells : S
   -- one console more
   pub opened_more : {stages : List S} {shows : List Tables} {setups : List Setup} {i : ℕ} {s : S}
       {setup : Setup} {t : Tables}
-      → Opened st tells stages shows setups i → slice_get setups i ≡ Some setup
+      → HasOpened st tells stages shows setups i → slice_get setups i ≡ Some setup
       → slice_get shows setup.show ≡ Some t
       → st s (record { show = t; base = setup.base; source = setup.identity }) [] × tells s
-      → Opened st tells (stages ++ s ∷ []) shows setups (i + 1)
+      → HasOpened st tells (stages ++ s ∷ []) shows setups (i + 1)
   opened_more {stages} {shows} {setups} {i} {s} {setup} {t} all here show new = record {
     long = omega (arith, length-append stages (s ∷ []), all.long);
     each = λ j y d e f. all_push
@@ -326,10 +336,10 @@ module _ {S : Type 0} {st : S → Production → List Act → Type 0} {tells : S
   }
 
   -- what was opened stands for a world in which nothing happened yet
-  pub begun : {stages : List S} {receivers : List Kept} {shows : List Tables}
+  pub begun : {stages : List S} {receivers : List ReceiverState} {shows : List Tables}
       {setups : List Setup} {universes : List ℕ} (strays : List ℕ)
-      → Opened st tells stages shows setups (length setups)
-      → Listening receivers universes (length universes)
+      → HasOpened st tells stages shows setups (length setups)
+      → AreListening receivers universes (length universes)
       → AllAre st tells stages receivers (world_of shows setups universes strays) []
   begun {stages} {receivers} {shows} {setups} strays opened hear = record {
     stand = record {
@@ -358,14 +368,15 @@ module _ {S : Type 0} {st : S → Production → List Act → Type 0} {tells : S
 
   -- one event more
   pub replayed_more : {w : World} {es : List Event} {i : ℕ} (d : Event) → i < length es
-      → {stages : List S} {receivers : List Kept} {was last : ℕ} {rs : List Reply}
-      {r : Reply} {old : List S} {heard : List Kept}
-      → Replayed st tells old heard was rs w es i
-      → IsStep st tells stages receivers last r w (done w (take i es)) (get_or es i d)
-      → Replayed st tells stages receivers last (rs ++ r ∷ []) w es (i + 1)
+      → {stages : List S} {receivers : List ReceiverState} {was last : ℕ} {rs : List Reply}
+      {r : Reply} {old : List S} {heard : List ReceiverState}
+      → HasReplayed st tells old heard was rs w es i
+      → IsStep st tells stages receivers last r w (events_done w (take i es)) (get_or es i d)
+      → HasReplayed st tells stages receivers last (rs ++ r ∷ []) w es (i + 1)
   replayed_more {w} {es} {i} d within {stages} {receivers} {was} {last} {rs} {r} all step =
       -- the events done, one later
-      let more : done w (take (i + 1) es) ≡ done_one w (done w (take i es)) (get_or es i d) =
+      let more : events_done w (take (i + 1) es)
+      ≡ done_one w (events_done w (take i es)) (get_or es i d) =
       grind (arith, common_steps) in record {
         long = omega (arith, length-append rs (r ∷ []), all.long);
         last_is = rw more step.last_is;
@@ -378,23 +389,24 @@ module _ {S : Type 0} {st : S → Production → List Act → Type 0} {tells : S
               | inr o ↦
                   (let is : i ≡ j = omega arith in
                   sym (get_or_push rs r _ j (all.long ∙ is) ∙ step.replied ∙ rw is
-                  (ap (reply_to w (done w (take j es))) (get_or_from_slice_get es j f d g))))
+                  (ap (reply_to w (events_done w (take j es))) (get_or_from_slice_get es j f d g))))
             ]);
       }
 
-  pub early : {stages : List S} {receivers : List Kept} {last : ℕ} {rs : List Reply} {w : World}
-      {es : List Event} {i : ℕ} → Replayed st tells stages receivers last rs w es i
+  pub early : {stages : List S} {receivers : List ReceiverState} {last : ℕ} {rs : List Reply}
+      {w : World}
+      {es : List Event} {i : ℕ} → HasReplayed st tells stages receivers last rs w es i
       → AllBy receivers last
   early {receivers = receivers} {last = last} {w = w} {es = es} {i = i} all =
-      all_by receivers w (done w (take i es)) last (done_runs w (take i es))
+      all_by receivers w (events_done w (take i es)) last (done_runs w (take i es))
       (omega (arith, all.last_is)) all.are.hear
 
 -- ---- whoever sends for a console that was opened is a source
 
 pub sources : {F : Type 0} (fs : F → List Start → Type 0) (stages : List (Stage F))
     (shows : List Tables) (setups : List Setup)
-    → Opened (StageStands fs) Tells stages shows setups (length setups)
-    → AreSources shows setups
+    → HasOpened (StageStands fs) LinkTells stages shows setups (length setups)
+    → SendersAreSources shows setups
 sources {F} fs stages shows setups opened = λ i d within universe played.
     elim (slice_get_cases stages i).1 [
       | inl s ↦

@@ -6,7 +6,7 @@ use Rattle.std.specs.Prelude.{slice_get, is_some, if◌then◌else◌, nat_eq, I
 use Rattle.std.specs.Prelude.{slice_set, IfOk, OnErr, OnOk, MatchResult}
 use Rattle.std.specs.Option.{option_map, option_to_list, option_map_or, option_or}
 use Rattle.std.proofs.lemmas.List.{append_assoc, length-take, take_all, map-append}
-use Rattle.rehearsal.specs.Shelves.{IsRest, gone_of, kept_of}
+use Rattle.rehearsal.specs.Shelves.{IsRest, gone_of, shelf_packets}
 use Rattle.std.proofs.lemmas.List.Elements.{filter-append}
 use Rattle.std.proofs.lemmas.List.Folds.{list_any_none, find_at, find-set, find_past, find-append}
 use Rattle.std.specs.List.{list_any, AllPairs, position, position_or_len}
@@ -20,7 +20,7 @@ use Rattle.sacn_source.specs.Identity.{Identity}
 use Rattle.sacn_source.specs.Stream.{Packet}
 use Rattle.sacn_source.proofs.Streams.{HoldsFull}
 use Rattle.sacn_receiver.proofs.Members.{by_test}
-use Rattle.console.specs.Offering.{AreOffered, Offers, none, quiet, sent}
+use Rattle.console.specs.Offering.{AreOffered, OffersDues, none, quiet, sent}
 use Rattle.console.specs.Streams.{Production, Due, due_at, dues_at, tick_at, universes_of}
 use Rattle.console.proofs.Streams as console
 use Rattle.rehearsal.specs.Datagrams.{packet_bytes}
@@ -29,7 +29,7 @@ use Rattle.rehearsal.specs.World.{plays}
 use Rattle.rehearsal.specs.Replies.{due_answer}
 use Rattle.rehearsal.proofs.Wire.{bytes_are}
 use Rattle.rehearsal.specs.declared.row.Row.{Row}
-use Rattle.rehearsal.specs.Sends.{send_of, sent_to, numbered, Kept, sends_of}
+use Rattle.rehearsal.specs.Sends.{row_send, sent_to, packet_run, SendStore, sends_of}
 use Rattle.std.proofs.lemmas.Grind.{common_steps}
 use Rattle.std.proofs.lemmas.List.Quantifiers.{position-Some}
 use Rattle.std.proofs.lemmas.Option.{slice_get-get_or, slice_get_past}
@@ -39,7 +39,7 @@ use Rattle.desk.specs.declared.answer.Refused.{Refused}
 use Rattle.desk.specs.declared.answer.Ticked.{Ticked}
 use Rattle.console.specs.Stands.{StandsFor}
 use Rattle.rehearsal.specs.declared.stage.Stage.{Stage}
-use Rattle.rehearsal.specs.StageStands.{StageStands, Tells}
+use Rattle.rehearsal.specs.StageStands.{StageStands, LinkTells}
 
 -- ---- all packets but the first ones
 
@@ -102,13 +102,13 @@ get_taken (x ∷ xs) (suc n) (suc k) l = get_taken xs n k (omega (arith, l))
 
 -- packet k of a numbered stream
 pub numbered_at : (source : Identity) (u j n : ℕ) (ps : List Packet) (k : ℕ) → n ≡ j + k
-    → slice_get (numbered source u j ps) k ≡ option_map (packet_bytes source u n) (slice_get ps k)
+    → slice_get (packet_run source u j ps) k ≡ option_map (packet_bytes source u n) (slice_get ps k)
 numbered_at source u j n [] k e = refl
 numbered_at source u j n (p ∷ ps) zero e = grind arith
 numbered_at source u j n (p ∷ ps) (suc k) e = numbered_at source u (j + 1) n ps k (omega arith)
 
 numbered_more : (source : Identity) (u j n : ℕ) (ps qs : List Packet) → n ≡ j + length ps
-    → numbered source u j ps ++ numbered source u n qs ≡ numbered source u j (ps ++ qs)
+    → packet_run source u j ps ++ packet_run source u n qs ≡ packet_run source u j (ps ++ qs)
 numbered_more source u j n [] qs e = grind arith
 numbered_more source u j n (p ∷ ps) qs e =
     rw (numbered_more source u (j + 1) n ps qs (omega arith))
@@ -123,7 +123,7 @@ sent_more u xs ys =
 module _ (p : Production) (h : List Act) (m u : ℕ) where
   -- the bytes of a packet at its place of a stream
   abbrev bytes : ℕ → Option Packet → List (List ℕ)
-  bytes n packet = numbered p.source n (due_at p h m n).place (option_to_list packet)
+  bytes n packet = packet_run p.source n (due_at p h m n).place (option_to_list packet)
 
   abbrev due : ℕ → List (List ℕ)
   due n = bytes n (due_at p h m n).packet
@@ -162,9 +162,9 @@ module _ (p : Production) (h : List Act) (m u : ℕ) where
 
 -- so with those of a tick behind, the packets of a universe are its longer stream
 pub stream_ticked : (p : Production) (h : List Act) (m : ℕ) (sends : List Send)
-    (pairs : List (ℕ × Offered)) → Offers p.source (dues_at p h m) pairs [] sends → (u : ℕ)
-    → numbered p.source u 0 (packets_of p h u) ++ sent_to u sends
-    ≡ numbered p.source u 0 (packets_of p (tick_at m ∷ h) u)
+    (pairs : List (ℕ × Offered)) → OffersDues p.source (dues_at p h m) pairs [] sends → (u : ℕ)
+    → packet_run p.source u 0 (packets_of p h u) ++ sent_to u sends
+    ≡ packet_run p.source u 0 (packets_of p (tick_at m ∷ h) u)
 stream_ticked p h m sends pairs o u =
     rw (
       o.after_is,
@@ -172,7 +172,7 @@ stream_ticked p h m sends pairs o u =
           (numbers_rise p.show.patch p.base)) o.are_offered,
     ) (by_test (plays p u)
     (λ q. rw q (numbered_more p.source u 0 _ (stream p u h) _ (omega arith)
-    ∙ ap (numbered p.source u 0) (sym (console.stream_ticked p u h m)))) (λ q. rw q))
+    ∙ ap (packet_run p.source u 0) (sym (console.stream_ticked p u h m)))) (λ q. rw q))
 
 -- no send fails, so the answers are the numbers
 abbrev AreUnfailed : List Send → Type 0
@@ -185,38 +185,39 @@ answers_due ok none = refl
 answers_due ok (quiet d ds xs rest e h) = rw (e, answers_due ok h) refl
 answers_due ok (sent d p x ds xs rest c h) = rw (ok.0, c.packet_is, answers_due ok.1 h) refl
 
-unfailed : (rows : List Row) → AreUnfailed (map send_of rows)
+unfailed : (rows : List Row) → AreUnfailed (map row_send rows)
 unfailed [] = tt
 unfailed (r ∷ rows) = (refl, unfailed rows)
 
 -- and its answers are the numbers of what is due
 answers_ticked : (p : Production) (h : List Act) (m : ℕ) (rows : List Row)
-    (pairs : List (ℕ × Offered)) → Offers p.source (dues_at p h m) pairs [] (map send_of rows)
+    (pairs : List (ℕ × Offered)) → OffersDues p.source (dues_at p h m) pairs [] (map row_send rows)
     → pairs ≡ map due_answer (dues_at p h m)
 answers_ticked p h m rows pairs o = answers_due (rw o.after_is at (unfailed rows)) o.are_offered
 
 -- before the first tick there is none
 none_at_first : (p : Production) (u n : ℕ)
-    → take n (numbered p.source u 0 (packets_of p [] u)) ≡ []
+    → take n (packet_run p.source u 0 (packets_of p [] u)) ≡ []
 none_at_first p u n = let none : take n [] ≡ [] = take_all n [] (omega arith) in
-    cond_both (plays p u) _ _ (λ ps. take n (numbered p.source u 0 ps) ≡ []) (λ _. none) (λ _. none)
+    cond_both (plays p u) _ _ (λ ps. take n (packet_run p.source u 0 ps) ≡ []) (λ _. none)
+    (λ _. none)
 
 pub first_rest : (p : Production) (u n : ℕ)
-    → IsRest 0 [] (take n (numbered p.source u 0 (packets_of p [] u)))
+    → IsRest 0 [] (take n (packet_run p.source u 0 (packets_of p [] u)))
 first_rest p u n = record { before = []; parts = none_at_first p u n; count = refl }
 
 pub first_gone : (p : Production) (u n gone : ℕ) (kept : List (List ℕ))
-    → IsRest gone kept (take n (numbered p.source u 0 (packets_of p [] u))) → gone ≡ 0
+    → IsRest gone kept (take n (packet_run p.source u 0 (packets_of p [] u))) → gone ≡ 0
 first_gone p u n gone kept rest =
     omega (arith, rest_length gone kept _ rest, ap length (none_at_first p u n))
 
 -- packet k is that of the stream
 pub datagram_is : (p : Production) (h : List Act) (u k last gone : ℕ) (kept : List (List ℕ))
-    → IsRest gone kept (take (last + 1) (numbered p.source u 0 (packets_of p h u))) → gone ≤ k
+    → IsRest gone kept (take (last + 1) (packet_run p.source u 0 (packets_of p h u))) → gone ≤ k
     → k ≤ last → slice_get kept (k - gone) ≡ bytes_of p h u k
 datagram_is p h u k last gone kept rest l m =
-    rest_at gone kept (take (last + 1) (numbered p.source u 0 (packets_of p h u))) k rest l
-    ∙ get_taken (numbered p.source u 0 (packets_of p h u)) (last + 1) k (omega (arith, m))
+    rest_at gone kept (take (last + 1) (packet_run p.source u 0 (packets_of p h u))) k rest l
+    ∙ get_taken (packet_run p.source u 0 (packets_of p h u)) (last + 1) k (omega (arith, m))
     ∙ numbered_at p.source u 0 k (packets_of p h u) k (omega arith)
 
 -- ---- packets on the shelves of their universes
@@ -294,8 +295,8 @@ module _ {u : ℕ} {was : Option Shelf} {new : Shelf} {shelves after : List Shel
   -- what its shelf keeps is the rest of others
   pub rest_changed : (v : ℕ) (xs : List (List ℕ)) (ys : Bool → List (List ℕ)) → ys false ≡ xs
       → (IsRest (gone was) (kept was) xs → IsRest new.gone new.packets (ys true))
-      → IsRest (gone_of shelves v) (kept_of shelves v) xs
-      → IsRest (gone_of after v) (kept_of after v) (ys (nat_eq u v))
+      → IsRest (gone_of shelves v) (shelf_packets shelves v) xs
+      → IsRest (gone_of after v) (shelf_packets after v) (ys (nat_eq u v))
   rest_changed v xs ys same rests =
       each (λ v b o n. IsRest (gone o) (kept o) xs → IsRest (gone n) (kept n) (ys b)) rests
       (λ v o r. rw same r) v
@@ -310,12 +311,12 @@ module _ {u : ℕ} {was : Option Shelf} {new : Shelf} {shelves after : List Shel
 -- one row more of those that are kept
 pub sent_row : (u : ℕ) (rows : List Row) (row : Row) (kept : List (List ℕ))
     → (if nat_eq row.universe u
-    then (kept ++ sent_to u (map send_of rows)) ++ row.bytes.items ∷ []
-    else kept ++ sent_to u (map send_of rows))
-    ≡ kept ++ sent_to u (map send_of (rows ++ row ∷ []))
+    then (kept ++ sent_to u (map row_send rows)) ++ row.bytes.items ∷ []
+    else kept ++ sent_to u (map row_send rows))
+    ≡ kept ++ sent_to u (map row_send (rows ++ row ∷ []))
 sent_row u rows row kept = rw (
-  map-append send_of rows (row ∷ []),
-  sent_more u (map send_of rows) (send_of row ∷ []),
+  map-append row_send rows (row ∷ []),
+  sent_more u (map row_send rows) (row_send row ∷ []),
 ) (by_test (nat_eq row.universe u)
     (λ q. rw q (append_assoc kept _ _)) (λ q. rw (q, append-nil)))
 
@@ -330,30 +331,32 @@ answer_is (Ok a) o t ps m f = rw m.0 (λ i. Ok (m.1 i, f i))
 answer_is (Err x) o t ps m f = rw m refl
 
 -- what a tick leaves of a console, whose packets are then moved to the shelves
-module _ {F : Type 0} (sf : F → List Start → Type 0) (old new : Stage F) (m : ℕ) (kept : Kept)
+module _ {F : Type 0} (sf : F → List Start → Type 0) (old new : Stage F) (m : ℕ) (kept : SendStore)
     (told : kept.full ≡ false → old.link.full ≡ false)
     (tells : new.link.full ≡ false → kept.full ≡ false)
     (last : new.last ≡ old.last) (emptied : new.link.rows ≡ [])
     (rest : new.link.full ≡ false → (u : ℕ) (all : List (List ℕ))
-    → IsRest (gone_of old.shelves.items u) (kept_of old.shelves.items u) (take (old.last + 1) all)
-    → IsRest (gone_of new.shelves.items u) (kept_of new.shelves.items u)
+    → IsRest (gone_of old.shelves.items u) (shelf_packets old.shelves.items u)
+    (take (old.last + 1) all)
+    → IsRest (gone_of new.shelves.items u) (shelf_packets new.shelves.items u)
     (take (old.last + 1) (all ++ sent_to u (sends_of kept)))) where
   pub leaves : (r : Result (Ticked × List (ℕ × Offered)) Refused)
       → IfOk r (λ a. (p : Production) (h : List Act) → StandsFor sf p old.console h
       → kept.full ≡ false
-      → Offers p.source (dues_at p h m) a.1 (sends_of old.link) (sends_of kept))
+      → OffersDues p.source (dues_at p h m) a.1 (sends_of old.link) (sends_of kept))
       → OnOk r ((p : Production) (h : List Act) → StandsFor sf p old.console h
       → StandsFor sf p new.console (tick_at m ∷ h))
       → OnErr r (new.console ≡ old.console)
       → OnErr r (kept.full ≡ false → sends_of kept ≡ sends_of old.link)
-      → ((p : Production) (h : List Act) → StageStands sf old p h → Tells new
+      → ((p : Production) (h : List Act) → StageStands sf old p h → LinkTells new
       → IfOk r (λ a. a.1 ≡ map due_answer (dues_at p h m)))
       × OnOk r ((p : Production) (h : List Act) → StageStands sf old p h
       → StageStands sf new p (tick_at m ∷ h))
       × OnErr r ((p : Production) (h : List Act) → StageStands sf old p h
       → StageStands sf new p h)
   leaves (Ok a) offered stands same silent =
-      let offers = λ (p : Production) (h : List Act) (s : StageStands sf old p h) (t : Tells new).
+      let offers =
+      λ (p : Production) (h : List Act) (s : StageStands sf old p h) (t : LinkTells new).
       rw s.link_empty at (offered p h s.console_stands (tells t)) in (
         λ p h s t. answers_ticked p h m kept.rows a.1 (offers p h s t),
         λ p h s. record {

@@ -15,15 +15,15 @@ use Rattle.rehearsal_faults.specs.declared.fault.Fault.{Fault}
 use Rattle.rehearsal.specs.declared.setup.Setup.{Setup}
 use Rattle.rehearsal.specs.World.{IsWorld, no_console}
 use Rattle.rehearsal.specs.Refusing.{are_consoles, are_receivers, are_universes, is_new_at}
-use Rattle.rehearsal.specs.Refusing.{Answers, has_base, has_show, setup_fault, are_within}
-use Rattle.rehearsal.specs.Refusing.{is_within}
+use Rattle.rehearsal.specs.Refusing.{AnswersSetup, has_base, has_show, setup_fault, are_within}
+use Rattle.rehearsal.specs.Refusing.{stray_fits}
 use Rattle.rehearsal.specs.declared.event.Event.{Event}
 use Rattle.rehearsal.specs.declared.event.What.{What}
 use Rattle.rehearsal.specs.declared.event.What.TheVariants.{Stray}
-use Rattle.rehearsal.specs.Stands.{AreSources, IsWithin, cast, world_of}
+use Rattle.rehearsal.specs.Stands.{SendersAreSources, StrayFits, cast, world_of}
 
 -- a report is answered where there is no fault
-pub no_fault : {X : Type 0} (o : Option Fault) (x : X) → Answers o (Ok x) → o ≡ None
+pub no_fault : {X : Type 0} (o : Option Fault) (x : X) → AnswersSetup o (Ok x) → o ≡ None
 no_fault None x answer = refl
 no_fault (Some fault) x answer = cc
 
@@ -60,7 +60,7 @@ universes_there shows setups universes none =
 
 -- one to four consoles, and each is one
 pub fine_world : (shows : List Tables) (setups : List Setup) (universes strays : List ℕ)
-    → setup_fault shows setups universes ≡ None → AreSources shows setups
+    → setup_fault shows setups universes ≡ None → SendersAreSources shows setups
     → IsWorld (world_of shows setups universes strays)
     × (length (world_of shows setups universes strays).consoles ≤ 4)
 fine_world shows setups universes strays none who = (
@@ -84,12 +84,12 @@ fine_world shows setups universes strays none who = (
     blank = record { show = 0; base = 0; identity = no_console.source }
 
 -- what a stray is within
-within_one : (size : ℕ) (x : What) → is_within size x ≡ true → IsWithin size x
+within_one : (size : ℕ) (x : What) → stray_fits size x ≡ true → StrayFits size x
 within_one size (Stray receiver from to) h = (grind (arith, nat_tests), grind (arith, nat_tests))
 within_one size _ h = tt
 
 pub all_within : (size : ℕ) (events : List Event) → are_within size events ≡ true
-    → All (λ e. IsWithin size e.what) events
+    → All (λ e. StrayFits size e.what) events
 all_within size events h = λ k d l.
     within_one size (get_or events k d).what
-    (AllPass-from_list_all (λ (e : Event). is_within size e.what) events h k d l)
+    (AllPass-from_list_all (λ (e : Event). stray_fits size e.what) events h k d l)

@@ -12,12 +12,12 @@ use Rattle.std.proofs.lemmas.Cmp.{nat_list_eq_equiv}
 use Rattle.sacn_source.specs.Identity.{Identity}
 use Rattle.sacn_receiver.specs.Source.{Entry, same_cid, records, record_of, is_after, is_accepted}
 use Rattle.sacn_receiver.specs.Source.{is_there, newest}
-use Rattle.sacn_receiver.specs.Laws.{accepted}
+use Rattle.sacn_receiver.specs.Laws.{accepted_packets}
 use Rattle.sacn_receiver.proofs.Apart.{AllIn, IsFrom, newest_found, found_newest, one_of}
 use Rattle.sacn_receiver.proofs.Independent.{room_for, accepted_in}
 use Rattle.sacn_receiver.proofs.Members.{by_test, In, In_filter, In_filtered, In_map, In_mapped}
 use Rattle.sacn_receiver.proofs.Members.{found_in, in_from_place, place_from_in}
-use Rattle.rehearsal.specs.Delivery.{Delivery, newest_of, arrived, IsInWindow, delivered}
+use Rattle.rehearsal.specs.Delivery.{Delivery, newest_of, arrival, IsInWindow, deliveries}
 use Rattle.rehearsal.proofs.Wire.{entry, sent_is, newest_sent}
 use Rattle.rehearsal.proofs.Came.{IsInTime, source_of, were_in_time, were_sent, from_one, all_from}
 use Rattle.rehearsal.proofs.Came.{from_alone, from_console, follows, consoles_independent, IsRun}
@@ -33,15 +33,16 @@ use Rattle.desk.specs.Meaning.{dark}
 use Rattle.desk.proofs.FrameSlots.{latest_full, unpatched_latest}
 use Rattle.sacn_source.specs.Stream.{Packet}
 use Rattle.console.proofs.Streams.{latest}
-use Rattle.sacn_receiver.specs.Shown.{Light, light_of, live, merged, shown, shown_slots}
+use Rattle.sacn_receiver.specs.Shown.{Light, light_of, live, merged_slot, shown_slot, shown_slots}
 use Rattle.sacn_receiver.proofs.Same.{merged_same}
 use Rattle.rehearsal.specs.declared.event.Event.{Event}
 use Rattle.rehearsal.specs.World.{World, console_at, universe_at, IsWorld}
-use Rattle.rehearsal.specs.Happened.{acts, sent, accepted_by, datagram}
-use Rattle.rehearsal.specs.Replies.{last_moment, done, skipped, taken_reply, replied, reply_to}
+use Rattle.rehearsal.specs.Happened.{acts, packets_sent, accepted_by, datagram}
+use Rattle.rehearsal.specs.Replies.{last_event_moment, events_done, skip_of, taken_reply}
+use Rattle.rehearsal.specs.Replies.{event_reply, reply_to}
 use Rattle.rehearsal.specs.Replies.{AreReplies, last_slots}
 use Rattle.rehearsal.specs.Laws.{IsAlone, NoStray, IsFreshIn, IsFresh, is_silent, is_live, is_lit}
-use Rattle.rehearsal.specs.Laws.{light, meant, slots_at, accepted_from, Headline, IsOneOf}
+use Rattle.rehearsal.specs.Laws.{light, meant_slots, slots_at, accepted_from, Headline, IsOneOf}
 use Rattle.rehearsal.specs.Laws.{WindowLaw, UnpatchedSlotsAreZero, SilenceIsDark, MergeLaw}
 use Rattle.rehearsal.specs.Laws.{HearsAll, CidsDiffer, AreSettled, IsUnpatched, lights}
 use Rattle.std.specs.Option.{option_map, option_map_or}
@@ -68,8 +69,8 @@ in_sequence a k h g = elim (cases_lt a k) [
 pub record Keeps (t : ℕ) (ds : List Delivery) (a : Delivery) : Type 0 where
   pub not_far_behind : newest_of ds ≤ a.k + 19
   pub not_ahead : a.k ≤ newest_of ds
-  pub newest_or_late : (a.k ≡ newest_of ds) ⊎ (arrived ds + 2500 ≤ a.moment)
-  pub after_arrival : arrived ds ≤ a.moment
+  pub newest_or_late : (a.k ≡ newest_of ds) ⊎ (arrival ds + 2500 ≤ a.moment)
+  pub after_arrival : arrival ds ≤ a.moment
   pub past : a.moment ≤ t
 
 -- one delivery more, in the window: when the newest arrived, and what is kept
@@ -102,7 +103,7 @@ module _ (t : ℕ) (d e a : Delivery) (ds : List Delivery) (h : Keeps d.moment (
 
 module _ (c : Identity) where
   abbrev pub history : List Delivery → List Entry
-  history ds = accepted 4 (map (entry c) ds)
+  history ds = accepted_packets 4 (map (entry c) ds)
 
   one_cid : (d : Delivery) → IsFrom (c.cid ∷ []) (entry c d)
   one_cid d = one_of (entry c d) (c.cid ∷ []) (0, omega arith, refl)
@@ -204,19 +205,21 @@ module _ (t : ℕ) (h : List Entry) (cid : ℕ → List ℕ) (is : List ℕ)
           rw (sym c.1) (In_map light_of x (live h t) (In_filter (λ e. not e.ended) x (records h t)
           (In_filter (is_there t) x (newest h) (found_newest (cid j) h x e) b.0) b.1))
 
-  pub shown_lit : (slot : ℕ) → shown h t slot ≡ merged (map f (filter p is)) slot
+  pub shown_lit : (slot : ℕ) → shown_slot h t slot ≡ merged_slot (map f (filter p is)) slot
   shown_lit slot = merged_same (map light_of (live h t)) (map f (filter p is)) slot one_lit lit_one
 
 -- one light alone is what is shown
-pub one_light : (l : Light) (slot : ℕ) → merged (l ∷ []) slot ≡ slice_index l.slots slot
+pub one_light : (l : Light) (slot : ℕ) → merged_slot (l ∷ []) slot ≡ slice_index l.slots slot
 one_light l slot = grind (arith, nat_tests)
 
 pub same_slots : (h : List Entry) (t : ℕ) (slots : List ℕ) → length slots ≡ 512
-    → ((slot : ℕ) → slot < 512 → shown h t slot ≡ slice_index slots slot) → shown_slots h t ≡ slots
+    → ((slot : ℕ) → slot < 512 → shown_slot h t slot ≡ slice_index slots slot)
+    → shown_slots h t ≡ slots
 same_slots h t slots size same =
-    sym (fill_by_all (shown h t) slots 512 0 size (λ slot l. sym (same slot l)))
+    sym (fill_by_all (shown_slot h t) slots 512 0 size (λ slot l. sym (same slot l)))
 
-pub dark_slots : (h : List Entry) (t : ℕ) → ((slot : ℕ) → shown h t slot ≡ 0) → shown_slots h t ≡ dark
+pub dark_slots : (h : List Entry) (t : ℕ) → ((slot : ℕ) → shown_slot h t slot ≡ 0)
+    → shown_slots h t ≡ dark
 dark_slots h t zero =
     same_slots h t dark refl (λ slot l. zero slot ∙ sym (get_or-replicate 512 slot 0 0 l))
 
@@ -227,39 +230,39 @@ silent_at t (e ∷ ds) d s (inl same) = rw same (leb-true (e.moment + 2500) t (a
 silent_at t (e ∷ ds) d s (inr i) = silent_at t ds d (and_parts _ _ s).1 i
 
 pub fresh_parts : (t : ℕ) (ps : List Packet) (ds : List Delivery) → IsFreshIn t ps ds
-    → (suc (newest_of ds) ≡ length ps) × (t < arrived ds + 2500)
+    → (suc (newest_of ds) ≡ length ps) × (t < arrival ds + 2500)
 fresh_parts t ps [] f = absurd f
 fresh_parts t ps (d ∷ ds) f = f
 
 module _ (w : World) (v : IsWorld w) (r : ℕ) (past : List Event) (run : IsRun w past)
-    (no_stray : NoStray w r past) (t : ℕ) (time : last_moment past ≤ t) (i : ℕ)
-    (window : IsInWindow (delivered w r i past)) where
+    (no_stray : NoStray w r past) (t : ℕ) (time : last_event_moment past ≤ t) (i : ℕ)
+    (window : IsInWindow (deliveries w r i past)) where
   -- what is kept of console i, and that it is what is found
   abbrev Kept : Type 0
-  Kept = KeptOne (source_of w i) (last_moment past) (delivered w r i past)
+  Kept = KeptOne (source_of w i) (last_event_moment past) (deliveries w r i past)
 
-  kept : (delivered w r i past ≡ []) ⊎ Kept
-  kept = kept_of (source_of w i) (last_moment past) (delivered w r i past) window
+  kept : (deliveries w r i past ≡ []) ⊎ Kept
+  kept = kept_of (source_of w i) (last_event_moment past) (deliveries w r i past) window
       (were_in_time w v r past run no_stray i)
 
   abbrev found : Option Entry
   found = find (same_cid (source_of w i).cid) (accepted_from w r i past)
 
   found_is : find (same_cid (source_of w i).cid) (accepted_from w r i past)
-      ≡ find (same_cid (source_of w i).cid) (history (source_of w i) (delivered w r i past))
+      ≡ find (same_cid (source_of w i).cid) (history (source_of w i) (deliveries w r i past))
   found_is = ap (find (same_cid (source_of w i).cid)) (from_one w v r past run no_stray i)
 
-  found_none : delivered w r i past ≡ [] → found ≡ None
+  found_none : deliveries w r i past ≡ [] → found ≡ None
   found_none e = found_is ∙ rw e
 
   was_sent : (k : Kept) → (i < length w.consoles)
-      × (slice_get (sent w i (universe_at w r) past) k.one.k ≡ Some k.one.packet)
+      × (slice_get (packets_sent w i (universe_at w r) past) k.one.k ≡ Some k.one.packet)
   was_sent k = were_sent w v r past run no_stray i k.one k.came
 
   -- a console that is fresh is not silent, and one that is fresh or silent lights as it is to
   not_silent : IsFresh w r i past t → Kept → is_silent w r i past t ≡ false
   not_silent fresh k =
-      let f = fresh_parts t _ (delivered w r i past) fresh in
+      let f = fresh_parts t _ (deliveries w r i past) fresh in
       by_test (is_silent w r i past t) (λ q. absurd (let s = silent_at t _ k.one q k.came in
       omega (arith, s, f.1, k.facts.after_arrival))) (λ q. q)
 
@@ -272,8 +275,9 @@ module _ (w : World) (v : IsWorld w) (r : ℕ) (past : List Event) (run : IsRun 
 
   lit_fresh : IsFresh w r i past t → (k : Kept) → lit_by t found ≡ due
   lit_fresh fresh k =
-      let f = fresh_parts t (sent w i (universe_at w r) past) (delivered w r i past) fresh in
-      let newest : k.one.k ≡ newest_of (delivered w r i past) =
+      let f =
+      fresh_parts t (packets_sent w i (universe_at w r) past) (deliveries w r i past) fresh in
+      let newest : k.one.k ≡ newest_of (deliveries w r i past) =
       grind (arith, k.facts.newest_or_late, k.facts.past, f.1) in
       let m = newest_sent w i (universe_at w r) k.one.k past k.one.packet (was_sent k).1
       (omega (arith, f.0, newest)) in
@@ -283,16 +287,16 @@ module _ (w : World) (v : IsWorld w) (r : ℕ) (past : List Event) (run : IsRun 
       ap (lit_by t) (found_is ∙ k.is_kept) ∙ by_test (is_live (acts w i past))
       (λ q. rw (there, m.0, m.1, loud, q)) (λ q. rw (there, m.0, m.1, loud, q))
 
-  lit_silent : is_silent w r i past t ≡ true → (delivered w r i past ≡ []) ⊎ Kept
+  lit_silent : is_silent w r i past t ≡ true → (deliveries w r i past ≡ []) ⊎ Kept
       → lit_by t found ≡ due
   lit_silent silent (inl none) = rw silent (ap (lit_by t) (found_none none))
   lit_silent silent (inr k) =
       let gone : nat_lt (t - k.one.moment) 2500 ≡ false =
       recent k ∙ le-ltb t (k.one.moment + 2500)
-      (silent_at t (delivered w r i past) k.one silent k.came) in
+      (silent_at t (deliveries w r i past) k.one silent k.came) in
       rw silent (ap (lit_by t) (found_is ∙ k.is_kept) ∙ rw gone)
 
-  lit_settled : ((sent w i (universe_at w r) past ≡ [] → ⊥)
+  lit_settled : ((packets_sent w i (universe_at w r) past ≡ [] → ⊥)
       → IsFresh w r i past t ⊎ IsTrue (is_silent w r i past t)) → lit_by t found ≡ due
   lit_settled state = elim kept [
     | inl none ↦ lit_silent (rw none) (inl none)
@@ -308,18 +312,18 @@ module _ (w : World) (v : IsWorld w) (r : ℕ) (past : List Event) (run : IsRun 
   module _ (alone : IsAlone w r i past) where
     shown_alone : (p : ℕ → Bool) (f : ℕ → Light)
         → lit_by t found ≡ (if p i then Some (f i) else None) → (slot : ℕ)
-        → shown (accepted_by w r past) t slot ≡ merged (map f (filter p (i ∷ []))) slot
+        → shown_slot (accepted_by w r past) t slot ≡ merged_slot (map f (filter p (i ∷ []))) slot
     shown_alone p f lit slot =
-        ap (λ h. shown h t slot) (all_from w v r past run no_stray i alone)
+        ap (λ h. shown_slot h t slot) (all_from w v r past run no_stray i alone)
         ∙ shown_lit t (accepted_from w r i past) (λ j. (source_of w j).cid) (i ∷ [])
         (λ e m. (i, inl refl, from_alone w v r past run no_stray i e m)) p f
         (λ j m. elim m [ inl e ↦ rw e lit | inr n ↦ absurd n ]) slot
 
-    pub means : IsFresh w r i past t → slots_at w r past t ≡ meant w r i past
+    pub means : IsFresh w r i past t → slots_at w r past t ≡ meant_slots w r i past
     means fresh = elim kept [
       | inl none ↦ absurd (subst (IsFreshIn t _) none fresh)
       | inr k ↦
-          same_slots (accepted_by w r past) t (meant w r i past)
+          same_slots (accepted_by w r past) t (meant_slots w r i past)
           (latest_full (console_at w i).show (acts w i past)
           (universe_at w r - (console_at w i).base))
           (λ slot l. shown_alone (is_lit w r past t) (light w r past)
@@ -341,7 +345,8 @@ module _ (w : World) (v : IsWorld w) (r : ℕ) (past : List Event) (run : IsRun 
         ∙ rw silent)
 
     pub near :
-        IsOneOf t (slots_at w r past t) (sent w i (universe_at w r) past) (delivered w r i past)
+        IsOneOf t (slots_at w r past t) (packets_sent w i (universe_at w r) past)
+        (deliveries w r i past)
         ⊎ (slots_at w r past t ≡ dark)
     near = elim kept [
       | inl none ↦
@@ -350,12 +355,12 @@ module _ (w : World) (v : IsWorld w) (r : ℕ) (past : List Event) (run : IsRun 
       | inr k ↦
           (let e : Entry = entry (source_of w i) k.one in
           let b : Bool = is_there t e && not e.ended in
-          let shows : (slot : ℕ) → shown (accepted_by w r past) t slot
-          ≡ merged (map (λ _. light_of e) (filter (λ _. b) (i ∷ []))) slot =
+          let shows : (slot : ℕ) → shown_slot (accepted_by w r past) t slot
+          ≡ merged_slot (map (λ _. light_of e) (filter (λ _. b) (i ∷ []))) slot =
           shown_alone (λ _. b) (λ _. light_of e) (ap (lit_by t) (found_is ∙ k.is_kept)) in
           by_test b (λ q. inl (record {
             one = k.one;
-            came = place_from_in k.one (delivered w r i past) k.came;
+            came = place_from_in k.one (deliveries w r i past) k.came;
             is_sent = (was_sent k).1;
             not_far_behind = k.facts.not_far_behind;
             not_ahead = k.facts.not_ahead;
@@ -377,10 +382,12 @@ module _ (w : World) (v : IsWorld w) (r : ℕ) (past : List Event) (run : IsRun 
 -- ---- several consoles
 
 pub merges : (w : World) → IsWorld w → (r : ℕ) (past : List Event) → IsRun w past → (t : ℕ)
-    → last_moment past ≤ t → HearsAll w r past → AreSettled w r past t → (slot : ℕ) → slot < 512
-    → slice_index (slots_at w r past t) slot ≡ merged (lights w r past t) slot
+    → last_event_moment past ≤ t → HearsAll w r past → AreSettled w r past t → (slot : ℕ)
+    → slot < 512
+    → slice_index (slots_at w r past t) slot ≡ merged_slot (lights w r past t) slot
 merges w v r past run t time hears state slot below =
-    get_or-map-range_with_len (shown (accepted_by w r past) t) 0 512 slot slot 0 below (omega arith)
+    get_or-map-range_with_len (shown_slot (accepted_by w r past) t) 0 512 slot slot 0 below
+    (omega arith)
     ∙ shown_lit t (accepted_by w r past) (λ j. (source_of w j).cid) (range_with_len 0 n)
     (λ e m. let c = from_console w v r past run hears.no_stray e m in
     let l : c.0 < length (range_with_len 0 n) = omega (arith, c.1, length-range_with_len 0 n) in
@@ -400,48 +407,48 @@ merges w v r past run t time hears state slot below =
 -- ---- the laws, of the events that were done
 
 pub headline : Headline
-headline w events r i t v time hears = means w v r (done w events) (done_runs w events)
+headline w events r i t v time hears = means w v r (events_done w events) (done_runs w events)
     hears.no_stray t time i hears.window hears.alone
 
 pub unpatched_zero : UnpatchedSlotsAreZero
-unpatched_zero w events r i t slot v time hears fresh = zero w v r (done w events)
+unpatched_zero w events r i t slot v time hears fresh = zero w v r (events_done w events)
     (done_runs w events) hears.no_stray t time i hears.window hears.alone fresh slot
 
 pub window_law : WindowLaw
-window_law w events r i t v time hears = near w v r (done w events) (done_runs w events)
+window_law w events r i t v time hears = near w v r (events_done w events) (done_runs w events)
     hears.no_stray t time i hears.window hears.alone
 
 pub silence_dark : SilenceIsDark
-silence_dark w events r i t v time hears = silence w v r (done w events) (done_runs w events)
+silence_dark w events r i t v time hears = silence w v r (events_done w events) (done_runs w events)
     hears.no_stray t time i hears.window hears.alone
 
 pub merge_law : MergeLaw
-merge_law w events r t v = merges w v r (done w events) (done_runs w events) t
+merge_law w events r t v = merges w v r (events_done w events) (done_runs w events) t
 
 -- ---- the laws, of what a rehearsal shows
 
 -- what is shown: after these events, none of which was skipped, the slots at a moment not before
 pub record WasShown (w : World) (past : List Event) (r t : ℕ) (slots : List ℕ) : Type 0 where
   pub run : IsRun w past
-  pub time : last_moment past ≤ t
+  pub time : last_event_moment past ≤ t
   pub are : slots ≡ slots_at w r past t
 
 pub was_shown : (w : World) (events : List Event) (replies : List Reply) (last : List (List ℕ))
-    → AreReplies w events replies → last ≡ last_slots w (done w events)
+    → AreReplies w events replies → last ≡ last_slots w (events_done w events)
     → (r t : ℕ) (past : List Event) (slots : List ℕ)
     → IsShown w events replies last r t past slots → WasShown w past r t slots
 was_shown w events replies last are left r t past slots (inl is) =
-    rw is.before (go (skipped w before x) refl (same_Some (reply_to w before x) (Shown slots)
+    rw is.before (go (skip_of w before x) refl (same_Some (reply_to w before x) (Shown slots)
     (sym (are.1 is.place x is.asked) ∙ is.answered)))
   where
     before : List Event
-    before = done w (take is.place events)
+    before = events_done w (take is.place events)
 
     x : Event
     x = record { moment = t; what = Show r }
 
-    go : (o : Option Skip) → skipped w before x ≡ o
-        → option_map_or Skipped o (replied w before t (Show r)) ≡ Shown slots
+    go : (o : Option Skip) → skip_of w before x ≡ o
+        → option_map_or Skipped o (event_reply w before t (Show r)) ≡ Shown slots
         → WasShown w before r t slots
     go (Some s) e k = cc
     go None e k = record {
@@ -450,9 +457,10 @@ was_shown w events replies last are left r t past slots (inl is) =
       are = cc;
     }
 was_shown w events replies last are left r t past slots (inr is) =
-    let shown : slice_get (last_slots w (done w events)) r ≡ Some slots =
+    let shown : slice_get (last_slots w (events_done w events)) r ≡ Some slots =
     ap (λ l. slice_get l r) (sym left) ∙ is.left in
-    let f : ℕ → List ℕ = λ r. slots_at w r (done w events) (last_moment (done w events)) in
+    let f : ℕ → List ℕ =
+    λ r. slots_at w r (events_done w events) (last_event_moment (events_done w events)) in
     let count : ℕ = length w.receivers in
     rw (is.at_last, is.all) (record {
       run = done_runs w events;
@@ -469,8 +477,8 @@ pub answers_alone : (w : World) (events : List Event) (replies : List Reply) →
     → AreReplies w events replies → length w.consoles ≤ 4
     → (j r i universe k t : ℕ) (past : List Event)
     → slice_get events j ≡ Some (record { moment = t; what = Deliver r i universe k })
-    → past ≡ done w (take j events)
-    → skipped w past (record { moment = t; what = Deliver r i universe k }) ≡ None
+    → past ≡ events_done w (take j events)
+    → skip_of w past (record { moment = t; what = Deliver r i universe k }) ≡ None
     → CidsDiffer w → NoStray w r past
     → slice_get replies j ≡ Some (reply_alone w past t r i universe k)
 answers_alone w events replies v are few j r i u k t past e is s apart no_stray =
@@ -479,12 +487,13 @@ answers_alone w events replies v are few j r i u k t past e is s apart no_stray 
     let here : datagram w i u k before ≡ Some (packet_bytes (console_at w i).source u k d.packet) =
     ap (option_map (packet_bytes (console_at w i).source u k)) d.is_sent in
     rw is (are.1 j x e
-    ∙ ap (λ o. Some (option_map_or Skipped o (replied w before t (Deliver r i u k)))) (rw is at s)
+    ∙ ap (λ o. Some (option_map_or Skipped o (event_reply w before t (Deliver r i u k))))
+    (rw is at s)
     ∙ rw here (ap (λ a. Some (taken_reply a)) (consoles_independent w (take j events) r i u k t _ v
     apart few d.there m.after (rw is at no_stray) here)))
   where
     before : List Event
-    before = done w (take j events)
+    before = events_done w (take j events)
 
     x : Event
     x = record { moment = t; what = Deliver r i u k }

@@ -18,8 +18,8 @@ use Rattle.fade.specs.Level.{Start}
 use Rattle.rehearsal.specs.World.{World, console_at}
 use Rattle.rehearsal.specs.declared.stage.Stage.{Stage}
 use Rattle.rehearsal.specs.Shelves.{gone_of}
-use Rattle.rehearsal.specs.StageStands.{StageStands, Tells}
-use Rattle.rehearsal.specs.Stands.{AllStand, AllTell}
+use Rattle.rehearsal.specs.StageStands.{StageStands, LinkTells}
+use Rattle.rehearsal.specs.Stands.{ConsolesStand, AllTell}
 use Rattle.rehearsal.proofs.Linked.{first_gone}
 
 -- ---- the least numbers of the packets that later events deliver
@@ -221,7 +221,7 @@ AllHold stages events i = (j : ℕ) (e : Event) → i ≤ j → slice_get events
 
 -- at the beginning none is gone
 pub hold_first : {F : Type 0} (sf : F → List Start → Type 0) (stages : List (Stage F)) (w : World)
-    (events : List Event) → AllStand (StageStands sf) stages w [] → AllTell Tells stages
+    (events : List Event) → ConsolesStand (StageStands sf) stages w [] → AllTell LinkTells stages
     → All (λ stage. AreUpTo events stage.last) stages → AllHold stages events 0
 hold_first {F} sf stages w events all tell wanted j e l g r i u n s is at =
     let none = first_gone (console_at w i) u _ _ _

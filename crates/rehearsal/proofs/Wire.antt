@@ -8,7 +8,7 @@ use Rattle.std.specs.Option.{option_or, option_map}
 use Rattle.std.proofs.lemmas.Bool.Decides.{nat_tests}
 use Rattle.std.proofs.lemmas.List.{take_all, length-take, length-drop}
 use Rattle.std.proofs.lemmas.Bool.{eq-eqb, cond-true, eqb-true}
-use Rattle.sacn_packet.specs.Wire.{Packet as WirePacket, IsData, HasPacket}
+use Rattle.sacn_packet.specs.Wire.{WirePacket as WirePacket, IsData, HasPacket}
 use Rattle.sacn_packet.specs.Faults.{fault_of}
 use Rattle.sacn_packet.specs.Reading.{front_packet}
 use Rattle.sacn_packet.proofs.Packets.{layers_are_data, same_packet}
@@ -20,7 +20,7 @@ use Rattle.sacn_receiver.specs.declared.answer.Ignored.{Ignored}
 use Rattle.sacn_receiver.specs.declared.answer.Ignored.TheVariants.{Unreadable}
 use Rattle.sacn_receiver.specs.Arrivals.{not_heard}
 use Rattle.sacn_receiver.specs.Source.{Entry, last_moment}
-use Rattle.sacn_receiver.specs.Taking.{entry_of, unheard, heard}
+use Rattle.sacn_receiver.specs.Taking.{accepted_entry, unheard, history_after}
 use Rattle.sacn_receiver.proofs.Members.{by_test}
 use Rattle.rehearsal.specs.Datagrams.{fields_at, packet_bytes}
 use Rattle.rehearsal.specs.Delivery.{Delivery}
@@ -32,18 +32,19 @@ use Rattle.desk.specs.declared.answer.Refused.{Refused}
 use Rattle.desk.specs.Played.{Call, Act, refusal}
 use Rattle.desk.specs.Meaning.{latest_frame}
 use Rattle.desk.proofs.Universes.{numbers_in}
-use Rattle.sacn_source.specs.Identify.{IsStreamPacket, options_of, fields_of}
+use Rattle.sacn_source.specs.Identify.{IsStreamPacket, options_of, packet_fields}
 use Rattle.sacn_source.proofs.Streams.{HoldsFull}
 use Rattle.console.specs.Streams.{Production, universes_of}
 use Rattle.console.proofs.Streams.{stream_full, packet_stays, newest_means}
 use Rattle.rehearsal.specs.declared.event.Event.{Event}
-use Rattle.rehearsal.specs.Happened.{call_of, unless_refused, acted, acts, stream, sent}
+use Rattle.rehearsal.specs.Happened.{console_call, unless_refused, acts_after_call, acts, stream}
+use Rattle.rehearsal.specs.Happened.{packets_sent}
 use Rattle.rehearsal.specs.Laws.{is_live, DatagramsArePackets}
 use Rattle.std.proofs.lemmas.Map.Views.{Contains-from_any}
 
 -- a packet says all of its source
 pub source_of : (who : Identity) (universe sequence options : ℕ) (bytes slots : List ℕ)
-    → IsData bytes (fields_of who universe sequence options) slots → IsIdentity who
+    → IsData bytes (packet_fields who universe sequence options) slots → IsIdentity who
 source_of who universe sequence options bytes slots is =
     let cid = length-take 16 (drop 22 bytes) in
     let name = length-take 64 (drop 44 bytes) in
@@ -106,9 +107,9 @@ module _ (source : Identity) (universe k : ℕ) (packet : Packet)
   pub cid_is : (front_packet (packet_bytes source universe k packet)).fields.cid ≡ source.cid
   cid_is = ap (λ (p : WirePacket). p.fields.cid) front_is
 
-  pub entry_is : (t : ℕ) → entry_of t (front_packet (packet_bytes source universe k packet))
+  pub entry_is : (t : ℕ) → accepted_entry t (front_packet (packet_bytes source universe k packet))
       ≡ entry source (record { k = k; moment = t; packet = packet })
-  entry_is t = ap (entry_of t) front_is ∙ (λ i. record {
+  entry_is t = ap (accepted_entry t) front_is ∙ (λ i. record {
     cid = source.cid;
     number = k % 256;
     moment = t;
@@ -136,13 +137,13 @@ module _ (source : Identity) (universe k : ℕ) (packet : Packet)
 
 -- a datagram that is not heard changes nothing
 pub unheard_left : (u : ℕ) (h : List Entry) (t : ℕ) (bytes : List ℕ)
-    → is_some (not_heard u bytes) ≡ true → heard 4 u h t bytes ≡ h
+    → is_some (not_heard u bytes) ≡ true → history_after 4 u h t bytes ≡ h
 unheard_left u h t bytes s = go (nat_lt t (last_moment h)) (fault_of bytes)
     (unheard u (front_packet bytes)) refl refl refl s
   where
     go : (b : Bool) (f : Option _) (n : Option Ignored) → nat_lt t (last_moment h) ≡ b
         → fault_of bytes ≡ f → unheard u (front_packet bytes) ≡ n
-        → is_some (option_or (option_map Unreadable f) n) ≡ true → heard 4 u h t bytes ≡ h
+        → is_some (option_or (option_map Unreadable f) n) ≡ true → history_after 4 u h t bytes ≡ h
     go true f n p q r s = rw p
     go false (Some f) n p q r s = rw (p, q)
     go false None (Some n) p q r s = rw (p, q, r)
@@ -156,12 +157,13 @@ module _ (c : Production) (u : ℕ) (h : List Act) (k : ℕ) (p : Packet)
   unless_stays None a = packet_stays c u a h k p at
   unless_stays (Some r) a = at
 
-  acted_stays : (t : ℕ) (o : Option Call) → slice_get (stream c u (acted c.show t o h)) k ≡ Some p
+  acted_stays : (t : ℕ) (o : Option Call) → slice_get (stream c u (acts_after_call c.show t o h)) k
+      ≡ Some p
   acted_stays t None = at
   acted_stays t (Some call) = unless_stays (refusal c.show h (record { moment = t; call = call })) _
 
 module _ (w : World) (i u k : ℕ) (past : List Event) (p : Packet)
-    (at : slice_get (sent w i u past) k ≡ Some p) where
+    (at : slice_get (packets_sent w i u past) k ≡ Some p) where
   -- who sends a packet plays its universe
   sent_plays : (plays (console_at w i) u ≡ true)
       × (slice_get (stream (console_at w i) u (acts w i past)) k ≡ Some p)
@@ -184,11 +186,11 @@ module _ (w : World) (i u k : ℕ) (past : List Event) (p : Packet)
         high = grind (arith, nat_tests, number);
       }
 
-  pub sent_stays : (e : Event) → slice_get (sent w i u (e ∷ past)) k ≡ Some p
+  pub sent_stays : (e : Event) → slice_get (packets_sent w i u (e ∷ past)) k ≡ Some p
   sent_stays e = rw sent_plays.0 (acted_stays (console_at w i) u (acts w i past) k p sent_plays.1
-      e.moment (call_of i e.what))
+      e.moment (console_call i e.what))
 
-  pub newest_sent : suc k ≡ length (sent w i u past)
+  pub newest_sent : suc k ≡ length (packets_sent w i u past)
       → (p.slots ≡ latest_frame (console_at w i).show (acts w i past) (u - (console_at w i).base))
       × (p.ends ≡ not (is_live (acts w i past)))
   newest_sent l = newest_means (console_at w i) u (acts w i past) k p sent_plays.1

@@ -6,7 +6,7 @@ use Rattle.rehearsal.specs.declared.event.Event.{Event}
 use Rattle.rehearsal.specs.declared.event.What.{What}
 use Rattle.rehearsal.specs.declared.event.What.TheVariants.{Deliver}
 use Rattle.rehearsal.specs.World.{World, universe_at}
-use Rattle.rehearsal.specs.Happened.{sent}
+use Rattle.rehearsal.specs.Happened.{packets_sent}
 
 -- packet k was handed in at a moment
 pub record Delivery : Type 0 where
@@ -24,14 +24,15 @@ delivered_more k moment (Some packet) older =
 abbrev pub delivered_by : World → ℕ → ℕ → List Event → ℕ → What → List Delivery → List Delivery
 delivered_by w r i past moment (Deliver q j universe k) older =
     if (q == r && universe == universe_at w r) && j == i
-    then delivered_more k moment (slice_get (sent w i (universe_at w r) past) k) older else older
+    then delivered_more k moment (slice_get (packets_sent w i (universe_at w r) past) k) older
+    else older
 delivered_by w r i past moment _ older = older
 
 -- the packets of its universe that were handed to receiver r from console i, in any order and any
 -- number of times
-abbrev pub delivered : World → ℕ → ℕ → List Event → List Delivery
-delivered w r i [] = []
-delivered w r i (e ∷ past) = delivered_by w r i past e.moment e.what (delivered w r i past)
+abbrev pub deliveries : World → ℕ → ℕ → List Event → List Delivery
+deliveries w r i [] = []
+deliveries w r i (e ∷ past) = delivered_by w r i past e.moment e.what (deliveries w r i past)
 
 -- the newest packet that came: the greatest k
 abbrev pub newest_of : List Delivery → ℕ
@@ -48,8 +49,8 @@ IsInWindow (d ∷ e ∷ older) =
     × IsInWindow (e ∷ older)
 
 -- when the newest that came first came
-abbrev pub arrived : List Delivery → ℕ
-arrived [] = 0
-arrived (d ∷ []) = d.moment
-arrived (d ∷ e ∷ older) =
-    if nat_lt (newest_of (e ∷ older)) d.k then d.moment else arrived (e ∷ older)
+abbrev pub arrival : List Delivery → ℕ
+arrival [] = 0
+arrival (d ∷ []) = d.moment
+arrival (d ∷ e ∷ older) =
+    if nat_lt (newest_of (e ∷ older)) d.k then d.moment else arrival (e ∷ older)

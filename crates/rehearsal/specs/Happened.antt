@@ -8,7 +8,7 @@ use Rattle.desk.specs.declared.answer.Refused.{Refused}
 use Rattle.desk.specs.Played.{Call, order, tick, Act, refusal}
 use Rattle.sacn_source.specs.Stream.{Packet, packets}
 use Rattle.sacn_receiver.specs.Source.{Entry}
-use Rattle.sacn_receiver.specs.Taking.{heard}
+use Rattle.sacn_receiver.specs.Taking.{history_after}
 use Rattle.console.specs.Streams.{Production, offers_of, terminations_of}
 use Rattle.rehearsal.specs.declared.event.Event.{Event}
 use Rattle.rehearsal.specs.declared.event.What.{What}
@@ -19,10 +19,10 @@ use Rattle.rehearsal.specs.Datagrams.{packet_bytes}
 -- ---- consoles
 
 -- the call of console i that an event is, where it is one
-abbrev pub call_of : ℕ → What → Option Call
-call_of i (Order j command) = if j == i then Some (order command) else None
-call_of i (Tick j) = if j == i then Some tick else None
-call_of i _ = None
+abbrev pub console_call : ℕ → What → Option Call
+console_call i (Order j command) = if j == i then Some (order command) else None
+console_call i (Tick j) = if j == i then Some tick else None
+console_call i _ = None
 
 -- a call that is refused changes nothing
 abbrev pub unless_refused : Option Refused → Act → List Act → List Act
@@ -30,16 +30,17 @@ unless_refused None act history = act ∷ history
 unless_refused (Some refused) act history = history
 
 -- a history after a call, where there is one
-abbrev pub acted : Tables → ℕ → Option Call → List Act → List Act
-acted show moment None history = history
-acted show moment (Some call) history =
+abbrev pub acts_after_call : Tables → ℕ → Option Call → List Act → List Act
+acts_after_call show moment None history = history
+acts_after_call show moment (Some call) history =
     let act : Act = record { moment = moment; call = call } in
     unless_refused (refusal show history act) act history
 
 -- the history of console i: its accepted calls
 abbrev pub acts : World → ℕ → List Event → List Act
 acts w i [] = []
-acts w i (e ∷ past) = acted (console_at w i).show e.moment (call_of i e.what) (acts w i past)
+acts w i (e ∷ past) =
+    acts_after_call (console_at w i).show e.moment (console_call i e.what) (acts w i past)
 
 -- the packets of a universe's stream after a history, in order: packet k at place k
 abbrev pub stream : Production → ℕ → List Act → List Packet
@@ -58,8 +59,8 @@ bytes_of console history universe k =
     (slice_get (packets_of console history universe) k)
 
 -- the packets that console i has sent for a universe after these events
-abbrev pub sent : World → ℕ → ℕ → List Event → List Packet
-sent w i universe past = packets_of (console_at w i) (acts w i past) universe
+abbrev pub packets_sent : World → ℕ → ℕ → List Event → List Packet
+packets_sent w i universe past = packets_of (console_at w i) (acts w i past) universe
 
 -- ---- receivers
 
@@ -68,19 +69,20 @@ abbrev pub datagram : World → ℕ → ℕ → ℕ → List Event → Option (L
 datagram w i universe k past = bytes_of (console_at w i) (acts w i past) universe k
 
 -- the datagram that an event hands to receiver r, where it hands it one
-abbrev pub handed : World → ℕ → List Event → What → Option (List ℕ)
-handed w r past (Deliver q i universe k) = if q == r then datagram w i universe k past else None
-handed w r past (Stray q from to) =
+abbrev pub datagram_to : World → ℕ → List Event → What → Option (List ℕ)
+datagram_to w r past (Deliver q i universe k) =
+    if q == r then datagram w i universe k past else None
+datagram_to w r past (Stray q from to) =
     if q == r then Some (slice_range w.strays from to) else None
-handed w r past _ = None
+datagram_to w r past _ = None
 
 -- what a receiver of a universe, with room for four sources, has accepted after one more datagram
 abbrev pub hears : ℕ → ℕ → Option (List ℕ) → List Entry → List Entry
 hears universe moment None history = history
-hears universe moment (Some bytes) history = heard 4 universe history moment bytes
+hears universe moment (Some bytes) history = history_after 4 universe history moment bytes
 
 -- what receiver r has accepted
 abbrev pub accepted_by : World → ℕ → List Event → List Entry
 accepted_by w r [] = []
 accepted_by w r (e ∷ past) =
-    hears (universe_at w r) e.moment (handed w r past e.what) (accepted_by w r past)
+    hears (universe_at w r) e.moment (datagram_to w r past e.what) (accepted_by w r past)

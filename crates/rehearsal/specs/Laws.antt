@@ -14,15 +14,15 @@ use Rattle.sacn_source.specs.Stream.{Packet}
 use Rattle.sacn_receiver.specs.Arrivals.{not_heard}
 use Rattle.sacn_receiver.specs.Source.{Entry}
 use Rattle.sacn_receiver.specs.Taking.{answer}
-use Rattle.sacn_receiver.specs.Shown.{Light, merged, shown_slots}
+use Rattle.sacn_receiver.specs.Shown.{Light, merged_slot, shown_slots}
 use Rattle.console.specs.Streams.{terminations_of}
 use Rattle.rehearsal.specs.declared.event.Event.{Event}
 use Rattle.rehearsal.specs.declared.event.What.{What}
 use Rattle.rehearsal.specs.declared.event.What.TheVariants.{Deliver, Stray}
 use Rattle.rehearsal.specs.World.{World, console_at, universe_at, IsWorld}
-use Rattle.rehearsal.specs.Happened.{acts, sent, datagram, hears, accepted_by}
-use Rattle.rehearsal.specs.Replies.{last_moment, done}
-use Rattle.rehearsal.specs.Delivery.{Delivery, delivered, newest_of, arrived, IsInWindow}
+use Rattle.rehearsal.specs.Happened.{acts, packets_sent, datagram, hears, accepted_by}
+use Rattle.rehearsal.specs.Replies.{last_event_moment, events_done}
+use Rattle.rehearsal.specs.Delivery.{Delivery, deliveries, newest_of, arrival, IsInWindow}
 
 -- ---- what the laws ask of the events
 
@@ -40,28 +40,29 @@ NoStray w r (e ∷ past) = IsUnheard w r e.what × NoStray w r past
 -- no console but i has sent for the universe of receiver r
 abbrev pub IsAlone : World → ℕ → ℕ → List Event → Type 0
 IsAlone w r i past =
-    (j : ℕ) → j < length w.consoles → IsFalse (j == i) → sent w j (universe_at w r) past ≡ []
+    (j : ℕ) → j < length w.consoles → IsFalse (j == i)
+    → packets_sent w j (universe_at w r) past ≡ []
 
 -- receiver r hears console i alone: no other console has sent for its universe, no stray was heard
 -- on it, and the packets that came to it from console i stayed in the window
 pub record HearsOne (w : World) (r i : ℕ) (past : List Event) : Type 0 where
   pub alone : IsAlone w r i past
   pub no_stray : NoStray w r past
-  pub window : IsInWindow (delivered w r i past)
+  pub window : IsInWindow (deliveries w r i past)
 
 -- the newest packet sent has come, and it first came less than 2,500 ms before moment t
 abbrev pub IsFreshIn : ℕ → List Packet → List Delivery → Type 0
 IsFreshIn t packets [] = ⊥
 IsFreshIn t packets (d ∷ older) =
-    (suc (newest_of (d ∷ older)) ≡ length packets) × (t < arrived (d ∷ older) + 2500)
+    (suc (newest_of (d ∷ older)) ≡ length packets) × (t < arrival (d ∷ older) + 2500)
 
 -- so for the packets of console i on the universe of receiver r
 abbrev pub IsFresh : World → ℕ → ℕ → List Event → ℕ → Type 0
-IsFresh w r i past t = IsFreshIn t (sent w i (universe_at w r) past) (delivered w r i past)
+IsFresh w r i past t = IsFreshIn t (packets_sent w i (universe_at w r) past) (deliveries w r i past)
 
 -- no packet of console i came to receiver r less than 2,500 ms before moment t
 abbrev pub is_silent : World → ℕ → ℕ → List Event → ℕ → Bool
-is_silent w r i past t = list_all (λ d. nat_le (d.moment + 2500) t) (delivered w r i past)
+is_silent w r i past t = list_all (λ d. nat_le (d.moment + 2500) t) (deliveries w r i past)
 
 -- the CIDs of the consoles differ
 abbrev pub CidsDiffer : World → Type 0
@@ -75,20 +76,20 @@ pub record HearsAll (w : World) (r : ℕ) (past : List Event) : Type 0 where
   pub apart : CidsDiffer w
   pub few : length w.consoles ≤ 4
   pub no_stray : NoStray w r past
-  pub window : (i : ℕ) → i < length w.consoles → IsInWindow (delivered w r i past)
+  pub window : (i : ℕ) → i < length w.consoles → IsInWindow (deliveries w r i past)
 
 -- each console that has sent for the universe of receiver r is fresh or silent
 abbrev pub AreSettled : World → ℕ → List Event → ℕ → Type 0
 AreSettled w r past t =
-    (i : ℕ) → i < length w.consoles → (sent w i (universe_at w r) past ≡ [] → ⊥)
+    (i : ℕ) → i < length w.consoles → (packets_sent w i (universe_at w r) past ≡ [] → ⊥)
     → IsFresh w r i past t ⊎ IsTrue (is_silent w r i past t)
 
 -- ---- what receivers show
 
 -- what console i's show means for the universe of receiver r at the latest tick, under the
 -- commands before that tick
-abbrev pub meant : World → ℕ → ℕ → List Event → List ℕ
-meant w r i past =
+abbrev pub meant_slots : World → ℕ → ℕ → List Event → List ℕ
+meant_slots w r i past =
     latest_frame (console_at w i).show (acts w i past) (universe_at w r - (console_at w i).base)
 
 -- the slots of receiver r at moment t after these events
@@ -101,9 +102,9 @@ slots_at w r past t = shown_slots (accepted_by w r past) t
 abbrev pub Headline : Type 0
 Headline =
     (w : World) (events : List Event) (r i t : ℕ) → IsWorld w
-    → (let past = done w events in
-    last_moment past ≤ t → HearsOne w r i past → IsFresh w r i past t
-    → slots_at w r past t ≡ meant w r i past)
+    → (let past = events_done w events in
+    last_event_moment past ≤ t → HearsOne w r i past → IsFresh w r i past t
+    → slots_at w r past t ≡ meant_slots w r i past)
 
 -- the dimmer of a slot, counted from 0, in the universe of receiver r, is not patched by console i
 abbrev pub IsUnpatched : World → ℕ → ℕ → ℕ → Type 0
@@ -115,8 +116,8 @@ IsUnpatched w r i slot =
 abbrev pub UnpatchedSlotsAreZero : Type 0
 UnpatchedSlotsAreZero =
     (w : World) (events : List Event) (r i t slot : ℕ) → IsWorld w
-    → (let past = done w events in
-    last_moment past ≤ t → HearsOne w r i past → IsFresh w r i past t
+    → (let past = events_done w events in
+    last_event_moment past ≤ t → HearsOne w r i past → IsFresh w r i past t
     → slot < 512 → IsUnpatched w r i slot → slice_index (slots_at w r past t) slot ≡ 0)
 
 -- these slots are those of one packet that was sent and came less than 2,500 ms before moment t,
@@ -136,17 +137,18 @@ pub record IsOneOf (t : ℕ) (slots : List ℕ) (packets : List Packet) (ds : Li
 abbrev pub WindowLaw : Type 0
 WindowLaw =
     (w : World) (events : List Event) (r i t : ℕ) → IsWorld w
-    → (let past = done w events in
-    last_moment past ≤ t → HearsOne w r i past
-    → IsOneOf t (slots_at w r past t) (sent w i (universe_at w r) past) (delivered w r i past)
+    → (let past = events_done w events in
+    last_event_moment past ≤ t → HearsOne w r i past
+    → IsOneOf t (slots_at w r past t) (packets_sent w i (universe_at w r) past)
+    (deliveries w r i past)
     ⊎ (slots_at w r past t ≡ dark))
 
 -- and they are all 0 where none arrived less than 2,500 ms ago
 abbrev pub SilenceIsDark : Type 0
 SilenceIsDark =
     (w : World) (events : List Event) (r i t : ℕ) → IsWorld w
-    → (let past = done w events in
-    last_moment past ≤ t → HearsOne w r i past → IsTrue (is_silent w r i past t)
+    → (let past = events_done w events in
+    last_event_moment past ≤ t → HearsOne w r i past → IsTrue (is_silent w r i past t)
     → slots_at w r past t ≡ dark)
 
 -- ---- several consoles
@@ -163,7 +165,7 @@ is_lit w r past t i = not (is_silent w r i past t) && is_live (acts w i past)
 abbrev pub light : World → ℕ → List Event → ℕ → Light
 light w r past i = record {
   priority = (console_at w i).source.priority;
-  slots = meant w r i past;
+  slots = meant_slots w r i past;
 }
 
 -- the lights of receiver r
@@ -177,10 +179,10 @@ lights w r past t =
 abbrev pub MergeLaw : Type 0
 MergeLaw =
     (w : World) (events : List Event) (r t : ℕ) → IsWorld w
-    → (let past = done w events in
-    last_moment past ≤ t → HearsAll w r past → AreSettled w r past t
+    → (let past = events_done w events in
+    last_event_moment past ≤ t → HearsAll w r past → AreSettled w r past t
     → (slot : ℕ) → slot < 512
-    → slice_index (slots_at w r past t) slot ≡ merged (lights w r past t) slot)
+    → slice_index (slots_at w r past t) slot ≡ merged_slot (lights w r past t) slot)
 
 -- the datagram that an event hands to receiver r from console i
 abbrev pub handed_from : World → ℕ → ℕ → List Event → What → Option (List ℕ)
@@ -201,8 +203,8 @@ abbrev pub ConsolesAreIndependent : Type 0
 ConsolesAreIndependent =
     (w : World) (events : List Event) (r i universe k t : ℕ) (bytes : List ℕ) → IsWorld w
     → CidsDiffer w → length w.consoles ≤ 4 → i < length w.consoles
-    → (let past = done w events in
-    last_moment past ≤ t → NoStray w r past → datagram w i universe k past ≡ Some bytes
+    → (let past = events_done w events in
+    last_event_moment past ≤ t → NoStray w r past → datagram w i universe k past ≡ Some bytes
     → answer 4 (universe_at w r) (accepted_by w r past) t bytes
     ≡ answer 4 (universe_at w r) (accepted_from w r i past) t bytes)
 
@@ -213,7 +215,7 @@ ConsolesAreIndependent =
 abbrev pub DatagramsArePackets : Type 0
 DatagramsArePackets =
     (w : World) (i universe k : ℕ) (past : List Event) (packet : Packet) → IsWorld w
-    → i < length w.consoles → slice_get (sent w i universe past) k ≡ Some packet
+    → i < length w.consoles → slice_get (packets_sent w i universe past) k ≡ Some packet
     → (let source = (console_at w i).source in
     (bytes : List ℕ) × (datagram w i universe k past ≡ Some bytes)
     × IsStreamPacket source universe k packet bytes

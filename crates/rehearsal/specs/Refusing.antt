@@ -41,28 +41,28 @@ has_base shows setup =
     option_map_or (λ show. is_base show.patch setup.base) (slice_get shows setup.show) false
 
 -- what is wrong with a setup, fault by fault
-abbrev pub applies : List Tables → List Setup → List ℕ → Fault → Bool
-applies shows setups universes Consoles = not (are_consoles (length setups))
-applies shows setups universes Receivers = not (are_receivers universes)
-applies shows setups universes NoShow = not (list_all (has_show shows) setups)
-applies shows setups universes Universe = not (list_all (has_base shows) setups)
-applies shows setups universes Memory = false
+abbrev pub fault_applies : List Tables → List Setup → List ℕ → Fault → Bool
+fault_applies shows setups universes Consoles = not (are_consoles (length setups))
+fault_applies shows setups universes Receivers = not (are_receivers universes)
+fault_applies shows setups universes NoShow = not (list_all (has_show shows) setups)
+fault_applies shows setups universes Universe = not (list_all (has_base shows) setups)
+fault_applies shows setups universes Memory = false
 
 -- the first that applies, in their order
 abbrev pub setup_fault : List Tables → List Setup → List ℕ → Option Fault
 setup_fault shows setups universes =
-    find (applies shows setups universes) (Consoles ∷ Receivers ∷ NoShow ∷ Universe ∷ [])
+    find (fault_applies shows setups universes) (Consoles ∷ Receivers ∷ NoShow ∷ Universe ∷ [])
 
 -- the setup is refused for its first fault; where it has none, there may be no memory
-abbrev pub Answers : {X : Type 0} → Option Fault → Result X Fault → Type 0
-Answers (Some fault) result = result ≡ Err fault
-Answers None result = IfErr result (λ fault. fault ≡ Memory)
+abbrev pub AnswersSetup : {X : Type 0} → Option Fault → Result X Fault → Type 0
+AnswersSetup (Some fault) result = result ≡ Err fault
+AnswersSetup None result = IfErr result (λ fault. fault ≡ Memory)
 
 -- the bytes of a stray lie within all strays
-abbrev pub is_within : ℕ → What → Bool
-is_within size (Stray receiver from to) = nat_le from to && nat_le to size
-is_within size _ = true
+abbrev pub stray_fits : ℕ → What → Bool
+stray_fits size (Stray receiver from to) = nat_le from to && nat_le to size
+stray_fits size _ = true
 
 -- so for each of the events
 abbrev pub are_within : ℕ → List Event → Bool
-are_within size events = list_all (λ event. is_within size event.what) events
+are_within size events = list_all (λ event. stray_fits size event.what) events

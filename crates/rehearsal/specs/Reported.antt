@@ -3,15 +3,15 @@ use Rattle.std.specs.Prelude.{◌≡◌, ℕ, List}
 use Rattle.rehearsal.specs.declared.event.Event.{Event}
 use Rattle.rehearsal.specs.declared.reply.Reply.{Reply}
 use Rattle.rehearsal.specs.World.{World}
-use Rattle.rehearsal.specs.Replies.{AreReplies, done, last_slots}
+use Rattle.rehearsal.specs.Replies.{AreReplies, events_done, last_slots}
 
 -- the replies to the events, and the slots of the receivers after them
-pub record Reported : Type 0 where
+pub record RehearsalReport : Type 0 where
   pub replies : List Reply
   pub last : List (List ℕ)
 
 -- this came of these events in this world: the reply to each of them, and the slots of each
 -- receiver after those that were not skipped
-pub record IsReportOf (w : World) (events : List Event) (report : Reported) : Type 0 where
+pub record IsReportOf (w : World) (events : List Event) (report : RehearsalReport) : Type 0 where
   pub replies : AreReplies w events report.replies
-  pub last : report.last ≡ last_slots w (done w events)
+  pub last : report.last ≡ last_slots w (events_done w events)

@@ -6,6 +6,6 @@ use Rattle.rehearsal.specs.declared.tick_offers.Kept.{Kept}
 use Rattle.rehearsal.specs.declared.tick_offers.Kept.TheVariants.{Few, Many}
 
 -- the offers that are kept so
-abbrev pub offers_of : Kept → List (ℕ × Offered)
-offers_of (Few offers) = offers
-offers_of (Many offers) = offers.value
+abbrev pub stored_offers : Kept → List (ℕ × Offered)
+stored_offers (Few offers) = offers
+stored_offers (Many offers) = offers.value

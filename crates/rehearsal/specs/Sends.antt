@@ -7,17 +7,17 @@ use Rattle.rehearsal.specs.Datagrams.{packet_bytes}
 use Rattle.rehearsal.specs.declared.row.Row.{Row}
 
 -- the packets, in the order in which they were sent; and whether there was no room for one
-pub record Kept : Type 0 where
+pub record SendStore : Type 0 where
   pub rows : List Row
   pub full : Bool
 
 -- a packet is a send that did not fail
-abbrev pub send_of : Row → Send
-send_of row = record { universe = row.universe; bytes = row.bytes.items; failed = false }
+abbrev pub row_send : Row → Send
+row_send row = record { universe = row.universe; bytes = row.bytes.items; failed = false }
 
 -- what the link was offered
-abbrev pub sends_of : Kept → List Send
-sends_of kept = map send_of kept.rows
+abbrev pub sends_of : SendStore → List Send
+sends_of kept = map row_send kept.rows
 
 -- the bytes that were sent to a universe, in order
 abbrev pub sent_to : ℕ → List Send → List (List ℕ)
@@ -25,7 +25,7 @@ sent_to universe sends =
     map (λ send. send.bytes) (filter (λ send. send.universe == universe) sends)
 
 -- the bytes of packets, the first of them packet k
-abbrev pub numbered : Identity → ℕ → ℕ → List Packet → List (List ℕ)
-numbered source universe k [] = []
-numbered source universe k (p ∷ ps) =
-    packet_bytes source universe k p ∷ numbered source universe (k + 1) ps
+abbrev pub packet_run : Identity → ℕ → ℕ → List Packet → List (List ℕ)
+packet_run source universe k [] = []
+packet_run source universe k (p ∷ ps) =
+    packet_bytes source universe k p ∷ packet_run source universe (k + 1) ps

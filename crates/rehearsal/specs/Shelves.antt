@@ -5,8 +5,8 @@ use Rattle.std.specs.Option.{option_map_or}
 use Rattle.rehearsal.specs.declared.shelf.Shelf.{Shelf}
 
 -- the packets of a universe that are kept
-abbrev pub kept_of : List Shelf → ℕ → List (List ℕ)
-kept_of shelves universe =
+abbrev pub shelf_packets : List Shelf → ℕ → List (List ℕ)
+shelf_packets shelves universe =
     option_map_or (λ shelf. shelf.packets)
     (find (λ shelf. shelf.universe == universe) shelves) []
 
@@ -18,7 +18,7 @@ gone_of shelves universe =
 -- of a universe no packet before packet `low` is kept
 abbrev pub KeepsFrom : List Shelf → ℕ → ℕ → Type 0
 KeepsFrom shelves universe low =
-    (kept_of shelves universe ≡ []) ⊎ (low ≤ gone_of shelves universe)
+    (shelf_packets shelves universe ≡ []) ⊎ (low ≤ gone_of shelves universe)
 
 -- these packets are all but the first ones, so many of which are gone
 pub record IsRest (gone : ℕ) (kept all : List (List ℕ)) : Type 0 where

@@ -8,7 +8,7 @@ use Rattle.rehearsal.specs.declared.reply.Reply.{Reply}
 use Rattle.rehearsal.specs.declared.reply.Reply.TheVariants.{Shown}
 use Rattle.rehearsal.specs.World.{World, universe_at}
 use Rattle.rehearsal.specs.Happened.{datagram}
-use Rattle.rehearsal.specs.Replies.{last_moment, done, taken_reply}
+use Rattle.rehearsal.specs.Replies.{last_event_moment, events_done, taken_reply}
 use Rattle.rehearsal.specs.Laws.{accepted_from}
 
 -- an event asks at moment t for the slots of receiver r, these are the reply, and `past` is what
@@ -18,15 +18,15 @@ pub record IsReplied (w : World) (events : List Event) (replies : List Reply) (r
   pub place : ℕ
   pub asked : slice_get events place ≡ Some (record { moment = t; what = Show r })
   pub answered : slice_get replies place ≡ Some (Shown slots)
-  pub before : past ≡ done w (take place events)
+  pub before : past ≡ events_done w (take place events)
 
 -- receiver r is left with these slots after all events, `past` is what was done of them, and t the
 -- moment of the last
 pub record IsLeft (w : World) (events : List Event) (last : List (List ℕ)) (r t : ℕ)
     (past : List Event) (slots : List ℕ) : Type 0 where
   pub left : slice_get last r ≡ Some slots
-  pub all : past ≡ done w events
-  pub at_last : t ≡ last_moment past
+  pub all : past ≡ events_done w events
+  pub at_last : t ≡ last_event_moment past
 
 -- a rehearsal with these replies and these last slots shows, of receiver r, these slots at moment
 -- t after the events `past`

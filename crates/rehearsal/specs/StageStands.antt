@@ -7,12 +7,12 @@ use Rattle.console.specs.Stands as console
 use Rattle.console.specs.Streams.{Production}
 use Rattle.rehearsal.specs.Happened.{packets_of}
 use Rattle.rehearsal.specs.declared.stage.Stage.{Stage}
-use Rattle.rehearsal.specs.Sends.{numbered}
-use Rattle.rehearsal.specs.Shelves.{IsRest, gone_of, kept_of}
+use Rattle.rehearsal.specs.Sends.{packet_run}
+use Rattle.rehearsal.specs.Shelves.{IsRest, gone_of, shelf_packets}
 
 -- the link tells: it had room for each packet
-abbrev pub Tells : {F : Type 0} → Stage F → Type 0
-Tells {F} stage = stage.link.full ≡ false
+abbrev pub LinkTells : {F : Type 0} → Stage F → Type 0
+LinkTells {F} stage = stage.link.full ≡ false
 
 -- the console stands for its history, the link is empty, and where it tells, what is kept of each
 -- universe is the rest of the packets of its stream, up to the last that an event delivers
@@ -20,6 +20,6 @@ pub record StageStands {F : Type 0} (fader_stands_for : F → List Start → Typ
     (p : Production) (history : List Act) : Type 0 where
   pub console_stands : console.StandsFor fader_stands_for p stage.console history
   pub link_empty : stage.link.rows ≡ []
-  pub packets_kept : Tells stage → (universe : ℕ)
-      → IsRest (gone_of stage.shelves.items universe) (kept_of stage.shelves.items universe)
-      (take (stage.last + 1) (numbered p.source universe 0 (packets_of p history universe)))
+  pub packets_kept : LinkTells stage → (universe : ℕ)
+      → IsRest (gone_of stage.shelves.items universe) (shelf_packets stage.shelves.items universe)
+      (take (stage.last + 1) (packet_run p.source universe 0 (packets_of p history universe)))

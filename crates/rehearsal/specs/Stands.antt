@@ -11,7 +11,7 @@ use Rattle.desk.specs.declared.answer.Refused.{Refused}
 use Rattle.desk.specs.declared.answer.Ticked.{Ticked}
 use Rattle.desk.specs.Played.{Act}
 use Rattle.sacn_source.specs.declared.offered.Offered.{Offered}
-use Rattle.sacn_receiver.specs.Kept.{Kept, StandsFor}
+use Rattle.sacn_receiver.specs.Kept.{ReceiverState, StandsFor}
 use Rattle.rehearsal.specs.declared.event.Event.{Event}
 use Rattle.rehearsal.specs.declared.event.What.{What}
 use Rattle.rehearsal.specs.declared.event.What.TheVariants.{Stray}
@@ -20,7 +20,7 @@ use Rattle.rehearsal.specs.declared.reply.Reply.{Reply}
 use Rattle.rehearsal.specs.declared.reply.Reply.TheVariants as reply
 use Rattle.rehearsal.specs.World.{World, no_console, console_at, universe_at, plays, IsIdentity}
 use Rattle.rehearsal.specs.Happened.{acts, accepted_by}
-use Rattle.rehearsal.specs.Replies.{last_moment, done_one, done, reply_to}
+use Rattle.rehearsal.specs.Replies.{last_event_moment, done_one, events_done, reply_to}
 
 abbrev pub order_reply : Result (Unit {0}) Refused → Reply
 order_reply (Ok u) = reply.Done
@@ -31,18 +31,18 @@ tick_reply (Ok p) = reply.Ticked p.0 p.1
 tick_reply (Err refused) = reply.Refused refused
 
 -- each console stands for its history
-pub record AllStand {S : Type 0} (stands_for : S → Production → List Act → Type 0)
+pub record ConsolesStand {S : Type 0} (stands_for : S → Production → List Act → Type 0)
     (stages : List S) (w : World) (past : List Event) : Type 0 where
   pub each : length stages ≡ length w.consoles
   pub stand : (i : ℕ) (s : S) → slice_get stages i ≡ Some s
       → stands_for s (console_at w i) (acts w i past)
 
 -- each receiver stands for what it has accepted
-pub record AllHear (receivers : List Kept) (w : World) (past : List Event) : Type 0 where
+pub record AllHear (receivers : List ReceiverState) (w : World) (past : List Event) : Type 0 where
   pub each : length receivers ≡ length w.receivers
-  pub universes : (r : ℕ) (k : Kept) → slice_get receivers r ≡ Some k
+  pub universes : (r : ℕ) (k : ReceiverState) → slice_get receivers r ≡ Some k
       → k.universe ≡ universe_at w r
-  pub stand : (r : ℕ) (k : Kept) → slice_get receivers r ≡ Some k
+  pub stand : (r : ℕ) (k : ReceiverState) → slice_get receivers r ≡ Some k
       → StandsFor k (accepted_by w r past)
 
 -- each link tells
@@ -54,28 +54,31 @@ abbrev pub unless_skipped : Option Skip → Event → List Event → List Event
 unless_skipped o e past = if is_some o then past else e ∷ past
 
 -- no receiver is ahead of a moment
-abbrev pub AllBy : List Kept → ℕ → Type 0
-AllBy receivers moment = (r : ℕ) (k : Kept) → slice_get receivers r ≡ Some k → k.latest ≤ moment
+abbrev pub AllBy : List ReceiverState → ℕ → Type 0
+AllBy receivers moment =
+    (r : ℕ) (k : ReceiverState) → slice_get receivers r ≡ Some k → k.latest ≤ moment
 
 -- the bytes of a stray lie within all strays
-abbrev pub IsWithin : ℕ → What → Type 0
-IsWithin size (Stray receiver from to) = (from ≤ to) × (to ≤ size)
-IsWithin size _ = Unit {0}
+abbrev pub StrayFits : ℕ → What → Type 0
+StrayFits size (Stray receiver from to) = (from ≤ to) × (to ≤ size)
+StrayFits size _ = Unit {0}
 
 -- all that is kept stands for the events so far
 pub record AllAre {S : Type 0} (stands_for : S → Production → List Act → Type 0)
-    (tells : S → Type 0) (stages : List S) (receivers : List Kept) (w : World) (past : List Event)
+    (tells : S → Type 0) (stages : List S) (receivers : List ReceiverState) (w : World)
+    (past : List Event)
     : Type 0 where
-  pub stand : AllStand stands_for stages w past
+  pub stand : ConsolesStand stands_for stages w past
   pub tell : AllTell tells stages
   pub hear : AllHear receivers w past
 
 -- one event was carried out
 pub record IsStep {S : Type 0} (stands_for : S → Production → List Act → Type 0)
-    (tells : S → Type 0) (stages : List S) (receivers : List Kept) (last : ℕ) (reply : Reply)
+    (tells : S → Type 0) (stages : List S) (receivers : List ReceiverState) (last : ℕ)
+    (reply : Reply)
     (w : World) (past : List Event) (e : Event) : Type 0 where
   pub replied : reply ≡ reply_to w past e
-  pub last_is : last ≡ last_moment (done_one w past e)
+  pub last_is : last ≡ last_event_moment (done_one w past e)
   pub are : AllAre stands_for tells stages receivers w (done_one w past e)
 
 -- a reply that says that the event was skipped
@@ -84,14 +87,14 @@ is_skip (reply.Skipped s) = true
 is_skip _ = false
 
 -- the first n events were carried out, and these are the replies to them
-pub record Replayed {S : Type 0} (stands_for : S → Production → List Act → Type 0)
-    (tells : S → Type 0) (stages : List S) (receivers : List Kept) (last : ℕ)
+pub record HasReplayed {S : Type 0} (stands_for : S → Production → List Act → Type 0)
+    (tells : S → Type 0) (stages : List S) (receivers : List ReceiverState) (last : ℕ)
     (replies : List Reply) (w : World) (events : List Event) (n : ℕ) : Type 0 where
   pub long : length replies ≡ n
-  pub last_is : last ≡ last_moment (done w (take n events))
-  pub are : AllAre stands_for tells stages receivers w (done w (take n events))
+  pub last_is : last ≡ last_event_moment (events_done w (take n events))
+  pub are : AllAre stands_for tells stages receivers w (events_done w (take n events))
   pub below : (j : ℕ) (e : Event) → j < n → slice_get events j ≡ Some e
-      → slice_get replies j ≡ Some (reply_to w (done w (take j events)) e)
+      → slice_get replies j ≡ Some (reply_to w (events_done w (take j events)) e)
 
 -- the console of a setup
 abbrev pub cast : List Tables → Setup → Production
@@ -102,12 +105,12 @@ cast shows setup = record {
 }
 
 -- whoever sends for a console that plays a universe is a source
-abbrev pub AreSources : List Tables → List Setup → Type 0
-AreSources shows setups = All (λ setup. (universe : ℕ)
+abbrev pub SendersAreSources : List Tables → List Setup → Type 0
+SendersAreSources shows setups = All (λ setup. (universe : ℕ)
     → IsTrue (plays (cast shows setup) universe) → IsIdentity setup.identity) setups
 
 -- the first n consoles are open
-pub record Opened {S : Type 0} (stands_for : S → Production → List Act → Type 0)
+pub record HasOpened {S : Type 0} (stands_for : S → Production → List Act → Type 0)
     (tells : S → Type 0) (stages : List S) (shows : List Tables) (setups : List Setup) (n : ℕ)
     : Type 0 where
   pub long : length stages ≡ n
@@ -115,9 +118,9 @@ pub record Opened {S : Type 0} (stands_for : S → Production → List Act → T
       → slice_get setups i ≡ Some d → stands_for s (cast shows d) [] × tells s
 
 -- the first n receivers are new
-pub record Listening (receivers : List Kept) (universes : List ℕ) (n : ℕ) : Type 0 where
+pub record AreListening (receivers : List ReceiverState) (universes : List ℕ) (n : ℕ) : Type 0 where
   pub long : length receivers ≡ n
-  pub each : (r : ℕ) (k : Kept) → slice_get receivers r ≡ Some k
+  pub each : (r : ℕ) (k : ReceiverState) → slice_get receivers r ≡ Some k
       → (k.universe ≡ slice_index universes r) × StandsFor k []
 
 -- the world of a rehearsal

@@ -4,7 +4,7 @@ use Rattle.std.specs.Prelude.{slice_index, slice_index_or}
 use Rattle.std.specs.List.{list_any}
 use Rattle.std.specs.FinMap as map
 use Rattle.patch.specs.Frame.{is_base}
-use Rattle.sacn_packet.specs.Name.{padded}
+use Rattle.sacn_packet.specs.Name.{padded_name}
 use Rattle.sacn_source.specs.Identity.{Identity}
 use Rattle.console.specs.Streams.{Production, universes_of}
 
@@ -36,7 +36,7 @@ universe_at w r = slice_index w.receivers r
 -- of 0 to 200 (E1.31-2018, CID, source name and priority)
 pub record IsIdentity (source : Identity) : Type 0 where
   pub cid_size : length source.cid ≡ 16
-  pub name_size : length (padded source.name) ≡ 64
+  pub name_size : length (padded_name source.name) ≡ 64
   pub priority_range : source.priority ≤ 200
 
 -- a console plays a universe: the show patches a dimmer of it

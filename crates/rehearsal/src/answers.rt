@@ -8,7 +8,7 @@ use desk::{Refused, Ticked};
 use sacn_receiver::{Ignored, Taken};
 use std::alloc::{AllocError, Global};
 
-pub(crate) fn ordered(answer: Result<(), Refused>) -> Reply
+pub(crate) fn order_reply(answer: Result<(), Refused>) -> Reply
     ensures { result ≡ order_reply answer }
 {
     match answer {
@@ -17,7 +17,7 @@ pub(crate) fn ordered(answer: Result<(), Refused>) -> Reply
     }
 }
 
-pub(crate) fn ticked(
+pub(crate) fn tick_reply(
     alloc: Global,
     answer: Result<(Ticked, Offers), Refused>,
 ) -> Result<Reply, AllocError>
@@ -32,7 +32,7 @@ pub(crate) fn ticked(
     }
 }
 
-pub(crate) fn taken(answer: Result<Taken, Ignored>) -> Reply
+pub(crate) fn datagram_reply(answer: Result<Taken, Ignored>) -> Reply
     ensures { result ≡ taken_reply answer }
 {
     match answer {

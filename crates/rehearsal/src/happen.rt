@@ -1,11 +1,11 @@
-ghost use Rattle.rehearsal.specs.StageStands.{StageStands, Tells};
+ghost use Rattle.rehearsal.specs.StageStands.{StageStands, LinkTells};
 ghost use Rattle.std.specs.Prelude.{◌≡◌, ℕ, List, length, IfOk, OnOk};
 ghost use Rattle.std.specs.Option.{option_map_or};
 ghost use Rattle.rehearsal.specs.declared.event.Event.{Event as EventData};
 ghost use Rattle.rehearsal.specs.declared.reply.Reply.TheVariants as reply;
 ghost use Rattle.rehearsal.specs.World.{World};
-ghost use Rattle.rehearsal.specs.Replies.{missing, replied};
-ghost use Rattle.rehearsal.specs.Stands.{AllStand, AllHear, AllTell, AllBy, IsWithin};
+ghost use Rattle.rehearsal.specs.Replies.{lack_skip, event_reply};
+ghost use Rattle.rehearsal.specs.Stands.{ConsolesStand, AllHear, AllTell, AllBy, StrayFits};
 ghost use Rattle.rehearsal.specs.Stands.{unless_skipped};
 ghost use Rattle.rehearsal.specs.Wanted.{Holds, span_at};
 
@@ -26,28 +26,28 @@ pub(crate) fn happen<F: Fader>(
     happening: Happening<'_>,
 ) -> Result<Reply, AllocError>
     requires real { (w : World) × (past : List EventData)
-        × AllStand (StageStands F.stands_for) stages.old w past }
+        × ConsolesStand (StageStands F.stands_for) stages.old w past }
     requires early { AllBy receivers.old happening.event.moment }
-    requires within { IsWithin (length happening.strays.now) happening.event.what }
+    requires within { StrayFits (length happening.strays.now) happening.event.what }
     requires holds { Holds stages.old happening.event.what }
-    ensures tell { OnOk result (AllTell Tells stages.old → AllTell Tells stages.new) }
+    ensures tell { OnOk result (AllTell LinkTells stages.old → AllTell LinkTells stages.new) }
     ensures spans { OnOk result ((i u : ℕ) → span_at stages.new i u ≡ span_at stages.old i u) }
     ensures reply { let h = happening.entry in
         IfOk result (λ r. (w : World) (past : List EventData)
-        → w.strays ≡ h.strays.now → AllStand (StageStands F.stands_for) stages.old w past
-        → AllTell Tells stages.old → AllHear receivers.old w past
-        → r ≡ option_map_or reply.Skipped (missing w past h.event.what)
-        (replied w past h.event.moment h.event.what)) }
+        → w.strays ≡ h.strays.now → ConsolesStand (StageStands F.stands_for) stages.old w past
+        → AllTell LinkTells stages.old → AllHear receivers.old w past
+        → r ≡ option_map_or reply.Skipped (lack_skip w past h.event.what)
+        (event_reply w past h.event.moment h.event.what)) }
     ensures stands { let event = happening.entry.event in
         OnOk result ((w : World) (past : List EventData)
-        → AllStand (StageStands F.stands_for) stages.old w past
-        → AllStand (StageStands F.stands_for) stages.new w
-        (unless_skipped (missing w past event.what) event past)) }
+        → ConsolesStand (StageStands F.stands_for) stages.old w past
+        → ConsolesStand (StageStands F.stands_for) stages.new w
+        (unless_skipped (lack_skip w past event.what) event past)) }
     ensures hear { let h = happening.entry in
         OnOk result ((w : World) (past : List EventData) → w.strays ≡ h.strays.now
-        → AllStand (StageStands F.stands_for) stages.old w past → AllTell Tells stages.old
+        → ConsolesStand (StageStands F.stands_for) stages.old w past → AllTell LinkTells stages.old
         → AllHear receivers.old w past
-        → AllHear receivers.new w (unless_skipped (missing w past h.event.what) h.event past)) }
+        → AllHear receivers.new w (unless_skipped (lack_skip w past h.event.what) h.event past)) }
 {
     let Happening { event, strays } = happening;
     let moment = event.moment;

@@ -45,13 +45,13 @@ pub(crate) fn last_wanted(events: &[Event]) -> u64
 {
     let mut last = 0u64;
     for i in 0..events.len() {
-        last = last.max(wanted(events[i].what));
+        last = last.max(packet_wanted(events[i].what));
     }
     last
 }
 
 // The number of the packet that an event delivers, 0 where it delivers none.
-fn wanted(what: What) -> u64
+fn packet_wanted(what: What) -> u64
     ensures up_to { IsUpTo result what }
     ensures least { (last : ℕ) → IsUpTo last what → result ≤ last }
 {

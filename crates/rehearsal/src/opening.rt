@@ -1,6 +1,6 @@
-ghost use Rattle.rehearsal.specs.StageStands.{StageStands, Tells};
+ghost use Rattle.rehearsal.specs.StageStands.{StageStands, LinkTells};
 ghost use Rattle.std.specs.Prelude.{◌≡◌, ◌<◌, [], length, IfOk, All};
-ghost use Rattle.rehearsal.specs.Stands.{Opened};
+ghost use Rattle.rehearsal.specs.Stands.{HasOpened};
 
 use crate::Setup;
 use crate::stage::Stage;
@@ -16,8 +16,9 @@ pub(crate) fn open_all<F: Fader>(
     last: u64,
 ) -> Result<Vec<Stage<F>>, AllocError>
     requires { All (λ s. s.show < length shows.now) setups.now }
-    ensures opened { IfOk result (λ stages. Opened
-        (StageStands F.stands_for) Tells stages.items shows.now setups.now (length setups.now)) }
+    ensures opened { IfOk result (λ stages. HasOpened
+        (StageStands F.stands_for) LinkTells stages.items shows.now setups.now
+        (length setups.now)) }
     ensures last { IfOk result (λ stages. All (λ stage. stage.last ≡ last) stages.items) }
 {
     let mut stages = Vec::new(alloc);
@@ -38,7 +39,7 @@ fn open<F: Fader>(
 ) -> Result<Stage<F>, AllocError>
     ensures stands { IfOk result (λ stage. (StageStands F.stands_for) stage
         (record { show = show.now; base = setup.base; source = setup.identity }) []
-        × Tells stage) }
+        × LinkTells stage) }
     ensures last { IfOk result (λ stage. stage.last ≡ last) }
 {
     match Stage::open(alloc, show, setup.base, setup.identity, last) {

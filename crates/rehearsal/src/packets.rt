@@ -1,5 +1,5 @@
 ghost use Rattle.std.specs.Prelude.{◌≡◌, ◌++◌, ◌∷◌, [], map, false, OnOk};
-ghost use Rattle.rehearsal.specs.Sends.{send_of, sends_of};
+ghost use Rattle.rehearsal.specs.Sends.{row_send, sends_of};
 
 use crate::row::Row;
 use arrayvec::ArrayVec;
@@ -23,9 +23,9 @@ pub struct Packets {
 }
 
 impl Model for Packets {
-    ghost use Rattle.rehearsal.specs.Sends.{Kept};
+    ghost use Rattle.rehearsal.specs.Sends.{SendStore};
 
-    ghost Value = { Kept };
+    ghost Value = { SendStore };
 
     ghost view = { λ a. record { rows = a.rows.items; full = a.full } };
 }
@@ -51,7 +51,7 @@ fn keep(
     universe: u16,
     packet: &[u8],
 ) -> Result<(), AllocError>
-    ensures { OnOk result (map send_of rows.new.items ≡ map send_of rows.old.items
+    ensures { OnOk result (map row_send rows.new.items ≡ map row_send rows.old.items
         ++ record { universe = universe; bytes = packet.now; failed = false } ∷ []) }
 {
     let mut bytes = match spare.pop() {

@@ -1,6 +1,6 @@
 ghost use Rattle.std.specs.Prelude.{◌<◌, ◌≤◌, length, IfOk, All};
 ghost use Rattle.rehearsal.specs.Reported.{IsReportOf};
-ghost use Rattle.rehearsal.specs.Stands.{AreSources, IsWithin, world_in};
+ghost use Rattle.rehearsal.specs.Stands.{SendersAreSources, StrayFits, world_in};
 
 use crate::listening::listen_all;
 use crate::lows::last_wanted;
@@ -18,12 +18,12 @@ pub(crate) fn perform<F: Fader>(
 ) -> Result<Report, AllocError>
     requires shows { All (λ s. s.show < length rehearsal.shows.now) rehearsal.consoles.now }
     requires universes { All (λ u. (1 ≤ u) × (u ≤ 63999)) rehearsal.receivers.now }
-    requires within { All (λ e. IsWithin (length rehearsal.strays.now) e.what)
+    requires within { All (λ e. StrayFits (length rehearsal.strays.now) e.what)
         rehearsal.events.now }
     ensures report { let r = rehearsal.entry in
         IfOk result (IsReportOf (world_in r) r.events.now) }
     ensures sources { let r = rehearsal.entry in
-        IfOk result (λ _. AreSources r.shows.now r.consoles.now) }
+        IfOk result (λ _. SendersAreSources r.shows.now r.consoles.now) }
 {
     let last = last_wanted(rehearsal.events);
     let mut listeners = listen_all(alloc, rehearsal.receivers)?;

@@ -1,8 +1,8 @@
 ghost use Rattle.std.specs.Prelude.{◌≡◌, ◌≤◌, length, IfOk, OnOk, IsTrue};
 ghost use Rattle.rehearsal.specs.Promised.{AnswersAlone, ShowsMeaning, ShowsMerge, ShowsOnePacket};
 ghost use Rattle.rehearsal.specs.Promised.{ShowsUnpatchedAsZero};
-ghost use Rattle.rehearsal.specs.Refusing.{Answers, are_within, setup_fault};
-ghost use Rattle.rehearsal.specs.Replies.{AreReplies, done, last_slots};
+ghost use Rattle.rehearsal.specs.Refusing.{AnswersSetup, are_within, setup_fault};
+ghost use Rattle.rehearsal.specs.Replies.{AreReplies, events_done, last_slots};
 ghost use Rattle.rehearsal.specs.Stands.{world_in};
 ghost use Rattle.rehearsal.specs.World.{IsWorld};
 
@@ -44,7 +44,7 @@ pub struct Rehearsal<'a> {
 pub fn rehearse<F: Fader>(alloc: Global, rehearsal: Rehearsal<'_>) -> Result<Report, Fault>
     requires within { IsTrue (are_within (length rehearsal.strays.now) rehearsal.events.now) }
     ensures faults { let r = rehearsal.entry in
-        Answers (setup_fault r.shows.now r.consoles.now r.receivers.now) result }
+        AnswersSetup (setup_fault r.shows.now r.consoles.now r.receivers.now) result }
 
     // Each console's universes have numbers, and whoever sends for one is a source of E1.31.
     ensures world { OnOk result (IsWorld (world_in rehearsal.entry)) }
@@ -53,7 +53,7 @@ pub fn rehearse<F: Fader>(alloc: Global, rehearsal: Rehearsal<'_>) -> Result<Rep
     ensures replies { let r = rehearsal.entry in
         IfOk result (λ report. AreReplies (world_in r) r.events.now report.replies) }
     ensures last { let r = rehearsal.entry in IfOk result (λ report.
-        report.last ≡ last_slots (world_in r) (done (world_in r) r.events.now)) }
+        report.last ≡ last_slots (world_in r) (events_done (world_in r) r.events.now)) }
 
     // The promise.
     ensures headline { let r = rehearsal.entry in

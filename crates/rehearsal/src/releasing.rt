@@ -2,8 +2,8 @@ ghost use Rattle.std.specs.Prelude.{List};
 ghost use Rattle.rehearsal.specs.declared.event.Event.{Event as EventData};
 ghost use Rattle.rehearsal.specs.declared.event.What.{What as WhatData};
 ghost use Rattle.rehearsal.specs.World.{World};
-ghost use Rattle.rehearsal.specs.StageStands.{StageStands, Tells};
-ghost use Rattle.rehearsal.specs.Stands.{AllStand, AllTell};
+ghost use Rattle.rehearsal.specs.StageStands.{StageStands, LinkTells};
+ghost use Rattle.rehearsal.specs.Stands.{ConsolesStand, AllTell};
 ghost use Rattle.rehearsal.specs.Wanted.{Holds, IsReleased, Spares};
 
 use crate::What;
@@ -12,10 +12,10 @@ use fade::Fader;
 
 // After a delivery, lets the packets of its universe go that are before packet `low`.
 pub(crate) fn release<F: Fader>(stages: &mut [Stage<F>], what: What, low: u64)
-    ensures tell { AllTell Tells stages.old → AllTell Tells stages.new }
+    ensures tell { AllTell LinkTells stages.old → AllTell LinkTells stages.new }
     ensures stand { (w : World) (past : List EventData)
-        → AllStand (StageStands F.stands_for) stages.old w past
-        → AllStand (StageStands F.stands_for) stages.new w past }
+        → ConsolesStand (StageStands F.stands_for) stages.old w past
+        → ConsolesStand (StageStands F.stands_for) stages.new w past }
     ensures holds { (later : WhatData) → Holds stages.old later → Spares what low later
         → Holds stages.new later }
     ensures left { IsReleased stages.new what low }

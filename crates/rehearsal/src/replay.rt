@@ -1,8 +1,8 @@
 ghost use Rattle.std.specs.Prelude.{◌≡◌, [], length, IfOk, All};
 ghost use Rattle.rehearsal.specs.World.{World};
 ghost use Rattle.rehearsal.specs.Reported.{IsReportOf};
-ghost use Rattle.rehearsal.specs.StageStands.{StageStands, Tells};
-ghost use Rattle.rehearsal.specs.Stands.{AllAre, IsWithin};
+ghost use Rattle.rehearsal.specs.StageStands.{StageStands, LinkTells};
+ghost use Rattle.rehearsal.specs.Stands.{AllAre, StrayFits};
 ghost use Rattle.rehearsal.specs.Wanted.{AreUpTo};
 
 use crate::happening::Happening;
@@ -24,12 +24,12 @@ pub(crate) fn run<F: Fader>(
     strays: &[u8],
     events: &[Event],
 ) -> Result<Report, AllocError>
-    requires within { All (λ e. IsWithin (length strays.now) e.what) events.now }
+    requires within { All (λ e. StrayFits (length strays.now) e.what) events.now }
     requires wanted { All (λ stage. AreUpTo events.now stage.last) stages.old }
     requires begun { (w : World) × (w.strays ≡ strays.now)
-        × AllAre (StageStands F.stands_for) Tells stages.old receivers.old w [] }
+        × AllAre (StageStands F.stands_for) LinkTells stages.old receivers.old w [] }
     ensures { IfOk result (λ report. (w : World) → w.strays ≡ strays.now
-        → AllAre (StageStands F.stands_for) Tells stages.old receivers.old w []
+        → AllAre (StageStands F.stands_for) LinkTells stages.old receivers.old w []
         → IsReportOf w events.now report) }
 {
     let lows = lows(alloc, events)?;

@@ -13,9 +13,9 @@ pub struct Report {
 }
 
 impl Model for Report {
-    ghost use Rattle.rehearsal.specs.Reported.{Reported};
+    ghost use Rattle.rehearsal.specs.Reported.{RehearsalReport};
 
-    ghost Value = { Reported };
+    ghost Value = { RehearsalReport };
 
     ghost view = { λ a. record { replies = a.replies.items; last = a.last.items } };
 }

@@ -2,8 +2,8 @@ ghost use Rattle.std.specs.Prelude.{◌≡◌, ◌⊎◌, ◌==◌, ◌++◌, �
 ghost use Rattle.std.specs.Prelude.{if◌then◌else◌, find, map, slice_get, take, OnOk};
 ghost use Rattle.std.specs.List.{position};
 ghost use Rattle.std.specs.Option.{option_map};
-ghost use Rattle.rehearsal.specs.Sends.{send_of, sent_to};
-ghost use Rattle.rehearsal.specs.Shelves.{IsRest, KeepsFrom, gone_of, kept_of};
+ghost use Rattle.rehearsal.specs.Sends.{row_send, sent_to};
+ghost use Rattle.rehearsal.specs.Shelves.{IsRest, KeepsFrom, gone_of, shelf_packets};
 
 use crate::packets::Spare;
 use crate::queue::Queue;
@@ -20,9 +20,10 @@ pub(crate) fn keep_all(
     spare: &mut Spare,
 ) -> Result<(), AllocError>
     ensures rest { OnOk result ((u : ℕ) (all : List (List ℕ))
-        → IsRest (gone_of shelves.old.items u) (kept_of shelves.old.items u) (take (last + 1) all)
-        → IsRest (gone_of shelves.new.items u) (kept_of shelves.new.items u)
-        (take (last + 1) (all ++ sent_to u (map send_of rows.old.items)))) }
+        → IsRest (gone_of shelves.old.items u) (shelf_packets shelves.old.items u)
+        (take (last + 1) all)
+        → IsRest (gone_of shelves.new.items u) (shelf_packets shelves.new.items u)
+        (take (last + 1) (all ++ sent_to u (map row_send rows.old.items)))) }
     ensures gone { OnOk result ((u : ℕ) → gone_of shelves.new.items u
         ≡ gone_of shelves.old.items u) }
     ensures empty { rows.new.items ≡ [] }
@@ -42,8 +43,9 @@ fn keep(
     spare: &mut Spare,
 ) -> Result<(), AllocError>
     ensures rest { OnOk result ((u : ℕ) (all : List (List ℕ))
-        → IsRest (gone_of shelves.old.items u) (kept_of shelves.old.items u) (take (last + 1) all)
-        → IsRest (gone_of shelves.new.items u) (kept_of shelves.new.items u)
+        → IsRest (gone_of shelves.old.items u) (shelf_packets shelves.old.items u)
+        (take (last + 1) all)
+        → IsRest (gone_of shelves.new.items u) (shelf_packets shelves.new.items u)
         (take (last + 1) (if row.universe == u then all ++ row.bytes.items ∷ [] else all))) }
     ensures gone { OnOk result ((u : ℕ) → gone_of shelves.new.items u
         ≡ gone_of shelves.old.items u) }
@@ -67,7 +69,7 @@ fn keep(
 pub(crate) fn packet(shelves: &[Shelf], universe: u16, k: u64) -> Option<&[u8]>
     requires { gone_of shelves.now universe ≤ k }
     ensures { option_map (λ bytes. bytes.now) result
-        ≡ slice_get (kept_of shelves.now universe) (k - gone_of shelves.now universe) }
+        ≡ slice_get (shelf_packets shelves.now universe) (k - gone_of shelves.now universe) }
 {
     let shelf = shelf_at(shelves, universe)?;
     shelf.packets.get((k - shelf.gone) as usize)
@@ -76,8 +78,8 @@ pub(crate) fn packet(shelves: &[Shelf], universe: u16, k: u64) -> Option<&[u8]>
 // Lets the packets of a universe go that are before packet `low`.
 pub(crate) fn release(shelves: &mut [Shelf], universe: u16, low: u64, spare: &mut Spare)
     ensures rest { (u : ℕ) (all : List (List ℕ))
-        → IsRest (gone_of shelves.old u) (kept_of shelves.old u) all
-        → IsRest (gone_of shelves.new u) (kept_of shelves.new u) all }
+        → IsRest (gone_of shelves.old u) (shelf_packets shelves.old u) all
+        → IsRest (gone_of shelves.new u) (shelf_packets shelves.new u) all }
     ensures gone { (u k : ℕ) → gone_of shelves.old u ≤ k → (universe ≡ u → low ≤ k)
         → gone_of shelves.new u ≤ k }
     ensures left { KeepsFrom shelves.new universe low }

@@ -1,7 +1,7 @@
 ghost use Rattle.std.specs.Prelude.{◌≡◌, List, IfOk};
 ghost use Rattle.rehearsal.specs.declared.event.Event.{Event as EventData};
 ghost use Rattle.rehearsal.specs.World.{World};
-ghost use Rattle.rehearsal.specs.Replies.{last_moment, last_slots};
+ghost use Rattle.rehearsal.specs.Replies.{last_event_moment, last_slots};
 ghost use Rattle.rehearsal.specs.Stands.{AllBy, AllHear};
 
 use sacn_receiver::Receiver;
@@ -16,7 +16,7 @@ pub(crate) fn show_all(
 ) -> Result<Vec<Frame>, AllocError>
     requires { AllBy receivers.now moment }
     ensures { IfOk result (λ shown. (w : World) (past : List EventData)
-        → AllHear receivers.now w past → moment ≡ last_moment past
+        → AllHear receivers.now w past → moment ≡ last_event_moment past
         → shown.items ≡ last_slots w past) }
 {
     let mut shown = Vec::new(alloc);

@@ -3,12 +3,12 @@ ghost use Rattle.std.specs.Prelude.{IsFalse, ◌+◌, ◌≤◌, ◌++◌, false
 ghost use Rattle.std.specs.Option.{option_map};
 ghost use Rattle.patch.specs.Frame.{is_base};
 ghost use Rattle.patch.specs.declared.fault.RigFault.TheVariants.{Universe};
-ghost use Rattle.desk.specs.Played.{Act, ended, outcome, refusal, ticked};
+ghost use Rattle.desk.specs.Played.{Act, ticks_since_end, outcome, refusal, tick_answer};
 ghost use Rattle.console.specs.Streams.{Production, dues_at, order_at, tick_at};
 ghost use Rattle.rehearsal.specs.Happened.{bytes_of};
 ghost use Rattle.rehearsal.specs.Replies.{due_answer};
 ghost use Rattle.rehearsal.specs.Sends.{sends_of, sent_to};
-ghost use Rattle.rehearsal.specs.Shelves.{IsRest, KeepsFrom, gone_of, kept_of};
+ghost use Rattle.rehearsal.specs.Shelves.{IsRest, KeepsFrom, gone_of, shelf_packets};
 
 use crate::Offers;
 use crate::packets::Packets;
@@ -38,8 +38,9 @@ pub struct Stage<F: Fader> {
 fn shelve(alloc: Global, shelves: &mut Vec<Shelf>, last: u64, link: &mut Packets)
     ensures tells { link.new.full ≡ false → link.old.full ≡ false }
     ensures rest { link.new.full ≡ false → (u : ℕ) (all : List (List ℕ))
-        → IsRest (gone_of shelves.old.items u) (kept_of shelves.old.items u) (take (last + 1) all)
-        → IsRest (gone_of shelves.new.items u) (kept_of shelves.new.items u)
+        → IsRest (gone_of shelves.old.items u) (shelf_packets shelves.old.items u)
+        (take (last + 1) all)
+        → IsRest (gone_of shelves.new.items u) (shelf_packets shelves.new.items u)
         (take (last + 1) (all ++ sent_to u (sends_of link.old))) }
     ensures gone { link.new.full ≡ false → (u : ℕ)
         → gone_of shelves.new.items u ≡ gone_of shelves.old.items u }
@@ -51,7 +52,7 @@ fn shelve(alloc: Global, shelves: &mut Vec<Shelf>, last: u64, link: &mut Packets
 }
 
 impl<F: Fader> Stage<F> {
-    ghost use Rattle.rehearsal.specs.StageStands.{StageStands, Tells};
+    ghost use Rattle.rehearsal.specs.StageStands.{StageStands, LinkTells};
 
     // A console that has sent nothing yet, of whose universes no event delivers a packet behind
     // packet `last`.
@@ -64,7 +65,7 @@ impl<F: Fader> Stage<F> {
     ) -> Result<Self, RigFault>
         ensures stands { IfOk result (λ stage. StageStands F.stands_for stage
             (record { show = show.now; base = base; source = source }) []) }
-        ensures tells { IfOk result (λ stage. Tells stage) }
+        ensures tells { IfOk result (λ stage. LinkTells stage) }
         ensures last { IfOk result (λ stage. stage.last ≡ last) }
         ensures universe { (result ≡ Err Universe) ↔ IsFalse (is_base show.now.patch base) }
     {
@@ -79,7 +80,7 @@ impl<F: Fader> Stage<F> {
 
     // Carries out a command.
     pub fn order(&mut self, moment: u64, command: Command) -> Result<(), Refused>
-        ensures still_tells { Tells self.old → Tells self.new }
+        ensures still_tells { LinkTells self.old → LinkTells self.new }
         ensures answer { (p : Production) (history : List Act)
             → StageStands F.stands_for self.old p history
             → result ≡ outcome (refusal p.show history (order_at moment command)) tt }
@@ -99,16 +100,16 @@ impl<F: Fader> Stage<F> {
         requires real { (p : Production) × (history : List Act)
             × StageStands F.stands_for self.old p history }
         ensures answer { (p : Production) (history : List Act)
-            → StageStands F.stands_for self.old p history → Tells self.new
+            → StageStands F.stands_for self.old p history → LinkTells self.new
             → result ≡ outcome (refusal p.show history (tick_at moment))
-            (ticked (ended history), map due_answer (dues_at p history moment)) }
+            (tick_answer (ticks_since_end history), map due_answer (dues_at p history moment)) }
         ensures stands { OnOk result ((p : Production) (history : List Act)
             → StageStands F.stands_for self.old p history
             → StageStands F.stands_for self.new p (tick_at moment ∷ history)) }
         ensures kept { OnErr result ((p : Production) (history : List Act)
             → StageStands F.stands_for self.old p history
             → StageStands F.stands_for self.new p history) }
-        ensures gone { Tells self.new → (u : ℕ)
+        ensures gone { LinkTells self.new → (u : ℕ)
             → gone_of self.new.shelves.items u ≡ gone_of self.old.shelves.items u }
         ensures last { self.new.last ≡ self.old.last }
     {
@@ -129,7 +130,7 @@ impl<F: Fader> Stage<F> {
         requires here { gone_of self.now.shelves.items universe ≤ k }
         requires wanted { k ≤ self.now.last }
         ensures { (p : Production) (history : List Act)
-            → StageStands F.stands_for self.now p history → Tells self.now
+            → StageStands F.stands_for self.now p history → LinkTells self.now
             → option_map (λ bytes. bytes.now) result ≡ bytes_of p history universe k }
     {
         packet(self.shelves.as_slice(), universe, k)
@@ -137,7 +138,7 @@ impl<F: Fader> Stage<F> {
 
     // Lets the packets of a universe go that are before packet `low`.
     pub fn release(&mut self, universe: u16, low: u64)
-        ensures tells { Tells self.old → Tells self.new }
+        ensures tells { LinkTells self.old → LinkTells self.new }
         ensures stands { (p : Production) (history : List Act)
             → StageStands F.stands_for self.old p history
             → StageStands F.stands_for self.new p history }

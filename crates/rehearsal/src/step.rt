@@ -1,9 +1,9 @@
-ghost use Rattle.rehearsal.specs.StageStands.{StageStands, Tells};
+ghost use Rattle.rehearsal.specs.StageStands.{StageStands, LinkTells};
 ghost use Rattle.std.specs.Prelude.{◌≡◌, ℕ, List, length, IfOk, OnOk, if◌then◌else◌};
 ghost use Rattle.rehearsal.specs.declared.event.Event.{Event as EventData};
 ghost use Rattle.rehearsal.specs.World.{World};
-ghost use Rattle.rehearsal.specs.Replies.{last_moment};
-ghost use Rattle.rehearsal.specs.Stands.{AllAre, AllStand, AllBy, IsStep, IsWithin, is_skip};
+ghost use Rattle.rehearsal.specs.Replies.{last_event_moment};
+ghost use Rattle.rehearsal.specs.Stands.{AllAre, ConsolesStand, AllBy, IsStep, StrayFits, is_skip};
 ghost use Rattle.rehearsal.specs.Wanted.{Holds, span_at};
 
 use crate::happen::happen;
@@ -33,16 +33,16 @@ pub(crate) fn step<F: Fader>(
     happening: Happening<'_>,
 ) -> Result<Reply, AllocError>
     requires real { (w : World) × (past : List EventData)
-        × AllStand (StageStands F.stands_for) stages.old w past }
+        × ConsolesStand (StageStands F.stands_for) stages.old w past }
     requires early { AllBy receivers.old last.old }
-    requires within { IsWithin (length happening.strays.now) happening.event.what }
+    requires within { StrayFits (length happening.strays.now) happening.event.what }
     requires holds { Holds stages.old happening.event.what }
     ensures spans { OnOk result ((i u : ℕ) → span_at stages.new i u ≡ span_at stages.old i u) }
     ensures step { let h = happening.entry in
         IfOk result (λ r. (w : World) (past : List EventData) → w.strays ≡ h.strays.now
-        → last.old ≡ last_moment past
-        → AllAre (StageStands F.stands_for) Tells stages.old receivers.old w past
-        → IsStep (StageStands F.stands_for) Tells stages.new receivers.new last.new r
+        → last.old ≡ last_event_moment past
+        → AllAre (StageStands F.stands_for) LinkTells stages.old receivers.old w past
+        → IsStep (StageStands F.stands_for) LinkTells stages.new receivers.new last.new r
         w past h.event) }
 {
     let event = happening.event;

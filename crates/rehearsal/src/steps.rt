@@ -1,4 +1,4 @@
-ghost use Rattle.rehearsal.specs.StageStands.{StageStands, Tells};
+ghost use Rattle.rehearsal.specs.StageStands.{StageStands, LinkTells};
 ghost use Rattle.std.specs.Prelude.{◌≡◌, ◌==◌, ℕ, List, IfOk, OnOk};
 ghost use Rattle.std.specs.Prelude.{if◌then◌else◌, Some, None};
 ghost use Rattle.std.specs.Option.{option_map_or};
@@ -6,12 +6,12 @@ ghost use Rattle.rehearsal.specs.declared.event.Event.{Event as EventData};
 ghost use Rattle.rehearsal.specs.declared.event.What.TheVariants.{Order, Tick, Show};
 ghost use Rattle.rehearsal.specs.declared.reply.Reply.TheVariants as reply;
 ghost use Rattle.rehearsal.specs.World.{World};
-ghost use Rattle.rehearsal.specs.Happened.{handed};
-ghost use Rattle.rehearsal.specs.Replies.{missing, no_receiver_at, replied, taken_by};
-ghost use Rattle.rehearsal.specs.Stands.{AllStand, AllHear, AllTell, AllBy, unless_skipped};
+ghost use Rattle.rehearsal.specs.Happened.{datagram_to};
+ghost use Rattle.rehearsal.specs.Replies.{lack_skip, no_receiver_at, event_reply, datagram_reply};
+ghost use Rattle.rehearsal.specs.Stands.{ConsolesStand, AllHear, AllTell, AllBy, unless_skipped};
 ghost use Rattle.rehearsal.specs.Wanted.{Holds, hands_over, span_at};
 
-use crate::answers::{ordered, taken, ticked};
+use crate::answers::{datagram_reply, order_reply, tick_reply};
 use crate::handover::Handover;
 use crate::shown_slots::ShownSlots;
 use crate::stage::Stage;
@@ -27,22 +27,22 @@ pub(crate) fn order_at<F: Fader>(
     moment: u64,
     command: Command,
 ) -> Reply
-    ensures tell { AllTell Tells stages.old → AllTell Tells stages.new }
+    ensures tell { AllTell LinkTells stages.old → AllTell LinkTells stages.new }
     ensures spans { (i u : ℕ) → span_at stages.new i u ≡ span_at stages.old i u }
-    ensures reply { (w : World) (past : List EventData) → AllStand
+    ensures reply { (w : World) (past : List EventData) → ConsolesStand
         (StageStands F.stands_for) stages.old w past
-        → result ≡ option_map_or reply.Skipped (missing w past (Order console command))
-        (replied w past moment (Order console command)) }
-    ensures stands { (w : World) (past : List EventData) → AllStand
+        → result ≡ option_map_or reply.Skipped (lack_skip w past (Order console command))
+        (event_reply w past moment (Order console command)) }
+    ensures stands { (w : World) (past : List EventData) → ConsolesStand
         (StageStands F.stands_for) stages.old w past
-        → AllStand (StageStands F.stands_for) stages.new w (unless_skipped (missing w past
+        → ConsolesStand (StageStands F.stands_for) stages.new w (unless_skipped (lack_skip w past
         (Order console command)) (record { moment = moment; what = Order console command }) past) }
 {
     let i = usize::from(console);
     if i >= stages.len() {
         return Reply::Skipped(Skip::NoConsole);
     }
-    ordered(stages[i].order(moment, command))
+    order_reply(stages[i].order(moment, command))
 }
 
 pub(crate) fn tick_at<F: Fader>(
@@ -52,16 +52,16 @@ pub(crate) fn tick_at<F: Fader>(
     moment: u64,
 ) -> Result<Reply, AllocError>
     requires real { (w : World) × (past : List EventData)
-        × AllStand (StageStands F.stands_for) stages.old w past }
-    ensures tell { OnOk result (AllTell Tells stages.old → AllTell Tells stages.new) }
+        × ConsolesStand (StageStands F.stands_for) stages.old w past }
+    ensures tell { OnOk result (AllTell LinkTells stages.old → AllTell LinkTells stages.new) }
     ensures spans { OnOk result ((i u : ℕ) → span_at stages.new i u ≡ span_at stages.old i u) }
     ensures reply { IfOk result (λ r. (w : World) (past : List EventData)
-        → AllStand (StageStands F.stands_for) stages.old w past
-        → r ≡ option_map_or reply.Skipped (missing w past (Tick console))
-        (replied w past moment (Tick console))) }
+        → ConsolesStand (StageStands F.stands_for) stages.old w past
+        → r ≡ option_map_or reply.Skipped (lack_skip w past (Tick console))
+        (event_reply w past moment (Tick console))) }
     ensures stands { OnOk result ((w : World) (past : List EventData)
-        → AllStand (StageStands F.stands_for) stages.old w past
-        → AllStand (StageStands F.stands_for) stages.new w (unless_skipped (missing w past
+        → ConsolesStand (StageStands F.stands_for) stages.old w past
+        → ConsolesStand (StageStands F.stands_for) stages.new w (unless_skipped (lack_skip w past
         (Tick console)) (record { moment = moment; what = Tick console }) past)) }
 {
     let i = usize::from(console);
@@ -73,7 +73,7 @@ pub(crate) fn tick_at<F: Fader>(
     if stage.is_full() {
         return Err(AllocError);
     }
-    ticked(alloc, answer)
+    tick_reply(alloc, answer)
 }
 
 // A datagram reaches a receiver.
@@ -85,17 +85,18 @@ pub(crate) fn hear_at(
 ) -> Reply
     ensures reply { (w : World) (past : List EventData) → AllHear receivers.old w past
         → result ≡ option_map_or reply.Skipped (no_receiver_at w receiver)
-        (taken_by w receiver past moment datagram.now) }
+        (datagram_reply w receiver past moment datagram.now) }
     ensures hear { (w : World) (past : List EventData) (e : EventData)
         → AllHear receivers.old w past → e.moment ≡ moment
-        → ((r : ℕ) → handed w r past e.what ≡ (if receiver == r then Some datagram.now else None))
+        → ((r : ℕ) → datagram_to w r past e.what
+        ≡ (if receiver == r then Some datagram.now else None))
         → AllHear receivers.new w (unless_skipped (no_receiver_at w receiver) e past) }
 {
     let r = usize::from(receiver);
     if r >= receivers.len() {
         return Reply::Skipped(Skip::NoReceiver);
     }
-    taken(receivers[r].take(moment, datagram))
+    datagram_reply(receivers[r].take(moment, datagram))
 }
 
 // The slots of a receiver. It is called, so that no other event waits for its frame to be cleared.
@@ -108,8 +109,8 @@ pub(crate) fn show_at(
 ) -> Result<Reply, AllocError>
     requires { AllBy receivers.now moment }
     ensures { IfOk result (λ r. (w : World) (past : List EventData) → AllHear receivers.now w past
-        → r ≡ option_map_or reply.Skipped (missing w past (Show receiver))
-        (replied w past moment (Show receiver))) }
+        → r ≡ option_map_or reply.Skipped (lack_skip w past (Show receiver))
+        (event_reply w past moment (Show receiver))) }
 {
     let r = usize::from(receiver);
     if r >= receivers.len() {
@@ -129,15 +130,15 @@ pub(crate) fn deliver_at<F: Fader>(
     handover: Handover,
 ) -> Reply
     requires { Holds stages.now (hands_over handover) }
-    ensures reply { (w : World) (past : List EventData) → AllStand
-        (StageStands F.stands_for) stages.now w past → AllTell Tells stages.now
+    ensures reply { (w : World) (past : List EventData) → ConsolesStand
+        (StageStands F.stands_for) stages.now w past → AllTell LinkTells stages.now
         → AllHear receivers.old w past
-        → result ≡ option_map_or reply.Skipped (missing w past (hands_over handover))
-        (replied w past moment (hands_over handover)) }
-    ensures hear { (w : World) (past : List EventData) → AllStand
-        (StageStands F.stands_for) stages.now w past → AllTell Tells stages.now
+        → result ≡ option_map_or reply.Skipped (lack_skip w past (hands_over handover))
+        (event_reply w past moment (hands_over handover)) }
+    ensures hear { (w : World) (past : List EventData) → ConsolesStand
+        (StageStands F.stands_for) stages.now w past → AllTell LinkTells stages.now
         → AllHear receivers.old w past
-        → AllHear receivers.new w (unless_skipped (missing w past (hands_over handover))
+        → AllHear receivers.new w (unless_skipped (lack_skip w past (hands_over handover))
         (record { moment = moment; what = hands_over handover }) past) }
 {
     let i = usize::from(handover.console);

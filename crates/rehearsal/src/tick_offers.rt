@@ -21,11 +21,11 @@ enum Kept {
 impl Model for TickOffers {
     ghost use Rattle.std.specs.Prelude.{ℕ, List};
     ghost use Rattle.sacn_source.specs.declared.offered.Offered.{Offered};
-    ghost use Rattle.rehearsal.specs.Room.{offers_of};
+    ghost use Rattle.rehearsal.specs.Room.{stored_offers};
 
     ghost Value = { List (ℕ × Offered) };
 
-    ghost view = { λ offers. offers_of offers.kept };
+    ghost view = { λ offers. stored_offers offers.kept };
 }
 
 impl TickOffers {

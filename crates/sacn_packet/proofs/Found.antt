@@ -5,7 +5,7 @@ use Rattle.std.proofs.lemmas.List.{take_all, take_at, length-take, length-take-l
 use Rattle.std.proofs.lemmas.List.{get_or-take}
 use Rattle.byteorder.specs.Endian.{big_bytes, big_number}
 use Rattle.byteorder.specs.Numbers.{big_from-lt}
-use Rattle.sacn_packet.specs.Wire.{bytes_at, Fields, IsData, Packet, HasPacket}
+use Rattle.sacn_packet.specs.Wire.{bytes_at, Fields, IsData, WirePacket, HasPacket}
 use Rattle.sacn_packet.specs.Reading.{number_at, length_at, packet_in, front_packet}
 use Rattle.sacn_packet.proofs.Parts.{AreBytes, part, prefix, trimmed, join_rows, take_bytes}
 use Rattle.sacn_packet.proofs.Parts.{one_byte, two_at, byte_is, part_bytes, number_is}
@@ -113,7 +113,7 @@ readable_from_packet d n fields slots h =
     }
 
 -- the bytes of a packet say what it carries
-pub packet_same : (p : List ℕ) (packet : Packet) → IsData p packet.fields packet.slots
+pub packet_same : (p : List ℕ) (packet : WirePacket) → IsData p packet.fields packet.slots
     → packet_in p ≡ packet
 packet_same p packet h = λ i. record {
   fields = record {
@@ -130,7 +130,7 @@ packet_same p packet h = λ i. record {
 }
 
 -- a prefix that is a packet ends where its root length says
-pub packet_end : (d : List ℕ) (n : ℕ) (packet : Packet)
+pub packet_end : (d : List ℕ) (n : ℕ) (packet : WirePacket)
     → IsData (take n d) packet.fields packet.slots → take n d ≡ take (16 + length_at d 16) d
 packet_end d n packet h =
     let root = number_is d 16 (0x7000 + (110 + length packet.slots)) (omega arith)
@@ -138,16 +138,16 @@ packet_end d n packet h =
     trimmed d n (16 + length_at d 16) (omega arith)
 
 -- and a packet at the front
-pub packet_ends : (d : List ℕ) (packet : Packet) → HasPacket d packet → front_packet d ≡ packet
+pub packet_ends : (d : List ℕ) (packet : WirePacket) → HasPacket d packet → front_packet d ≡ packet
 packet_ends d packet h =
     ap packet_in (sym (packet_end d h.0 packet h.1)) ∙ packet_same (take h.0 d) packet h.1
 
 -- a datagram holds one packet
-pub same_packets : (d : List ℕ) (one other : Packet) → HasPacket d one → HasPacket d other
+pub same_packets : (d : List ℕ) (one other : WirePacket) → HasPacket d one → HasPacket d other
     → one ≡ other
 same_packets d one other h k = sym (packet_ends d one h) ∙ packet_ends d other k
 
 -- bytes behind a packet leave it as it is
-pub packet_front : (p behind : List ℕ) (packet : Packet) → IsData p packet.fields packet.slots
+pub packet_front : (p behind : List ℕ) (packet : WirePacket) → IsData p packet.fields packet.slots
     → HasPacket (p ++ behind) packet
 packet_front p behind packet h = (length p, rw (take_at p behind (length p) refl) h)

@@ -8,10 +8,10 @@ use Rattle.std.specs.List.{position, position_or_len}
 use Rattle.std.specs.Prelude.{Some, None}
 use Rattle.std.proofs.lemmas.Bool.Decides.{nat_tests}
 use Rattle.std.specs.Bool.{◌==◌}
-use Rattle.sacn_packet.specs.Name.{IsSourceName, padded, name_in}
+use Rattle.sacn_packet.specs.Name.{IsSourceName, padded_name, name_in}
 
 -- the name ends at the first zero byte of its field
-pub name_in-padded : (name : List ℕ) → IsSourceName name → name_in (padded name) ≡ name
+pub name_in-padded : (name : List ℕ) → IsSourceName name → name_in (padded_name name) ≡ name
 name_in-padded name h =
     let zeros : List ℕ = replicate (64 - length name) 0 in
     let size : length (name ++ zeros) ≡ length name + (64 - length name) =

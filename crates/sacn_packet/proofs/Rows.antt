@@ -8,9 +8,9 @@ use Rattle.sacn_packet.specs.declared.unreadable.Unreadable.TheVariants.{Identif
 use Rattle.sacn_packet.specs.declared.unreadable.Unreadable.TheVariants.{Length, FramingVector}
 use Rattle.sacn_packet.specs.declared.unreadable.Unreadable.TheVariants.{Universe, Dmp, Count}
 use Rattle.sacn_packet.specs.Faults.{fault_of}
-use Rattle.sacn_packet.specs.Name.{padded}
+use Rattle.sacn_packet.specs.Name.{padded_name}
 use Rattle.sacn_packet.specs.Reading.{front_packet}
-use Rattle.sacn_packet.specs.Wire.{Packet}
+use Rattle.sacn_packet.specs.Wire.{WirePacket}
 
 abbrev cid : List ℕ
 cid = 0xc0 ∷ 0xff ∷ 0xee ∷ 0 ∷ 0 ∷ 0 ∷ 0x40 ∷ 0 ∷ 0x80 ∷ 0 ∷ 0 ∷ 0 ∷ 0 ∷ 0 ∷ 0xe1 ∷ 0x31 ∷ []
@@ -31,11 +31,11 @@ abbrev look_one_packet : List ℕ
 look_one_packet = layers ++ one_slot
 
 -- what it says
-abbrev look_one_says : Packet
+abbrev look_one_says : WirePacket
 look_one_says = record {
   fields = record {
     cid = cid;
-    name = padded (codes "cueplayer");
+    name = padded_name (codes "cueplayer");
     priority = 100;
     sync = 0;
     sequence = 0;

@@ -7,8 +7,8 @@ abbrev pub IsSourceName : List ℕ → Type 0
 IsSourceName name = (length name ≤ 63) × All (λ byte. 0 < byte) name
 
 -- the field of a name: its bytes, then zero bytes up to 64
-abbrev pub padded : List ℕ → List ℕ
-padded name = name ++ replicate (64 - length name) 0
+abbrev pub padded_name : List ℕ → List ℕ
+padded_name name = name ++ replicate (64 - length name) 0
 
 -- the name in a field: the bytes before its first zero byte, or all of them where none is zero
 abbrev pub name_in : List ℕ → List ℕ

@@ -1,7 +1,7 @@
 -- What stands in the bytes of a packet, read field by field.
 use Rattle.std.specs.Prelude.{ℕ, ◌+◌, ◌/◌, ◌%◌, List, take, drop, slice_index}
 use Rattle.byteorder.specs.Endian.{big_number}
-use Rattle.sacn_packet.specs.Wire.{bytes_at, Packet}
+use Rattle.sacn_packet.specs.Wire.{bytes_at, WirePacket}
 
 -- the number in the two bytes from an offset on
 abbrev pub number_at : List ℕ → ℕ → ℕ
@@ -16,7 +16,7 @@ abbrev pub length_at : List ℕ → ℕ → ℕ
 length_at bytes offset = number_at bytes offset % 4096
 
 -- the fields and the slots of a packet's own bytes
-abbrev pub packet_in : List ℕ → Packet
+abbrev pub packet_in : List ℕ → WirePacket
 packet_in p = record {
   fields = record {
     cid = bytes_at p 22 16;
@@ -33,5 +33,5 @@ packet_in p = record {
 
 -- the packet at the front of a datagram, if there is one: it ends where the root layer's length
 -- says
-abbrev pub front_packet : List ℕ → Packet
+abbrev pub front_packet : List ℕ → WirePacket
 front_packet datagram = packet_in (take (16 + length_at datagram 16) datagram)

@@ -80,10 +80,10 @@ pub record IsData (p : List ℕ) (fields : Fields) (slots : List ℕ) : Type 0 w
   pub values : bytes_at p 126 (length slots) ≡ slots
 
 -- what a packet carries
-pub record Packet : Type 0 where
+pub record WirePacket : Type 0 where
   pub fields : Fields
   pub slots : List ℕ
 
 -- a prefix of the datagram is this packet
-abbrev pub HasPacket : List ℕ → Packet → Type 0
+abbrev pub HasPacket : List ℕ → WirePacket → Type 0
 HasPacket datagram packet = (size : ℕ) × IsData (take size datagram) packet.fields packet.slots

@@ -12,10 +12,10 @@ pub struct DataPacket<'a> {
 
 impl<'a> Model for DataPacket<'a> {
     ghost use Rattle.std.specs.Prelude.{◌≤◌, length};
-    ghost use Rattle.sacn_packet.specs.Wire.{Packet};
+    ghost use Rattle.sacn_packet.specs.Wire.{WirePacket};
     ghost use Rattle.sacn_packet.specs.Reading.{packet_in};
 
-    ghost Value = { Packet };
+    ghost Value = { WirePacket };
 
     ghost view = { λ a. packet_in a.bytes.now };
 

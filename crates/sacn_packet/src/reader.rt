@@ -1,7 +1,7 @@
 ghost use Rattle.std.specs.Prelude.{◌≡◌, ◌≤◌, [], ◌∷◌, length, IfOk, OnErr};
 ghost use Rattle.std.specs.Result.{result_err};
 ghost use Rattle.sacn_packet.specs.Faults.{fault_of, differs_at, lengths_disagree, count_disagrees};
-ghost use Rattle.sacn_packet.specs.Wire.{Packet, HasPacket, packet_identifier};
+ghost use Rattle.sacn_packet.specs.Wire.{WirePacket, HasPacket, packet_identifier};
 
 use crate::bytes::{differs_from, length_at, number_at};
 use crate::data_packet::DataPacket;
@@ -95,7 +95,7 @@ fn fault_in(datagram: &[u8]) -> Option<Unreadable>
 pub fn parse(datagram: &[u8]) -> Result<DataPacket<'_>, Unreadable>
     ensures ok { IfOk result (λ packet. HasPacket datagram.now packet) }
     ensures fault { result_err result ≡ fault_of datagram.now }
-    ensures refused { OnErr result ((packet : Packet) → HasPacket datagram.now packet → ⊥) }
+    ensures refused { OnErr result ((packet : WirePacket) → HasPacket datagram.now packet → ⊥) }
 {
     match fault_in(datagram) {
         Some(fault) => Err(fault),

@@ -1,5 +1,5 @@
 ghost use Rattle.std.specs.Prelude.{◌≡◌, ◌↔◌, IsTrue, replicate};
-ghost use Rattle.sacn_packet.specs.Name.{IsSourceName, padded};
+ghost use Rattle.sacn_packet.specs.Name.{IsSourceName, padded_name};
 
 use std::marker::Model;
 
@@ -13,15 +13,15 @@ pub struct SourceName {
 impl Model for SourceName {
     ghost use Rattle.std.specs.Prelude.{◌≡◌, List, ℕ};
     ghost use Rattle.std.proofs.Common.{sym, ap};
-    ghost use Rattle.sacn_packet.specs.Name.{padded, name_in};
+    ghost use Rattle.sacn_packet.specs.Name.{padded_name, name_in};
 
     ghost Value = { List ℕ };
 
     ghost view = { λ a. name_in a.field };
 
-    ghost invariant = { λ a. a.field ≡ padded (name_in a.field) };
+    ghost invariant = { λ a. a.field ≡ padded_name (name_in a.field) };
 
-    ghost inverse = { λ name. record { field = padded name } };
+    ghost inverse = { λ name. record { field = padded_name name } };
 
     ghost inverse_ok = { λ a h. ap (λ (field : List ℕ). record { field = field }) (sym h) };
 }
@@ -44,7 +44,7 @@ impl SourceName {
 
     // The field of the packet that carries this name.
     pub(crate) fn field(&self) -> &[u8; 64]
-        ensures { result.now ≡ padded self.now }
+        ensures { result.now ≡ padded_name self.now }
     {
         &self.field
     }
@@ -60,7 +60,7 @@ fn is_source_name(text: &[u8]) -> bool
 fn write_name(field: &mut [u8], text: &[u8])
     requires empty { field.old ≡ replicate 64 0 }
     requires name { IsSourceName text.now }
-    ensures { field.new ≡ padded text.now }
+    ensures { field.new ≡ padded_name text.now }
 {
     field[..text.len()].copy_from_slice(text);
 }

@@ -1,5 +1,5 @@
 ghost use Rattle.std.specs.Prelude.{◌≡◌, ◌≤◌, length};
-ghost use Rattle.sacn_packet.specs.Header.{fields_of};
+ghost use Rattle.sacn_packet.specs.Header.{header_fields};
 ghost use Rattle.sacn_packet.specs.Wire.{IsData};
 ghost use Rattle.sacn_packet.specs.Layers.{root_layer, framing_layer, dmp_layer};
 
@@ -48,7 +48,7 @@ fn write_root(out: &mut [u8], cid: &[u8; 16])
 
 fn write_framing(out: &mut [u8], header: &Header)
     requires { length out.old ≡ 77 }
-    ensures { out.new ≡ framing_layer 512 (fields_of header.now) }
+    ensures { out.new ≡ framing_layer 512 (header_fields header.now) }
 {
     let (head, rest) = out.split_at_mut(6);
     let (name, tail) = rest.split_at_mut(64);
@@ -85,7 +85,7 @@ pub fn encode(header: &Header, slots: &Slots, out: &mut [u8; 638])
     requires priority { header.now.priority ≤ 200 }
     requires universe_from_1 { 1 ≤ header.now.universe }
     requires universe_to_63999 { header.now.universe ≤ 63999 }
-    ensures { IsData out.new (fields_of header.now) slots.now }
+    ensures { IsData out.new (header_fields header.now) slots.now }
 {
     let (root, rest) = out.split_at_mut(38);
     let (framing, dmp) = rest.split_at_mut(77);

@@ -13,11 +13,12 @@ use Rattle.sacn_packet.specs.Reading.{front_packet}
 use Rattle.sacn_receiver.specs.Source.{Entry, same_cid, is_there, is_after, newest, records}
 use Rattle.sacn_receiver.specs.Source.{while_there, record_of, is_taken, is_accepted, last_moment}
 use Rattle.sacn_receiver.specs.Shown.{live}
-use Rattle.sacn_receiver.specs.Laws.{accepted, SourcesAreIndependent, MergeIsByMembership}
+use Rattle.sacn_receiver.specs.Laws.{accepted_packets, SourcesAreIndependent, MergeIsByMembership}
 use Rattle.sacn_receiver.specs.Laws.{LiveAreRecords, LiveAreApart, HeardAreAccepted}
 use Rattle.sacn_receiver.specs.Laws.{RecordsAreIndependent, AnswersAreIndependent}
 use Rattle.sacn_receiver.specs.declared.answer.Ignored.{Ignored}
-use Rattle.sacn_receiver.specs.Taking.{entry_of, reason_of, refusal, ignored, taken_of}
+use Rattle.sacn_receiver.specs.Taking.{accepted_entry, source_reason, source_refusal, ignore_reason}
+use Rattle.sacn_receiver.specs.Taking.{taken_of}
 use Rattle.sacn_receiver.specs.Arrivals.{Arrival, heard_all, last_arrival, NeverFall, not_heard}
 use Rattle.sacn_receiver.specs.Arrivals.{is_heard, cid_of, is_from, HeardAreFrom, packets_heard}
 use Rattle.sacn_receiver.proofs.Members.{by_test, found_in, In_filter, In_filtered, in_from_place}
@@ -56,11 +57,11 @@ newest_in cids (e ∷ es) a =
     (All-filter (λ f. not (same_cid e.cid f)) (IsFrom cids) (newest es) older)
 
 pub accepted_in : (room : ℕ) (cids : List (List ℕ)) (es : List Entry) → AllIn cids es
-    → AllIn cids (accepted room es)
+    → AllIn cids (accepted_packets room es)
 accepted_in room cids [] a = a
 accepted_in room cids (e ∷ es) a =
     let rest = accepted_in room cids es (All-tail (IsFrom cids) e es a) in
-    cond_both (is_accepted room (accepted room es) e.moment e.cid e.number) _ _ (AllIn cids)
+    cond_both (is_accepted room (accepted_packets room es) e.moment e.cid e.number) _ _ (AllIn cids)
     (λ _. All-cons (IsFrom cids) e _ (All-head (IsFrom cids) e es a) rest) (λ _. rest)
 
 -- a CID without a record finds room among as many as there are CIDs
@@ -89,13 +90,13 @@ accepts room cids e few m h a = go (record_of h e.moment e.cid) refl
 
 module _ (room : ℕ) (cids : List (List ℕ)) (c : List ℕ) (few : length cids ≤ room) where
   -- a packet of a source is accepted alike where the same packet of it was accepted last
-  independent : (es : List Entry) → AllIn cids es → find (same_cid c) (accepted room es)
-      ≡ find (same_cid c) (accepted room (filter (same_cid c) es))
+  independent : (es : List Entry) → AllIn cids es → find (same_cid c) (accepted_packets room es)
+      ≡ find (same_cid c) (accepted_packets room (filter (same_cid c) es))
   independent [] a = refl
   independent (e ∷ es) a =
       let own : List Entry = filter (same_cid c) es in
-      let g : List Entry = accepted room es in
-      let h : List Entry = accepted room own in
+      let g : List Entry = accepted_packets room es in
+      let h : List Entry = accepted_packets room own in
       let rest : AllIn cids es = All-tail (IsFrom cids) e es a in
       let ih : find (same_cid c) g ≡ find (same_cid c) h = independent es rest in
       let m : IsFrom cids e = All-head (IsFrom cids) e es a in
@@ -123,7 +124,7 @@ sources_independent room cids packets few from cid =
 
 -- the entry of an arrival's packet, where it is accepted
 abbrev pub entry_from : Arrival → Entry
-entry_from a = entry_of a.moment (front_packet a.datagram)
+entry_from a = accepted_entry a.moment (front_packet a.datagram)
 
 -- the last accepted packet is not after the next arrival
 before : (room universe : ℕ) (a : Arrival) (older : List Arrival) → NeverFall (a ∷ older)
@@ -131,7 +132,7 @@ before : (room universe : ℕ) (a : Arrival) (older : List Arrival) → NeverFal
 before room universe a [] n = omega arith
 before room universe a (b ∷ older) n =
     let h : List Entry = heard_all room universe older in
-    elim (ignored room universe h b.moment b.datagram) as
+    elim (ignore_reason room universe h b.moment b.datagram) as
     (λ o. last_moment (option_map_or (λ _. h) o (entry_from b ∷ h)) ≤ a.moment) [
       | None ↦ n.0
       | Some r ↦ omega (arith, n.0, before room universe b older n.1)
@@ -148,10 +149,10 @@ heard_accepted room universe (a ∷ older) n =
     (go (not_heard universe a.datagram) (filter (is_heard universe) older))
   where
     go : (o : Option Ignored) (rest : List Arrival)
-        → option_map_or (λ _. accepted room (map entry_from rest)) (option_or o
-        (refusal room (accepted room (map entry_from rest)) a.moment (cid_of a)
-        (entry_from a).number)) (entry_from a ∷ accepted room (map entry_from rest))
-        ≡ accepted room (map entry_from (if is_none o then a ∷ rest else rest))
+        → option_map_or (λ _. accepted_packets room (map entry_from rest)) (option_or o
+        (source_refusal room (accepted_packets room (map entry_from rest)) a.moment (cid_of a)
+        (entry_from a).number)) (entry_from a ∷ accepted_packets room (map entry_from rest))
+        ≡ accepted_packets room (map entry_from (if is_none o then a ∷ rest else rest))
     go o rest = grind arith
 
 -- a filter by what a map gives
@@ -189,7 +190,8 @@ records_independent room universe cids arrivals few from n cid =
     (packets_in cids universe arrivals from) ∙ sym (ap (find (same_cid cid))
     (heard_accepted room universe (filter (is_from cid) arrivals)
     (some_never_fall (is_from cid) arrivals (last_arrival arrivals) (omega arith) n).1
-    ∙ ap (accepted room) (filter_both entry_from (same_cid cid) (is_heard universe) arrivals)))
+    ∙ ap (accepted_packets room)
+    (filter_both entry_from (same_cid cid) (is_heard universe) arrivals)))
 
 pub answers_independent : AnswersAreIndependent
 answers_independent room universe cids a older few from n =
@@ -209,11 +211,11 @@ answers_independent room universe cids a older few from n =
 
     answered : Option Entry → Option Ignored
     answered o = option_or (not_heard universe a.datagram)
-        (if by_number (entry_from a).number o then None else Some (reason_of o))
+        (if by_number (entry_from a).number o then None else Some (source_reason o))
 
     -- among no more sources than there is room for, the record of the CID decides
     by_record : (some : List Arrival) → HeardAreFrom cids universe some → NeverFall (a ∷ some)
-        → ignored room universe (heard_all room universe some) a.moment a.datagram
+        → ignore_reason room universe (heard_all room universe some) a.moment a.datagram
         ≡ answered (record_of (heard_all room universe some) a.moment (cid_of a))
     by_record some from_some falls =
         let h : List Entry = heard_all room universe some in
@@ -222,7 +224,7 @@ answers_independent room universe cids a older few from n =
         (packets_in cids universe some from_some)) in
         in_time room universe h a.moment a.datagram (before room universe a some falls)
         ∙ only_if_none (not_heard universe a.datagram) _ _ (λ q.
-        ap (λ b. if b then None else Some (reason_of (record_of h a.moment (cid_of a))))
+        ap (λ b. if b then None else Some (source_reason (record_of h a.moment (cid_of a))))
         (accepts room cids (entry_from a) few
         (All-head (IsFrom cids) (entry_from a) _
         (rw q at (packets_in cids universe (a ∷ older) from))) h all))

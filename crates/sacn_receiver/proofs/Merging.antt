@@ -12,8 +12,9 @@ use Rattle.std.proofs.lemmas.List.Sums.{length-filter}
 use Rattle.std.proofs.lemmas.Map.Entries.{option_filter}
 use Rattle.sacn_receiver.specs.declared.record.Record.{Record}
 use Rattle.sacn_receiver.specs.Source.{Entry, same_cid, records, while_there}
-use Rattle.sacn_receiver.specs.Shown.{Light, light_of, live, greatest, merged, shown, shown_slots}
-use Rattle.sacn_receiver.specs.Kept.{Kept, StandsFor}
+use Rattle.sacn_receiver.specs.Shown.{Light, light_of, live, greatest, merged_slot, shown_slot}
+use Rattle.sacn_receiver.specs.Shown.{shown_slots}
+use Rattle.sacn_receiver.specs.Kept.{ReceiverState, StandsFor}
 use Rattle.sacn_receiver.specs.Records.{entries, kept_entry, is_live_at, lights_at, top_at, lit}
 use Rattle.sacn_receiver.specs.Places.{AreDistinct}
 use Rattle.sacn_receiver.proofs.Members.{In, In_map, In_mapped}
@@ -79,7 +80,8 @@ pub live_distinct : (h : List Entry) (t : ℕ) → AreDistinct (live h t)
 live_distinct h t = kept_distinct (λ e. not e.ended) (records h t) (records_distinct h t)
 
 -- what a receiver counts and shows at moment t, where it stands for a history
-module _ (r : Kept) (h : List Entry) (t : ℕ) (d : AreDistinct r.records) (time : r.latest ≤ t)
+module _ (r : ReceiverState) (h : List Entry) (t : ℕ) (d : AreDistinct r.records)
+    (time : r.latest ≤ t)
     (s : StandsFor r h) where
   live_kept : (o : Option Entry) → option_filter (is_live_at t) o
       ≡ option_filter (λ e. not e.ended) (while_there t o)
@@ -102,9 +104,9 @@ module _ (r : Kept) (h : List Entry) (t : ℕ) (d : AreDistinct r.records) (time
       ∙ as_many _ (live h t) live_apart (live_distinct h t) same_live
 
   pub shows : (out : List ℕ) → length out ≡ 512 → ((s : ℕ) → s < 512
-      → get_or out s 0 ≡ merged (map light_of (filter (is_live_at t) r.records)) s)
+      → get_or out s 0 ≡ merged_slot (map light_of (filter (is_live_at t) r.records)) s)
       → out ≡ shown_slots h t
   shows out size each =
-      fill_by_all (shown h t) out 512 0 size (λ i lt. each i lt ∙ merged_same _ _ i
+      fill_by_all (shown_slot h t) out 512 0 size (λ i lt. each i lt ∙ merged_same _ _ i
       (lights_in _ _ (same_in _ (live h t) live_apart same_live))
       (lights_in _ _ (same_in (live h t) _ (live_distinct h t) (λ c. sym (same_live c)))))

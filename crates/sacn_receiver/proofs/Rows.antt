@@ -1,7 +1,7 @@
 -- The worked examples, by evaluation of the definitions.
 use Rattle.std.proofs.Common.{◌≡◌, ℕ, true, false, List, [], ◌∷◌, ◌++◌, length, map, drop}
 use Rattle.std.proofs.Common.{replicate, refl, Option, Some, None}
-use Rattle.sacn_packet.specs.Wire.{Packet}
+use Rattle.sacn_packet.specs.Wire.{WirePacket}
 use Rattle.sacn_packet.specs.Layers.{root_layer, framing_layer, dmp_layer}
 use Rattle.sacn_packet.specs.declared.unreadable.Unreadable.TheVariants.{Priority}
 use Rattle.sacn_receiver.specs.declared.answer.Ignored.{Ignored}
@@ -10,13 +10,13 @@ use Rattle.sacn_receiver.specs.declared.answer.Ignored.TheVariants.{OtherUnivers
 use Rattle.sacn_receiver.specs.declared.answer.Ignored.TheVariants.{AltStart, OutOfSequence}
 use Rattle.sacn_receiver.specs.declared.answer.Ignored.TheVariants.{SourcesFull}
 use Rattle.sacn_receiver.specs.Source.{Entry, last_moment}
-use Rattle.sacn_receiver.specs.Taking.{ignored_packet, ignored, heard, entry_of}
+use Rattle.sacn_receiver.specs.Taking.{ignored_packet, ignore_reason, history_after, accepted_entry}
 use Rattle.sacn_receiver.specs.Arrivals.{Arrival, heard_all, is_heard}
-use Rattle.sacn_receiver.specs.Laws.{accepted}
-use Rattle.sacn_receiver.specs.Shown.{live, shown, shown_slots}
+use Rattle.sacn_receiver.specs.Laws.{accepted_packets}
+use Rattle.sacn_receiver.specs.Shown.{live, shown_slot, shown_slots}
 
 -- a packet of a source, with its number, options and first slot
-abbrev packet : ℕ → ℕ → ℕ → ℕ → Packet
+abbrev packet : ℕ → ℕ → ℕ → ℕ → WirePacket
 packet source number options level = record {
   fields = record {
     cid = replicate 15 0 ++ source ∷ [];
@@ -33,10 +33,10 @@ packet source number options level = record {
 
 -- the history of one such packet
 abbrev after : ℕ → ℕ → List Entry
-after number t = entry_of t (packet 1 number 0 7) ∷ []
+after number t = accepted_entry t (packet 1 number 0 7) ∷ []
 
 -- the reason at a moment after a history, with room for four
-abbrev reason : List Entry → ℕ → Packet → Option Ignored
+abbrev reason : List Entry → ℕ → WirePacket → Option Ignored
 reason h t p = ignored_packet 4 1 h t p
 
 -- wrap_order
@@ -46,7 +46,7 @@ wrap_order_254 = refl
 wrap_order_1 : reason (after 255 0) 20 (packet 1 1 0 0) ≡ None
 wrap_order_1 = refl
 
-wrap_order_0 : reason (entry_of 20 (packet 1 1 0 0) ∷ after 255 0) 30 (packet 1 0 0 0)
+wrap_order_0 : reason (accepted_entry 20 (packet 1 1 0 0) ∷ after 255 0) 30 (packet 1 0 0 0)
     ≡ Some OutOfSequence
 wrap_order_0 = refl
 
@@ -64,7 +64,7 @@ edge_237 : reason (after 0 0) 0 (packet 1 237 0 0) ≡ Some OutOfSequence
 edge_237 = refl
 
 -- source_loss
-shown_3499 : shown (after 10 1000) 3499 0 ≡ 7
+shown_3499 : shown_slot (after 10 1000) 3499 0 ≡ 7
 shown_3499 = refl
 
 live_3499 : length (live (after 10 1000) 3499) ≡ 1
@@ -84,8 +84,8 @@ older_3500 = refl
 
 -- four_sources
 abbrev four : List Entry
-four = entry_of 3 (packet 4 0 0 0) ∷ entry_of 2 (packet 3 0 0 0) ∷ entry_of 1
-    (packet 2 0 0 0) ∷ entry_of 0 (packet 1 0 0x40 0) ∷ []
+four = accepted_entry 3 (packet 4 0 0 0) ∷ accepted_entry 2 (packet 3 0 0 0) ∷ accepted_entry 1
+    (packet 2 0 0 0) ∷ accepted_entry 0 (packet 1 0 0x40 0) ∷ []
 
 fourth_3 : reason (drop 1 four) 3 (packet 4 0 0 0) ≡ None
 fourth_3 = refl
@@ -101,7 +101,7 @@ fifth_termination = refl
 
 -- stranger_termination
 abbrev ended : List Entry
-ended = entry_of 5025 (packet 1 1 0x40 9) ∷ []
+ended = accepted_entry 5025 (packet 1 1 0x40 9) ∷ []
 
 stranger_ends : reason [] 5025 (packet 1 1 0x40 9) ≡ None
 stranger_ends = refl
@@ -115,7 +115,7 @@ ended_shows = refl
 again : reason ended 5040 (packet 1 2 0 9) ≡ None
 again = refl
 
-again_shows : shown_slots (entry_of 5040 (packet 1 2 0 9) ∷ ended) 5040 ≡ 9 ∷ replicate 511 0
+again_shows : shown_slots (accepted_entry 5040 (packet 1 2 0 9) ∷ ended) 5040 ≡ 9 ∷ replicate 511 0
 again_shows = refl
 
 -- ignored_kinds, with the bytes of a packet of 512 slots
@@ -136,7 +136,8 @@ bytes priority options universe start =
     ++ dmp_layer 512 start (9 ∷ replicate 511 0)
 
 abbrev kind : ℕ → ℕ → ℕ → ℕ → Option Ignored
-kind priority options universe start = ignored 4 1 [] 0 (bytes priority options universe start)
+kind priority options universe start =
+    ignore_reason 4 1 [] 0 (bytes priority options universe start)
 
 kind_plain : kind 100 0 1 0 ≡ None
 kind_plain = refl
@@ -163,18 +164,20 @@ kind_preview_elsewhere : kind 100 0xc0 2 0 ≡ Some OtherUniverse
 kind_preview_elsewhere = refl
 
 -- receiver_backwards
-backwards : ignored 4 1 (after 0 1000) 999 (bytes 100 0 1 0) ≡ Some Backwards
+backwards : ignore_reason 4 1 (after 0 1000) 999 (bytes 100 0 1 0) ≡ Some Backwards
 backwards = refl
 
-backwards_keeps : last_moment (heard 4 1 (after 0 1000) 999 (bytes 100 0 1 0)) ≡ 1000
+backwards_keeps : last_moment (history_after 4 1 (after 0 1000) 999 (bytes 100 0 1 0)) ≡ 1000
 backwards_keeps = refl
 
 -- what comes before the last moment is in no history of a receiver, though the source rule alone
 -- accepts it
-backwards_heard : map (λ e. e.moment) (heard 4 1 (after 0 1000) 999 (bytes 100 0 1 0)) ≡ 1000 ∷ []
+backwards_heard : map (λ e. e.moment) (history_after 4 1 (after 0 1000) 999 (bytes 100 0 1 0))
+    ≡ 1000 ∷ []
 backwards_heard = refl
 
-backwards_accepted : map (λ e. e.moment) (accepted 4 (entry_of 999 (packet 2 0 0 0) ∷ after 0 1000))
+backwards_accepted : map (λ e. e.moment)
+    (accepted_packets 4 (accepted_entry 999 (packet 2 0 0 0) ∷ after 0 1000))
     ≡ 999 ∷ 1000 ∷ []
 backwards_accepted = refl
 
@@ -201,32 +204,34 @@ arrivals_accepted : map (λ e. e.moment) (heard_all 4 1 arrivals) ≡ 10 ∷ []
 arrivals_accepted = refl
 
 -- lost_third_send: of the numbers 0, 1, 2, 3 the third is lost
-abbrev at_200 : ℕ → Packet
+abbrev at_200 : ℕ → WirePacket
 at_200 number = packet 1 number 0 200
 
-lost_third_taken : reason (entry_of 25 (at_200 1) ∷ entry_of 0 (at_200 0) ∷ []) 75 (at_200 3) ≡ None
+lost_third_taken : reason (accepted_entry 25 (at_200 1) ∷ accepted_entry 0 (at_200 0) ∷ []) 75
+    (at_200 3) ≡ None
 lost_third_taken = refl
 
-lost_third_shows : shown (entry_of 75 (at_200 3) ∷ entry_of 25 (at_200 1) ∷ entry_of 0
+lost_third_shows : shown_slot
+    (accepted_entry 75 (at_200 3) ∷ accepted_entry 25 (at_200 1) ∷ accepted_entry 0
     (at_200 0) ∷ []) 75 0 ≡ 200
 lost_third_shows = refl
 
 -- two_consoles_highest, two_consoles_priority and silent_console: what a receiver shows of two
 -- sources
 abbrev two : ℕ → ℕ → List Entry
-two priority t = entry_of t (packet 1 0 0 128) ∷ record (entry_of 0 (packet 2 0 0 64)) {
+two priority t = accepted_entry t (packet 1 0 0 128) ∷ record (accepted_entry 0 (packet 2 0 0 64)) {
   priority =
       priority;
 } ∷ []
 
-two_consoles_highest : shown (two 100 0) 0 0 ≡ 128
+two_consoles_highest : shown_slot (two 100 0) 0 0 ≡ 128
 two_consoles_highest = refl
 
-two_consoles_priority : shown (two 150 0) 0 0 ≡ 64
+two_consoles_priority : shown_slot (two 150 0) 0 0 ≡ 64
 two_consoles_priority = refl
 
-silent_console_2499 : shown (two 150 2400) 2499 0 ≡ 64
+silent_console_2499 : shown_slot (two 150 2400) 2499 0 ≡ 64
 silent_console_2499 = refl
 
-silent_console_2500 : shown (two 150 2400) 2500 0 ≡ 128
+silent_console_2500 : shown_slot (two 150 2400) 2500 0 ≡ 128
 silent_console_2500 = refl

@@ -1,7 +1,7 @@
 -- The merge depends on the members alone.
 use Rattle.std.proofs.Common.{◌≡◌, ℕ, ◌≤◌, Bool, refl, ap, arith, inl, inr, List, [], ◌∷◌, map}
 use Rattle.std.specs.Prelude.{nat_eq, filter, slice_index}
-use Rattle.sacn_receiver.specs.Shown.{Light, greatest, merged}
+use Rattle.sacn_receiver.specs.Shown.{Light, greatest, merged_slot}
 use Rattle.sacn_receiver.proofs.Members.{In, In_kept}
 
 -- the greatest depends on the members alone
@@ -22,7 +22,7 @@ module _ {A : Type 0} (f : A → ℕ) where
   same_greatest xs ys h g = omega (arith, greatest_le xs ys h, greatest_le ys xs g)
 
 pub merged_same : (xs ys : List Light) (s : ℕ) → ((l : Light) → In l xs → In l ys)
-    → ((l : Light) → In l ys → In l xs) → merged xs s ≡ merged ys s
+    → ((l : Light) → In l ys → In l xs) → merged_slot xs s ≡ merged_slot ys s
 merged_same xs ys s h g =
     let top : ℕ = greatest (map (λ m. m.priority) ys) in
     let p : Light → Bool = λ l. nat_eq l.priority top in

@@ -14,7 +14,7 @@ use Rattle.std.proofs.lemmas.List.{length-map}
 use Rattle.std.proofs.lemmas.List.Filters.{length-filter_both}
 use Rattle.std.proofs.lemmas.List.Folds.{find_at}
 use Rattle.std.proofs.lemmas.List.Sums.{prefix_len-le-length}
-use Rattle.sacn_packet.specs.Wire.{Packet, HasPacket}
+use Rattle.sacn_packet.specs.Wire.{WirePacket, HasPacket}
 use Rattle.sacn_packet.specs.Reading.{front_packet}
 use Rattle.sacn_packet.specs.Faults.{fault_of}
 use Rattle.sacn_packet.proofs.Found.{packet_ends}
@@ -25,23 +25,25 @@ use Rattle.sacn_receiver.specs.declared.answer.Ignored.TheVariants.{Backwards, U
 use Rattle.sacn_receiver.specs.Source.{Entry, same_cid, is_there, is_after, records, while_there}
 use Rattle.sacn_receiver.specs.Source.{record_of, is_taken, last_moment}
 use Rattle.sacn_receiver.specs.Arrivals.{not_heard}
-use Rattle.sacn_receiver.specs.Taking.{reason_of, refusal, entry_of, unheard, ignored_packet}
-use Rattle.sacn_receiver.specs.Taking.{ignored, taken_of, answer, heard}
+use Rattle.sacn_receiver.specs.Taking.{source_reason, source_refusal, accepted_entry, unheard}
+use Rattle.sacn_receiver.specs.Taking.{ignored_packet}
+use Rattle.sacn_receiver.specs.Taking.{ignore_reason, taken_of, answer, history_after}
 use Rattle.sacn_receiver.specs.Records.{entries, kept_entry}
 use Rattle.sacn_receiver.specs.Places.{AreDistinct, IsFree, IsPlace, put}
-use Rattle.sacn_receiver.specs.Kept.{Kept, StandsFor}
+use Rattle.sacn_receiver.specs.Kept.{ReceiverState, StandsFor}
 use Rattle.sacn_receiver.proofs.Members.{by_test, found_in, In_filter, In_length, none_first}
 use Rattle.sacn_receiver.proofs.Apart.{alone, find_kept, kept_distinct, there_kept, find_records}
 use Rattle.sacn_receiver.proofs.Apart.{records_distinct, as_many}
 
 -- what the source rule refuses, by the record of the CID and how many there are
 abbrev by_record : ℕ → Option Entry → ℕ → ℕ → Option Ignored
-by_record room o count number = if is_taken room o count number then None else Some (reason_of o)
+by_record room o count number =
+    if is_taken room o count number then None else Some (source_reason o)
 
 -- what a history refuses, by what is there of entries that give each CID the same record
 refused_by : (t : ℕ) (es h : List Entry) → AreDistinct es
     → ((cid : List ℕ) → record_of es t cid ≡ record_of h t cid)
-    → (room : ℕ) (cid : List ℕ) (number : ℕ) → refusal room h t cid number
+    → (room : ℕ) (cid : List ℕ) (number : ℕ) → source_refusal room h t cid number
     ≡ by_record room (record_of es t cid) (length (filter (is_there t) es)) number
 refused_by t es h d s room cid number =
     ap₂ (λ o n. by_record room o n number) (sym (s cid))
@@ -116,7 +118,7 @@ module _ (rs : List Record) (t : ℕ) (cid : List ℕ) (number : ℕ) (few : len
   there = length (filter (is_there t) (entries rs))
 
   refused : (o : Option Entry) → find (same_cid cid) (entries rs) ≡ o
-      → refusal 4 (entries rs) t cid number ≡ by_record 4 (while_there t o) there number
+      → source_refusal 4 (entries rs) t cid number ≡ by_record 4 (while_there t o) there number
   refused o e = refused_by t (entries rs) (entries rs) apart (λ c. refl) 4 cid number
       ∙ ap (λ o. by_record 4 (while_there t o) there number) e
 
@@ -124,7 +126,7 @@ module _ (rs : List Record) (t : ℕ) (cid : List ℕ) (number : ℕ) (few : len
   abbrev IsPlaced : Result ℕ Ignored → Type 0
   IsPlaced r = record {
     place : IfOk r (λ i. IsPlace (entries rs) t cid i);
-    refused : result_err r ≡ refusal 4 (entries rs) t cid number;
+    refused : result_err r ≡ source_refusal 4 (entries rs) t cid number;
   }
 
   -- a CID with a record, at a place
@@ -138,7 +140,8 @@ module _ (rs : List Record) (t : ℕ) (cid : List ℕ) (number : ℕ) (few : len
     within : i < length rs
     within = omega (arith, ltb-true (position_or_len (own t cid) rs) (length rs) at.0, at.1)
 
-    known_refused : (if b then Some OutOfSequence else None) ≡ refusal 4 (entries rs) t cid number
+    known_refused : (if b then Some OutOfSequence else None)
+        ≡ source_refusal 4 (entries rs) t cid number
     known_refused = rw overtaken (
         let e : Entry = kept_entry (get_or rs i d) in
         let found : find (same_cid cid) (entries rs) ≡ Some e = own_found t cid rs
@@ -226,22 +229,23 @@ put_distinct (x ∷ xs) (suc i) e a f = (
 )
 
 -- a packet at its place: after it, the receiver stands for the longer history
-module _ (t : ℕ) (d : List ℕ) (p : Packet) (has : HasPacket d p) (r : Kept) (i : ℕ)
+module _ (t : ℕ) (d : List ℕ) (p : WirePacket) (has : HasPacket d p) (r : ReceiverState) (i : ℕ)
     (apart : AreDistinct r.records) (place : IsPlace r.records t p.fields.cid i)
-    (new : List Entry) (kept : new ≡ put r.records i (entry_of t p)) where
+    (new : List Entry) (kept : new ≡ put r.records i (accepted_entry t p)) where
   pub kept_apart : AreDistinct new
-  kept_apart = rw kept (put_distinct r.records i (entry_of t p) apart place.free)
+  kept_apart = rw kept (put_distinct r.records i (accepted_entry t p) apart place.free)
 
-  abbrev after : Kept
+  abbrev after : ReceiverState
   after = record { universe = r.universe; latest = t; records = new }
 
   pub kept_stands : (h : List Entry) → r.latest ≤ t → StandsFor r h
-      → StandsFor after (entry_of t (front_packet d) ∷ h)
+      → StandsFor after (accepted_entry t (front_packet d) ∷ h)
   kept_stands h time s =
-      subst (λ q. StandsFor after (entry_of t q ∷ h)) (sym (packet_ends d p has)) (rw kept (record {
+      subst (λ q. StandsFor after (accepted_entry t q ∷ h)) (sym (packet_ends d p has))
+      (rw kept (record {
         latest_is = refl;
-        records_are = λ u c m. put_record (entry_of t p) c u m r.records i place.free apart
-            ∙ by_test (same_cid c (entry_of t p)) (λ k. rw k)
+        records_are = λ u c m. put_record (accepted_entry t p) c u m r.records i place.free apart
+            ∙ by_test (same_cid c (accepted_entry t p)) (λ k. rw k)
             (λ k. rw k (s.records_are u c (omega arith)));
       }))
 
@@ -250,23 +254,23 @@ in_parts : (x y z : Option Ignored) → option_or x (option_or y z) ≡ option_o
 in_parts x y z = grind arith
 
 pub in_time : (room universe : ℕ) (h : List Entry) (t : ℕ) (d : List ℕ) → last_moment h ≤ t
-    → ignored room universe h t d ≡ option_or (not_heard universe d)
-    (refusal room h t (front_packet d).fields.cid (front_packet d).fields.sequence)
+    → ignore_reason room universe h t d ≡ option_or (not_heard universe d)
+    (source_refusal room h t (front_packet d).fields.cid (front_packet d).fields.sequence)
 in_time room universe h t d time =
     ap (λ b. if b then Some Backwards else option_or (option_map Unreadable (fault_of d))
     (ignored_packet room universe h t (front_packet d))) (le-ltb t (last_moment h) time)
     ∙ in_parts (option_map Unreadable (fault_of d)) (unheard universe (front_packet d)) _
 
 -- for which history a receiver stands after a packet, and what it answers, by why it is ignored
-module _ (r : Kept) (h : List Entry) (t : ℕ) (d : List ℕ) (p : Packet)
+module _ (r : ReceiverState) (h : List Entry) (t : ℕ) (d : List ℕ) (p : WirePacket)
     (apart : AreDistinct r.records) (s : StandsFor r h) (time : r.latest ≤ t)
     (fault : None ≡ fault_of d) (has : HasPacket d p) (o : Option Ignored)
     (why : o ≡ ignored_packet 4 r.universe r.records t p) where
-  ignored_by : ignored 4 r.universe h t d ≡ o
+  ignored_by : ignore_reason 4 r.universe h t d ≡ o
   ignored_by =
       in_time 4 r.universe h t d (omega (arith, s.latest_is, time))
       ∙ ap₂ (λ f q. option_or (option_or (option_map Unreadable f) (unheard r.universe q))
-      (refusal 4 h t q.fields.cid q.fields.sequence)) (sym fault) (packet_ends d p has)
+      (source_refusal 4 h t q.fields.cid q.fields.sequence)) (sym fault) (packet_ends d p has)
       ∙ ap (option_or (unheard r.universe p)) (refused_by t r.records h apart
       (λ c. s.records_are t c time) 4 p.fields.cid p.fields.sequence
       ∙ sym (refused_by t r.records r.records apart (λ c. refl) 4 p.fields.cid
@@ -276,8 +280,8 @@ module _ (r : Kept) (h : List Entry) (t : ℕ) (d : List ℕ) (p : Packet)
   answer_by =
       ap₂ (λ o q. option_map_or Err o (Ok (taken_of q))) ignored_by (packet_ends d p has)
 
-  pub heard_by : (new : Kept)
-      → StandsFor new (option_map_or (λ _. h) o (entry_of t (front_packet d) ∷ h))
-      → StandsFor new (heard 4 r.universe h t d)
+  pub heard_by : (new : ReceiverState)
+      → StandsFor new (option_map_or (λ _. h) o (accepted_entry t (front_packet d) ∷ h))
+      → StandsFor new (history_after 4 r.universe h t d)
   heard_by new = subst (λ o. StandsFor new (option_map_or (λ _. h) o
-      (entry_of t (front_packet d) ∷ h))) (sym ignored_by)
+      (accepted_entry t (front_packet d) ∷ h))) (sym ignored_by)

@@ -3,12 +3,13 @@ use Rattle.std.specs.Prelude.{◌≡◌, refl, codes, [], ◌∷◌, replicate, 
 use Rattle.std.specs.Fmt.{digits}
 use Rattle.sacn_packet.specs.declared.unreadable.Unreadable.TheVariants.{Short}
 use Rattle.sacn_receiver.specs.declared.answer.Ignored.TheVariants.{OutOfSequence, Unreadable}
-use Rattle.sacn_receiver.specs.Replies.{reply_text, slots_line, end_line}
+use Rattle.sacn_receiver.specs.Replies.{receiver_reply, slots_line, end_line}
 
-replies : (reply_text (Ok (record { sequence = 163; terminated = false })) ≡ codes "taken 163")
-    × (reply_text (Ok (record { sequence = 1; terminated = true })) ≡ codes "taken 1 terminated")
-    × (reply_text (Err OutOfSequence) ≡ codes "ignored OutOfSequence")
-    × (reply_text (Err (Unreadable Short)) ≡ codes "ignored Unreadable Short")
+replies : (receiver_reply (Ok (record { sequence = 163; terminated = false })) ≡ codes "taken 163")
+    × (receiver_reply (Ok (record { sequence = 1; terminated = true }))
+    ≡ codes "taken 1 terminated")
+    × (receiver_reply (Err OutOfSequence) ≡ codes "ignored OutOfSequence")
+    × (receiver_reply (Err (Unreadable Short)) ≡ codes "ignored Unreadable Short")
 unfolding digits
 replies = (refl, refl, refl, refl)
 

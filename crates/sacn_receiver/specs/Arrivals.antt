@@ -8,7 +8,7 @@ use Rattle.sacn_packet.specs.Faults.{fault_of}
 use Rattle.sacn_receiver.specs.declared.answer.Ignored.{Ignored}
 use Rattle.sacn_receiver.specs.declared.answer.Ignored.TheVariants.{Unreadable}
 use Rattle.sacn_receiver.specs.Source.{Entry}
-use Rattle.sacn_receiver.specs.Taking.{entry_of, unheard, heard}
+use Rattle.sacn_receiver.specs.Taking.{accepted_entry, unheard, history_after}
 
 -- a datagram, with the moment in milliseconds when it was handed in; in lists the newest is first
 pub record Arrival : Type 0 where
@@ -20,7 +20,7 @@ pub record Arrival : Type 0 where
 abbrev pub heard_all : ℕ → ℕ → List Arrival → List Entry
 heard_all room universe [] = []
 heard_all room universe (a ∷ older) =
-    heard room universe (heard_all room universe older) a.moment a.datagram
+    history_after room universe (heard_all room universe older) a.moment a.datagram
 
 -- the moment of the newest arrival; 0 before
 abbrev pub last_arrival : List Arrival → ℕ
@@ -59,4 +59,5 @@ HeardAreFrom cids universe arrivals =
 -- the packets that are heard, as they would be accepted
 abbrev pub packets_heard : ℕ → List Arrival → List Entry
 packets_heard universe arrivals =
-    map (λ a. entry_of a.moment (front_packet a.datagram)) (filter (is_heard universe) arrivals)
+    map (λ a. accepted_entry a.moment (front_packet a.datagram))
+    (filter (is_heard universe) arrivals)

@@ -2,7 +2,7 @@
 use Rattle.std.specs.Prelude.{◌≡◌, ◌↔◌, ℕ, ◌≤◌, false, List, [], ◌∷◌, length, if◌then◌else◌, filter}
 use Rattle.std.specs.Prelude.{find, Some, All, Contains}
 use Rattle.sacn_receiver.specs.Source.{Entry, same_cid, record_of, is_accepted}
-use Rattle.sacn_receiver.specs.Shown.{Light, live, merged}
+use Rattle.sacn_receiver.specs.Shown.{Light, live, merged_slot}
 use Rattle.sacn_receiver.specs.Taking.{answer}
 use Rattle.sacn_receiver.specs.Places.{AreApart}
 use Rattle.sacn_receiver.specs.Arrivals.{Arrival, heard_all, NeverFall, cid_of, is_from}
@@ -12,18 +12,19 @@ use Rattle.sacn_receiver.specs.Arrivals.{HeardAreFrom, packets_heard}
 -- moments never fall, this is the history of a receiver to which they come (`HeardAreAccepted`).
 -- Where they fall it need not be: a receiver ignores a packet from before its last moment, and the
 -- source rule alone does not
-abbrev pub accepted : ℕ → List Entry → List Entry
-accepted room [] = []
-accepted room (e ∷ older) =
-    if is_accepted room (accepted room older) e.moment e.cid e.number then e ∷ accepted room older
-    else accepted room older
+abbrev pub accepted_packets : ℕ → List Entry → List Entry
+accepted_packets room [] = []
+accepted_packets room (e ∷ older) =
+    if is_accepted room (accepted_packets room older) e.moment e.cid e.number
+    then e ∷ accepted_packets room older
+    else accepted_packets room older
 
 -- where the moments never fall, the history of a receiver is what the source rule alone accepts of
 -- the packets that are heard
 abbrev pub HeardAreAccepted : Type 0
 HeardAreAccepted =
     (room universe : ℕ) (arrivals : List Arrival) → NeverFall arrivals
-    → heard_all room universe arrivals ≡ accepted room (packets_heard universe arrivals)
+    → heard_all room universe arrivals ≡ accepted_packets room (packets_heard universe arrivals)
 
 -- sources are independent: where all packets come from no more sources than there is room for, the
 -- newest accepted packet of a source is the one that it would be if the packets of that source
@@ -33,8 +34,8 @@ SourcesAreIndependent =
     (room : ℕ) (cids : List (List ℕ)) (packets : List Entry)
     → length cids ≤ room → All (λ e. Contains cids e.cid) packets
     → (cid : List ℕ)
-    → find (same_cid cid) (accepted room packets)
-    ≡ find (same_cid cid) (accepted room (filter (same_cid cid) packets))
+    → find (same_cid cid) (accepted_packets room packets)
+    ≡ find (same_cid cid) (accepted_packets room (filter (same_cid cid) packets))
 
 -- the same of a receiver's own history, over datagrams: where their moments never fall, and those
 -- that are heard come from no more sources than there is room for, the newest accepted packet of a
@@ -71,4 +72,4 @@ LiveAreApart = (h : List Entry) (t : ℕ) → AreApart (live h t)
 abbrev pub MergeIsByMembership : Type 0
 MergeIsByMembership =
     (lights others : List Light) → ((l : Light) → Contains lights l ↔ Contains others l)
-    → (s : ℕ) → merged lights s ≡ merged others s
+    → (s : ℕ) → merged_slot lights s ≡ merged_slot others s

@@ -32,11 +32,11 @@ ignored_name receiver.OutOfSequence = codes "OutOfSequence"
 ignored_name receiver.SourcesFull = codes "SourcesFull"
 
 -- the reply to a datagram: the number of the packet that was taken, or why the datagram is ignored
-abbrev pub reply_text : Result Taken Ignored → List ℕ
-reply_text (Ok taken) =
+abbrev pub receiver_reply : Result Taken Ignored → List ℕ
+receiver_reply (Ok taken) =
     codes "taken " ++ decimal taken.sequence ++
     (if taken.terminated then codes " terminated" else [])
-reply_text (Err reason) = codes "ignored " ++ ignored_name reason
+receiver_reply (Err reason) = codes "ignored " ++ ignored_name reason
 
 -- a slot, by its number and its value: nothing where the value is 0
 abbrev pub slot_text : ℕ × ℕ → List ℕ
@@ -44,12 +44,12 @@ slot_text (number, value) =
     if value == 0 then [] else codes " " ++ decimal number ++ codes ":" ++ decimal value
 
 -- the slots that are not 0, numbered from 1
-abbrev pub slots_text : List ℕ → List ℕ
-slots_text slots = codes "slots" ++ flat_map slot_text (enumerate_from 1 slots)
+abbrev pub lit_slots_text : List ℕ → List ℕ
+lit_slots_text slots = codes "slots" ++ flat_map slot_text (enumerate_from 1 slots)
 
 -- a slots line
 abbrev pub slots_line : List ℕ → List ℕ
-slots_line slots = slots_text slots ++ codes "\n"
+slots_line slots = lit_slots_text slots ++ codes "\n"
 
 -- the slots of a receiver, counted from 0, at the end of a run
 abbrev pub end_line : ℕ → List ℕ → List ℕ

@@ -21,18 +21,18 @@ abbrev pub light_of : Entry → Light
 light_of e = record { priority = e.priority; slots = e.slots }
 
 -- those of the greatest priority (E1.31-2018, priority)
-abbrev pub leading : List Light → List Light
-leading lights = filter (λ l. l.priority == greatest (map (λ m. m.priority) lights)) lights
+abbrev pub leaders : List Light → List Light
+leaders lights = filter (λ l. l.priority == greatest (map (λ m. m.priority) lights)) lights
 
 -- slot s, counted from 0, of all of them together: the greatest value among those of the greatest
 -- priority, 0 where there is none (E1.31-2018, requirements for merging and arbitrating)
-abbrev pub merged : List Light → ℕ → ℕ
-merged lights s = greatest (map (λ l. slice_index l.slots s) (leading lights))
+abbrev pub merged_slot : List Light → ℕ → ℕ
+merged_slot lights s = greatest (map (λ l. slice_index l.slots s) (leaders lights))
 
 -- slot s at moment t
-abbrev pub shown : List Entry → ℕ → ℕ → ℕ
-shown h t s = merged (map light_of (live h t)) s
+abbrev pub shown_slot : List Entry → ℕ → ℕ → ℕ
+shown_slot h t s = merged_slot (map light_of (live h t)) s
 
 -- the 512 slots at moment t
 abbrev pub shown_slots : List Entry → ℕ → List ℕ
-shown_slots h t = map (shown h t) (range_with_len 0 512)
+shown_slots h t = map (shown_slot h t) (range_with_len 0 512)

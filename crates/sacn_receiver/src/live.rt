@@ -2,7 +2,7 @@ ghost use Rattle.std.specs.Prelude.{◌≡◌, ℕ, ◌<◌, ◌≤◌, count_by
 ghost use Rattle.std.specs.Prelude.{slice_get, slice_index};
 ghost use Rattle.sacn_receiver.specs.Records.{kept_entry, is_live_at, lights_at};
 ghost use Rattle.sacn_receiver.specs.Records.{top_at, lit};
-ghost use Rattle.sacn_receiver.specs.Shown.{merged};
+ghost use Rattle.sacn_receiver.specs.Shown.{merged_slot};
 
 use crate::record::Record;
 use sacn_packet::Slots;
@@ -25,7 +25,7 @@ pub(crate) fn count_live(records: &[Record], moment: u64) -> usize
 pub(crate) fn merge(records: &[Record], moment: u64, out: &mut Slots)
     requires { length records.now ≤ 4 }
     ensures { (s : ℕ) → s < 512 → slice_index out.new s
-        ≡ merged (lights_at moment records.now) s }
+        ≡ merged_slot (lights_at moment records.now) s }
 {
     let top = top_priority(records, moment);
     write_greatest(

@@ -6,7 +6,7 @@ ghost use Rattle.std.specs.Result.{result_err};
 ghost use Rattle.arrayvec.specs.ArrayVec.{array_vec_len};
 ghost use Rattle.sacn_receiver.specs.declared.answer.Ignored.TheVariants.{SourcesFull};
 ghost use Rattle.sacn_receiver.specs.Source as source;
-ghost use Rattle.sacn_receiver.specs.Taking.{entry_of, refusal};
+ghost use Rattle.sacn_receiver.specs.Taking.{accepted_entry, source_refusal};
 ghost use Rattle.sacn_receiver.specs.Records.{entries, kept_entry};
 ghost use Rattle.sacn_receiver.specs.Places.{AreDistinct, IsPlace, put};
 
@@ -69,7 +69,8 @@ pub(crate) fn place_for(
     requires apart { AreDistinct (entries records.now) }
     requires room { length records.now ≤ 4 }
     ensures place { IfOk result (λ place. IsPlace (entries records.now) moment cid.now place) }
-    ensures refused { result_err result ≡ refusal 4 (entries records.now) moment cid.now number }
+    ensures refused { result_err result
+        ≡ source_refusal 4 (entries records.now) moment cid.now number }
 {
     match known_place(records, cid) {
         Some(place) => {
@@ -93,7 +94,7 @@ pub(crate) fn keep_at(
     requires room { place < 4 }
     requires slots { length packet.now.slots ≤ 512 }
     ensures { entries records.new.items
-        ≡ put (entries records.old.items) place (entry_of moment packet.now) }
+        ≡ put (entries records.old.items) place (accepted_entry moment packet.now) }
 {
     if let Some(record) = records.get_mut(place) {
         record.keep(moment, packet);

@@ -3,7 +3,8 @@ ghost use Rattle.std.specs.Result.{result_err};
 ghost use Rattle.sacn_packet.specs.Wire.{HasPacket};
 ghost use Rattle.sacn_packet.specs.Reading.{front_packet};
 ghost use Rattle.sacn_receiver.specs.Source.{Entry, last_moment};
-ghost use Rattle.sacn_receiver.specs.Taking.{answer, entry_of, heard, ignored_packet, unheard};
+ghost use Rattle.sacn_receiver.specs.Taking.{answer, accepted_entry, history_after, ignored_packet};
+ghost use Rattle.sacn_receiver.specs.Taking.{unheard};
 ghost use Rattle.sacn_receiver.specs.Places.{AreDistinct, IsPlace};
 ghost use Rattle.sacn_receiver.specs.Records.{entries};
 ghost use Rattle.sacn_receiver.specs.Shown.{live, shown_slots};
@@ -31,9 +32,9 @@ pub struct Receiver {
 }
 
 impl Model for Receiver {
-    ghost use Rattle.sacn_receiver.specs.Kept.{Kept};
+    ghost use Rattle.sacn_receiver.specs.Kept.{ReceiverState};
 
-    ghost Value = { Kept };
+    ghost Value = { ReceiverState };
 
     ghost use Rattle.sacn_receiver.specs.Inside.{receiver_view, IsReceiver};
 
@@ -67,9 +68,9 @@ impl Receiver {
         ensures answer { (h : List Entry) → StandsFor self.old h
             → result ≡ answer 4 self.old.universe h moment datagram.now }
         ensures heard { (h : List Entry) → StandsFor self.old h
-            → StandsFor self.new (heard 4 self.old.universe h moment datagram.now) }
+            → StandsFor self.new (history_after 4 self.old.universe h moment datagram.now) }
         ensures accepted { OnOk result ((h : List Entry) → StandsFor self.old h
-            → StandsFor self.new (entry_of moment (front_packet datagram.now) ∷ h)) }
+            → StandsFor self.new (accepted_entry moment (front_packet datagram.now) ∷ h)) }
         ensures packet { OnOk result (HasPacket datagram.now (front_packet datagram.now)) }
         ensures universe { self.new.universe ≡ self.old.universe }
         ensures ignored { OnErr result (self.new ≡ self.old) }

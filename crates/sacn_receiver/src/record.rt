@@ -1,7 +1,7 @@
 ghost use Rattle.std.specs.Prelude.{◌≡◌, ◌≤◌, ◌-◌, ◌++◌, length, replicate};
 ghost use Rattle.sacn_receiver.specs.Records.{kept_entry, is_live_at, leads_at};
 ghost use Rattle.sacn_receiver.specs.Source as source;
-ghost use Rattle.sacn_receiver.specs.Taking.{entry_of, is_termination as ends};
+ghost use Rattle.sacn_receiver.specs.Taking.{accepted_entry, is_termination as ends};
 
 use sacn_packet::{DataPacket, Slots};
 
@@ -26,7 +26,7 @@ impl Record {
     // Replaces what is kept by a packet that came at a moment.
     pub(crate) fn keep(&mut self, moment: u64, packet: &DataPacket)
         requires { length packet.now.slots ≤ 512 }
-        ensures { kept_entry self.new ≡ entry_of moment packet.now }
+        ensures { kept_entry self.new ≡ accepted_entry moment packet.now }
     {
         self.cid = packet.cid();
         self.number = packet.sequence();

@@ -1,7 +1,7 @@
 ghost use Rattle.std.specs.Prelude.{◌≡◌, ◌≤◌, ◌+◌, ◌++◌, [], length, codes, decimal};
 ghost use Rattle.std.specs.Prelude.{if◌then◌else◌};
 ghost use Rattle.sacn_receiver.specs.declared.answer.Ignored.TheVariants as receiver;
-ghost use Rattle.sacn_receiver.specs.Replies.{ignored_name, reply_text};
+ghost use Rattle.sacn_receiver.specs.Replies.{ignored_name, receiver_reply};
 
 use crate::answer::{Ignored, Taken};
 use arrayvec::ArrayString;
@@ -15,7 +15,7 @@ pub type ReplyLine = ArrayString<54>;
 
 /// The line of the reply to a datagram, behind a number.
 pub fn reply_line(number: u64, reply: Result<Taken, Ignored>) -> ReplyLine
-    ensures { result.bytes ≡ decimal number ++ codes " " ++ reply_text reply ++ codes "\n" }
+    ensures { result.bytes ≡ decimal number ++ codes " " ++ receiver_reply reply ++ codes "\n" }
 {
     let mut line = ReplyLine::new();
     line.push_str(Buffer::new().format(number));
@@ -27,7 +27,7 @@ pub fn reply_line(number: u64, reply: Result<Taken, Ignored>) -> ReplyLine
 
 fn push_reply(line: &mut ReplyLine, reply: Result<Taken, Ignored>)
     requires { length line.old.bytes ≤ 21 }
-    ensures text { line.new.bytes ≡ line.old.bytes ++ reply_text reply }
+    ensures text { line.new.bytes ≡ line.old.bytes ++ receiver_reply reply }
     ensures room { length line.new.bytes ≤ length line.old.bytes + 32 }
 {
     match reply {
@@ -41,7 +41,7 @@ fn push_reply(line: &mut ReplyLine, reply: Result<Taken, Ignored>)
 
 fn push_taken(line: &mut ReplyLine, taken: Taken)
     requires { length line.old.bytes ≤ 21 }
-    ensures text { line.new.bytes ≡ line.old.bytes ++ reply_text (Ok taken) }
+    ensures text { line.new.bytes ≡ line.old.bytes ++ receiver_reply (Ok taken) }
     ensures room { length line.new.bytes ≤ length line.old.bytes + 32 }
 {
     line.push_str("taken ");

@@ -5,7 +5,7 @@ use Rattle.std.specs.Prelude.{nat_lt, if◌then◌else◌, nat_eq, Option}
 use Rattle.std.proofs.lemmas.List.{length-append, length-map}
 use Rattle.std.proofs.lemmas.Bool.Decides.{nat_tests}
 use Rattle.sacn_source.specs.Stream.{Offer, is_change, changed_within, sends, frames_sent, packets}
-use Rattle.sacn_source.specs.Stream.{live_packet, last_packet, Packet, due, newest_frame}
+use Rattle.sacn_source.specs.Stream.{live_packet, last_packet, Packet, due_packet, newest_frame}
 use Rattle.sacn_source.specs.Pacing.{Paces, is_due, pace_after, pace_ended}
 use Rattle.sacn_source.specs.Kept.{Pace, Lane}
 use Rattle.std.specs.Cmp.Lexicographic.{pointwise}
@@ -13,7 +13,7 @@ use Rattle.devices.specs.Send.{Send}
 use Rattle.sacn_packet.specs.Wire.{Fields, IsData}
 use Rattle.sacn_source.specs.Identify.{IsStreamPacket}
 use Rattle.sacn_source.specs.Identity.{Identity}
-use Rattle.sacn_source.specs.Offering.{Answers, Offers, answer_of, number_of}
+use Rattle.sacn_source.specs.Offering.{Answers, Offers, answer_of, sequence_of}
 use Rattle.sacn_source.specs.Pacing as pacing
 use Rattle.sacn_source.specs.Stands.{LaneStands}
 use Rattle.sacn_source.specs.declared.offered.Offered.{Offered}
@@ -86,7 +86,8 @@ takes_termination pace offers n s = record {
 -- an offer is a change where it has other slots than the newest frame, or is the first
 changed_by : (offers : List Offer) (pace : Pace) (moment : ℕ) (frame : List ℕ) (differs : Bool)
     → Paces pace offers 0 → differs ≡ not (pointwise nat_eq frame (newest_frame offers))
-    → pacing.is_change pace differs ≡ is_change (record { moment = moment; frame = frame } ∷ offers)
+    → pacing.pace_changes pace differs
+    ≡ is_change (record { moment = moment; frame = frame } ∷ offers)
 changed_by [] pace moment frame differs s d = grind (arith, nat_tests, s.earliest_is)
 changed_by (p ∷ older) pace moment frame differs s d = grind (arith, nat_tests, s.earliest_is)
 
@@ -95,17 +96,18 @@ module _ (who : Identity) (lane : Lane) (offers : List Offer) (o : Offer) (diffe
     (s : LaneStands who lane offers 0)
     (says : (fields : Fields) (old : List ℕ) → IsData lane.packet fields old
     → differs ≡ not (pointwise nat_eq o.frame old)) where
-  changed : pacing.is_change lane.pace differs ≡ is_change (o ∷ offers)
+  changed : pacing.pace_changes lane.pace differs ≡ is_change (o ∷ offers)
   changed = changed_by offers lane.pace o.moment o.frame differs s.paces (says _ _ s.packet.2)
 
   pub paces_on : (pace : Pace)
-      → pace ≡ pacing.pace_after lane.pace (pacing.is_change lane.pace differs) o.moment
+      → pace ≡ pacing.pace_after lane.pace (pacing.pace_changes lane.pace differs) o.moment
       → Paces pace (o ∷ offers) 0
   paces_on pace e = rw e (takes_offer lane.pace offers o _ changed s.paces)
 
   pub due_as : (is_due b : Bool)
-      → is_due ≡ pacing.is_due lane.pace (pacing.is_change lane.pace differs) o.moment → is_due ≡ b
-      → due (o ∷ offers) ≡ (if b then Some (live_packet o.frame) else None)
+      → is_due ≡ pacing.is_due lane.pace (pacing.pace_changes lane.pace differs) o.moment
+      → is_due ≡ b
+      → due_packet (o ∷ offers) ≡ (if b then Some (live_packet o.frame) else None)
   due_as is_due b e is = ap (λ (d : Bool). if d then Some (live_packet o.frame) else None)
       (sym (due_same lane.pace offers o _ changed s.paces) ∙ sym e ∙ is)
 
@@ -124,6 +126,6 @@ answer_at place at p answer same a = rw (← same) a
 
 -- two answers at one place have one number
 pub alike : (place : ℕ) (p : Option Packet) (one other : Offered) → Answers place p one
-    → Answers place p other → number_of one ≡ number_of other
+    → Answers place p other → sequence_of one ≡ sequence_of other
 alike place None one other a b = rw (a, b) refl
 alike place (Some p) one other a b = grind (arith, a.1, b.1)

@@ -2,7 +2,7 @@
 use Rattle.std.specs.Prelude.{◌≡◌, refl, ℕ, zero, suc, ◌*◌, false, true, List, [], ◌∷◌, map}
 use Rattle.std.specs.Prelude.{replicate, Some}
 use Rattle.sacn_source.specs.Offering.{answer_of}
-use Rattle.sacn_source.specs.Stream.{Offer, due, live_packet}
+use Rattle.sacn_source.specs.Stream.{Offer, due_packet, live_packet}
 use Rattle.sacn_source.specs.Timing.{moments_sent}
 use Rattle.sacn_source.specs.declared.offered.Offered.TheVariants.{Sent, Lost}
 
@@ -15,7 +15,7 @@ each_25_ms frame (suc n) = record { moment = 25 * suc n; frame = frame } ∷ eac
 abbrev at_200 : List ℕ
 at_200 = 200 ∷ replicate 511 0
 
-each_is_due : map (λ n. due (each_25_ms at_200 n)) (0 ∷ 1 ∷ 2 ∷ 3 ∷ []) ≡ replicate 4
+each_is_due : map (λ n. due_packet (each_25_ms at_200 n)) (0 ∷ 1 ∷ 2 ∷ 3 ∷ []) ≡ replicate 4
     (Some (live_packet at_200))
 each_is_due = refl
 

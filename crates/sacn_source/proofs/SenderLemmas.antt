@@ -15,7 +15,7 @@ use Rattle.std.specs.Prelude.{slice_set, ◌==◌}
 use Rattle.sacn_source.specs.Identity.{Identity}
 use Rattle.sacn_source.specs.Kept.{Lane}
 use Rattle.sacn_source.specs.Stands.{LaneStands, StandsAt, StandsFor, earliest_of, ended_of}
-use Rattle.sacn_source.specs.Stands.{lane_of, universes_of}
+use Rattle.sacn_source.specs.Stands.{lane_of, lane_universes}
 use Rattle.sacn_source.specs.Stream.{Offer, earliest_after}
 
 is_it : (a u : ℕ) → a ≡ u → (a == u) ≡ true
@@ -29,7 +29,7 @@ abbrev place : List Lane → ℕ → ℕ
 place lanes u = position_or_len (λ (lane : Lane). lane.universe == u) lanes
 
 places : (lanes : List Lane) (u : ℕ)
-    → position_or_len (λ (v : ℕ). v == u) (universes_of lanes) ≡ place lanes u
+    → position_or_len (λ (v : ℕ). v == u) (lane_universes lanes) ≡ place lanes u
 places [] u = refl
 places (l ∷ ls) u = rw (places ls u) refl
 
@@ -65,8 +65,8 @@ is_found universes u here =
     cc)
 
 pub place_found : {lanes now : List Lane} {universes : List ℕ} {found : Option ℕ} (u : ℕ)
-    → lanes ≡ now → universes ≡ universes_of lanes → found ≡ position (λ v. v == u) universes
-    → Contains (universes_of now) u → IsSome found
+    → lanes ≡ now → universes ≡ lane_universes lanes → found ≡ position (λ v. v == u) universes
+    → Contains (lane_universes now) u → IsSome found
 place_found {universes = universes} u same are found here =
     rw found (is_found universes u (rw (are, same) here))
 
@@ -80,13 +80,13 @@ pub record LaneAt (lanes now : List Lane) (u i : ℕ) (lane : Lane) : Type 0 whe
   pub at : lane_of now u ≡ Some lane
 
 pub lane_found : {lanes now : List Lane} {universes : List ℕ} {i : ℕ} {found : Option ℕ}
-    {lane : Lane} (u : ℕ) (d : Lane) → lanes ≡ now → universes ≡ universes_of lanes
+    {lane : Lane} (u : ℕ) (d : Lane) → lanes ≡ now → universes ≡ lane_universes lanes
     → found ≡ position (λ v. v == u) universes → found ≡ Some i → lane ≡ get_or lanes i d
     → LaneAt lanes now u i lane
 lane_found {lanes} {now} {universes} {i} {found} {lane} u d same are result some is =
-    let there : position (λ v. v == u) (universes_of lanes) ≡ Some i =
+    let there : position (λ v. v == u) (lane_universes lanes) ≡ Some i =
     rw (← are, ← result) some in
-    let found_in = found_by _ _ i (length (universes_of lanes)) refl there in
+    let found_in = found_by _ _ i (length (lane_universes lanes)) refl there in
     let within : i < length lanes =
     omega (arith, found_in.1, length-map lanes (λ (l : Lane). l.universe)) in
     let first : i ≡ place lanes u = found_in.0 ∙ places lanes u in
@@ -108,12 +108,12 @@ lane_found {lanes} {now} {universes} {i} {found} {lane} u d same are result some
 -- a lane that keeps its universe leaves those of the sender as they are
 pub universes_same : (lanes : List Lane) (i : ℕ) (new old : Lane)
     → new.universe ≡ (get_or lanes i old).universe
-    → universes_of (slice_set lanes i new) ≡ universes_of lanes
+    → lane_universes (slice_set lanes i new) ≡ lane_universes lanes
 universes_same lanes i new old kept = map-set_same (λ (l : Lane). l.universe) lanes i new old kept
 
 -- the lane changes, and keeps its universe
 pub record Changes (lanes now : List Lane) (u i : ℕ) (new : Lane) : Type 0 where
-  pub universes : universes_of (slice_set lanes i new) ≡ universes_of lanes
+  pub universes : lane_universes (slice_set lanes i new) ≡ lane_universes lanes
   pub at : lane_of (slice_set lanes i new) u ≡ Some new
   pub others : (v : ℕ) → v ≢ u → lane_of (slice_set lanes i new) v ≡ lane_of now v
 
@@ -137,10 +137,11 @@ none_by b p n h e = grind (arith, nat_tests)
 
 pub no_lane : (who : Identity) (lanes now : List Lane) (universes : List ℕ) (u : ℕ)
     (offers : List Offer)
-    (n : ℕ) → lanes ≡ now → universes ≡ universes_of lanes → position (λ v. v == u) universes ≡ None
+    (n : ℕ) → lanes ≡ now → universes ≡ lane_universes lanes
+    → position (λ v. v == u) universes ≡ None
     → StandsFor who now u offers n → ⊥
 no_lane who lanes now universes u offers n same are none s =
-    let there : position (λ v. v == u) (universes_of lanes) ≡ None =
+    let there : position (λ v. v == u) (lane_universes lanes) ≡ None =
     rw (← are) none in
     let past : length lanes ≤ place lanes u = omega (
       arith,
@@ -154,27 +155,27 @@ no_lane who lanes now universes u offers n same are none s =
 
 -- a universe that is found is among those of the lanes
 pub is_there : {lanes now : List Lane} {u i : ℕ} {lane : Lane} → LaneAt lanes now u i lane
-    → Contains (universes_of now) u
+    → Contains (lane_universes now) u
 is_there {lanes} {now} {u} {i} {lane} p =
     let universe : Lane → ℕ = λ l. l.universe in
-    let at : slice_get (universes_of lanes) i ≡ Some u =
+    let at : slice_get (lane_universes lanes) i ≡ Some u =
     slice_get-map universe lanes i ∙ ap (option_map universe) p.get ∙ ap Some p.is in
-    subst (λ (ls : List Lane). Contains (universes_of ls) u) p.same (
+    subst (λ (ls : List Lane). Contains (lane_universes ls) u) p.same (
       i,
       omega (arith, p.within, length-map lanes universe),
-      get_or_from_slice_get (universes_of lanes) i u u at,
+      get_or_from_slice_get (lane_universes lanes) i u u at,
     )
 
 -- a sender that was just opened
 pub opened : (who : Identity) (lanes : List Lane) (universes : List ℕ) (u : ℕ)
-    → universes_of lanes ≡ universes → All (λ lane. LaneStands who lane [] 0) lanes
+    → lane_universes lanes ≡ universes → All (λ lane. LaneStands who lane [] 0) lanes
     → Contains universes u → StandsFor who lanes u [] 0
 opened who lanes universes u are all here =
-    let there : Contains (universes_of lanes) u = rw are here in
-    let found = found_some _ (is_found (universes_of lanes) u there) in
+    let there : Contains (lane_universes lanes) u = rw are here in
+    let found = found_some _ (is_found (lane_universes lanes) u there) in
     let within : found.0 < length lanes = omega (
       arith,
-      (found_by _ _ found.0 (length (universes_of lanes)) refl found.1).1,
+      (found_by _ _ found.0 (length (lane_universes lanes)) refl found.1).1,
       length-map lanes (λ (l : Lane). l.universe),
     ) in
     let some = some_at lanes found.0 within in
@@ -184,8 +185,8 @@ opened who lanes universes u are all here =
 
 pub universes_more : (lanes : List Lane) (lane : Lane) (universes : List ℕ) (i d : ℕ)
     → i < length universes → lane.universe ≡ get_or universes i d
-    → universes_of lanes ≡ take i universes
-    → universes_of (lanes ++ lane ∷ []) ≡ take (i + 1) universes
+    → lane_universes lanes ≡ take i universes
+    → lane_universes (lanes ++ lane ∷ []) ≡ take (i + 1) universes
 universes_more lanes lane universes i d within is so_far =
     rw (
       map_push (λ (l : Lane). l.universe) lanes lane,

@@ -1,7 +1,7 @@
 -- Laws over the offers of one universe alone, the newest first, and over the answers to them.
 use Rattle.std.specs.Prelude.{◌≡◌, ℕ, ◌+◌, ◌≤◌, true, false, List, [], ◌∷◌, ◌++◌, Option}
 use Rattle.sacn_source.specs.declared.offered.Offered.{Offered}
-use Rattle.sacn_source.specs.Offering.{Answers, number_of}
+use Rattle.sacn_source.specs.Offering.{Answers, sequence_of}
 use Rattle.sacn_source.specs.Stream.{Offer, Packet}
 use Rattle.sacn_source.specs.Stream.{changed_within, last_sent, live_packet, packets, sends}
 use Rattle.sacn_source.specs.Timing.{AreCloser, AreWithin, moments_sent}
@@ -27,4 +27,4 @@ NewestPacketIsNewestFrame =
 abbrev pub AnswersAreAlike : Type 0
 AnswersAreAlike =
     (place : ℕ) (packet : Option Packet) (one other : Offered)
-    → Answers place packet one → Answers place packet other → number_of one ≡ number_of other
+    → Answers place packet one → Answers place packet other → sequence_of one ≡ sequence_of other

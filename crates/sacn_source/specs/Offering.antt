@@ -13,10 +13,10 @@ abbrev pub answer_of : Bool → ℕ → Offered
 answer_of failed place = if failed then Lost (place % 256) else Sent (place % 256)
 
 -- the sequence number that was used, where one was
-abbrev pub number_of : Offered → Option ℕ
-number_of (Sent number) = Some number
-number_of (Lost number) = Some number
-number_of Quiet = None
+abbrev pub sequence_of : Offered → Option ℕ
+sequence_of (Sent number) = Some number
+sequence_of (Lost number) = Some number
+sequence_of Quiet = None
 
 -- the answer fits the packet that is due at this place: its number, or Quiet where none is due
 abbrev pub Answers : ℕ → Option Packet → Offered → Type 0

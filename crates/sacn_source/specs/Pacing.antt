@@ -22,8 +22,8 @@ pub record IsPace (pace : Pace) : Type 0 where
   pub before : pace.last_sent ≤ pace.earliest
 
 -- whether an offer is a change: other slots than those kept, or the first
-abbrev pub is_change : Pace → Bool → Bool
-is_change pace differs = differs || pace.earliest == 0
+abbrev pub pace_changes : Pace → Bool → Bool
+pace_changes pace differs = differs || pace.earliest == 0
 
 -- whether an offer sends, by what the pace keeps
 abbrev pub is_due : Pace → Bool → ℕ → Bool

@@ -2,7 +2,7 @@
 use Rattle.std.specs.Prelude.{ℕ, zero, suc, ◌==◌, List, map, find, replicate, Option, Some, None}
 use Rattle.std.specs.Option.{option_map_or}
 use Rattle.sacn_packet.specs.Wire.{IsData}
-use Rattle.sacn_source.specs.Identify.{fields_of}
+use Rattle.sacn_source.specs.Identify.{packet_fields}
 use Rattle.sacn_source.specs.Identity.{Identity}
 use Rattle.sacn_source.specs.Kept.{Lane}
 use Rattle.sacn_source.specs.Pacing.{Paces}
@@ -18,7 +18,7 @@ slots_after offers (suc n) = replicate 512 0
 pub record LaneStands (who : Identity) (lane : Lane) (offers : List Offer) (n : ℕ) : Type 0 where
   pub paces : Paces lane.pace offers n
   pub packet : (sequence : ℕ) × (options : ℕ)
-      × IsData lane.packet (fields_of who lane.universe sequence options) (slots_after offers n)
+      × IsData lane.packet (packet_fields who lane.universe sequence options) (slots_after offers n)
 
 -- the lane of a universe, where there is one
 abbrev pub lane_of : List Lane → ℕ → Option Lane
@@ -35,8 +35,8 @@ abbrev pub StandsFor : Identity → List Lane → ℕ → List Offer → ℕ →
 StandsFor who lanes universe offers n = StandsAt who (lane_of lanes universe) offers n
 
 -- the universes of a sender, in the order in which it was given them
-abbrev pub universes_of : List Lane → List ℕ
-universes_of lanes = map (λ lane. lane.universe) lanes
+abbrev pub lane_universes : List Lane → List ℕ
+lane_universes lanes = map (λ lane. lane.universe) lanes
 
 -- the earliest moment that may be offered next on a universe; 0 where nothing was
 abbrev pub earliest_of : List Lane → ℕ → ℕ

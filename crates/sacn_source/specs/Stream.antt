@@ -59,9 +59,9 @@ packets offers zero = map live_packet (frames_sent offers)
 packets offers (suc n) = packets offers n ++ last_packet ∷ []
 
 -- the packet that the newest offer sends, where it sends one
-abbrev pub due : List Offer → Option Packet
-due [] = None
-due (o ∷ older) = if sends (o ∷ older) then Some (live_packet o.frame) else None
+abbrev pub due_packet : List Offer → Option Packet
+due_packet [] = None
+due_packet (o ∷ older) = if sends (o ∷ older) then Some (live_packet o.frame) else None
 
 -- the frame of the newest offer; zeros before the first
 abbrev pub newest_frame : List Offer → List ℕ

@@ -1,7 +1,7 @@
 ghost use Rattle.std.specs.Prelude.{◌≡◌, ◌≤◌};
 ghost use Rattle.std.specs.Option.{SomeIff};
 ghost use Rattle.sacn_packet.specs.Header as header;
-ghost use Rattle.sacn_source.specs.Identify.{fields_of};
+ghost use Rattle.sacn_source.specs.Identify.{packet_fields};
 
 use sacn_packet::{Header, SourceName};
 use std::marker::Model;
@@ -46,7 +46,7 @@ impl Identity {
 
     // What the source's first packet to a universe says.
     pub(crate) fn header(&self, universe: u16) -> Header
-        ensures fields { header.fields_of result ≡ fields_of self.now universe 0 0 }
+        ensures fields { header.header_fields result ≡ packet_fields self.now universe 0 0 }
         ensures priority { result.priority ≤ 200 }
         ensures universe { result.universe ≡ universe }
     {

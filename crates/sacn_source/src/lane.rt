@@ -5,7 +5,7 @@ ghost use Rattle.sacn_packet.specs.Wire.{Fields, IsData};
 ghost use Rattle.sacn_source.specs.Identity.{Identity as Who};
 ghost use Rattle.sacn_source.specs.Offering.{Answers, Offers, answer_of};
 ghost use Rattle.sacn_source.specs.Stands.{LaneStands};
-ghost use Rattle.sacn_source.specs.Stream.{Offer, due, last_packet, packets};
+ghost use Rattle.sacn_source.specs.Stream.{Offer, due_packet, last_packet, packets};
 
 use crate::identity::Identity;
 use crate::offered::Offered;
@@ -51,11 +51,11 @@ impl Lane {
     }
 
     /// How many packets there were, terminations and lost ones too.
-    pub fn sent(&self) -> u64
+    pub fn packets_sent(&self) -> u64
         ensures value { result ≡ self.now.pace.sent }
         ensures below { result < 2 ^ 48 + 4 }
     {
-        self.pace.sent()
+        self.pace.packets_sent()
     }
 
     /// Offers a frame, and sends it where a packet is due.
@@ -68,16 +68,16 @@ impl Lane {
             LaneStands who self.new (record { moment = moment; frame = slots.now } ∷ offers) 0 }
         ensures answer { (who : Who) (offers : List Offer) → LaneStands who self.old offers 0 →
             Answers (length (packets offers 0))
-            (due (record { moment = moment; frame = slots.now } ∷ offers)) result }
+            (due_packet (record { moment = moment; frame = slots.now } ∷ offers)) result }
         ensures told { L.tells link.new → L.tells link.old }
         ensures offered { (who : Who) (offers : List Offer) → LaneStands who self.old offers 0 →
             L.tells link.new → Offers who self.old.universe (length (packets offers 0))
-            (due (record { moment = moment; frame = slots.now } ∷ offers))
+            (due_packet (record { moment = moment; frame = slots.now } ∷ offers))
             result (L.offered link.old) (L.offered link.new) }
         ensures earliest { self.new.pace.earliest ≡ moment + 1 }
         ensures ended { self.new.pace.ended ≡ self.old.pace.ended }
     {
-        let place = self.pace.sent();
+        let place = self.pace.packets_sent();
         let differs = replace_slots(&mut self.packet, slots);
         if self.pace.take_offer(differs, moment) {
             send(self.universe, &mut self.packet, place, 0, link)
@@ -103,7 +103,7 @@ impl Lane {
         ensures earliest { self.new.pace.earliest ≡ self.old.pace.earliest }
         ensures ended { self.new.pace.ended ≡ self.old.pace.ended + 1 }
     {
-        let place = self.pace.sent();
+        let place = self.pace.packets_sent();
         refill(&mut self.packet, &[0; 512]);
         self.pace.take_termination();
         send(self.universe, &mut self.packet, place, TERMINATED, link)

@@ -1,5 +1,5 @@
 ghost use Rattle.std.specs.Prelude.{◌≡◌, ◌<◌, ◌≤◌, ◌+◌, ◌^◌, []};
-ghost use Rattle.sacn_source.specs.Pacing.{Paces, is_change, is_due, pace_after, pace_ended};
+ghost use Rattle.sacn_source.specs.Pacing.{Paces, pace_changes, is_due, pace_after, pace_ended};
 
 use std::marker::Model;
 
@@ -47,7 +47,7 @@ impl Pace {
     }
 
     /// How many packets there were, terminations and lost ones too.
-    pub fn sent(&self) -> u64
+    pub fn packets_sent(&self) -> u64
         ensures value { result ≡ self.now.sent }
         ensures below { result < 2 ^ 48 + 4 }
     {
@@ -59,8 +59,8 @@ impl Pace {
     pub fn take_offer(&mut self, differs: bool, moment: u64) -> bool
         requires later { self.old.earliest ≤ moment }
         requires below { moment < 2 ^ 48 }
-        ensures due { result ≡ is_due self.old (is_change self.old differs) moment }
-        ensures state { self.new ≡ pace_after self.old (is_change self.old differs) moment }
+        ensures due { result ≡ is_due self.old (pace_changes self.old differs) moment }
+        ensures state { self.new ≡ pace_after self.old (pace_changes self.old differs) moment }
     {
         let changed = differs || self.earliest == 0;
         let due = changed || self.repeats > 0 || self.last_sent + KEEP_ALIVE <= moment;

@@ -2,8 +2,9 @@ ghost use Rattle.std.specs.Prelude.{◌≡◌, ◌≢◌, ◌<◌, ◌≤◌, �
 ghost use Rattle.std.specs.Prelude.{List, length, All, Contains, IfOk};
 ghost use Rattle.sacn_source.specs.Identity.{Identity as Who};
 ghost use Rattle.sacn_source.specs.Offering.{Answers, Offers};
-ghost use Rattle.sacn_source.specs.Stands.{StandsFor, earliest_of, ended_of, lane_of, universes_of};
-ghost use Rattle.sacn_source.specs.Stream.{Offer, due, last_packet, packets};
+ghost use Rattle.sacn_source.specs.Stands.{StandsFor, earliest_of, ended_of, lane_of};
+ghost use Rattle.sacn_source.specs.Stands.{lane_universes};
+ghost use Rattle.sacn_source.specs.Stream.{Offer, due_packet, last_packet, packets};
 
 use crate::identity::Identity;
 use crate::lane::Lane;
@@ -28,11 +29,11 @@ impl Model for Sender {
 
     ghost Value = { List kept.Lane };
 
-    ghost use Rattle.sacn_source.specs.Stands.{universes_of};
+    ghost use Rattle.sacn_source.specs.Stands.{lane_universes};
 
     ghost view = { λ a. a.lanes.items };
 
-    ghost invariant = { λ a. a.universes ≡ universes_of a.lanes.items };
+    ghost invariant = { λ a. a.universes ≡ lane_universes a.lanes.items };
 }
 
 impl Sender {
@@ -45,7 +46,7 @@ impl Sender {
     /// `AllocError` if an allocation failed.
     pub fn open(alloc: Global, who: Identity, universes: &[u16]) -> Result<Sender, AllocError>
         requires range { All (λ universe. (1 ≤ universe) × (universe ≤ 63999)) universes.now }
-        ensures universes { IfOk result (λ sender. universes_of sender ≡ universes.now) }
+        ensures universes { IfOk result (λ sender. lane_universes sender ≡ universes.now) }
         ensures stands { IfOk result (λ sender. (universe : ℕ) → Contains universes.now universe →
             StandsFor who sender universe [] 0) }
         ensures earliest { IfOk result (λ sender. (universe : ℕ) → Contains universes.now universe →
@@ -73,11 +74,11 @@ impl Sender {
         slots: &Slots,
         link: &mut L,
     ) -> Offered
-        requires here { Contains (universes_of self.old) universe }
+        requires here { Contains (lane_universes self.old) universe }
         requires later { earliest_of self.old universe ≤ moment }
         requires below { moment < 2 ^ 48 }
         requires live { ended_of self.old universe ≡ 0 }
-        ensures universes { universes_of self.new ≡ universes_of self.old }
+        ensures universes { lane_universes self.new ≡ lane_universes self.old }
         ensures stands { (who : Who) (offers : List Offer) →
             StandsFor who self.old universe offers 0 →
             StandsFor who self.new universe
@@ -87,12 +88,12 @@ impl Sender {
         ensures answer { (who : Who) (offers : List Offer) →
             StandsFor who self.old universe offers 0 →
             Answers (length (packets offers 0))
-            (due (record { moment = moment; frame = slots.now } ∷ offers)) result }
+            (due_packet (record { moment = moment; frame = slots.now } ∷ offers)) result }
         ensures told { L.tells link.new → L.tells link.old }
         ensures offered { (who : Who) (offers : List Offer) →
             StandsFor who self.old universe offers 0 → L.tells link.new →
             Offers who universe (length (packets offers 0))
-            (due (record { moment = moment; frame = slots.now } ∷ offers))
+            (due_packet (record { moment = moment; frame = slots.now } ∷ offers))
             result (L.offered link.old) (L.offered link.new) }
         ensures earliest { earliest_of self.new universe ≡ moment + 1 }
         ensures ended { ended_of self.new universe ≡ 0 }
@@ -105,9 +106,9 @@ impl Sender {
     /// most three end a stream.
     #[tactic(auto, using(crate::proofs::SenderLemmas::universes_same))]
     pub fn terminate<L: Link>(&mut self, universe: u16, link: &mut L) -> Offered
-        requires here { Contains (universes_of self.old) universe }
+        requires here { Contains (lane_universes self.old) universe }
         requires fewer { ended_of self.old universe < 3 }
-        ensures universes { universes_of self.new ≡ universes_of self.old }
+        ensures universes { lane_universes self.new ≡ lane_universes self.old }
         ensures stands { (who : Who) (offers : List Offer) (n : ℕ) →
             StandsFor who self.old universe offers n →
             StandsFor who self.new universe offers (suc n) }
@@ -130,14 +131,14 @@ impl Sender {
 
     /// How many packets were sent on a universe, terminations and lost ones too; 0 where it is none
     /// of the sender's.
-    pub fn sent(&self, universe: u16) -> u64
+    pub fn packets_sent(&self, universe: u16) -> u64
         ensures sent { (who : Who) (offers : List Offer) (n : ℕ) →
             StandsFor who self.now universe offers n → result ≡ length (packets offers n) }
-        ensures other { (Contains (universes_of self.now) universe → ⊥) → result ≡ 0 }
+        ensures other { (Contains (lane_universes self.now) universe → ⊥) → result ≡ 0 }
         ensures below { result < 2 ^ 48 + 4 }
     {
         match self.universes.place_of(universe) {
-            Some(place) => self.lanes[place].sent(),
+            Some(place) => self.lanes[place].packets_sent(),
             None => 0,
         }
     }

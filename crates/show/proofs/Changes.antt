@@ -8,7 +8,7 @@ use Rattle.std.specs.FinMap as map
 use Rattle.std.proofs.lemmas.Map.Views.{tells_apart}
 use Rattle.std.proofs.lemmas.Map.Lookups.{exact_unsigned}
 use Rattle.show.specs.Tables.{CueMap, MasterMap}
-use Rattle.show.specs.Builders.{changed, with_bytes, with_levels, with_all_listed}
+use Rattle.show.specs.Builders.{with_change, with_bytes, with_levels, with_all_listed}
 
 module _ {V : Type 0} where
   same : (a b : map.FinMap nat_cmp V) → ((q : ℕ) → map.get a q ≡ map.get b q) → a ≡ b
@@ -67,10 +67,11 @@ module _ {V : Type 0} where
 
 -- levels one after the other are one change of the record
 pub changed_levels : (cues : CueMap) (n : ℕ) (ps : List (ℕ × ℕ)) → with_levels cues n ps
-    ≡ changed cues n (λ cue. record cue { levels = with_bytes cue.levels ps })
+    ≡ with_change cues n (λ cue. record cue { levels = with_bytes cue.levels ps })
 changed_levels cues n [] = sym (changed_not cues n)
 changed_levels cues n (p ∷ ps) =
-    changed_levels (changed cues n (λ c. record c { levels = map.insert c.levels p.0 p.1 })) n ps
+    changed_levels (with_change cues n (λ c. record c { levels = map.insert c.levels p.0 p.1 })) n
+    ps
     ∙ changed_twice cues n (λ cue. record cue { levels = map.insert cue.levels p.0 p.1 })
     (λ cue. record cue { levels = with_bytes cue.levels ps })
 

@@ -12,7 +12,7 @@ use Rattle.show.specs.declared.cue.CueData.{CueData}
 use Rattle.show.specs.declared.rate.Rate.{Rate}
 use Rattle.show.specs.Numbers.{is_channel, is_dimmer, is_sub, is_group, is_cue_number, is_time}
 use Rattle.show.specs.Tables.{Tables, LevelMap, CueMap, MasterMap, PatchMap}
-use Rattle.show.specs.Builders.{blank, opened, can_open, changed, opened_in}
+use Rattle.show.specs.Builders.{blank, with_cue, can_open, with_change, opened_in}
 use Rattle.show.specs.Builders.{can_patch, patched_with, all_patched}
 use Rattle.show.specs.Readers.{IsInRange, IsRateInRange, HasTimes, rate_of}
 use Rattle.show.proofs.Sorted.{and_left, and_right, from_true, to_true}
@@ -110,7 +110,7 @@ module _ (t : Tables) (h : IsInRange t) where
   }
 
   pub opened_cue_in_range : (n : ℕ) → can_open t.cues n ≡ true
-      → IsInRange (record t { cues = opened t.cues n })
+      → IsInRange (record t { cues = with_cue t.cues n })
   opened_cue_in_range n can =
       elim (map.contains_key t.cues n)
       as (λ b. map.contains_key t.cues n ≡ b
@@ -132,11 +132,12 @@ module _ (t : Tables) (h : IsInRange t) where
 
   pub changed_cue_in_range : (n : ℕ) (change : CueData → CueData)
       → ((cue : CueData) → HasTimes cue → HasTimes (change cue))
-      → IsInRange (record t { cues = changed t.cues n change })
+      → IsInRange (record t { cues = with_change t.cues n change })
   changed_cue_in_range n change keep =
-      let many : map.len (changed t.cues n change) ≡ map.len t.cues = len-changed t.cues n change in
+      let many : map.len (with_change t.cues n change) ≡ map.len t.cues =
+      len-changed t.cues n change in
       let few : map.len t.cues ≤ 2000 = h.cues_fit in
-      cues_in_range (changed t.cues n change)
+      cues_in_range (with_change t.cues n change)
       (keys-changed (λ k. IsTrue (is_cue_number k)) t.cues n change h.cues_in) (omega arith)
       (values-changed HasTimes t.cues n change keep h.times_in)
 

@@ -8,7 +8,7 @@ use Rattle.show.specs.declared.rate.Rate.{Rate}
 use Rattle.show.specs.Numbers.{is_channel, is_dimmer, is_sub, is_group, is_cue_number, is_time}
 use Rattle.show.specs.Tables.{LevelMap, CueMap, PatchMap}
 use Rattle.show.specs.Builders.{can_open, can_patch}
-use Rattle.show.specs.Readers.{rate_of, ordinal_of, universes_of, slot_of, look_frame}
+use Rattle.show.specs.Readers.{rate_of, ordinal_of, patch_ordinals, slot_of, look_frame}
 
 channels : (is_channel 0 ≡ false) × (is_channel 1 ≡ true)
     × (is_channel 4096 ≡ true) × (is_channel 4097 ≡ false)
@@ -60,7 +60,7 @@ ordinals = (refl, refl, refl, refl, refl, refl)
 both_ends : List (ℕ × (ℕ × ℕ))
 both_ends = (1, (1, 255)) ∷ (512, (1, 255)) ∷ (8192, (4096, 255)) ∷ []
 
-universes : universes_of (map.from_sorted both_ends) ≡ 0 ∷ 15 ∷ []
+universes : patch_ordinals (map.from_sorted both_ends) ≡ 0 ∷ 15 ∷ []
 unfolding both_ends
 universes =
     ap (λ es. filter (λ k. list_any (λ e. ordinal_of e.0 == k) es) (range_with_len 0 16))

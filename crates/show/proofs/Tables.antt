@@ -10,36 +10,39 @@ use Rattle.std.specs.FinMap as map
 use Rattle.std.specs.FinMap.Entries.{below_all, by_order}
 use Rattle.std.proofs.lemmas.List.{length-map, map-id}
 use Rattle.show.specs.Place.{IsAt, IsGap}
-use Rattle.show.specs.Keys.{IsNumbered, numbered}
+use Rattle.show.specs.Keys.{IsNumbered, entries_by_number}
 use Rattle.show.proofs.Sorted.{find_at, find_gap, set_at, sorted_put, entries_are}
 use Rattle.show.proofs.Sorted.{from_sorted-put, from_sorted-nil}
 
 module _ {K V : Type 0} {R : K → K → Ordering} {number : K → ℕ} (k : IsNumbered R number) where
   below : (x : K) (es : List (K × V))
-      → below_all nat_cmp (number x) (numbered number es) ≡ below_all R x es
+      → below_all nat_cmp (number x) (entries_by_number number es) ≡ below_all R x es
   below x [] = refl
   below x (e ∷ es) = rw (k.by_number x e.0)
       (ap (λ b. is_lt (nat_cmp (number x) (number e.0)) && b) (below x es))
 
-  sorted_by : (es : List (K × V)) → map.is_sorted nat_cmp (numbered number es) ≡ map.is_sorted R es
+  sorted_by : (es : List (K × V)) → map.is_sorted nat_cmp (entries_by_number number es)
+      ≡ map.is_sorted R es
   sorted_by [] = refl
   sorted_by (e ∷ es) = λ i. below e.0 es i && sorted_by es i
 
   find_by : (q : K) (es : List (K × V))
-      → map.find nat_cmp (number q) (numbered number es) ≡ map.find R q es
+      → map.find nat_cmp (number q) (entries_by_number number es) ≡ map.find R q es
   find_by q [] = refl
   find_by q (e ∷ es) = rw (k.by_number q e.0)
       (ap (cond (eq_by_cmp nat_cmp (number q) (number e.0)) (Some e.1)) (find_by q es))
 
   put_by : (q : K) (v : V) (es : List (K × V))
-      → numbered number (map.put R q v es) ≡ map.put nat_cmp (number q) v (numbered number es)
+      → entries_by_number number (map.put R q v es)
+      ≡ map.put nat_cmp (number q) v (entries_by_number number es)
   put_by q v [] = refl
   put_by q v (e ∷ es) =
       let here : ℕ × V = (number e.0, e.1) in
-      let rest : List (ℕ × V) = numbered number es in
+      let rest : List (ℕ × V) = entries_by_number number es in
       rw (k.by_number q e.0)
       (elim (nat_cmp (number q) (number e.0))
-      as (λ r. numbered number (by_order r ((q, v) ∷ e ∷ es) ((e.0, v) ∷ es) (e ∷ map.put R q v es))
+      as (λ r. entries_by_number number
+      (by_order r ((q, v) ∷ e ∷ es) ((e.0, v) ∷ es) (e ∷ map.put R q v es))
       ≡ by_order r ((number q, v) ∷ here ∷ rest) ((number e.0, v) ∷ rest)
       (here ∷ map.put nat_cmp (number q) v rest)) [
         | Less ↦ refl
@@ -48,12 +51,14 @@ module _ {K V : Type 0} {R : K → K → Ordering} {number : K → ℕ} (k : IsN
       ])
 
   module _ (es : List (K × V)) {m : map.FinMap nat_cmp V}
-      (seen : map.from_sorted (numbered number es) ≡ m) (sorted : IsTrue (map.is_sorted R es)) where
-    numbers_sorted : IsTrue (map.is_sorted nat_cmp (numbered number es))
+      (seen : map.from_sorted (entries_by_number number es) ≡ m)
+      (sorted : IsTrue (map.is_sorted R es)) where
+    numbers_sorted : IsTrue (map.is_sorted nat_cmp (entries_by_number number es))
     numbers_sorted = sorted_by es ∙ sorted
 
-    entries_seen : numbered number es ≡ map.entries m
-    entries_seen = sym (entries_are nat_cmp nat_cmp_total (numbered number es) numbers_sorted)
+    entries_seen : entries_by_number number es ≡ map.entries m
+    entries_seen =
+        sym (entries_are nat_cmp nat_cmp_total (entries_by_number number es) numbers_sorted)
         ∙ ap map.entries seen
 
     pub len_seen : length es ≡ map.len m
@@ -65,9 +70,11 @@ module _ {K V : Type 0} {R : K → K → Ordering} {number : K → ℕ} (k : IsN
         ∙ sym (map.get-entries m (number key))
 
     pub put_seen : (key : K) (v : V)
-        → map.from_sorted (numbered number (map.put R key v es)) ≡ map.insert m (number key) v
+        → map.from_sorted (entries_by_number number (map.put R key v es))
+        ≡ map.insert m (number key) v
     put_seen key v = ap map.from_sorted (put_by key v es)
-        ∙ from_sorted-put nat_cmp nat_cmp_total (numbered number es) numbers_sorted (number key) v
+        ∙ from_sorted-put nat_cmp nat_cmp_total (entries_by_number number es) numbers_sorted
+        (number key) v
         ∙ ap (λ x. map.insert x (number key) v) seen
 
     -- the value at the place that a search found, and what writing another one there leaves
@@ -84,7 +91,8 @@ module _ {K V : Type 0} {R : K → K → Ordering} {number : K → ℕ} (k : IsN
             (sorted_put R k.total es sorted key v)
 
         pub set_seen : (v : V)
-            → map.from_sorted (numbered number (set es i (e.0, v))) ≡ map.insert m (number key) v
+            → map.from_sorted (entries_by_number number (set es i (e.0, v)))
+            ≡ map.insert m (number key) v
         set_seen v = rw (set_at R k.total es sorted key i e v at is) (put_seen key v)
 
 pub of_none : {K V : Type 0} (f : K × V → ℕ × V) (es : List (K × V)) → es ≡ []

@@ -22,21 +22,22 @@ abbrev pub blank : CueData
 blank = record { levels = map.empty; up = None; down = None; follow = None }
 
 -- with cue n: as it is, or blank where it is not there
-abbrev pub opened : CueMap → ℕ → CueMap
-opened cues n = if map.contains_key cues n then cues else map.insert cues n blank
+abbrev pub with_cue : CueMap → ℕ → CueMap
+with_cue cues n = if map.contains_key cues n then cues else map.insert cues n blank
 
 -- n is a cue number, and is there or is not one cue too many
 abbrev pub can_open : CueMap → ℕ → Bool
 can_open cues n = is_cue_number n && (map.contains_key cues n || nat_lt (map.len cues) 2000)
 
 -- with what the function makes of cue n, where it is there
-abbrev pub changed : CueMap → ℕ → (CueData → CueData) → CueMap
-changed cues n change = option_map_or (λ cue. map.insert cues n (change cue)) (map.get cues n) cues
+abbrev pub with_change : CueMap → ℕ → (CueData → CueData) → CueMap
+with_change cues n change =
+    option_map_or (λ cue. map.insert cues n (change cue)) (map.get cues n) cues
 
 -- with a level of cue n
 abbrev pub with_level : CueMap → ℕ → ℕ → ℕ → CueMap
 with_level cues n channel byte =
-    changed cues n (λ cue. record cue { levels = map.insert cue.levels channel byte })
+    with_change cues n (λ cue. record cue { levels = map.insert cue.levels channel byte })
 
 -- with levels of cue n, one after the other: the last one of a channel counts
 abbrev pub with_levels : CueMap → ℕ → List (ℕ × ℕ) → CueMap
@@ -45,15 +46,15 @@ with_levels cues n (p ∷ pairs) = with_levels (with_level cues n p.0 p.1) n pai
 
 -- with the rate of rising levels of cue n
 abbrev pub with_up : CueMap → ℕ → Rate → CueMap
-with_up cues n rate = changed cues n (λ cue. record cue { up = Some rate })
+with_up cues n rate = with_change cues n (λ cue. record cue { up = Some rate })
 
 -- with the rate of falling levels of cue n
 abbrev pub with_down : CueMap → ℕ → Rate → CueMap
-with_down cues n rate = changed cues n (λ cue. record cue { down = Some rate })
+with_down cues n rate = with_change cues n (λ cue. record cue { down = Some rate })
 
 -- with the follow-on time of cue n
 abbrev pub with_follow : CueMap → ℕ → ℕ → CueMap
-with_follow cues n time = changed cues n (λ cue. record cue { follow = Some time })
+with_follow cues n time = with_change cues n (λ cue. record cue { follow = Some time })
 
 -- ---- submasters and groups
 

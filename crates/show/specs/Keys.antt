@@ -11,5 +11,5 @@ pub record IsNumbered {K : Type 0} (R : K → K → Ordering) (number : K → �
   pub by_number : (a b : K) → R a b ≡ nat_cmp (number a) (number b)
 
 -- the entries by the numbers of their keys
-abbrev pub numbered : {K V : Type 0} → (K → ℕ) → List (K × V) → List (ℕ × V)
-numbered number = map (λ e. (number e.0, e.1))
+abbrev pub entries_by_number : {K V : Type 0} → (K → ℕ) → List (K × V) → List (ℕ × V)
+entries_by_number number = map (λ e. (number e.0, e.1))

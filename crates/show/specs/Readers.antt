@@ -35,8 +35,8 @@ abbrev pub has_dimmer_in : PatchMap → ℕ → Bool
 has_dimmer_in patch ordinal = list_any (λ e. ordinal_of e.0 == ordinal) (maps.entries patch)
 
 -- the ordinals with a patched dimmer, ascending
-abbrev pub universes_of : PatchMap → List ℕ
-universes_of patch = filter (has_dimmer_in patch) (range_with_len 0 16)
+abbrev pub patch_ordinals : PatchMap → List ℕ
+patch_ordinals patch = filter (has_dimmer_in patch) (range_with_len 0 16)
 
 -- a slot: the fine level of its channel, scaled by the grand master and the patch byte, to the
 -- nearest byte

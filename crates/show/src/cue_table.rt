@@ -3,7 +3,7 @@ ghost use Rattle.std.specs.List.{list_all};
 ghost use Rattle.std.specs.Prelude.{find as find_in, reverse, nat_lt, map as map_list};
 ghost use Rattle.std.specs.FinMap as map;
 ghost use Rattle.show.specs.Numbers.{is_channel};
-ghost use Rattle.show.specs.Builders.{opened, with_level, with_levels, with_up, with_down};
+ghost use Rattle.show.specs.Builders.{with_cue, with_level, with_levels, with_up, with_down};
 ghost use Rattle.show.specs.Builders.{with_follow};
 ghost use Rattle.show.specs.Readers.{HasTimes, cue_above, cue_below};
 
@@ -20,7 +20,7 @@ pub type CueTable = Table<u32, HeapCue>;
 impl CueTable {
     // Opens cue `n`, or continues it where it is there.
     pub fn open(&mut self, alloc: Global, n: u32) -> Result<(), AllocError>
-        ensures opened { OnOk result (self.new ≡ opened self.old n) }
+        ensures opened { OnOk result (self.new ≡ with_cue self.old n) }
         ensures unchanged { OnErr result (self.new ≡ self.old) }
         ensures sure { IsTrue (map.contains_key self.old n) → IsOk result }
     {

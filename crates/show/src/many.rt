@@ -54,7 +54,7 @@ pub fn put_all<V: Kept>(entries: &mut Vec<(u16, V)>, new: &[(u16, V)]) -> Result
         return put_each(entries, new, staying);
     }
     let alloc = *entries.allocator();
-    *entries = merged(alloc, entries, new)?;
+    *entries = merge(alloc, entries, new)?;
     Ok(())
 }
 
@@ -120,7 +120,7 @@ fn behind<V: Kept>(entry: &(u16, V)) -> u32
 
 // The entries with the new ones, by way of a table with a place for each key. It costs a pass over
 // all keys, and no search or move for an entry.
-fn merged<V: Kept>(
+fn merge<V: Kept>(
     alloc: Global,
     entries: &[(u16, V)],
     new: &[(u16, V)],

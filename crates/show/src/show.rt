@@ -4,11 +4,11 @@ ghost use Rattle.std.specs.List.{list_all};
 ghost use Rattle.std.specs.Option.{OnSome};
 ghost use Rattle.std.specs.FinMap as map;
 ghost use Rattle.show.specs.Numbers.{is_channel, is_dimmer, is_sub, is_group, is_time};
-ghost use Rattle.show.specs.Builders.{opened, can_open, with_level, with_levels};
+ghost use Rattle.show.specs.Builders.{with_cue, can_open, with_level, with_levels};
 ghost use Rattle.show.specs.Builders.{with_up, with_down, with_follow};
 ghost use Rattle.show.specs.Builders.{opened_in, with_listed, with_all_listed};
 ghost use Rattle.show.specs.Builders.{can_patch, patched_with, all_patched};
-ghost use Rattle.show.specs.Readers.{cue_above, cue_below, universes_of};
+ghost use Rattle.show.specs.Readers.{cue_above, cue_below, patch_ordinals};
 ghost use Rattle.show.specs.Readers.{look_slot, look_frame, IsInRange};
 ghost use Rattle.show.specs.Codes.{tables_code};
 ghost use Rattle.show.specs.Inside.{show_view, IsShow};
@@ -86,7 +86,7 @@ impl Show {
     /// allocation failed.
     pub fn open_cue(&mut self, n: u32) -> Result<(), BuildFault>
         ensures opened { OnOk result (self.new
-            ≡ record self.old { cues = opened self.old.cues n }) }
+            ≡ record self.old { cues = with_cue self.old.cues n }) }
         ensures unchanged { OnErr result (self.new ≡ self.old) }
         ensures limit { (result ≡ Err Limit) ↔ IsFalse (can_open self.old.cues n) }
         ensures sure { IsTrue (can_open self.old.cues n) → IsTrue (map.contains_key self.old.cues n)
@@ -261,8 +261,8 @@ impl Show {
     ///
     /// # Errors
     ///
-    /// `Limit` where the dimmer is not 1 to 8192 or the channel above 4096; `Memory` if an allocation
-    /// failed.
+    /// `Limit` where the dimmer is not 1 to 8192 or the channel above 4096; `Memory` if an
+    /// allocation failed.
     pub fn set_patch(&mut self, dimmer: u16, channel: u16, byte: u8) -> Result<(), BuildFault>
         ensures set { OnOk result (self.new
             ≡ record self.old { patch = patched_with self.old.patch dimmer channel byte }) }
@@ -282,8 +282,8 @@ impl Show {
     ///
     /// # Errors
     ///
-    /// `Limit` where a dimmer is not 1 to 8192 or a channel above 4096; `Memory` if an allocation failed
-    /// .
+    /// `Limit` where a dimmer is not 1 to 8192 or a channel above 4096; `Memory` if an allocation
+    /// failed .
     pub fn set_patches(&mut self, entries: &[(u16, (u16, u8))]) -> Result<(), BuildFault>
         ensures set { OnOk result (self.new
             ≡ record self.old { patch = all_patched self.old.patch entries.now }) }
@@ -438,7 +438,7 @@ impl Show {
 
     /// The ordinals of the universes that have a patched dimmer, ascending.
     pub fn universes(&self) -> ArrayVec<u16, 16>
-        ensures { result.items ≡ universes_of self.now.patch }
+        ensures { result.items ≡ patch_ordinals self.now.patch }
     {
         let mut found = ArrayVec::new();
         for ordinal in 0..UNIVERSES {

@@ -48,13 +48,13 @@ impl<K: Key, V> Model for Table<K, V> {
     ghost use Rattle.std.specs.Ordering.{nat_cmp};
     ghost use Rattle.std.specs.Coded.{coded_ℕ};
     ghost use Rattle.std.specs.FinMap as map;
-    ghost use Rattle.show.specs.Keys.{numbered};
+    ghost use Rattle.show.specs.Keys.{entries_by_number};
 
     ghost Value = { map.FinMap nat_cmp V };
 
     ghost coded = { map.code coded_ℕ V.code };
 
-    ghost view = { λ t. map.from_sorted (numbered K.number t.entries.items) };
+    ghost view = { λ t. map.from_sorted (entries_by_number K.number t.entries.items) };
 
     ghost invariant = { λ t. IsTrue (map.is_sorted K.cmp t.entries.items) };
 }

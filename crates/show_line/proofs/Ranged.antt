@@ -25,13 +25,13 @@ use Rattle.show_line.specs.declared.statement.Statement.TheVariants.{Follows, Pa
 use Rattle.show_line.specs.declared.statement.Statement.TheVariants.{Clears, Quiet}
 use Rattle.show_line.specs.declared.statement.Statement.TheVariants.{Skipped, Faulty}
 use Rattle.show_line.specs.declared.triples.Triple.{Triple}
-use Rattle.show_line.specs.Keywords.{named, may_own}
+use Rattle.show_line.specs.Keywords.{value_for, may_own}
 use Rattle.show_line.specs.Faults.{lower, unless, number_fault, cue_fault, page_fault, time_fault}
 use Rattle.show_line.specs.Pairs.{Limits, desk_limits, pair_fault, pairs_in, triple_fault}
 use Rattle.show_line.specs.Pairs.{triples_in}
 use Rattle.show_line.specs.Said.{unless_faulty, is_page_1, record_said, cue_named, group_named}
 use Rattle.show_line.specs.Said.{sub_named, patch_said, rate_fault, rate_in, ident_said}
-use Rattle.show_line.specs.Said.{cleared_names, follow_fault, follow_in, clear_said, said}
+use Rattle.show_line.specs.Said.{cleared_names, follow_fault, follow_in, clear_said, statement_in}
 use Rattle.show_line.specs.Sound.{IsRecordInRange, IsRateInRange, IsPairInRange, IsTripleInRange}
 use Rattle.show_line.specs.Sound.{IsSound}
 use Rattle.show_line.proofs.Lowest.{lower_both}
@@ -164,7 +164,7 @@ module _ (lim : Limits) (owner : Option Record) (own : Bool) where
 said-clear : (lim : Limits) (owner : Option Record) (words : List (List ℕ))
     → IsSaid lim owner true (clear_said words)
 said-clear lim owner [] = tt
-said-clear lim owner (what ∷ []) = of_table (named cleared_names what)
+said-clear lim owner (what ∷ []) = of_table (value_for cleared_names what)
   where
     of_table : (o : Option Cleared) → IsSaid lim owner true (option_map_or Clears o Skipped)
     of_table None = tt
@@ -172,7 +172,7 @@ said-clear lim owner (what ∷ []) = of_table (named cleared_names what)
 said-clear lim owner (what ∷ more ∷ words) = tt
 
 pub said_is : (lim : Limits) (owner : Option Record) (keyword : Keyword) (words : List (List ℕ))
-    → IsSaid lim owner (may_own keyword) (said lim owner keyword words)
+    → IsSaid lim owner (may_own keyword) (statement_in lim owner keyword words)
 said_is lim owner Clear words = said-clear lim owner words
 said_is lim owner Ident words = said-ident lim owner true words
 said_is lim owner Cue words = said-record lim owner true cue_fault cue_named cue_in_range words

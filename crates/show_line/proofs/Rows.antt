@@ -12,23 +12,24 @@ use Rattle.show_line.specs.declared.statement.Statement.TheVariants.{Opens, Leve
 use Rattle.show_line.specs.declared.statement.Statement.TheVariants.{Follows, Patches}
 use Rattle.show_line.specs.declared.statement.Statement.TheVariants.{Clears, Quiet, Skipped, Faulty}
 use Rattle.show_line.specs.declared.statement.Table.TheVariants.{Cues, Patch}
-use Rattle.show_line.specs.Said.{desk_limits, reading_of}
+use Rattle.show_line.specs.Said.{desk_limits, line_reading}
 
 -- what a line says below cue 1
 abbrev in_cue : List ℕ → Option Statement
 in_cue line =
     option_map (λ reading. reading.statement)
-    (reading_of desk_limits (Some (Cue 1000)) (words_of line))
+    (line_reading desk_limits (Some (Cue 1000)) (words_of line))
 
 -- and below group 1
 abbrev in_group : List ℕ → Option Statement
 in_group line =
     option_map (λ reading. reading.statement)
-    (reading_of desk_limits (Some (Group 1)) (words_of line))
+    (line_reading desk_limits (Some (Group 1)) (words_of line))
 
 -- and below no record
 abbrev alone : List ℕ → Option Statement
-alone line = option_map (λ reading. reading.statement) (reading_of desk_limits None (words_of line))
+alone line =
+    option_map (λ reading. reading.statement) (line_reading desk_limits None (words_of line))
 
 -- of several faults the lowest, and the form of a word before its range
 lowest_faults : (alone (codes "SUB 101 x") ≡ Some (Faulty BadNumber))

@@ -19,7 +19,7 @@ use Rattle.show_line.specs.declared.statement.Statement.TheVariants.{Levels, Pat
 use Rattle.show_line.specs.Faults.{range_fault, number_fault, lower, page_fault}
 use Rattle.show_line.specs.Pairs.{Limits, pair_fault, pairs_in, triple_fault, triples_in}
 use Rattle.show_line.specs.Said.{unless_faulty, is_page_1, patch_said, levels_said, owned_said}
-use Rattle.show_line.specs.Said.{said}
+use Rattle.show_line.specs.Said.{statement_in}
 use Rattle.show_line.specs.Sound.{IsFaultless}
 use Rattle.show_line.proofs.Lowest.{lower_some}
 use Rattle.show_line.proofs.Ranges.{next_pair, next_triple}
@@ -89,8 +89,8 @@ module _
 
   -- a line
   pub said_wider : (owner : Option Record) (keyword : Keyword) (words : List (List ℕ))
-      → IsFaultless (said narrow owner keyword words)
-      → said wide owner keyword words ≡ said narrow owner keyword words
+      → IsFaultless (statement_in narrow owner keyword words)
+      → statement_in wide owner keyword words ≡ statement_in narrow owner keyword words
   said_wider owner Clear words fine = refl
   said_wider owner Ident words fine = refl
   said_wider owner Cue words fine = refl

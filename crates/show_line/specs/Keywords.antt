@@ -30,9 +30,9 @@ secondary_keywords =
     ) ∷ []
 
 -- the value of the first entry that is this word
-abbrev pub named : {X : Type 0} → List (List ℕ × X) → List ℕ → Option X
-named [] word = None
-named (e ∷ es) word = if same_word word e.0 then Some e.1 else named es word
+abbrev pub value_for : {X : Type 0} → List (List ℕ × X) → List ℕ → Option X
+value_for [] word = None
+value_for (e ∷ es) word = if same_word word e.0 then Some e.1 else value_for es word
 
 -- `$$` and unknown words are skipped alone, one `$` opens a maker's record
 abbrev pub keyword_of : List ℕ → Keyword
@@ -40,7 +40,8 @@ keyword_of word =
     if starts_with nat_eq word (codes "$$") then Unknown
     else (if starts_with nat_eq word (codes "$") then Maker
     else
-    unwrap_or (option_or (named secondary_keywords word) (named primary_keywords word)) Unknown)
+    unwrap_or (option_or (value_for secondary_keywords word) (value_for primary_keywords word))
+    Unknown)
 
 -- it is primary, or opens a maker's record: the secondary lines below it are its own
 abbrev pub may_own : Keyword → Bool

@@ -24,7 +24,7 @@ use Rattle.show_line.specs.declared.statement.Statement.{Statement}
 use Rattle.show_line.specs.declared.statement.Statement.TheVariants.{Opens, Levels, Rises, Falls}
 use Rattle.show_line.specs.declared.statement.Statement.TheVariants.{Follows, Patches}
 use Rattle.show_line.specs.declared.statement.Statement.TheVariants.{Clears, Quiet, Skipped, Faulty}
-use Rattle.show_line.specs.Keywords.{named, keyword_of}
+use Rattle.show_line.specs.Keywords.{value_for, keyword_of}
 use Rattle.show_line.specs.Faults.{lower, number_fault, cue_fault, page_fault, time_fault}
 use Rattle.show_line.specs.Faults.{delay_fault}
 pub use Rattle.show_line.specs.Pairs.{desk_limits}
@@ -116,7 +116,7 @@ cleared_names =
 
 -- CLEAR with one word that names tables; else it is skipped
 abbrev pub clear_said : List (List ℕ) → Statement
-clear_said (what ∷ []) = option_map_or Clears (named cleared_names what) Skipped
+clear_said (what ∷ []) = option_map_or Clears (value_for cleared_names what) Skipped
 clear_said _ = Skipped
 
 -- a secondary line: skipped, unless a record owns it
@@ -134,22 +134,22 @@ cue_said says (record_of.Group n) = Quiet
 cue_said says (record_of.Sub n) = Quiet
 
 -- what a line says; groups are numbered from 1 to 500, and submasters from 1 to 100
-abbrev pub said : Limits → Option Record → Keyword → List (List ℕ) → Statement
-said lim owner Clear words = clear_said words
-said lim owner Ident words = ident_said words
-said lim owner Cue words = record_said cue_fault cue_named words
-said lim owner Group words = record_said (number_fault 1 500) group_named words
-said lim owner Sub words = record_said (number_fault 1 100) sub_named words
-said lim owner Patch words = patch_said lim words
-said lim owner EndData words = Quiet
-said lim owner Setting words = Quiet
-said lim owner Chan words = owned_said owner (levels_said lim words)
-said lim owner Up words = owned_said owner (cue_said (λ n. rate_said (Rises n) words))
-said lim owner Down words = owned_said owner (cue_said (λ n. rate_said (Falls n) words))
-said lim owner FollowOn words = owned_said owner (cue_said (λ n. follow_said n words))
-said lim owner Remark words = owned_said owner (λ r. Quiet)
-said lim owner Maker words = Skipped
-said lim owner Unknown words = Skipped
+abbrev pub statement_in : Limits → Option Record → Keyword → List (List ℕ) → Statement
+statement_in lim owner Clear words = clear_said words
+statement_in lim owner Ident words = ident_said words
+statement_in lim owner Cue words = record_said cue_fault cue_named words
+statement_in lim owner Group words = record_said (number_fault 1 500) group_named words
+statement_in lim owner Sub words = record_said (number_fault 1 100) sub_named words
+statement_in lim owner Patch words = patch_said lim words
+statement_in lim owner EndData words = Quiet
+statement_in lim owner Setting words = Quiet
+statement_in lim owner Chan words = owned_said owner (levels_said lim words)
+statement_in lim owner Up words = owned_said owner (cue_said (λ n. rate_said (Rises n) words))
+statement_in lim owner Down words = owned_said owner (cue_said (λ n. rate_said (Falls n) words))
+statement_in lim owner FollowOn words = owned_said owner (cue_said (λ n. follow_said n words))
+statement_in lim owner Remark words = owned_said owner (λ r. Quiet)
+statement_in lim owner Maker words = Skipped
+statement_in lim owner Unknown words = Skipped
 
 -- the record that a statement opens
 abbrev pub record_opened : Statement → Option Record
@@ -157,8 +157,8 @@ record_opened (Opens r) = Some r
 record_opened _ = None
 
 -- what is read of a line: its keyword and what it says; nothing where it has no words
-abbrev pub reading_of : Limits → Option Record → List (List ℕ) → Option Reading
-reading_of lim owner [] = None
-reading_of lim owner (word ∷ words) =
+abbrev pub line_reading : Limits → Option Record → List (List ℕ) → Option Reading
+line_reading lim owner [] = None
+line_reading lim owner (word ∷ words) =
     let keyword = keyword_of word in
-    Some (record { keyword = keyword; statement = said lim owner keyword words })
+    Some (record { keyword = keyword; statement = statement_in lim owner keyword words })

@@ -1,6 +1,6 @@
 ghost use Rattle.std.specs.Prelude.{◌≡◌};
 ghost use Rattle.std.specs.Option.{option_or};
-ghost use Rattle.show_line.specs.Keywords.{named, primary_keywords, secondary_keywords};
+ghost use Rattle.show_line.specs.Keywords.{value_for, primary_keywords, secondary_keywords};
 ghost use Rattle.show_line.specs.Keywords.{keyword_of, may_own, is_end};
 
 use ascii_text::same_word;
@@ -55,9 +55,9 @@ impl Keyword {
 }
 
 // The secondary keywords come first, since most lines have one of these.
-fn named(word: &[u8]) -> Option<Keyword>
-    ensures { result ≡ option_or (named secondary_keywords word.now)
-        (named primary_keywords word.now) }
+fn find_keyword(word: &[u8]) -> Option<Keyword>
+    ensures { result ≡ option_or (value_for secondary_keywords word.now)
+        (value_for primary_keywords word.now) }
 {
     let keyword = if same_word(word, b"chan") {
         Keyword::Chan
@@ -109,5 +109,5 @@ pub(crate) fn keyword_of(word: &[u8]) -> Keyword
     if word.starts_with(b"$") {
         return Keyword::Maker;
     }
-    named(word).unwrap_or(Keyword::Unknown)
+    find_keyword(word).unwrap_or(Keyword::Unknown)
 }

@@ -3,13 +3,13 @@ ghost use Rattle.ascii_text.specs.LinesLeft.{words_left};
 ghost use Rattle.ascii_text.specs.Text.{words_of};
 ghost use Rattle.show_line.specs.declared.statement.Record.{Record};
 ghost use Rattle.show_line.specs.Faults.{number_fault, cue_fault};
-ghost use Rattle.show_line.specs.Keywords.{named};
+ghost use Rattle.show_line.specs.Keywords.{value_for};
 ghost use Rattle.show_line.specs.Pairs.{desk_limits};
 ghost use Rattle.show_line.specs.Said.{cleared_names, clear_said, ident_said, record_said, on_page};
 ghost use Rattle.show_line.specs.Said.{cue_named, group_named, sub_named, patch_said, owned_said};
 ghost use Rattle.show_line.specs.Said.{levels_said, cue_said, rate_said, rate_fault, rate_in};
 ghost use Rattle.show_line.specs.Said.{follow_said, follow_fault, follow_in};
-ghost use Rattle.show_line.specs.Said.{said, reading_of};
+ghost use Rattle.show_line.specs.Said.{statement_in, line_reading};
 ghost use Rattle.show_line.specs.Sound.{IsSound};
 
 use crate::fault::{LineFault, number_in};
@@ -31,7 +31,7 @@ pub struct Reading<'a> {
 /// the nearest line above whose keyword may own opened, if it opened one. `None` where the line has
 /// no words. The numbers of what it says are in the ranges of a show.
 pub fn read_line<'a>(owner: Option<Record>, line: &'a [u8]) -> Option<Reading<'a>>
-    ensures means { result ≡ reading_of desk_limits owner (words_of line.now) }
+    ensures means { result ≡ line_reading desk_limits owner (words_of line.now) }
     ensures sound { IfSome result (λ reading. IsSound reading.statement) }
 {
     let mut words = Words::new(line);
@@ -44,7 +44,7 @@ pub fn read_line<'a>(owner: Option<Record>, line: &'a [u8]) -> Option<Reading<'a
 
 // What a line says that has this keyword, and these bytes behind it.
 fn statement<'a>(owner: Option<Record>, keyword: Keyword, operands: &'a [u8]) -> Statement<'a>
-    ensures { result ≡ said desk_limits owner keyword (words_of operands.now) }
+    ensures { result ≡ statement_in desk_limits owner keyword (words_of operands.now) }
 {
     match keyword {
         Keyword::Clear => clear_statement(operands),
@@ -68,7 +68,7 @@ fn clear_statement<'a>(operands: &'a [u8]) -> Statement<'a>
 {
     let mut words = Words::new(operands);
     match (words.next(), words.next()) {
-        (Some(what), None) => match cleared(what) {
+        (Some(what), None) => match find_cleared(what) {
             Some(cleared) => Statement::Clears(cleared),
             None => Statement::Skipped,
         },
@@ -77,8 +77,8 @@ fn clear_statement<'a>(operands: &'a [u8]) -> Statement<'a>
 }
 
 // What the word behind CLEAR names.
-fn cleared(word: &[u8]) -> Option<Cleared>
-    ensures { result ≡ named cleared_names word.now }
+fn find_cleared(word: &[u8]) -> Option<Cleared>
+    ensures { result ≡ value_for cleared_names word.now }
 {
     if same_word(word, b"all") {
         Some(Cleared::All)

@@ -57,7 +57,7 @@ impl<'a> Statement<'a> {
     ghost use Rattle.show_line.specs.Said.{record_opened};
 
     /// The record that it opens or continues.
-    pub fn opened(&self) -> Option<Record>
+    pub fn opens(&self) -> Option<Record>
         ensures { result ≡ record_opened self.now }
     {
         match self {

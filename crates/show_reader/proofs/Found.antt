@@ -10,10 +10,11 @@ use Rattle.std.proofs.lemmas.Bool.Decides.{nat_tests}
 use Rattle.show_reader.specs.Terms.{PatchMap, Tables, Record, Cue, Statement, Levels, Patches}
 use Rattle.show_reader.specs.Terms.{Clears, All, Triple}
 use Rattle.show.specs.Builders.{patched_with, all_patched}
-use Rattle.show_reader.specs.Keys.{Key, There, Level, Dimmer, has_record, found}
-use Rattle.show_reader.specs.Meaning.{after, pair_says, triple_says, says, cue_count, is_there}
+use Rattle.show_reader.specs.Keys.{Key, There, Level, Dimmer, has_record, answer_for}
+use Rattle.show_reader.specs.Meaning.{after, pair_says, triple_says, says, cue_count}
+use Rattle.show_reader.specs.Meaning.{is_record_there}
 use Rattle.show_reader.specs.Shows.{IsShowOf}
-use Rattle.show_reader.specs.Applied.{with_pairs, with_triples, applied, HasOwner}
+use Rattle.show_reader.specs.Applied.{with_pairs, with_triples, show_after, HasOwner}
 use Rattle.show_reader.specs.Reads.{with_listing}
 
 -- a key that was set
@@ -33,13 +34,14 @@ one_by_one show r p ps = grind arith
 
 -- here and below, cases that name a record of the key make `grind` meet each kind of key and record
 pair_found : (show : Tables) (r : Record) (p : ℕ × ℕ) → IsTrue (has_record show r) → (k : Key)
-    → found (with_pair show r p) k ≡ after (pair_says r p k) (found show k)
+    → answer_for (with_pair show r p) k ≡ after (pair_says r p k) (answer_for show k)
 pair_found show r p there (There (Cue m)) = grind (arith, get-insert, nat_tests)
 pair_found show r p there (Level (Cue m) c) = grind (arith, get-insert, nat_tests)
 pair_found show r p there k = grind (arith, get-insert, nat_tests)
 
 pairs_found : (show : Tables) (r : Record) (ps : List (ℕ × ℕ)) → IsTrue (has_record show r)
-    → (k : Key) → found (with_pairs show r ps) k ≡ after (says (Levels r ps) k) (found show k)
+    → (k : Key) → answer_for (with_pairs show r ps) k
+    ≡ after (says (Levels r ps) k) (answer_for show k)
 pairs_found show r [] there k = grind arith
 pairs_found show r (p ∷ ps) there k =
     let left : IsTrue (has_record (with_pair show r p) r) = grind (arith, get-insert, nat_tests) in
@@ -53,15 +55,15 @@ abbrev repatched : Tables → PatchMap → Tables
 repatched show patch = record show { patch = patch }
 
 triple_found : (show : Tables) (t : Triple) (k : Key)
-    → found (repatched show (patched_with show.patch t.dimmer t.channel t.level)) k
-    ≡ after (triple_says t k) (found show k)
+    → answer_for (repatched show (patched_with show.patch t.dimmer t.channel t.level)) k
+    ≡ after (triple_says t k) (answer_for show k)
 triple_found show t (Dimmer d) =
     grind (arith, get-insert, maps.get-remove {X = ℕ × ℕ} nat_cmp_total, unsigned_tied)
 triple_found show t k = refl
 
 triples_found : (show : Tables) (ts : List Triple) (k : Key)
-    → found (repatched show (with_triples show.patch ts)) k
-    ≡ after (says (Patches ts) k) (found show k)
+    → answer_for (repatched show (with_triples show.patch ts)) k
+    ≡ after (says (Patches ts) k) (answer_for show k)
 triples_found show [] k = refl
 triples_found show (t ∷ ts) k =
     let patch = patched_with show.patch t.dimmer t.channel t.level in
@@ -71,7 +73,7 @@ triples_found show (t ∷ ts) k =
 
 -- a statement that has its owner does to the show what it says
 pub applied_found : (s : Statement) (show : Tables) → HasOwner show s → (k : Key)
-    → found (applied s show) k ≡ after (says s k) (found show k)
+    → answer_for (show_after s show) k ≡ after (says s k) (answer_for show k)
 applied_found (Levels r ps) show owned k = pairs_found show r ps owned k
 applied_found (Patches ts) show owned k = triples_found show ts k
 applied_found s show owned (There (Cue m)) = grind (arith, get-insert, maps.get-empty, nat_tests)
@@ -82,21 +84,22 @@ applied_found s show owned k = grind (arith, get-insert, maps.get-empty, nat_tes
 abbrev pub nothing : Tables
 nothing = record { cues = maps.empty; subs = maps.empty; groups = maps.empty; patch = maps.empty }
 
-pub nothing_found : (k : Key) → found nothing k ≡ None
+pub nothing_found : (k : Key) → answer_for nothing k ≡ None
 nothing_found k = applied_found (Clears All) nothing tt k
 
 -- so it leads on from the show that the statements above it mean
 pub step : (ss : List Statement) (s : Statement) (show : Tables) → HasOwner show s
-    → IsShowOf ss show → IsShowOf (s ∷ ss) (applied s show)
+    → IsShowOf ss show → IsShowOf (s ∷ ss) (show_after s show)
 step ss s show owned h k = applied_found s show owned k ∙ ap (after (says s k)) (h k)
 
 -- a show has the records that it answers to
-pub record_is : (show : Tables) (r : Record) → is_some (found show (There r)) ≡ has_record show r
+pub record_is : (show : Tables) (r : Record) → is_some (answer_for show (There r))
+    ≡ has_record show r
 record_is show r = grind arith
 
 -- a show has the records that the statements have
 pub record_there : (ss : List Statement) (show : Tables) (r : Record) → IsShowOf ss show
-    → has_record show r ≡ is_there r ss
+    → has_record show r ≡ is_record_there r ss
 record_there ss show r h = sym (record_is show r) ∙ ap is_some (h (There r))
 
 -- ---- how many cues there are
@@ -108,7 +111,7 @@ len-with_pairs show r (p ∷ ps) =
     grind (arith, maps.gets, len-with_pairs (with_pair show r p) r ps)
 
 pub count_step : (ss : List Statement) (s : Statement) (show : Tables) → IsShowOf ss show
-    → cue_count ss ≡ maps.len show.cues → cue_count (s ∷ ss) ≡ maps.len (applied s show).cues
+    → cue_count ss ≡ maps.len show.cues → cue_count (s ∷ ss) ≡ maps.len (show_after s show).cues
 count_step ss s show h e = grind (arith, maps.gets, len-with_pairs)
 
 -- ---- what is kept aside

@@ -12,9 +12,9 @@ use Rattle.show_line.proofs.Ranged.{IsPairWithin, IsTripleWithin, IsSaid}
 use Rattle.show_reader.proofs.Lines.{line_said}
 use Rattle.show_reader.specs.Text.{Words, said_under, owner_below, statement_below, statements}
 use Rattle.show_reader.specs.Text.{lines_in, owns}
-use Rattle.show_reader.specs.Keys.{Key, There, Level, Dimmer, Answer}
+use Rattle.show_reader.specs.Keys.{Key, There, Level, Dimmer, KeyAnswer}
 use Rattle.show_reader.specs.Meaning.{News, after, last_news, pair_says, triple_says, says, meaning}
-use Rattle.show_reader.specs.Reading.{first_fault, fault_of, ReadsAlike, longest_text}
+use Rattle.show_reader.specs.Reading.{first_fault, text_fault, ReadsAlike, longest_text}
 use Rattle.show_reader.specs.Reading.{IsAnswerWithin}
 
 -- ---- lines without a fault
@@ -46,11 +46,11 @@ module _ (narrow wide : Limits) (more_channels : narrow.channels ≤ wide.channe
 
 -- ---- what is said stays within the limits
 
-abbrev IsNewsWithin : Limits → (k : Key) → News (Answer k) → Type 0
+abbrev IsNewsWithin : Limits → (k : Key) → News (KeyAnswer k) → Type 0
 IsNewsWithin lim k news = IfSome (after news None) (IsAnswerWithin lim k)
 
 module _ (lim : Limits) (k : Key) where
-  list_within : {X : Type 0} (P : X → Type 0) (news : X → News (Answer k))
+  list_within : {X : Type 0} (P : X → Type 0) (news : X → News (KeyAnswer k))
       → ((x : X) → P x → IsNewsWithin lim k (news x)) → (xs : List X) → All P xs
       → IsNewsWithin lim k (last_news news xs)
   list_within P news each [] all = tt
@@ -88,7 +88,7 @@ module _ (lim : Limits) where
 -- ---- a text
 
 pub reads_alike : (narrow wide : Limits) → narrow.channels ≤ wide.channels
-    → narrow.dimmers ≤ wide.dimmers → (text : List ℕ) → fault_of narrow text ≡ None
+    → narrow.dimmers ≤ wide.dimmers → (text : List ℕ) → text_fault narrow text ≡ None
     → ReadsAlike narrow wide text
 reads_alike narrow wide channels dimmers text none =
     let lines = statements narrow (lines_in text) in

@@ -11,7 +11,7 @@ use Rattle.std.proofs.lemmas.Option.{none-some, same_Some}
 use Rattle.show_reader.specs.Terms.{CueData, Tables, Limits, Record, Statement, Levels, Patches}
 use Rattle.show_line.specs.declared.line.Reading.{Reading}
 use Rattle.show_line.specs.Keywords.{keyword_of, may_own}
-use Rattle.show_line.specs.Said.{desk_limits, record_opened, reading_of}
+use Rattle.show_line.specs.Said.{desk_limits, record_opened, line_reading}
 use Rattle.show_line.specs.Sound.{IsSound}
 use Rattle.show_line.proofs.Ranged.{IsSaid, said_is}
 use Rattle.show_reader.specs.declared.apply.Refusal.{Refusal}
@@ -24,12 +24,13 @@ use Rattle.show_reader.specs.Text.{Words, owns, said_under, owner_below, ends, u
 use Rattle.show_reader.specs.Text.{statement_below}
 use Rattle.show_reader.specs.Keys.{There}
 use Rattle.show_reader.specs.Meaning.{Silent, after, newer, last_news, says, cue_count, is_skipped}
-use Rattle.show_reader.specs.Meaning.{is_there}
+use Rattle.show_reader.specs.Meaning.{is_record_there}
 use Rattle.show_reader.specs.Shows.{IsShowOf}
 use Rattle.show_reader.specs.Reading.{fault_at, fault_below, first_fault, faultless_front, grows}
-use Rattle.show_reader.specs.Reading.{fault_of, longest_text, NothingGrows}
-use Rattle.show_reader.specs.Applied.{applied, refused_by, HasOwner}
-use Rattle.show_reader.specs.Reads.{meant, IsDraft, IsSettled, Explains, said_by, NoneGrows, Reads}
+use Rattle.show_reader.specs.Reading.{text_fault, longest_text, NothingGrows}
+use Rattle.show_reader.specs.Applied.{show_after, refused_by, HasOwner}
+use Rattle.show_reader.specs.Reads.{show_of_draft, IsDraft, IsSettled, ExplainsRefusal}
+use Rattle.show_reader.specs.Reads.{statements_in, NoneGrows, Reads}
 use Rattle.show_reader.specs.Reads.{EndsAt, refusal_at}
 use Rattle.show_reader.proofs.Found.{step, count_step, nothing, nothing_found}
 use Rattle.std.specs.Ordering.{nat_cmp}
@@ -47,7 +48,7 @@ line_said lim owner (w ∷ words) = said_is lim owner (keyword_of w) words
 
 -- a statement of an owner that is there has what it needs
 owned : (owner : Option Record) (own : Bool) (s : Statement) (ss : List Statement) (show : Tables)
-    → IsSaid desk_limits owner own s → IfSome owner (λ q. IsTrue (is_there q ss))
+    → IsSaid desk_limits owner own s → IfSome owner (λ q. IsTrue (is_record_there q ss))
     → IsShowOf ss show → HasOwner show s
 owned owner own s ss show of there h = grind arith
 
@@ -66,15 +67,16 @@ left_there owner s of q o h = grind arith
 
 -- one that opens a record has it there, and so the owner of what stands below lines is there
 owner_there : (lines : List Words)
-    → IfSome (owner_below desk_limits lines) (λ q. IsTrue (is_there q (said_by lines)))
+    → IfSome (owner_below desk_limits lines) (λ q. IsTrue (is_record_there q (statements_in lines)))
 owner_there [] = tt
 owner_there (l ∷ above) =
     go (owner_below desk_limits above) (owns l) (statement_below desk_limits above l)
     (line_said desk_limits (owner_below desk_limits above) l) (owner_there above)
   where
     go : (owner : Option Record) (own : Bool) (s : Statement) → IsSaid desk_limits owner own s
-        → IfSome owner (λ q. IsTrue (is_there q (said_by above)))
-        → IfSome (cond own (record_opened s) owner) (λ q. IsTrue (is_there q (s ∷ said_by above)))
+        → IfSome owner (λ q. IsTrue (is_record_there q (statements_in above)))
+        → IfSome (cond own (record_opened s) owner)
+        (λ q. IsTrue (is_record_there q (s ∷ statements_in above)))
     go (Some q) false s of h = left_there (Some q) s of q _ h
     go owner own s of h = grind (arith, nat_tests)
 
@@ -89,7 +91,7 @@ refused_is ss s show numbered h count = grind (arith, nat_tests)
 
 -- what was read of a line with words, in the words of its meaning
 pub reading_is : (lines : List Words) (l : Words) (r : Reader) (reading : Reading) → Reads lines r
-    → Some reading ≡ reading_of desk_limits r.owner l
+    → Some reading ≡ line_reading desk_limits r.owner l
     → (reading.statement ≡ statement_below desk_limits lines l) × (may_own reading.keyword ≡ owns l)
 reading_is lines [] r reading h e = absurd (none-some reading (sym e))
 reading_is lines (w ∷ words) r reading h e = rw (same_Some reading _ e, h.owner) (refl, refl)
@@ -118,26 +120,32 @@ module _ (lines : List Words) (l : Words) (r : Reader) (h : Reads lines r) where
   s = statement_below desk_limits lines l
 
   -- it has the owner that it needs, since its owner is there
-  pub owner_here : HasOwner (meant r.draft) s
+  pub owner_here : HasOwner (show_of_draft r.draft) s
   owner_here =
       let owner = owner_below desk_limits lines in
-      owned owner (owns l) s (said_by lines) (meant r.draft) (line_said desk_limits owner l)
+      owned owner (owns l) s (statements_in lines) (show_of_draft r.draft)
+      (line_said desk_limits owner l)
       (owner_there lines) h.shows
 
   -- the fault is the line's where the show refuses what it says
-  fault_here : IsSound s → first_fault (said_by (l ∷ lines))
-      ≡ option_map (fault_at (r.lines + 1)) (refused_by (meant r.draft) s)
+  fault_here : IsSound s → first_fault (statements_in (l ∷ lines))
+      ≡ option_map (fault_at (r.lines + 1)) (refused_by (show_of_draft r.draft) s)
   fault_here sound =
-      rw (h.faultless, h.number, refused_is (said_by lines) s (meant r.draft) sound h.shows h.count)
+      rw (
+        h.faultless,
+        h.number,
+        refused_is (statements_in lines) s (show_of_draft r.draft) sound
+            h.shows h.count,
+      )
       refl
 
-  no_fault : IsSound s → refused_by (meant r.draft) s ≡ None
-      → first_fault (said_by (l ∷ lines)) ≡ None
+  no_fault : IsSound s → refused_by (show_of_draft r.draft) s ≡ None
+      → first_fault (statements_in (l ∷ lines)) ≡ None
   no_fault sound fine = rw (fault_here sound, fine) refl
 
   -- the reader behind it
-  pub line_read : (d : Draft) → IsSound s → refused_by (meant r.draft) s ≡ None → IsDraft d
-      → meant d ≡ applied s (meant r.draft)
+  pub line_read : (d : Draft) → IsSound s → refused_by (show_of_draft r.draft) s ≡ None → IsDraft d
+      → show_of_draft d ≡ show_after s (show_of_draft r.draft)
       → (IsSettled r.draft → grows s ≡ false → IsSettled d)
       → (skipped : ℕ) → skipped ≡ r.skipped + cond (is_skipped s) 1 0
       → Reads (l ∷ lines) (record {
@@ -147,37 +155,37 @@ module _ (lines : List Words) (l : Words) (r : Reader) (h : Reads lines r) where
         skipped = skipped;
       })
   line_read d sound fine drafted ok settled skipped counted =
-      let ss = said_by lines in
+      let ss = statements_in lines in
       record {
-        shows = rw ok (step ss s (meant r.draft) owner_here h.shows);
+        shows = rw ok (step ss s (show_of_draft r.draft) owner_here h.shows);
         drafted = drafted;
         settled = λ none.
             let below = none_grows s ss none in
             settled (h.settled below.0) (below.1 (no_fault sound fine));
         faultless = no_fault sound fine;
         owner = rw h.owner refl;
-        count = rw ok (count_step ss s (meant r.draft) h.shows h.count);
+        count = rw ok (count_step ss s (show_of_draft r.draft) h.shows h.count);
         number = omega (arith, h.number);
         skipped = omega
             (arith, counted, h.skipped, sum_by-cons (λ t. cond (is_skipped t) 1 0) s ss);
       }
 
   -- why reading ends at it
-  pub line_ends : IsSound s → (e : Refusal) → Explains r.draft s e
+  pub line_ends : IsSound s → (e : Refusal) → ExplainsRefusal r.draft s e
       → EndsAt lines l (refusal_at (r.lines + 1) e)
   line_ends sound (refusal.Fault f) is = inr (rw (fault_here sound, is) refl)
   line_ends sound refusal.Memory is =
       inl (
         refl,
         λ none.
-            let below = none_grows s (said_by lines) none in
+            let below = none_grows s (statements_in lines) none in
             let why = is (h.settled below.0) in
             why.1 (below.1 (no_fault sound why.0)),
       )
 
 -- a line without words says nothing
 pub quiet_line : (lines : List Words) (l : Words) (r : Reader) (n : ℕ) → Reads lines r
-    → n ≡ r.lines + 1 → None ≡ reading_of desk_limits r.owner l
+    → n ≡ r.lines + 1 → None ≡ line_reading desk_limits r.owner l
     → Reads (l ∷ lines) (record r { lines = n })
 quiet_line lines [] r n h next none =
     rw next (line_read lines [] r h r.draft tt refl h.drafted refl (λ settled none. settled)
@@ -211,11 +219,13 @@ pub record StandsBehind (text : List ℕ) (lines : List Words) (ahead : List (�
   pub all : lines_in text ≡ reverse_aux (up_to_end (words_ahead ahead)) lines
 
 -- a new reader stands behind no line
-pub nothing_read : (d : Draft) → (meant d).cues ≡ maps.empty → (meant d).subs ≡ maps.empty
-    → (meant d).groups ≡ maps.empty → (meant d).patch ≡ maps.empty → IsDraft d → IsSettled d
+pub nothing_read : (d : Draft) → (show_of_draft d).cues ≡ maps.empty → (show_of_draft d).subs
+    ≡ maps.empty
+    → (show_of_draft d).groups ≡ maps.empty → (show_of_draft d).patch ≡ maps.empty → IsDraft d
+    → IsSettled d
     → Reads [] (record { draft = d; owner = None; lines = 0; skipped = 0 })
 nothing_read d cues subs groups patch drafted settled = record {
-  shows = rw (same_tables (meant d) nothing cues subs groups patch) nothing_found;
+  shows = rw (same_tables (show_of_draft d) nothing cues subs groups patch) nothing_found;
   drafted = drafted;
   settled = λ none. settled;
   faultless = refl;
@@ -226,16 +236,17 @@ nothing_read d cues subs groups patch drafted settled = record {
 }
 
 -- a fault stays, whatever is read below it
-fault_stays : (more lines : List Words) (f : ShowFault) → first_fault (said_by lines) ≡ Some f
-    → first_fault (said_by (reverse_aux more lines)) ≡ Some f
+fault_stays : (more lines : List Words) (f : ShowFault) → first_fault (statements_in lines) ≡ Some f
+    → first_fault (statements_in (reverse_aux more lines)) ≡ Some f
 fault_stays [] lines f h = h
 fault_stays (m ∷ more) lines f h = fault_stays more (m ∷ lines) f (rw h refl)
 
 -- where no statement grows a show, none does in the first lines
-none_before : (more lines : List Words) → NoneGrows (said_by (reverse_aux more lines))
-    → NoneGrows (said_by lines)
+none_before : (more lines : List Words) → NoneGrows (statements_in (reverse_aux more lines))
+    → NoneGrows (statements_in lines)
 none_before [] lines h = h
-none_before (m ∷ more) lines h = (none_grows _ (said_by lines) (none_before more (_ ∷ lines) h)).0
+none_before (m ∷ more) lines h =
+    (none_grows _ (statements_in lines) (none_before more (_ ∷ lines) h)).0
 
 -- the next line, with its number and its bytes, and what is left behind it
 module _ {text : List ℕ} {lines : List Words} {r : Reader} {number : ℕ} {bytes : List ℕ}
@@ -252,14 +263,14 @@ module _ {text : List ℕ} {lines : List Words} {r : Reader} {number : ℕ} {byt
   -- why reading ends at it is why the text is refused, for where nothing grows in the text, nothing
   -- does down to it
   pub refused_at : (f : ShowFault) → length text ≤ 1048576 → EndsAt lines (words_of bytes) f
-      → ((f ≡ show_fault.Memory) ⊎ (fault_of desk_limits text ≡ Some f))
-      × (NothingGrows desk_limits text → fault_of desk_limits text ≡ Some f)
+      → ((f ≡ show_fault.Memory) ⊎ (text_fault desk_limits text ≡ Some f))
+      × (NothingGrows desk_limits text → text_fault desk_limits text ≡ Some f)
   refused_at f short (inl memory) = (
     inl memory.0,
     λ none. absurd (memory.1 (none_before below (words_of bytes ∷ lines) (rw next.all at none))),
   )
   refused_at f short (inr fault) =
       let small : nat_lt longest_text (length text) ≡ false = grind (arith, nat_tests) in
-      let refused : fault_of desk_limits text ≡ Some f
+      let refused : text_fault desk_limits text ≡ Some f
       = rw (small, next.all) (fault_stays below (words_of bytes ∷ lines) f fault) in
       (inr refused, λ none. refused)

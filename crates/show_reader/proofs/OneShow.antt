@@ -8,7 +8,8 @@ use Rattle.show_reader.specs.Terms.{CueData, LevelMap, Tables, Record, Cue, Grou
 use Rattle.show_line.specs.Said.{desk_limits}
 use Rattle.show_reader.specs.Text.{statements_of}
 use Rattle.show_reader.specs.ItsShow.{OfItsShow}
-use Rattle.show_reader.specs.Keys.{Key, There, Level, Up, Down, Follow, Dimmer, has_record, found}
+use Rattle.show_reader.specs.Keys.{Key, There, Level, Up, Down, Follow, Dimmer, has_record}
+use Rattle.show_reader.specs.Keys.{answer_for}
 use Rattle.show_reader.specs.Shows.{IsShowOf}
 use Rattle.show_reader.proofs.Found.{record_is}
 
@@ -43,7 +44,7 @@ same_tables s t cues subs groups patch = grind arith
 -- statements mean one show alone
 pub same_show : (ss : List Statement) (s t : Tables) → IsShowOf ss s → IsShowOf ss t → s ≡ t
 same_show ss s t a b =
-    let same : (k : Key) → found s k ≡ found t k = λ k. a k ∙ sym (b k) in
+    let same : (k : Key) → answer_for s k ≡ answer_for t k = λ k. a k ∙ sym (b k) in
     let there : (r : Record) → has_record s r ≡ has_record t r = λ r.
     sym (record_is s r) ∙ ap is_some (same (There r)) ∙ record_is t r in
     same_tables s t (same_map _ _ (λ n. same_cues _ _ (there (Cue n)) (λ c. same (Level (Cue n) c))

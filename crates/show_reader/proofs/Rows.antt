@@ -12,8 +12,8 @@ use Rattle.show_reader.specs.declared.fault.ShowFault.TheVariants.{BadLevel, Bad
 use Rattle.show_reader.specs.declared.fault.ShowFault.TheVariants.{HalfTriple, Limit}
 use Rattle.show_reader.specs.Text.{statements_of}
 use Rattle.show_reader.specs.Keys.{Level, Up, Down, Follow, Dimmer}
-use Rattle.show_reader.specs.Meaning.{is_there, meaning, cue_count}
-use Rattle.show_reader.specs.Reading.{fault_below, fault_of, lines_read, lines_skipped, grows}
+use Rattle.show_reader.specs.Meaning.{is_record_there, meaning, cue_count}
+use Rattle.show_reader.specs.Reading.{fault_below, text_fault, lines_read, lines_skipped, grows}
 use Rattle.show_reader.specs.Reading.{faultless_front}
 
 -- lines that end in LF, and in CR LF
@@ -25,13 +25,13 @@ carriage_text_of lines = flat_map (λ line. line ++ 13 ∷ 10 ∷ []) lines
 
 -- the fault of a text of one, two and three lines
 abbrev fault_1 : List ℕ → Option ShowFault
-fault_1 a = fault_of desk_limits (text_of (a ∷ []))
+fault_1 a = text_fault desk_limits (text_of (a ∷ []))
 
 abbrev fault_2 : List ℕ → List ℕ → Option ShowFault
-fault_2 a b = fault_of desk_limits (text_of (a ∷ b ∷ []))
+fault_2 a b = text_fault desk_limits (text_of (a ∷ b ∷ []))
 
 abbrev fault_3 : List ℕ → List ℕ → List ℕ → Option ShowFault
-fault_3 a b c = fault_of desk_limits (text_of (a ∷ b ∷ c ∷ []))
+fault_3 a b c = text_fault desk_limits (text_of (a ∷ b ∷ c ∷ []))
 
 -- how many lines of such a text are skipped
 abbrev skipped_1 : List ℕ → ℕ
@@ -100,19 +100,19 @@ ranges = (refl, refl, refl, refl, refl, refl, refl, refl, refl, refl, refl, refl
 -- the 2,000th cue has no fault, and the 2,001st has; one that is there already has none
 cue_2000 : (above : List Statement) (n : ℕ) → cue_count above ≡ 1999
     → fault_below above (Opens (Cue n)) ≡ None
-cue_2000 above n count = rw count (neither (is_there (Cue n) above))
+cue_2000 above n count = rw count (neither (is_record_there (Cue n) above))
   where
     neither : (b : Bool) → (if not b && false then Some line_fault.Limit else None) ≡ None
     neither true = refl
     neither false = refl
 
 cue_2001 : (above : List Statement) (n : ℕ) → cue_count above ≡ 2000
-    → is_there (Cue n) above ≡ false
+    → is_record_there (Cue n) above ≡ false
     → fault_below above (Opens (Cue n)) ≡ Some line_fault.Limit
 cue_2001 above n count new = rw (count, new) refl
 
 cue_again : (above : List Statement) (n : ℕ) → cue_count above ≡ 2000
-    → is_there (Cue n) above ≡ true
+    → is_record_there (Cue n) above ≡ true
     → fault_below above (Opens (Cue n)) ≡ None
 cue_again above n count there = rw (count, there) refl
 
@@ -167,12 +167,12 @@ skipping = text_of (
     ∷ codes "$MAKER 9" ∷ codes "CHAN 1@0" ∷ codes "CUE 2 2" ∷ codes "CHAN 3@FL" ∷ []
     )
 
-skipped_lines : (fault_of desk_limits skipping ≡ None)
+skipped_lines : (text_fault desk_limits skipping ≡ None)
     × (lines_read desk_limits skipping ≡ 8)
     × (lines_skipped desk_limits skipping ≡ 5)
     × (cue_count (statements_of desk_limits skipping) ≡ 1)
-    × (is_there (Cue 1000) (statements_of desk_limits skipping) ≡ true)
-    × (is_there (Cue 2000) (statements_of desk_limits skipping) ≡ false)
+    × (is_record_there (Cue 1000) (statements_of desk_limits skipping) ≡ true)
+    × (is_record_there (Cue 2000) (statements_of desk_limits skipping) ≡ false)
     × (meaning (statements_of desk_limits skipping) (Level (Cue 1000) 1) ≡ Some 255)
     × (meaning (statements_of desk_limits skipping) (Level (Cue 1000) 2) ≡ Some 128)
     × (meaning (statements_of desk_limits skipping) (Level (Cue 1000) 3) ≡ None)
@@ -184,12 +184,12 @@ clearing = text_of (
     ∷ codes "CLEAR CUE 2" ∷ []
     )
 
-clear_cues : (fault_of desk_limits clearing ≡ None)
+clear_cues : (text_fault desk_limits clearing ≡ None)
     × (lines_read desk_limits clearing ≡ 6)
     × (lines_skipped desk_limits clearing ≡ 2)
     × (cue_count (statements_of desk_limits clearing) ≡ 1)
-    × (is_there (Cue 1000) (statements_of desk_limits clearing) ≡ false)
-    × (is_there (Cue 2000) (statements_of desk_limits clearing) ≡ true)
+    × (is_record_there (Cue 1000) (statements_of desk_limits clearing) ≡ false)
+    × (is_record_there (Cue 2000) (statements_of desk_limits clearing) ≡ true)
 clear_cues = (refl, refl, refl, refl, refl, refl)
 
 -- CLEAR leaves what is in other tables
@@ -202,7 +202,7 @@ cleared_cues = statements_of desk_limits (text_of (
 other_tables : (meaning cleared_cues (Level (Cue 1000) 1) ≡ None)
     × (meaning cleared_cues (Up 1000) ≡ None)
     × (meaning cleared_cues (Down 1000) ≡ None)
-    × (is_there (Group 1) cleared_cues ≡ true)
+    × (is_record_there (Group 1) cleared_cues ≡ true)
     × (meaning cleared_cues (Level (Group 1) 1) ≡ Some 255)
     × (meaning cleared_cues (Dimmer 1) ≡ Some (1, 255))
 other_tables = (refl, refl, refl, refl, refl, refl)
@@ -221,11 +221,11 @@ console_text = carriage_text_of (
 abbrev console_statements : List Statement
 console_statements = statements_of desk_limits console_text
 
-console_style_file : (fault_of desk_limits console_text ≡ None)
+console_style_file : (text_fault desk_limits console_text ≡ None)
     × (lines_read desk_limits console_text ≡ 12)
     × (lines_skipped desk_limits console_text ≡ 1)
-    × (is_there (Cue 1000) console_statements ≡ true)
-    × (is_there (Cue 9000) console_statements ≡ false)
+    × (is_record_there (Cue 1000) console_statements ≡ true)
+    × (is_record_there (Cue 9000) console_statements ≡ false)
     × (meaning console_statements (Level (Cue 1000) 1) ≡ Some 255)
     × (meaning console_statements (Level (Cue 1000) 2) ≡ Some 128)
     × (meaning console_statements (Up 1000) ≡ Some (record { time = 3000; delay = 0 }))

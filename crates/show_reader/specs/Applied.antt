@@ -5,14 +5,14 @@ use Rattle.std.specs.FinMap as maps
 use Rattle.show_reader.specs.Terms.{PatchMap, Tables, LineFault, Record, Cue, Group, Sub, Cues}
 use Rattle.show_reader.specs.Terms.{Groups, Subs, Patch, Cleared, All, Only, Statement, Opens}
 use Rattle.show_reader.specs.Terms.{Levels, Rises, Falls, Follows, Patches, Clears, Faulty, Triple}
-use Rattle.show.specs.Builders.{opened, opened_in, with_levels, with_all_listed, with_up}
+use Rattle.show.specs.Builders.{with_cue, opened_in, with_levels, with_all_listed, with_up}
 use Rattle.show.specs.Builders.{with_down, with_follow, patched_with, can_open}
 use Rattle.show_line.specs.declared.fault.LineFault.TheVariants.{Limit}
 use Rattle.show_reader.specs.Keys.{has_record}
 
 -- with the record opened
 abbrev pub with_record : Tables → Record → Tables
-with_record show (Cue n) = record show { cues = opened show.cues n }
+with_record show (Cue n) = record show { cues = with_cue show.cues n }
 with_record show (Group n) = record show { groups = opened_in show.groups n }
 with_record show (Sub n) = record show { subs = opened_in show.subs n }
 
@@ -28,24 +28,24 @@ with_triples patch triples =
     fold (λ older t. patched_with older t.dimmer t.channel t.level) patch triples
 
 -- with tables emptied
-abbrev pub without : Cleared → Tables → Tables
-without All show =
+abbrev pub without_tables : Cleared → Tables → Tables
+without_tables All show =
     record { cues = maps.empty; subs = maps.empty; groups = maps.empty; patch = maps.empty }
-without (Only Cues) show = record show { cues = maps.empty }
-without (Only Groups) show = record show { groups = maps.empty }
-without (Only Subs) show = record show { subs = maps.empty }
-without (Only Patch) show = record show { patch = maps.empty }
+without_tables (Only Cues) show = record show { cues = maps.empty }
+without_tables (Only Groups) show = record show { groups = maps.empty }
+without_tables (Only Subs) show = record show { subs = maps.empty }
+without_tables (Only Patch) show = record show { patch = maps.empty }
 
 -- the show after a statement
-abbrev pub applied : Statement → Tables → Tables
-applied (Opens r) show = with_record show r
-applied (Levels r pairs) show = with_pairs show r pairs
-applied (Rises n rate) show = record show { cues = with_up show.cues n rate }
-applied (Falls n rate) show = record show { cues = with_down show.cues n rate }
-applied (Follows n time) show = record show { cues = with_follow show.cues n time }
-applied (Patches triples) show = record show { patch = with_triples show.patch triples }
-applied (Clears what) show = without what show
-applied _ show = show
+abbrev pub show_after : Statement → Tables → Tables
+show_after (Opens r) show = with_record show r
+show_after (Levels r pairs) show = with_pairs show r pairs
+show_after (Rises n rate) show = record show { cues = with_up show.cues n rate }
+show_after (Falls n rate) show = record show { cues = with_down show.cues n rate }
+show_after (Follows n time) show = record show { cues = with_follow show.cues n time }
+show_after (Patches triples) show = record show { patch = with_triples show.patch triples }
+show_after (Clears what) show = without_tables what show
+show_after _ show = show
 
 -- why a show refuses a statement, if it does
 abbrev pub refused_by : Tables → Statement → Option LineFault

@@ -15,13 +15,13 @@ pub data Key : Type 0 where
 
 -- what the answer is, where there is one: that the record is there; a level byte; a time and a
 -- delay; a time; the dimmer's channel and its level byte
-abbrev pub Answer : Key → Type 0
-Answer (There r) = Unit {0}
-Answer (Level r channel) = ℕ
-Answer (Up n) = Rate
-Answer (Down n) = Rate
-Answer (Follow n) = ℕ
-Answer (Dimmer dimmer) = ℕ × ℕ
+abbrev pub KeyAnswer : Key → Type 0
+KeyAnswer (There r) = Unit {0}
+KeyAnswer (Level r channel) = ℕ
+KeyAnswer (Up n) = Rate
+KeyAnswer (Down n) = Rate
+KeyAnswer (Follow n) = ℕ
+KeyAnswer (Dimmer dimmer) = ℕ × ℕ
 
 -- the table that a record is in
 abbrev pub table_of : Record → Table
@@ -45,15 +45,15 @@ has_record show (Group n) = maps.contains_key show.groups n
 has_record show (Sub n) = maps.contains_key show.subs n
 
 -- what a show answers
-abbrev pub found : Tables → (k : Key) → Option (Answer k)
-found show (There r) = if has_record show r then Some tt else None
-found show (Level (Cue n) channel) =
+abbrev pub answer_for : Tables → (k : Key) → Option (KeyAnswer k)
+answer_for show (There r) = if has_record show r then Some tt else None
+answer_for show (Level (Cue n) channel) =
     option_and_then (λ cue. maps.get cue.levels channel) (maps.get show.cues n)
-found show (Level (Group n) channel) =
+answer_for show (Level (Group n) channel) =
     option_and_then (λ levels. maps.get levels channel) (maps.get show.groups n)
-found show (Level (Sub n) channel) =
+answer_for show (Level (Sub n) channel) =
     option_and_then (λ levels. maps.get levels channel) (maps.get show.subs n)
-found show (Up n) = option_and_then (λ cue. cue.up) (maps.get show.cues n)
-found show (Down n) = option_and_then (λ cue. cue.down) (maps.get show.cues n)
-found show (Follow n) = option_and_then (λ cue. cue.follow) (maps.get show.cues n)
-found show (Dimmer dimmer) = maps.get show.patch dimmer
+answer_for show (Up n) = option_and_then (λ cue. cue.up) (maps.get show.cues n)
+answer_for show (Down n) = option_and_then (λ cue. cue.down) (maps.get show.cues n)
+answer_for show (Follow n) = option_and_then (λ cue. cue.follow) (maps.get show.cues n)
+answer_for show (Dimmer dimmer) = maps.get show.patch dimmer

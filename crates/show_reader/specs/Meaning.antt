@@ -5,7 +5,7 @@ use Rattle.std.specs.Prelude.{Option, Some, None, is_some}
 use Rattle.show_reader.specs.Terms.{Record, Cue, Group, Sub, Table, Cues, Groups, Subs, Patch}
 use Rattle.show_reader.specs.Terms.{Cleared, All, Only, Statement, Opens, Levels, Rises, Falls}
 use Rattle.show_reader.specs.Terms.{Follows, Patches, Clears, Skipped, Triple}
-use Rattle.show_reader.specs.Keys.{Key, There, Level, Up, Down, Follow, Dimmer, Answer, table_at}
+use Rattle.show_reader.specs.Keys.{Key, There, Level, Up, Down, Follow, Dimmer, KeyAnswer, table_at}
 
 -- ---- what is said of a key
 
@@ -55,13 +55,13 @@ empties All table = true
 empties (Only cleared) table = same_table table cleared
 
 -- a pair of a CHAN line of record r: the level of a channel of that record
-abbrev pub pair_says : Record → ℕ × ℕ → (k : Key) → News (Answer k)
+abbrev pub pair_says : Record → ℕ × ℕ → (k : Key) → News (KeyAnswer k)
 pair_says r pair (Level q channel) =
     if same_record q r && (channel == pair.0) then Is pair.1 else Silent
 pair_says r pair _ = Silent
 
 -- a triple of a PATCH line: the channel and the level of a dimmer; channel 0 leaves it unpatched
-abbrev pub triple_says : Triple → (k : Key) → News (Answer k)
+abbrev pub triple_says : Triple → (k : Key) → News (KeyAnswer k)
 triple_says t (Dimmer dimmer) =
     if dimmer == t.dimmer
     then (if t.channel == 0 then Gone else Is (t.channel, t.level))
@@ -75,7 +75,7 @@ triple_says t _ = Silent
 --   FOLLOWON: the follow-on time of its cue;
 --   PATCH: a dimmer has the channel of its last triple;
 --   CLEAR: what the file has said so far of its tables is gone
-abbrev pub says : Statement → (k : Key) → News (Answer k)
+abbrev pub says : Statement → (k : Key) → News (KeyAnswer k)
 says (Opens r) (There q) = if same_record q r then Is tt else Silent
 says (Levels r pairs) k = last_news (λ pair. pair_says r pair k) pairs
 says (Rises n rate) (Up m) = if m == n then Is rate else Silent
@@ -88,19 +88,20 @@ says _ _ = Silent
 -- ---- what statements mean
 
 -- what they mean at a key: what the newest of them says that speaks of it; nothing where none does
-abbrev pub meaning : List Statement → (k : Key) → Option (Answer k)
+abbrev pub meaning : List Statement → (k : Key) → Option (KeyAnswer k)
 meaning [] k = None
 meaning (newest ∷ older) k = after (says newest k) (meaning older k)
 
 -- a record is there
-abbrev pub is_there : Record → List Statement → Bool
-is_there r ss = is_some (meaning ss (There r))
+abbrev pub is_record_there : Record → List Statement → Bool
+is_record_there r ss = is_some (meaning ss (There r))
 
 -- how many cues are there: a statement adds one that opens a cue which is not there, and none are
 -- left where it empties the table of cues
 abbrev pub cue_count : List Statement → ℕ
 cue_count [] = 0
-cue_count (Opens (Cue n) ∷ older) = cue_count older + (if is_there (Cue n) older then 0 else 1)
+cue_count (Opens (Cue n) ∷ older) =
+    cue_count older + (if is_record_there (Cue n) older then 0 else 1)
 cue_count (Clears what ∷ older) = if empties what Cues then 0 else cue_count older
 cue_count (_ ∷ older) = cue_count older
 

@@ -10,15 +10,16 @@ use Rattle.show_line.specs.declared.fault.LineFault.TheVariants as fault
 use Rattle.show_reader.specs.declared.fault.ShowFault.{ShowFault}
 use Rattle.show_reader.specs.declared.fault.ShowFault.TheVariants as show_fault
 use Rattle.show_reader.specs.Text.{statements_of}
-use Rattle.show_reader.specs.Keys.{Key, Level, Dimmer, Answer, found}
-use Rattle.show_reader.specs.Meaning.{is_there, cue_count, is_skipped}
+use Rattle.show_reader.specs.Keys.{Key, Level, Dimmer, KeyAnswer, answer_for}
+use Rattle.show_reader.specs.Meaning.{is_record_there, cue_count, is_skipped}
 use Rattle.show_reader.specs.Shows.{IsShowOf}
 
 -- a line's fault below the statements above it; a line that opens the 2,001st cue has one too
 abbrev pub fault_below : List Statement → Statement → Option LineFault
 fault_below above (Faulty f) = Some f
 fault_below above (Opens (Cue n)) =
-    if not (is_there (Cue n) above) && nat_le 2000 (cue_count above) then Some fault.Limit else None
+    if not (is_record_there (Cue n) above) && nat_le 2000 (cue_count above)
+    then Some fault.Limit else None
 fault_below above _ = None
 
 -- the fault of a line, with its number
@@ -44,8 +45,8 @@ abbrev pub longest_text : ℕ
 longest_text = 1048576
 
 -- the fault of a show text: it is too long, or its first faulty line decides
-abbrev pub fault_of : Limits → List ℕ → Option ShowFault
-fault_of lim text =
+abbrev pub text_fault : Limits → List ℕ → Option ShowFault
+text_fault lim text =
     if nat_lt longest_text (length text) then Some show_fault.TooLong
     else first_fault (statements_of lim text)
 
@@ -81,19 +82,19 @@ NothingGrows lim text = All (λ s. grows s ≡ false) (faultless_front (statemen
 
 -- an answer within limits: the level of one of their channels, or the patch of one of their dimmers
 -- to one of their channels
-abbrev pub IsAnswerWithin : Limits → (k : Key) → Answer k → Type 0
+abbrev pub IsAnswerWithin : Limits → (k : Key) → KeyAnswer k → Type 0
 IsAnswerWithin lim (Level r channel) byte = channel ≤ lim.channels
 IsAnswerWithin lim (Dimmer dimmer) patch = (dimmer ≤ lim.dimmers) × (patch.0 ≤ lim.channels)
 IsAnswerWithin lim _ answer = Unit {0}
 
 -- no channel beyond the limits is listed or patched to, and no dimmer beyond them is patched
 abbrev pub FitsIn : Limits → Tables → Type 0
-FitsIn lim show = (k : Key) → IfSome (found show k) (IsAnswerWithin lim k)
+FitsIn lim show = (k : Key) → IfSome (answer_for show k) (IsAnswerWithin lim k)
 
 -- what wider limits leave of a text without a fault under narrower ones: it has none and says the
 -- same, and the show that it means has no dimmer and no channel beyond the narrower limits
 pub record ReadsAlike (narrow wide : Limits) (text : List ℕ) : Type 0 where
-  pub faultless : fault_of wide text ≡ None
+  pub faultless : text_fault wide text ≡ None
   pub statements : statements_of wide text ≡ statements_of narrow text
   pub fits : (show : Tables) → IsShowOf (statements_of wide text) show → FitsIn narrow show
 
@@ -101,4 +102,4 @@ pub record ReadsAlike (narrow wide : Limits) (text : List ℕ) : Type 0 where
 -- has nothing beyond the smaller room
 abbrev pub LimitsLaw : Type 0
 LimitsLaw = (narrow wide : Limits) → narrow.channels ≤ wide.channels → narrow.dimmers ≤ wide.dimmers
-    → (text : List ℕ) → fault_of narrow text ≡ None → ReadsAlike narrow wide text
+    → (text : List ℕ) → text_fault narrow text ≡ None → ReadsAlike narrow wide text

@@ -26,8 +26,8 @@ with_listing show None pairs = show
 with_listing show (Some r) pairs = with_pairs show r pairs
 
 -- the show that a draft means
-abbrev pub meant : Draft → Tables
-meant d =
+abbrev pub show_of_draft : Draft → Tables
+show_of_draft d =
     with_listing (record d.show { patch = all_patched d.show.patch d.patches.items }) d.listing
     d.levels.items
 
@@ -41,13 +41,14 @@ IsSettled d = (d.levels.items ≡ []) × (d.patches.items ≡ [])
 
 -- why a statement was not carried out: the fault that the show has with it; or want of memory,
 -- where something is kept aside, or the show has no fault with it and it grows the show
-abbrev pub Explains : Draft → Statement → Refusal → Type 0
-Explains d s (refusal.Fault f) = refused_by (meant d) s ≡ Some f
-Explains d s refusal.Memory = IsSettled d → (refused_by (meant d) s ≡ None) × (grows s ≡ false → ⊥)
+abbrev pub ExplainsRefusal : Draft → Statement → Refusal → Type 0
+ExplainsRefusal d s (refusal.Fault f) = refused_by (show_of_draft d) s ≡ Some f
+ExplainsRefusal d s refusal.Memory =
+    IsSettled d → (refused_by (show_of_draft d) s ≡ None) × (grows s ≡ false → ⊥)
 
 -- what lines say to this desk, the last line first
-abbrev pub said_by : List Words → List Statement
-said_by lines = statements desk_limits lines
+abbrev pub statements_in : List Words → List Statement
+statements_in lines = statements desk_limits lines
 
 -- no statement above the first that has a fault grows a show
 abbrev pub NoneGrows : List Statement → Type 0
@@ -55,21 +56,21 @@ NoneGrows ss = All (λ s. grows s ≡ false) (faultless_front ss)
 
 -- the reader stands behind these lines, of which none has a fault
 pub record Reads (lines : List Words) (r : Reader) : Type 0 where
-  pub shows : IsShowOf (said_by lines) (meant r.draft)
+  pub shows : IsShowOf (statements_in lines) (show_of_draft r.draft)
   pub drafted : IsDraft r.draft
-  pub settled : NoneGrows (said_by lines) → IsSettled r.draft
-  pub faultless : first_fault (said_by lines) ≡ None
+  pub settled : NoneGrows (statements_in lines) → IsSettled r.draft
+  pub faultless : first_fault (statements_in lines) ≡ None
   pub owner : r.owner ≡ owner_below desk_limits lines
-  pub count : cue_count (said_by lines) ≡ maps.len (meant r.draft).cues
-  pub number : r.lines ≡ length (said_by lines)
-  pub skipped : r.skipped ≡ count_by is_skipped (said_by lines)
+  pub count : cue_count (statements_in lines) ≡ maps.len (show_of_draft r.draft).cues
+  pub number : r.lines ≡ length (statements_in lines)
+  pub skipped : r.skipped ≡ count_by is_skipped (statements_in lines)
 
 -- why reading ended at the line below these: its fault, or want of memory, where a statement so far
 -- grows the show
 abbrev pub EndsAt : List Words → Words → ShowFault → Type 0
 EndsAt lines l fault =
-    ((fault ≡ show_fault.Memory) × (NoneGrows (said_by (l ∷ lines)) → ⊥))
-    ⊎ (first_fault (said_by (l ∷ lines)) ≡ Some fault)
+    ((fault ≡ show_fault.Memory) × (NoneGrows (statements_in (l ∷ lines)) → ⊥))
+    ⊎ (first_fault (statements_in (l ∷ lines)) ≡ Some fault)
 
 -- what the refusal of a statement is to a line of this number
 abbrev pub refusal_at : ℕ → Refusal → ShowFault

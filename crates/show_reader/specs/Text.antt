@@ -5,7 +5,7 @@ use Rattle.std.specs.Prelude.{None}
 use Rattle.ascii_text.specs.Text.{lines_of, words_of}
 use Rattle.show_reader.specs.Terms.{Record, Statement, Quiet, Limits}
 use Rattle.show_line.specs.Keywords.{keyword_of, may_own, is_end}
-use Rattle.show_line.specs.Said.{said, record_opened}
+use Rattle.show_line.specs.Said.{statement_in, record_opened}
 
 -- a line, as the list of its words
 abbrev pub Words : Type 0
@@ -33,7 +33,7 @@ owns (word ∷ words) = may_own (keyword_of word)
 -- what a line says that this record owns; without words it has no effect
 abbrev pub said_under : Limits → Option Record → Words → Statement
 said_under lim owner [] = Quiet
-said_under lim owner (word ∷ words) = said lim owner (keyword_of word) words
+said_under lim owner (word ∷ words) = statement_in lim owner (keyword_of word) words
 
 -- the owner below a line: what the line opens, if it is primary or opens a maker's record; else the
 -- owner above it

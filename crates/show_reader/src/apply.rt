@@ -4,8 +4,9 @@ ghost use Rattle.show_line.specs.declared.fault.LineFault.TheVariants as line_fa
 ghost use Rattle.show_line.specs.Sound.{IsSound};
 ghost use Rattle.show_reader.specs.declared.apply.Refusal.TheVariants as refusal;
 ghost use Rattle.show_reader.specs.Reading.{grows};
-ghost use Rattle.show_reader.specs.Applied.{applied, refused_by, with_record, without, HasOwner};
-ghost use Rattle.show_reader.specs.Reads.{meant, IsDraft, IsSettled, Explains};
+ghost use Rattle.show_reader.specs.Applied.{show_after, refused_by, with_record, without_tables};
+ghost use Rattle.show_reader.specs.Applied.{HasOwner};
+ghost use Rattle.show_reader.specs.Reads.{show_of_draft, IsDraft, IsSettled, ExplainsRefusal};
 
 use crate::draft::Draft;
 use show::{BuildFault, Show};
@@ -42,13 +43,14 @@ fn refusal_of(fault: BuildFault) -> Refusal
 pub fn apply(draft: &mut Draft, statement: Statement<'_>) -> Result<(), Refusal>
     requires sound { IsSound statement }
     requires drafted { IsDraft draft.old }
-    requires owned { HasOwner (meant draft.old) statement }
-    ensures fine { OnOk result (refused_by (meant draft.old) statement.entry ≡ None) }
+    requires owned { HasOwner (show_of_draft draft.old) statement }
+    ensures fine { OnOk result (refused_by (show_of_draft draft.old) statement.entry ≡ None) }
     ensures drafted { OnOk result (IsDraft draft.new) }
-    ensures ok { OnOk result (meant draft.new ≡ applied statement.entry (meant draft.old)) }
+    ensures ok { OnOk result
+        (show_of_draft draft.new ≡ show_after statement.entry (show_of_draft draft.old)) }
     ensures settled { OnOk result
         (IsSettled draft.old → grows statement.entry ≡ false → IsSettled draft.new) }
-    ensures err { IfErr result (Explains draft.old statement.entry) }
+    ensures err { IfErr result (ExplainsRefusal draft.old statement.entry) }
 {
     match statement {
         Statement::Opens(which) => open(draft, which)?,
@@ -79,10 +81,12 @@ pub fn apply(draft: &mut Draft, statement: Statement<'_>) -> Result<(), Refusal>
 fn open(draft: &mut Draft, which: Record) -> Result<(), Refusal>
     requires sound { IsSound (Statement.Opens which) }
     requires drafted { IsDraft draft.old }
-    ensures fine { OnOk result (refused_by (meant draft.old) (Statement.Opens which) ≡ None) }
+    ensures fine { OnOk result
+        (refused_by (show_of_draft draft.old) (Statement.Opens which) ≡ None) }
     ensures drafted { OnOk result (IsDraft draft.new) }
-    ensures ok { OnOk result (meant draft.new ≡ with_record (meant draft.old) which) }
-    ensures err { IfErr result (Explains draft.old (Statement.Opens which)) }
+    ensures ok { OnOk result
+        (show_of_draft draft.new ≡ with_record (show_of_draft draft.old) which) }
+    ensures err { IfErr result (ExplainsRefusal draft.old (Statement.Opens which)) }
 {
     draft.put_levels()?;
     let opened = match which {
@@ -94,7 +98,7 @@ fn open(draft: &mut Draft, which: Record) -> Result<(), Refusal>
 }
 
 fn clear(show: &mut Show, what: Cleared)
-    ensures { show.new ≡ without what show.old }
+    ensures { show.new ≡ without_tables what show.old }
 {
     match what {
         Cleared::All => {

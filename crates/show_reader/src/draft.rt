@@ -5,8 +5,8 @@ ghost use Rattle.show_line.specs.Sound.{IsTripleInRange};
 ghost use Rattle.show_line.specs.declared.statement.Statement.TheVariants as statement;
 ghost use Rattle.show_reader.specs.Keys.{has_record};
 ghost use Rattle.show_reader.specs.Reading.{grows};
-ghost use Rattle.show_reader.specs.Applied.{applied, with_pairs};
-ghost use Rattle.show_reader.specs.Reads.{meant, IsDraft, IsSettled};
+ghost use Rattle.show_reader.specs.Applied.{show_after, with_pairs};
+ghost use Rattle.show_reader.specs.Reads.{show_of_draft, IsDraft, IsSettled};
 
 use show::{BuildFault, Show};
 use show_line::{Pairs, Record, Triple, Triples};
@@ -28,10 +28,10 @@ pub struct Draft {
 impl Draft {
     /// A draft of an empty show. It takes no memory.
     pub fn new(alloc: Global) -> Draft
-        ensures cues { (meant result).cues ≡ maps.empty }
-        ensures subs { (meant result).subs ≡ maps.empty }
-        ensures groups { (meant result).groups ≡ maps.empty }
-        ensures patch { (meant result).patch ≡ maps.empty }
+        ensures cues { (show_of_draft result).cues ≡ maps.empty }
+        ensures subs { (show_of_draft result).subs ≡ maps.empty }
+        ensures groups { (show_of_draft result).groups ≡ maps.empty }
+        ensures patch { (show_of_draft result).patch ≡ maps.empty }
         ensures drafted { IsDraft result }
         ensures settled { IsSettled result }
     {
@@ -46,9 +46,10 @@ impl Draft {
     /// Sets the levels of the pairs of a CHAN line.
     pub fn list(&mut self, which: Record, pairs: Pairs<'_>) -> Result<(), AllocError>
         requires drafted { IsDraft self.old }
-        requires owned { IsTrue (has_record (meant self.old) which) }
+        requires owned { IsTrue (has_record (show_of_draft self.old) which) }
         ensures drafted { OnOk result (IsDraft self.new) }
-        ensures ok { OnOk result (meant self.new ≡ with_pairs (meant self.old) which pairs.entry) }
+        ensures ok { OnOk result
+            (show_of_draft self.new ≡ with_pairs (show_of_draft self.old) which pairs.entry) }
         ensures settled { OnOk result
             (IsSettled self.old → grows (statement.Levels which pairs.entry) ≡ false
             → IsSettled self.new) }
@@ -63,9 +64,9 @@ impl Draft {
     // Makes the record the one that levels are kept aside for.
     fn turn_to(&mut self, which: Record) -> Result<(), AllocError>
         requires drafted { IsDraft self.old }
-        requires owned { IsTrue (has_record (meant self.old) which) }
+        requires owned { IsTrue (has_record (show_of_draft self.old) which) }
         ensures drafted { OnOk result (IsDraft self.new) }
-        ensures ok { OnOk result (meant self.new ≡ meant self.old) }
+        ensures ok { OnOk result (show_of_draft self.new ≡ show_of_draft self.old) }
         ensures listing { OnOk result (self.new.listing ≡ Some which) }
         ensures settled { OnOk result (IsSettled self.old → IsSettled self.new) }
         ensures sure { IsSettled self.old → IsOk result }
@@ -83,7 +84,8 @@ impl Draft {
         requires sound { All IsTripleInRange triples }
         ensures drafted { OnOk result (IsDraft self.new) }
         ensures ok { OnOk result
-            (meant self.new ≡ applied (statement.Patches triples.entry) (meant self.old)) }
+            (show_of_draft self.new
+            ≡ show_after (statement.Patches triples.entry) (show_of_draft self.old)) }
         ensures settled { OnOk result
             (IsSettled self.old → grows (statement.Patches triples.entry) ≡ false
             → IsSettled self.new) }
@@ -102,7 +104,8 @@ impl Draft {
         requires sound { IsTripleInRange triple }
         ensures drafted { OnOk result (IsDraft self.new) }
         ensures ok { OnOk result
-            (meant self.new ≡ applied (statement.Patches (triple ∷ [])) (meant self.old)) }
+            (show_of_draft self.new
+            ≡ show_after (statement.Patches (triple ∷ [])) (show_of_draft self.old)) }
         ensures settled { OnOk result
             (IsSettled self.old → IsTrue (triple.channel == 0) → IsSettled self.new) }
         ensures sure { IsSettled self.old → IsTrue (triple.channel == 0) → IsOk result }
@@ -119,7 +122,7 @@ impl Draft {
     /// Sets the levels that are kept aside.
     pub fn put_levels(&mut self) -> Result<(), AllocError>
         requires { IsDraft self.old }
-        ensures ok { OnOk result (meant self.new ≡ meant self.old) }
+        ensures ok { OnOk result (show_of_draft self.new ≡ show_of_draft self.old) }
         ensures listing { OnOk result (self.new.listing ≡ None) }
         ensures levels { OnOk result (self.new.levels.items ≡ []) }
         ensures patches { OnOk result (self.new.patches.items ≡ self.old.patches.items) }
@@ -137,7 +140,7 @@ impl Draft {
     /// Carries out all that is kept aside.
     pub fn settle(&mut self) -> Result<(), AllocError>
         requires { IsDraft self.old }
-        ensures ok { OnOk result (self.new.show ≡ meant self.old) }
+        ensures ok { OnOk result (self.new.show ≡ show_of_draft self.old) }
         ensures listing { OnOk result (self.new.listing ≡ None) }
         ensures settled { OnOk result (IsSettled self.new) }
         ensures sure { IsSettled self.old → IsOk result }
@@ -152,7 +155,7 @@ impl Draft {
     /// The show.
     pub fn finish(mut self) -> Result<Show, AllocError>
         requires { IsDraft self }
-        ensures ok { IfOk result (λ show. show ≡ meant self) }
+        ensures ok { IfOk result (λ show. show ≡ show_of_draft self) }
         ensures sure { IsSettled self → IsOk result }
     {
         self.settle()?;

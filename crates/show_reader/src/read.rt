@@ -7,7 +7,7 @@ ghost use Rattle.show_reader.specs.declared.fault.ShowFault.TheVariants as show_
 ghost use Rattle.show_reader.specs.Text.{Words, ends, lines_in, statements_of};
 ghost use Rattle.show_reader.specs.Meaning.{is_skipped};
 ghost use Rattle.show_reader.specs.Shows.{IsShowOf};
-ghost use Rattle.show_reader.specs.Reading.{fault_at, fault_of, lines_read, lines_skipped};
+ghost use Rattle.show_reader.specs.Reading.{fault_at, text_fault, lines_read, lines_skipped};
 ghost use Rattle.show_reader.specs.Reading.{NothingGrows};
 ghost use Rattle.show_reader.specs.Reads.{Reads, EndsAt, refusal_at};
 
@@ -80,7 +80,7 @@ fn owner_below(above: Option<Record>, keyword: Keyword, statement: &Statement<'_
     ensures { result ≡ if may_own keyword then record_opened statement.now else above }
 {
     if keyword.may_own() {
-        statement.opened()
+        statement.opens()
     } else {
         above
     }
@@ -120,9 +120,9 @@ fn read_lines(alloc: Global, text: &[u8]) -> Result<Reader, ShowFault>
     requires { length text.now ≤ 1048576 }
     ensures ok { IfOk result (Reads (lines_in text.now)) }
     ensures fault { IfErr result
-        (λ fault. (fault ≡ show_fault.Memory) ⊎ (fault_of desk_limits text.now ≡ Some fault)) }
+        (λ fault. (fault ≡ show_fault.Memory) ⊎ (text_fault desk_limits text.now ≡ Some fault)) }
     ensures sure { NothingGrows desk_limits text.now
-        → IfErr result (λ fault. fault_of desk_limits text.now ≡ Some fault) }
+        → IfErr result (λ fault. text_fault desk_limits text.now ≡ Some fault) }
 {
     let mut reader = Reader {
         draft: Draft::new(alloc),
@@ -154,15 +154,15 @@ fn read_lines(alloc: Global, text: &[u8]) -> Result<Reader, ShowFault>
 /// but a text of which no line above its first faulty one opens a record, lists a channel or
 /// patches a dimmer is never answered so; that a reading at ample memory ends well is tested.
 pub fn read_show(alloc: Global, text: &[u8]) -> Result<Loaded, ShowFault>
-    ensures faultless { OnOk result (fault_of desk_limits text.now ≡ None) }
+    ensures faultless { OnOk result (text_fault desk_limits text.now ≡ None) }
     ensures show { IfOk result (λ loaded.
         IsShowOf (statements_of desk_limits text.now) loaded.show) }
     ensures lines { IfOk result (λ loaded. loaded.lines ≡ lines_read desk_limits text.now) }
     ensures skipped { IfOk result (λ loaded. loaded.skipped ≡ lines_skipped desk_limits text.now) }
     ensures fault { IfErr result
-        (λ fault. (fault ≡ show_fault.Memory) ⊎ (fault_of desk_limits text.now ≡ Some fault)) }
+        (λ fault. (fault ≡ show_fault.Memory) ⊎ (text_fault desk_limits text.now ≡ Some fault)) }
     ensures sure { NothingGrows desk_limits text.now
-        → IfErr result (λ fault. fault_of desk_limits text.now ≡ Some fault) }
+        → IfErr result (λ fault. text_fault desk_limits text.now ≡ Some fault) }
     ensures too_long { 1048576 < length text.now → result ≡ Err show_fault.TooLong }
 {
     if text.len() > LONGEST_TEXT {

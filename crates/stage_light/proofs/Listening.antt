@@ -5,10 +5,10 @@ use Rattle.std.proofs.lemmas.List.{append_cancel_left, reverse-reverse}
 use Rattle.devices.specs.Tape.{Tape, with_more}
 use Rattle.sacn_receiver.specs.Arrivals.{Arrival, heard_all, last_arrival, NeverFall}
 use Rattle.sacn_receiver.specs.Shown.{shown_slots}
-use Rattle.sacn_receiver.specs.Taking.{heard as heard_one}
+use Rattle.sacn_receiver.specs.Taking.{history_after as heard_one}
 use Rattle.sacn_receiver.specs.Replies.{slots_line}
-use Rattle.cmd_play.specs.Run.{sends_of}
-use Rattle.cmd_listen.specs.Listening.{listen_text, replies, history}
+use Rattle.cmd_play.specs.Run.{sends_of_run}
+use Rattle.cmd_listen.specs.Listening.{listen_text, replies, history_at_0}
 use Rattle.stage_light.specs.Plays.{Play, IsPlay}
 use Rattle.stage_light.specs.Traffic.{arrivals_in, datagrams_in}
 use Rattle.stage_light.specs.Programs.{ListenLaw, PlayToListen}
@@ -16,7 +16,7 @@ use Rattle.stage_light.proofs.Showing.{headline}
 
 -- what never falls and is over at moment 0 was all of it at moment 0
 history_is : (u : ℕ) (arrivals : List Arrival) → NeverFall arrivals → last_arrival arrivals ≤ 0
-    → history u (map (λ a. a.datagram) arrivals) ≡ heard_all 4 u arrivals
+    → history_at_0 u (map (λ a. a.datagram) arrivals) ≡ heard_all 4 u arrivals
 history_is u [] falls over = refl
 history_is u (a ∷ older) falls over =
     let now : a.moment ≡ 0 = omega (arith, over) in
@@ -39,7 +39,7 @@ play_to_listen p lines before after lost offered ran after_is u count given give
       run = ran.run;
       lines_are = ran.lines_are;
       is_run = ran.is_run;
-      offered_are = append_cancel_left before.offered offered (sends_of ran.run)
+      offered_are = append_cancel_left before.offered offered (sends_of_run ran.run)
           (sym after_is ∙ ran.offered_is);
     } in
     let these : List (List ℕ) = datagrams_in traffic in

@@ -11,9 +11,9 @@ use Rattle.console.specs.Spelling.{act_of, command_of, reading_of}
 use Rattle.cmd_faults.specs.declared.fault.RunFault.TheVariants as run
 use Rattle.cmd_live.specs.Booth.{BoothState}
 use Rattle.cmd_faults.specs.declared.fault.RunFault.{RunFault}
-use Rattle.cmd_live.specs.Night.{LivedOn, Lives, Seen, answers_since, seen}
+use Rattle.cmd_live.specs.Night.{LivedOn, Lives, Trace, answers_since, trace_of}
 use Rattle.cmd_live.proofs.Living.{history_joined, history_since}
-use Rattle.cmd_play.specs.Run.{history_of, sends_of, taken, taken_by}
+use Rattle.cmd_play.specs.Run.{history_of, sends_of_run, acts_after, acts_by}
 use Rattle.devices.specs.Send.{Send}
 use Rattle.desk.specs.declared.answer.Refused.{Refused}
 use Rattle.desk.specs.declared.command.Command.{Command}
@@ -23,14 +23,15 @@ use Rattle.desk.specs.Played.{Act, order, refusal}
 use Rattle.show.specs.Tables.{Tables}
 use Rattle.live_input.specs.Keys.{without_keys}
 use Rattle.live_input.specs.Laws as live
-use Rattle.live_input.specs.Laws.{accepted}
+use Rattle.live_input.specs.Laws.{accepted_acts}
 use Rattle.live_input.specs.Night as answer
-use Rattle.live_input.specs.Night.{Answer, Happening, answer_to, answers, at_moment, lines_given}
+use Rattle.live_input.specs.Night.{Answer, Happening, answer_to, answers, behind_moment}
+use Rattle.live_input.specs.Night.{lines_given}
 use Rattle.live_input.specs.Night.{with_given}
 use Rattle.live_input.specs.Recall.{recall_of}
 use Rattle.live_input.proofs.Fine.{spelled}
 use Rattle.live_input.proofs.Recalling.{recalled_lines}
-use Rattle.stage_light.specs.Plays.{IsPlay, Play, history}
+use Rattle.stage_light.specs.Plays.{IsPlay, Play, play_history}
 use Rattle.stage_light.specs.Programs.{IsNight, NightHeadline, NightsArePlays, NightsAreTyped}
 use Rattle.stage_light.specs.Restarts.{RestartHeadline, new_play, play_on}
 use Rattle.stage_light.proofs.Restarting.{breaks_plays, plays_go_on}
@@ -40,24 +41,24 @@ use Rattle.stage_light.proofs.Showing.{headline}
 
 module _ (play : Play) (first : List Happening) (is_play : IsPlay play)
     (lines_are : play.lines ≡ lines_given (answers first)) where
-  lives_plays : (happened : List Happening) (before after : Seen) (lost : ℕ)
+  lives_plays : (happened : List Happening) (before after : Trace) (lost : ℕ)
       → Lives play.production first happened before after lost → IsNight play first before after
   lives_plays happened before after lost lives = record {
     happened = happened;
     happened_is = lives.happened_is;
-    offered = sends_of lives.run;
+    offered = sends_of_run lives.run;
     after_is = lives.offered_is;
     is_play = rw (← lives.lines_are) (plays_go_on play lives.run is_play
         (rw lines_are lives.is_run));
   }
 
-  lived_plays : (result : Result (Unit {0}) RunFault) (before after : Seen)
+  lived_plays : (result : Result (Unit {0}) RunFault) (before after : Trace)
       → LivedOn play.production first result before after → IsNight play first before after
   lived_plays (Ok done) before after is = lives_plays is.happened before after 0 is.lives
   lived_plays (Err (run.Lost n)) before after is =
       lives_plays is.1.happened before after n is.1.lives
   lived_plays (Err run.Device) before after is =
-      let night = lives_plays is.0 before (seen is.2 after.offered) is.1 is.3 in
+      let night = lives_plays is.0 before (trace_of is.2 after.offered) is.1 is.3 in
       record {
         happened = night.happened;
         happened_is = elim is.4 [
@@ -84,53 +85,54 @@ nights_plays play first passed result before after is_play lines_are is =
 -- ---- what was typed
 
 same_taken : (o : Option Refused) (act : Act) (history : List Act)
-    → taken_by o act history ≡ (if is_none o then act ∷ history else history)
+    → acts_by o act history ≡ (if is_none o then act ∷ history else history)
 same_taken None act history = refl
 same_taken (Some refused) act history = refl
 
 module _ (show : Tables) (history : List Act) where
   -- a line that spells a call
   spells : (moment : ℕ) (call : Call) (line : List ℕ) → reading_of line ≡ At moment call
-      → taken show (reading_of line) history
-      ≡ live.taken show (Some (act_of moment call)) history
-  spells moment call line e = ap (λ reading. taken show reading history) e
+      → acts_after show (reading_of line) history
+      ≡ live.acts_with show (Some (act_of moment call)) history
+  spells moment call line e = ap (λ reading. acts_after show reading history) e
       ∙ same_taken (refusal show history (act_of moment call)) (act_of moment call) history
 
-  commands : (o : Option Command) (moment : ℕ) (line : List ℕ) → live.Spells o moment line
-      → taken show (reading_of (at_moment moment line)) history
-      ≡ live.taken show (option_map (λ c. record { moment = moment; call = order c }) o) history
+  commands : (o : Option Command) (moment : ℕ) (line : List ℕ) → live.SpellsCommand o moment line
+      → acts_after show (reading_of (behind_moment moment line)) history
+      ≡ live.acts_with show (option_map (λ c. record { moment = moment; call = order c }) o) history
   commands None moment line s = absurd s
   commands (Some command) moment line s =
-      spells moment (Order command) (at_moment moment line) s
+      spells moment (Order command) (behind_moment moment line) s
 
   one : (answer : Answer) (lines : List (List ℕ)) → history_of show lines ≡ history
       → live.IsSpelled answer
-      → history_of show (with_given answer lines) ≡ live.taken show (live.act_of answer) history
+      → history_of show (with_given answer lines) ≡ live.acts_with show (live.act_in answer) history
   one (answer.order moment line) lines e s =
-      ap (taken show (reading_of (at_moment moment (without_keys line)))) e
+      ap (acts_after show (reading_of (behind_moment moment (without_keys line)))) e
       ∙ commands (command_of (words_of (without_keys line))) moment (without_keys line) s
   one (answer.dim moment typed) lines e s =
-      ap (taken show (reading_of (at_moment moment (codes "master 0")))) e
-      ∙ spells moment (Order (Master 0)) (at_moment moment (codes "master 0")) s
+      ap (acts_after show (reading_of (behind_moment moment (codes "master 0")))) e
+      ∙ spells moment (Order (Master 0)) (behind_moment moment (codes "master 0")) s
   one (answer.close moment typed) lines e s =
-      ap (taken show (reading_of (at_moment moment (codes "end")))) e
-      ∙ spells moment (Order End) (at_moment moment (codes "end")) s
+      ap (acts_after show (reading_of (behind_moment moment (codes "end")))) e
+      ∙ spells moment (Order End) (behind_moment moment (codes "end")) s
   one (answer.tick moment) lines e s =
-      ap (taken show (reading_of (at_moment moment (codes "tick")))) e
-      ∙ spells moment Tick (at_moment moment (codes "tick")) s
+      ap (acts_after show (reading_of (behind_moment moment (codes "tick")))) e
+      ∙ spells moment Tick (behind_moment moment (codes "tick")) s
   one _ lines e s = e
 
 pub nights_typed : NightsAreTyped
 nights_typed show [] = refl
 nights_typed show (answer.asked moment ∷ older) =
-    one show (accepted show (answers older)) (answer_to older moment) (lines_given (answers older))
+    one show (accepted_acts show (answers older)) (answer_to older moment)
+    (lines_given (answers older))
     (nights_typed show older) (spelled older moment)
 nights_typed show (_ ∷ older) = nights_typed show older
 
 -- the history of a night behind a play
 pub history_is : (play : Play) (first happened : List Happening) (offered : List Send)
     → play.lines ≡ lines_given (answers first)
-    → history (play_on play (lines_given (answers_since first happened)) offered)
+    → play_history (play_on play (lines_given (answers_since first happened)) offered)
     ≡ history_of play.production.show (lines_given (answers (happened ++ first)))
 history_is play first happened offered lines_are =
     ap (λ lines. history_of play.production.show (lines_given (answers_since first happened)

@@ -14,7 +14,7 @@ use Rattle.show.specs.Readers.{has_dimmer_in, ordinal_of}
 use Rattle.show.specs.Tables.{PatchMap, Tables}
 use Rattle.show_line.specs.Said.{desk_limits}
 use Rattle.show_reader.specs.Keys.{Dimmer}
-use Rattle.show_reader.specs.Reading.{fault_of}
+use Rattle.show_reader.specs.Reading.{text_fault}
 use Rattle.show_reader.specs.Shows.{IsShowOf}
 use Rattle.show_reader.specs.Text.{statements_of}
 use Rattle.show_reader.proofs.Limits.{reads_alike}
@@ -67,7 +67,7 @@ module _ (patch : PatchMap)
   unfolding universe_numbers
   universes base = ap (map (λ ordinal. base + ordinal)) eight
 
-pub old_shows : (text : List ℕ) (old new : Tables) → fault_of old_limits text ≡ None
+pub old_shows : (text : List ℕ) (old new : Tables) → text_fault old_limits text ≡ None
     → IsShowOf (statements_of old_limits text) old → IsShowOf (statements_of desk_limits text) new
     → MeanAlike old new
 old_shows text old new faultless is_old is_new =

@@ -10,14 +10,14 @@ use Rattle.cmd_faults.specs.declared.fault.RunFault.TheVariants as fault
 use Rattle.cmd_play.specs.declared.fault.PlayFault.TheVariants as early
 use Rattle.cmd_play.specs.declared.fault.PlayFault.{PlayFault}
 use Rattle.ascii_text.specs.Lines.{Cut}
-use Rattle.cmd_play.specs.Play.{EndsEarly}
-use Rattle.cmd_play.specs.Run.{Carried, Emitted, Ran, due_after, history_of, sends_of}
-use Rattle.cmd_play.specs.Stage.{Leaves}
+use Rattle.cmd_play.specs.Play.{PlayEndsEarly}
+use Rattle.cmd_play.specs.Run.{CarriedLine, Emission, Ran, dues_after, history_of, sends_of_run}
+use Rattle.cmd_play.specs.Stage.{PlayLeaves}
 use Rattle.stage_light.specs.Programs.{HasPlayed, RunsArePlays, DryRunsArePlays, PlaysArePlays}
 
 pub runs_plays : RunsArePlays
 runs_plays p lines before after lost ran = record {
-  offered = sends_of ran.run;
+  offered = sends_of_run ran.run;
   after_is = ran.offered_is;
   is_play = record {
     run = ran.run;
@@ -31,18 +31,18 @@ pub dry_runs_plays : DryRunsArePlays
 dry_runs_plays p cut before after dry =
     let ran = dry.ran in
     let last = dry.fails.answered in
-    let line : Carried =
+    let line : CarriedLine =
     record { line = cut.rest; sends = last.sends; offers = last.offers } in
     record {
-      offered = sends_of (line ∷ ran.run);
+      offered = sends_of_run (line ∷ ran.run);
       after_is = last.after_is ∙ ap (λ (sends : List Send). sends ++ last.sends) ran.offered_is
-          ∙ append_assoc before.offered (sends_of ran.run) last.sends;
+          ∙ append_assoc before.offered (sends_of_run ran.run) last.sends;
       is_play = record {
         run = line ∷ ran.run;
         lines_are = ap (λ (lines : List (List ℕ)). cut.rest ∷ lines) ran.lines_are;
         is_run = (
           subst (λ (lines : List (List ℕ)). AreOffered p.source
-              (due_after p (history_of p.show lines) (reading_of cut.rest)) last.sends last.offers)
+              (dues_after p (history_of p.show lines) (reading_of cut.rest)) last.sends last.offers)
               (sym ran.lines_are) last.are_offered,
           ran.is_run,
         );
@@ -51,22 +51,22 @@ dry_runs_plays p cut before after dry =
     }
 
 module _ (p : Production) where
-  abbrev SomeLines : Emitted → Emitted → Type 0
+  abbrev SomeLines : Emission → Emission → Type 0
   SomeLines before after =
       (lines : List (List ℕ)) × HasPlayed p lines before.offered after.offered
 
-  of_run : (lines : List (List ℕ)) (before after : Emitted) (lost : ℕ)
+  of_run : (lines : List (List ℕ)) (before after : Emission) (lost : ℕ)
       → Ran p lines before after lost → SomeLines before after
   of_run lines before after lost ran = (lines, runs_plays p lines before after lost ran)
 
-  of_left : (f : PlayFault) (cut : Cut) (before after : Emitted) → Leaves f p cut before after
+  of_left : (f : PlayFault) (cut : Cut) (before after : Emission) → PlayLeaves f p cut before after
       → SomeLines before after
   of_left (early.Line n) cut before after left = of_run cut.lines before after left.0 left.1
   of_left early.Device cut before after left =
       (cut.rest ∷ cut.lines, dry_runs_plays p cut before after left)
 
-  of_early : (f : PlayFault) (ended : Type 0) (fed feeds : Tape ℕ) (before after : Emitted)
-      → EndsEarly p f ended fed feeds before after → SomeLines before after
+  of_early : (f : PlayFault) (ended : Type 0) (fed feeds : Tape ℕ) (before after : Emission)
+      → PlayEndsEarly p f ended fed feeds before after → SomeLines before after
   of_early f ended fed feeds before after (inl r) = of_run _ before after r.lost r.ran
   of_early f ended fed feeds before after (inr e) = of_left f _ before after e.leaves
 

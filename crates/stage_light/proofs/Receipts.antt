@@ -27,7 +27,7 @@ window_same (d ∷ e ∷ ds) w =
     let s = newest_same (e ∷ ds) in
     (omega (arith, w.0, s), omega (arith, w.1, s), window_same (e ∷ ds) w.2)
 
-pub arrival_same : (ds : List Delivery) → arrival_of_newest (receipts_in ds) ≡ wire.arrived ds
+pub arrival_same : (ds : List Delivery) → arrival_of_newest (receipts_in ds) ≡ wire.arrival ds
 arrival_same [] = refl
 arrival_same (d ∷ []) = refl
 arrival_same (d ∷ e ∷ ds) = rw (newest_same (e ∷ ds), arrival_same (e ∷ ds)) refl

@@ -1,6 +1,7 @@
 -- Plays that go on behind plays, and what a process that broke off did not come to.
 use Rattle.std.proofs.Common.{◌≡◌, ◌≤◌, ◌<◌, ℕ, suc, zero, true, refl, ap, sym, ◌∙◌}
-use Rattle.std.proofs.Common.{arith, inl, inr, List, [], ◌∷◌, ◌++◌, length, append-nil, append_assoc}
+use Rattle.std.proofs.Common.{arith, inl, inr, List, [], ◌∷◌, ◌++◌, length, append-nil}
+use Rattle.std.proofs.Common.{append_assoc}
 use Rattle.std.proofs.Common.{Option, Some, None, map, drop, take-append-drop, subst}
 use Rattle.std.specs.Prelude.{nat_eq, IfSome}
 use Rattle.std.specs.List.{AllPairs, list_any}
@@ -31,44 +32,44 @@ use Rattle.console.specs.declared.reading.Reading.{Reading}
 use Rattle.console.specs.declared.reading.Reading.TheVariants.{At, Blank, Malformed}
 use Rattle.console.specs.Spelling.{act_of, reading_of}
 use Rattle.cmd_live.proofs.Living.{history_joined}
-use Rattle.cmd_play.specs.Run.{Carried, IsRun, IsRunFrom, due_after, due_by, history_from}
-use Rattle.cmd_play.specs.Run.{history_of, lines_in, sends_of}
+use Rattle.cmd_play.specs.Run.{CarriedLine, IsRun, IsRunFrom, dues_after, dues_by, history_from}
+use Rattle.cmd_play.specs.Run.{history_of, lines_of_run, sends_of_run}
 use Rattle.rehearsal.specs.Datagrams.{packet_bytes}
-use Rattle.rehearsal.specs.Sends.{numbered}
+use Rattle.rehearsal.specs.Sends.{packet_run}
 use Rattle.rehearsal.specs.World.{IsConsole, plays}
 use Rattle.rehearsal.proofs.Linked.{sent_due}
 use Rattle.rehearsal.proofs.Wire.{is_data, played_in}
-use Rattle.stage_light.specs.Plays.{IsPlay, history}
+use Rattle.stage_light.specs.Plays.{IsPlay, play_history}
 use Rattle.stage_light.specs.Restarts.{AreFew, BreaksArePlays, PlaysGoOn, play_on}
 
 -- ---- a run behind a play
 
 -- two runs, the second behind the first, are one
-record IsOne (p : Production) (first later : List Carried) : Type 0 where
+record IsOne (p : Production) (first later : List CarriedLine) : Type 0 where
   is_run : IsRun p (later ++ first)
-  lines_are : lines_in (later ++ first) ≡ lines_in later ++ lines_in first
-  sends_are : sends_of (later ++ first) ≡ sends_of first ++ sends_of later
+  lines_are : lines_of_run (later ++ first) ≡ lines_of_run later ++ lines_of_run first
+  sends_are : sends_of_run (later ++ first) ≡ sends_of_run first ++ sends_of_run later
 
-one_run : (p : Production) (first later : List Carried) → IsRun p first
-    → IsRunFrom p (history_of p.show (lines_in first)) later → IsOne p first later
+one_run : (p : Production) (first later : List CarriedLine) → IsRun p first
+    → IsRunFrom p (history_of p.show (lines_of_run first)) later → IsOne p first later
 one_run p first [] is behind = record {
   is_run = is;
   lines_are = refl;
-  sends_are = sym (append-nil (sends_of first));
+  sends_are = sym (append-nil (sends_of_run first));
 }
 one_run p first (carried ∷ later) is behind =
     let one = one_run p first later is behind.1 in
     record {
       is_run = (
-        subst (λ h. AreOffered p.source (due_after p h (reading_of carried.line)) carried.sends
+        subst (λ h. AreOffered p.source (dues_after p h (reading_of carried.line)) carried.sends
             carried.offers)
-            (sym (history_joined p.show (lines_in later) (lines_in first))
+            (sym (history_joined p.show (lines_of_run later) (lines_of_run first))
             ∙ ap (history_of p.show) (sym one.lines_are)) behind.0,
         one.is_run,
       );
       lines_are = ap (λ lines. carried.line ∷ lines) one.lines_are;
       sends_are = ap (λ sends. sends ++ carried.sends) one.sends_are
-          ∙ append_assoc (sends_of first) (sends_of later) carried.sends;
+          ∙ append_assoc (sends_of_run first) (sends_of_run later) carried.sends;
     }
 
 pub plays_go_on : PlaysGoOn
@@ -78,9 +79,9 @@ plays_go_on play run is_play behind =
     (rw (← is_play.lines_are) at behind) in
     record {
       run = run ++ is_play.run;
-      lines_are = one.lines_are ∙ ap (λ lines. lines_in run ++ lines) is_play.lines_are;
+      lines_are = one.lines_are ∙ ap (λ lines. lines_of_run run ++ lines) is_play.lines_are;
       is_run = one.is_run;
-      offered_are = ap (λ sends. sends ++ sends_of run) is_play.offered_are ∙ sym one.sends_are;
+      offered_are = ap (λ sends. sends ++ sends_of_run run) is_play.offered_are ∙ sym one.sends_are;
     }
 
 -- ---- what was not come to
@@ -171,7 +172,7 @@ rise_dropped k us rise i j d before within =
     (rise _ _ d (omega (arith, l, before, within)) (omega (arith, l, within)))
 
 one_at_most : (source : Identity) (u k : ℕ) (o : Option Packet)
-    → length (numbered source u k (option_to_list o)) ≤ 1
+    → length (packet_run source u k (option_to_list o)) ≤ 1
 one_at_most source u k None = omega arith
 one_at_most source u k (Some packet) = omega arith
 
@@ -206,12 +207,12 @@ rest_ticked p h m count is =
     }
 
 rest_due : (p : Production) (h : List Act) (reading : Reading) (count : ℕ) → IsConsole p
-    → Rest p (due_after p h reading) count
+    → Rest p (dues_after p h reading) count
 rest_due p h Blank count is = rest_none p count
 rest_due p h Malformed count is = rest_none p count
 rest_due p h (At m call) count is = go (refusal p.show h (act_of m call)) call
   where
-    go : (r : Option Refused) (c : Call) → Rest p (due_by r c (dues_at p h m)) count
+    go : (r : Option Refused) (c : Call) → Rest p (dues_by r c (dues_at p h m)) count
     go (Some refused) c = rest_none p count
     go None (Order c) = rest_none p count
     go None Tick = rest_ticked p h m count is
@@ -219,10 +220,10 @@ rest_due p h (At m call) count is = go (refusal p.show h (act_of m call)) call
 pub breaks_plays : BreaksArePlays
 breaks_plays play newest older offered is is_play broke =
     let p = play.production in
-    let h = history_from p.show (history play) older in
-    let dues = due_after p h (reading_of newest) in
+    let h = history_from p.show (play_history play) older in
+    let dues = dues_after p h (reading_of newest) in
     let left = rest_due p h (reading_of newest) broke.count is in
-    let whole : Carried = record {
+    let whole : CarriedLine = record {
       line = newest;
       sends = broke.part ++ left.sends;
       offers = broke.offers ++ left.offers;
@@ -231,12 +232,13 @@ breaks_plays play newest older offered is is_play broke =
     rw (take-append-drop broke.count dues) at (both_offered broke.are_offered left.are_offered) in
     let goes = plays_go_on play (whole ∷ broke.run) is_play
     (rw broke.lines_are whole_offered, broke.is_run) in
-    let sends_are : sends_of broke.run ++ (broke.part ++ left.sends) ≡ offered ++ left.sends =
-    sym (append_assoc (sends_of broke.run) broke.part left.sends)
+    let sends_are : sends_of_run broke.run ++ (broke.part ++ left.sends) ≡ offered ++ left.sends =
+    sym (append_assoc (sends_of_run broke.run) broke.part left.sends)
     ∙ ap (λ sends. sends ++ left.sends) (sym broke.offered_are) in (
       left.sends,
       left.few,
       subst (λ sends. IsPlay (play_on play (newest ∷ older) sends)) sends_are
-          (subst (λ lines. IsPlay (play_on play (newest ∷ lines) (sends_of (whole ∷ broke.run))))
+          (subst (λ lines. IsPlay
+          (play_on play (newest ∷ lines) (sends_of_run (whole ∷ broke.run))))
           broke.lines_are goes),
     )

@@ -14,13 +14,13 @@ use Rattle.sacn_source.specs.declared.offered.Offered.TheVariants.{Sent}
 use Rattle.sacn_source.specs.Identity.{Identity}
 use Rattle.sacn_source.specs.Offering.{answer_of}
 use Rattle.sacn_source.specs.Stream.{Packet, live_packet}
-use Rattle.sacn_receiver.specs.Shown.{merged}
+use Rattle.sacn_receiver.specs.Shown.{merged_slot}
 use Rattle.console.specs.Offering.{AreOffered, none, sent}
 use Rattle.console.specs.Streams.{Production, Due}
 use Rattle.console.specs.declared.call.Call.TheVariants.{Order, Tick}
 use Rattle.console.specs.declared.reading.Reading.TheVariants.{At}
 use Rattle.console.specs.Spelling.{reading_of}
-use Rattle.cmd_play.specs.Run.{Carried, IsRun, due_after, history_of}
+use Rattle.cmd_play.specs.Run.{CarriedLine, IsRun, dues_after, history_of}
 use Rattle.rehearsal.specs.Datagrams.{packet_bytes}
 use Rattle.rehearsal.proofs.Wire.{is_data, IsSendable}
 use Rattle.stage_light.specs.Plays.{Play, IsPlay, ArePlays, stream_for, frame_for}
@@ -84,20 +84,20 @@ module _ (byte priority : ℕ) (low : priority ≤ 200) where
       }) none
 
   -- what is due at the lines `0 go`, `1000 tick`, `2000 tick`
-  due_none : due_after (of_source byte priority) [] (reading_of (codes "0 go")) ≡ []
+  due_none : dues_after (of_source byte priority) [] (reading_of (codes "0 go")) ≡ []
   due_none = simp (no_move, cues) refl
 
-  due_first : due_after (of_source byte priority) (history_of small (codes "0 go" ∷ []))
+  due_first : dues_after (of_source byte priority) (history_of small (codes "0 go" ∷ []))
       (reading_of (codes "1000 tick")) ≡ due 0 51 ∷ []
   due_first = simp (no_move, cues, numbers, frame_1000) refl
 
-  due_second : due_after (of_source byte priority)
+  due_second : dues_after (of_source byte priority)
       (history_of small (codes "1000 tick" ∷ codes "0 go" ∷ [])) (reading_of (codes "2000 tick"))
       ≡ due 1 102 ∷ []
   due_second = simp (no_move, cues, numbers, frame_1000, frame_2000) refl
 
   -- the run of the first two lines, and that of all three
-  abbrev short_run : List Carried
+  abbrev short_run : List CarriedLine
   short_run =
       record { line = codes "1000 tick"; sends = send 0 51 ∷ []; offers = (1, Sent 0) ∷ [] }
       ∷ record { line = codes "0 go"; sends = []; offers = [] } ∷ []
@@ -109,7 +109,7 @@ module _ (byte priority : ℕ) (low : priority ≤ 200) where
     (subst (λ ds. AreOffered source ds [] []) (sym due_none) none, tt),
   )
 
-  abbrev whole_run : List Carried
+  abbrev whole_run : List CarriedLine
   whole_run =
       record { line = codes "2000 tick"; sends = send 1 102 ∷ []; offers = (1, Sent 1) ∷ [] }
       ∷ short_run
@@ -264,10 +264,10 @@ module _ (priority : ℕ) (low : priority ≤ 200) where
   both_lit = simp (no_move, cues, frame_1000, frame_2000) refl
 
   merge_met : slice_index (slots_at 1 both 9509) 0
-      ≡ merged (record { priority = 100; slots = first_at 102 }
+      ≡ merged_slot (record { priority = 100; slots = first_at 102 }
       ∷ record { priority = priority; slots = first_at 51 } ∷ []) 0
   merge_met = merge_law two 1 9509 both two_play hears_both settled 0 (omega arith)
-      ∙ ap (λ l. merged l 0) both_lit
+      ∙ ap (λ l. merged_slot l 0) both_lit
 
 -- at equal priorities the greater level is shown, and else that of the greater priority
 priorities : (slice_index (slots_at 1 (both 100 (omega arith)) 9509) 0 ≡ 102)

@@ -8,7 +8,7 @@ use Rattle.std.proofs.lemmas.Bool.{eqb-true, cond_both, cond-true}
 use Rattle.std.proofs.lemmas.Option.{slice_get_within, get_or_from_slice_get, same_Some}
 use Rattle.devices.specs.Send.{Send}
 use Rattle.desk.specs.declared.answer.Refused.{Refused}
-use Rattle.desk.specs.Played.{Act, ended, refusal}
+use Rattle.desk.specs.Played.{Act, ticks_since_end, refusal}
 use Rattle.sacn_source.specs.declared.offered.Offered.{Offered}
 use Rattle.sacn_source.specs.Identify.{options_of}
 use Rattle.sacn_source.specs.Identity.{Identity}
@@ -24,16 +24,16 @@ use Rattle.console.specs.declared.call.Call.TheVariants.{Order, Tick}
 use Rattle.console.specs.declared.reading.Reading.{Reading}
 use Rattle.console.specs.declared.reading.Reading.TheVariants.{At, Blank, Malformed}
 use Rattle.console.specs.Spelling.{act_of, reading_of}
-use Rattle.cmd_play.specs.Run.{Carried, IsRun, history_of, lines_in, sends_of, taken_by}
-use Rattle.cmd_play.specs.Run.{taken, due_by, due_after}
+use Rattle.cmd_play.specs.Run.{CarriedLine, IsRun, history_of, lines_of_run, sends_of_run, acts_by}
+use Rattle.cmd_play.specs.Run.{acts_after, dues_by, dues_after}
 use Rattle.rehearsal.specs.Datagrams.{packet_bytes}
 use Rattle.rehearsal.specs.Happened.{packets_of}
 use Rattle.rehearsal.specs.Laws.{is_live}
 use Rattle.rehearsal.specs.World.{plays}
-use Rattle.rehearsal.specs.Sends.{sent_to, numbered}
+use Rattle.rehearsal.specs.Sends.{sent_to, packet_run}
 use Rattle.rehearsal.proofs.Wire.{IsSendable, source_of, unheard_there, bytes_are}
 use Rattle.rehearsal.proofs.Linked.{sent_more, stream_ticked, numbered_at}
-use Rattle.stage_light.specs.Plays.{Play, IsPlay, history, stream_for, sends_for}
+use Rattle.stage_light.specs.Plays.{Play, IsPlay, play_history, stream_for, sends_for}
 use Rattle.stage_light.specs.Laws.{SendsAreTheStream, SendsAreAddressed}
 
 no_sends : {source : Identity} {sends : List Send} {pairs : List (ℕ × Offered)}
@@ -43,7 +43,7 @@ no_sends none = refl
 module _ (p : Production) (u : ℕ) where
   -- the bytes of the universe's stream after a history
   abbrev all : List Act → List (List ℕ)
-  all h = numbered p.source u 0 (packets_of p h u)
+  all h = packet_run p.source u 0 (packets_of p h u)
 
   abbrev Grows : List Act → List Act → List Send → Type 0
   Grows h after sends = all h ++ sent_to u sends ≡ all after
@@ -53,35 +53,35 @@ module _ (p : Production) (u : ℕ) where
 
   grows_called : (h : List Act) (moment : ℕ) (call : Call) (o : Option Refused)
       (sends : List Send) (pairs : List (ℕ × Offered))
-      → AreOffered p.source (due_by o call (dues_at p h moment)) sends pairs
-      → Grows h (taken_by o (act_of moment call) h) sends
+      → AreOffered p.source (dues_by o call (dues_at p h moment)) sends pairs
+      → Grows h (acts_by o (act_of moment call) h) sends
   grows_called h moment Tick None sends pairs o =
       stream_ticked p h moment sends pairs
       (record { sends = sends; are_offered = o; after_is = refl }) u
   grows_called h moment (Order command) None sends pairs o =
-      rw (no_sends o, console.ended_same command (ended h)) (append-nil (all h))
+      rw (no_sends o, console.ended_same command (ticks_since_end h)) (append-nil (all h))
   grows_called h moment Tick (Some r) sends pairs o = grows_none h sends (no_sends o)
   grows_called h moment (Order command) (Some r) sends pairs o = grows_none h sends (no_sends o)
 
   grows : (h : List Act) (reading : Reading) (sends : List Send) (pairs : List (ℕ × Offered))
-      → AreOffered p.source (due_after p h reading) sends pairs
-      → Grows h (taken p.show reading h) sends
+      → AreOffered p.source (dues_after p h reading) sends pairs
+      → Grows h (acts_after p.show reading h) sends
   grows h (At moment call) sends pairs o =
       grows_called h moment call (refusal p.show h (act_of moment call)) sends pairs o
   grows h Blank sends pairs o = grows_none h sends (no_sends o)
   grows h (Malformed) sends pairs o = grows_none h sends (no_sends o)
 
-  pub sent_is : (run : List Carried) → IsRun p run
-      → sent_to u (sends_of run) ≡ all (history_of p.show (lines_in run))
-  sent_is [] is = sym (cond_both (plays p u) _ _ (λ ps. numbered p.source u 0 ps ≡ [])
+  pub sent_is : (run : List CarriedLine) → IsRun p run
+      → sent_to u (sends_of_run run) ≡ all (history_of p.show (lines_of_run run))
+  sent_is [] is = sym (cond_both (plays p u) _ _ (λ ps. packet_run p.source u 0 ps ≡ [])
       (λ _. refl) (λ _. refl))
-  sent_is (c ∷ older) is = sent_more u (sends_of older) c.sends
+  sent_is (c ∷ older) is = sent_more u (sends_of_run older) c.sends
       ∙ ap (λ l. l ++ sent_to u c.sends) (sent_is older is.1)
-      ∙ grows (history_of p.show (lines_in older)) (reading_of c.line) c.sends c.offers is.0
+      ∙ grows (history_of p.show (lines_of_run older)) (reading_of c.line) c.sends c.offers is.0
 
 pub sends_stream : SendsAreTheStream
 sends_stream play u is = ap (sent_to u) is.offered_are ∙ sent_is play.production u is.run is.is_run
-    ∙ ap (λ lines. numbered play.production.source u 0
+    ∙ ap (λ lines. packet_run play.production.source u 0
     (packets_of play.production (history_of play.production.show lines) u)) is.lines_are
 
 -- ---- a send names its source and universe
@@ -126,7 +126,7 @@ module _ (p : Production) where
 
   named_called : (h : List Act) (moment : ℕ) (call : Call) (o : Option Refused)
       (sends : List Send) (pairs : List (ℕ × Offered))
-      → AreOffered p.source (due_by o call (dues_at p h moment)) sends pairs
+      → AreOffered p.source (dues_by o call (dues_at p h moment)) sends pairs
       → (x : Send) → In x sends → IsNamed p x
   named_called h moment Tick None sends pairs o = named_due h moment (universes_of p) o
   named_called h moment (Order command) None sends pairs o = named_none sends (no_sends o)
@@ -134,19 +134,21 @@ module _ (p : Production) where
   named_called h moment (Order command) (Some r) sends pairs o = named_none sends (no_sends o)
 
   named_line : (h : List Act) (reading : Reading) (sends : List Send) (pairs : List (ℕ × Offered))
-      → AreOffered p.source (due_after p h reading) sends pairs
+      → AreOffered p.source (dues_after p h reading) sends pairs
       → (x : Send) → In x sends → IsNamed p x
   named_line h (At moment call) sends pairs o =
       named_called h moment call (refusal p.show h (act_of moment call)) sends pairs o
   named_line h Blank sends pairs o = named_none sends (no_sends o)
   named_line h Malformed sends pairs o = named_none sends (no_sends o)
 
-  pub named : (run : List Carried) → IsRun p run → (x : Send) → In x (sends_of run) → IsNamed p x
+  pub named : (run : List CarriedLine) → IsRun p run → (x : Send) → In x (sends_of_run run)
+      → IsNamed p x
   named [] is x i = absurd i
-  named (c ∷ older) is x i = elim (in_append x (sends_of older) c.sends i) [
+  named (c ∷ older) is x i = elim (in_append x (sends_of_run older) c.sends i) [
     | inl a ↦ named older is.1 x a
     | inr b ↦
-        named_line (history_of p.show (lines_in older)) (reading_of c.line) c.sends c.offers is.0
+        named_line (history_of p.show (lines_of_run older)) (reading_of c.line) c.sends
+        c.offers is.0
         x b
   ]
 
@@ -164,7 +166,7 @@ sends_addressed play send u is among other =
 -- ---- send k for a universe is packet k of its stream
 
 length_numbered : (source : Identity) (u k : ℕ) (ps : List Packet)
-    → length (numbered source u k ps) ≡ length ps
+    → length (packet_run source u k ps) ≡ length ps
 length_numbered source u k [] = refl
 length_numbered source u k (p ∷ ps) = ap suc (length_numbered source u (k + 1) ps)
 
@@ -222,7 +224,7 @@ is_sent play u k bytes is e = go (slice_get (stream_for play u) k) refl
           at = at;
           sendable = record {
             who = n.sendable.who;
-            size = full play.production u k (history play) packet at;
+            size = full play.production u k (play_history play) packet at;
             low = rw x.2 at n.sendable.low;
             high = rw x.2 at n.sendable.high;
           };

@@ -16,9 +16,9 @@ use Rattle.sacn_source.specs.Stream.{Packet}
 use Rattle.sacn_receiver.specs.declared.answer.Ignored.{Ignored}
 use Rattle.sacn_receiver.specs.Arrivals.{Arrival, heard_all, last_arrival, NeverFall, not_heard}
 use Rattle.sacn_receiver.specs.Arrivals.{packets_heard}
-use Rattle.sacn_receiver.specs.Laws.{accepted}
-use Rattle.sacn_receiver.specs.Shown.{shown, shown_slots, merged}
-use Rattle.sacn_receiver.specs.Taking.{entry_of}
+use Rattle.sacn_receiver.specs.Laws.{accepted_packets}
+use Rattle.sacn_receiver.specs.Shown.{shown_slot, shown_slots, merged_slot}
+use Rattle.sacn_receiver.specs.Taking.{accepted_entry}
 use Rattle.sacn_receiver.proofs.Independent.{heard_accepted}
 use Rattle.sacn_receiver.proofs.Members.{by_test, In, In_map, place_from_in}
 use Rattle.desk.specs.Meaning.{dark}
@@ -30,7 +30,8 @@ use Rattle.rehearsal.specs.Laws.{is_live, IsFreshIn}
 use Rattle.rehearsal.proofs.Wire.{heard_here, entry_is}
 use Rattle.rehearsal.proofs.Came.{AreInTime, later_too, own, own_from}
 use Rattle.rehearsal.proofs.Shown.{same_slots, dark_slots, one_light}
-use Rattle.stage_light.specs.Plays.{Play, IsPlay, play_at, ArePlays, history, stream_for, sends_for}
+use Rattle.stage_light.specs.Plays.{Play, IsPlay, play_at, ArePlays, play_history, stream_for}
+use Rattle.stage_light.specs.Plays.{sends_for}
 use Rattle.stage_light.specs.Plays.{frame_for}
 use Rattle.stage_light.specs.Traffic.{Traffic, TracedArrival, arrivals_in, IsOrigin, AreOrigins}
 use Rattle.stage_light.specs.Traffic.{receipts, with_receipt, receipts_of, send_number, Receipt}
@@ -88,8 +89,8 @@ module _ (plays : List Play) (v : ArePlays plays) (u : ℕ) where
         let d : Delivery = record { k = k; moment = a.moment; packet = s.packet } in
         let here : not_heard u a.datagram ≡ None =
         ap (not_heard u) s.bytes_are ∙ heard_here (who i) u k s.packet s.sendable in
-        let says : entry_of a.moment (front_packet a.datagram) ≡ entry_at who (i, d) =
-        ap (λ b. entry_of a.moment (front_packet b)) s.bytes_are
+        let says : accepted_entry a.moment (front_packet a.datagram) ≡ entry_at who (i, d) =
+        ap (λ b. accepted_entry a.moment (front_packet b)) s.bytes_are
         ∙ entry_is (who i) u k s.packet s.sendable a.moment in
         record {
           cs = (i, d) ∷ r.cs;
@@ -121,8 +122,9 @@ module _ (plays : List Play) (v : ArePlays plays) (u : ℕ) where
     pub r : Are traffic
     r = are traffic hears.origins hears.in_order.0
 
-    pub left : heard_all 4 u (arrivals_in traffic) ≡ accepted 4 (map (entry_at who) r.cs)
-    left = heard_accepted 4 u (arrivals_in traffic) hears.in_order.0 ∙ ap (accepted 4) r.heard
+    pub left : heard_all 4 u (arrivals_in traffic) ≡ accepted_packets 4 (map (entry_at who) r.cs)
+    left = heard_accepted 4 u (arrivals_in traffic) hears.in_order.0
+        ∙ ap (accepted_packets 4) r.heard
 
     window : (i : ℕ) → i < length plays → wire.IsInWindow (own i r.cs)
     window i l = window_same (own i r.cs) (rw (r.receipts_are i) at (hears.window i l))
@@ -150,7 +152,7 @@ module _ (plays : List Play) (v : ArePlays plays) (u : ℕ) where
         none_too {ys = y ∷ ys} l e = absurd (let z = ap length e in omega (arith, l, z))
 
     abbrev live : ℕ → Bool
-    live i = is_live (history (play_at plays i))
+    live i = is_live (play_history (play_at plays i))
 
     abbrev means : ℕ → List ℕ
     means i = frame_for (play_at plays i) u
@@ -158,16 +160,16 @@ module _ (plays : List Play) (v : ArePlays plays) (u : ℕ) where
     newest_is : (i k : ℕ) (packet : Packet) → slice_get (ps i) k ≡ Some packet
         → suc k ≡ length (ps i) → (packet.slots ≡ means i) × (packet.ends ≡ not (live i))
     newest_is i k packet at l = newest (play_at plays i).production u k
-        (history (play_at plays i)) packet at l
+        (play_history (play_at plays i)) packet at l
 
     pub shows : AreSettled plays u traffic t → (slot : ℕ)
-        → shown (heard_all 4 u (arrivals_in traffic)) t slot
-        ≡ merged (lights plays u traffic t) slot
-    shows state slot = ap (λ h. shown h t slot) left
+        → shown_slot (heard_all 4 u (arrivals_in traffic)) t slot
+        ≡ merged_slot (lights plays u traffic t) slot
+    shows state slot = ap (λ h. shown_slot h t slot) left
         ∙ shown_is (length plays) who hears.few hears.apart r.cs r.there
         (last_arrival (arrivals_in traffic)) t hears.in_order.1 r.in_time ps r.at live means
         newest_is window (settled state) slot
-        ∙ ap (λ (p : ℕ → Bool). merged (map (light plays u) (filter p (range_with_len 0
+        ∙ ap (λ (p : ℕ → Bool). merged_slot (map (light plays u) (filter p (range_with_len 0
         (length plays)))) slot) (λ i j. not (sym (silent j) i) && live j)
 
     pub loud : (i : ℕ) → i < length plays
@@ -179,7 +181,7 @@ module _ (plays : List Play) (v : ArePlays plays) (u : ℕ) where
 
 pub merge_law : MergeLaw
 merge_law plays u t traffic v hears state slot below =
-    get_or-map-range_with_len (shown (heard_all 4 u (arrivals_in traffic)) t) 0 512 slot slot 0
+    get_or-map-range_with_len (shown_slot (heard_all 4 u (arrivals_in traffic)) t) 0 512 slot slot 0
     below (omega arith) ∙ shows plays v u t traffic hears state slot
 
 -- ---- one play is several
@@ -237,9 +239,9 @@ module _ (play : Play) (v : IsPlay play) (u t : ℕ) (traffic : Traffic ℕ)
   }
 
   -- what is shown, in these terms
-  same : (slot : ℕ) → shown (heard_all 4 u (arrivals_in traffic)) t slot
-      ≡ shown (heard_all 4 u (arrivals_in all)) t slot
-  same slot = ap (λ l. shown (heard_all 4 u l) t slot) (sym (same_arrivals traffic))
+  same : (slot : ℕ) → shown_slot (heard_all 4 u (arrivals_in traffic)) t slot
+      ≡ shown_slot (heard_all 4 u (arrivals_in all)) t slot
+  same slot = ap (λ l. shown_slot (heard_all 4 u l) t slot) (sym (same_arrivals traffic))
 
   abbrev ordinal : ℕ
   ordinal = u - play.production.base
@@ -250,15 +252,15 @@ module _ (play : Play) (v : IsPlay play) (u t : ℕ) (traffic : Traffic ℕ)
       let f : IsFresh t (sends_for play u) (receipts_of 0 all) = rw (same_receipts traffic) fresh in
       let quiet = loud plays are_plays u t all hears_all 0 (omega arith) f in
       same_slots (heard_all 4 u (arrivals_in traffic)) t (frame_for play u)
-      (latest_full play.production.show (history play) ordinal)
+      (latest_full play.production.show (play_history play) ordinal)
       (λ slot l. same slot ∙ shows plays are_plays u t all hears_all
       (λ i m some. inl (rw (first i m) f)) slot
-      ∙ by_test (is_live (history play))
+      ∙ by_test (is_live (play_history play))
       (λ q. rw (quiet, q) (one_light (light plays u 0) slot))
       (λ q. rw (
         quiet,
         q,
-        latest play.production u (history play),
+        latest play.production u (play_history play),
         q,
         get_or-replicate {A = ℕ} 512 slot 0 0 l,
       )))
@@ -277,9 +279,11 @@ module _ (play : Play) (v : IsPlay play) (u t : ℕ) (traffic : Traffic ℕ)
       let a = r plays are_plays u t all hears_all in
       let ds : List Delivery = own 0 a.cs in
       let is : receipts traffic ≡ receipts_in ds = sym (same_receipts traffic) ∙ a.receipts_are 0 in
-      let shows : (slot : ℕ) → shown (heard_all 4 u (arrivals_in traffic)) t slot
-      ≡ shown (accepted 4 (map (entry_at (λ _. play.production.source)) a.cs)) t slot = λ slot.
-      same slot ∙ ap (λ h. shown h t slot) (left plays are_plays u t all hears_all ∙ ap (accepted 4)
+      let shows : (slot : ℕ) → shown_slot (heard_all 4 u (arrivals_in traffic)) t slot
+      ≡ shown_slot (accepted_packets 4 (map (entry_at (λ _. play.production.source)) a.cs)) t slot =
+      λ slot.
+      same slot ∙ ap (λ h. shown_slot h t slot)
+      (left plays are_plays u t all hears_all ∙ ap (accepted_packets 4)
       (one_source a.cs a.there)) in
       elim (near play.production.source a.cs a.there (last_arrival (arrivals_in all)) t
       hears_all.in_order.1 a.in_time (window_same ds (rw is at hears.window))) [
@@ -296,7 +300,7 @@ module _ (play : Play) (v : IsPlay play) (u t : ℕ) (traffic : Traffic ℕ)
               not_ahead = rw (is, newest_same ds) n.not_ahead;
               recent = n.recent;
               are = same_slots (heard_all 4 u (arrivals_in traffic)) t n.one.packet.slots
-                  (full play.production u n.one.k (history play) n.one.packet at)
+                  (full play.production u n.one.k (play_history play) n.one.packet at)
                   (λ slot l. shows slot ∙ n.shows slot);
             }))
         | inr none ↦
@@ -317,7 +321,8 @@ headline play u t traffic v hears fresh = means_so play v u t traffic hears fres
 pub unpatched_zero : UnpatchedSlotsAreZero
 unpatched_zero play u t slot traffic v hears fresh below none =
     ap (λ l. slice_index l slot) (means_so play v u t traffic hears fresh)
-    ∙ unpatched_latest play.production.show (history play) (u - play.production.base) slot below
+    ∙ unpatched_latest play.production.show (play_history play) (u - play.production.base)
+    slot below
     none
 
 pub window_law : WindowLaw

@@ -17,9 +17,9 @@ use Rattle.std.proofs.lemmas.List.FromFn.{length-range_with_len, get_or-range_wi
 use Rattle.std.proofs.lemmas.List.FromFn.{get_or-map-range_with_len, length-map-range_with_len}
 use Rattle.sacn_source.specs.Identity.{Identity}
 use Rattle.sacn_source.specs.Stream.{Packet}
-use Rattle.sacn_receiver.specs.Laws.{accepted}
+use Rattle.sacn_receiver.specs.Laws.{accepted_packets}
 use Rattle.sacn_receiver.specs.Source.{Entry, same_cid, is_there}
-use Rattle.sacn_receiver.specs.Shown.{Light, light_of, merged, shown}
+use Rattle.sacn_receiver.specs.Shown.{Light, light_of, merged_slot, shown_slot}
 use Rattle.sacn_receiver.proofs.Independent.{sources_independent}
 use Rattle.sacn_receiver.proofs.Members.{by_test, In, In_mapped, in_from_get_or, in_from_place}
 use Rattle.sacn_receiver.proofs.Members.{place_from_in}
@@ -45,7 +45,7 @@ module _ (n : ℕ) (who : ℕ → Identity) (few : n ≤ 4)
     → bytes_eq (who i).cid (who j).cid ≡ false)
     (cs : List Coming) (there : (c : Coming) → In c cs → c.0 < n) where
   abbrev h : List Entry
-  h = accepted 4 (map (entry_at who) cs)
+  h = accepted_packets 4 (map (entry_at who) cs)
 
   own_entries : (i : ℕ) → i < n → (xs : List Coming) → ((c : Coming) → In c xs → c.0 < n)
       → filter (same_cid (who i).cid) (map (entry_at who) xs) ≡ map (entry (who i)) (own i xs)
@@ -75,7 +75,7 @@ module _ (n : ℕ) (who : ℕ → Identity) (few : n ≤ 4)
   follows i l = sources_independent 4 cids (map (entry_at who) cs)
       (omega (arith, few, length-map-range_with_len (λ i. (who i).cid) 0 n)) from_these
       (who i).cid
-      ∙ ap (λ es. find (same_cid (who i).cid) (accepted 4 es)) (own_entries i l cs there)
+      ∙ ap (λ es. find (same_cid (who i).cid) (accepted_packets 4 es)) (own_entries i l cs there)
 
   owned : (e : Entry) → In e h → (j : ℕ) × In j (range_with_len 0 n) × ((who j).cid ≡ e.cid)
   owned e i =
@@ -170,8 +170,8 @@ module _ (n : ℕ) (who : ℕ → Identity) (few : n ≤ 4)
     pub shown_is : ((i : ℕ) → i < n → IsInWindow (own i cs))
         → ((i : ℕ) → i < n → (ps i ≡ [] → ⊥)
         → IsFreshIn t (ps i) (own i cs) ⊎ IsTrue (is_silent t (own i cs)))
-        → (slot : ℕ) → shown h t slot
-        ≡ merged (map light (filter is_lit (range_with_len 0 n))) slot
+        → (slot : ℕ) → shown_slot h t slot
+        ≡ merged_slot (map light (filter is_lit (range_with_len 0 n))) slot
     shown_is window state slot =
         shown_lit t h (λ j. (who j).cid) (range_with_len 0 n) owned is_lit light (λ j m.
         let place = place_from_in j (range_with_len 0 n) m in
@@ -192,7 +192,7 @@ module _ (c : Identity) (cs : List Coming) (there : (x : Coming) → In x cs →
     (last t : ℕ) (time : last ≤ t) (in_time : AreInTime last (map (λ x. x.1.moment) cs))
     (window : IsInWindow (own 0 cs)) where
   abbrev all : List Entry
-  all = accepted 4 (map (entry_at (λ _. c)) cs)
+  all = accepted_packets 4 (map (entry_at (λ _. c)) cs)
 
   pub record IsNear : Type 0 where
     pub one : Delivery
@@ -200,7 +200,7 @@ module _ (c : Identity) (cs : List Coming) (there : (x : Coming) → In x cs →
     pub not_far_behind : newest_of (own 0 cs) ≤ one.k + 19
     pub not_ahead : one.k ≤ newest_of (own 0 cs)
     pub recent : t < one.moment + 2500
-    pub shows : (slot : ℕ) → shown all t slot ≡ slice_index one.packet.slots slot
+    pub shows : (slot : ℕ) → shown_slot all t slot ≡ slice_index one.packet.slots slot
 
   none_apart : (i j : ℕ) → i < 1 → j < 1 → nat_eq j i ≡ false → bytes_eq c.cid c.cid ≡ false
   none_apart i j l m q = absurd (let e : j ≡ i = omega (arith, l, m) in let z = eq-eqb j i e in cc)
@@ -210,12 +210,12 @@ module _ (c : Identity) (cs : List Coming) (there : (x : Coming) → In x cs →
 
   shown_alone : (b : Bool) (l : Light)
       → lit_by t (find (same_cid c.cid) all) ≡ (if b then Some l else None) → (slot : ℕ)
-      → shown all t slot ≡ merged (map {A = ℕ} (λ _. l) (filter (λ _. b) (0 ∷ []))) slot
+      → shown_slot all t slot ≡ merged_slot (map {A = ℕ} (λ _. l) (filter (λ _. b) (0 ∷ []))) slot
   shown_alone b l lit slot = shown_lit t all (λ _. c.cid) (0 ∷ [])
       (λ e m. let o = owned 1 (λ _. c) (omega arith) none_apart cs there e m in
       (0, inl refl, o.2)) (λ _. b) (λ _. l) (λ j m. lit) slot
 
-  pub near : IsNear ⊎ ((slot : ℕ) → shown all t slot ≡ 0)
+  pub near : IsNear ⊎ ((slot : ℕ) → shown_slot all t slot ≡ 0)
   near = elim (kept_of c last (own 0 cs) window (own_in_time 0 last cs in_time)) [
     | inl none ↦
         (let gone : find (same_cid c.cid) all ≡ None = found_is ∙ rw none refl in
@@ -224,8 +224,8 @@ module _ (c : Identity) (cs : List Coming) (there : (x : Coming) → In x cs →
     | inr k ↦
         (let e : Entry = entry c k.one in
         let b : Bool = is_there t e && not e.ended in
-        let shows : (slot : ℕ) → shown all t slot
-        ≡ merged (map {A = ℕ} (λ _. light_of e) (filter (λ _. b) (0 ∷ []))) slot =
+        let shows : (slot : ℕ) → shown_slot all t slot
+        ≡ merged_slot (map {A = ℕ} (λ _. light_of e) (filter (λ _. b) (0 ∷ []))) slot =
         shown_alone b (light_of e) (ap (lit_by t) (found_is ∙ k.is_kept)) in
         let l : k.one.moment ≤ t = omega (arith, k.facts.past, time) in
         let recent : nat_lt (t - k.one.moment) 2500 ≡ nat_lt t (k.one.moment + 2500) =

@@ -1,17 +1,18 @@
 -- Consoles that mean the same.
-use Rattle.std.proofs.Common.{◌≡◌, ℕ, ◌<◌, ◌≤◌, Bool, refl, ap, arith, sym, inl, inr, ◌∙◌, List, ◌-◌}
+use Rattle.std.proofs.Common.{◌≡◌, ℕ, ◌<◌, ◌≤◌, Bool, refl, ap, arith, sym, inl, inr, ◌∙◌, List}
+use Rattle.std.proofs.Common.{◌-◌}
 use Rattle.std.proofs.Common.{[], ◌∷◌, map, length, get_or}
 use Rattle.std.specs.Prelude.{nat_eq, filter, slice_index}
 use Rattle.std.specs.List.{range_with_len}
 use Rattle.std.proofs.lemmas.Bool.{eq-eqb, cases_lt}
 use Rattle.std.proofs.lemmas.List.FromFn.{length-range_with_len, get_or-range_with_len}
 use Rattle.desk.specs.Meaning.{latest_frame}
-use Rattle.sacn_receiver.specs.Shown.{Light, greatest, leading, merged}
+use Rattle.sacn_receiver.specs.Shown.{Light, greatest, leaders, merged_slot}
 use Rattle.sacn_receiver.proofs.Members.{In, In_filter, In_filtered, In_map, In_mapped}
 use Rattle.sacn_receiver.proofs.Members.{in_from_place, place_from_in}
 use Rattle.sacn_receiver.proofs.Same.{In_le}
 use Rattle.stage_light.specs.Laws.{is_lit, light, lights}
-use Rattle.stage_light.specs.Plays.{Play, frame_for, history, play_at}
+use Rattle.stage_light.specs.Plays.{Play, frame_for, play_history, play_at}
 use Rattle.stage_light.specs.Restarts.{AllMean, IsTwin, MeansOne, TakesOver, TwinsLight}
 use Rattle.stage_light.specs.Traffic.{Traffic}
 use Rattle.stage_light.proofs.Showing.{merge_law}
@@ -53,11 +54,11 @@ module _ {A : Type 0} (f : A → ℕ) where
   has_greatest (x ∷ xs) e i = a_greatest x xs
 
 merged_one : (ls : List Light) (slot v : ℕ) → ((l : Light) → In l ls → slice_index l.slots slot ≡ v)
-    → (one : Light) → In one ls → merged ls slot ≡ v
+    → (one : Light) → In one ls → merged_slot ls slot ≡ v
 merged_one ls slot v same one i =
     let g = has_greatest (λ (m : Light). m.priority) ls one i in
     let p : Light → Bool = λ l. nat_eq l.priority (greatest (map (λ (m : Light). m.priority) ls)) in
-    all_same (λ (l : Light). slice_index l.slots slot) v (leading ls)
+    all_same (λ (l : Light). slice_index l.slots slot) v (leaders ls)
     (λ l m. same l (In_filtered p l ls m).0) g.one
     (In_filter p g.one ls g.in_them (eq-eqb _ _ g.is_greatest))
 
@@ -98,8 +99,8 @@ means_one plays u t traffic slots are all settled mean slot below =
 
 twin_means : (main twin : Play) (u : ℕ) → IsTwin main twin → frame_for twin u ≡ frame_for main u
 twin_means main twin u is =
-    ap (λ show. latest_frame show (history twin) (u - twin.production.base)) is.show_is
-    ∙ ap (λ base. latest_frame main.production.show (history twin) (u - base)) is.base_is
+    ap (λ show. latest_frame show (play_history twin) (u - twin.production.base)) is.show_is
+    ∙ ap (λ base. latest_frame main.production.show (play_history twin) (u - base)) is.base_is
     ∙ ap (λ h. latest_frame main.production.show h (u - main.production.base)) is.history_is
 
 twins_mean : (main : Play) (plays : List Play) (u t : ℕ) (traffic : Traffic (ℕ × ℕ))

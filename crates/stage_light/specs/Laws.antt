@@ -9,10 +9,11 @@ use Rattle.devices.specs.Send.{Send}
 use Rattle.desk.specs.Meaning.{dark}
 use Rattle.sacn_source.specs.Stream.{Packet}
 use Rattle.sacn_receiver.specs.Arrivals.{not_heard}
-use Rattle.sacn_receiver.specs.Shown.{Light, merged}
+use Rattle.sacn_receiver.specs.Shown.{Light, merged_slot}
 use Rattle.rehearsal.specs.Laws.{is_live}
-use Rattle.rehearsal.specs.Sends.{numbered}
-use Rattle.stage_light.specs.Plays.{Play, IsPlay, play_at, ArePlays, history, sends_for, stream_for}
+use Rattle.rehearsal.specs.Sends.{packet_run}
+use Rattle.stage_light.specs.Plays.{Play, IsPlay, play_at, ArePlays, play_history, sends_for}
+use Rattle.stage_light.specs.Plays.{stream_for}
 use Rattle.stage_light.specs.Plays.{frame_for}
 use Rattle.stage_light.specs.Traffic.{Traffic, AreOrigins, AreInOrder, slots_at, Receipt, receipts}
 use Rattle.stage_light.specs.Traffic.{receipts_of, newest_of, IsInWindow, IsFresh, is_silent}
@@ -25,7 +26,7 @@ abbrev pub SendsAreTheStream : Type 0
 SendsAreTheStream =
     (play : Play) (universe : ℕ) → IsPlay play
     → sends_for play universe
-    ≡ numbered play.production.source universe 0 (stream_for play universe)
+    ≡ packet_run play.production.source universe 0 (stream_for play universe)
 
 -- a send is heard on no universe but its own
 abbrev pub SendsAreAddressed : Type 0
@@ -138,7 +139,7 @@ AreSettled plays universe traffic t =
 -- play i lights the receiver: it is not silent, and its latest tick was before End
 abbrev pub is_lit : List Play → Traffic (ℕ × ℕ) → ℕ → ℕ → Bool
 is_lit plays traffic t i =
-    not (is_silent t (receipts_of i traffic)) && is_live (history (play_at plays i))
+    not (is_silent t (receipts_of i traffic)) && is_live (play_history (play_at plays i))
 
 -- what it lights with: its priority, and what its show means
 abbrev pub light : List Play → ℕ → ℕ → Light
@@ -162,4 +163,4 @@ MergeLaw =
     → HearsAll plays universe t traffic → AreSettled plays universe traffic t
     → (slot : ℕ) → slot < 512
     → slice_index (slots_at universe traffic t) slot
-    ≡ merged (lights plays universe traffic t) slot
+    ≡ merged_slot (lights plays universe traffic t) slot

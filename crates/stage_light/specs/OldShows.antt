@@ -7,7 +7,7 @@ use Rattle.show.specs.Readers.{has_dimmer_in}
 use Rattle.show.specs.Tables.{Tables}
 use Rattle.show_line.specs.Pairs.{Limits}
 use Rattle.show_line.specs.Said.{desk_limits}
-use Rattle.show_reader.specs.Reading.{fault_of}
+use Rattle.show_reader.specs.Reading.{text_fault}
 use Rattle.show_reader.specs.Shows.{IsShowOf}
 use Rattle.show_reader.specs.Text.{statements_of}
 
@@ -26,6 +26,6 @@ pub record MeanAlike (old new : Tables) : Type 0 where
 -- OLD SHOWS MEAN THE SAME. What a text means to an old desk that finds no fault in it, it means to
 -- this one
 abbrev pub OldShowsLaw : Type 0
-OldShowsLaw = (text : List ℕ) (old new : Tables) → fault_of old_limits text ≡ None
+OldShowsLaw = (text : List ℕ) (old new : Tables) → text_fault old_limits text ≡ None
     → IsShowOf (statements_of old_limits text) old → IsShowOf (statements_of desk_limits text) new
     → MeanAlike old new

@@ -6,7 +6,7 @@ use Rattle.desk.specs.Meaning.{latest_frame}
 use Rattle.desk.specs.Played.{Act}
 use Rattle.sacn_source.specs.Stream.{Packet}
 use Rattle.console.specs.Streams.{Production}
-use Rattle.cmd_play.specs.Run.{Carried, IsRun, history_of, lines_in, sends_of}
+use Rattle.cmd_play.specs.Run.{CarriedLine, IsRun, history_of, lines_of_run, sends_of_run}
 use Rattle.rehearsal.specs.World.{no_console}
 use Rattle.rehearsal.specs.Happened.{packets_of}
 use Rattle.rehearsal.specs.Sends.{sent_to}
@@ -21,10 +21,10 @@ pub record Play : Type 0 where
 -- there is a run of these lines, and the link was offered its sends: at each line what is due at
 -- it, and nothing else
 pub record IsPlay (play : Play) : Type 0 where
-  pub run : List Carried
-  pub lines_are : lines_in run ≡ play.lines
+  pub run : List CarriedLine
+  pub lines_are : lines_of_run run ≡ play.lines
   pub is_run : IsRun play.production run
-  pub offered_are : play.offered ≡ sends_of run
+  pub offered_are : play.offered ≡ sends_of_run run
 
 -- play i; one without lines where there is none
 abbrev pub play_at : List Play → ℕ → Play
@@ -35,8 +35,8 @@ abbrev pub ArePlays : List Play → Type 0
 ArePlays plays = (i : ℕ) → i < length plays → IsPlay (play_at plays i)
 
 -- the calls that the lines spell, without those that were refused
-abbrev pub history : Play → List Act
-history play = history_of play.production.show play.lines
+abbrev pub play_history : Play → List Act
+play_history play = history_of play.production.show play.lines
 
 -- the datagrams that the link was offered for a universe, send k at place k; one that failed counts
 -- too
@@ -45,10 +45,10 @@ sends_for play universe = sent_to universe play.offered
 
 -- the universe's stream, packet k at place k
 abbrev pub stream_for : Play → ℕ → List Packet
-stream_for play universe = packets_of play.production (history play) universe
+stream_for play universe = packets_of play.production (play_history play) universe
 
 -- the 512 slots that the show means for a universe at the latest tick, under the commands before
 -- that tick
 abbrev pub frame_for : Play → ℕ → List ℕ
 frame_for play universe =
-    latest_frame play.production.show (history play) (universe - play.production.base)
+    latest_frame play.production.show (play_history play) (universe - play.production.base)

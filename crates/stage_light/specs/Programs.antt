@@ -10,11 +10,11 @@ use Rattle.console.specs.Streams.{Production}
 use Rattle.cmd_faults.specs.declared.fault.RunFault.{RunFault}
 use Rattle.ascii_text.specs.Lines.{Cut}
 use Rattle.cmd_play.specs.Play.{Plays}
-use Rattle.cmd_play.specs.Run.{Emitted, Ran, history_of}
+use Rattle.cmd_play.specs.Run.{Emission, Ran, history_of}
 use Rattle.cmd_play.specs.Stage.{RunsDry}
-use Rattle.cmd_listen.specs.Listening.{listen_text, replies, Listened}
-use Rattle.cmd_live.specs.Night.{Lived, Seen, answers_since}
-use Rattle.live_input.specs.Laws.{accepted}
+use Rattle.cmd_listen.specs.Listening.{listen_text, replies, HasListened}
+use Rattle.cmd_live.specs.Night.{HasLived, Trace, answers_since}
+use Rattle.live_input.specs.Laws.{accepted_acts}
 use Rattle.live_input.specs.Night.{Happening, answers, lines_given}
 use Rattle.stage_light.specs.Plays.{Play, IsPlay, sends_for, frame_for}
 use Rattle.stage_light.specs.Traffic.{Traffic, datagrams_in, receipts, slots_at, IsFresh}
@@ -33,27 +33,27 @@ pub record HasPlayed (p : Production) (lines : List (List ℕ)) (before after : 
 -- where all lines were carried out
 abbrev pub RunsArePlays : Type 0
 RunsArePlays =
-    (p : Production) (lines : List (List ℕ)) (before after : Emitted) (lost : ℕ)
+    (p : Production) (lines : List (List ℕ)) (before after : Emission) (lost : ℕ)
     → Ran p lines before after lost → HasPlayed p lines before.offered after.offered
 
 -- and where the output failed at the last of them: what the link was offered at it counts too
 abbrev pub DryRunsArePlays : Type 0
 DryRunsArePlays =
-    (p : Production) (cut : Cut) (before after : Emitted) → RunsDry p cut before after
+    (p : Production) (cut : Cut) (before after : Emission) → RunsDry p cut before after
     → HasPlayed p (cut.rest ∷ cut.lines) before.offered after.offered
 
 -- whatever a `play` that took its input answers, where its devices tell
 abbrev pub PlaysArePlays : Type 0 → Type 0
 PlaysArePlays ended =
     (p : Production) (result : Result (Unit {0}) RunFault) (fed feeds : Tape ℕ)
-    (before after : Emitted) → Plays p result ended fed feeds before after
+    (before after : Emission) → Plays p result ended fed feeds before after
     → (lines : List (List ℕ)) × HasPlayed p lines before.offered after.offered
 
 -- ---- a live night is a play
 
 -- what happened to its input since, and that the lines which were given under it are one play with
 -- those before
-pub record IsNight (play : Play) (first : List Happening) (before after : Seen) : Type 0 where
+pub record IsNight (play : Play) (first : List Happening) (before after : Trace) : Type 0 where
   pub happened : List Happening
   pub happened_is : after.booth.happened ≡ happened ++ before.booth.happened
   pub offered : List Send
@@ -66,8 +66,8 @@ pub record IsNight (play : Play) (first : List Happening) (before after : Seen) 
 abbrev pub NightsArePlays : Type 0
 NightsArePlays =
     (play : Play) (first : List Happening) (passed : ℕ) (result : Result (Unit {0}) RunFault)
-    (before after : Seen) → IsPlay play → play.lines ≡ lines_given (answers first)
-    → Lived play.production first passed result before after → IsNight play first before after
+    (before after : Trace) → IsPlay play → play.lines ≡ lines_given (answers first)
+    → HasLived play.production first passed result before after → IsNight play first before after
 
 -- A NIGHT IS WHAT WAS TYPED. The history under which a show is meant then is what a desk accepts
 -- of the answers: the commands that were typed, the ticks, and the end of the night, each at its
@@ -75,7 +75,7 @@ NightsArePlays =
 abbrev pub NightsAreTyped : Type 0
 NightsAreTyped =
     (show : Tables) (happenings : List Happening)
-    → history_of show (lines_given (answers happenings)) ≡ accepted show (answers happenings)
+    → history_of show (lines_given (answers happenings)) ≡ accepted_acts show (answers happenings)
 
 -- FROM WHAT WAS TYPED TO THE LIGHT. So the headline of a live night, however it ended, and whether
 -- it began anew or behind the lines of a play: where this happened to its input, and these sends
@@ -84,8 +84,8 @@ NightsAreTyped =
 abbrev pub NightHeadline : Type 0
 NightHeadline =
     (play : Play) (first : List Happening) (passed : ℕ) (result : Result (Unit {0}) RunFault)
-    (before after : Seen) → IsPlay play → play.lines ≡ lines_given (answers first)
-    → Lived play.production first passed result before after
+    (before after : Trace) → IsPlay play → play.lines ≡ lines_given (answers first)
+    → HasLived play.production first passed result before after
     → (happened : List Happening) (offered : List Send)
     → after.booth.happened ≡ happened ++ before.booth.happened
     → after.offered ≡ before.offered ++ offered
@@ -94,7 +94,7 @@ NightHeadline =
     (universe t : ℕ) (traffic : Traffic ℕ) → HearsOne all universe t traffic
     → IsFresh t (sends_for all universe) (receipts traffic)
     → slots_at universe traffic t
-    ≡ latest_frame show (accepted show (answers (happened ++ first)))
+    ≡ latest_frame show (accepted_acts show (answers (happened ++ first)))
     (universe - play.production.base))
 
 -- ---- from `play` to `listen`
@@ -116,11 +116,11 @@ ListenLaw =
 -- with the slots that the show means at the latest tick of the lines
 abbrev pub PlayToListen : Type 0
 PlayToListen =
-    (p : Production) (lines : List (List ℕ)) (before after : Emitted) (lost : ℕ)
+    (p : Production) (lines : List (List ℕ)) (before after : Emission) (lost : ℕ)
     (offered : List Send) → Ran p lines before after lost
     → after.offered ≡ before.offered ++ offered
     → (universe count : ℕ) (given gives : Tape (List ℕ)) (printed prints : Tape ℕ)
-    (traffic : Traffic ℕ) → Listened universe count given gives printed prints
+    (traffic : Traffic ℕ) → HasListened universe count given gives printed prints
     → gives.items ≡ given.items ++ reverse (datagrams_in traffic)
     → (let play : Play = record { production = p; lines = lines; offered = offered } in
     HearsOne play universe 0 traffic → IsFresh 0 (sends_for play universe) (receipts traffic)

@@ -10,16 +10,17 @@ use Rattle.console.specs.Streams.{Production}
 use Rattle.console.specs.Spelling.{reading_of}
 use Rattle.cmd_faults.specs.declared.fault.RunFault.{RunFault}
 use Rattle.cmd_live.specs.Beginning.{IsFirstOther}
-use Rattle.cmd_live.specs.Night.{Lived, Seen, answers_since}
+use Rattle.cmd_live.specs.Night.{HasLived, Trace, answers_since}
 use Rattle.ascii_text.specs.Lines.{cut_of}
-use Rattle.cmd_play.specs.Run.{Carried, IsRunFrom, due_after, history_from, history_of}
-use Rattle.cmd_play.specs.Run.{lines_in, sends_of}
+use Rattle.cmd_play.specs.Run.{CarriedLine, IsRunFrom, dues_after, history_from, history_of}
+use Rattle.cmd_play.specs.Run.{lines_of_run, sends_of_run}
 use Rattle.live_input.specs.Night.{Happening, answers, lines_given}
 use Rattle.live_input.specs.Recall.{AreRecalled, recall_of}
 use Rattle.rehearsal.specs.Sends.{sent_to}
 use Rattle.rehearsal.specs.World.{IsConsole}
 use Rattle.stage_light.specs.Laws.{AreSettled, HearsAll, HearsOne, is_lit}
-use Rattle.stage_light.specs.Plays.{ArePlays, IsPlay, Play, frame_for, history, play_at, sends_for}
+use Rattle.stage_light.specs.Plays.{ArePlays, IsPlay, Play, frame_for, play_history, play_at}
+use Rattle.stage_light.specs.Plays.{sends_for}
 use Rattle.stage_light.specs.Traffic.{IsFresh, Traffic, receipts, slots_at}
 
 -- ---- one play of several processes
@@ -40,25 +41,25 @@ new_play p = record { production = p; lines = []; offered = [] }
 -- it
 abbrev pub PlaysGoOn : Type 0
 PlaysGoOn =
-    (play : Play) (run : List Carried) → IsPlay play
-    → IsRunFrom play.production (history play) run
-    → IsPlay (play_on play (lines_in run) (sends_of run))
+    (play : Play) (run : List CarriedLine) → IsPlay play
+    → IsRunFrom play.production (play_history play) run
+    → IsPlay (play_on play (lines_of_run run) (sends_of_run run))
 
 -- a process broke off behind a play: of the lines that it recorded all but the newest were carried
 -- out, and of what was due at the newest the first packets were offered: none, some, or all
 pub record BrokeOff (play : Play) (newest : List ℕ) (older : List (List ℕ)) (offered : List Send)
     : Type 0 where
-  pub run : List Carried
-  pub lines_are : lines_in run ≡ older
-  pub is_run : IsRunFrom play.production (history play) run
+  pub run : List CarriedLine
+  pub lines_are : lines_of_run run ≡ older
+  pub is_run : IsRunFrom play.production (play_history play) run
   pub count : ℕ
   pub part : List Send
   pub offers : List (ℕ × Offered)
   pub are_offered : AreOffered play.production.source
-      (take count (due_after play.production
-      (history_from play.production.show (history play) older) (reading_of newest)))
+      (take count (dues_after play.production
+      (history_from play.production.show (play_history play) older) (reading_of newest)))
       part offers
-  pub offered_are : offered ≡ sends_of run ++ part
+  pub offered_are : offered ≡ sends_of_run run ++ part
 
 -- at most one send for each universe
 abbrev pub AreFew : List Send → Type 0
@@ -82,10 +83,10 @@ BreaksArePlays =
 abbrev pub RestartHeadline : Type 0
 RestartHeadline =
     (p : Production) (newest : List ℕ) (older : List (List ℕ)) (offered later : List Send)
-    (passed : ℕ) (result : Result (Unit {0}) RunFault) (before after : Seen)
+    (passed : ℕ) (result : Result (Unit {0}) RunFault) (before after : Trace)
     (happened : List Happening) → IsConsole p → BrokeOff (new_play p) newest older offered
     → AreRecalled (newest ∷ older)
-    → Lived p (recall_of (newest ∷ older)) passed result before after
+    → HasLived p (recall_of (newest ∷ older)) passed result before after
     → after.booth.happened ≡ happened ++ before.booth.happened
     → after.offered ≡ before.offered ++ later
     → (missing : List Send) × AreFew missing
@@ -130,7 +131,7 @@ MeansOne =
 pub record IsTwin (main twin : Play) : Type 0 where
   pub show_is : twin.production.show ≡ main.production.show
   pub base_is : twin.production.base ≡ main.production.base
-  pub history_is : history twin ≡ history main
+  pub history_is : play_history twin ≡ play_history main
 
 -- a play lights the receiver, and each that does is a twin of the main
 pub record TwinsLight (main : Play) (plays : List Play) (t : ℕ) (traffic : Traffic (ℕ × ℕ))

@@ -40,11 +40,11 @@ pub fn plays_are_plays<R: Feed>(_input: &R)
     ensures { PlaysArePlays (R.ended _input.now) }
 {}
 
-/// And so is a live night, where its booth and its link tell: whatever was typed, whatever the clock
-/// said and however it ended, the lines that its input gave are a play, behind the lines of its
-/// record where it went on behind one (`plays`). Its history is that of the commands that were
-/// typed, of the ticks, and of the end of the night (`typed`); so the promise holds of a live night,
-/// under the commands that were typed (`headline`).
+/// And so is a live night, where its booth and its link tell: whatever was typed, whatever the
+/// clock said and however it ended, the lines that its input gave are a play, behind the lines of
+/// its record where it went on behind one (`plays`). Its history is that of the commands that were
+/// typed, of the ticks, and of the end of the night (`typed`); so the promise holds of a live
+/// night, under the commands that were typed (`headline`).
 pub fn nights_are_plays()
     ensures plays { NightsArePlays }
     ensures typed { NightsAreTyped }
@@ -52,9 +52,9 @@ pub fn nights_are_plays()
 {}
 
 /// A night that was killed, and one that went on behind its record, are one play. The second takes
-/// up the history (`history`); of what was due when the first broke off at most one packet for each
-/// universe was never sent, and what the second sends comes next in the same streams (`stream`); so
-/// the promise holds across the restart (`headline`).
+/// up the history (`play_history`); of what was due when the first broke off at most one packet for
+/// each universe was never sent, and what the second sends comes next in the same streams
+/// (`stream`); so the promise holds across the restart (`headline`).
 pub fn nights_go_on()
     ensures history { PlaysGoOn }
     ensures stream { BreaksArePlays }

@@ -73,7 +73,7 @@ impl AppendedLines {
 
     /// How many bytes of the file were given in lines, their LFs included.
     pub fn taken(&self) -> u64 {
-        self.lines.taken()
+        self.lines.bytes_given()
     }
 
     /// Whether the name still leads to the file, and the file has all lines that were given.

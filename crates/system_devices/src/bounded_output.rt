@@ -163,7 +163,7 @@ impl<W> BoundedOutput<W> {
     /// where it has failed.
     pub fn piped_bytes(&self) -> u64 {
         if self.queue.pipe.way.is_pipe() && self.queue.failure().is_none() {
-            self.queue.taken()
+            self.queue.bytes_taken()
         } else {
             0
         }

@@ -25,7 +25,7 @@ impl MachineClock for SystemClock<'_> {
 
     ghost tape = { λ _. record { items = []; failures = 0 } };
 
-    fn passed(&mut self) -> Result<Duration, LinkFault> {
+    fn time_passed(&mut self) -> Result<Duration, LinkFault> {
         self.start.elapsed(self.rt).map_err(|_| LinkFault)
     }
 }

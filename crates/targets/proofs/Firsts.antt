@@ -1,11 +1,12 @@
 -- What loops find first.
 use Rattle.std.proofs.Common.{ℕ, ◌+◌, ◌-◌, ◌<◌, List, [], ◌∷◌, ◌++◌, Bool, Option, Some, None}
-use Rattle.std.proofs.Common.{◌≡◌, ◌∙◌, sym, ap, cond, drop, get_or, le_of_eq, length, refl, slice_get, take}
+use Rattle.std.proofs.Common.{◌≡◌, ◌∙◌, sym, ap, cond, drop, get_or, le_of_eq, length, refl}
+use Rattle.std.proofs.Common.{slice_get, take}
 use Rattle.std.specs.List.{filter_map, list_any}
 use Rattle.std.proofs.lemmas.List.{drop_more, length-drop, take-append-drop, take_all, take_more}
 use Rattle.std.proofs.lemmas.List.Elements.{filter_map-append}
 use Rattle.targets.specs.Address.{is_same}
-use Rattle.targets.specs.Misfit.{repeated}
+use Rattle.targets.specs.Misfit.{first_repeat}
 use Rattle.targets.specs.declared.address.Address.{Address}
 
 -- what stands behind a place
@@ -13,13 +14,13 @@ behind : {X : Type 0} (xs : List X) (i : ℕ) → take (length xs - i) (drop i x
 behind xs i = take_all (length xs - i) (drop i xs) (le_of_eq (length-drop i xs))
 
 module _ (xs : List Address) (i : ℕ) (d : Address) (inside : i < length xs)
-    (so_far : repeated xs ≡ repeated (drop i xs)) where
+    (so_far : first_repeat xs ≡ first_repeat (drop i xs)) where
   -- an address that does not stand again is passed over, and one that does is the first
   pub repeated-at : (again : Bool) → list_any (λ other. is_same other (get_or xs i d))
       (take (length xs - (i + 1)) (drop (i + 1) xs)) ≡ again
-      → repeated xs ≡ cond again (Some (get_or xs i d)) (repeated (drop (i + 1) xs))
-  repeated-at again is = so_far ∙ ap repeated (drop_more xs i d inside)
-      ∙ ap (λ b. cond b (Some (get_or xs i d)) (repeated (drop (i + 1) xs)))
+      → first_repeat xs ≡ cond again (Some (get_or xs i d)) (first_repeat (drop (i + 1) xs))
+  repeated-at again is = so_far ∙ ap first_repeat (drop_more xs i d inside)
+      ∙ ap (λ b. cond b (Some (get_or xs i d)) (first_repeat (drop (i + 1) xs)))
       (ap (list_any (λ other. is_same other (get_or xs i d))) (sym (behind xs (i + 1))) ∙ is)
 
 module _ {X Y : Type 0} (h : X → Option Y) where

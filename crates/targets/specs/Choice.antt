@@ -23,8 +23,8 @@ is_general target = not (is_some target.universes)
 
 -- the targets of a universe: those that are named for it, and where there are none, those that are
 -- named for all
-abbrev pub chosen : ℕ → List Target → List Target
-chosen universe targets =
+abbrev pub targets_for : ℕ → List Target → List Target
+targets_for universe targets =
     if list_any (is_named universe) targets
     then filter (is_named universe) targets
     else filter is_general targets
@@ -32,4 +32,4 @@ chosen universe targets =
 -- the addresses of a universe, in the order in which the targets were named
 abbrev pub addresses_of : ℕ → List Target → List Address
 addresses_of universe targets =
-    map (λ target. address_at universe target.address) (chosen universe targets)
+    map (λ target. address_at universe target.address) (targets_for universe targets)

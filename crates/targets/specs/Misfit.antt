@@ -24,15 +24,15 @@ foreign universes target =
     (unless_among universes named.last)) target.universes
 
 -- the first of the addresses that stands again behind itself
-abbrev pub repeated : List Address → Option Address
-repeated [] = None
-repeated (address ∷ behind) =
-    if list_any (λ other. is_same other address) behind then Some address else repeated behind
+abbrev pub first_repeat : List Address → Option Address
+first_repeat [] = None
+first_repeat (address ∷ behind) =
+    if list_any (λ other. is_same other address) behind then Some address else first_repeat behind
 
 -- a universe without an address, or with one twice
 abbrev pub lack_of : ℕ → List Address → Option TargetMisfit
 lack_of universe [] = Some (NoTarget universe)
-lack_of universe addresses = option_map (Twice universe) (repeated addresses)
+lack_of universe addresses = option_map (Twice universe) (first_repeat addresses)
 
 -- what is wrong with the addresses of a universe
 abbrev pub lack : List Target → ℕ → Option TargetMisfit

@@ -2,7 +2,7 @@ ghost use Rattle.std.specs.Prelude.{◌≡◌, ◌≤◌, ◌<◌, List, [], ◌
 ghost use Rattle.std.specs.List.{list_any};
 ghost use Rattle.targets.specs.Address.{is_same};
 ghost use Rattle.targets.specs.Choice.{addresses_of, is_named};
-ghost use Rattle.targets.specs.Misfit.{foreign, lack, misfit_of, repeated};
+ghost use Rattle.targets.specs.Misfit.{foreign, lack, misfit_of, first_repeat};
 ghost use Rattle.targets.specs.declared.target.Target.{Target};
 
 use crate::{Address, Target, TargetMisfit};
@@ -111,7 +111,7 @@ impl Targets {
         if addresses.is_empty() {
             return Some(TargetMisfit::NoTarget { universe });
         }
-        let address = repeated(addresses.as_slice())?;
+        let address = first_repeat(addresses.as_slice())?;
         Some(TargetMisfit::Twice { universe, address })
     }
 }
@@ -135,8 +135,8 @@ fn foreign(target: &Target, universes: &[u16]) -> Option<TargetMisfit>
 }
 
 // The first of the addresses that stands again behind itself.
-fn repeated(addresses: &[Address]) -> Option<Address>
-    ensures { result ≡ repeated addresses.now }
+fn first_repeat(addresses: &[Address]) -> Option<Address>
+    ensures { result ≡ first_repeat addresses.now }
 {
     for place in 0..addresses.len() {
         let address = addresses[place];

@@ -1,5 +1,5 @@
 ghost use Rattle.std.specs.Prelude.{◌≡◌, ◌≤◌, ◌<◌, ◌+◌, ◌^◌, length};
-ghost use Rattle.sacn_source.specs.Stands.{universes_of};
+ghost use Rattle.sacn_source.specs.Stands.{lane_universes};
 ghost use Rattle.timings.specs.Streams.{TakesFrom};
 
 use crate::ring::Ring;
@@ -28,7 +28,7 @@ pub fn run<R: AllocGlobal + Clock>(rt: &R, rounds: u32) -> Result<Timed> {
 
 // Each frame has another slot that is one higher than in the frame before.
 fn stream(sender: &mut Sender, universes: &[u16], ring: &mut Ring, rounds: u32)
-    requires universes { universes_of sender.old ≡ universes.now }
+    requires universes { lane_universes sender.old ≡ universes.now }
     requires few { length universes.now ≤ 25 }
     requires takes { TakesFrom sender.old 0 }
 {
@@ -48,11 +48,11 @@ fn offer_all(
     frame: &[u8; 512],
     ring: &mut Ring,
 )
-    requires universes { universes_of sender.old ≡ universes.now }
+    requires universes { lane_universes sender.old ≡ universes.now }
     requires few { length universes.now ≤ 25 }
     requires takes { TakesFrom sender.old moment }
     requires below { moment + 25 ≤ 2 ^ 48 }
-    ensures universes { universes_of sender.new ≡ universes.now }
+    ensures universes { lane_universes sender.new ≡ universes.now }
     ensures takes { TakesFrom sender.new (moment + 25) }
 {
     for i in 0..universes.len() {

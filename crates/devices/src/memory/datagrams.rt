@@ -1,7 +1,7 @@
 ghost use Rattle.std.specs.Prelude.{◌≡◌, ◌≤◌, ◌+◌, ◌||◌, ◌&&◌, not, [], ◌∷◌, false, is_err};
 ghost use Rattle.std.specs.Prelude.{IfOk, OnErr, length, map, nat_eq, take, if◌then◌else◌};
 ghost use Rattle.devices.specs.Failing.{AreFirst, IsCounted, is_failing};
-ghost use Rattle.devices.specs.Tape.{given, with_failure, with_more};
+ghost use Rattle.devices.specs.Tape.{items_tape, with_failure, with_more};
 
 use crate::memory::Faults;
 use crate::{Datagrams, LinkFault};
@@ -56,18 +56,19 @@ impl Datagrams for MemoryDatagrams<'_> {
         ensures within { IfOk result (λ count. count ≤ 1500) }
         ensures told { self.new.exhausted ≡ false → self.old.exhausted ≡ false }
         ensures ok { IfOk result (λ count. self.new.exhausted ≡ false
-            → given (map (λ d. take 1500 d.now) (take self.new.next self.new.datagrams.now))
+            → items_tape (map (λ d. take 1500 d.now) (take self.new.next self.new.datagrams.now))
             self.new.faults.failed
-            ≡ with_more (given
+            ≡ with_more (items_tape
             (map (λ d. take 1500 d.now) (take self.old.next self.old.datagrams.now))
             self.old.faults.failed) (take count buf.new ∷ [])) }
         ensures err { OnErr result (self.new.exhausted ≡ false
-            → given (map (λ d. take 1500 d.now) (take self.new.next self.new.datagrams.now))
+            → items_tape (map (λ d. take 1500 d.now) (take self.new.next self.new.datagrams.now))
             self.new.faults.failed
-            ≡ with_failure (given
+            ≡ with_failure (items_tape
             (map (λ d. take 1500 d.now) (take self.old.next self.old.datagrams.now))
             self.old.faults.failed)) }
-        ensures next { self.new.next ≡ (if is_err result then self.old.next else self.old.next + 1) }
+        ensures next { self.new.next
+            ≡ (if is_err result then self.old.next else self.old.next + 1) }
         ensures same { self.new.datagrams.now ≡ self.old.datagrams.now }
     {
         self.faults.count()?;

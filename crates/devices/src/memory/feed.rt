@@ -1,6 +1,6 @@
 ghost use Rattle.std.specs.Prelude.{◌≡◌, ◌≤◌, ◌-◌, is_err, length, min, take, ⊤, IfOk, OnErr};
 ghost use Rattle.devices.specs.Failing.{AreFirst, IsCounted, is_failing};
-ghost use Rattle.devices.specs.Tape.{given, with_failure, with_more};
+ghost use Rattle.devices.specs.Tape.{items_tape, with_failure, with_more};
 
 use crate::memory::Faults;
 use crate::{Feed, LinkFault};
@@ -41,7 +41,7 @@ impl<'a> MemoryFeed<'a> {
 impl Feed for MemoryFeed<'_> {
     ghost tells = { λ _. ⊤ };
 
-    ghost tape = { λ m. given (take m.next m.bytes.now) m.faults.failed };
+    ghost tape = { λ m. items_tape (take m.next m.bytes.now) m.faults.failed };
 
     ghost ended = { λ m. m.next ≡ length m.bytes.now };
 
@@ -51,11 +51,16 @@ impl Feed for MemoryFeed<'_> {
         ensures within { IfOk result (λ count. count ≤ 4096) }
         ensures count { IfOk result (λ count. count
             ≡ min (min (length self.old.bytes.now - self.old.next) self.old.step) 4096) }
-        ensures ok { IfOk result (λ count. ⊤ → given (take self.new.next self.new.bytes.now) self.new.faults.failed
-            ≡ with_more (given (take self.old.next self.old.bytes.now) self.old.faults.failed) (take count buf.new)) }
+        ensures ok { IfOk result
+            (λ count. ⊤ → items_tape (take self.new.next self.new.bytes.now) self.new.faults.failed
+            ≡ with_more (items_tape (take self.old.next self.old.bytes.now) self.old.faults.failed)
+            (take count buf.new)) }
         ensures end { IfOk result (λ count. count ≡ 0 → ⊤
             → self.new.next ≡ length self.new.bytes.now) }
-        ensures err { OnErr result (⊤ → given (take self.new.next self.new.bytes.now) self.new.faults.failed ≡ with_failure (given (take self.old.next self.old.bytes.now) self.old.faults.failed)) }
+        ensures err { OnErr result
+            (⊤ → items_tape (take self.new.next self.new.bytes.now) self.new.faults.failed
+            ≡ with_failure (items_tape (take self.old.next self.old.bytes.now)
+            self.old.faults.failed)) }
         ensures same { (self.new.bytes.now ≡ self.old.bytes.now)
             × (self.new.step ≡ self.old.step) }
     {

@@ -1,7 +1,8 @@
-ghost use Rattle.std.specs.Prelude.{◌≡◌, ◌+◌, [], ◌∷◌, ◌++◌, List, ℕ, false, is_err, map, min, IfOk, OnErr};
+ghost use Rattle.std.specs.Prelude.{◌≡◌, ◌+◌, [], ◌∷◌, ◌++◌, List, ℕ, false, is_err, map, min};
+ghost use Rattle.std.specs.Prelude.{IfOk, OnErr};
 ghost use Rattle.std.specs.Duration.{as_nanos, max_nanos};
 ghost use Rattle.devices.specs.Failing.{AreFirst, IsCounted, is_failing};
-ghost use Rattle.devices.specs.Tape.{given, with_failure, with_more};
+ghost use Rattle.devices.specs.Tape.{items_tape, with_failure, with_more};
 
 use crate::clock::MachineClock;
 use devices::LinkFault;
@@ -46,9 +47,9 @@ impl MemoryClock {
 impl MachineClock for MemoryClock {
     ghost tells = { λ m. m.full ≡ false };
 
-    ghost tape = { λ m. given (map as_nanos m.readings.items) m.faults.failed };
+    ghost tape = { λ m. items_tape (map as_nanos m.readings.items) m.faults.failed };
 
-    fn passed(&mut self) -> Result<Duration, LinkFault>
+    fn time_passed(&mut self) -> Result<Duration, LinkFault>
         ensures fails { is_err result ≡ is_failing self.old.faults }
         ensures counts { IsCounted self.old.faults self.new.faults }
         ensures shows { IfOk result (λ passed. (passed ≡ self.old.next) × (as_nanos self.new.next
@@ -57,12 +58,13 @@ impl MachineClock for MemoryClock {
         ensures step { self.new.step ≡ self.old.step }
         ensures told { self.new.full ≡ false → self.old.full ≡ false }
         ensures ok { IfOk result (λ passed. self.new.full ≡ false
-            → given (map as_nanos self.new.readings.items) self.new.faults.failed
-            ≡ with_more (given (map as_nanos self.old.readings.items) self.old.faults.failed)
+            → items_tape (map as_nanos self.new.readings.items) self.new.faults.failed
+            ≡ with_more (items_tape (map as_nanos self.old.readings.items) self.old.faults.failed)
             (as_nanos passed ∷ [])) }
         ensures err { OnErr result (self.new.full ≡ false
-            → given (map as_nanos self.new.readings.items) self.new.faults.failed
-            ≡ with_failure (given (map as_nanos self.old.readings.items) self.old.faults.failed)) }
+            → items_tape (map as_nanos self.new.readings.items) self.new.faults.failed
+            ≡ with_failure (items_tape (map as_nanos self.old.readings.items)
+            self.old.faults.failed)) }
     {
         self.faults.count()?;
         let passed = self.next;

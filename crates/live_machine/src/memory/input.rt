@@ -1,7 +1,8 @@
-ghost use Rattle.std.specs.Prelude.{◌≡◌, ◌≤◌, ◌-◌, [], ◌∷◌, ◌++◌, false, is_err, map, take, drop, IfOk, OnErr, OnOk, Option, Result};
+ghost use Rattle.std.specs.Prelude.{◌≡◌, ◌≤◌, ◌-◌, [], ◌∷◌, ◌++◌, false, is_err, map, take, drop};
+ghost use Rattle.std.specs.Prelude.{IfOk, OnErr, OnOk, Option, Result};
 ghost use Rattle.devices.specs.Failing.{AreFirst, IsCounted, is_failing};
-ghost use Rattle.live_machine.specs.Input.{IsWithin, Wait, brought_by, fault};
-ghost use Rattle.live_machine.specs.Kept.{count_of, given, wait_by, wait_of};
+ghost use Rattle.live_machine.specs.Input.{CameFits, Wait, brought_by, fault};
+ghost use Rattle.live_machine.specs.Kept.{count_of, came_of, wait_by, wait_of};
 
 use crate::input::{Came, MachineInput};
 use devices::LinkFault;
@@ -57,8 +58,8 @@ impl<'a> MemoryInput<'a> {
 
     // The next bytes, at the front of the block, or the end.
     fn give(&mut self, block: &mut [u8; 4096]) -> Came
-        ensures within { IsWithin result }
-        ensures given { result ≡ given (count_of self.old.bytes.now self.old.step) }
+        ensures within { CameFits result }
+        ensures given { result ≡ came_of (count_of self.old.bytes.now self.old.step) }
         ensures first { take (count_of self.old.bytes.now self.old.step) block.new
             ≡ take (count_of self.old.bytes.now self.old.step) self.old.bytes.now }
         ensures rest { self.new.bytes.now
@@ -102,9 +103,9 @@ impl MachineInput for MemoryInput<'_> {
         ensures fails { is_err result ≡ is_failing self.old.faults }
         ensures counts { IsCounted self.old.faults self.new.faults }
         ensures told { self.new.full ≡ false → self.old.full ≡ false }
-        ensures within { IfOk result IsWithin }
+        ensures within { IfOk result CameFits }
         ensures given { IfOk result (λ came.
-            (came ≡ given (count_of self.old.bytes.now self.old.step))
+            (came ≡ came_of (count_of self.old.bytes.now self.old.step))
             × (take (count_of self.old.bytes.now self.old.step) block.new
             ≡ take (count_of self.old.bytes.now self.old.step) self.old.bytes.now)
             × (self.new.bytes.now

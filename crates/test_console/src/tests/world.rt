@@ -1,10 +1,10 @@
 ghost use Rattle.std.specs.Prelude.{◌≡◌};
 ghost use Rattle.rehearsal.specs.Refusing.{are_within as are_within_size};
-ghost use Rattle.rehearsal.specs.Refusing.{is_within as is_within_size};
+ghost use Rattle.rehearsal.specs.Refusing.{stray_fits as is_within_size};
 
+use super::are_printed;
 use desk::{Command, Refused, Ticked};
 use fade::PlainFader;
-use super::are_printed;
 use rehearsal::{
     Event, Fault, Offers, Rehearsal, Reply, Report, Setup, Skip, What, laws, rehearse,
 };
@@ -159,7 +159,7 @@ fn rehearsed_by(
 }
 
 // Of a console of the first show.
-fn rehearsed(
+fn rehearsal_of(
     rt: &impl Abort,
     alloc: Global,
     shows: &[Show],
@@ -237,7 +237,7 @@ fn is_told_of(report: &Report, steps: &[Step], last: u8) -> bool {
 fn report_of(rt: &impl Abort, alloc: Global, steps: &[Step]) -> Result<Report, Fail> {
     let shows = [small_show(rt, alloc)?];
     let events = events_of(alloc, steps)?;
-    Ok(rehearsed(rt, alloc, &shows, events.as_slice())?)
+    Ok(rehearsal_of(rt, alloc, &shows, events.as_slice())?)
 }
 
 const BASIC: &[Step] = &[
@@ -281,12 +281,12 @@ const SHORT: &[Event] = &[
     },
 ];
 
-// How many replies a short rehearsal has, and how many receivers at the end, also where an allocation
-// is refused.
+// How many replies a short rehearsal has, and how many receivers at the end, also where an
+// allocation is refused.
 fn sizes_at_last(rt: &impl Abort, alloc: Global) -> Result<(usize, usize), Fail> {
     let shows = [show_at_last(rt, alloc)?];
-    let answer = match rehearsed(rt, alloc, &shows, SHORT) {
-        Err(Fault::Memory) => rehearsed(rt, alloc, &shows, SHORT),
+    let answer = match rehearsal_of(rt, alloc, &shows, SHORT) {
+        Err(Fault::Memory) => rehearsal_of(rt, alloc, &shows, SHORT),
         answer => answer,
     };
     let report = answer?;
@@ -365,7 +365,7 @@ fn wrap_events(alloc: Global) -> Result<Vec<Event>, AllocError> {
 fn window_wrap(rt: HostRuntime) -> Result<(), Fail> {
     let shows = [small_show(&rt, rt.alloc())?];
     let events = wrap_events(rt.alloc())?;
-    let report = rehearsed(&rt, rt.alloc(), &shows, events.as_slice())?;
+    let report = rehearsal_of(&rt, rt.alloc(), &shows, events.as_slice())?;
     let replies = report.replies.as_slice();
     assert!(rt; replies.len() == 903);
     for (place, (_, number, first)) in GROUPS.iter().enumerate() {

@@ -1,3 +1,4 @@
+use super::shows::{Part, TWO_CUES, show_of, show_with};
 use desk::{Command, Desk, Refused, Ticked};
 use fade::{Fader, PlainFader, StepFader};
 use patch::RigFault;
@@ -5,7 +6,6 @@ use show::{BuildFault, Show};
 use std::alloc::Global;
 use std::process::Abort;
 use std::test::Fail;
-use super::shows::{Part, TWO_CUES, show_of, show_with};
 
 const TOO_LARGE: u64 = 281_474_976_710_656;
 
@@ -131,7 +131,7 @@ fn dark_before_first_tick(rt: HostRuntime) -> Result<(), Fail> {
 
 // The allocations of the tests below are those of this one: a desk that is open takes no memory.
 #[test]
-fn opened(rt: HostRuntime) -> Result<(), Fail> {
+fn opens(rt: HostRuntime) -> Result<(), Fail> {
     take_steps(&rt, rt.alloc(), &[])
 }
 

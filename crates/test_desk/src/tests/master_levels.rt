@@ -1,9 +1,9 @@
+use super::shows::{Part, show_of};
 use masters::{Masters, NoMaster};
 use show::Show;
 use std::alloc::Global;
 use std::process::Abort;
 use std::test::Fail;
-use super::shows::{Part, show_of};
 
 // A call with its answer, or what is seen after the calls so far.
 enum Step {

@@ -1,3 +1,4 @@
+use super::shows::{Part, add, show_of};
 use desk::{Command, Desk, ENDING_TICKS, Refused};
 use fade::{Fader, PlainFader, StepFader};
 use show::{BuildFault, Show};
@@ -5,7 +6,6 @@ use std::alloc::Global;
 use std::io::Print;
 use std::process::Abort;
 use std::test::Fail;
-use super::shows::{Part, add, show_of};
 
 // Dimmers of two universes, each of its own channel.
 const DIMMERS: u16 = 1024;

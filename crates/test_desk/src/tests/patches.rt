@@ -1,12 +1,12 @@
 ghost use Rattle.std.specs.Prelude.{◌<◌, IsTrue, All};
 ghost use Rattle.show.specs.Numbers.{is_channel, AreLevels};
 
+use super::shows::{Part, show_of};
 use patch::{Rig, RigFault, has_numbers, max_into};
 use show::{BuildFault, Show};
 use std::alloc::Global;
 use std::process::Abort;
 use std::test::Fail;
-use super::shows::{Part, show_of};
 
 // Slots that rise by a step and start anew above 250.
 fn slots(step: usize) -> [u8; 512]
@@ -86,7 +86,7 @@ fn are_channels(channels: &[u16]) -> bool
     channels.iter().all(|channel| (1..=4096).contains(channel))
 }
 
-fn widened(levels: &[u16]) -> [u32; 4096] {
+fn widen(levels: &[u16]) -> [u32; 4096] {
     let mut wide = [0; 4096];
     for (level, fine) in wide.iter_mut().zip(levels) {
         *level = u32::from(*fine);
@@ -96,7 +96,7 @@ fn widened(levels: &[u16]) -> [u32; 4096] {
 
 // The frame of an ordinal, over what was there.
 fn frame_of(rt: &impl Abort, rig: &Rig, k: u16, levels: &[u16; 4096], grand: u8) -> [u8; 512] {
-    let wide = widened(levels);
+    let wide = widen(levels);
     assert!(rt; k < 16 && are_wide_levels(&wide));
     let mut frame = [99; 512];
     rig.frame(k, &wide, grand, &mut frame);

@@ -1,12 +1,12 @@
 ghost use Rattle.std.specs.Prelude.{◌≡◌, ◌<◌, ◌≤◌};
 
+use super::shows::{Part, TWO_CUES, show_of, show_with};
 use fade::{Fader, PlainFader, StepFader};
 use playback::{NoMove, Playback};
 use show::Show;
 use std::alloc::{AllocError, Global};
 use std::process::Abort;
 use std::test::Fail;
-use super::shows::{Part, TWO_CUES, show_of, show_with};
 
 fn levels<F: Fader>(playback: &Playback<F>) -> (u32, u32) {
     (playback.level(1), playback.level(2))

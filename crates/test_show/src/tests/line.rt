@@ -43,7 +43,7 @@ fn faults_in_words(rt: HostRuntime) -> Result<(), Fail> {
 // Whether a line opens this record, or none, and begins with this keyword.
 fn opens(line: &[u8], opened: Option<Record>, keyword: Keyword) -> bool {
     match read_line(CUE, line) {
-        Some(reading) => reading.statement.opened() == opened && reading.keyword == keyword,
+        Some(reading) => reading.statement.opens() == opened && reading.keyword == keyword,
         None => false,
     }
 }

@@ -225,7 +225,7 @@ fn grows(rt: &impl Abort, show: &mut Show, growth: Growth) -> bool {
 }
 
 // Where the copy is refused, there is memory for the next.
-fn copied(rt: &impl Abort, alloc: Global, show: &Show) -> Show {
+fn copy_of(rt: &impl Abort, alloc: Global, show: &Show) -> Show {
     match show.clone_in(alloc) {
         Ok(copy) => copy,
         Err(AllocError) => show.clone_in(alloc).expect(rt, "memory"),
@@ -234,7 +234,7 @@ fn copied(rt: &impl Abort, alloc: Global, show: &Show) -> Show {
 
 // Whether the copy of a show has as much of each kind.
 fn copies(rt: &impl Abort, alloc: Global, show: &Show) -> bool {
-    let copy = copied(rt, alloc, show);
+    let copy = copy_of(rt, alloc, show);
     sizes(&copy) == sizes(show)
 }
 

@@ -1,5 +1,5 @@
 ghost use Rattle.std.specs.Prelude.{◌∷◌, ◌+◌, ◌≤◌, length, replicate, codes};
-ghost use Rattle.sacn_packet.specs.Name.{padded};
+ghost use Rattle.sacn_packet.specs.Name.{padded_name};
 ghost use Rattle.sacn_packet.specs.Wire.{IsData};
 
 use sacn_packet::{Header, SourceName, Unreadable, encode, laws, parse};
@@ -13,7 +13,7 @@ fn look_one_packet() -> [u8; 638]
     ensures { IsData result
         (record {
           cid = CID;
-          name = padded (codes "cueplayer");
+          name = padded_name (codes "cueplayer");
           priority = 100;
           sync = 0;
           sequence = 0;

@@ -30,7 +30,7 @@ fn lines_go_through(rt: HostRuntime) {
     assert!(rt; queue.is_late() && queue.pipe.bytes.as_slice() == b"0 go\n".as_slice());
     queue.hand_on();
     assert!(rt; !queue.is_late() && queue.pipe.bytes.as_slice() == b"0 go\n23 tick\n".as_slice());
-    assert!(rt; queue.taken() == 13 && queue.gaps() == 0 && queue.pipe.writes == 2);
+    assert!(rt; queue.bytes_taken() == 13 && queue.gaps() == 0 && queue.pipe.writes == 2);
 }
 
 // Of 70 lines of 1,000 bytes the first 65 have room in a queue of 65,536 bytes whose pipe takes
@@ -90,5 +90,5 @@ fn each_growth_refused(rt: HostRuntime) {
         Ok(queue) => queue,
         Err(_) => queue_before(&rt, rt.alloc(), 1000, faults, ErrorKind::BrokenPipe),
     };
-    assert!(rt; !queue.is_late() && queue.taken() == 0 && queue.gaps() == 0);
+    assert!(rt; !queue.is_late() && queue.bytes_taken() == 0 && queue.gaps() == 0);
 }

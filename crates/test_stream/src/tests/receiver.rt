@@ -30,7 +30,7 @@ fn bytes_of(sent: Sent) -> [u8; 638] {
 }
 
 // The first slot and the number of live sources, where all other slots are 0.
-fn shown(receiver: &Receiver, moment: u64) -> Option<(u8, usize)> {
+fn first_slot(receiver: &Receiver, moment: u64) -> Option<(u8, usize)> {
     if receiver.now() > moment {
         return None;
     }
@@ -85,7 +85,7 @@ fn holds(receiver: &mut Receiver, step: &Step) -> bool {
             });
             take(receiver, *moment, sent) == wanted
         }
-        Step::Shown(moment, level, live) => shown(receiver, *moment) == Some((*level, *live)),
+        Step::Shown(moment, level, live) => first_slot(receiver, *moment) == Some((*level, *live)),
         Step::Now(moment) => receiver.now() == *moment,
     }
 }

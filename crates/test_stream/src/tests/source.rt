@@ -1,5 +1,5 @@
 ghost use Rattle.std.specs.Prelude.{◌≡◌, ◌<◌, ◌^◌, Contains, length};
-ghost use Rattle.sacn_source.specs.Stands.{earliest_of, ended_of, universes_of};
+ghost use Rattle.sacn_source.specs.Stands.{earliest_of, ended_of, lane_universes};
 
 use devices::memory::MemoryLink;
 use sacn_packet::{SourceName, parse};
@@ -22,7 +22,7 @@ fn frame(level: u8) -> [u8; 512] {
 }
 
 // What a packet of the player to universe 1 says: its number, its options and its first slot.
-fn said(bytes: &[u8]) -> Option<(u8, u8, u8)> {
+fn packet_values(bytes: &[u8]) -> Option<(u8, u8, u8)> {
     let packet = parse(bytes).ok()?;
     let (level, others) = packet.slots().split_first()?;
     let is_from_player = packet.cid() == CID
@@ -42,7 +42,7 @@ fn has_sent(link: &MemoryLink, place: usize, wanted: (u8, u8, u8), failed: bool)
         Some(send) => {
             send.universe == 1
                 && send.failed == failed
-                && said(send.bytes.as_slice()) == Some(wanted)
+                && packet_values(send.bytes.as_slice()) == Some(wanted)
         }
         None => false,
     }
@@ -50,11 +50,11 @@ fn has_sent(link: &MemoryLink, place: usize, wanted: (u8, u8, u8), failed: bool)
 
 // Offers universe 1 a frame each 25 ms from 0 on, and answers whether each answer is as wanted.
 fn answers(sender: &mut Sender, link: &mut MemoryLink, rows: &[(u8, Offered)]) -> bool
-    requires here { Contains (universes_of sender.old) 1 }
+    requires here { Contains (lane_universes sender.old) 1 }
     requires unoffered { earliest_of sender.old 1 ≡ 0 }
     requires live { ended_of sender.old 1 ≡ 0 }
     requires few { length rows.now < 2 ^ 32 }
-    ensures here { Contains (universes_of sender.new) 1 }
+    ensures here { Contains (lane_universes sender.new) 1 }
     ensures live { ended_of sender.new 1 ≡ 0 }
 {
     for tick in 0..rows.len() {
@@ -127,7 +127,7 @@ fn changes_back_and_ends(rt: HostRuntime) {
         sender.terminate(1, &mut link),
         sender.terminate(1, &mut link),
     ];
-    assert!(rt; are_right && ends == [Sent(6), Sent(7), Sent(8)] && sender.sent(1) == 9);
+    assert!(rt; are_right && ends == [Sent(6), Sent(7), Sent(8)] && sender.packets_sent(1) == 9);
     let packets = [
         ((0, 0, 10), false),
         ((1, 0, 20), false),
@@ -149,7 +149,7 @@ fn each_growth_refused(rt: HostRuntime) {
         Ok(sender) => sender,
         Err(_) => Sender::open(rt.alloc(), player(), &[1, 2]).expect(&rt, "memory"),
     };
-    assert!(rt; sender.sent(1) == 0 && sender.sent(2) == 0);
+    assert!(rt; sender.packets_sent(1) == 0 && sender.packets_sent(2) == 0);
 }
 
 #[test]

@@ -1,7 +1,7 @@
 use Rattle.std.proofs.Common.{◌≡◌, ◌∙◌, ◌++◌, ◌+◌, List, ℕ, true, false, length, Some, sym, ap}
 use Rattle.std.proofs.lemmas.List.{append-nil}
 use Rattle.ascii_text.specs.Text.{words_of}
-use Rattle.show_line.specs.Said.{desk_limits, reading_of}
+use Rattle.show_line.specs.Said.{desk_limits, line_reading}
 use Rattle.cmd_explain.specs.Headings.{owner_of, heading_below}
 use Rattle.cmd_explain.specs.Reasons.{reason_of}
 use Rattle.cmd_explain.specs.Skipped.{skipped_line, line_explained, words_in}
@@ -20,8 +20,8 @@ appended c lines heads numbered =
     let bytes : List ℕ = c.args.line.bytes.now in
     let l = words_of bytes in
     let reading = c.in-Some.reading in
-    let read : Some reading ≡ reading_of desk_limits (owner_of c.args.above) l =
-    c.in-Some.ensures.means ∙ ap (λ o. reading_of desk_limits o l) c.owner.ensures in
+    let read : Some reading ≡ line_reading desk_limits (owner_of c.args.above) l =
+    c.in-Some.ensures.means ∙ ap (λ o. line_reading desk_limits o l) c.owner.ensures in
     let here = explained_here lines bytes c.args.above heads reading read c.args.line.number in
     elim c.if-is_skipped.branch [
       | then-is_skipped+in_ok-push_skipped w ↦

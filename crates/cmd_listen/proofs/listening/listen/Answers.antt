@@ -1,6 +1,6 @@
 use Rattle.std.proofs.Common.{◌+◌, ◌≡◌, ◌∷◌, length, sym, ap, ◌∙◌, inr, arith}
 use Rattle.sacn_receiver.specs.Replies.{slots_line}
-use Rattle.cmd_listen.specs.Listening.{history}
+use Rattle.cmd_listen.specs.Listening.{history_at_0}
 use Rattle.cmd_listen.proofs.Histories.{last_moment-history}
 use Rattle.cmd_listen.proofs.Listened.{ends, gave_more, slots_failed, took_all, took_more}
 use Rattle.cmd_listen.proofs.listening.listen.Goals as goal
@@ -51,7 +51,7 @@ pub returns-clause-text : goal.returns-clause-text
 returns-clause-text g c = λ source_tells output_tells.
     let heard = c.loop-older.invariant.heard in
     let line = c.as_bytes.ensures.value ∙ c.as_str.ensures.value ∙ c.slots_line.ensures
-    ∙ ap slots_line (c.slots.ensures (history c.args.universe heard.datagrams) heard.stands) in
+    ∙ ap slots_line (c.slots.ensures (history_at_0 c.args.universe heard.datagrams) heard.stands) in
     record {
       datagrams = heard.datagrams;
       all = omega (arith, heard.count_is, c.loop-older-test.false, c.loop-older.auto.older-end);

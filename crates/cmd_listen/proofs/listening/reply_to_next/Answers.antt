@@ -6,8 +6,8 @@ use Rattle.sacn_receiver.specs.declared.answer.Taken.{Taken}
 use Rattle.sacn_receiver.specs.declared.answer.Ignored.{Ignored}
 use Rattle.sacn_receiver.specs.Source.{Entry}
 use Rattle.sacn_receiver.specs.Taking.{answer}
-use Rattle.sacn_receiver.specs.Replies.{reply_text}
-use Rattle.cmd_listen.specs.Listening.{history, reply_line, NextFails}
+use Rattle.sacn_receiver.specs.Replies.{receiver_reply}
+use Rattle.cmd_listen.specs.Listening.{history_at_0, reply_line, NextFails}
 use Rattle.cmd_listen.proofs.listening.reply_to_next.Goals as goal
 
 on_err : {T E : Type 0} (P : Type 0) (r : Result T E) → P → OnErr r P
@@ -22,8 +22,8 @@ answered_at u universe h datagram reply is answered = rw (answered, is) refl
 -- the line that was written is that of the datagram
 line_is : (universe : ℕ) (datagram : List ℕ) (older : List (List ℕ)) (number : ℕ)
     (reply : Result Taken Ignored) (line : List ℕ)
-    → number ≡ length older + 1 → reply ≡ answer 4 universe (history universe older) 0 datagram
-    → line ≡ decimal number ++ codes " " ++ reply_text reply ++ codes "\n"
+    → number ≡ length older + 1 → reply ≡ answer 4 universe (history_at_0 universe older) 0 datagram
+    → line ≡ decimal number ++ codes " " ++ receiver_reply reply ++ codes "\n"
     → line ≡ reply_line universe datagram older
 line_is universe datagram older number reply line numbered answered is =
     rw (is, numbered, answered) refl
@@ -43,11 +43,11 @@ returns-in_err-write-clause-err g c =
 pub returns-clause-ok : goal.returns-clause-ok
 returns-clause-ok g c = λ universe older universe_is numbered stands.
     let datagram = take c.in_ok-length.length c.receive.new.buf in
-    let answered = answered_at c.args.receiver.now.universe universe (history universe older)
+    let answered = answered_at c.args.receiver.now.universe universe (history_at_0 universe older)
     datagram c.take-reply.result
-    universe_is (c.take-reply.ensures.answer (history universe older) stands) in (
+    universe_is (c.take-reply.ensures.answer (history_at_0 universe older) stands) in (
       datagram,
-      rw universe_is at (c.take-reply.ensures.heard (history universe older) stands),
+      rw universe_is at (c.take-reply.ensures.heard (history_at_0 universe older) stands),
       λ tells. c.in_ok-length.ensures.ok tells,
       λ tells.
           let line = c.as_bytes.ensures.value ∙ c.as_str.ensures.value ∙ c.reply_line.ensures in

@@ -1,14 +1,15 @@
 use Rattle.std.proofs.Common.{◌≡◌, ◌≤◌, ◌++◌, ℕ, List, take, flat_map}
 use Rattle.std.specs.List.{AllZip}
-use Rattle.cmd_listen.specs.Stands.{Stands}
-use Rattle.cmd_listen.specs.Universe.{Known, known_after, told_of}
+use Rattle.cmd_listen.specs.Stands.{MonitorStands}
+use Rattle.cmd_listen.specs.Universe.{Knowledge, known_after, told_text}
 use Rattle.cmd_listen.proofs.Lists.{HalfWay}
 use Rattle.cmd_listen.proofs.monitors.take_all.Given as goal
 
 -- those so far
 abbrev pub invariant-loop-i : goal.invariant-loop-i
-invariant-loop-i l = (t : ℕ) (known : List Known) → AllZip (Stands t) l.fn.monitors known
+invariant-loop-i l = (t : ℕ) (known : List Knowledge) → AllZip (MonitorStands t) l.fn.monitors known
     → t ≤ l.instant.moment
-    → HalfWay (Stands l.instant.moment) (Stands t) (known_after l.instant l.datagram) l.i l.monitors
+    → HalfWay (MonitorStands l.instant.moment) (MonitorStands t) (known_after l.instant l.datagram)
+    l.i l.monitors
     known
-    × (l.text.items ≡ l.fn.text.items ++ flat_map (told_of l.instant l.datagram) (take l.i known))
+    × (l.text.items ≡ l.fn.text.items ++ flat_map (told_text l.instant l.datagram) (take l.i known))

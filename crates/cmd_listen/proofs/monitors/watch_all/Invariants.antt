@@ -1,10 +1,10 @@
 use Rattle.std.proofs.Common.{map, take}
 use Rattle.std.specs.List.{AllZip}
-use Rattle.cmd_listen.specs.Stands.{Stands}
+use Rattle.cmd_listen.specs.Stands.{MonitorStands}
 use Rattle.cmd_listen.specs.Universe.{new_known}
 use Rattle.cmd_listen.proofs.monitors.watch_all.Given as goal
 
 -- those so far
 abbrev pub invariant-loop-universe : goal.invariant-loop-universe
 invariant-loop-universe l =
-    AllZip (Stands 0) l.monitors.items (map new_known (take l.universe-index l.universes))
+    AllZip (MonitorStands 0) l.monitors.items (map new_known (take l.universe-index l.universes))

@@ -1,8 +1,8 @@
 use Rattle.std.proofs.Common.{◌≡◌, ◌++◌, take, flat_map}
-use Rattle.cmd_listen.specs.Sources.{shown_byte}
+use Rattle.cmd_listen.specs.Sources.{name_byte}
 use Rattle.cmd_listen.proofs.text.push_name.Given as goal
 
 -- the bytes so far
 abbrev pub invariant-loop-byte : goal.invariant-loop-byte
 invariant-loop-byte l =
-    l.text.items ≡ l.fn.text.items ++ flat_map shown_byte (take l.byte-index l.field)
+    l.text.items ≡ l.fn.text.items ++ flat_map name_byte (take l.byte-index l.field)

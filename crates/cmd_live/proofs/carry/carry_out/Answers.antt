@@ -1,9 +1,9 @@
 use Rattle.std.proofs.Common.{◌∙◌, sym}
 use Rattle.std.specs.Prelude.{is_some}
-use Rattle.desk.specs.Played.{ended, moves, own_time}
+use Rattle.desk.specs.Played.{ticks_since_end, moves, own_time}
 use Rattle.console.specs.Spelling.{act_of}
 use Rattle.cmd_live.specs.Shown.{cue_lines}
-use Rattle.cmd_live.specs.Stands.{Shows}
+use Rattle.cmd_live.specs.Stands.{ShowsText}
 use Rattle.cmd_live.proofs.Carrying.{carried, newer, newer_is, none_newer}
 use Rattle.cmd_live.proofs.Texts.{kept_by, shows_none}
 use Rattle.cmd_live.proofs.carry.carry_out.Goals.{then-is_accepted, else-is_accepted}
@@ -17,18 +17,19 @@ returns-clause-carried_out g c = λ line given p history stands tells told_link.
     let did = c.perform-performed.ensures.performed p history stands told_link in
     let text = c.as_slice.ensures.value ∙ given.text_is in
     let build = λ (told : g.B.Booth.tells c.show_answer.new.booth)
-    (follows : Shows (g.L.Link.offered c.perform-performed.new.link)
+    (follows : ShowsText (g.L.Link.offered c.perform-performed.new.link)
     (g.B.Booth.state c.show_answer.new.booth) (g.B.Booth.state c.if-is_accepted.booth)
     (cue_lines (newer p history moment call answer did))).
     carried p history moment call answer did line _ _ _ _ _ given.spells
     (rw text at (kept_by c.keep.result _ _ _ _ _ c.keep.ensures.ok c.keep.ensures.err
     (c.show_answer.ensures.told told)))
-    (c.show_answer.ensures.shows told) follows c.lost.ensures.count in
+    (c.show_answer.ensures.shows told) follows c.packets_lost.ensures.count in
     elim c.if-is_accepted.branch [
       | then-is_accepted w ↦
           let told = rw w.booth-is at tells in
           let show_is = w.show.ensures p _ (c.perform-performed.ensures.stands p history stands) in
-          let shows = w.show_moves.ensures.shows (moves p.show history) (is_some (ended history))
+          let shows = w.show_moves.ensures.shows (moves p.show history)
+          (is_some (ticks_since_end history))
           (own_time (act_of moment call).call)
           (rw show_is (c.place-place.ensures p history stands)) told in
           build (w.show_moves.ensures.told told) (rw (

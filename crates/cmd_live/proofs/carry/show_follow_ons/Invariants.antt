@@ -1,8 +1,8 @@
 use Rattle.std.proofs.Common.{◌≡◌, ◌++◌, Bool, List}
-use Rattle.playback.specs.Placed.{IsAt, cues_above}
+use Rattle.playback.specs.Placed.{IsPlaceAfter, cues_above}
 use Rattle.playback.specs.Played.{Move, moves_by}
 use Rattle.cmd_live.specs.Shown.{cue_lines}
-use Rattle.cmd_live.specs.Stands.{Shows}
+use Rattle.cmd_live.specs.Stands.{ShowsText}
 use Rattle.cmd_live.proofs.carry.show_follow_ons.Given as goal
 
 -- these moves were shown, and stand in front of those before
@@ -12,11 +12,11 @@ invariant-loop-cue g l =
     record {
       newer : List Move;
       told : B.tells l.booth → B.tells l.fn.booth;
-      follows : (moves : List Move) (stopped : Bool) → IsAt l.show l.fn.place moves stopped
-          → IsAt l.show l.place (newer ++ moves) stopped
+      follows : (moves : List Move) (stopped : Bool) → IsPlaceAfter l.show l.fn.place moves stopped
+          → IsPlaceAfter l.show l.place (newer ++ moves) stopped
           × (moves_by l.show stopped l.moment (newer ++ moves)
           ≡ moves_by l.show stopped l.moment moves);
-      shows : B.tells l.booth → Shows (g.L.Link.offered l.fn.link) (B.state l.fn.booth)
+      shows : B.tells l.booth → ShowsText (g.L.Link.offered l.fn.link) (B.state l.fn.booth)
           (B.state l.booth) (cue_lines newer);
     }
 

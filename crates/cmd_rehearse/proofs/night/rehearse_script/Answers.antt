@@ -3,7 +3,7 @@ use Rattle.std.proofs.Common.{refl, ap, sym, subst, ◌∙◌}
 use Rattle.cmd_rehearse.specs.Script.{Parts, parts}
 use Rattle.rehearsal.specs.Refusing.{setup_fault}
 use Rattle.rehearsal.specs.Promised.{IsPromised}
-use Rattle.rehearsal.specs.Reported.{IsReportOf, Reported}
+use Rattle.rehearsal.specs.Reported.{IsReportOf, RehearsalReport}
 use Rattle.cmd_rehearse.specs.Printed.{world}
 use Rattle.cmd_faults.specs.declared.fault.RunFault.{RunFault}
 use Rattle.rehearsal.proofs.Refusals.{no_fault}
@@ -31,7 +31,7 @@ returns-in_err-report-clause-fault g c =
     let read = is_read c.in_ok-loaded.ensures.faultless c.in_ok-script.ensures.short
     c.in_ok-loaded.ensures.show c.in_ok-script.ensures.script in
     of_fault c.from_residual-in_err-report.result _ _ c.from_residual-in_err-report.ensures.1
-    (refused Reported c.args.show.now c.args.script.now s p
+    (refused RehearsalReport c.args.show.now c.args.script.now s p
     (setup_fault (s ∷ []) p.consoles p.receivers) c.in_err-report.field-0.0 read refl
     (rw (c.as_slice.ensures.value, c.as_slice-2.ensures.value) at c.in_err-report.ensures.faults))
 

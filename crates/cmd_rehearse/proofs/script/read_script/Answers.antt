@@ -7,7 +7,7 @@ use Rattle.cmd_rehearse.specs.declared.script.ScriptFault.TheVariants.{Line, Mem
 use Rattle.std.proofs.lemmas.Grind.{common_steps}
 use Rattle.ascii_text.specs.Text.{lines_of, numbered_from}
 use Rattle.cmd_rehearse.specs.Script.{Parts, parts, no_parts, script_of, read_below, first_words}
-use Rattle.cmd_rehearse.specs.Script.{with_said, said_below, Explains, ExplainsLine}
+use Rattle.cmd_rehearse.specs.Script.{with_said, said_below, ExplainsScript, ExplainsLine}
 use Rattle.cmd_rehearse.proofs.Sizes.{line_sizes, text-size}
 use Rattle.cmd_rehearse.proofs.Reading.{AreSound, Begun, begun_on, begun_stops, read_on, read_stops}
 use Rattle.cmd_rehearse.proofs.Reading.{sound_below, few_more, sound_none}
@@ -17,7 +17,7 @@ use Rattle.cmd_rehearse.proofs.script.read_script.Goals as goal
 explained : (text : List ℕ) (p : Parts) (line : ℕ × List ℕ) (rest : List (ℕ × List ℕ))
     (fault : ScriptFault) → script_of text ≡ read_below p (line ∷ rest)
     → Begun (first_words (numbered_from 1 (lines_of text))) p (line ∷ rest)
-    → ExplainsLine p line.0 line.1 fault → Explains text fault
+    → ExplainsLine p line.0 line.1 fault → ExplainsScript text fault
 explained text p line rest (Line n) means begun h =
     means ∙ read_stops p line rest h.1 ∙ ap Err (sym h.0)
 explained text p line rest Memory means begun h =

@@ -2,8 +2,8 @@ use Rattle.std.proofs.Common.{◌≡◌, ◌≤◌, ◌<◌, ℕ, List, ◌∷�
 use Rattle.std.specs.Prelude.{map}
 use Rattle.desk.specs.Played.{Act}
 use Rattle.sacn_source.specs.Stands as streams
-use Rattle.console.specs.Offering.{Offers}
-use Rattle.console.specs.Stands.{HasStream, HasStreams, IsTick}
+use Rattle.console.specs.Offering.{OffersDues}
+use Rattle.console.specs.Stands.{HasStream, HasStreams, IsMidTick}
 use Rattle.console.specs.Streams.{Production, due_at, tick_at}
 use Rattle.console.proofs.tick.offer_all.Given as goal
 
@@ -12,15 +12,15 @@ abbrev pub invariant-loop-universe : goal.invariant-loop-universe
 invariant-loop-universe g l = record {
   told : g.L.Link.tells l.link → g.L.Link.tells l.fn.link;
   count : length l.offers ≡ l.universe-index;
-  lanes : streams.universes_of l.sender ≡ l.universe-items;
+  lanes : streams.lane_universes l.sender ≡ l.universe-items;
   so_far : (p : Production) (older : List Act)
-      → IsTick g.F.Fader.stands_for p l.desk older l.moment l.answer
+      → IsMidTick g.F.Fader.stands_for p l.desk older l.moment l.answer
       → HasStreams p l.fn.sender older → record {
         done : (j : ℕ) → j < l.universe-index
             → HasStream p l.sender (tick_at l.moment ∷ older) (get_or l.universe-items j 0);
         left : (j : ℕ) → l.universe-index ≤ j → j < length l.universe-items
             → HasStream p l.sender older (get_or l.universe-items j 0);
-        offered : g.L.Link.tells l.link → Offers p.source
+        offered : g.L.Link.tells l.link → OffersDues p.source
             (map (due_at p older l.moment) (take l.universe-index l.universe-items)) l.offers
             (g.L.Link.offered l.fn.link) (g.L.Link.offered l.link);
       };

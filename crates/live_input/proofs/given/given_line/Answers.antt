@@ -7,6 +7,6 @@ pub returns : goal.returns
 returns c = record {
   text_is = c.input_line.ensures;
   spells = reading_is c.args.moment c.args.words.now c.requires.below
-      ∙ ap (spelling.at_moment (Some c.args.moment)) c.requires.spells;
+      ∙ ap (spelling.reading_at (Some c.args.moment)) c.requires.spells;
   below = c.requires.below;
 }

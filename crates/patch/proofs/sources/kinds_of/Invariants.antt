@@ -1,5 +1,5 @@
 use Rattle.std.proofs.Common.{◌≡◌, ℕ, ◌*◌, ◌<◌, get_or, length}
-use Rattle.patch.specs.Sources.{AreOf}
+use Rattle.patch.specs.Sources.{AreBytesOf}
 use Rattle.patch.specs.declared.sources.Bytes.TheVariants.{Mixed}
 use Rattle.patch.proofs.sources.kinds_of.Given as goal
 
@@ -7,5 +7,5 @@ use Rattle.patch.proofs.sources.kinds_of.Given as goal
 abbrev pub invariant-loop-ordinal : goal.invariant-loop-ordinal
 invariant-loop-ordinal l = record {
   each : length l.kinds.items ≡ l.ordinal;
-  kinds : (k : ℕ) → k < l.ordinal → AreOf (get_or l.kinds.items k Mixed) l.bytes (512 * k);
+  kinds : (k : ℕ) → k < l.ordinal → AreBytesOf (get_or l.kinds.items k Mixed) l.bytes (512 * k);
 }

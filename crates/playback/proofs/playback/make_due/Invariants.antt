@@ -1,14 +1,14 @@
 use Rattle.std.proofs.Common.{◌≡◌, ◌≤◌, Bool, List, map, IfSome}
-use Rattle.playback.specs.Placed.{IsAt, cues_above}
+use Rattle.playback.specs.Placed.{IsPlaceAfter, cues_above}
 use Rattle.playback.specs.Played.{Move, moves_by, start_of}
 use Rattle.playback.proofs.playback.make_due.Given as goal
 
 -- some of the moves that are due are made
 abbrev pub invariant-loop-n : goal.invariant-loop-n
 invariant-loop-n g l = record {
-  stands : (moves : List Move) (stopped : Bool) → IsAt l.show l.initial.place moves stopped
+  stands : (moves : List Move) (stopped : Bool) → IsPlaceAfter l.show l.initial.place moves stopped
       → g.F.Fader.stands_for l.initial.fader (map (start_of l.show) moves)
-      → (made : List Move) × IsAt l.show l.place made stopped
+      → (made : List Move) × IsPlaceAfter l.show l.place made stopped
       × g.F.Fader.stands_for l.fader (map (start_of l.show) made)
       × (moves_by l.show stopped l.moment made ≡ moves_by l.show stopped l.moment moves);
   channels : g.F.Fader.channels l.fader ≡ 4096;

@@ -3,7 +3,7 @@ use Rattle.std.proofs.Common.{arith, List, ℕ, ◌^◌, ap, refl, sym, ◌∙�
 use Rattle.std.specs.Prelude.{if◌then◌else◌, nat_eq, slice_range}
 use Rattle.std.specs.Option.{option_map_or}
 use Rattle.rehearsal.specs.declared.reply.Reply.TheVariants as reply
-use Rattle.rehearsal.specs.Replies.{no_receiver_at, taken_by}
+use Rattle.rehearsal.specs.Replies.{no_receiver_at, datagram_reply}
 use Rattle.rehearsal.proofs.Events.{hear_same, always, stand_same}
 use Rattle.std.proofs.lemmas.Result.{IfOk-weaker}
 use Rattle.rehearsal.specs.StageStands.{StageStands}
@@ -71,7 +71,7 @@ returns-in-Stray g c = record {
   spans = λ i u. refl;
   reply = λ w past same all tell hear. rw c.in-Stray.is (c.hear_at.ensures.reply w past hear
       ∙ ap (λ (s : List ℕ). option_map_or reply.Skipped (no_receiver_at w c.in-Stray.receiver)
-      (taken_by w c.in-Stray.receiver past c.args.happening.event.moment
+      (datagram_reply w c.in-Stray.receiver past c.args.happening.event.moment
       (slice_range s c.in-Stray.from c.in-Stray.to))) (sym same));
   stands = λ w past all. rw c.in-Stray.is (stand_same (StageStands g.F.Fader.stands_for)
       c.args.stages.now w past _ _ (λ j. refl) all);

@@ -8,13 +8,14 @@ loop-i-preserved c =
     let at = slice_get-get_or c.args.events.now c.loop-i.i _ c.loop-i-test.true in (
       up_to_next c.args.events.now c.loop-i.last c.max-last.result c.loop-i.i _ at
           (omega (arith, c.max-last.ensures))
-          (λ r i u k is. omega (arith, c.max-last.ensures, c.wanted.ensures.up_to r i u k is))
+          (λ r i u k is. omega
+          (arith, c.max-last.ensures, c.packet_wanted.ensures.up_to r i u k is))
           c.loop-i.invariant.0,
       λ last up. omega (
         arith,
         c.max-last.ensures,
         c.loop-i.invariant.1 last up,
-        c.wanted.ensures.least last (up c.loop-i.i _ at),
+        c.packet_wanted.ensures.least last (up c.loop-i.i _ at),
       ),
     )
 

@@ -3,7 +3,7 @@ use Rattle.std.proofs.Common.{◌≡◌, ◌≤◌, arith, subst}
 use Rattle.std.proofs.Math.ListN.{length-set}
 use Rattle.std.proofs.lemmas.Option.{slice_get-get_or, slice_get_within}
 use Rattle.rehearsal.specs.declared.event.What.TheVariants.{Deliver}
-use Rattle.rehearsal.specs.StageStands.{StageStands, Tells}
+use Rattle.rehearsal.specs.StageStands.{StageStands, LinkTells}
 use Rattle.rehearsal.specs.World.{console_at}
 use Rattle.rehearsal.specs.Happened.{acts}
 use Rattle.rehearsal.specs.Shelves.{KeepsFrom, gone_of}
@@ -15,7 +15,7 @@ returns-then-i-stages g c =
     let i = c.from-i.result in
     let at = slice_get-get_or c.args.stages.now i c.index-stages-i.result c.if-i-stages.true in
     record {
-      tell = λ all. tell_set Tells c.args.stages.now i c.release.new.self
+      tell = λ all. tell_set LinkTells c.args.stages.now i c.release.new.self
           (c.release.ensures.tells (all i _ at)) all;
       stand = λ w past all. record {
         each = omega (arith, length-set c.args.stages.now i c.release.new.self, all.each);

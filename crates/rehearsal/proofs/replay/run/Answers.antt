@@ -2,7 +2,7 @@ use borrow.Author.Rules.{scaled_Fits}
 use Rattle.std.proofs.Common.{◌≡◌, ◌<◌, ◌∙◌, length, get_or, take, ap, arith, refl, List}
 use Rattle.std.specs.Prelude.{slice_index}
 use Rattle.std.proofs.lemmas.Option.{slice_get-get_or, slice_get_within}
-use Rattle.rehearsal.specs.Replies.{done, last_slots}
+use Rattle.rehearsal.specs.Replies.{events_done, last_slots}
 use Rattle.desk.specs.declared.command.Command.TheVariants.{Go}
 use Rattle.rehearsal.specs.declared.event.Event.{Event}
 use Rattle.rehearsal.specs.declared.event.What.TheVariants.{Order}
@@ -42,7 +42,7 @@ loop-i-preserved g c = (
       (λ later h s. c.release.ensures.holds later h (rw low s)) c.loop-i.invariant.0),
   λ w same are.
       let all = c.loop-i.invariant.1 w same are in
-      let s = c.in_ok-reply.ensures.step w (done w (take c.loop-i.i c.args.events.now)) same
+      let s = c.in_ok-reply.ensures.step w (events_done w (take c.loop-i.i c.args.events.now)) same
       all.last_is all.are in
       rw c.in_ok-push.ensures.items
       (replayed_more _ c.loop-i-test.true all (record {
@@ -60,7 +60,7 @@ pub step-requires-clause-real : goal.step-requires-clause-real
 step-requires-clause-real g c =
     let b = c.requires.begun in (
       b.0,
-      done b.0 (take c.loop-i.i c.args.events.now),
+      events_done b.0 (take c.loop-i.i c.args.events.now),
       (c.loop-i.invariant.1 b.0 b.1 b.2).are.stand,
     )
 
@@ -81,8 +81,9 @@ returns g c = λ w same are.
             let l : j < length events = slice_get_within events j e h in
             all.below j e (omega arith) h,
       );
-      last = c.in_ok-last.ensures w (done w (take c.loop-i.i events)) all.are.hear all.last_is
-          ∙ ap (λ (es : List Event). last_slots w (done w es))
+      last =
+          c.in_ok-last.ensures w (events_done w (take c.loop-i.i events)) all.are.hear all.last_is
+          ∙ ap (λ (es : List Event). last_slots w (events_done w es))
           (take_all c.loop-i.i events (omega arith));
     }
 

@@ -1,7 +1,7 @@
 use Rattle.std.proofs.Common.{◌^◌, arith}
 use Rattle.std.proofs.lemmas.Bool.{le-leb, le-ltb, lt-ltb}
 use Rattle.rehearsal.specs.declared.event.Event.{Event}
-use Rattle.rehearsal.specs.Replies.{last_moment}
+use Rattle.rehearsal.specs.Replies.{last_event_moment}
 use Rattle.rehearsal.proofs.Events.{step_done, step_skipped}
 use Rattle.rehearsal.specs.declared.reply.Skip.TheVariants.{Backwards, TooLarge}
 use Rattle.rehearsal.proofs.step.step.Goals as goal
@@ -19,14 +19,14 @@ pub returns-then-event-last-clause-step : goal.returns-then-event-last-clause-st
 returns-then-event-last-clause-step g c = λ w past same l are.
     let e : Event = c.args.happening.event in
     step_skipped w past e Backwards c.args.last.now
-    (rw (lt-ltb e.moment (last_moment past) (omega (arith, l, c.if-event-last.true)))) l are
+    (rw (lt-ltb e.moment (last_event_moment past) (omega (arith, l, c.if-event-last.true)))) l are
 
 pub returns-then-event-ge-MOMENTS-clause-step : goal.returns-then-event-ge-MOMENTS-clause-step
 returns-then-event-ge-MOMENTS-clause-step g c = λ w past same l are.
     let e : Event = c.args.happening.event in
     step_skipped w past e TooLarge c.args.last.now
     (rw (
-      le-ltb e.moment (last_moment past) (omega (arith, l, c.if-event-last.false)),
+      le-ltb e.moment (last_event_moment past) (omega (arith, l, c.if-event-last.false)),
       le-leb (2 ^ 48) e.moment (omega (arith, c.if-event-ge-MOMENTS.true)),
     )) l are
 

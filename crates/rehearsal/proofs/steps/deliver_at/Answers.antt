@@ -6,7 +6,7 @@ use Rattle.rehearsal.specs.declared.event.Event.{Event}
 use Rattle.rehearsal.specs.Wanted.{hands_over}
 use Rattle.rehearsal.specs.World.{World}
 use Rattle.rehearsal.proofs.Events.{absent, at_number, looked_up}
-use Rattle.rehearsal.specs.StageStands.{StageStands, Tells}
+use Rattle.rehearsal.specs.StageStands.{StageStands, LinkTells}
 use Rattle.rehearsal.proofs.steps.deliver_at.Goals as goal
 
 pub datagram-requires : goal.datagram-requires
@@ -17,7 +17,7 @@ datagram-requires g c =
 
 pub returns-in-None : goal.returns-in-None
 returns-in-None g c =
-    let is = looked_up (StageStands g.F.Fader.stands_for) Tells c.args.stages.now
+    let is = looked_up (StageStands g.F.Fader.stands_for) LinkTells c.args.stages.now
     c.args.receivers.now c.args.handover.console c.args.handover.receiver
     c.args.handover.universe c.args.handover.k _
     (at_number c.args.stages.now _ _ _ c.from-i.ensures c.if-i-stages.false c.index-stages-i.is)
@@ -30,7 +30,7 @@ returns-in-None g c =
 
 pub returns-in-Some : goal.returns-in-Some
 returns-in-Some g c =
-    let is = looked_up (StageStands g.F.Fader.stands_for) Tells c.args.stages.now
+    let is = looked_up (StageStands g.F.Fader.stands_for) LinkTells c.args.stages.now
     c.args.receivers.now c.args.handover.console c.args.handover.receiver
     c.args.handover.universe c.args.handover.k _
     (at_number c.args.stages.now _ _ _ c.from-i.ensures c.if-i-stages.false c.index-stages-i.is)

@@ -5,7 +5,7 @@ use Rattle.rehearsal.proofs.steps.hear_at.Goals as goal
 
 pub returns-clause-reply : goal.returns-clause-reply
 returns-clause-reply c = rw (← c.from-r.ensures) (λ w past all.
-    c.taken.ensures
+    c.datagram_reply.ensures
     ∙ replied_is all c.from-r.result _
     (slice_get-get_or c.args.receivers.now c.from-r.result c.index-receivers-r.result
     c.if-r-receivers.false) c.args.moment c.args.datagram.now c.take.result

@@ -10,7 +10,7 @@ use Rattle.rehearsal.specs.Happened.{acts}
 use Rattle.rehearsal.proofs.Events.{tell_set, err_of, stand_call, here, told}
 use Rattle.rehearsal.proofs.Wants.{spans_set}
 use Rattle.rehearsal.specs.Stands.{order_reply}
-use Rattle.rehearsal.specs.StageStands.{Tells}
+use Rattle.rehearsal.specs.StageStands.{LinkTells}
 use Rattle.rehearsal.proofs.steps.order_at.Goals as goal
 
 pub returns : goal.returns
@@ -19,13 +19,13 @@ returns g c =
     let at = ap (slice_get c.args.stages.now) (sym c.from-i.ensures)
     ∙ slice_get-get_or c.args.stages.now _ c.index-stages-i.result c.if-i-stages.false in
     record {
-      tell = λ all. tell_set Tells c.args.stages.now _ c.order.new.self
+      tell = λ all. tell_set LinkTells c.args.stages.now _ c.order.new.self
           (c.order.ensures.still_tells (all _ _ at)) all;
       spans = rw c.from-i.ensures (spans_set c.args.stages.now k _ c.order.new.self at
           c.order.ensures.gone c.order.ensures.last);
       reply = λ w past all.
           rw (here all k _ at)
-          (c.ordered.ensures ∙ ap order_reply
+          (c.order_reply.ensures ∙ ap order_reply
           (c.order.ensures.answer (console_at w k) (acts w k past) (all.stand k _ at))
           ∙ told order_reply tt _);
       stands = λ w past all. rw c.from-i.ensures (

@@ -10,7 +10,7 @@ use Rattle.rehearsal.proofs.Events.{absent, always, err_of, here, stand_call, te
 use Rattle.std.proofs.lemmas.Result.{IfOk-weaker}
 use Rattle.rehearsal.proofs.Wants.{spans_set}
 use Rattle.rehearsal.specs.Stands.{tick_reply}
-use Rattle.rehearsal.specs.StageStands.{Tells}
+use Rattle.rehearsal.specs.StageStands.{LinkTells}
 use Rattle.rehearsal.proofs.steps.tick_at.Goals as goal
 
 pub tick-answer-requires : goal.tick-answer-requires
@@ -33,17 +33,17 @@ returns g c =
     ∙ slice_get-get_or c.args.stages.now _ c.index-stages-i.result c.if-i-stages.false in
     let tells = sym c.if-is_full.ensures in
     record {
-      tell = always c.ticked.result _ (λ _ all.
-          tell_set Tells c.args.stages.now _ c.tick-answer.new.self tells all);
-      spans = always c.ticked.result _ (λ _. rw c.from-i.ensures
+      tell = always c.tick_reply.result _ (λ _ all.
+          tell_set LinkTells c.args.stages.now _ c.tick-answer.new.self tells all);
+      spans = always c.tick_reply.result _ (λ _. rw c.from-i.ensures
           (spans_set c.args.stages.now k _ c.tick-answer.new.self at
           (c.tick-answer.ensures.gone tells) c.tick-answer.ensures.last));
-      reply = IfOk-weaker c.ticked.result _ _ (λ reply is w past all.
+      reply = IfOk-weaker c.tick_reply.result _ _ (λ reply is w past all.
           rw (here all k _ at)
           (is ∙ ap tick_reply
           (c.tick-answer.ensures.answer (console_at w k) (acts w k past) (all.stand k _ at) tells)
-          ∙ told tick_reply _ _)) c.ticked.ensures;
-      stands = always c.ticked.result _ (λ _ w past all. rw c.from-i.ensures
+          ∙ told tick_reply _ _)) c.tick_reply.ensures;
+      stands = always c.tick_reply.result _ (λ _ w past all. rw c.from-i.ensures
           (stand_call all k _ at c.tick-answer.new.self
           (record { moment = c.args.moment; what = _ }) tick c.tick-answer.result (λ j. refl)
           (λ d h s. ap result_err (c.tick-answer.ensures.answer d h s tells) ∙ err_of _ _)

@@ -1,6 +1,9 @@
 ghost use Rattle.std.specs.Prelude.{IfOk};
 ghost use Rattle.test_program.specs.Nights.{IsPlayable};
 
+use super::booth::{Coming, MemoryBooth};
+use super::rows::{KEPT, TYPED, play_offers};
+use super::{SMALL, identity, plain};
 use cmd_faults::RunFault;
 use cmd_live::{Night, Silent};
 use devices::memory::{MemoryLink, MemorySend};
@@ -8,9 +11,6 @@ use fade::{Fader, PlainFader};
 use sacn_source::Identity;
 use std::alloc::Global;
 use std::process::Abort;
-use super::booth::{Coming, MemoryBooth};
-use super::rows::{KEPT, TYPED, played};
-use super::{SMALL, identity, plain};
 
 // A night of the small show behind the lines of a record, or the number of the first that is none.
 fn behind<F: Fader>(alloc: Global, source: Identity, text: &[u8]) -> Result<Night<F>, u64>
@@ -71,7 +71,7 @@ fn night_goes_on_behind_each_line(rt: HostRuntime) {
         let mut text = Vec::new(rt.alloc());
         assert!(rt; text.extend_from_slice(front).is_ok());
         assert!(rt; text.extend_from_slice(booth.kept.as_slice()).is_ok());
-        let whole = played(&rt, rt.alloc(), text.as_slice());
+        let whole = play_offers(&rt, rt.alloc(), text.as_slice());
         let before = whole.sends.len().saturating_sub(link.sends.len());
         let mut pairs = whole.sends.iter().skip(before).zip(link.sends.iter());
         assert!(rt;
@@ -79,7 +79,7 @@ fn night_goes_on_behind_each_line(rt: HostRuntime) {
             "behind {count} lines"
         );
         assert!(rt;
-            played(&rt, rt.alloc(), front).sends.len() == before,
+            play_offers(&rt, rt.alloc(), front).sends.len() == before,
             "behind {count} lines"
         );
     }

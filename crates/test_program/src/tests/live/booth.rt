@@ -1,4 +1,4 @@
-ghost use Rattle.cmd_live.specs.Booth.{IsWithin};
+ghost use Rattle.cmd_live.specs.Booth.{HeardFits};
 
 use cmd_live::{Booth, Heard};
 use devices::memory::Faults;
@@ -25,8 +25,8 @@ impl Coming<'_> {
     }
 
     // Of what is typed, as much as the block takes.
-    fn heard(&self, block: &mut [u8; 4096]) -> Heard
-        ensures { IsWithin result }
+    fn hear(&self, block: &mut [u8; 4096]) -> Heard
+        ensures { HeardFits result }
     {
         match self {
             Coming::Typed(_, bytes) => {
@@ -131,7 +131,7 @@ impl Booth for MemoryBooth<'_> {
             Some(coming) if coming.moment() <= due => {
                 self.next = self.next.wrapping_add(1);
                 self.go_to(coming.moment());
-                Ok(coming.heard(block))
+                Ok(coming.hear(block))
             }
             _ => {
                 self.go_to(due);

@@ -1,9 +1,9 @@
-use cmd_faults::RunFault;
-use devices::memory::Faults;
-use std::process::Abort;
 use super::booth::BoothFaults;
 use super::rows::{KEPT, PACKETS, SHOWN, TYPED};
 use super::{Run, Setting, plain};
+use cmd_faults::RunFault;
+use devices::memory::Faults;
+use std::process::Abort;
 
 // Looks at the clock, and waits, of the short night.
 const LOOKS: u64 = 46;

@@ -1,3 +1,6 @@
+use super::booth::MemoryBooth;
+use super::rows::{KEPT, play_offers};
+use super::{SMALL, identity, plain};
 use arrayvec::ArrayVec;
 use cmd_live::{Led, MainConsole, Night, Pause};
 use devices::memory::MemoryLink;
@@ -5,9 +8,6 @@ use fade::{Fader, PlainFader};
 use sacn_source::Identity;
 use std::alloc::Global;
 use std::process::Abort;
-use super::booth::MemoryBooth;
-use super::rows::{KEPT, played};
-use super::{SMALL, identity, plain};
 
 // The record of a main in memory: where it asks where the night is, and where it ends.
 #[derive(Drop)]
@@ -83,7 +83,7 @@ fn follows_a_main(rt: HostRuntime) {
         &mut link,
     ).expect(&rt, "a night");
     assert!(rt; pause == Pause::Ended && night.is_over() && main.given == 20);
-    let whole = played(&rt, rt.alloc(), KEPT);
+    let whole = play_offers(&rt, rt.alloc(), KEPT);
     assert!(rt; whole.sends.len() == link.sends.len());
     let mut pairs = whole.sends.iter().zip(link.sends.iter());
     assert!(rt; pairs.all(|(one, other)| one.bytes.as_slice() == other.bytes.as_slice()));

@@ -1,11 +1,11 @@
+use super::booth::Coming;
+use super::{Run, SMALL, Setting, identity, plain};
 use cmd_faults::RunFault;
 use cmd_play::{Setup, play};
 use devices::memory::{MemoryFeed, MemoryLink, MemoryOutput};
 use fade::PlainFader;
 use std::alloc::Global;
 use std::process::Abort;
-use super::booth::Coming;
-use super::{Run, SMALL, Setting, identity, plain};
 
 // Behind an arrow key a GO is a GO; the first cue is followed; lines that are refused or ask for
 // something change nothing; then the light goes down, and the streams end.
@@ -50,7 +50,7 @@ fn short_night(rt: HostRuntime) {
 }
 
 // What `play` offers of the record that a night left.
-pub fn played(rt: &impl Abort, alloc: Global, kept: &[u8]) -> MemoryLink {
+pub fn play_offers(rt: &impl Abort, alloc: Global, kept: &[u8]) -> MemoryLink {
     let mut feed = MemoryFeed::new(kept, 4096, 0, 0);
     let mut link = MemoryLink::new(alloc, 0, 0);
     let mut out = MemoryOutput::new(alloc, 0, 0);
@@ -67,7 +67,7 @@ pub fn played(rt: &impl Abort, alloc: Global, kept: &[u8]) -> MemoryLink {
 #[test]
 fn record_is_the_night(rt: HostRuntime) {
     let run = Run::of(&rt, rt.alloc(), &plain(), TYPED);
-    let link = played(&rt, rt.alloc(), run.booth.kept.as_slice());
+    let link = play_offers(&rt, rt.alloc(), run.booth.kept.as_slice());
     assert!(rt; link.sends.len() == PACKETS);
     for (live, played) in run.link.sends.iter().zip(link.sends.iter()) {
         assert!(rt; live.universe == played.universe);

@@ -1,7 +1,7 @@
+use super::{FADE, FADE_TEXT, PLAIN, Run, Setting, WIDE, holds, play_each};
 use cmd_faults::RunFault;
 use std::alloc::{AllocError, Global};
 use std::test::Fail;
-use super::{FADE, FADE_TEXT, PLAIN, Run, Setting, WIDE, holds, play_each};
 
 // Seven bytes come by a read: the lines that are whole by then are answered.
 #[test]

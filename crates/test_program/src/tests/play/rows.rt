@@ -1,7 +1,7 @@
+use super::{FADE, FADE_TEXT, PLAIN, Run, Setting, play_each};
 use cmd_faults::RunFault;
 use std::alloc::Global;
 use std::process::Abort;
-use super::{FADE, FADE_TEXT, PLAIN, Run, Setting, play_each};
 
 // Whether a play prints this, and the first slots of its packets are at these levels.
 fn fades(rt: &impl Abort, alloc: Global, input: &[u8], text: &[u8], levels: &[u8]) -> bool {

@@ -1,7 +1,7 @@
-use cmd_faults::RunFault;
-use std::alloc::Global;
 use super::end;
 use super::rows::{BASIC, first_lines};
+use cmd_faults::RunFault;
+use std::alloc::Global;
 
 // Whether a write of row `rehearse_basic` fails after so many: the output has the lines before it.
 fn fails(alloc: Global, passing: u64) -> bool {

@@ -1,9 +1,9 @@
+use super::CID;
 use cmd_faults::RunFault;
 use cmd_listen::listen;
 use devices::memory::{MemoryDatagrams, MemoryOutput};
 use sacn_packet::{Header, SourceName, encode};
 use std::alloc::Global;
-use super::CID;
 
 // The packet of row `look_one`: its first slot is at 64.
 fn look_one() -> [u8; 638] {

@@ -1,11 +1,12 @@
 use Rattle.std.proofs.Common.{◌≡◌, ◌∙◌, ◌∷◌, Some, ap, sym, arith}
 use Rattle.ascii_text.specs.Text.{words_of}
-use Rattle.show_line.specs.Said.{desk_limits, reading_of}
+use Rattle.show_line.specs.Said.{desk_limits, line_reading}
 use Rattle.cmd_explain.specs.Headings.{heading_below, owner_of}
 use Rattle.cmd_explain.specs.NotesOf.{unknown_count, unknown_in}
 use Rattle.cmd_explain.specs.Skipped.{words_in}
 use Rattle.cmd_explain.proofs.Lines.{keyword_is, said_is}
-use Rattle.cmd_explain.proofs.NoteLines.{few_unknown, has_words, heading_more, notes_more, unknown_is}
+use Rattle.cmd_explain.proofs.NoteLines.{few_unknown, has_words, heading_more, notes_more}
+use Rattle.cmd_explain.proofs.NoteLines.{unknown_is}
 use Rattle.cmd_explain.proofs.note_lines.LineNotes.take_line.Goals as goal
 
 pub returns : goal.returns
@@ -14,8 +15,9 @@ returns c = λ lines was numbered.
     let above = c.args.self.now.above in
     let reading = c.in-Some.reading in
     let added = c.in_ok-note.ensures in
-    let read : Some reading ≡ reading_of desk_limits (owner_of above) (words_of bytes) =
-    c.in-Some.ensures.means ∙ ap (λ o. reading_of desk_limits o (words_of bytes)) c.owner.ensures in
+    let read : Some reading ≡ line_reading desk_limits (owner_of above) (words_of bytes) =
+    c.in-Some.ensures.means
+    ∙ ap (λ o. line_reading desk_limits o (words_of bytes)) c.owner.ensures in
     let heads : c.below-below.result ≡ heading_below (words_in (bytes ∷ lines)) =
     c.below-below.ensures ∙ heading_more lines bytes above was.heads reading read in
     let one
@@ -37,4 +39,5 @@ returns c = λ lines was numbered.
     notes_more lines bytes c.args.line.number reading.statement numbered
     (said_is lines bytes above was.heads reading read) c.args.show.now reading.keyword
     (keyword_is lines bytes above was.heads reading read)
-    (has_words (owner_of above) (words_of bytes) reading read) c.args.self.now c.note.new.self was added c.below-below.result heads c.saturating_add-self.result unknown
+    (has_words (owner_of above) (words_of bytes) reading read) c.args.self.now c.note.new.self was
+    added c.below-below.result heads c.saturating_add-self.result unknown

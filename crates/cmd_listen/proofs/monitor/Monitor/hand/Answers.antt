@@ -1,6 +1,6 @@
 use Rattle.std.proofs.Common.{◌∙◌, sym, ap, refl}
 use Rattle.std.proofs.lemmas.Result.{on_ok_weaker}
-use Rattle.cmd_listen.specs.Ignored.{counted}
+use Rattle.cmd_listen.specs.Ignored.{with_one_more}
 use Rattle.cmd_listen.proofs.Stood.{met_ignored, met_taken}
 use Rattle.cmd_listen.proofs.monitor.Monitor.hand.Goals as goal
 
@@ -18,5 +18,5 @@ returns-in-Err c = λ k s.
     c.in-Err.reason c.args.text.now.items s
     (sym c.in-Err.is ∙ c.take.ensures.answer k.heard s.receiver_stands)
     (c.take.ensures.heard k.heard s.receiver_stands) c.take.ensures.universe refl
-    (c.count.ensures ∙ ap (λ place. counted place c.args.self.now.counts)
+    (c.count.ensures ∙ ap (λ place. with_one_more place c.args.self.now.counts)
     c.ignored_place.ensures.place)

@@ -1,7 +1,7 @@
 use Rattle.std.proofs.Common.{◌∙◌, ap, refl, sym, ◌++◌}
 use Rattle.std.proofs.lemmas.Result.{on_ok_weaker}
 use Rattle.sacn_receiver.specs.Shown.{shown_slots}
-use Rattle.cmd_listen.specs.Sources.{head_text}
+use Rattle.cmd_listen.specs.Sources.{line_head}
 use Rattle.cmd_listen.proofs.Results.{grown}
 use Rattle.cmd_listen.proofs.Stood.{look_other, look_same, no_later}
 use Rattle.cmd_listen.proofs.monitor.Monitor.show.Goals as goal
@@ -20,7 +20,7 @@ returns c = on_ok_weaker c.extend_from_slice.result (λ is k s.
     (c.slots.ensures k.heard s.receiver_stands ∙ ap (shown_slots k.heard)
     (c.max.ensures ∙ no_later _ _ _ (c.now.ensures.last k.heard s.receiver_stands) s.late))
     (sym c.eq.ensures ∙ c.if-eq.false)
-    (c.in_ok-push_head.ensures ∙ ap (λ h. c.args.text.now.items ++ head_text h) c.head.ensures)
+    (c.in_ok-push_head.ensures ∙ ap (λ h. c.args.text.now.items ++ line_head h) c.head.ensures)
     (is ∙ ap (λ l. c.push_head.new.text.items ++ l)
     (c.as_bytes.ensures.value ∙ c.as_str.ensures.value ∙ c.slots_line.ensures)))
     (grown c.extend_from_slice.result c.extend_from_slice.new.self.items

@@ -1,5 +1,5 @@
 use Rattle.std.proofs.lemmas.Result.{on_ok_weaker}
-use Rattle.cmd_listen.specs.Universe.{met_after, waited}
+use Rattle.cmd_listen.specs.Universe.{met_after, after_wait}
 use Rattle.cmd_listen.proofs.Texts.{three}
 use Rattle.cmd_listen.proofs.monitor.Monitor.take.Goals as goal
 
@@ -7,8 +7,8 @@ pub returns : goal.returns
 returns c = on_ok_weaker c.look.result (λ third t k s le.
     let i = c.args.instant in
     let first = c.in_ok-wait.ensures t k s le in
-    let second = c.in_ok-meet.ensures (waited i k) first.0 in
-    let last = third (met_after i c.args.datagram.now (waited i k)) second.0 in (
+    let second = c.in_ok-meet.ensures (after_wait i k) first.0 in
+    let last = third (met_after i c.args.datagram.now (after_wait i k)) second.0 in (
       last.0,
       three _ _ _ _ _ _ _ first.1 second.1 last.1,
     ))

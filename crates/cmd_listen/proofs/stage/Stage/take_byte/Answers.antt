@@ -1,7 +1,7 @@
 use Rattle.std.proofs.Common.{◌+◌, ◌∙◌, arith, rules}
 use Rattle.std.proofs.lemmas.Grind.{common_steps}
 use Rattle.cmd_listen.specs.Runs.{late}
-use Rattle.cmd_listen.specs.Watching.{watch_of}
+use Rattle.cmd_listen.specs.Watching.{watch_after}
 use Rattle.cmd_listen.proofs.Faults.{handed_on}
 use Rattle.cmd_listen.proofs.Taking.{ended_here, ends_line, left_by, line_stands, line_told}
 use Rattle.cmd_listen.proofs.stage.Stage.take_byte.Goals as goal
@@ -11,12 +11,13 @@ returns-clause-taken g c = record {
   stands = λ us cut s.
       line_stands us cut c.args.byte c.as_slice.result.now c.args.self.now _
       c.if-byte-ne10.false c.as_slice.ensures.value s (omega arith) c.in_ok-take_line.ensures.fine
-      (c.in_ok-take_line.ensures.stands (watch_of us cut.lines) s.watching_stands) c.clear.ensures
+      (c.in_ok-take_line.ensures.stands (watch_after us cut.lines) s.watching_stands)
+      c.clear.ensures
       (λ i. c.args.self.now.number + 1);
   told = λ tell us cut start s told.
       line_told us cut c.args.byte c.as_slice.result.now start _ _ c.if-byte-ne10.false
       (c.as_slice.ensures.value ∙ s.pending_is) told
-      (c.in_ok-take_line.ensures.printed (watch_of us cut.lines) s.watching_stands tell);
+      (c.in_ok-take_line.ensures.printed (watch_after us cut.lines) s.watching_stands tell);
   room = grind (arith, common_steps);
 }
 

@@ -1,5 +1,5 @@
 use Rattle.std.proofs.Common.{take}
-use Rattle.cmd_listen.specs.Stage.{HasTaken}
+use Rattle.cmd_listen.specs.Stage.{WatchHasTaken}
 use Rattle.cmd_listen.proofs.stage.Stage.take_bytes.Given as goal
 
 -- the bytes so far
@@ -8,6 +8,6 @@ invariant-loop-byte g l =
     let W = g.W.Output in
     record {
       told : W.tells l.out → W.tells l.fn.out;
-      taken : HasTaken (take l.byte-index l.bytes) l.fn.self l.self (W.tells l.out)
+      taken : WatchHasTaken (take l.byte-index l.bytes) l.fn.self l.self (W.tells l.out)
           (W.tape l.fn.out) (W.tape l.out);
     }

@@ -1,6 +1,6 @@
 use Rattle.std.proofs.Common.{◌≡◌, ℕ, List}
 use Rattle.devices.specs.Tape.{with_more}
-use Rattle.cmd_listen.specs.Stage.{HasTaken, room_of}
+use Rattle.cmd_listen.specs.Stage.{WatchHasTaken, watch_room}
 use Rattle.cmd_listen.proofs.stage.Stage.take_input.Given as goal
 
 -- the bytes so far
@@ -13,8 +13,8 @@ invariant-loop-count g l =
       told : W.tells l.out → W.tells l.fn.out;
       bytes : List ℕ;
       read : R.tells l.input → R.tape l.input ≡ with_more (R.tape l.fn.input) bytes;
-      taken : HasTaken bytes l.fn.self l.self (W.tells l.out) (W.tape l.fn.out) (W.tape l.out);
+      taken : WatchHasTaken bytes l.fn.self l.self (W.tells l.out) (W.tape l.fn.out) (W.tape l.out);
     }
 
 abbrev pub decreases-loop-count : goal.decreases-loop-count
-decreases-loop-count g l = room_of l.self.number l.self.pending.items
+decreases-loop-count g l = watch_room l.self.number l.self.pending.items

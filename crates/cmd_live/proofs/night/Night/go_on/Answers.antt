@@ -4,7 +4,7 @@ use Rattle.live_input.specs.Night.{stage, stage_by}
 use Rattle.live_input.specs.Stands as live
 use Rattle.live_input.proofs.Nights.{over_is}
 use Rattle.cmd_live.specs.Booth.{refused, waits_until}
-use Rattle.cmd_live.specs.Night.{seen}
+use Rattle.cmd_live.specs.Night.{trace_of}
 use Rattle.cmd_live.proofs.Living.{Gives, breaks_more, breaks_none, carried_since, gives}
 use Rattle.cmd_live.proofs.Living.{goes_more, goes_quietly, goes_waiting, helps, lives_more, on_err}
 use Rattle.cmd_live.proofs.Living.{overs, places, refuses, shows_since, then_tells, then_waits}
@@ -127,7 +127,7 @@ returns-in_ok-wait-in-Until-clause-goes g c =
     let moment = c.in_ok-moment.moment in
     let waited = c.in_ok-wait-in-Until.ensures in
     let night = record c.args.self.now { input = c.next.new.self } in
-    let middle = seen (waits_until c.in-Until.due (g.B.Booth.state c.moment.new.self))
+    let middle = trace_of (waits_until c.in-Until.due (g.B.Booth.state c.moment.new.self))
     (g.L.Link.offered c.args.link.now) in
     let quiet = goes_quietly g.F.Fader.stands_for (g.B.Booth.tells c.moment.new.self) _ night moment
     _ middle refl refl c.next.ensures.stands
@@ -146,7 +146,7 @@ returns-in_err-wait-in-Until-clause-broke g c =
     let waited = c.in_err-wait-in-Until.ensures in
     let night = record c.args.self.now { input = c.next.new.self } in
     let quiet = goes_quietly g.F.Fader.stands_for (g.B.Booth.tells c.moment.new.self) _ night moment
-    _ (seen (waits_until c.in-Until.due (g.B.Booth.state c.moment.new.self))
+    _ (trace_of (waits_until c.in-Until.due (g.B.Booth.state c.moment.new.self))
     (g.L.Link.offered c.args.link.now)) refl refl
     c.next.ensures.stands
     (λ happened stands. waits c.in-Until.due (answer_to happened moment)

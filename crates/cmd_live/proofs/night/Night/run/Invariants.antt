@@ -1,5 +1,5 @@
 use Rattle.std.proofs.Common.{◌≤◌, length}
-use Rattle.cmd_live.specs.Night.{seen}
+use Rattle.cmd_live.specs.Night.{trace_of}
 use Rattle.cmd_live.specs.Stands.{GoesOn}
 use Rattle.cmd_live.proofs.night.Night.run.Given as goal
 
@@ -12,7 +12,7 @@ invariant-loop-turn g l =
       told_booth : B.tells l.booth → B.tells l.fn.booth;
       told_link : L.tells l.link → L.tells l.fn.link;
       goes : GoesOn g.F.Fader.stands_for (B.tells l.booth × L.tells l.link) l.fn.self l.self
-          (seen (B.state l.fn.booth) (L.offered l.fn.link))
-          (seen (B.state l.booth) (L.offered l.link));
+          (trace_of (B.state l.fn.booth) (L.offered l.fn.link))
+          (trace_of (B.state l.booth) (L.offered l.link));
       turned : l._turn ≤ length goes.since;
     }

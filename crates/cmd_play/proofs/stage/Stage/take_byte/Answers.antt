@@ -1,6 +1,6 @@
 use Rattle.std.proofs.Common.{◌∙◌, arith, rules}
 use Rattle.std.proofs.lemmas.Grind.{common_steps}
-use Rattle.cmd_play.specs.Run.{emitted, history_of}
+use Rattle.cmd_play.specs.Run.{emission, history_of}
 use Rattle.cmd_play.specs.Stage.{late}
 use Rattle.cmd_play.proofs.Faults.{handed_on}
 use Rattle.cmd_play.proofs.Running.{left_behind, ran_ended}
@@ -12,8 +12,8 @@ returns-clause-taken g c = record {
   stands = grind (arith, common_steps);
   ran = λ tell p cut before stands ran.
       ran_ended p cut c.args.byte c.as_slice.result.now before
-      (emitted (g.L.Link.offered c.args.link.now) (g.W.Output.tape c.args.out.now))
-      (emitted (g.L.Link.offered c.take_line.new.link) (g.W.Output.tape c.take_line.new.out))
+      (emission (g.L.Link.offered c.args.link.now) (g.W.Output.tape c.args.out.now))
+      (emission (g.L.Link.offered c.take_line.new.link) (g.W.Output.tape c.take_line.new.out))
       c.args.self.now.lost c.in_ok-lost.lost c.if-byte-ne10.false
       (c.as_slice.ensures.value ∙ stands.pending_is) ran
       (c.in_ok-lost.ensures.carried_out p (history_of p.show cut.lines) stands.console_stands
@@ -26,8 +26,8 @@ returns-in_err-lost-clause-ended g c =
     handed_on _ _ c.from_residual.ensures.1 (ended_here (grind (arith, common_steps))
     (λ tell p cut before stands ran.
     left_behind c.in_err-lost.field-0.0 p cut c.as_slice.result.now before
-    (emitted (g.L.Link.offered c.args.link.now) (g.W.Output.tape c.args.out.now))
-    (emitted (g.L.Link.offered c.take_line.new.link) (g.W.Output.tape c.take_line.new.out))
+    (emission (g.L.Link.offered c.args.link.now) (g.W.Output.tape c.args.out.now))
+    (emission (g.L.Link.offered c.take_line.new.link) (g.W.Output.tape c.take_line.new.out))
     c.args.self.now.lost (c.as_slice.ensures.value ∙ stands.pending_is) ran
     (c.in_err-lost.ensures.leaves p (history_of p.show cut.lines) stands.console_stands tell.0
     tell.1)))

@@ -1,6 +1,6 @@
 use Rattle.std.proofs.Common.{take}
-use Rattle.cmd_play.specs.Run.{emitted}
-use Rattle.cmd_play.specs.Stage.{HasTaken}
+use Rattle.cmd_play.specs.Run.{emission}
+use Rattle.cmd_play.specs.Stage.{PlayHasTaken}
 use Rattle.cmd_play.proofs.stage.Stage.take_bytes.Given as goal
 
 -- the bytes so far
@@ -10,7 +10,7 @@ invariant-loop-byte g l =
     let W = g.W.Output in
     record {
       told : (L.tells l.link → L.tells l.fn.link) × (W.tells l.out → W.tells l.fn.out);
-      taken : HasTaken g.F.Fader.stands_for (take l.byte-index l.bytes) l.fn.self l.self
-          (L.tells l.link × W.tells l.out) (emitted (L.offered l.fn.link) (W.tape l.fn.out))
-          (emitted (L.offered l.link) (W.tape l.out));
+      taken : PlayHasTaken g.F.Fader.stands_for (take l.byte-index l.bytes) l.fn.self l.self
+          (L.tells l.link × W.tells l.out) (emission (L.offered l.fn.link) (W.tape l.fn.out))
+          (emission (L.offered l.link) (W.tape l.out));
     }

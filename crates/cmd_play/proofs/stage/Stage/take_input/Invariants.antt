@@ -1,7 +1,7 @@
 use Rattle.std.proofs.Common.{◌≡◌, ℕ, List}
 use Rattle.devices.specs.Tape.{with_more}
-use Rattle.cmd_play.specs.Run.{emitted}
-use Rattle.cmd_play.specs.Stage.{HasTaken, room_of}
+use Rattle.cmd_play.specs.Run.{emission}
+use Rattle.cmd_play.specs.Stage.{PlayHasTaken, play_room}
 use Rattle.cmd_play.proofs.stage.Stage.take_input.Given as goal
 
 -- the bytes so far
@@ -15,10 +15,10 @@ invariant-loop-count g l =
       told : (L.tells l.link → L.tells l.fn.link) × (W.tells l.out → W.tells l.fn.out);
       bytes : List ℕ;
       read : R.tells l.input → R.tape l.input ≡ with_more (R.tape l.fn.input) bytes;
-      taken : HasTaken g.F.Fader.stands_for bytes l.fn.self l.self
-          (L.tells l.link × W.tells l.out) (emitted (L.offered l.fn.link) (W.tape l.fn.out))
-          (emitted (L.offered l.link) (W.tape l.out));
+      taken : PlayHasTaken g.F.Fader.stands_for bytes l.fn.self l.self
+          (L.tells l.link × W.tells l.out) (emission (L.offered l.fn.link) (W.tape l.fn.out))
+          (emission (L.offered l.link) (W.tape l.out));
     }
 
 abbrev pub decreases-loop-count : goal.decreases-loop-count
-decreases-loop-count g l = room_of l.self.number l.self.pending.items
+decreases-loop-count g l = play_room l.self.number l.self.pending.items

@@ -1,7 +1,7 @@
 use Rattle.std.proofs.Common.{◌≡◌, List, [], ℕ, ◌∙◌, sym, ap}
 use Rattle.std.specs.Prelude.{Some, Option, is_some, unwrap_or}
 use Rattle.std.proofs.lemmas.Bool.{true≢false}
-use Rattle.cmd_rehearse.specs.Forms.{bytes_of}
+use Rattle.cmd_rehearse.specs.Forms.{hex_bytes}
 use Rattle.cmd_rehearse.proofs.Hex.{spelled, not_spelled}
 use Rattle.cmd_rehearse.proofs.hex_bytes.HexBytes.new.Goals as goal
 
@@ -17,7 +17,7 @@ pub returns-then-is_hex : goal.returns-then-is_hex
 returns-then-is_hex c =
     let h = c.is_hex.ensures.0 c.if-is_hex.true in
     let r = spelled c.args.digits.now h.0 h.1 in
-    there (bytes_of c.args.digits.now) r.0 r.1
+    there (hex_bytes c.args.digits.now) r.0 r.1
 
 pub returns-else-is_hex : goal.returns-else-is_hex
 returns-else-is_hex c = not_spelled c.args.digits.now (λ even digits.

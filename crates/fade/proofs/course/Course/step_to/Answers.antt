@@ -2,10 +2,10 @@ use Rattle.std.proofs.Common.{◌≡◌, ℕ, ◌-◌, ◌^◌, ◌<◌, ◌≤�
 use Rattle.std.specs.Vec.{with_items}
 use Rattle.std.proofs.lemmas.List.{with_items_is}
 use Rattle.fade.specs.Level.{split_fade}
-use Rattle.fade.specs.Share.{AreMoved, moved}
+use Rattle.fade.specs.Share.{AreMoved, level_between}
 use Rattle.fade.specs.Course.{course_view}
 use Rattle.fade.specs.Fading.{Fading, IsFading, level_at}
-use Rattle.fade.specs.Stepping.{Stands, IsUnlisted}
+use Rattle.fade.specs.Stepping.{LevelsStand, IsUnlisted}
 use Rattle.fade.proofs.course.Course.step_to.Goals.{then-are_whole, else-are_whole}
 use Rattle.fade.proofs.course.Course.step_to.Goals as goal
 
@@ -21,13 +21,13 @@ fading_moved f moment le fading = record {
 }
 
 stands_moved : (f : Fading) (levels new moving : List ℕ) (count left moment rising falling : ℕ)
-    → IsFading f → Stands f levels moving count → left ≤ count → length new ≡ length levels
+    → IsFading f → LevelsStand f levels moving count → left ≤ count → length new ≡ length levels
     → AreMoved f.from f.to new rising falling
     → ((a b : ℕ) → a < 2 ^ 16 → b < 2 ^ 16
-    → moved a b rising falling ≡ split_fade a b f.up f.down (moment - f.began))
+    → level_between a b rising falling ≡ split_fade a b f.up f.down (moment - f.began))
     → ((place : ℕ) → place < length f.from → IsUnlisted moving left place → (later : ℕ)
     → moment ≤ later → level_at f place later ≡ level_at f place moment)
-    → Stands (record f { latest = moment }) new moving left
+    → LevelsStand (record f { latest = moment }) new moving left
 stands_moved f levels new moving count left moment rising falling fading s fewer size are by stay =
     record {
       levels_length = size ∙ s.levels_length;

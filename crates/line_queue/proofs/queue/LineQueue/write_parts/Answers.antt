@@ -2,7 +2,7 @@ use Rattle.std.proofs.Common.{◌≡◌, ◌+◌, ◌*◌, ◌++◌, ◌∙◌, 
 use Rattle.std.proofs.Common.{subst}
 use Rattle.std.proofs.Math.Nat.{mul-suc}
 use Rattle.std.proofs.lemmas.Grind.{common_steps}
-use Rattle.line_queue.specs.Pipes.{lasting}
+use Rattle.line_queue.specs.Pipes.{lasting_failure}
 use Rattle.line_queue.specs.Stands.{StandsFor, waiting_in}
 use Rattle.line_queue.proofs.Accounting.{same_stands}
 use Rattle.line_queue.proofs.queue.LineQueue.write_parts.Goals as goal
@@ -27,7 +27,7 @@ loop-preserved g c =
             gaps = refl;
             failure = refl;
           })
-          (ap (λ t. t.taken) tape) (ap (λ t. lasting t.fault) tape) so_far in
+          (ap (λ t. t.taken) tape) (ap (λ t. lasting_failure t.fault) tape) so_far in
           subst (λ lines. StandsFor new (g.P.Pipe.tape new.pipe) lines) (append-nil (given ++ []))
           (wrote.stands tells (given ++ []) same);
       writes = λ tells.

@@ -1,12 +1,13 @@
 use Rattle.std.proofs.Common.{◌≡◌, Bool, List}
-use Rattle.playback.specs.Placed.{IsAt, cues_above}
+use Rattle.playback.specs.Placed.{IsPlaceAfter, cues_above}
 use Rattle.playback.specs.Played.{Move, moves_by}
 use Rattle.playback.proofs.place.Place.current_by.Given as goal
 
 -- at the place after some of the moves that are due
 abbrev pub invariant-loop : goal.invariant-loop
-invariant-loop l = (moves : List Move) (stopped : Bool) → IsAt l.show l.initial.self moves stopped
-    → (made : List Move) × IsAt l.show l.self made stopped
+invariant-loop l =
+    (moves : List Move) (stopped : Bool) → IsPlaceAfter l.show l.initial.self moves stopped
+    → (made : List Move) × IsPlaceAfter l.show l.self made stopped
     × (moves_by l.show stopped l.moment made ≡ moves_by l.show stopped l.moment moves)
 
 abbrev pub decreases-loop : goal.decreases-loop

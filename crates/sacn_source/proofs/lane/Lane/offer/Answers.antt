@@ -8,7 +8,7 @@ returns-then-take_offer-clause-stands g c = rw (← c.self.view_is) (λ who offe
   paces = paces_on who _ offers _ _ s c.replace_slots-differs.ensures.differs _
       c.take_offer.ensures.state;
   packet = (
-    c.sent-place.result % 256,
+    c.packets_sent-place.result % 256,
     0,
     c.send.ensures.packet _ _ (c.replace_slots-differs.ensures.packet _ _ s.packet.2),
   );
@@ -26,17 +26,17 @@ returns-then-take_offer-clause-answer g c = rw (← c.self.view_is) (λ who offe
     let o : Offer = record { moment = c.args.moment; frame = c.args.slots.now } in
     rw (due_as who _ offers o _ s c.replace_slots-differs.ensures.differs _ true
     c.take_offer.ensures.due c.if-take_offer.true)
-    (answer_at c.sent-place.result _ (live_packet o.frame) c.send.result
-    (c.sent-place.ensures.value ∙ s.paces.sent_is) c.send.ensures.answer))
+    (answer_at c.packets_sent-place.result _ (live_packet o.frame) c.send.result
+    (c.packets_sent-place.ensures.value ∙ s.paces.sent_is) c.send.ensures.answer))
 
 pub returns-then-take_offer-clause-offered : goal.returns-then-take_offer-clause-offered
 returns-then-take_offer-clause-offered g c = rw (← c.self.view_is) (λ who offers s tells.
     let o : Offer = record { moment = c.args.moment; frame = c.args.slots.now } in
     rw (due_as who _ offers o _ s c.replace_slots-differs.ensures.differs _ true
     c.take_offer.ensures.due c.if-take_offer.true)
-    (sent_packet who c.self.inside.universe c.sent-place.result _ (live_packet o.frame)
+    (sent_packet who c.self.inside.universe c.packets_sent-place.result _ (live_packet o.frame)
     c.send.new.packet c.send.result (g.L.Link.offered c.args.link.now)
-    (g.L.Link.offered c.send.new.link) (c.sent-place.ensures.value ∙ s.paces.sent_is)
+    (g.L.Link.offered c.send.new.link) (c.packets_sent-place.ensures.value ∙ s.paces.sent_is)
     (c.send.ensures.packet _ _ (c.replace_slots-differs.ensures.packet _ _ s.packet.2))
     (c.send.ensures.offered tells)))
 

@@ -7,7 +7,7 @@ pub returns-clause-stands : goal.returns-clause-stands
 returns-clause-stands g c = rw (← c.self.view_is) (λ who offers n s. record {
   paces = rw c.take_termination.ensures (takes_termination _ offers n s.paces);
   packet = (
-    c.sent-place.result % 256,
+    c.packets_sent-place.result % 256,
     0x40,
     c.send.ensures.packet _ _ (c.refill.ensures.packet _ _ s.packet.2),
   );
@@ -15,8 +15,9 @@ returns-clause-stands g c = rw (← c.self.view_is) (λ who offers n s. record {
 
 pub returns-clause-offered : goal.returns-clause-offered
 returns-clause-offered g c = rw (← c.self.view_is) (λ who offers n s tells.
-    sent_packet who c.self.inside.universe c.sent-place.result _ last_packet c.send.new.packet
+    sent_packet who c.self.inside.universe c.packets_sent-place.result _ last_packet
+    c.send.new.packet
     c.send.result (g.L.Link.offered c.args.link.now) (g.L.Link.offered c.send.new.link)
-    (c.sent-place.ensures.value ∙ s.paces.sent_is)
+    (c.packets_sent-place.ensures.value ∙ s.paces.sent_is)
     (c.send.ensures.packet _ _ (c.refill.ensures.packet _ _ s.packet.2))
     (c.send.ensures.offered tells))

@@ -1,5 +1,5 @@
 use Rattle.std.proofs.Common.{◌∙◌, ap}
-use Rattle.sacn_source.specs.Stands.{universes_of}
+use Rattle.sacn_source.specs.Stands.{lane_universes}
 use Rattle.sacn_source.proofs.SenderLemmas.{changes, lane_found, place_found}
 use Rattle.sacn_source.proofs.sender.Sender.offer.Goals as goal
 
@@ -20,7 +20,7 @@ returns g c =
     c.unwrap-place.ensures c.index_mut.ensures.value in
     let x = changes c.offer.new.self p c.offer.ensures.universe in
     rw (x.at, p.at) (record {
-      universes = x.universes ∙ ap universes_of c.self.view_is;
+      universes = x.universes ∙ ap lane_universes c.self.view_is;
       stands = c.offer.ensures.stands;
       others = x.others;
       answer = c.offer.ensures.answer;

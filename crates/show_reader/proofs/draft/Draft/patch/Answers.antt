@@ -2,7 +2,7 @@ use Rattle.std.proofs.Common.{◌≡◌, ◌∷◌, sym, ap, ◌∙◌, arith}
 use Rattle.std.proofs.lemmas.List.Elements.{All-rest}
 use Rattle.show_line.specs.Sound.{IsTripleInRange}
 use Rattle.show_line.specs.declared.statement.Statement.TheVariants.{Patches}
-use Rattle.show_reader.specs.Applied.{applied}
+use Rattle.show_reader.specs.Applied.{show_after}
 use Rattle.show_reader.proofs.draft.Draft.patch.Goals as goal
 
 pub loop-triple-preserved : goal.loop-triple-preserved
@@ -18,5 +18,5 @@ loop-triple-preserved c =
       settled = λ settled none.
           let left = rw front at (before.left none) in
           patched.settled (before.settled settled none) (grind (arith, left));
-      put = rw front at before.put ∙ ap (applied (Patches c.next.new.self)) (sym patched.ok);
+      put = rw front at before.put ∙ ap (show_after (Patches c.next.new.self)) (sym patched.ok);
     }

@@ -1,5 +1,5 @@
 use Rattle.std.proofs.Common.{None, arith, refl}
-use Rattle.show.proofs.many.merged.Goals as goal
+use Rattle.show.proofs.many.merge.Goals as goal
 
 pub merge_by-requires-clause-entries : goal.merge_by-requires-clause-entries
 merge_by-requires-clause-entries g c =

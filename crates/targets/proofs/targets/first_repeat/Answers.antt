@@ -1,6 +1,6 @@
 use Rattle.std.proofs.Common.{false, sym, true, ◌∙◌}
 use Rattle.targets.proofs.Firsts.{repeated-at}
-use Rattle.targets.proofs.targets.repeated.Goals as goal
+use Rattle.targets.proofs.targets.first_repeat.Goals as goal
 
 pub loop-place-preserved : goal.loop-place-preserved
 loop-place-preserved c = repeated-at c.args.addresses.now c.loop-place.place _

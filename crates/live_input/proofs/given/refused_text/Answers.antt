@@ -2,7 +2,7 @@ use Rattle.std.proofs.Common.{◌∙◌, ℕ, List, length, map, take, ap}
 use Rattle.std.proofs.lemmas.List.{take_all, take_min}
 use Rattle.std.proofs.Math.Nat.{min_comm}
 use Rattle.live_input.specs.Night.{printable}
-use Rattle.live_input.proofs.given.shown.Goals as goal
+use Rattle.live_input.proofs.given.refused_text.Goals as goal
 
 pub returns : goal.returns
 returns c =

@@ -1,6 +1,6 @@
 use Rattle.std.proofs.Common.{◌≡◌, map, take}
 use Rattle.live_input.specs.Night.{printable}
-use Rattle.live_input.proofs.given.shown.Given as goal
+use Rattle.live_input.proofs.given.refused_text.Given as goal
 
 abbrev pub invariant-loop-byte : goal.invariant-loop-byte
 invariant-loop-byte l = l.text.items ≡ map printable (take l.byte-index l.looked)
