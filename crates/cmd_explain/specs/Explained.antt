@@ -34,8 +34,8 @@ AreFaultLines show text =
     × (text ≡ encoding_notes show ++ flat_map text_line lines)
 
 -- of so many lines of a text, which means this show: the notes on how the text is encoded; the
--- lines about the skipped lines; the notes on lines that begin with a number; notes of one line each
--- on what may be meant otherwise; the other notes on lines, and the notes on the show
+-- lines about the skipped lines; the notes on lines that begin with a number; notes of one line
+-- each on what may be meant otherwise; the other notes on lines, and the notes on the show
 pub record IsTextOf (text : List ℕ) (count : ℕ) (show : Tables) (told : List ℕ) : Type 0 where
   pub doubts : List (List ℕ)
   pub doubts_in_lines : All IsOneLine doubts
@@ -58,7 +58,8 @@ ListsFaults show before after =
     ⊎ ((after ≡ with_failure before) ⊎ (after ≡ before))
 
 -- what `explain` leaves on its output: at Ok such a text and nothing else; at a fault of the show
--- at most a list of faulty lines; at Device one write failed, and at any other fault nothing was written
+-- at most a list of faulty lines; at Device one write failed, and at any other fault nothing was
+-- written
 abbrev pub Explains : {X : Type 0} → List ℕ → Result X RunFault → Tape ℕ → Tape ℕ → Type 0
 Explains show (Ok x) before after =
     (text : List ℕ) × IsExplanationOf show text × (after ≡ with_more before text)

@@ -31,8 +31,8 @@ use std::alloc::{AllocError, Global};
 /// a tab and a CR as a space, and each other byte as `?`, so that neither begins a line of its own.
 /// All of the text goes out by one write, and only after all memory was taken.
 ///
-/// Of a text with a fault the notes on its encoding and its faulty lines are printed in place of all
-/// that.
+/// Of a text with a fault the notes on its encoding and its faulty lines are printed in place of
+/// all that.
 ///
 /// # Errors
 ///

@@ -2,10 +2,10 @@
 //! it comes, ticks are made by themselves, and the operator sees answers and moves.
 //!
 //! A [`Night`] is opened for a show. It begins with nothing, with a cue at full, or behind the
-//! record of a night that broke off, or follows a [`MainConsole`]; then it is run from a [`Booth`]: its clock, what is typed, the
-//! record and the screen. Over a booth and a link that tell, its contract says exactly which packets
-//! were offered, what was recorded and what was shown, for whatever bytes came and whatever the
-//! clock said.
+//! record of a night that broke off, or follows a [`MainConsole`]; then it is run from a [`Booth`]:
+//! its clock, what is typed, the record and the screen. Over a booth and a link that tell, its
+//! contract says exactly which packets were offered, what was recorded and what was shown, for
+//! whatever bytes came and whatever the clock said.
 //!
 //! ```
 //! // A booth at which `go`, `where` and `end` are typed, at 1,510 ms.

@@ -77,8 +77,8 @@ pub struct Night {
 /// What the words ask for: one of the program's lines, with the values of its arguments.
 #[derive(Debug, Drop)]
 pub enum Job {
-    /// `check SHOW [--strict]`: read a show and print its counts. A strict check refuses a show that
-    /// may mean something else than is played.
+    /// `check SHOW [--strict]`: read a show and print its counts. A strict check refuses a show
+    /// that may mean something else than is played.
     Check {
         show: Name,
         is_strict: bool,
@@ -119,11 +119,11 @@ pub enum Job {
     /// `live` with the arguments of `play` and `[--record FILE] [--resume] [--spare] [--start N]
     /// [--follow FILE] [--patience MS] [--end-with-input]`: play by the clock what is typed.
     /// `record_file` is where the lines that were played are written to, where a file is named; a
-    /// night that resumes has one, and goes on in it. A spare resumes. The night starts in a cue, in
-    /// thousandths, 1 to 9,999,999, where one is named. Where `main_file` is named, it follows the
-    /// record of another night, until that is silent for `patience` milliseconds, 1 to 60,000 (1,000
-    /// where it is absent); it neither resumes nor starts in a cue then. It ends where its input
-    /// ends, or the light holds.
+    /// night that resumes has one, and goes on in it. A spare resumes. The night starts in a cue,
+    /// in thousandths, 1 to 9,999,999, where one is named. Where `main_file` is named, it follows
+    /// the record of another night, until that is silent for `patience` milliseconds, 1 to 60,000
+    /// (1,000 where it is absent); it neither resumes nor starts in a cue then. It ends where its
+    /// input ends, or the light holds.
     Live {
         night: Night,
         record_file: Option<Name>,
@@ -150,8 +150,8 @@ pub enum Job {
         count: u32,
     },
 
-    /// `watch UNIVERSE..`: follow universes by the lines of standard input. They are 1 to 16, each 1
-    /// to 63,999, and none stands twice.
+    /// `watch UNIVERSE..`: follow universes by the lines of standard input. They are 1 to 16, each
+    /// 1 to 63,999, and none stands twice.
     Watch {
         universes: UniverseList,
     },

@@ -7,7 +7,8 @@ use std::marker::Model;
 /// The most universes of a watch.
 pub(crate) const MOST_UNIVERSES: usize = 16;
 
-/// The universes of a watch, in the order in which they were named: 16 at most. Contracts see a list.
+/// The universes of a watch, in the order in which they were named: 16 at most. Contracts see a
+/// list.
 #[derive(Debug, Drop)]
 pub struct UniverseList {
     numbers: ArrayVec<u16, MOST_UNIVERSES>,

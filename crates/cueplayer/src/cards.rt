@@ -197,8 +197,8 @@ fn address_word(cards: &Cards) -> &'static str {
     }
 }
 
-// Adds that this machine has an address, and that no card is known to have it. One that is down may:
-// the system's files do not tell.
+// Adds that this machine has an address, and that no card is known to have it. One that is down
+// may: the system's files do not tell.
 fn push_own_address(rt: &HostRuntime, line: &mut CardLine, address: &str, cards: &Cards) {
     let mut names = ArrayString::<160>::new();
     let mut count = 0_usize;

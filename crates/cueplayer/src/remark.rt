@@ -130,8 +130,8 @@ pub fn of_line(number: u32, text: &[u8], rule: &str) -> Remark {
     remark
 }
 
-/// Adds at most so many bytes of a part, each that is no printable ASCII as `?`; as many as there is
-/// room for.
+/// Adds at most so many bytes of a part, each that is no printable ASCII as `?`; as many as there
+/// is room for.
 pub fn push_shown(remark: &mut Remark, part: &[u8]) {
     for byte in part.iter().take(SHOWN) {
         let shown = match *byte {

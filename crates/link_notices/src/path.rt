@@ -34,8 +34,8 @@ pub enum PathState {
 }
 
 impl PathState {
-    /// How a host is reached from a source: by the address, and its card, that the system's route to
-    /// the host gives, where there is one, and by whether any card will do.
+    /// How a host is reached from a source: by the address, and its card, that the system's route
+    /// to the host gives, where there is one, and by whether any card will do.
     pub fn of_route(
         route: Option<CardAddress>,
         source: CardAddress,

@@ -66,7 +66,8 @@ impl Route {
         u32::from_be_bytes(host) & self.mask == self.network
     }
 
-    /// Whether it leads to a network at which its card is: without a gateway, and not to everywhere.
+    /// Whether it leads to a network at which its card is: without a gateway, and not to
+    /// everywhere.
     pub fn is_at_card(&self) -> bool
         ensures { result ≡ is_at_card (route_seen self.now) }
     {

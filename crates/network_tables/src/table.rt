@@ -102,8 +102,8 @@ impl Cards {
     }
 }
 
-/// The name of the card in a line of `/proc/net/dev`: it stands before the colon of the first field.
-/// A line that is none of a card, as the heading, gives `None`.
+/// The name of the card in a line of `/proc/net/dev`: it stands before the colon of the first
+/// field. A line that is none of a card, as the heading, gives `None`.
 pub fn row_name(line: &[u8]) -> Option<CardName>
     ensures { option_map name_seen result ≡ row_name line.now }
 {

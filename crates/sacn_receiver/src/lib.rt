@@ -5,9 +5,9 @@
 //! lowest reason for which it did not. Up to four sources are heard at once, each until 2.5 seconds
 //! of silence or its termination; the slots are the greatest of those of the highest priority.
 //!
-//! And a receiver in words. [`reply_line`] and [`write_numbered_slots`] write behind a number, which
-//! is a datagram's own, or that of a script's line; [`slots_line`] and [`end_line`] show the slots
-//! at the end of a run. A slot that is 0 is not printed.
+//! And a receiver in words. [`reply_line`] and [`write_numbered_slots`] write behind a number,
+//! which is a datagram's own, or that of a script's line; [`slots_line`] and [`end_line`] show the
+//! slots at the end of a run. A slot that is 0 is not printed.
 //!
 //! ```
 //! let mut receiver = Receiver::new(1);

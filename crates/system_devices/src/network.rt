@@ -116,8 +116,8 @@ impl Path {
     }
 }
 
-/// The sockets of a night: one for each address of this machine that it sends from. Each is bound to
-/// its address, so that its multicast leaves by the card of that and by no other.
+/// The sockets of a night: one for each address of this machine that it sends from. Each is bound
+/// to its address, so that its multicast leaves by the card of that and by no other.
 #[derive(Drop)]
 pub struct Network {
     leaving: Leaving,

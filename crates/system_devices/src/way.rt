@@ -14,8 +14,8 @@ pub struct Way<W> {
 }
 
 impl<W: AsRawFd + Drop> Way<W> {
-    /// Opens the way of an output: by the pipe that this variable of the environment names, where it
-    /// names one and the output is a regular file.
+    /// Opens the way of an output: by the pipe that this variable of the environment names, where
+    /// it names one and the output is a regular file.
     ///
     /// # Errors
     ///

@@ -7,8 +7,8 @@ use std::process::Abort;
 
 // The answer of a run and its output, of which so many of the first writes fail.
 //
-// Where the one allocation that a run lets fail failed here, the second run has all it needs. Without
-// memory for the faulty lines the fault alone is answered.
+// Where the one allocation that a run lets fail failed here, the second run has all it needs.
+// Without memory for the faulty lines the fault alone is answered.
 fn end(alloc: Global, show: &[u8], failing: u64) -> (Result<(), RunFault>, MemoryOutput) {
     let mut out = MemoryOutput::new(alloc, 0, failing);
     let answer = explain(alloc, show, &mut out);
