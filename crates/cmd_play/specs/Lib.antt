@@ -1,4 +1,5 @@
 pub mod Lost
+pub mod History
 pub mod Lines
 pub mod Run
 pub mod Perform

@@ -1,8 +1,7 @@
-ghost use Rattle.std.specs.Prelude.{◌≡◌, ◌≤◌, List};
-ghost use Rattle.desk.specs.Played.{Act};
+ghost use Rattle.std.specs.Prelude.{◌≡◌, ◌≤◌};
 ghost use Rattle.console.specs.Stands.{StandsFor};
-ghost use Rattle.console.specs.Streams.{Production};
 ghost use Rattle.console.specs.declared.reading.Reading.TheVariants.{At};
+ghost use Rattle.cmd_play.specs.History.{HasHistory, OfEach};
 ghost use Rattle.cmd_play.specs.Run.{IsAnswered, acts_after};
 
 use crate::performance::perform;
@@ -17,17 +16,14 @@ pub fn carry_out<F: Fader, L: Link>(
     call: Call,
     link: &mut L,
 ) -> (AnswerLine, usize)
-    requires real { (p : Production) × (history : List Act)
-        × StandsFor F.stands_for p console.old history }
-    ensures stands { (p : Production) (history : List Act)
-        → StandsFor F.stands_for p console.old history
-        → StandsFor F.stands_for p console.new (acts_after p.show (At moment call) history) }
+    requires real { HasHistory F.stands_for console.old }
+    ensures stands { OfEach F.stands_for console.old (λ p history.
+        StandsFor F.stands_for p console.new (acts_after p.show (At moment call) history)) }
     ensures told { L.tells link.new → L.tells link.old }
     ensures few { result.1 ≤ 16 }
-    ensures answered { (p : Production) (history : List Act)
-        → StandsFor F.stands_for p console.old history → L.tells link.new
+    ensures answered { OfEach F.stands_for console.old (λ p history. L.tells link.new
         → IsAnswered p history (At moment call) (L.offered link.old) (L.offered link.new)
-        result.0.bytes result.1 }
+        result.0.bytes result.1) }
 {
     let performed = perform(console, moment, call, link);
     (

@@ -1,8 +1,7 @@
-ghost use Rattle.std.specs.Prelude.{◌≡◌, ◌≤◌, List, false, OnOk, IfOk, IfErr};
-ghost use Rattle.desk.specs.Played.{Act};
+ghost use Rattle.std.specs.Prelude.{◌≡◌, ◌≤◌, false, OnOk, IfOk, IfErr};
 ghost use Rattle.console.specs.Stands.{StandsFor};
-ghost use Rattle.console.specs.Streams.{Production};
 ghost use Rattle.console.specs.Spelling.{is_malformed, reading_of};
+ghost use Rattle.cmd_play.specs.History.{HasHistory, OfEach};
 ghost use Rattle.cmd_play.specs.Run.{CarriesOut, emission, acts_after};
 ghost use Rattle.cmd_play.specs.Stage.{EndsPlayAt, LeavesLine};
 
@@ -20,26 +19,24 @@ pub fn take_line<F: Fader, L: Link, W: Output>(
     link: &mut L,
     out: &mut W,
 ) -> Result<usize, PlayFault>
-    requires real { (p : Production) × (history : List Act)
-        × StandsFor F.stands_for p console.old history }
+    requires real { HasHistory F.stands_for console.old }
     ensures told_link { L.tells link.new → L.tells link.old }
     ensures told_output { W.tells out.new → W.tells out.old }
     ensures fine { OnOk result (is_malformed (reading_of line.now) ≡ false) }
-    ensures stands { OnOk result ((p : Production) (history : List Act)
-        → StandsFor F.stands_for p console.old history
-        → StandsFor F.stands_for p console.new (acts_after p.show (reading_of line.now) history)) }
+    ensures stands { OnOk result (OfEach F.stands_for console.old (λ p history.
+        StandsFor F.stands_for p console.new (acts_after p.show (reading_of line.now) history))) }
     ensures few { IfOk result (λ lost. lost ≤ 16) }
-    ensures carried_out { IfOk result (λ lost. (p : Production) (history : List Act)
-        → StandsFor F.stands_for p console.old history → L.tells link.new → W.tells out.new
+    ensures carried_out { IfOk result (λ lost. OfEach F.stands_for console.old (λ p history.
+        L.tells link.new → W.tells out.new
         → CarriesOut p history (reading_of line.now)
         (emission (L.offered link.old) (W.tape out.old))
-        (emission (L.offered link.new) (W.tape out.new)) lost) }
+        (emission (L.offered link.new) (W.tape out.new)) lost)) }
     ensures ends { IfErr result (λ fault. EndsPlayAt fault number (reading_of line.now)) }
-    ensures leaves { IfErr result (λ fault. (p : Production) (history : List Act)
-        → StandsFor F.stands_for p console.old history → L.tells link.new → W.tells out.new
+    ensures leaves { IfErr result (λ fault. OfEach F.stands_for console.old (λ p history.
+        L.tells link.new → W.tells out.new
         → LeavesLine fault p history (reading_of line.now)
         (emission (L.offered link.old) (W.tape out.old))
-        (emission (L.offered link.new) (W.tape out.new))) }
+        (emission (L.offered link.new) (W.tape out.new)))) }
 {
     match read_call(line) {
         Reading::Blank => Ok(0),

@@ -1,9 +1,9 @@
-ghost use Rattle.std.specs.Prelude.{◌≡◌, ◌≤◌, List, count_by};
+ghost use Rattle.std.specs.Prelude.{◌≡◌, ◌≤◌, count_by};
 ghost use Rattle.playback.specs.Played.{current_after};
-ghost use Rattle.desk.specs.Played.{Act, moves};
+ghost use Rattle.desk.specs.Played.{moves};
 ghost use Rattle.console.specs.Stands.{StandsFor};
-ghost use Rattle.console.specs.Streams.{Production};
 ghost use Rattle.console.specs.declared.reading.Reading.TheVariants.{At};
+ghost use Rattle.cmd_play.specs.History.{HasHistory, OfEach};
 ghost use Rattle.cmd_play.specs.Lost.{is_lost};
 ghost use Rattle.cmd_play.specs.Perform.{Performs, lost_of, text_of_answer};
 ghost use Rattle.cmd_play.specs.Run.{acts_after};
@@ -67,18 +67,13 @@ pub fn perform<F: Fader, L: Link>(
     call: Call,
     link: &mut L,
 ) -> Performed
-    requires real { (p : Production) × (history : List Act)
-        × StandsFor F.stands_for p console.old history }
-    ensures stands { (p : Production) (history : List Act)
-        → StandsFor F.stands_for p console.old history
-        → StandsFor F.stands_for p console.new (acts_after p.show (At moment call) history) }
-    ensures performed { (p : Production) (history : List Act)
-        → StandsFor F.stands_for p console.old history → L.tells link.new
-        → Performs p history moment call (L.offered link.old) (L.offered link.new) result.answer }
-    ensures current { (p : Production) (history : List Act)
-        → StandsFor F.stands_for p console.old history
-        → result.current
-        ≡ current_after (moves p.show (acts_after p.show (At moment call) history)) }
+    requires real { HasHistory F.stands_for console.old }
+    ensures stands { OfEach F.stands_for console.old (λ p history.
+        StandsFor F.stands_for p console.new (acts_after p.show (At moment call) history)) }
+    ensures performed { OfEach F.stands_for console.old (λ p history. L.tells link.new
+        → Performs p history moment call (L.offered link.old) (L.offered link.new) result.answer) }
+    ensures current { OfEach F.stands_for console.old (λ p history. result.current
+        ≡ current_after (moves p.show (acts_after p.show (At moment call) history))) }
     ensures told { L.tells link.new → L.tells link.old }
 {
     let answer = answer_call(console, moment, call, link);
@@ -94,14 +89,11 @@ fn answer_call<F: Fader, L: Link>(
     call: Call,
     link: &mut L,
 ) -> Answer
-    requires real { (p : Production) × (history : List Act)
-        × StandsFor F.stands_for p console.old history }
-    ensures stands { (p : Production) (history : List Act)
-        → StandsFor F.stands_for p console.old history
-        → StandsFor F.stands_for p console.new (acts_after p.show (At moment call) history) }
-    ensures performed { (p : Production) (history : List Act)
-        → StandsFor F.stands_for p console.old history → L.tells link.new
-        → Performs p history moment call (L.offered link.old) (L.offered link.new) result }
+    requires real { HasHistory F.stands_for console.old }
+    ensures stands { OfEach F.stands_for console.old (λ p history.
+        StandsFor F.stands_for p console.new (acts_after p.show (At moment call) history)) }
+    ensures performed { OfEach F.stands_for console.old (λ p history. L.tells link.new
+        → Performs p history moment call (L.offered link.old) (L.offered link.new) result) }
     ensures told { L.tells link.new → L.tells link.old }
 {
     match call {
