@@ -6,7 +6,7 @@ from pathlib import Path
 
 from .notes import on_encoding, shown
 from .show import NOBODY, PRIMARY, Cue, LineFault, Reader, read
-from .words import cue_number, level, lines_of, number, time, words_of
+from .words import cue_number, level, lines_with_words, number, time
 
 RECORDS = (b"CUE", b"GROUP", b"SUB")
 
@@ -71,12 +71,7 @@ def faults(text):
     if decides == "show: TooLong":
         return []
     reader, told = Reader(), []
-    for n, line in enumerate(lines_of(text), 1):
-        words = words_of(line)
-        if not words:
-            continue
-        if words[0].upper() == b"ENDDATA":
-            break
+    for n, line, words in lines_with_words(text):
         # No line of its own has a cue too many.
         reader.show.cues.clear()
         above = reader.owner

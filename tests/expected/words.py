@@ -25,6 +25,16 @@ def words_of(line):
     return [word for word in BLANKS.split(line.partition(b"!")[0]) if word]
 
 
+def lines_with_words(text):
+    """The lines above ENDDATA that have words, each with its number and its words."""
+    for n, line in enumerate(lines_of(text), 1):
+        words = words_of(line)
+        if words and words[0].upper() == b"ENDDATA":
+            return
+        if words:
+            yield n, line, words
+
+
 def number(word, least=0, most=999_999_999):
     """A digit run of a value in this range, or None."""
     if not DIGITS.fullmatch(word):
