@@ -9,7 +9,7 @@ use Rattle.cmd_faults.specs.declared.fault.RunFault.{RunFault}
 use Rattle.rehearsal.proofs.Refusals.{no_fault}
 use Rattle.cmd_rehearse.proofs.Beginning.{few_receivers, is_read, lines_of, refused}
 use Rattle.cmd_rehearse.proofs.Beginning.{set_up, unread}
-use Rattle.cmd_rehearse.proofs.rehearsal.rehearse_script.Goals as goal
+use Rattle.cmd_rehearse.proofs.night.rehearse_script.Goals as goal
 
 -- what holds of the fault holds of the answer
 of_fault : {X : Type 0} (r : Result X RunFault) (fault : RunFault) (P : RunFault → Type 0)

@@ -1,5 +1,5 @@
 use Rattle.std.proofs.Common.{◌≡◌, ◌+◌, ◌*◌, ◌≤◌}
-use Rattle.test_desk.proofs.tests.fade.pass.Given as goal
+use Rattle.test_desk.proofs.tests.fades.pass.Given as goal
 
 -- the calls so far are not after the next one
 abbrev pub invariant-loop-moment : goal.invariant-loop-moment
