@@ -3,6 +3,7 @@ pub mod Commas
 pub mod Lines
 pub mod NoteLines
 pub mod OneLine
+pub mod PartLists
 pub mod Pieces
 pub mod Told
 mod Rows

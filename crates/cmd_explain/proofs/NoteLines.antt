@@ -1,8 +1,8 @@
 -- The notes on the lines of a text, one line after the other.
-use Rattle.std.proofs.Common.{◌≡◌, ◌∙◌, ℕ, ◌+◌, ◌++◌, ◌≤◌, Bool, true, false, cond, List, [], ◌∷◌}
+use Rattle.std.proofs.Common.{◌≡◌, ◌∙◌, ℕ, ◌+◌, ◌++◌, ◌≤◌, true, false, cond, List, [], ◌∷◌}
 use Rattle.std.proofs.Common.{length, reverse, take, refl, sym, ap, subst, Option, Some, None}
 use Rattle.std.proofs.Common.{arith}
-use Rattle.std.proofs.lemmas.List.{append-nil}
+use Rattle.std.proofs.Common.{Vec, Global}
 use mathlib.Core.List.{reverse_aux}
 use Rattle.ascii_text.specs.Text.{lines_of, numbered_from, words_of}
 use Rattle.show.specs.Tables.{Tables}
@@ -11,17 +11,18 @@ use Rattle.show_line.specs.declared.line.Reading.{Reading}
 use Rattle.show_line.specs.declared.statement.Record.{Record}
 use Rattle.show_line.specs.declared.statement.Record.TheVariants.{Cue, Group, Sub}
 use Rattle.show_line.specs.declared.statement.Statement.{Statement}
-use Rattle.show_line.specs.declared.statement.Statement.TheVariants.{Quiet}
 use Rattle.show_line.specs.declared.statement.Table.{Table}
 use Rattle.show_line.specs.declared.statement.Table.TheVariants.{Cues, Groups, Subs}
 use Rattle.show_line.specs.Keywords.{keyword_of, may_own}
 use Rattle.show_line.specs.Said.{desk_limits, line_reading}
-use Rattle.show_reader.specs.Text.{Words, owns, statement_below}
+use Rattle.show_reader.specs.Text.{Words, owns}
+use Rattle.cmd_explain.specs.declared.cue_parts.Part.{Part}
 use Rattle.cmd_explain.specs.declared.heading.Heading.{Heading}
 use Rattle.cmd_explain.specs.declared.heading.Heading.TheVariants as heading
 use Rattle.cmd_explain.specs.declared.note_lines.LineNotes.{LineNotes}
-use Rattle.cmd_explain.specs.declared.openings.Opening.{Opening}
 use Rattle.cmd_explain.specs.declared.openings.Openings.{Openings}
+use Rattle.cmd_explain.specs.CueParts.{CuePart, begins, newest_first, parts_begun, parts_below}
+use Rattle.cmd_explain.specs.CueParts.{parts_said}
 use Rattle.cmd_explain.specs.Headings.{heading_below, heading_of, is_unknown, keyword_in, owner_of}
 use Rattle.cmd_explain.specs.LineNotes.{told_of, said_by, link_told, link_note, times_text}
 use Rattle.cmd_explain.specs.LineNotes.{comma_told, comma_note, hour_by, hour_note, again_by}
@@ -30,7 +31,6 @@ use Rattle.cmd_explain.specs.NotesOf.{AreMore, AreNotesOf, AreOpeningsOf, IsTake
 use Rattle.cmd_explain.specs.NotesOf.{unknown_count, unknown_in}
 use Rattle.cmd_explain.specs.NumberedLines.{AreNumberedOf, IsNumberedTaken, is_blank, list_above}
 use Rattle.cmd_explain.specs.NumberedLines.{list_after, numbers_above, numbers_after, run_by}
-use Rattle.cmd_explain.specs.NumberedLines.{run_note}
 use Rattle.cmd_explain.specs.declared.numbered_lines.NumberedLines.{NumberedLines}
 use Rattle.cmd_explain.specs.PatchNotes.{ArePatchNotesOf, IsPatchTaken, patch_told}
 use Rattle.cmd_explain.specs.PatchNotes.{sheet_after, sheet_below}
@@ -152,10 +152,27 @@ module _ (lines : List (List ℕ)) (bytes : List ℕ) (number : ℕ) (says : Sta
             (numbers_above lines))) (sym words));
       }
 
+  parts_more : {above : Heading} {old begun new : List CuePart}
+      → above ≡ heading_below (words_in lines) → old ≡ parts_below lines
+      → begun ≡ parts_begun (begins above number says (words_of bytes)) old
+      → new ≡ parts_said says begun → new ≡ parts_below (bytes ∷ lines)
+  parts_more {above} {old} {begun} {new} heads was first then =
+      let l = words_of bytes in
+      let h = heading_below (words_in lines) in
+      then
+      ∙ ap (parts_said says) (first ∙ ap (parts_begun (begins above number says l)) was
+      ∙ ap (λ a. parts_begun (begins a number says l) (parts_below lines)) heads
+      ∙ ap (λ n. parts_begun (begins h n says l) (parts_below lines)) numbered)
+      ∙ ap (λ s. parts_said s (parts_begun (begins h (length lines + 1) s l) (parts_below lines)))
+      is
+
   -- a line adds its notes
   module _ (show : Tables) (k : Keyword) (keyed : k ≡ keyword_in (words_of bytes))
       (words : is_blank (words_of bytes) ≡ false) (old new : LineNotes)
-      (was : AreNotesOf show lines old) (added : AreMore show number k says bytes old new)
+      (was : AreNotesOf show lines old) (parts : Vec Part Global)
+      (begun : newest_first parts.items
+      ≡ parts_begun (begins old.above number says (words_of bytes)) (newest_first old.parts.items))
+      (added : AreMore show number k says bytes (record old { parts = parts }) new)
       (above : Heading)
       (heads : above ≡ heading_below (words_in (bytes ∷ lines))) (unknown : ℕ)
       (counts : unknown ≡ unknown_count (bytes ∷ lines)) where
@@ -170,6 +187,7 @@ module _ (lines : List (List ℕ)) (bytes : List ℕ) (number : ℕ) (says : Sta
     notes_more = record {
       heads = heads;
       numbered = numbered_more was.heads keyed words was.numbered added.numbered;
+      parts = parts_more was.heads was.parts begun added.parts;
       patches = patches_more was.patches added.patches;
       links = link_more;
       commas = comma_more was.commas added.commas;

@@ -35,7 +35,7 @@ AreFaultLines show text =
 
 -- of so many lines of a text, which means this show: the notes on how the text is encoded; the
 -- lines about the skipped lines; the notes on lines that begin with a number; notes of one line
--- each on what may be meant otherwise; the other notes on lines, and the notes on the show
+-- each on keywords that may be misspelt; the other notes on lines, and the notes on the show
 pub record IsTextOf (text : List ℕ) (count : ℕ) (show : Tables) (told : List ℕ) : Type 0 where
   pub doubts : List (List ℕ)
   pub doubts_in_lines : All IsOneLine doubts

@@ -4,6 +4,7 @@ pub mod Skipped
 pub mod Decimals
 pub mod LineNotes
 pub mod NumberedLines
+pub mod CueParts
 pub mod PatchNotes
 pub mod NotesOf
 pub mod Encoding

@@ -11,6 +11,7 @@ use Rattle.show_reader.specs.Text.{Words}
 use Rattle.cmd_explain.specs.declared.heading.Heading.{Heading}
 use Rattle.cmd_explain.specs.declared.note_lines.LineNotes.{LineNotes}
 use Rattle.cmd_explain.specs.declared.openings.Openings.{Openings}
+use Rattle.cmd_explain.specs.CueParts.{newest_first, part_notes, parts_below, parts_said}
 use Rattle.cmd_explain.specs.Headings.{heading_below, is_unknown}
 use Rattle.cmd_explain.specs.LineNotes.{told_of, link_note, comma_note, again_note, hour_note}
 use Rattle.cmd_explain.specs.LineNotes.{openings, openings_after, again_by, link_told}
@@ -37,6 +38,7 @@ pub record AreMore (show : Tables) (number : ℕ) (k : Keyword) (says : Statemen
   pub above : new.above ≡ old.above
   pub numbered
       : IsNumberedTaken old.above number k says (words_of line) old.numbered new.numbered
+  pub parts : newest_first new.parts.items ≡ parts_said says (newest_first old.parts.items)
   pub patches : IsPatchTaken number says old.patches new.patches
   pub links : new.links.items
       ≡ old.links.items ++ link_told show number old.above (words_of line)
@@ -65,6 +67,7 @@ unknown_count (line ∷ above) =
 pub record AreNotesOf (show : Tables) (lines : List (List ℕ)) (notes : LineNotes) : Type 0 where
   pub heads : notes.above ≡ heading_below (words_in lines)
   pub numbered : AreNumberedOf lines notes.numbered
+  pub parts : newest_first notes.parts.items ≡ parts_below lines
   pub patches : ArePatchNotesOf lines notes.patches
   pub links : notes.links.items ≡ told_of (link_note show) lines
   pub commas : notes.commas.items ≡ told_of comma_note lines
@@ -74,13 +77,17 @@ pub record AreNotesOf (show : Tables) (lines : List (List ℕ)) (notes : LineNot
   pub hours : notes.hours.items ≡ told_of hour_note lines
   pub unknown_lines : notes.unknown_lines ≡ unknown_count lines
 
--- those of weight, one kind behind the other
-abbrev pub weighty_line_notes : Tables → List (List ℕ) → List ℕ
-weighty_line_notes show lines =
+-- those on what single lines say, one kind behind the other
+abbrev pub statement_notes : Tables → List (List ℕ) → List ℕ
+statement_notes show lines =
     told_of patch_note lines ++ told_of (link_note show) lines ++ told_of comma_note lines
     ++ told_of (again_note Cues) lines ++ told_of (again_note Subs) lines
     ++ told_of (again_note Groups) lines
 
--- all notes on lines
+-- those of weight
+abbrev pub weighty_line_notes : Tables → List (List ℕ) → List ℕ
+weighty_line_notes show lines = part_notes show lines ++ statement_notes show lines
+
+-- all notes on lines but those on numbered ones
 abbrev pub line_notes : Tables → List (List ℕ) → List ℕ
 line_notes show lines = weighty_line_notes show lines ++ told_of hour_note lines

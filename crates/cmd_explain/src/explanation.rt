@@ -1,6 +1,5 @@
 ghost use Rattle.std.specs.Prelude.{◌≡◌, ◌<◌, ◌^◌, ◌++◌, ℕ, List, length, map, flat_map};
 ghost use Rattle.std.specs.Prelude.{IfOk, OnOk};
-ghost use Rattle.show.specs.Tables.{Tables};
 ghost use Rattle.cmd_show.specs.Faults.{CheckFails, ReadsFirst};
 ghost use Rattle.cmd_explain.specs.Explained.{AreFaultLines, Explains, IsTextOf, ListsFaults};
 ghost use Rattle.cmd_explain.specs.Explained.{note_line, text_line};
@@ -14,12 +13,12 @@ use crate::misspelt::push_misspelt;
 use crate::note_lines::LineNotes;
 use crate::notes::Notes;
 use crate::numbered_lines::{NumberedLines, push_run};
-use crate::parts::push_parts;
 use crate::show_notes::push_show_notes;
 use crate::skipped::{push_shown, skipped_lines};
 use crate::weight::push_weighty;
 use cmd_faults::RunFault;
 use devices::Output;
+use show::Show;
 use show_reader::{LONGEST_TEXT, Loaded, ShowFault, read_show};
 use std::alloc::{AllocError, Global};
 
@@ -107,19 +106,18 @@ fn explanation(alloc: Global, show: &[u8], loaded: &Loaded) -> Result<Vec<u8>, A
     text.extend_from_slice(skipped.as_slice())?;
     let notes = LineNotes::read(alloc, show, loaded.lines, &loaded.show)?;
     push_numbered(&mut text, &notes.numbered)?;
-    push_notes(&mut text, doubts(alloc, show, loaded)?.as_slice())?;
-    push_line_notes(&mut text, &notes)?;
+    push_notes(&mut text, doubts(alloc, show, loaded.lines)?.as_slice())?;
+    push_line_notes(alloc, &mut text, &notes, &loaded.show)?;
     push_show_notes(alloc, &mut text, &loaded.show)?;
     Ok(text)
 }
 
 // Notes on what may be meant otherwise.
-fn doubts(alloc: Global, show: &[u8], loaded: &Loaded) -> Result<Notes, AllocError>
+fn doubts(alloc: Global, show: &[u8], lines: u32) -> Result<Notes, AllocError>
     requires { length show.now < 2 ^ 32 }
 {
     let mut notes = Vec::new(alloc);
-    push_misspelt(alloc, &mut notes, show, loaded.lines)?;
-    push_parts(alloc, &mut notes, show, loaded.lines, &loaded.show)?;
+    push_misspelt(alloc, &mut notes, show, lines)?;
     Ok(notes)
 }
 
@@ -132,11 +130,16 @@ fn push_numbered(text: &mut Vec<u8>, numbered: &NumberedLines) -> Result<(), All
     Ok(())
 }
 
-fn push_line_notes(text: &mut Vec<u8>, notes: &LineNotes) -> Result<(), AllocError>
-    ensures { OnOk result ((show : Tables) (lines : List (List ℕ)) → AreNotesOf show lines notes.now
-        → text.new.items ≡ text.old.items ++ line_notes show lines) }
+fn push_line_notes(
+    alloc: Global,
+    text: &mut Vec<u8>,
+    notes: &LineNotes,
+    show: &Show,
+) -> Result<(), AllocError>
+    ensures { OnOk result ((lines : List (List ℕ)) → AreNotesOf show.now lines notes.now
+        → text.new.items ≡ text.old.items ++ line_notes show.now lines) }
 {
-    push_weighty(text, notes)?;
+    push_weighty(alloc, text, notes, show)?;
     text.extend_from_slice(notes.hours.as_slice())?;
     Ok(())
 }

@@ -3,8 +3,8 @@
 //!
 //! Each skipped line gets a line with its number, the reason and its text, and lines that begin
 //! with `note: ` follow. The lines are proved to be those that `check` counts as skipped; and each
-//! note is proved to be printed exactly where it holds, but for those on misspelt keywords and on
-//! parts of cues, which are tested.
+//! note is proved to be printed exactly where it holds, but for those on misspelt keywords, which
+//! are tested.
 //!
 //! ```
 //! let mut out = MemoryOutput::new(rt.alloc(), 0, 0);
@@ -15,6 +15,7 @@
 
 mod blame;
 mod channels;
+mod cue_parts;
 mod decimal;
 mod distance;
 mod encoding;
@@ -27,7 +28,7 @@ mod note_lines;
 mod notes;
 mod numbered_lines;
 mod openings;
-mod parts;
+mod part_notes;
 mod patch_notes;
 mod reason;
 mod seeming;

@@ -5,6 +5,7 @@ ghost use Rattle.show.specs.Tables.{Tables};
 ghost use Rattle.cmd_explain.specs.Headings.{is_unknown};
 ghost use Rattle.cmd_explain.specs.NotesOf.{AreMore, AreNotesOf};
 
+use crate::cue_parts::{Part, add_pairs, begin_part, take_times};
 use crate::heading::{Heading, is_unknown};
 use crate::line_notes::{push_comma, push_hour, push_link};
 use crate::numbered_lines::NumberedLines;
@@ -20,6 +21,7 @@ use std::alloc::{AllocError, Global};
 pub struct LineNotes {
     pub above: Heading,
     pub numbered: NumberedLines,
+    pub parts: Vec<Part>,
     pub patches: PatchNotes,
     pub links: Vec<u8>,
     pub commas: Vec<u8>,
@@ -48,7 +50,7 @@ impl LineNotes {
             if line.number > lines {
                 return Ok(notes);
             }
-            notes.take_line(show, line)?;
+            notes.take_line(alloc, show, line)?;
         }
         Ok(notes)
     }
@@ -59,6 +61,7 @@ impl LineNotes {
         LineNotes {
             above: Heading::Nothing,
             numbered: NumberedLines::new(alloc),
+            parts: Vec::new(alloc),
             patches: PatchNotes::new(alloc),
             links: Vec::new(alloc),
             commas: Vec::new(alloc),
@@ -70,7 +73,7 @@ impl LineNotes {
         }
     }
 
-    fn take_line(&mut self, show: &Show, line: Line<'_>) -> Result<(), AllocError>
+    fn take_line(&mut self, alloc: Global, show: &Show, line: Line<'_>) -> Result<(), AllocError>
         ensures { OnOk result ((lines : List (List ℕ)) → AreNotesOf show.now lines self.old
             → line.entry.number ≡ length lines + 1
             → AreNotesOf show.now (line.entry.bytes.now ∷ lines) self.new) }
@@ -80,6 +83,13 @@ impl LineNotes {
         };
         let unknown = unknown_in(self.above, reading.keyword);
         let below = self.above.below(reading.keyword, &reading.statement);
+        begin_part(
+            alloc,
+            &mut self.parts,
+            self.above,
+            &line,
+            &reading.statement,
+        )?;
         self.note(show, &line, reading.keyword, reading.statement)?;
         self.above = below;
         self.unknown_lines = self.unknown_lines.saturating_add(unknown);
@@ -104,7 +114,11 @@ impl LineNotes {
         self.subs.take(line.number, &says)?;
         self.groups.take(line.number, &says)?;
         push_hour(&mut self.hours, line.number, &says)?;
-        self.patches.take(line.number, says)
+        take_times(&mut self.parts, &says)?;
+        match says {
+            Statement::Levels(which, pairs) => add_pairs(&mut self.parts, which, pairs),
+            says => self.patches.take(line.number, says),
+        }
     }
 }
 

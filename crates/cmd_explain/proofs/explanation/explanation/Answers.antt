@@ -11,5 +11,5 @@ returns c =
     (c.as_slice.ensures.value ∙ c.in_ok-skipped.ensures)
     (c.in_ok-push_numbered.ensures _ c.in_ok-notes.ensures.numbered)
     (adds (λ note. note.items) _ c.in_ok-push_notes.ensures)
-    (c.in_ok-push_line_notes.ensures c.args.loaded.now.show _ c.in_ok-notes.ensures)
+    (c.in_ok-push_line_notes.ensures _ c.in_ok-notes.ensures)
     c.in_ok-push_show_notes.ensures

@@ -40,4 +40,5 @@ returns c = λ lines was numbered.
     (said_is lines bytes above was.heads reading read) c.args.show.now reading.keyword
     (keyword_is lines bytes above was.heads reading read)
     (has_words (owner_of above) (words_of bytes) reading read) c.args.self.now c.note.new.self was
-    added c.below-below.result heads c.saturating_add-self.result unknown
+    c.begin_part.new.parts c.in_ok-begin_part.ensures added c.below-below.result heads
+    c.saturating_add-self.result unknown

@@ -1,0 +1,11 @@
+use Rattle.std.proofs.Common.{◌≡◌, ◌==◌, false, map, take}
+use Rattle.std.specs.Prelude.{filter, is_some}
+use Rattle.std.specs.List.{list_any}
+use Rattle.cmd_explain.specs.CueParts.{part_of}
+use Rattle.cmd_explain.proofs.part_notes.has_named.Given as goal
+
+-- none of those before has a name
+abbrev pub invariant-loop-part : goal.invariant-loop-part
+invariant-loop-part l =
+    list_any (λ p. is_some p.name)
+    (filter (λ p. p.cue == l.cue) (map part_of (take l.part-index l.parts))) ≡ false

@@ -1,0 +1,8 @@
+use Rattle.std.proofs.Common.{◌≡◌, ◌==◌, map, take}
+use Rattle.std.specs.Prelude.{filter}
+use Rattle.cmd_explain.specs.CueParts.{last_times, part_of}
+use Rattle.cmd_explain.proofs.part_notes.last_times.Given as goal
+
+abbrev pub invariant-loop-part : goal.invariant-loop-part
+invariant-loop-part l =
+    l.last ≡ last_times (filter (λ p. p.cue == l.cue) (map part_of (take l.part-index l.parts)))

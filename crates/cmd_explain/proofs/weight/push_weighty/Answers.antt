@@ -1,0 +1,22 @@
+use Rattle.std.proofs.Common.{◌∙◌, ◌++◌, ap}
+use Rattle.std.proofs.Common.{◌≡◌, map, reverse, sym}
+use Rattle.std.proofs.lemmas.List.{reverse-reverse}
+use Rattle.cmd_explain.specs.CueParts.{cues_told, part_notes, part_of, parts_below}
+use Rattle.cmd_explain.specs.NotesOf.{statement_notes}
+use Rattle.cmd_explain.proofs.Pieces.{joins}
+use Rattle.cmd_explain.proofs.weight.push_weighty.Goals as goal
+
+pub returns : goal.returns
+returns c = λ lines are.
+    let show = c.args.show.now in
+    let parts = c.args.notes.now.parts.items in
+    let listed : map part_of parts ≡ reverse (parts_below lines) =
+    sym (reverse-reverse (map part_of parts)) ∙ ap reverse are.parts in
+    joins c.args.text.now.items (part_notes show lines) (statement_notes show lines)
+    (c.in_ok-push_part_notes.ensures
+    ∙ ap (λ ps. c.args.text.now.items ++ cues_told (map part_of ps) c.as_slice-2.result.now)
+    c.as_slice.ensures.value
+    ∙ ap (λ ps. c.args.text.now.items ++ cues_told ps c.as_slice-2.result.now) listed
+    ∙ ap (λ ns. c.args.text.now.items ++ cues_told (reverse (parts_below lines)) ns)
+    (c.as_slice-2.ensures.value ∙ c.in_ok-cues.ensures))
+    (c.in_ok-push_statement_notes.ensures show lines are)
