@@ -6,12 +6,17 @@ import os
 import shutil
 import subprocess
 import tempfile
+from contextlib import suppress
 
 from tooling import PATIENCE, wait_for
 
 NAMES = ("chromium", "chromium-browser", "google-chrome", "google-chrome-stable")
 CHROMIUM = os.environ.get("CHROMIUM") or next(filter(None, map(shutil.which, NAMES)), None)
 MISSING = "no Chromium: none of " + ", ".join(NAMES) + " is on PATH, and CHROMIUM names none"
+
+
+class PageHasLeft(AssertionError):
+    """The page went to another address while it was asked for something."""
 
 
 class Browser:
@@ -76,6 +81,8 @@ class Browser:
             if message.get("method") in ("Runtime.exceptionThrown", "Log.entryAdded"):
                 self.faults.append(message["params"])
             if message.get("id") == number:
+                if "navigated" in message.get("error", {}).get("message", ""):
+                    raise PageHasLeft(f"{method}: {message['error']}")
                 if "error" in message:
                     raise AssertionError(f"{method}: {message['error']}")
                 return message["result"]
@@ -118,9 +125,16 @@ class BrowserPage:
         return self.value(f"document.getElementById({element!r})?.innerText ?? ''")
 
     def wait(self, expression):
-        """Waits until an expression holds; while the page loads it may have no value."""
+        """Waits until an expression holds; while a page loads, or leaves for another, it has no
+        value."""
         script = f"(() => {{ try {{ return {expression}; }} catch {{ return false; }} }})()"
-        return wait_for(lambda: self.value(script), expression)
+
+        def holds():
+            with suppress(PageHasLeft):
+                return self.value(script)
+            return False
+
+        return wait_for(holds, expression)
 
     def press(self, key, code=None, text="", shift=False):
         """Presses and lets go a key, at wish with Shift held."""
