@@ -4,3 +4,4 @@ pub mod Entries
 pub mod Stands
 pub mod Handing
 pub mod Kept
+pub mod Watches

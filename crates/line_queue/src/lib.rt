@@ -10,12 +10,16 @@
 //! ```
 #![tactic(auto)]
 
+mod laws;
 mod memory;
 mod notice;
 mod pipe;
 mod queue;
+mod watch;
 
+pub use laws::notices_law;
 pub use memory::MemoryPipe;
 pub use notice::{Notice, NoticeText};
 pub use pipe::Pipe;
 pub use queue::LineQueue;
+pub use watch::{OutputLook, OutputNotice, OutputWatch};

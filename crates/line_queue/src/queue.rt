@@ -1,7 +1,7 @@
 ghost use Rattle.std.specs.Prelude.{◌≡◌, ◌≤◌, IsSome, drop, vec_capacity, vec_len};
 ghost use Rattle.line_queue.specs.Pipes.{is_passing};
 
-use crate::{Notice, Pipe};
+use crate::{Notice, OutputLook, Pipe};
 use std::alloc::{AllocError, Global};
 use std::io::ErrorKind;
 
@@ -233,6 +233,7 @@ impl<P> LineQueue<P> {
     ghost use Rattle.line_queue.specs.Pipes.{PipeTape, after_write};
     ghost use Rattle.line_queue.specs.Stands.{Accounts, StandsFor, dropped_in, failure_in, gaps_in};
     ghost use Rattle.line_queue.specs.Stands.{is_late, notice_in, bytes_taken, waiting_in};
+    ghost use Rattle.line_queue.specs.Watches.{look_at};
 
     // A line for which there is no room was given.
     fn drop_line(&mut self)
@@ -324,6 +325,17 @@ impl<P> LineQueue<P> {
             → IsQueueText (notice_in self.now) given tape.taken }
     {
         !self.waiting.is_empty() || self.dropped > 0
+    }
+
+    /// How the output is, for what an operator is told of it.
+    pub fn look(&self) -> OutputLook
+        ensures { result ≡ look_at self.now }
+    {
+        OutputLook {
+            has_failed: self.failure.is_some(),
+            is_late: self.is_late(),
+            gaps: self.gaps,
+        }
     }
 }
 

@@ -21,8 +21,8 @@ impl AppendedLines {
     ///
     /// # Errors
     ///
-    /// `File` where it cannot be opened, for the system's reason; `Memory` if an allocation failed
-    /// .
+    /// `File` where it cannot be opened, for the system's reason; `Memory` if an allocation
+    /// failed.
     pub fn open(rt: &HostRuntime, name: &str) -> Result<Option<Self>, DeviceFault> {
         let Some(record) = WrittenRecord::open(rt, name)? else {
             return Ok(None);

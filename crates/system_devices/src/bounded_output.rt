@@ -2,7 +2,7 @@ ghost use Rattle.std.specs.Prelude.{[], false, None};
 
 use crate::fault::DeviceFault;
 use crate::way::Way;
-use line_queue::{LineQueue, Notice, Pipe};
+use line_queue::{LineQueue, Notice, OutputLook, Pipe};
 use mio::unix::SourceFd;
 use mio::{Events, Interest, Poll, Token};
 use std::fs::Metadata;
@@ -169,9 +169,9 @@ impl<W> BoundedOutput<W> {
         }
     }
 
-    /// How many times lines are missing in it.
-    pub fn gaps(&self) -> u64 {
-        self.queue.gaps()
+    /// How it is, for what an operator is told of it.
+    pub fn look(&self) -> OutputLook {
+        self.queue.look()
     }
 
     /// Whether lines wait until they are taken, or were dropped and it is not told yet.

@@ -2,14 +2,9 @@ use crate::bounded_output::BoundedOutput;
 use crate::messages::Messages;
 use crate::writers::{PipedOutput, wait_for_writers};
 use arrayvec::ArrayString;
+use line_queue::{OutputNotice, OutputWatch};
 use std::fmt::Write;
 use std::fs::File;
-
-const LATE: &[u8] = b"record: late, and the light goes on\n";
-
-const WHOLE: &[u8] = b"record: whole again\n";
-
-const MISSING: &[u8] = b"record: goes on, and a comment in it says how many lines are missing\n";
 
 /// Where the lines of a night are kept, if anywhere.
 #[derive(Drop)]
@@ -19,10 +14,7 @@ pub struct Record {
     file: Option<File>,
     // How long its file was before.
     length: u64,
-    // Lines wait, or were dropped, and that was told.
-    is_late: bool,
-    // The gaps that were told.
-    gaps: u64,
+    watch: OutputWatch,
 }
 
 impl Record {
@@ -32,8 +24,7 @@ impl Record {
             lines: None,
             file: None,
             length: 0,
-            is_late: false,
-            gaps: 0,
+            watch: OutputWatch::default(),
         }
     }
 
@@ -43,8 +34,7 @@ impl Record {
             lines: Some(lines),
             file: Some(file),
             length,
-            is_late: false,
-            gaps: 0,
+            watch: OutputWatch::default(),
         }
     }
 
@@ -89,19 +79,23 @@ impl Record {
         let Some(lines) = &self.lines else {
             return;
         };
-        if lines.failure().is_some() {
-            messages.tell(b"record: device fault\n");
+        let Some(notice) = self.watch.look(lines.look()) else {
+            return;
+        };
+        if notice == OutputNotice::Failed {
             self.lines = None;
-        } else if lines.is_late() != self.is_late {
-            self.is_late = lines.is_late();
-            if self.is_late {
-                messages.tell(LATE);
-            } else if lines.gaps() == self.gaps {
-                messages.tell(WHOLE);
-            } else {
-                self.gaps = lines.gaps();
-                messages.tell(MISSING);
-            }
+        }
+        messages.tell(text_of(notice));
+    }
+}
+
+fn text_of(notice: OutputNotice) -> &'static [u8] {
+    match notice {
+        OutputNotice::Failed => b"record: device fault\n",
+        OutputNotice::Late => b"record: late, and the light goes on\n",
+        OutputNotice::Whole => b"record: whole again\n",
+        OutputNotice::Missing => {
+            b"record: goes on, and a comment in it says how many lines are missing\n"
         }
     }
 }

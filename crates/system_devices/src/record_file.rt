@@ -5,6 +5,7 @@ use crate::record::Record;
 use crate::record_lock::{FileLock, is_same, lock, lock_at_once};
 use byte_reading::{Unread, first_bytes};
 use line_queue::Notice;
+use night_record::silence_of;
 use std::fs::{File, Metadata, OpenOptions, metadata};
 use std::io::{Error, ErrorKind};
 use std::os::unix::fs::FileTypeExt;
@@ -236,7 +237,7 @@ fn pause_of(rt: &HostRuntime, file: &Metadata) -> Result<Pause, Error> {
     let written = file.modified()?;
     let until = Instant::now(rt)?;
     let milliseconds = match SystemTime::now(rt)?.duration_since(written) {
-        Ok(passed) => u64::try_from(passed.as_millis()).unwrap_or(u64::MAX),
+        Ok(passed) => silence_of(passed),
         Err(_) => 0,
     };
     Ok(Pause {

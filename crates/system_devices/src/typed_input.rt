@@ -39,7 +39,7 @@ impl TypedInput {
     /// # Errors
     ///
     /// `Device` where standard input is closed or cannot be waited for; `Memory` if an allocation
-    /// failed .
+    /// failed.
     pub fn open(rt: &HostRuntime) -> Result<Self, DeviceFault> {
         let poll = Poll::new(rt).map_err(|error| DeviceFault::Device(NAME, error.kind()))?;
         let Ok(events) = Events::with_capacity(rt.alloc(), 1) else {

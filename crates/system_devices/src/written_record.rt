@@ -38,7 +38,7 @@ impl WrittenRecord {
     /// # Errors
     ///
     /// `Device` where it cannot be opened, for the system's reason; `Memory` if an allocation
-    /// failed .
+    /// failed.
     pub fn open(rt: &HostRuntime, name: &str) -> Result<Option<Self>, DeviceFault> {
         let found = metadata(rt, name).map_err(of_system)?;
         let is_fifo = found.file_type().is_fifo();
