@@ -4,7 +4,7 @@ ghost use Rattle.cueplayer.specs.Opening.{CanFollow};
 use crate::cards::check_targets;
 use crate::failure::{Failure, JobFault};
 use crate::jobs::{ended, played};
-use crate::link_watch::LinkWatch;
+use crate::link_watch::LinkTeller;
 use crate::live_booth::LiveBooth;
 use crate::live_job::{LiveDevices, LiveWords, MainWords, Standard, begin_record};
 use crate::main_record::MainRecord;
@@ -88,7 +88,7 @@ fn follow_over<'a, F: Fader>(
 ) -> Result<Result<(), Failure>, JobFault>
     requires { CanFollow F.stands_for night.old }
 {
-    leader.booth().watch(LinkWatch::new(network));
+    leader.booth().watch(LinkTeller::new(rt, network));
     take_up(night, &mut leader)?;
     let followed = Followed {
         file: backup.main.file,

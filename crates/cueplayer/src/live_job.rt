@@ -5,7 +5,7 @@ use crate::device_failure::of_record;
 use crate::failure::{Failure, JobFault};
 use crate::follow_job::play_following;
 use crate::jobs::{NO_LOCK, ask_for, ended, played};
-use crate::link_watch::LinkWatch;
+use crate::link_watch::LinkTeller;
 use crate::live_booth::LiveBooth;
 use crate::opening::{Opening, open_night};
 use crate::reading::file_text;
@@ -296,7 +296,7 @@ fn lead_over<'a, F: Fader>(
     requires { IsPlayable F.stands_for night.old }
 {
     let (rt, network) = over;
-    booth.watch(LinkWatch::new(network));
+    booth.watch(LinkTeller::new(rt, network));
     let mut link = TargetLink::new(CardSender::new(rt, network), words.night.targets.copy());
     let answer = night.live(passed, &mut booth, &mut link);
     booth.finish();
