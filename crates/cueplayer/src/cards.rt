@@ -3,25 +3,16 @@ use crate::remark::{Remark, of_name, push_shown};
 use arrayvec::{ArrayString, ArrayVec};
 use cmd_faults::RunFault;
 use cmd_words::{Name, Night};
-use network_tables::{Card, CardName, CardRefusal, CardState, CardWord, Cards, choose};
+use network_tables::{
+    Card, CardName, CardRefusal, CardState, CardWord, Cards, card_text, choose, host_text,
+};
 use show_reader::read_show;
 use std::fmt::Write;
-use std::net::Ipv4Addr;
 use system_devices::{Leaving, Network, Path, card_state, read_cards};
 use targets::{TargetMisfit, Targets};
 
-/// An address and its card, or the part of a message that names one.
-pub type HostText = ArrayString<64>;
-
 // Why a card cannot be sent by.
 type CardLine = ArrayString<480>;
-
-/// A host's address.
-pub fn host_text(host: [u8; 4]) -> HostText {
-    let mut text = HostText::new();
-    let _ = write!(text, "{}", Ipv4Addr::from(host));
-    text
-}
 
 /// Refuses targets that do not suit the universes of a show.
 ///
@@ -238,12 +229,4 @@ fn push_cards(remark: &mut Remark, cards: &Cards) {
             front = ", ";
         }
     }
-}
-
-/// A card and its address, as `eth0 (10.101.1.10)`.
-pub fn card_text(name: &CardName, address: [u8; 4]) -> HostText {
-    let mut text = HostText::new();
-    let host = host_text(address);
-    let _ = write!(text, "{} ({})", name.as_str(), host.as_str());
-    text
 }

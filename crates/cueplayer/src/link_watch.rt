@@ -1,4 +1,3 @@
-use crate::cards::host_text;
 use crate::network_lines::{NetworkLine, push_no_route, push_route, push_source};
 use crate::screen::Screen;
 use crate::start_lines::clock_text;
@@ -7,6 +6,7 @@ use link_notices::{
     trouble_of,
 };
 use live_machine::TURN;
+use network_tables::host_text;
 use std::cell::RefCell;
 use std::fmt::Write;
 use std::time::Instant;

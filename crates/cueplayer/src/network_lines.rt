@@ -1,7 +1,7 @@
-use crate::cards::{card_text, host_text};
 use crate::screen::Screen;
 use arrayvec::ArrayString;
 use cmd_words::Night;
+use network_tables::{card_text, host_text};
 use std::fmt::Write;
 use system_devices::{Network, Path, Source, is_multicast, read_cards, route_to};
 use targets::{Target, Targets};

@@ -7,3 +7,4 @@ pub mod Trees
 pub mod Holders
 pub mod Tables
 pub mod Choices
+pub mod Texts

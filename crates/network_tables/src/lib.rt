@@ -13,6 +13,7 @@ mod laws;
 mod neighbor;
 mod route;
 mod table;
+mod texts;
 mod tree;
 
 pub use card::{CardState, card_state};
@@ -22,4 +23,5 @@ pub use laws::best_route_law;
 pub use neighbor::{Neighbor, SILENCE, silence_after};
 pub use route::{CardName, Route, better};
 pub use table::{Card, Cards, MOST_CARDS, row_name};
+pub use texts::{CardText, HostText, card_text, host_text};
 pub use tree::{OwnAddresses, TreeLine};
