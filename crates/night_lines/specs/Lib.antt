@@ -1,2 +1,7 @@
-pub mod Counts
 pub mod Clock
+pub mod Counts
+pub mod Targets
+pub mod Sends
+pub mod Routes
+pub mod Notices
+pub mod OtherCards

@@ -85,7 +85,7 @@ fn notes_text(notes: u64) -> ArrayString<42>
 }
 
 // So many of what has this name.
-fn count_text(count: u64, name: &str) -> CountText
+pub(crate) fn count_text(count: u64, name: &str) -> CountText
     requires { length name.now ≤ 10 }
     ensures { result.bytes ≡ count_text count name.now }
 {
