@@ -1,5 +1,7 @@
 -- What is told of what a night sends.
-use Rattle.std.specs.Prelude.{ℕ, ◌+◌, List, [], ◌∷◌, ◌++◌, codes, decimal, flat_map}
+use Rattle.std.specs.Prelude.{ℕ, ◌+◌, List, [], ◌∷◌, ◌++◌, codes, decimal, flat_map, length}
+use Rattle.std.specs.Prelude.{nat_le, if◌then◌else◌, Option, Some, None}
+use Rattle.arrayvec.specs.declared.array_string.ArrayString.{ArrayString}
 use Rattle.uuid.specs.Text.{hyphenated_text, lower}
 use Rattle.night_lines.specs.Targets.{targets_text}
 use Rattle.night_lines.specs.declared.sends.Transmission.{Transmission}
@@ -19,9 +21,16 @@ abbrev pub universes_text : ℕ → List ℕ → List ℕ
 universes_text base ordinals = universe_word ordinals ++ flat_map (number_text base) ordinals
 
 -- which universes are sent where, with which priority, and by whom
-abbrev pub sends_line : Transmission → List ℕ
-sends_line sends =
+abbrev pub whole_line : Transmission → List ℕ
+whole_line sends =
     codes "sends: " ++ universes_text sends.base sends.ordinals.now
     ++ targets_text sends.targets.now ++ codes ", priority " ++ decimal sends.priority
     ++ codes ", CID " ++ hyphenated_text lower sends.cid ++ codes ", name " ++ sends.name.now
     ++ codes "\n"
+
+-- the line of what a night sends, where the name is that of a source
+abbrev pub sends_line : Transmission → Option (List ℕ)
+sends_line sends = if nat_le (length sends.name.now) 63 then Some (whole_line sends) else None
+
+abbrev pub line_seen : ArrayString 400 → List ℕ
+line_seen line = line.bytes

@@ -1,4 +1,4 @@
-ghost use Rattle.std.specs.Prelude.{◌≡◌, ◌≤◌, flat_map, length};
+ghost use Rattle.std.specs.Prelude.{◌≡◌, ◌≤◌, flat_map, length, option_map};
 ghost use Rattle.night_lines.specs.Sends as spec;
 
 use crate::StartLine;
@@ -22,11 +22,22 @@ pub struct Transmission<'a> {
     pub name: &'a str,
 }
 
-/// The line of what a night sends: at most 16 universes, and a name of at most 63 bytes.
-pub fn sends_line(sends: &Transmission<'_>) -> StartLine
+/// The line of what a night sends; `None` where its name has more than 63 bytes, which no source
+/// has.
+pub fn sends_line(sends: &Transmission<'_>) -> Option<StartLine>
+    requires { length sends.now.ordinals.now ≤ 16 }
+    ensures { option_map spec.line_seen result ≡ spec.sends_line sends.now }
+{
+    if sends.name.len() > 63 {
+        return None;
+    }
+    Some(whole_line(sends))
+}
+
+fn whole_line(sends: &Transmission<'_>) -> StartLine
     requires universes { length sends.now.ordinals.now ≤ 16 }
     requires name { length sends.now.name.now ≤ 63 }
-    ensures { result.bytes ≡ spec.sends_line sends.now }
+    ensures { result.bytes ≡ spec.whole_line sends.now }
 {
     let mut line = StartLine::new();
     line.push_str("sends: ");
