@@ -1,5 +1,6 @@
 pub mod Clock
 pub mod Counts
+pub mod Records
 pub mod Targets
 pub mod Sends
 pub mod Routes
